@@ -1,0 +1,13 @@
+use Rattle.std.proofs.Common.{length, ◌-◌, ◌≡◌, ◌≤◌}
+use Rattle.nor_journal.proofs.file_vault.FileVaultVault.put.Given as goal
+
+-- part of the piece went in, and nothing was counted
+abbrev pub invariant-loop-kept : goal.invariant-loop-kept
+invariant-loop-kept g l = record {
+  within : l.kept ≤ length l.piece;
+  sealed : l.self.sealed ≡ l.fn.self.sealed;
+  failures : l.self.failures ≡ l.fn.self.failures;
+}
+
+abbrev pub decreases-loop-kept : goal.decreases-loop-kept
+decreases-loop-kept g l = length l.piece - l.kept

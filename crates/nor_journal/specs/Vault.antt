@@ -1,0 +1,72 @@
+-- What contracts see of a vault, and what its two calls do to that.
+use Rattle.std.specs.Prelude.{◌≡◌, ◌≢◌, ℕ, ◌+◌, ◌%◌, ◌^◌, ◌≤◌, Bool, true, false, List, [], ◌++◌, length, take, Result, Ok, Err}
+use Rattle.std.proofs.Common.{arith}
+use Rattle.nor_journal.specs.declared.vault.VaultFault.{VaultFault}
+
+pub record VaultState : Type 0 where
+  -- whether the vault holds just the bytes that its calls tell; nothing is known of the bytes of another
+  pub telling : Bool
+  -- the bytes, in the order in which they went in
+  pub bytes : List ℕ
+  -- whether it was sealed
+  pub sealed : Bool
+  -- how often it refused, in 64 bits
+  pub failures : ℕ
+
+-- a vault as it is made: empty, unsealed, with no refusal yet
+abbrev pub new_vault : Bool → VaultState
+new_vault telling = record { telling = telling; bytes = []; sealed = false; failures = 0 }
+
+-- the number of refusals after one more, in 64 bits
+abbrev pub one_more : ℕ → ℕ
+one_more failures = (failures + 1) % 2 ^ 64
+
+-- a refusal shows in the number
+pub one_more-moves : (failures : ℕ) → one_more failures ≢ failures
+one_more-moves failures same = omega arith
+
+-- between two states a vault refused
+abbrev pub Rose : VaultState → VaultState → Type 0
+Rose old new = new.failures ≢ old.failures
+
+-- What each call took is behind the old bytes, and nothing else moved.
+pub record Took (old : VaultState) (piece : List ℕ) (new : VaultState) : Type 0 where
+  pub telling : new.telling ≡ old.telling
+  pub sealed : new.sealed ≡ old.sealed
+  pub failures : new.failures ≡ old.failures
+  pub bytes : old.telling ≡ true → new.bytes ≡ old.bytes ++ piece
+
+-- After every refusal there is one more of them, and the vault is no more sealed than before.
+pub record Refused (old new : VaultState) : Type 0 where
+  pub telling : new.telling ≡ old.telling
+  pub sealed : new.sealed ≡ old.sealed
+  pub failures : new.failures ≡ one_more old.failures
+
+-- A refused piece went in by a beginning of it, as long as the refusal tells.
+pub record PutRefused (old : VaultState) (piece : List ℕ) (kept : ℕ) (new : VaultState) : Type 0 where
+  pub refused : Refused old new
+  pub within : kept ≤ length piece
+  pub bytes : old.telling ≡ true → new.bytes ≡ old.bytes ++ take kept piece
+
+-- A seal leaves the bytes, and seals.
+pub record Sealed (old new : VaultState) : Type 0 where
+  pub telling : new.telling ≡ old.telling
+  pub sealed : new.sealed ≡ true
+  pub failures : new.failures ≡ old.failures
+  pub bytes : old.telling ≡ true → new.bytes ≡ old.bytes
+
+-- A refused seal leaves the bytes, and keeps nothing.
+pub record SealRefused (old : VaultState) (kept : ℕ) (new : VaultState) : Type 0 where
+  pub refused : Refused old new
+  pub nothing : kept ≡ 0
+  pub bytes : old.telling ≡ true → new.bytes ≡ old.bytes
+
+-- what `put` of a piece does
+abbrev pub Puts : {T : Type 0} → VaultState → List ℕ → Result T VaultFault → VaultState → Type 0
+Puts old piece (Ok _) new = Took old piece new
+Puts old piece (Err fault) new = PutRefused old piece fault.kept new
+
+-- what `seal` does
+abbrev pub Seals : {T : Type 0} → VaultState → Result T VaultFault → VaultState → Type 0
+Seals old (Ok _) new = Sealed old new
+Seals old (Err fault) new = SealRefused old fault.kept new

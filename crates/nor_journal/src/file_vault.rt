@@ -1,0 +1,62 @@
+//! A vault in a file.
+ghost use Rattle.std.specs.Prelude.{◌≡◌, false, []};
+ghost use Rattle.nor_journal.specs.Vault.{new_vault, one_more};
+
+use crate::vault::{Vault, VaultFault};
+use std::fs::OpenFile;
+use std::io::Write;
+
+/// A vault that writes its bytes to a file opened for writing. An error of a write, and a write of no bytes,
+/// is a refusal; it tells how much of the piece the writes before it took. The seal syncs the file, and an
+/// error of the sync is a refusal. It isn't telling, since nothing is known of what a real file holds.
+#[derive(Drop)]
+pub struct FileVault<F: Write + OpenFile> {
+    file: F,
+    sealed: bool,
+    failures: u64,
+}
+
+impl<F: Write + OpenFile> FileVault<F> {
+    /// An unsealed vault over a file that nothing was written to yet.
+    pub fn new(file: F) -> FileVault<F>
+        ensures { ⟦<FileVault<F> as Vault>⟧.state result ≡ new_vault false }
+    {
+        FileVault {
+            file,
+            sealed: false,
+            failures: 0,
+        }
+    }
+
+    // Counts a refusal.
+    fn refusal(&mut self, kept: usize) -> VaultFault
+        ensures told { result.kept ≡ kept }
+        ensures counted { self.new ≡ record self.old { failures = one_more self.old.failures } }
+    {
+        self.failures = self.failures.wrapping_add(1);
+        VaultFault { kept }
+    }
+}
+
+impl<F: Write + OpenFile> Vault for FileVault<F> {
+    ghost state = { λ v. record { telling = false; bytes = []; sealed = v.sealed; failures = v.failures } };
+
+    fn put(&mut self, piece: &[u8]) -> Result<(), VaultFault> {
+        let mut kept = 0;
+        while kept < piece.len() {
+            match self.file.write(&piece[kept..]) {
+                Ok(0) | Err(_) => return Err(self.refusal(kept)),
+                Ok(taken) => kept += taken,
+            }
+        }
+        Ok(())
+    }
+
+    fn seal(&mut self) -> Result<(), VaultFault> {
+        if self.file.sync_all().is_err() {
+            return Err(self.refusal(0));
+        }
+        self.sealed = true;
+        Ok(())
+    }
+}

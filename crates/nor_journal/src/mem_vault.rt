@@ -1,0 +1,63 @@
+//! A vault in memory.
+ghost use Rattle.std.specs.Prelude.{◌≡◌, true, false, IsOk};
+ghost use Rattle.nor_journal.specs.Vault.{new_vault, Seals};
+
+use crate::vault::{Vault, VaultFault};
+use std::alloc::Global;
+
+/// A vault that keeps its bytes in memory. It is telling, and refuses a piece only where its memory has to
+/// grow and the growth is refused; then nothing of the piece went in. It never refuses to be sealed.
+#[derive(Drop)]
+pub struct MemVault {
+    bytes: Vec<u8>,
+    sealed: bool,
+    failures: u64,
+}
+
+impl MemVault {
+    /// An empty, unsealed vault. It takes no memory before the first piece.
+    pub fn new(alloc: Global) -> MemVault
+        ensures { ⟦<MemVault as Vault>⟧.state result ≡ new_vault true }
+    {
+        MemVault {
+            bytes: Vec::new(alloc),
+            sealed: false,
+            failures: 0,
+        }
+    }
+
+    /// The bytes that were put into it.
+    pub fn bytes(&self) -> &[u8]
+        ensures { result.now ≡ (⟦<MemVault as Vault>⟧.state self.now).bytes }
+    {
+        self.bytes.as_slice()
+    }
+
+    /// Whether it was sealed.
+    pub fn is_sealed(&self) -> bool
+        ensures { result ≡ (⟦<MemVault as Vault>⟧.state self.now).sealed }
+    {
+        self.sealed
+    }
+}
+
+impl Vault for MemVault {
+    ghost state = { λ v. record { telling = true; bytes = v.bytes.items; sealed = v.sealed; failures = v.failures } };
+
+    fn put(&mut self, piece: &[u8]) -> Result<(), VaultFault> {
+        if self.bytes.extend_from_slice(piece).is_err() {
+            self.failures = self.failures.wrapping_add(1);
+            return Err(VaultFault { kept: 0 });
+        }
+        Ok(())
+    }
+
+    fn seal(&mut self) -> Result<(), VaultFault>
+        requires { (⟦<MemVault as Vault>⟧.state self.old).sealed ≡ false }
+        ensures law { Seals (⟦<MemVault as Vault>⟧.state self.old) result (⟦<MemVault as Vault>⟧.state self.new) }
+        ensures ok { IsOk result }
+    {
+        self.sealed = true;
+        Ok(())
+    }
+}
