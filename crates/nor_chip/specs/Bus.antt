@@ -1,0 +1,51 @@
+-- What a bus keeps. Contracts see a bus as one state.
+use Rattle.std.specs.Prelude.{◌≡◌, ◌+◌, ◌||◌, ℕ, Bool, true, List, length, if◌then◌else◌}
+use Rattle.nor_chip.specs.Chip.{Chip}
+use Rattle.nor_chip.specs.Command.{begins_change}
+use Rattle.nor_chip.specs.Step.{Step, done_of, wears}
+
+-- A bus, as contracts see it.
+pub record BusState : Type 0 where
+  pub chip : Chip
+  -- how many transactions will still be carried out; no program can read it
+  pub left : ℕ
+  -- the bus keeps the law
+  pub honest : Bool
+  -- a transaction that begins with a changing opcode was sent, or tried
+  pub stirred : Bool
+  -- the sectors that were erased
+  pub worn : ℕ → Bool
+  -- a stop leaves the chip as it was
+  pub steady : Bool
+
+-- On every bus: whether it is honest and steady never changes, and a changing opcode stirs it for good.
+pub record Sends (out : List ℕ) (old new : BusState) : Type 0 where
+  pub honest : new.honest ≡ old.honest
+  pub steady : new.steady ≡ old.steady
+  pub stirred : new.stirred ≡ (if begins_change out then true else old.stirred)
+
+-- what a stop may leave of the chip: the same chip
+abbrev pub AtStop : Chip → Chip → Type 0
+AtStop old new = new ≡ old
+
+-- Stopped: there was no transaction left, and nothing moved.
+pub record Stops (old new : BusState) : Type 0 where
+  pub none_left : old.left ≡ 0
+  pub left : new.left ≡ old.left
+  pub chip : AtStop old.chip new.chip
+  pub worn : (s : ℕ) → new.worn s ≡ old.worn s
+
+-- Carried out: the chip made one step, one transaction less is left, and an erase wore its sectors.
+pub record Carries (out answer : List ℕ) (old new : BusState) : Type 0 where
+  pub left : old.left ≡ new.left + 1
+  pub step : Step old.chip out answer new.chip
+  pub worn : (s : ℕ) → new.worn s ≡ (old.worn s || wears (done_of old.chip out (length answer)) s)
+
+-- a bus that has this many transactions left, and is as it was otherwise
+pub record Allows (n : ℕ) (old new : BusState) : Type 0 where
+  pub chip : new.chip ≡ old.chip
+  pub left : old.honest ≡ true → new.left ≡ n
+  pub honest : new.honest ≡ old.honest
+  pub stirred : new.stirred ≡ old.stirred
+  pub worn : (s : ℕ) → new.worn s ≡ old.worn s
+  pub steady : new.steady ≡ old.steady

@@ -1,0 +1,102 @@
+//! What the bytes of a transaction ask for.
+ghost use Rattle.std.specs.Prelude.{◌≡◌, ◌<◌};
+ghost use Rattle.nor_chip.specs.Command.{command_of, bare_command, addressed_command, unit_at, address_of, begins_change};
+
+use crate::Config;
+
+/// What a transaction asks of the chip. (W25Q64FV datasheet, instruction set table.)
+#[derive(Clone, Copy, Debug, PartialEq, Eq)]
+pub enum Command {
+    /// 06h: sets the write enable latch.
+    WriteEnable,
+    /// 04h: clears it.
+    WriteDisable,
+    /// 05h: replies status 1, as often as bytes are taken in.
+    Poll,
+    /// 35h: replies status 2, likewise.
+    ReadStatus2,
+    /// 01h: writes status 1 and status 2.
+    WriteStatus(u8, u8),
+    /// 02h: programs the page that holds this address, from there on.
+    Program(u32),
+    /// 20h, 52h, D8h or C7h: erases the places from this one on, as many as the second number says.
+    Erase(u32, u32),
+    /// 03h: reads from this address on.
+    ReadData(u32),
+    /// 9Fh: replies the ID.
+    ReadId,
+    /// 5Ah: replies the SFDP bytes from this address on.
+    ReadSfdp(u32),
+    /// Any other transaction.
+    Ignored,
+}
+
+impl Command {
+    /// What a transaction asks of a chip with this configuration: `out` goes out, and `replies` bytes are taken
+    /// in. Addresses are taken modulo the size.
+    pub fn of(config: &Config, out: &[u8], replies: usize) -> Command
+        ensures { result ≡ command_of config.now out.now replies }
+    {
+        match out {
+            [opcode] => Self::bare(config, *opcode, replies),
+            [0x01, one, two] if replies == 0 => Command::WriteStatus(*one, *two),
+            [opcode, x, y, z] => Self::addressed(
+                config,
+                *opcode,
+                address(config, *x, *y, *z),
+                replies,
+            ),
+            [0x5A, x, y, z, _] => Command::ReadSfdp(address(config, *x, *y, *z)),
+            [0x02, x, y, z, _, ..] if replies == 0 => Command::Program(address(config, *x, *y, *z)),
+            _ => Command::Ignored,
+        }
+    }
+
+    fn bare(config: &Config, opcode: u8, replies: usize) -> Command
+        ensures { result ≡ bare_command config.now opcode replies }
+    {
+        match opcode {
+            0x05 => Command::Poll,
+            0x35 => Command::ReadStatus2,
+            0x9F => Command::ReadId,
+            0x06 if replies == 0 => Command::WriteEnable,
+            0x04 if replies == 0 => Command::WriteDisable,
+            0xC7 if replies == 0 => Command::Erase(0, config.size),
+            _ => Command::Ignored,
+        }
+    }
+
+    fn addressed(config: &Config, opcode: u8, at: u32, replies: usize) -> Command
+        ensures { result ≡ addressed_command config.now opcode at replies }
+    {
+        match opcode {
+            0x03 => Command::ReadData(at),
+            0x20 if replies == 0 => Self::unit(4096, at),
+            0x52 if replies == 0 && config.k32 => Self::unit(32768, at),
+            0xD8 if replies == 0 && config.k64 => Self::unit(65536, at),
+            _ => Command::Ignored,
+        }
+    }
+
+    fn unit(len: u32, at: u32) -> Command
+        requires { 0 < len }
+        ensures { result ≡ unit_at len at }
+    {
+        Command::Erase(at / len * len, len)
+    }
+}
+
+// The address that three bytes name, high byte first, modulo the chip's size.
+fn address(config: &Config, x: u8, y: u8, z: u8) -> u32
+    ensures { result ≡ address_of config.now x y z }
+{
+    (65536 * x as u32 + 256 * y as u32 + z as u32) % config.size
+}
+
+/// The transaction begins with an opcode that may change a chip or ready it for a change: 06h, 01h, 02h, 20h,
+/// 52h, D8h or C7h.
+pub fn is_changing(out: &[u8]) -> bool
+    ensures { result ≡ begins_change out.now }
+{
+    matches!(out, [0x06 | 0x01 | 0x02 | 0x20 | 0x52 | 0xD8 | 0xC7, ..])
+}

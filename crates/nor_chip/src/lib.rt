@@ -1,0 +1,13 @@
+//! The modelled SPI NOR flash chip, the bus that reaches it, and a simulated bus.
+//!
+//! What a chip does with each transaction stands in `specs/` (`Chip`, `Guard`, `Command`, `Step`); what a
+//! bus keeps stands in `specs/Bus.antt`. All crates above speak of chips by these definitions alone.
+#![tactic(auto)]
+
+mod bus;
+mod command;
+mod config;
+
+pub use bus::{Bus, Meter, Stopped};
+pub use command::{Command, is_changing};
+pub use config::{Config, SECTOR_LEN, TINY64_SFDP};
