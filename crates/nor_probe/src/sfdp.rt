@@ -1,0 +1,183 @@
+//! Serial Flash Discoverable Parameters (JEDEC JESD216): the size of a chip and its erase kinds, from
+//! the header and the basic flash parameter table.
+
+ghost use Rattle.std.specs.Prelude.{◌≡◌, ◌<◌, ◌≤◌, ◌+◌, ◌*◌, ◌-◌, ◌/◌, length, IsTrue};
+ghost use Rattle.std.specs.Option.{SomeIff};
+ghost use Rattle.nor_probe.specs.Sfdp.{double_word, size_in_bits, is_supported_size, has_signature, is_basic, address_mode, has_write_granularity, is_erase_type_at, has_erase_type, geometry_of, table_faults, first_fault_or, sfdp_says};
+
+use byteorder::{ByteOrder, LittleEndian};
+
+/// The erase kinds beside the sector of 4 KiB (20h) and the whole chip (C7h), which every chip has.
+#[derive(Clone, Copy, Debug, PartialEq, Eq)]
+pub struct Kinds {
+    /// 52h erases 32 KiB.
+    pub k32: bool,
+    /// D8h erases 64 KiB.
+    pub k64: bool,
+}
+
+/// What is read from the SFDP of an accepted chip.
+#[derive(Clone, Copy, Debug, PartialEq, Eq)]
+pub struct Geometry {
+    /// In bytes: a power of two from 65,536 to 16,777,216.
+    pub size: u32,
+    pub kinds: Kinds,
+}
+
+/// Why the SFDP of a chip is refused, in the order in which the tests are made.
+#[derive(Clone, Copy, Debug, PartialEq, Eq)]
+pub enum SfdpFault {
+    /// The header does not begin with `SFDP`.
+    Signature,
+    /// The major revision is not 1.
+    Major,
+    /// The first parameter header is not that of the basic table in its first major revision.
+    FirstHeader,
+    /// The table has fewer than nine double words.
+    Length,
+    /// The chip takes addresses of four bytes alone, or the field is reserved.
+    Address,
+    /// The chip is not written in pages.
+    Granularity,
+    /// The size is not a power of two from 64 KiB to 16 MiB.
+    Size,
+    /// No erase type is 20h at 4 KiB.
+    NoSector,
+}
+
+/// The least number of double words of the table: those up to the erase types.
+const TABLE_LENGTH: u8 = 9;
+
+/// Set in the density double word where its other bits are the exponent of the size.
+const BY_EXPONENT: u32 = 0x8000_0000;
+
+/// The sizes that are supported, in bits.
+const LEAST_BITS: u32 = 1 << 19;
+
+const MOST_EXPONENT: u32 = 27;
+
+/// Reads the SFDP of a chip: `header` is the bytes at 0 to 7, `first` those at 8 to 15, `table` the 36 bytes
+/// from the pointer in `first` on. The answer is the first fault, or else the geometry.
+pub fn read_sfdp(header: &[u8; 8], first: &[u8; 8], table: &[u8; 36]) -> Result<Geometry, SfdpFault>
+    ensures { result ≡ sfdp_says header.now first.now table.now }
+{
+    if !is_sfdp(header) {
+        return Err(SfdpFault::Signature);
+    }
+    if header[5] != 1 {
+        return Err(SfdpFault::Major);
+    }
+    if !is_basic_table(first) {
+        return Err(SfdpFault::FirstHeader);
+    }
+    if first[3] < TABLE_LENGTH {
+        return Err(SfdpFault::Length);
+    }
+    read_table(table)
+}
+
+/// The part of `read_sfdp` that looks at the table.
+fn read_table(table: &[u8; 36]) -> Result<Geometry, SfdpFault>
+    ensures { result ≡ first_fault_or (geometry_of table.now) (table_faults table.now) }
+{
+    if address_bits(table) >= 2 {
+        return Err(SfdpFault::Address);
+    }
+    if !takes_pages(table) {
+        return Err(SfdpFault::Granularity);
+    }
+    let Some(size) = size_in_bytes(double_word_of(table, 2)) else {
+        return Err(SfdpFault::Size);
+    };
+    if !offers(table, 0x0C, 0x20) {
+        return Err(SfdpFault::NoSector);
+    }
+    let kinds = Kinds {
+        k32: offers(table, 0x0F, 0x52),
+        k64: offers(table, 0x10, 0xD8),
+    };
+    Ok(Geometry { size, kinds })
+}
+
+/// Whether the header begins with the letters `SFDP`.
+#[tactic(auto, unfolding(crate::specs::Sfdp::has_signature))]
+fn is_sfdp(header: &[u8; 8]) -> bool
+    ensures { result ≡ has_signature header.now }
+{
+    header[0] == b'S' && header[1] == b'F' && header[2] == b'D' && header[3] == b'P'
+}
+
+/// Whether the first parameter header is that of the basic table, in its first major revision.
+#[tactic(auto, unfolding(crate::specs::Sfdp::is_basic))]
+fn is_basic_table(first: &[u8; 8]) -> bool
+    ensures { result ≡ is_basic first.now }
+{
+    first[0] == 0 && first[2] == 1
+}
+
+/// How addresses are sent: 2 means by four bytes alone, and 3 is reserved.
+#[tactic(auto, unfolding(crate::specs::Sfdp::address_mode))]
+fn address_bits(table: &[u8; 36]) -> u32
+    ensures { result ≡ address_mode table.now }
+{
+    (double_word_of(table, 1) >> 17) % 4
+}
+
+/// Whether a program may send 64 bytes and more at a time.
+#[tactic(auto, unfolding(crate::specs::Sfdp::has_write_granularity))]
+fn takes_pages(table: &[u8; 36]) -> bool
+    ensures { result ≡ has_write_granularity table.now }
+{
+    (double_word_of(table, 1) >> 2) % 2 == 1
+}
+
+/// Double word `k` of the table, counted from 1.
+#[tactic(auto, unfolding(crate::specs::Sfdp::double_word))]
+fn double_word_of(table: &[u8; 36], k: usize) -> u32
+    requires counted { 1 ≤ k }
+    requires there { k ≤ 9 }
+    ensures { result ≡ double_word k table.now }
+{
+    LittleEndian::read_u32(&table[4 * (k - 1)..])
+}
+
+/// The size in bytes that the density double word gives, if it is one of those that are supported.
+#[tactic(auto, using(crate::proofs::SfdpLemmas::large_exponent), unfolding(crate::specs::Sfdp::size_in_bits, crate::specs::Sfdp::is_supported_size))]
+fn size_in_bytes(density: u32) -> Option<u32>
+    ensures { SomeIff result (IsTrue (is_supported_size (size_in_bits density))) (size_in_bits density / 8) }
+{
+    let bits = if density < BY_EXPONENT {
+        density + 1
+    } else if density - BY_EXPONENT <= MOST_EXPONENT {
+        1 << (density - BY_EXPONENT)
+    } else {
+        return None;
+    };
+    if bits.is_power_of_two() && LEAST_BITS <= bits && bits <= 1 << MOST_EXPONENT {
+        Some(bits / 8)
+    } else {
+        None
+    }
+}
+
+/// Whether one of the four erase types is this one.
+#[tactic(auto, unfolding(crate::specs::Sfdp::has_erase_type))]
+fn offers(table: &[u8; 36], exponent: u8, opcode: u8) -> bool
+    ensures { result ≡ has_erase_type exponent opcode table.now }
+{
+    offers_at(table, exponent, opcode, 28)
+        || offers_at(table, exponent, opcode, 30)
+        || offers_at(table, exponent, opcode, 32)
+        || offers_at(table, exponent, opcode, 34)
+}
+
+/// Whether the erase type at a place of the table is this one.
+fn offers_at(table: &[u8; 36], exponent: u8, opcode: u8, at: usize) -> bool
+    requires { at < 35 }
+    ensures { result ≡ is_erase_type_at exponent opcode table.now at }
+{
+    table[at] == exponent && table[at + 1] == opcode
+}
+
+#[cfg(test)]
+mod tests;
