@@ -1,0 +1,35 @@
+-- The number that digits write, digit by digit.
+use Rattle.std.proofs.Common.{◌≡◌, ℕ, suc, ◌+◌, ◌-◌, ◌*◌, ◌^◌, ◌<◌, ◌≤◌, true, cond, List, length, get_or, drop, Some, None, ap, inl, inr, arith}
+use Rattle.std.proofs.Math.Nat.{pow-le-pow_right, pow-suc}
+use Rattle.std.proofs.lemmas.Bool.{cases_Bool}
+use Rattle.std.proofs.lemmas.Bool.Decides.{nat_tests}
+use Rattle.std.proofs.lemmas.List.{drop_more, length-drop}
+use Rattle.nor_layout.specs.Address.{is_hex_digit, hex_value, number_of}
+
+-- a digit is below 16
+pub hex_value-lt : (byte : ℕ) → is_hex_digit byte ≡ true → hex_value byte < 16
+hex_value-lt byte h = grind (arith, nat_tests)
+
+-- what a digit's value says of the byte
+pub digit_is : (byte value : ℕ) → Some value ≡ cond (is_hex_digit byte) (Some (hex_value byte)) None → (is_hex_digit byte ≡ true) × (value ≡ hex_value byte)
+digit_is byte value e =
+    elim (cases_Bool (is_hex_digit byte)) [
+      | inl is ↦ (is, let f = rw is at e in cc)
+      | inr isnt ↦ absurd (let f = rw isnt at e in cc)
+    ]
+
+regroup : (v h p m : ℕ) → v * (p * 16) + (h * p + m) ≡ (v * 16 + h) * p + m
+regroup v h p m = omega arith
+
+-- one digit more
+pub number_of-more : (digits : List ℕ) (i value : ℕ) → i < length digits
+    → value * 16 ^ (length digits - i) + number_of (drop i digits) ≡ (value * 16 + hex_value (get_or digits i 0)) * 16 ^ (length digits - (i + 1)) + number_of (drop (i + 1) digits)
+number_of-more digits i value lt =
+    let k : length digits - i ≡ suc (length digits - (i + 1)) = omega arith in
+    let n : length (drop (i + 1) digits) ≡ length digits - (i + 1) = length-drop (i + 1) digits in
+    let rest : number_of (drop i digits) ≡ hex_value (get_or digits i 0) * 16 ^ length (drop (i + 1) digits) + number_of (drop (i + 1) digits) = ap number_of (drop_more digits i 0 lt) in
+    rw (rest, k, n, pow-suc) (regroup value (hex_value (get_or digits i 0)) (16 ^ (length digits - (i + 1))) (number_of (drop (i + 1) digits)))
+
+-- at most 8 digits fit 32 bits
+pub pow-fits : (i : ℕ) → i ≤ 8 → 16 ^ i ≤ 2 ^ 32
+pow-fits i le = pow-le-pow_right {n = 16} (omega arith) {i = i} {j = 8} le

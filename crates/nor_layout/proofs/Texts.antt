@@ -1,0 +1,113 @@
+-- What the lines of a text say, line by line.
+use Rattle.std.proofs.Common.{◌≡◌, ℕ, ◌+◌, ◌<◌, ◌≤◌, ltb, eqb, List, [], ◌∷◌, ◌++◌, length, get_or, drop, Option, Some, None, Result, Ok, Err, refl, sym, ap, ◌∙◌, inl, inr, arith}
+use Rattle.std.specs.List.{AllByRecursion}
+use Rattle.std.proofs.lemmas.Bool.{cases_Bool, ltb-true, ltb-false}
+use Rattle.std.proofs.lemmas.List.{drop_more, at_drop_all, length-append}
+use Rattle.std.proofs.lemmas.List.Sums.{count_by-le-length}
+use Rattle.std.proofs.lemmas.List.Splits.{length-slice_split}
+use Rattle.nor_layout.specs.declared.region.Region.{Region}
+use Rattle.nor_layout.specs.declared.fault.LineFault.{LineFault}
+use Rattle.nor_layout.specs.declared.fault.LayoutFault.{LayoutFault}
+use Rattle.nor_layout.specs.declared.fault.LayoutFault.TheVariants.{InLine, TooMany, Memory, NoRegion}
+use Rattle.nor_layout.specs.Address.{address_of}
+use Rattle.nor_layout.specs.Line.{Parts, parts_of, is_name, region_of, parts_say, line_says}
+use Rattle.nor_layout.specs.Text.{◌>>=◌, lines_of, is_named, joins, joins_or_fault, with_line, lines_say, layout_says, AreRegions, Adds, Reads}
+
+-- ---- what a line adds
+
+abbrev done : Region → Result Region LineFault
+done region = Ok region
+
+ok_is : (a b : Region) → done a ≡ done b → a ≡ b
+ok_is a b e = cc
+
+-- the start of a region isn't behind its end
+forward_region : (start end : Option ℕ) (name : List ℕ) (region : Region) → region_of start end name ≡ Ok region → region.start ≤ region.end
+forward_region None end name region e = absurd cc
+forward_region (Some start) None name region e = absurd cc
+forward_region (Some start) (Some end) name region e =
+    elim (cases_Bool (ltb end start)) [
+      | inl backwards ↦ absurd (let f = rw backwards at e in cc)
+      | inr forward ↦ elim (cases_Bool (is_name name)) [
+        | inl named ↦
+            let f = rw (forward, named) at e in
+            let s : start ≡ region.start = ap (λ (r : Region). r.start) (ok_is _ region f) in
+            let t : end ≡ region.end = ap (λ (r : Region). r.end) (ok_is _ region f) in
+            omega (arith, ltb-false _ _ forward, s, t)
+        | inr unnamed ↦ absurd (let f = rw (forward, unnamed) at e in cc)
+      ]
+    ]
+
+forward_parts : (parts : Option Parts) (region : Region) → parts_say parts ≡ Ok region → region.start ≤ region.end
+forward_parts None region e = absurd cc
+forward_parts (Some parts) region e = forward_region (address_of parts.start) (address_of parts.end) parts.name region e
+
+AllByRecursion-push : (regions : List Region) (region : Region) → AllByRecursion (λ (r : Region). r.start ≤ r.end) regions → region.start ≤ region.end → AllByRecursion (λ (r : Region). r.start ≤ r.end) (regions ++ region ∷ [])
+AllByRecursion-push [] region all forward = (forward, tt)
+AllByRecursion-push (first ∷ regions) region all forward = (all.0, AllByRecursion-push regions region all.1 forward)
+
+abbrev all_of : List Region → Result (List Region) LayoutFault
+all_of regions = Ok regions
+
+all_are : (a b : List Region) → all_of a ≡ all_of b → a ≡ b
+all_are a b e = cc
+
+joins-keeps : (regions more : List Region) (n : ℕ) (region : Region) → AreRegions regions → region.start ≤ region.end → joins regions n region ≡ Ok more → AreRegions more
+joins-keeps regions more n region kept forward e =
+    elim (cases_Bool (is_named regions region.name.items)) [
+      | inl twice ↦ absurd (let f = rw twice at e in cc)
+      | inr once ↦ elim (cases_Bool (ltb (length regions) 64)) [
+        | inl room ↦
+            let is : regions ++ region ∷ [] ≡ more = all_are _ more (rw (once, room) at e) in
+            rw (← is) (record {
+              few = omega (arith, ltb-true _ _ room, length-append regions (region ∷ []));
+              forward = AllByRecursion-push regions region kept.forward forward;
+            })
+        | inr full ↦ absurd (let f = rw (once, full) at e in cc)
+      ]
+    ]
+
+said-keeps : (regions more : List Region) (n : ℕ) (said : Result Region LineFault) → AreRegions regions → ((region : Region) → said ≡ Ok region → region.start ≤ region.end) → joins_or_fault regions n said ≡ Ok more → AreRegions more
+said-keeps regions more n (Ok region) kept forward e = joins-keeps regions more n region kept (forward region refl) e
+said-keeps regions more n (Err fault) kept forward e = absurd cc
+
+pub with_line-keeps : (regions more : List Region) (n : ℕ) (line : List ℕ) → AreRegions regions → with_line regions n line ≡ Ok more → AreRegions more
+unfolding with_line
+with_line-keeps regions more n line kept e =
+    elim (cases_Bool (eqb (length line) 0)) [
+      | inl empty ↦ rw (← all_are regions more (rw empty at e)) kept
+      | inr full ↦ said-keeps regions more n (line_says line) kept (forward_parts (parts_of line)) (rw full at e)
+    ]
+
+-- ---- the lines that are left
+
+pub length-lines_of : (text : List ℕ) → length (lines_of text) ≤ length text + 1
+length-lines_of text = omega (arith, length-slice_split (λ b. eqb b 10) text, count_by-le-length (λ b. eqb b 10) text)
+
+module _ (regions : List Region) (n : ℕ) (lines : List (List ℕ)) (d : List ℕ) (said : Result (List Region) LayoutFault) (lt : n < length lines) (same : lines_say regions (n + 1) (drop n lines) ≡ said) where
+  next : said ≡ (with_line regions (n + 1) (get_or lines n d) >>= λ more. lines_say more (n + 1 + 1) (drop (n + 1) lines))
+  unfolding lines_say
+  next = sym same ∙ ap (lines_say regions (n + 1)) (drop_more lines n d lt)
+
+  pub lines_say-more : (more : List Region) → with_line regions (n + 1) (get_or lines n d) ≡ Ok more → lines_say more (n + 1 + 1) (drop (n + 1) lines) ≡ said
+  lines_say-more more e = sym (next ∙ ap (λ (r : Result (List Region) LayoutFault). r >>= λ (all : List Region). lines_say all (n + 1 + 1) (drop (n + 1) lines)) e)
+
+  first : (fault : LayoutFault) → with_line regions (n + 1) (get_or lines n d) ≡ Err fault → said ≡ Err fault
+  first fault e = next ∙ ap (λ (r : Result (List Region) LayoutFault). r >>= λ (all : List Region). lines_say all (n + 1 + 1) (drop (n + 1) lines)) e
+
+  pub lines_say-fault : (more : List Region) (fault : LayoutFault) → Adds more (Err fault) (with_line regions (n + 1) (get_or lines n d)) → Reads (Err fault) said
+  lines_say-fault more (InLine line fault) e = first (InLine line fault) e
+  lines_say-fault more TooMany e = first TooMany e
+  lines_say-fault more Memory e = tt
+  lines_say-fault more NoRegion e = first NoRegion e
+
+pub lines_say-all : (regions : List Region) (n : ℕ) (lines : List (List ℕ)) (said : Result (List Region) LayoutFault) → length lines ≤ n → lines_say regions (n + 1) (drop n lines) ≡ said → said ≡ Ok regions
+unfolding lines_say
+lines_say-all regions n lines said le same = sym same ∙ at_drop_all (lines_say regions (n + 1)) lines n le
+
+pub no_lines : (text : List ℕ) → lines_say [] 1 (lines_of text) ≡ layout_says text
+unfolding layout_says
+no_lines text = refl
+
+pub no_regions : AreRegions []
+no_regions = record { few = omega arith; forward = tt }

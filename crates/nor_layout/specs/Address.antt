@@ -1,0 +1,29 @@
+-- Addresses as a layout text writes them.
+use Rattle.std.specs.Prelude.{ℕ, ◌+◌, ◌-◌, ◌*◌, ◌^◌, Bool, ◌&&◌, ◌||◌, ◌==◌, nat_le, if◌then◌else◌, List, [], ◌∷◌, length, Option, Some, None}
+use Rattle.std.specs.List.{list_all}
+
+-- 0 to 9, A to F, a to f
+abbrev pub is_hex_digit : ℕ → Bool
+is_hex_digit byte = (nat_le 48 byte && nat_le byte 57) || (nat_le 65 byte && nat_le byte 70) || (nat_le 97 byte && nat_le byte 102)
+
+abbrev pub hex_value : ℕ → ℕ
+hex_value byte = if nat_le byte 57 then byte - 48 else (if nat_le byte 70 then byte - 55 else byte - 87)
+
+-- the number that digits write: each counts 16 to the number of digits behind it
+abbrev pub number_of : List ℕ → ℕ
+number_of [] = 0
+number_of (digit ∷ digits) = hex_value digit * 16 ^ length digits + number_of digits
+
+-- what stands behind an optional 0x
+abbrev pub digits_of : List ℕ → List ℕ
+digits_of [] = []
+digits_of (a ∷ []) = a ∷ []
+digits_of (a ∷ b ∷ digits) = if (a == 48) && (b == 120) then digits else a ∷ b ∷ digits
+
+-- 1 to 8 hexadecimal digits
+abbrev pub are_digits : List ℕ → Bool
+are_digits digits = nat_le 1 (length digits) && nat_le (length digits) 8 && list_all is_hex_digit digits
+
+-- the address that a text writes, if it writes one
+abbrev pub address_of : List ℕ → Option ℕ
+address_of text = if are_digits (digits_of text) then Some (number_of (digits_of text)) else None

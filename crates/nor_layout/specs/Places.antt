@@ -1,0 +1,37 @@
+-- The places of a sector whose addresses belong to a set.
+use Rattle.std.specs.Prelude.{◌≡◌, ℕ, ◌+◌, ◌*◌, ◌/◌, ◌%◌, ◌<◌, ◌≤◌, Bool, ◌&&◌, ◌||◌, nat_le, nat_lt, if◌then◌else◌, List, [], ◌∷◌, Option, Some, None}
+use Rattle.std.specs.List.{list_any, filter_map}
+use Rattle.nor_layout.specs.declared.ranges.Span.{Span}
+use Rattle.nor_layout.specs.declared.ranges.Places.{Places}
+use Rattle.nor_layout.specs.declared.ranges.PlacesIn.{PlacesIn}
+use Rattle.nor_layout.specs.Ranges.{contains}
+
+-- the start is one of the places, and the end is the one behind them
+abbrev pub covers : Places → ℕ → Bool
+covers places at = nat_le places.start at && nat_lt at places.end
+
+abbrev pub is_covered : List Places → ℕ → Bool
+is_covered all at = list_any (λ places. covers places at) all
+
+-- places of a sector, none below a first one; they rise, and none is empty
+abbrev pub AreRisingFrom : ℕ → List Places → Type 0
+AreRisingFrom first [] = Unit {0}
+AreRisingFrom first (places ∷ more) = (first ≤ places.start) × (places.start < places.end) × (places.end ≤ 4096) × AreRisingFrom places.end more
+
+-- these are the places of a sector whose addresses belong to the set
+pub record AreIncludedIn (spans : List Span) (sector : ℕ) (all : List Places) : Type 0 where
+  pub exact : (at : ℕ) → at < 4096 → is_covered all at ≡ contains spans (4096 * sector + at)
+  pub rising : AreRisingFrom 0 all
+
+-- the part of a span in a sector, if it has one
+abbrev pub part_of : ℕ → Span → Option Places
+part_of sector span =
+    if nat_lt sector (span.start / 4096) || nat_lt (span.end / 4096) sector then None
+    else Some (record {
+      start = if nat_lt (span.start / 4096) sector then 0 else span.start % 4096;
+      end = if nat_lt sector (span.end / 4096) then 4096 else span.end % 4096 + 1;
+    })
+
+-- what an iterator has left
+abbrev pub places_left : PlacesIn → List Places
+places_left it = filter_map (part_of it.sector) it.spans.now

@@ -1,0 +1,64 @@
+-- What a layout text says: the regions of its lines, or its first fault.
+use Rattle.std.specs.Prelude.{◌≡◌, ℕ, ◌+◌, ◌≤◌, ◌==◌, Bool, nat_lt, if◌then◌else◌, List, [], ◌∷◌, ◌++◌, length, Result, Ok, Err}
+use Rattle.std.specs.Str.{bytes_eq}
+use Rattle.std.specs.List.{slice_split, list_any, AllByRecursion}
+use Rattle.nor_layout.specs.declared.region.Region.{Region}
+use Rattle.nor_layout.specs.declared.fault.LineFault.{LineFault}
+use Rattle.nor_layout.specs.declared.fault.LineFault.TheVariants.{Twice}
+use Rattle.nor_layout.specs.declared.fault.LayoutFault.{LayoutFault}
+use Rattle.nor_layout.specs.declared.fault.LayoutFault.TheVariants.{InLine, TooMany, Memory}
+use Rattle.nor_layout.specs.Line.{line_says}
+
+-- A line ends with a line feed, which the last may lack. Behind the last line feed stands one more line, which may be empty.
+abbrev pub lines_of : List ℕ → List (List ℕ)
+lines_of text = slice_split (λ b. b == 10) text
+
+-- whether one of the regions has the name
+abbrev pub is_named : List Region → List ℕ → Bool
+is_named regions name = list_any (λ region. bytes_eq region.name.items name) regions
+
+-- a region of line n joins those of the lines before
+abbrev pub joins : List Region → ℕ → Region → Result (List Region) LayoutFault
+joins regions n region =
+    if is_named regions region.name.items then Err (InLine n Twice)
+    else (if nat_lt (length regions) 64 then Ok (regions ++ region ∷ []) else Err TooMany)
+
+abbrev pub joins_or_fault : List Region → ℕ → Result Region LineFault → Result (List Region) LayoutFault
+joins_or_fault regions n (Ok region) = joins regions n region
+joins_or_fault regions n (Err fault) = Err (InLine n fault)
+
+-- the regions of the lines up to line n, where those before it gave these: an empty line adds none
+unfoldable pub with_line : List Region → ℕ → List ℕ → Result (List Region) LayoutFault
+with_line regions n line = if length line == 0 then Ok regions else joins_or_fault regions n (line_says line)
+
+-- what follows where a step gave a value; a fault is the answer
+infixl 10 ◌>>=◌
+abbrev pub ◌>>=◌ : {A B : Type 0} → Result A LayoutFault → (A → Result B LayoutFault) → Result B LayoutFault
+(Ok x) >>= f = f x
+(Err fault) >>= f = Err fault
+
+-- the regions of all lines, where n is the number of the first of those left, and the lines before it gave these
+unfoldable pub lines_say : List Region → ℕ → List (List ℕ) → Result (List Region) LayoutFault
+lines_say regions n [] = Ok regions
+lines_say regions n (line ∷ lines) = with_line regions n line >>= λ more. lines_say more (n + 1) lines
+
+-- the regions that a text gives, in order, or its first fault
+unfoldable pub layout_says : List ℕ → Result (List Region) LayoutFault
+layout_says text = lines_say [] 1 (lines_of text)
+
+-- what every layout keeps
+pub record AreRegions (regions : List Region) : Type 0 where
+  pub few : length regions ≤ 64
+  pub forward : AllByRecursion (λ region. region.start ≤ region.end) regions
+
+-- An answer is what the text says, unless memory was refused.
+abbrev pub Reads : Result (List Region) LayoutFault → Result (List Region) LayoutFault → Type 0
+Reads (Ok regions) said = said ≡ Ok regions
+Reads (Err Memory) said = Unit {0}
+Reads (Err fault) said = said ≡ Err fault
+
+-- The regions are those that a line leaves, unless memory was refused.
+abbrev pub Adds : List Region → Result (Unit {0}) LayoutFault → Result (List Region) LayoutFault → Type 0
+Adds regions (Ok x) said = said ≡ Ok regions
+Adds regions (Err Memory) said = Unit {0}
+Adds regions (Err fault) said = said ≡ Err fault

@@ -1,0 +1,17 @@
+//! A region of a chip: its addresses and its name.
+
+use arrayvec::ArrayVec;
+
+/// The greatest length of a region's name, in bytes.
+pub const NAME_LEN: usize = 32;
+
+/// The most regions that a layout holds.
+pub const REGIONS: usize = 64;
+
+/// A named region of a chip. Both ends are addresses of it.
+#[derive(Debug, Drop)]
+pub struct Region {
+    pub start: u32,
+    pub end: u32,
+    pub name: ArrayVec<u8, NAME_LEN>,
+}
