@@ -1,1 +1,6 @@
 pub mod Vault
+pub mod Number
+pub mod Text
+pub mod Fault
+pub mod Reading
+pub mod Writer

@@ -70,3 +70,32 @@ Puts old piece (Err fault) new = PutRefused old piece fault.kept new
 abbrev pub Seals : {T : Type 0} → VaultState → Result T VaultFault → VaultState → Type 0
 Seals old (Ok _) new = Sealed old new
 Seals old (Err fault) new = SealRefused old fault.kept new
+
+-- ---- over several calls
+
+-- a vault that a journal may be put into
+pub record IsFresh (vault : VaultState) : Type 0 where
+  pub empty : vault.bytes ≡ []
+  pub unsealed : vault.sealed ≡ false
+
+-- Pieces went in, none was refused, and the vault is no more sealed than before.
+pub record Accepted (old new : VaultState) : Type 0 where
+  pub telling : new.telling ≡ old.telling
+  pub sealed : new.sealed ≡ old.sealed
+  pub failures : new.failures ≡ old.failures
+
+-- what putting several pieces does, which stops at the first refusal
+abbrev pub PutsOn : {T : Type 0} → VaultState → Result T VaultFault → VaultState → Type 0
+PutsOn old (Ok _) new = Accepted old new
+PutsOn old (Err _) new = Refused old new
+
+-- The vault was sealed, and nothing was refused.
+pub record Completed (old new : VaultState) : Type 0 where
+  pub telling : new.telling ≡ old.telling
+  pub sealed : new.sealed ≡ true
+  pub failures : new.failures ≡ old.failures
+
+-- what putting the last pieces and sealing does, which stops at the first refusal
+abbrev pub Completes : {T : Type 0} → VaultState → Result T VaultFault → VaultState → Type 0
+Completes old (Ok _) new = Completed old new
+Completes old (Err _) new = Refused old new

@@ -1,0 +1,6 @@
+pub mod Numbers
+pub mod Heads
+pub mod SectorRecords
+pub mod Places
+pub mod OneForm
+pub mod Writes

@@ -1,0 +1,115 @@
+-- Records one after the other: in the bytes, and as a list of sectors that rises.
+use Rattle.std.proofs.Common.{◌≡◌, ℕ, zero, suc, ◌+◌, ◌*◌, ◌/◌, ◌<◌, ◌≤◌, List, [], ◌∷◌, ◌++◌, length, take, drop, refl, sym, ap, ◌∙◌, add-one, arith, Some, inl, inr}
+use Rattle.std.specs.Prelude.{slice_get}
+use Rattle.std.specs.List.{flat_map}
+use Rattle.std.proofs.lemmas.Bool.{cases_lt}
+use Rattle.std.proofs.lemmas.List.{length-take, length-drop, drop-drop, append-nil, length_push}
+use Rattle.std.proofs.lemmas.Grind.{flat_map-append}
+use Rattle.nor_journal.specs.Number.{number_text, number_at}
+use Rattle.nor_journal.specs.Text.{SavedSector, IsSectorBelow, AreRising, least_after, record_text, records_text, next_number, end_mark}
+use Rattle.nor_journal.specs.declared.head.Head.{Head}
+use Rattle.nor_journal.specs.Reading.{sector_at, sectors_in, content_at, HasRecords, BeginsRecord}
+use Rattle.nor_journal.proofs.Numbers.{IsBytes, IsBytes-drop, number_text-number_at}
+
+-- one more sector at the end
+pub AreRising-push : (sectors least : ℕ) (ss : List SavedSector) (s : SavedSector) → AreRising sectors least ss → IsSectorBelow sectors s → least_after least ss ≤ s.number → AreRising sectors least (ss ++ s ∷ [])
+AreRising-push sectors least [] s rising is rises = (is, rises, tt)
+AreRising-push sectors least (first ∷ ss) s rising is rises = (rising.0, rising.1, AreRising-push sectors (first.number + 1) ss s rising.2 is rises)
+
+pub least_after-push : (least : ℕ) (ss : List SavedSector) (s : SavedSector) → least_after least (ss ++ s ∷ []) ≡ s.number + 1
+least_after-push least [] s = refl
+least_after-push least (first ∷ ss) s = least_after-push (first.number + 1) ss s
+
+pub records_text-nil : records_text [] ≡ []
+unfolding records_text
+records_text-nil = refl
+
+pub records_text-push : (ss : List SavedSector) (s : SavedSector) → records_text (ss ++ s ∷ []) ≡ records_text ss ++ record_text s
+unfolding records_text
+records_text-push ss s = flat_map-append record_text ss (s ∷ []) ∙ ap (λ (t : List ℕ). flat_map record_text ss ++ t) (append-nil (record_text s))
+
+-- ---- the records that bytes begin with
+
+pub length-sectors_in : (k : ℕ) (bytes : List ℕ) → length (sectors_in k bytes) ≡ k
+unfolding sectors_in
+length-sectors_in zero bytes = refl
+length-sectors_in (suc k) bytes = omega (arith, length_push (sectors_in k bytes) (sector_at bytes k), length-sectors_in k bytes)
+
+slice_get-push_last : (ss : List SavedSector) (s : SavedSector) (n : ℕ) → length ss ≡ n → slice_get (ss ++ s ∷ []) n ≡ Some s
+slice_get-push_last [] s zero e = refl
+slice_get-push_last [] s (suc n) e = absurd (omega arith)
+slice_get-push_last (x ∷ ss) s zero e = absurd (omega arith)
+slice_get-push_last (x ∷ ss) s (suc n) e = slice_get-push_last ss s n (omega arith)
+
+slice_get-push_before : (ss : List SavedSector) (s : SavedSector) (n : ℕ) → n < length ss → slice_get (ss ++ s ∷ []) n ≡ slice_get ss n
+slice_get-push_before [] s n lt = absurd (omega arith)
+slice_get-push_before (x ∷ ss) s zero lt = refl
+slice_get-push_before (x ∷ ss) s (suc n) lt = slice_get-push_before ss s n (omega arith)
+
+pub slice_get-sectors_in : (k : ℕ) (bytes : List ℕ) (i : ℕ) → i < k → slice_get (sectors_in k bytes) i ≡ Some (sector_at bytes i)
+unfolding sectors_in
+slice_get-sectors_in zero bytes i lt = absurd (omega arith)
+slice_get-sectors_in (suc k) bytes i lt =
+    elim (cases_lt i k) [
+      | inl below ↦ slice_get-push_before (sectors_in k bytes) (sector_at bytes k) i (omega (arith, length-sectors_in k bytes)) ∙ slice_get-sectors_in k bytes i below
+      | inr at ↦ (let e : k ≡ i = omega arith in rw (← e) (slice_get-push_last (sectors_in k bytes) (sector_at bytes k) k (length-sectors_in k bytes)))
+    ]
+
+take-nil : (n : ℕ) → take {A = ℕ} n [] ≡ []
+take-nil zero = refl
+take-nil (suc n) = refl
+
+-- two parts from the front
+pub take_two : (m n : ℕ) (bytes : List ℕ) → take m bytes ++ take n (drop m bytes) ≡ take (m + n) bytes
+take_two zero n bytes = ap (λ (k : ℕ). take k bytes) (omega arith)
+take_two (suc m) n [] = take-nil n ∙ sym (take-nil (suc m + n))
+take_two (suc m) n (b ∷ bytes) = let e : suc m + n ≡ suc (m + n) = omega arith in rw e (ap (λ (t : List ℕ). b ∷ t) (take_two m n bytes))
+
+-- one record is the text of its sector
+pub record_text-sector_at : (k : ℕ) (bytes : List ℕ) → IsBytes bytes → 4100 * k + 4100 ≤ length bytes → record_text (sector_at bytes k) ≡ take 4100 (drop (4100 * k) bytes)
+unfolding record_text
+record_text-sector_at k bytes fits long =
+    let number : number_text (number_at (drop (4100 * k) bytes)) ≡ take 4 (drop (4100 * k) bytes) =
+    number_text-number_at (drop (4100 * k) bytes) (IsBytes-drop (4100 * k) bytes fits) (omega (arith, length-drop (4100 * k) bytes)) in
+    rw number (ap (λ (t : List ℕ). take 4 (drop (4100 * k) bytes) ++ take 4096 t) (sym (drop-drop 4 (4100 * k) bytes)) ∙ take_two 4 4096 (drop (4100 * k) bytes))
+
+pub records_text-sectors_in : (k : ℕ) (bytes : List ℕ) → IsBytes bytes → 4100 * k ≤ length bytes → records_text (sectors_in k bytes) ≡ take (4100 * k) bytes
+unfolding sectors_in
+records_text-sectors_in zero bytes fits long = records_text-nil
+records_text-sectors_in (suc k) bytes fits long =
+    let so_far = records_text-sectors_in k bytes fits (omega arith) in
+    let next = record_text-sector_at k bytes fits (omega arith) in
+    records_text-push (sectors_in k bytes) (sector_at bytes k) ∙ rw (so_far, next) (take_two (4100 * k) 4100 bytes ∙ ap (λ (n : ℕ). take n bytes) (omega arith))
+
+-- ---- one record more
+
+-- what the next record adds to those before it
+pub has_one_more : (h : Head) (bytes : List ℕ) (k : ℕ) (least : ℕ) (rest : List ℕ) (n : ℕ) → HasRecords h bytes k → rest ≡ drop (4100 * k) bytes → least ≡ next_number (content_at h k bytes)
+    → BeginsRecord (h.size / 4096) least rest n → HasRecords h bytes (k + 1)
+unfolding next_number sectors_in
+has_one_more h bytes k least rest n so_far rest-is least-is begins =
+    let long : 4100 * k + 4100 ≤ length bytes = omega (arith, begins.whole, ap length rest-is, length-drop (4100 * k) bytes) in
+    let number : n ≡ number_at (drop (4100 * k) bytes) = rw (← rest-is) begins.is in
+    let whole : length (take 4096 (drop (4100 * k + 4) bytes)) ≡ 4096 = omega (arith, length-take 4096 (drop (4100 * k + 4) bytes), length-drop (4100 * k + 4) bytes) in
+    record {
+      within = omega arith;
+      rising = rw (add-one k) (AreRising-push (h.size / 4096) 0 (sectors_in k bytes) (sector_at bytes k) so_far.rising
+          (record { place = rw (← number) begins.place; whole = whole })
+          (rw (← number, ← least-is) begins.rises));
+    }
+
+pub next_number-more : (h : Head) (bytes : List ℕ) (k : ℕ) (n : ℕ) → n ≡ number_at (drop (4100 * k) bytes) → n + 1 ≡ next_number (content_at h (k + 1) bytes)
+unfolding next_number sectors_in
+next_number-more h bytes k n e = rw (add-one k) (ap (λ (m : ℕ). m + 1) e ∙ sym (least_after-push 0 (sectors_in k bytes) (sector_at bytes k)))
+
+pub starts : (h : Head) (bytes : List ℕ) → HasRecords h bytes 0
+unfolding sectors_in
+starts h bytes = record { within = omega arith; rising = tt }
+
+pub next_number-none : (h : Head) (bytes : List ℕ) → 0 ≡ next_number (content_at h 0 bytes)
+unfolding next_number sectors_in
+next_number-none h bytes = refl
+
+-- up to the end mark, and with it
+pub with_mark : (mark : ℕ) (bytes : List ℕ) → take 4 (drop mark bytes) ≡ end_mark → take (mark + 4) bytes ≡ take mark bytes ++ end_mark
+with_mark mark bytes is_mark = sym (take_two mark 4 bytes) ∙ ap (λ (t : List ℕ). take mark bytes ++ t) is_mark

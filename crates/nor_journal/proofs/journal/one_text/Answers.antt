@@ -1,0 +1,5 @@
+use Rattle.nor_journal.proofs.OneForm as form
+use Rattle.nor_journal.proofs.journal.one_text.Goals as goal
+
+pub returns : goal.returns
+returns c = form.one_text

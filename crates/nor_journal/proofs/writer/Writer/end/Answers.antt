@@ -1,0 +1,6 @@
+use Rattle.nor_journal.proofs.Writes.{ends}
+use Rattle.nor_journal.proofs.writer.Writer.end.Goals as goal
+
+pub returns-clause-written : goal.returns-clause-written
+returns-clause-written g c = λ content written.
+    ends _ _ _ _ c.seal.result content _ written.put.told c.in_ok-put.ensures c.in_ok-put-2.ensures (c.finalize.ensures _ (c.update.ensures _ written.put.hashed)) c.seal.ensures

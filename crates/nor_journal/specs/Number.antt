@@ -1,0 +1,11 @@
+-- A number of a journal: four bytes, the lowest first.
+use Rattle.std.specs.Prelude.{ℕ, List}
+use Rattle.byteorder.specs.Endian.{little_bytes, little_number}
+
+-- the four bytes of a number
+unfoldable pub number_text : ℕ → List ℕ
+number_text n = little_bytes 4 n
+
+-- the number that the first four bytes are
+unfoldable pub number_at : List ℕ → ℕ
+number_at bytes = little_number 4 bytes

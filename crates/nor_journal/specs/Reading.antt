@@ -1,0 +1,53 @@
+-- The content that bytes have at their places.
+use Rattle.std.specs.Prelude.{◌≡◌, ℕ, zero, suc, ◌+◌, ◌*◌, ◌/◌, ◌<◌, ◌≤◌, List, [], ◌∷◌, ◌++◌, length, take, drop}
+use Rattle.nor_journal.specs.Number.{number_at}
+use Rattle.nor_journal.specs.Text.{SavedSector, Content, IsChipSize, AreRising, next_number, end_mark}
+use Rattle.nor_journal.specs.Fault.{RecordFault}
+use Rattle.nor_journal.specs.declared.fault.JournalFault.{JournalFault}
+use Rattle.nor_journal.specs.declared.head.Head.{Head}
+
+-- record k of bytes that consist of records
+abbrev pub sector_at : List ℕ → ℕ → SavedSector
+sector_at bytes k = record { number = number_at (drop (4100 * k) bytes); bytes = take 4096 (drop (4100 * k + 4) bytes) }
+
+-- the first k records of such bytes
+unfoldable pub sectors_in : ℕ → List ℕ → List SavedSector
+sectors_in zero bytes = []
+sectors_in (suc k) bytes = sectors_in k bytes ++ sector_at bytes k ∷ []
+
+-- what a head says, with no sector saved
+abbrev pub headed : Head → Content
+headed h = record { id = h.id; status = h.status; size = h.size; saved = [] }
+
+-- the same with the first k records of the bytes behind the head
+abbrev pub content_at : Head → ℕ → List ℕ → Content
+content_at h k bytes = record { id = h.id; status = h.status; size = h.size; saved = sectors_in k bytes }
+
+-- a head that a content may have
+pub record IsHead (h : Head) : Type 0 where
+  pub id : length h.id ≡ 3
+  pub status : length h.status ≡ 2
+  pub size : IsChipSize h.size
+
+-- The bytes behind the head begin with k records in order.
+pub record HasRecords (h : Head) (bytes : List ℕ) (k : ℕ) : Type 0 where
+  pub within : 4100 * k ≤ length bytes
+  pub rising : AreRising (h.size / 4096) 0 (sectors_in k bytes)
+
+-- The next record behind some of them has this fault.
+pub record FaultBehindRecords (h : Head) (bytes : List ℕ) (fault : JournalFault) : Type 0 where
+  pub count : ℕ
+  pub records : HasRecords h bytes count
+  pub next : RecordFault (h.size / 4096) (next_number (content_at h count bytes)) (drop (4100 * count) bytes) fault
+
+-- The end mark stands behind k records.
+pub record EndsBehind (h : Head) (bytes : List ℕ) (k : ℕ) : Type 0 where
+  pub records : HasRecords h bytes k
+  pub mark : take 4 (drop (4100 * k) bytes) ≡ end_mark
+
+-- A record begins the bytes, with a number that is at least `least`.
+pub record BeginsRecord (sectors least : ℕ) (bytes : List ℕ) (number : ℕ) : Type 0 where
+  pub is : number ≡ number_at bytes
+  pub rises : least ≤ number
+  pub place : number < sectors
+  pub whole : 4100 ≤ length bytes

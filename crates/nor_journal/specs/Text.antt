@@ -1,0 +1,104 @@
+-- What a journal says, and its one text, format 1.
+use Rattle.std.specs.Prelude.{◌≡◌, ℕ, ◌+◌, ◌/◌, ◌<◌, ◌≤◌, IsTrue, ⊤, List, [], ◌∷◌, ◌++◌, length, codes, Option, Some, None, ◌==◌, if◌then◌else◌}
+use Rattle.std.specs.Int.{is_power_of_two}
+use Rattle.std.specs.List.{flat_map}
+use Rattle.sha2.specs.Sha256.{sha256}
+use Rattle.nor_journal.specs.Number.{number_text}
+
+-- A sector and the bytes that it had.
+pub record SavedSector : Type 0 where
+  pub number : ℕ
+  pub bytes : List ℕ
+
+-- What a journal says of a chip. The saved sectors are a finite map from numbers to bytes, written as the list
+-- in rising order.
+pub record Content : Type 0 where
+  -- the three bytes of the chip's ID
+  pub id : List ℕ
+  -- status 1 and status 2
+  pub status : List ℕ
+  -- the chip's size in bytes
+  pub size : ℕ
+  pub saved : List SavedSector
+
+-- ---- which contents there are
+
+-- a power of two from 64 KiB to 16 MiB
+pub record IsChipSize (size : ℕ) : Type 0 where
+  pub least : 65536 ≤ size
+  pub most : size ≤ 16777216
+  pub power : IsTrue (is_power_of_two size)
+
+-- a whole sector of a chip that has so many
+pub record IsSectorBelow (sectors : ℕ) (s : SavedSector) : Type 0 where
+  pub place : s.number < sectors
+  pub whole : length s.bytes ≡ 4096
+
+-- Each is a whole sector below `sectors`, and the numbers rise, the first being at least `least`.
+abbrev pub AreRising : ℕ → ℕ → List SavedSector → Type 0
+AreRising sectors least [] = ⊤
+AreRising sectors least (s ∷ rest) = IsSectorBelow sectors s × (least ≤ s.number) × AreRising sectors (s.number + 1) rest
+
+pub record IsContent (c : Content) : Type 0 where
+  pub id : length c.id ≡ 3
+  pub status : length c.status ≡ 2
+  pub size : IsChipSize c.size
+  pub saved : AreRising (c.size / 4096) 0 c.saved
+
+-- ---- the text
+
+-- The head: the magic, the ID, the status bytes and the size. Another format has another head.
+unfoldable pub head : Content → List ℕ
+head c = codes "NORUNDO1" ++ c.id ++ c.status ++ number_text c.size
+
+-- a record: the sector's number and its bytes
+unfoldable pub record_text : SavedSector → List ℕ
+record_text s = number_text s.number ++ s.bytes
+
+unfoldable pub records_text : List SavedSector → List ℕ
+records_text saved = flat_map record_text saved
+
+-- what stands where no record follows: four bytes FFh, which are the number of no sector
+unfoldable pub end_mark : List ℕ
+end_mark = 255 ∷ 255 ∷ 255 ∷ 255 ∷ []
+
+-- the head and the records
+unfoldable pub front : Content → List ℕ
+front c = head c ++ records_text c.saved
+
+-- all that the digest is of
+unfoldable pub body : Content → List ℕ
+body c = front c ++ end_mark
+
+-- The text of a journal: the head, the records, the end mark, and the SHA-256 of all these.
+unfoldable pub text : Content → List ℕ
+text c = body c ++ sha256 (body c)
+
+-- ---- a content that grows, and what it saves
+
+-- what a journal says before any sector is saved
+abbrev pub empty_content : List ℕ → List ℕ → ℕ → Content
+empty_content id status size = record { id = id; status = status; size = size; saved = [] }
+
+-- the content with one more sector, the last
+abbrev pub with_sector : Content → ℕ → List ℕ → Content
+with_sector c number bytes = record c { saved = c.saved ++ record { number = number; bytes = bytes } ∷ [] }
+
+-- the least number that a sector may have which follows these
+abbrev pub least_after : ℕ → List SavedSector → ℕ
+least_after least [] = least
+least_after least (s ∷ rest) = least_after (s.number + 1) rest
+
+-- the least number that the next sector of a content may have
+unfoldable pub next_number : Content → ℕ
+next_number c = least_after 0 c.saved
+
+-- the sector may be saved next: the numbers still rise, and it is a sector of the chip
+pub record MayFollow (c : Content) (number : ℕ) : Type 0 where
+  pub rises : next_number c ≤ number
+  pub place : number < c.size / 4096
+
+-- the bytes that are saved for a sector, if it is saved
+unfoldable pub saved_in : List SavedSector → ℕ → Option (List ℕ)
+saved_in [] number = None
+saved_in (s ∷ rest) number = if s.number == number then Some s.bytes else saved_in rest number

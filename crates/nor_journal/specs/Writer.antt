@@ -1,0 +1,20 @@
+-- What a writer has put into its vault so far.
+use Rattle.std.specs.Prelude.{◌≡◌, ℕ, true, List}
+use Rattle.sha2.specs.Hashers.{Holds256}
+use Rattle.nor_journal.specs.declared.writer.Writer.{Writer}
+use Rattle.nor_journal.specs.Vault.{VaultState}
+use Rattle.nor_journal.specs.Text.{Content, IsContent, front}
+
+-- what contracts see of the vault of a writer
+abbrev pub vault_state : {V : Type 0} → (V → VaultState) → Writer V → VaultState
+vault_state state writer = state writer.vault.now
+
+-- These bytes went in: the hasher holds them, and a telling vault has them.
+pub record HasPut {V : Type 0} (state : V → VaultState) (writer : Writer V) (bytes : List ℕ) : Type 0 where
+  pub hashed : Holds256 writer.hasher bytes
+  pub told : (state writer.vault.now).telling ≡ true → (state writer.vault.now).bytes ≡ bytes
+
+-- The head and the records of this content went in.
+pub record HasWritten {V : Type 0} (state : V → VaultState) (writer : Writer V) (content : Content) : Type 0 where
+  pub is : IsContent content
+  pub put : HasPut state writer (front content)

@@ -1,0 +1,111 @@
+//! A journal that was read.
+ghost use Rattle.std.specs.Prelude.{◌≡◌, ℕ, ◌<◌, ◌≤◌, List, ◌++◌, length, take, slice_get, Some, IfOk, IfErr, OnOk, IsOkAnd};
+ghost use Rattle.nor_journal.specs.Text.{Content, IsContent, text};
+ghost use Rattle.nor_journal.specs.Fault.{HasFault};
+
+use crate::fault::JournalFault;
+use crate::head::{Head, read_head};
+use crate::records::{RECORD, check_end, count_records, record_at};
+use std::marker::Model;
+
+/// A journal that was read: what it says of a chip, with the sectors borrowed from the bytes.
+///
+/// Contracts see it as a `Content`.
+#[derive(Drop)]
+pub struct Journal<'a> {
+    head: Head,
+    count: usize,
+    // what stands behind the head, the records first
+    records: &'a [u8],
+}
+
+impl<'a> Model for Journal<'a> {
+    ghost use Rattle.nor_journal.specs.Text.{Content, IsContent};
+
+    ghost Value = { Content };
+
+    ghost use Rattle.nor_journal.specs.Reading.{content_at, IsHead, HasRecords};
+
+    ghost view = { λ j. content_at j.head j.count j.records.now };
+
+    ghost invariant = { λ j. IsHead j.head × HasRecords j.head j.records.now j.count };
+}
+
+impl<'a> Journal<'a> {
+    /// Reads a journal, all of the bytes. It takes no memory.
+    ///
+    /// An error is the first fault that is met from the front.
+    pub fn read(bytes: &'a [u8]) -> Result<Journal<'a>, JournalFault>
+        // What is read is a journal, and says what is answered.
+        ensures found { IfOk result (λ journal. IsContent journal × (bytes.now ≡ text journal)) }
+        // A journal is read.
+        ensures only { (c : Content) → IsContent c → bytes.now ≡ text c → IsOkAnd result (λ journal. journal ≡ c) }
+        // No proper beginning of a journal is a journal.
+        ensures whole { OnOk result ((c : Content) (n : ℕ) → IsContent c → take n bytes.now ≡ text c → length bytes.now ≤ n) }
+        // Which fault it is.
+        ensures fault { IfErr result (HasFault bytes.now) }
+    {
+        Self::read_parts(bytes)
+    }
+
+    // Reads the head, the records and the end.
+    fn read_parts(bytes: &'a [u8]) -> Result<Journal<'a>, JournalFault>
+        ensures found { IfOk result (λ journal. IsContent journal × (bytes.now ≡ text journal)) }
+        ensures fault { IfErr result (HasFault bytes.now) }
+    {
+        let (head, records) = read_head(bytes)?;
+        let count = count_records(&head, records)?;
+        check_end(bytes, bytes.len() - records.len() + RECORD * count)?;
+        Ok(Journal {
+            head,
+            count,
+            records,
+        })
+    }
+
+    /// The three bytes of the chip's ID.
+    pub fn id(&self) -> [u8; 3]
+        ensures value { result ≡ self.now.id }
+        ensures sound { IsContent self.now }
+    {
+        self.head.id
+    }
+
+    /// Status 1 and status 2.
+    pub fn status(&self) -> [u8; 2]
+        ensures value { result ≡ self.now.status }
+        ensures sound { IsContent self.now }
+    {
+        self.head.status
+    }
+
+    /// The chip's size in bytes.
+    pub fn size(&self) -> u32
+        ensures value { result ≡ self.now.size }
+        ensures sound { IsContent self.now }
+    {
+        self.head.size
+    }
+
+    /// How many sectors are saved.
+    pub fn count(&self) -> usize
+        ensures value { result ≡ length self.now.saved }
+        ensures sound { IsContent self.now }
+    {
+        self.count
+    }
+
+    /// The number and the 4,096 bytes of saved sector `i`, counted from 0 in rising order.
+    pub fn sector(&self, i: usize) -> (u32, &'a [u8])
+        requires { i < length self.now.saved }
+        ensures value { slice_get self.now.saved i ≡ Some (record { number = result.0; bytes = result.1.now }) }
+        ensures sound { IsContent self.now }
+    {
+        record_at(self.records, i)
+    }
+}
+
+/// Each journal says one thing, and none begins another: where two of them begin the same bytes, they say the same.
+pub fn one_text()
+    ensures { (c d : Content) (x y : List ℕ) → IsContent c → IsContent d → text c ++ x ≡ text d ++ y → (c ≡ d) × (x ≡ y) }
+{}

@@ -1,0 +1,96 @@
+//! The records of a journal, and its end.
+ghost use Rattle.std.specs.Prelude.{◌≡◌, ◌+◌, ◌*◌, ◌≤◌, length, take, drop, IfOk, IfErr, OnOk, MatchOption};
+ghost use Rattle.sha2.specs.Sha256.{sha256};
+ghost use Rattle.nor_journal.specs.Text.{end_mark};
+ghost use Rattle.nor_journal.specs.Fault.{RecordFault, EndFault};
+ghost use Rattle.nor_journal.specs.Reading.{sector_at, IsHead, BeginsRecord, HasRecords, EndsBehind, FaultBehindRecords};
+
+use crate::fault::JournalFault;
+use crate::head::Head;
+use crate::number::number_of;
+use sha2::{Digest, Sha256};
+
+/// The length of a sector in bytes.
+pub const SECTOR: usize = 4096;
+
+/// The length of a record in bytes: a sector's number and its bytes.
+pub const RECORD: usize = 4 + SECTOR;
+
+/// What stands where no record follows.
+pub const END_MARK: [u8; 4] = [0xFF; 4];
+
+/// The length of a digest in bytes.
+const DIGEST: usize = 32;
+
+/// The number of the record that the bytes begin with, or None at the end mark.
+#[tactic(auto, unfolding(crate::specs::Text::end_mark))]
+fn next_record(sectors: u32, least: u32, bytes: &[u8]) -> Result<Option<u32>, JournalFault>
+    ensures fault { IfErr result (RecordFault sectors least bytes.now) }
+    ensures found { IfOk result (λ next. MatchOption next (take 4 bytes.now ≡ end_mark) (BeginsRecord sectors least bytes.now)) }
+{
+    if bytes.len() < END_MARK.len() {
+        return Err(JournalFault::Short);
+    }
+    if bytes[..4] == END_MARK[..] {
+        return Ok(None);
+    }
+    let number = number_of(bytes);
+    if number >= sectors {
+        return Err(JournalFault::Place);
+    }
+    if number < least {
+        return Err(JournalFault::Order);
+    }
+    if bytes.len() < RECORD {
+        return Err(JournalFault::Short);
+    }
+    Ok(Some(number))
+}
+
+/// How many records stand behind the head, up to the end mark.
+pub fn count_records(head: &Head, bytes: &[u8]) -> Result<usize, JournalFault>
+    requires { IsHead head.now }
+    ensures fault { IfErr result (FaultBehindRecords head.now bytes.now) }
+    ensures found { IfOk result (EndsBehind head.now bytes.now) }
+{
+    let sectors = head.size / 4096;
+    let mut count = 0;
+    let mut least = 0;
+    let mut rest = bytes;
+    while let Some(number) = next_record(sectors, least, rest)? {
+        let (_, behind) = rest.split_at(RECORD);
+        rest = behind;
+        least = number + 1;
+        count += 1;
+    }
+    Ok(count)
+}
+
+/// The number and the bytes of record `i`.
+pub fn record_at(records: &[u8], i: usize) -> (u32, &[u8])
+    requires { 4100 * i + 4100 ≤ length records.now }
+    ensures { record { number = result.0; bytes = result.1.now } ≡ sector_at records.now i }
+{
+    let record = &records[RECORD * i..];
+    (number_of(record), &record[RECORD - SECTOR..RECORD])
+}
+
+/// Looks at what stands behind the end mark, whose place is given: the digest and nothing else.
+pub fn check_end(bytes: &[u8], mark: usize) -> Result<(), JournalFault>
+    requires within { mark + 4 ≤ length bytes.now }
+    requires is_mark { take 4 (drop mark bytes.now) ≡ end_mark }
+    ensures fault { IfErr result (EndFault (take mark bytes.now) (drop mark bytes.now)) }
+    ensures found { OnOk result (drop (mark + 4) bytes.now ≡ sha256 (take (mark + 4) bytes.now)) }
+{
+    let (body, digest) = bytes.split_at(mark + END_MARK.len());
+    if digest.len() < DIGEST {
+        return Err(JournalFault::Short);
+    }
+    if digest.len() > DIGEST {
+        return Err(JournalFault::Long);
+    }
+    if digest != Sha256::digest(body).as_slice() {
+        return Err(JournalFault::Digest);
+    }
+    Ok(())
+}

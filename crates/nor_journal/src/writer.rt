@@ -1,0 +1,86 @@
+//! Writes a journal into a vault, piece by piece.
+ghost use Rattle.std.specs.Prelude.{◌≡◌, ◌++◌, List, ℕ, [], false, true, length, OnOk, IfOk};
+ghost use Rattle.nor_journal.specs.Vault.{PutsOn, Completes, IsFresh};
+ghost use Rattle.nor_journal.specs.Text.{Content, IsContent, IsChipSize, MayFollow, empty_content, with_sector, text};
+ghost use Rattle.nor_journal.specs.Writer.{vault_state, HasPut, HasWritten};
+
+use crate::head::MAGIC;
+use crate::number::number_bytes;
+use crate::records::{END_MARK, SECTOR};
+use crate::vault::{Vault, VaultFault};
+use sha2::{Digest, Sha256};
+
+/// Writes a journal into a vault, which it holds until the end: the head, the sectors in rising order, the end.
+/// It takes no memory: the digest is fed as the pieces go out.
+#[derive(Drop)]
+pub struct Writer<'a, V: Vault> {
+    vault: &'a mut V,
+    hasher: Sha256,
+}
+
+impl<'a, V: Vault> Writer<'a, V> {
+    /// A writer into an empty, unsealed vault. Nothing is written yet.
+    pub fn on(vault: &'a mut V) -> Writer<'a, V>
+        requires { IsFresh (V.state vault.old) }
+        ensures same_vault { result.vault.ghost_name ≡ vault.entry.ghost_name }
+        ensures vault { vault_state V.state result ≡ V.state vault.old }
+        ensures nothing { HasPut V.state result [] }
+    {
+        Writer {
+            vault,
+            hasher: Sha256::new(),
+        }
+    }
+
+    // Puts a piece, and takes it into the digest.
+    fn piece(&mut self, bytes: &[u8]) -> Result<(), VaultFault>
+        requires { (vault_state V.state self.old).sealed ≡ false }
+        ensures same_vault { self.new.vault.ghost_name ≡ self.old.vault.ghost_name }
+        ensures vault { PutsOn (vault_state V.state self.old) result (vault_state V.state self.new) }
+        ensures put { (m : List ℕ) → HasPut V.state self.old m → OnOk result (HasPut V.state self.new (m ++ bytes.now)) }
+    {
+        self.vault.put(bytes)?;
+        self.hasher.update(bytes);
+        Ok(())
+    }
+
+    /// Writes the head, with the chip's ID, its two status bytes and its size in bytes.
+    pub fn header(&mut self, id: [u8; 3], status: [u8; 2], size: u32) -> Result<(), VaultFault>
+        requires unsealed { (vault_state V.state self.old).sealed ≡ false }
+        requires size { IsChipSize size }
+        ensures same_vault { self.new.vault.ghost_name ≡ self.old.vault.ghost_name }
+        ensures vault { PutsOn (vault_state V.state self.old) result (vault_state V.state self.new) }
+        ensures written { HasPut V.state self.old [] → OnOk result (HasWritten V.state self.new (empty_content id status size)) }
+    {
+        self.piece(&MAGIC)?;
+        self.piece(&id)?;
+        self.piece(&status)?;
+        self.piece(&number_bytes(size))
+    }
+
+    /// Writes a sector behind the others. Its number is above theirs, and a sector of the chip has it.
+    pub fn add(&mut self, number: u32, bytes: &[u8; 4096]) -> Result<(), VaultFault>
+        requires { (vault_state V.state self.old).sealed ≡ false }
+        ensures same_vault { self.new.vault.ghost_name ≡ self.old.vault.ghost_name }
+        ensures vault { PutsOn (vault_state V.state self.old) result (vault_state V.state self.new) }
+        ensures written { (c : Content) → HasWritten V.state self.old c → MayFollow c number
+            → OnOk result (HasWritten V.state self.new (with_sector c number bytes.now)) }
+    {
+        self.piece(&number_bytes(number))?;
+        self.piece(bytes)
+    }
+
+    /// Writes the end mark and the digest, and seals the vault, whose bytes are then the journal's text.
+    pub fn end(self) -> Result<(), VaultFault>
+        requires { (vault_state V.state self).sealed ≡ false }
+        ensures vault { Completes (vault_state V.state self.entry) result (V.state self.exit.0.now) }
+        ensures written { (c : Content) → HasWritten V.state self.entry c
+            → OnOk result ((V.state self.exit.0.now).telling ≡ true → (V.state self.exit.0.now).bytes ≡ text c) }
+    {
+        let Writer { vault, mut hasher } = self;
+        vault.put(&END_MARK)?;
+        hasher.update(&END_MARK);
+        vault.put(&hasher.finalize())?;
+        vault.seal()
+    }
+}
