@@ -4,3 +4,8 @@ pub mod Guard
 pub mod Command
 pub mod Step
 pub mod Bus
+pub mod Cells
+pub mod Aim
+pub mod Flash
+pub mod Sim
+pub mod Start

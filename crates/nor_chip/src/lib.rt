@@ -7,7 +7,10 @@
 mod bus;
 mod command;
 mod config;
+mod guard;
+mod sim;
 
 pub use bus::{Bus, Meter, Stopped};
 pub use command::{Command, is_changing};
 pub use config::{Config, SECTOR_LEN, TINY64_SFDP};
+pub use sim::{Delays, SimBus, WrongLength};

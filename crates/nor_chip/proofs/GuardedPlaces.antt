@@ -1,0 +1,185 @@
+-- Guarded places lie at the chip's ends and end at whole KiB; the complement guards exactly the others.
+use Rattle.std.proofs.Common.{◌≡◌, ◌≢◌, ℕ, zero, suc, ◌+◌, ◌-◌, ◌/◌, ◌%◌, ◌^◌, ◌<◌, ◌≤◌, ◌⊎◌, inl, inr, arith, refl, sym, ◌∙◌, ap}
+use Rattle.std.specs.Prelude.{Bool, true, false, not, ◌==◌, ◌&&◌, ◌||◌, ◌↔◌, nat_lt, nat_le, if◌then◌else◌}
+use Rattle.std.proofs.lemmas.Bool.{cases_lt, lt-ltb, le-ltb, le-leb, lt-leb, ltb-true, leb-true, eqb-false, or_cases}
+use Rattle.std.proofs.Math.Bool.{or-true}
+use Rattle.nor_chip.specs.Chip.{Chip}
+use Rattle.nor_chip.specs.Guard.{guarded_by, named_length, is_undefined, is_complement, is_bottom, is_sector, bp_of, code_of, is_guarded, is_unit_guarded}
+
+-- a number of bytes of the chip, in whole KiB
+pub record IsPart (size n : ℕ) : Type 0 where
+  pub within : n ≤ size
+  pub whole : n % 1024 ≡ 0
+
+part_if : (size : ℕ) (test : Bool) (x y : ℕ) → IsPart size x → IsPart size y → IsPart size (if test then x else y)
+part_if size true x y fits other = fits
+part_if size false x y fits other = other
+
+part_if_not : (size : ℕ) (test : Bool) (x y : ℕ) → IsPart size x → (test ≡ false → IsPart size y) → IsPart size (if test then x else y)
+part_if_not size true x y fits other = fits
+part_if_not size false x y fits other = other refl
+
+-- a 64th of the chip and its doubles
+part_of_blocks : (size bp : ℕ) → 65536 ≤ size → size % 65536 ≡ 0 → bp ≢ 0 → bp < 8 → IsPart size (size / 2 ^ (7 - bp))
+part_of_blocks size zero large blocks some small = absurd (some refl)
+part_of_blocks size (suc zero) large blocks some small = record { within = omega arith; whole = omega arith }
+part_of_blocks size (suc (suc zero)) large blocks some small = record { within = omega arith; whole = omega arith }
+part_of_blocks size (suc (suc (suc zero))) large blocks some small = record { within = omega arith; whole = omega arith }
+part_of_blocks size (suc (suc (suc (suc zero)))) large blocks some small = record { within = omega arith; whole = omega arith }
+part_of_blocks size (suc (suc (suc (suc (suc zero))))) large blocks some small = record { within = omega arith; whole = omega arith }
+part_of_blocks size (suc (suc (suc (suc (suc (suc zero)))))) large blocks some small = record { within = omega arith; whole = omega arith }
+part_of_blocks size (suc (suc (suc (suc (suc (suc (suc zero))))))) large blocks some small = record { within = omega arith; whole = omega arith }
+part_of_blocks size (suc (suc (suc (suc (suc (suc (suc (suc bp)))))))) large blocks some small = absurd (omega arith)
+
+-- the bytes that a code names are a part of the chip
+named_length-part : (size code : ℕ) → 65536 ≤ size → size % 65536 ≡ 0 → IsPart size (named_length size code)
+named_length-part size code large blocks =
+    let small : IsPart size 4096 = record { within = omega arith; whole = refl } in
+    let two : IsPart size 8192 = record { within = omega arith; whole = refl } in
+    let four : IsPart size 16384 = record { within = omega arith; whole = refl } in
+    let eight : IsPart size 32768 = record { within = omega arith; whole = refl } in
+    part_if_not size (bp_of code == 0) _ _ record { within = omega arith; whole = refl }
+    (λ some. part_if size (bp_of code == 7) _ _ record { within = omega arith; whole = omega arith }
+    (part_if size (is_sector code) _ _
+    (part_if size (bp_of code == 1) _ _ small (part_if size (bp_of code == 2) _ _ two (part_if size (bp_of code == 3) _ _ four eight)))
+    (part_of_blocks size (bp_of code) large blocks (eqb-false (bp_of code) 0 some) (omega arith))))
+
+-- Tests on the places below the size that hold on the first ones, or on the last ones.
+abbrev pub OnFirst : ℕ → (ℕ → Bool) → ℕ → Type 0
+OnFirst size test end = (a : ℕ) → a < size → test a ≡ nat_lt a end
+
+abbrev pub OnLast : ℕ → (ℕ → Bool) → ℕ → Type 0
+OnLast size test start = (a : ℕ) → a < size → test a ≡ nat_le start a
+
+-- a test that holds at one end of the chip, up to a whole KiB
+pub record IsAtAnEnd (size : ℕ) (test : ℕ → Bool) : Type 0 where
+  pub border : ℕ
+  pub part : IsPart size border
+  pub side : OnFirst size test border ⊎ OnLast size test border
+
+-- the tests that `guarded_by` is made of
+place_test : ℕ → ℕ → Bool → Bool → Bool → ℕ → Bool
+place_test size named undefined complement bottom a =
+    nat_lt a size && (undefined || (if complement then not (if bottom then nat_lt a named else nat_le (size - named) a) else (if bottom then nat_lt a named else nat_le (size - named) a)))
+
+not_lt : (a n : ℕ) → not (nat_lt a n) ≡ nat_le n a
+not_lt a n = elim (cases_lt a n) [
+  | inl below ↦ ap not (lt-ltb a n below) ∙ sym (lt-leb n a below)
+  | inr above ↦ ap not (le-ltb a n above) ∙ sym (le-leb n a above)
+]
+
+not_le : (a n : ℕ) → not (nat_le n a) ≡ nat_lt a n
+not_le a n = elim (cases_lt a n) [
+  | inl below ↦ ap not (lt-leb n a below) ∙ sym (lt-ltb a n below)
+  | inr above ↦ ap not (le-leb n a above) ∙ sym (le-ltb a n above)
+]
+
+place_test-end : (size named : ℕ) (undefined complement bottom : Bool) → size % 1024 ≡ 0 → IsPart size named → IsAtAnEnd size (place_test size named undefined complement bottom)
+unfolding place_test
+place_test-end size named true complement bottom whole part = record {
+  border = size;
+  part = record { within = omega arith; whole = whole };
+  side = inl (λ a below. rw (lt-ltb a size below) refl);
+}
+place_test-end size named false true true whole part = record {
+  border = named;
+  part = part;
+  side = inr (λ a below. rw (lt-ltb a size below) (not_lt a named));
+}
+place_test-end size named false true false whole part = let within = part.within in let named_whole = part.whole in record {
+  border = size - named;
+  part = record { within = omega arith; whole = omega arith };
+  side = inl (λ a below. rw (lt-ltb a size below) (not_le a (size - named)));
+}
+place_test-end size named false false true whole part = record {
+  border = named;
+  part = part;
+  side = inl (λ a below. rw (lt-ltb a size below) refl);
+}
+place_test-end size named false false false whole part = let within = part.within in let named_whole = part.whole in record {
+  border = size - named;
+  part = record { within = omega arith; whole = omega arith };
+  side = inr (λ a below. rw (lt-ltb a size below) refl);
+}
+
+-- The places that a code guards are the first ones of the chip or the last ones, up to a whole KiB.
+pub guarded_by-end : (size code : ℕ) → 65536 ≤ size → size % 65536 ≡ 0 → IsAtAnEnd size (guarded_by size code)
+unfolding guarded_by place_test
+guarded_by-end size code large blocks =
+    place_test-end size (named_length size code) (is_undefined code) (is_complement code) (is_bottom code) (omega arith) (named_length-part size code large blocks)
+
+-- nothing is guarded past the chip's end
+pub guarded_by-past : (size code a : ℕ) → size ≤ a → guarded_by size code a ≡ false
+unfolding guarded_by
+guarded_by-past size code a past = rw (le-ltb a size past) refl
+
+-- a test at an end of the chip is one and the same all over a page
+alike : (size : ℕ) (test : ℕ → Bool) (a b : ℕ) → IsAtAnEnd size test → a < size → b < size → a / 256 ≡ b / 256 → test a ≡ test b
+alike size test a b ends below_a below_b page =
+    let border = ends.border in let whole = ends.part.whole in
+    elim ends.side [
+      | inl first ↦ first a below_a ∙ (elim (cases_lt a border) [
+        | inl here ↦ lt-ltb a border here ∙ sym (lt-ltb b border (omega arith))
+        | inr there ↦ le-ltb a border there ∙ sym (le-ltb b border (omega arith))
+      ] ∙ sym (first b below_b))
+      | inr last ↦ last a below_a ∙ (elim (cases_lt a border) [
+        | inl here ↦ lt-leb border a here ∙ sym (lt-leb border b (omega arith))
+        | inr there ↦ le-leb border a there ∙ sym (le-leb border b (omega arith))
+      ] ∙ sym (last b below_b))
+    ]
+
+-- All places of a page are guarded, or none is.
+pub guarded_by-page : (size code a b : ℕ) → 65536 ≤ size → size % 65536 ≡ 0 → a < size → b < size → a / 256 ≡ b / 256 → guarded_by size code a ≡ guarded_by size code b
+guarded_by-page size code a b large blocks below_a below_b page = alike size (guarded_by size code) a b (guarded_by-end size code large blocks) below_a below_b page
+
+-- where a test at an end of the chip holds somewhere in a stretch, it holds at its first place or its last one
+at_borders : (size : ℕ) (test : ℕ → Bool) (start len a : ℕ) → IsAtAnEnd size test → start + len ≤ size → start ≤ a → a < start + len → test a ≡ true → (test start || test (start + len - 1)) ≡ true
+at_borders size test start len a ends fits from before holds =
+    elim ends.side [
+      | inl first ↦
+          let low = ltb-true a ends.border (sym (first a (omega arith)) ∙ holds) in
+          let here : test start ≡ true = first start (omega arith) ∙ lt-ltb start ends.border (omega arith) in
+          rw here refl
+      | inr last ↦
+          let high = leb-true ends.border a (sym (last a (omega arith)) ∙ holds) in
+          let there : test (start + len - 1) ≡ true = last (start + len - 1) (omega arith) ∙ le-leb ends.border (start + len - 1) (omega arith) in
+          rw there (or-true (test start))
+    ]
+
+-- some place of a stretch is guarded
+pub record IsSomeGuarded (chip : Chip) (start len : ℕ) : Type 0 where
+  pub place : ℕ
+  pub from : start ≤ place
+  pub before : place < start + len
+  pub guarded : is_guarded chip place ≡ true
+
+with_scheme : (scheme : Bool) (size : ℕ) (test : ℕ → Bool) (start len a : ℕ) → IsAtAnEnd size test → start + len ≤ size → start ≤ a → a < start + len → (scheme && test a) ≡ true → ((scheme && test start) || (scheme && test (start + len - 1))) ≡ true
+with_scheme true size test start len a ends fits from before holds = at_borders size test start len a ends fits from before holds
+with_scheme false size test start len a ends fits from before holds = holds
+
+-- A unit of the chip counts as guarded exactly where some place of it is.
+pub is_unit_guarded-iff : (chip : Chip) (start len : ℕ) → 0 < len → start + len ≤ chip.config.size → (is_unit_guarded chip start len ≡ true) ↔ IsSomeGuarded chip start len
+is_unit_guarded-iff chip start len some fits = (
+  (λ holds. elim (or_cases (is_guarded chip start) (is_guarded chip (start + len - 1)) holds) [
+    | inl first ↦ record { place = start; from = omega arith; before = omega arith; guarded = first }
+    | inr last ↦ record { place = start + len - 1; from = omega arith; before = omega arith; guarded = last }
+  ]),
+  (λ there. with_scheme chip.config.scheme chip.config.size (guarded_by chip.config.size (code_of chip)) start len there.place
+      (guarded_by-end chip.config.size (code_of chip) chip.config.at_least chip.config.in_blocks) fits there.from there.before there.guarded),
+)
+
+-- all places of a page of the chip are guarded, or none is
+pub is_guarded-page : (chip : Chip) (a b : ℕ) → a < chip.config.size → b < chip.config.size → a / 256 ≡ b / 256 → is_guarded chip a ≡ is_guarded chip b
+is_guarded-page chip a b below_a below_b page =
+    ap (λ test. chip.config.scheme && test) (guarded_by-page chip.config.size (code_of chip) a b chip.config.at_least chip.config.in_blocks below_a below_b page)
+
+-- The complement of a defined code guards exactly the other places.
+pub guarded_by-complement : (size code a : ℕ) → code < 32 → is_undefined code ≡ false → a < size → guarded_by size (code + 32) a ≡ not (guarded_by size code a)
+unfolding guarded_by
+guarded_by-complement size code a plain defined below =
+    let bp : (code + 32) % 8 ≡ code % 8 = omega arith in
+    let bottom : (code + 32) / 8 % 2 ≡ code / 8 % 2 = omega arith in
+    let sector : (code + 32) / 16 % 2 ≡ code / 16 % 2 = omega arith in
+    let set : (code + 32) / 32 % 2 ≡ 1 = omega arith in
+    let clear : code / 32 % 2 ≡ 0 = omega arith in
+    rw (bp, bottom, sector, set, clear, defined, lt-ltb a size below) refl

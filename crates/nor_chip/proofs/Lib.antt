@@ -1,0 +1,4 @@
+pub mod Aim
+pub mod GuardedPlaces
+pub mod Page
+pub mod Round

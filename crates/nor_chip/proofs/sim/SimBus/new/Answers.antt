@@ -1,0 +1,19 @@
+use Rattle.std.proofs.Common.{arith, false}
+use Rattle.std.proofs.lemmas.Grind.{common_steps}
+use Rattle.nor_chip.proofs.Round.{get_or-replicate_all}
+use Rattle.nor_chip.proofs.sim.SimBus.new.Goals as goal
+
+pub returns-clause-starts : goal.returns-clause-starts
+returns-clause-starts c = record {
+  config = grind (arith, common_steps);
+  bytes = λ a. grind (arith, common_steps);
+  kept1 = grind (arith, common_steps);
+  kept2 = grind (arith, common_steps);
+  latch = grind (arith, common_steps);
+  busy = grind (arith, common_steps);
+  left = grind (arith, common_steps);
+  honest = grind (arith, common_steps);
+  stirred = grind (arith, common_steps);
+  worn = λ s. get_or-replicate_all 4096 s false;
+  steady = grind (arith, common_steps);
+}

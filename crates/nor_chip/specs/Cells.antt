@@ -1,0 +1,13 @@
+-- What a program and an erase leave of a list of bytes.
+use Rattle.std.specs.Prelude.{◌≡◌, ◌/◌, ◌+◌, ◌==◌, ◌&&◌, ℕ, List, nat_lt, nat_le, slice_index, if◌then◌else◌}
+use Rattle.nor_chip.specs.Step.{last_for, lowered}
+
+-- the page that holds `at` is programmed with the bytes sent, and all else stays
+abbrev pub IsProgrammed : ℕ → List ℕ → List ℕ → List ℕ → Type 0
+IsProgrammed at sent old new =
+    (a : ℕ) → slice_index new a ≡ (if a / 256 == at / 256 then lowered (slice_index old a) (last_for at sent a) else slice_index old a)
+
+-- so many places from `start` on are FFh, and all else stays
+abbrev pub IsErased : ℕ → ℕ → List ℕ → List ℕ → Type 0
+IsErased start len old new =
+    (a : ℕ) → slice_index new a ≡ (if nat_le start a && nat_lt a (start + len) then 255 else slice_index old a)

@@ -1,0 +1,31 @@
+-- How a simulated bus starts, and what it shows of its chip.
+use Rattle.std.specs.Prelude.{◌≡◌, ◌<◌, ◌/◌, ◌%◌, ◌==◌, [], ◌∷◌, ℕ, List, true, false, length, slice_index}
+use Rattle.nor_chip.specs.declared.config.Config.{Config}
+use Rattle.nor_chip.specs.declared.sim.Delays.{Delays}
+use Rattle.nor_chip.specs.Chip.{Chip, status1_of, status2_of}
+use Rattle.nor_chip.specs.Bus.{BusState}
+
+-- A new bus: its chip has this configuration, these bytes, the kept bits and the latch of these two status
+-- bytes, and answers BUSY to so many polls. No transaction is let through yet, none was sent, and no sector
+-- was erased.
+pub record Starts (setup : Config) (image flags : List ℕ) (delays : Delays) (state : BusState) : Type 0 where
+  pub config : state.chip.config ≡ setup
+  pub bytes : (a : ℕ) → state.chip.bytes a ≡ slice_index image a
+  pub kept1 : state.chip.kept1 ≡ slice_index flags 0 / 4
+  pub kept2 : state.chip.kept2 ≡ slice_index flags 1 % 128
+  pub latch : state.chip.latch ≡ (slice_index flags 0 / 2 % 2 == 1)
+  pub busy : state.chip.busy ≡ delays.now
+  pub left : state.left ≡ 0
+  pub honest : state.honest ≡ true
+  pub stirred : state.stirred ≡ false
+  pub worn : (s : ℕ) → state.worn s ≡ false
+  pub steady : state.steady ≡ true
+
+-- the bytes of a chip as a list
+pub record AreBytesOf (chip : Chip) (bytes : List ℕ) : Type 0 where
+  pub len : length bytes ≡ chip.config.size
+  pub at : (a : ℕ) → a < chip.config.size → slice_index bytes a ≡ chip.bytes a
+
+-- what 05h and 35h would reply
+abbrev pub status_of : Chip → List ℕ
+status_of chip = status1_of chip ∷ status2_of chip ∷ []

@@ -1,0 +1,66 @@
+//! What the opcodes do to bytes, over plain slices.
+ghost use Rattle.std.specs.Prelude.{◌≡◌, ℕ, ◌+◌, ◌*◌, ◌/◌, ◌%◌, ◌<◌, ◌≤◌, length, slice_index, slice_index_or, bit_and};
+ghost use Rattle.nor_chip.specs.Cells.{IsProgrammed, IsErased};
+
+/// The bytes of a page, which a program wraps inside.
+const PAGE_LEN: usize = 256;
+
+// Clears the bits that aren't set in the bytes sent, from `from` on.
+fn clear_bits(bytes: &mut [u8], from: usize, sent: &[u8])
+    requires { from + length sent.now ≤ length bytes.old }
+    ensures inside { (i : ℕ) → i < length sent.now → slice_index bytes.new (from + i) ≡ bit_and (slice_index bytes.old (from + i)) (slice_index sent.now i) }
+    ensures below { (a : ℕ) → a < from → slice_index bytes.new a ≡ slice_index bytes.old a }
+    ensures above { (a : ℕ) → from + length sent.now ≤ a → slice_index bytes.new a ≡ slice_index bytes.old a }
+{
+    for (i, byte) in sent.iter().enumerate() {
+        bytes[from + i] &= *byte;
+    }
+}
+
+/// A page program: from `at` on, wrapping inside the page, each byte keeps the bits that are set in the last
+/// byte sent for it.
+pub(crate) fn program(bytes: &mut [u8], at: usize, sent: &[u8])
+    requires { at / 256 * 256 + 256 ≤ length bytes.old }
+    ensures { IsProgrammed at sent.now bytes.old bytes.new }
+{
+    let page = at / PAGE_LEN * PAGE_LEN;
+    let skipped = sent.len().saturating_sub(PAGE_LEN);
+    let start = (at + skipped) % PAGE_LEN;
+    let data = &sent[skipped..];
+    let (front, back) = data.split_at(data.len().min(PAGE_LEN - start));
+    clear_bits(bytes, page + start, front);
+    clear_bits(bytes, page, back);
+}
+
+/// An erase: `len` bytes from `start` on become FFh.
+pub(crate) fn erase(bytes: &mut [u8], start: usize, len: usize)
+    requires { start + len ≤ length bytes.old }
+    ensures { IsErased start len bytes.old bytes.new }
+{
+    bytes[start..start + len].fill(0xFF);
+}
+
+/// Reads from `at` on, and on from the first byte where the bytes end.
+pub(crate) fn read_round(bytes: &[u8], at: usize, reply: &mut [u8])
+    requires { at < length bytes.now }
+    ensures { (i : ℕ) → i < length reply.new → slice_index reply.new i ≡ slice_index bytes.now ((at + i) % length bytes.now) }
+{
+    let mut from = at;
+    let mut done = 0;
+    while done < reply.len() {
+        let count = (bytes.len() - from).min(reply.len() - done);
+        reply[done..done + count].copy_from_slice(&bytes[from..from + count]);
+        done += count;
+        from = 0;
+    }
+}
+
+/// Reads from `at` on, and FFh where the bytes end.
+pub(crate) fn read_padded(bytes: &[u8], at: usize, reply: &mut [u8])
+    ensures { (i : ℕ) → i < length reply.new → slice_index reply.new i ≡ slice_index_or bytes.now (at + i) 255 }
+{
+    let rest = &bytes[at.min(bytes.len())..];
+    let count = rest.len().min(reply.len());
+    reply[..count].copy_from_slice(&rest[..count]);
+    reply[count..].fill(0xFF);
+}
