@@ -5,3 +5,5 @@ pub mod Sectors
 pub mod Unions
 pub mod Parts
 pub mod Texts
+pub mod LineLaws
+pub mod TextLaws

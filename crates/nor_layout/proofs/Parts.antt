@@ -1,52 +1,52 @@
 -- The parts of spans in a sector.
 use Rattle.std.proofs.Common.{◌≡◌, ℕ, ◌+◌, ◌-◌, ◌*◌, ◌/◌, ◌%◌, ◌<◌, ◌≤◌, ◌⊎◌, Bool, true, false, ◌||◌, cond, ltb, leb, List, [], ◌∷◌, Option, Some, None, MatchOption, refl, sym, ap, ◌∙◌, inl, inr, arith}
-use Rattle.std.specs.List.{filter_map, cons_option}
+use Rattle.std.specs.List.{cons_option}
 use Rattle.std.specs.Prelude.{min, max}
 use Rattle.std.proofs.lemmas.Bool.{cases_Bool, ltb-true, ltb-false, leb-true, le-leb, lt-leb, lt-ltb, and_from, and_parts, and_left, and_right, or_parts, or_cases}
 use Rattle.nor_layout.specs.declared.ranges.Span.{Span}
-use Rattle.nor_layout.specs.declared.ranges.Places.{Places}
+use Rattle.nor_layout.specs.declared.places.Places.{Places}
 use Rattle.nor_layout.specs.Ranges.{holds, contains, IsApartFrom, AreApart}
-use Rattle.nor_layout.specs.Places.{covers, is_covered, part_of, AreRisingFrom, AreIncludedIn}
+use Rattle.nor_layout.specs.Places.{covers, is_covered, part_of, parts_of, AreRisingFrom, AreIncludedIn}
 
 -- these are the places of a span in a sector
 record IsPart (sector : ℕ) (span : Span) (part : Places) : Type 0 where
-  reaches : 4096 * sector ≤ span.end
-  begins : span.start < 4096 * sector + 4096
-  start : part.start + 4096 * sector ≡ max span.start (4096 * sector)
-  end : part.end + 4096 * sector ≡ min (span.end + 1) (4096 * sector + 4096)
+  reaches : 4096 * sector ≤ span.last
+  begins : span.first < 4096 * sector + 4096
+  start : part.start + 4096 * sector ≡ max span.first (4096 * sector)
+  end : part.end + 4096 * sector ≡ min (span.last + 1) (4096 * sector + 4096)
 
 -- a span has no place in a sector
 abbrev IsOutside : ℕ → Span → Type 0
-IsOutside sector span = (4096 * sector + 4096 ≤ span.start) ⊎ (span.end < 4096 * sector)
+IsOutside sector span = (4096 * sector + 4096 ≤ span.first) ⊎ (span.last < 4096 * sector)
 
 abbrev IsAnswer : ℕ → Span → Option Places → Type 0
 IsAnswer sector span part = MatchOption part (IsOutside sector span) (IsPart sector span)
 
-start_of : (sector : ℕ) (span : Span) → span.start / 4096 ≤ sector → cond (ltb (span.start / 4096) sector) 0 (span.start % 4096) + 4096 * sector ≡ max span.start (4096 * sector)
+start_of : (sector : ℕ) (span : Span) → span.first / 4096 ≤ sector → cond (ltb (span.first / 4096) sector) 0 (span.first % 4096) + 4096 * sector ≡ max span.first (4096 * sector)
 start_of sector span le =
-    elim (cases_Bool (ltb (span.start / 4096) sector)) [
+    elim (cases_Bool (ltb (span.first / 4096) sector)) [
       | inl below ↦ rw below (omega (arith, ltb-true _ _ below))
       | inr inside ↦ rw inside (omega (arith, ltb-false _ _ inside, le))
     ]
 
-end_of : (sector : ℕ) (span : Span) → sector ≤ span.end / 4096 → cond (ltb sector (span.end / 4096)) 4096 (span.end % 4096 + 1) + 4096 * sector ≡ min (span.end + 1) (4096 * sector + 4096)
+end_of : (sector : ℕ) (span : Span) → sector ≤ span.last / 4096 → cond (ltb sector (span.last / 4096)) 4096 (span.last % 4096 + 1) + 4096 * sector ≡ min (span.last + 1) (4096 * sector + 4096)
 end_of sector span le =
-    elim (cases_Bool (ltb sector (span.end / 4096))) [
+    elim (cases_Bool (ltb sector (span.last / 4096))) [
       | inl above ↦ rw above (omega (arith, ltb-true _ _ above))
       | inr inside ↦ rw inside (omega (arith, ltb-false _ _ inside, le))
     ]
 
 part_of-is : (sector : ℕ) (span : Span) → IsAnswer sector span (part_of sector span)
 part_of-is sector span =
-    elim (cases_Bool (ltb sector (span.start / 4096) || ltb (span.end / 4096) sector)) [
+    elim (cases_Bool (ltb sector (span.first / 4096) || ltb (span.last / 4096) sector)) [
       | inl outside ↦
-          rw outside (elim (or_cases (ltb sector (span.start / 4096)) (ltb (span.end / 4096) sector) outside) [
+          rw outside (elim (or_cases (ltb sector (span.first / 4096)) (ltb (span.last / 4096) sector) outside) [
             | inl below ↦ inl (omega (arith, ltb-true _ _ below))
             | inr above ↦ inr (omega (arith, ltb-true _ _ above))
           ])
       | inr inside ↦
-          let low : span.start / 4096 ≤ sector = ltb-false _ _ (or_parts (ltb sector (span.start / 4096)) (ltb (span.end / 4096) sector) inside).0 in
-          let high : sector ≤ span.end / 4096 = ltb-false _ _ (or_parts (ltb sector (span.start / 4096)) (ltb (span.end / 4096) sector) inside).1 in
+          let low : span.first / 4096 ≤ sector = ltb-false _ _ (or_parts (ltb sector (span.first / 4096)) (ltb (span.last / 4096) sector) inside).0 in
+          let high : sector ≤ span.last / 4096 = ltb-false _ _ (or_parts (ltb sector (span.first / 4096)) (ltb (span.last / 4096) sector) inside).1 in
           rw inside (record { reaches = omega (arith, high); begins = omega (arith, low); start = start_of sector span low; end = end_of sector span high })
     ]
 
@@ -61,25 +61,25 @@ covers-part : (sector : ℕ) (span : Span) (part : Places) (at : ℕ) → at < 4
 covers-part sector span part at lt is =
     same_tests (covers part at) (holds span (4096 * sector + at))
     (λ yes. let p = and_parts (leb part.start at) (ltb at part.end) yes in
-    and_from _ _ (le-leb span.start (4096 * sector + at) (omega (arith, leb-true _ _ p.0, is.start))) (le-leb (4096 * sector + at) span.end (omega (arith, ltb-true _ _ p.1, is.end))))
-    (λ yes. let p = and_parts (leb span.start (4096 * sector + at)) (leb (4096 * sector + at) span.end) yes in
+    and_from _ _ (le-leb span.first (4096 * sector + at) (omega (arith, leb-true _ _ p.0, is.start))) (le-leb (4096 * sector + at) span.last (omega (arith, ltb-true _ _ p.1, is.end))))
+    (λ yes. let p = and_parts (leb span.first (4096 * sector + at)) (leb (4096 * sector + at) span.last) yes in
     and_from _ _ (le-leb part.start at (omega (arith, leb-true _ _ p.0, is.start))) (lt-ltb at part.end (omega (arith, leb-true _ _ p.1, is.end, lt))))
 
 holds-outside : (sector : ℕ) (span : Span) (at : ℕ) → at < 4096 → IsOutside sector span → holds span (4096 * sector + at) ≡ false
 holds-outside sector span at lt outside =
     elim outside [
-      | inl below ↦ and_left _ _ (lt-leb span.start (4096 * sector + at) (omega (arith, below, lt)))
-      | inr above ↦ and_right (leb span.start (4096 * sector + at)) _ (lt-leb (4096 * sector + at) span.end (omega (arith, above, lt)))
+      | inl below ↦ and_left _ _ (lt-leb span.first (4096 * sector + at) (omega (arith, below, lt)))
+      | inr above ↦ and_right (leb span.first (4096 * sector + at)) _ (lt-leb (4096 * sector + at) span.last (omega (arith, above, lt)))
     ]
 
 is_covered-cons : (sector : ℕ) (span : Span) (part : Option Places) (rest : List Places) (at : ℕ) → at < 4096 → IsAnswer sector span part → is_covered (cons_option part rest) at ≡ (holds span (4096 * sector + at) || is_covered rest at)
 is_covered-cons sector span None rest at lt is = rw (holds-outside sector span at lt is) refl
 is_covered-cons sector span (Some part) rest at lt is = rw (covers-part sector span part at lt is) refl
 
-is_covered-parts : (sector : ℕ) (spans : List Span) (at : ℕ) → at < 4096 → is_covered (filter_map (part_of sector) spans) at ≡ contains spans (4096 * sector + at)
+is_covered-parts : (sector : ℕ) (spans : List Span) (at : ℕ) → at < 4096 → is_covered (parts_of sector spans) at ≡ contains spans (4096 * sector + at)
 is_covered-parts sector [] at lt = refl
 is_covered-parts sector (span ∷ spans) at lt =
-    is_covered-cons sector span (part_of sector span) (filter_map (part_of sector) spans) at lt (part_of-is sector span) ∙ ap (λ b. holds span (4096 * sector + at) || b) (is_covered-parts sector spans at lt)
+    is_covered-cons sector span (part_of sector span) (parts_of sector spans) at lt (part_of-is sector span) ∙ ap (λ b. holds span (4096 * sector + at) || b) (is_covered-parts sector spans at lt)
 
 -- ---- the parts rise
 
@@ -90,29 +90,29 @@ weaker low high (part ∷ parts) le rising = (omega (arith, le, rising.0), risin
 -- no span starts below an address
 abbrev IsFrom : ℕ → List Span → Type 0
 IsFrom low [] = Unit {0}
-IsFrom low (span ∷ spans) = low ≤ span.start
+IsFrom low (span ∷ spans) = low ≤ span.first
 
-behind : (span : Span) (spans : List Span) → IsApartFrom span spans → IsFrom (span.end + 1) spans
+behind : (span : Span) (spans : List Span) → IsApartFrom span spans → IsFrom (span.last + 1) spans
 behind span [] apart = tt
 behind span (next ∷ spans) apart = omega (arith, apart)
 
-rising-cons : (sector low : ℕ) (span : Span) (part : Option Places) (rest : List Places) → low ≤ span.start → span.start ≤ span.end → IsAnswer sector span part
-    → AreRisingFrom (span.end + 1 - 4096 * sector) rest → AreRisingFrom (low - 4096 * sector) (cons_option part rest)
+rising-cons : (sector low : ℕ) (span : Span) (part : Option Places) (rest : List Places) → low ≤ span.first → span.first ≤ span.last → IsAnswer sector span part
+    → AreRisingFrom (span.last + 1 - 4096 * sector) rest → AreRisingFrom (low - 4096 * sector) (cons_option part rest)
 rising-cons sector low span None rest le forward is rising = weaker _ _ rest (omega (arith, le, forward)) rising
 rising-cons sector low span (Some part) rest le forward is rising =
-    (omega (arith, le, is.start), omega (arith, forward, is.start, is.end, is.reaches, is.begins), omega (arith, is.end), weaker part.end (span.end + 1 - 4096 * sector) rest (omega (arith, is.end)) rising)
+    (omega (arith, le, is.start), omega (arith, forward, is.start, is.end, is.reaches, is.begins), omega (arith, is.end), weaker part.end (span.last + 1 - 4096 * sector) rest (omega (arith, is.end)) rising)
 
-parts_rise : (sector low : ℕ) (spans : List Span) → AreApart spans → IsFrom low spans → AreRisingFrom (low - 4096 * sector) (filter_map (part_of sector) spans)
+parts_rise : (sector low : ℕ) (spans : List Span) → AreApart spans → IsFrom low spans → AreRisingFrom (low - 4096 * sector) (parts_of sector spans)
 parts_rise sector low [] apart le = tt
 parts_rise sector low (span ∷ spans) apart le =
-    rising-cons sector low span (part_of sector span) (filter_map (part_of sector) spans) le apart.0 (part_of-is sector span) (parts_rise sector (span.end + 1) spans apart.2 (behind span spans apart.1))
+    rising-cons sector low span (part_of sector span) (parts_of sector spans) le apart.0 (part_of-is sector span) (parts_rise sector (span.last + 1) spans apart.2 (behind span spans apart.1))
 
 any_start : (spans : List Span) → IsFrom 0 spans
 any_start [] = tt
 any_start (span ∷ spans) = omega arith
 
-pub parts_are_included : (sector : ℕ) (spans : List Span) → AreApart spans → AreIncludedIn spans sector (filter_map (part_of sector) spans)
+pub parts_are_included : (sector : ℕ) (spans : List Span) → AreApart spans → AreIncludedIn spans sector (parts_of sector spans)
 parts_are_included sector spans apart = record {
   exact = is_covered-parts sector spans;
-  rising = weaker 0 (0 - 4096 * sector) (filter_map (part_of sector) spans) (omega arith) (parts_rise sector 0 spans apart (any_start spans));
+  rising = weaker 0 (0 - 4096 * sector) (parts_of sector spans) (omega arith) (parts_rise sector 0 spans apart (any_start spans));
 }

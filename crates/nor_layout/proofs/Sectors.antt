@@ -8,16 +8,16 @@ use Rattle.nor_layout.specs.Ranges.{holds, contains, AreApart, HoldsInSector, Ho
 -- ---- from an address on
 
 abbrev pub ends_from : ℕ → Span → Bool
-ends_from size span = leb size span.end
+ends_from size span = leb size span.last
 
-last_holds : (span : Span) → span.start ≤ span.end → holds span span.end ≡ true
-last_holds span forward = and_from _ _ (le-leb span.start span.end forward) (le-leb span.end span.end (omega arith))
+last_holds : (span : Span) → span.first ≤ span.last → holds span span.last ≡ true
+last_holds span forward = and_from _ _ (le-leb span.first span.last forward) (le-leb span.last span.last (omega arith))
 
 pub from_ends : (spans : List Span) (size : ℕ) → AreApart spans → list_any (ends_from size) spans ≡ true → HoldsFrom spans size
 from_ends [] size apart h = absurd cc
 from_ends (span ∷ spans) size apart h =
     elim (or_cases (ends_from size span) (list_any (ends_from size) spans) h) [
-      | inl here ↦ (span.end, leb-true _ _ here, or_left _ _ (last_holds span apart.0))
+      | inl here ↦ (span.last, leb-true _ _ here, or_left _ _ (last_holds span apart.0))
       | inr later ↦ let rest = from_ends spans size apart.2 later in (rest.0, rest.1, or_right (holds span rest.0) _ rest.2)
     ]
 
@@ -25,23 +25,23 @@ pub ends_from-holds : (spans : List Span) (size : ℕ) → HoldsFrom spans size 
 ends_from-holds [] size h = absurd (let e = h.2 in cc)
 ends_from-holds (span ∷ spans) size h =
     elim (or_cases (holds span h.0) (contains spans h.0) h.2) [
-      | inl here ↦ or_left _ _ (le-leb size span.end (omega (arith, h.1, leb-true h.0 span.end (and_parts _ _ here).1)))
+      | inl here ↦ or_left _ _ (le-leb size span.last (omega (arith, h.1, leb-true h.0 span.last (and_parts _ _ here).1)))
       | inr later ↦ or_right (ends_from size span) _ (ends_from-holds spans size (h.0, h.1, later))
     ]
 
 -- ---- in a sector
 
 abbrev pub is_in_sector : ℕ → Span → Bool
-is_in_sector sector span = leb (span.start / 4096) sector && leb sector (span.end / 4096)
+is_in_sector sector span = leb (span.first / 4096) sector && leb sector (span.last / 4096)
 
 -- an address of the span in the sector: the span's first, or the sector's first
-common : (span : Span) (sector : ℕ) → span.start ≤ span.end → is_in_sector sector span ≡ true → (address : ℕ) × (address / 4096 ≡ sector) × (holds span address ≡ true)
+common : (span : Span) (sector : ℕ) → span.first ≤ span.last → is_in_sector sector span ≡ true → (address : ℕ) × (address / 4096 ≡ sector) × (holds span address ≡ true)
 common span sector forward h =
-    let low : span.start / 4096 ≤ sector = leb-true _ _ (and_parts _ _ h).0 in
-    let high : sector ≤ span.end / 4096 = leb-true _ _ (and_parts (leb (span.start / 4096) sector) _ h).1 in
-    elim (cases_lt (span.start / 4096) sector) [
-      | inl lt ↦ (sector * 4096, omega arith, and_from _ _ (le-leb span.start (sector * 4096) (omega arith)) (le-leb (sector * 4096) span.end (omega arith)))
-      | inr ge ↦ (span.start, omega arith, and_from _ _ (le-leb span.start span.start (omega arith)) (le-leb span.start span.end forward))
+    let low : span.first / 4096 ≤ sector = leb-true _ _ (and_parts _ _ h).0 in
+    let high : sector ≤ span.last / 4096 = leb-true _ _ (and_parts (leb (span.first / 4096) sector) _ h).1 in
+    elim (cases_lt (span.first / 4096) sector) [
+      | inl lt ↦ (sector * 4096, omega arith, and_from _ _ (le-leb span.first (sector * 4096) (omega arith)) (le-leb (sector * 4096) span.last (omega arith)))
+      | inr ge ↦ (span.first, omega arith, and_from _ _ (le-leb span.first span.first (omega arith)) (le-leb span.first span.last forward))
     ]
 
 pub holds_in_sector : (spans : List Span) (sector : ℕ) → AreApart spans → list_any (is_in_sector sector) spans ≡ true → HoldsInSector spans sector
@@ -57,8 +57,8 @@ is_in_sector-holds [] sector h = absurd (let e = h.2 in cc)
 is_in_sector-holds (span ∷ spans) sector h =
     elim (or_cases (holds span h.0) (contains spans h.0) h.2) [
       | inl here ↦
-          let low : span.start ≤ h.0 = leb-true _ _ (and_parts _ _ here).0 in
-          let high : h.0 ≤ span.end = leb-true _ _ (and_parts (leb span.start h.0) _ here).1 in
-          or_left _ _ (and_from _ _ (le-leb (span.start / 4096) sector (omega (arith, h.1))) (le-leb sector (span.end / 4096) (omega (arith, h.1))))
+          let low : span.first ≤ h.0 = leb-true _ _ (and_parts _ _ here).0 in
+          let high : h.0 ≤ span.last = leb-true _ _ (and_parts (leb span.first h.0) _ here).1 in
+          or_left _ _ (and_from _ _ (le-leb (span.first / 4096) sector (omega (arith, h.1))) (le-leb sector (span.last / 4096) (omega (arith, h.1))))
       | inr later ↦ or_right (is_in_sector sector span) _ (is_in_sector-holds spans sector (h.0, h.1, later))
     ]

@@ -7,7 +7,7 @@ use Rattle.nor_layout.specs.declared.ranges.Span.{Span}
 use Rattle.nor_layout.specs.Ranges.{holds, contains, join, IsApartFrom, AreApart}
 
 abbrev is_below : Span → Span → Bool
-is_below a b = ltb (a.end + 1) b.start
+is_below a b = ltb (a.last + 1) b.first
 
 -- the spans with one more, joined to those that it touches
 unfoldable pub merged : Span → List Span → List Span
@@ -58,10 +58,10 @@ or_assoc true q r = refl
 or_assoc false q r = refl
 
 -- spans that touch or overlap have the addresses of their join
-holds-join : (a b : Span) (address : ℕ) → a.start ≤ a.end → b.start ≤ b.end → a.start ≤ b.end + 1 → b.start ≤ a.end + 1 → holds (join a b) address ≡ (holds a address || holds b address)
+holds-join : (a b : Span) (address : ℕ) → a.first ≤ a.last → b.first ≤ b.last → a.first ≤ b.last + 1 → b.first ≤ a.last + 1 → holds (join a b) address ≡ (holds a address || holds b address)
 holds-join a b address fa fb ab ba = grind (arith, nat_tests)
 
-pub contains-merged : (new : Span) (spans : List Span) (address : ℕ) → new.start ≤ new.end → AreApart spans → contains (merged new spans) address ≡ (holds new address || contains spans address)
+pub contains-merged : (new : Span) (spans : List Span) (address : ℕ) → new.first ≤ new.last → AreApart spans → contains (merged new spans) address ≡ (holds new address || contains spans address)
 unfolding merged
 contains-merged new [] address forward apart = refl
 contains-merged new (span ∷ spans) address forward apart =
@@ -70,9 +70,9 @@ contains-merged new (span ∷ spans) address forward apart =
       | inr not_below ↦ elim (cases_Bool (is_below new span)) [
         | inl above ↦ rw (not_below, above, contains-merged span spans address apart.0 apart.2) refl
         | inr not_above ↦
-            let le : new.start ≤ span.end + 1 = ltb-false _ _ not_below in
-            let ge : span.start ≤ new.end + 1 = ltb-false _ _ not_above in
-            let both : (join new span).start ≤ (join new span).end = omega (arith, forward, apart.0) in
+            let le : new.first ≤ span.last + 1 = ltb-false _ _ not_below in
+            let ge : span.first ≤ new.last + 1 = ltb-false _ _ not_above in
+            let both : (join new span).first ≤ (join new span).last = omega (arith, forward, apart.0) in
             rw (not_below, not_above, contains-merged (join new span) spans address both apart.2, holds-join new span address forward apart.0 le ge) (or_assoc (holds new address) (holds span address) (contains spans address))
       ]
     ]
@@ -90,7 +90,7 @@ length-merged new (span ∷ spans) =
     ]
 
 -- a span below the new one and the others stays apart from them
-IsApartFrom-merged : (low new : Span) (spans : List Span) → low.end + 1 < new.start → new.start ≤ new.end → IsApartFrom low spans → AreApart spans → IsApartFrom low (merged new spans)
+IsApartFrom-merged : (low new : Span) (spans : List Span) → low.last + 1 < new.first → new.first ≤ new.last → IsApartFrom low spans → AreApart spans → IsApartFrom low (merged new spans)
 unfolding merged
 IsApartFrom-merged low new [] lt forward apart all = lt
 IsApartFrom-merged low new (span ∷ []) lt forward apart all =
@@ -107,33 +107,33 @@ IsApartFrom-merged low new (span ∷ second ∷ spans) lt forward apart all =
       | inr not_below ↦ elim (cases_Bool (is_below new span)) [
         | inl above ↦ rw (not_below, above) lt
         | inr not_above ↦
-            let first : low.end + 1 < (join new span).start = omega (arith, lt, apart) in
-            let both : (join new span).start ≤ (join new span).end = omega (arith, forward, all.0) in
+            let first : low.last + 1 < (join new span).first = omega (arith, lt, apart) in
+            let both : (join new span).first ≤ (join new span).last = omega (arith, forward, all.0) in
             let rest : IsApartFrom low (second ∷ spans) = omega (arith, apart, all.0, all.1) in
             rw (not_below, not_above) (IsApartFrom-merged low (join new span) (second ∷ spans) first both rest all.2)
       ]
     ]
 
 -- what is apart below a span is apart below those behind it
-further : (low span : Span) (spans : List Span) → low.end + 1 < span.start → AreApart (span ∷ spans) → IsApartFrom low spans
+further : (low span : Span) (spans : List Span) → low.last + 1 < span.first → AreApart (span ∷ spans) → IsApartFrom low spans
 further low span [] lt apart = tt
 further low span (second ∷ spans) lt apart = omega (arith, lt, apart.0, apart.1)
 
-pub AreApart-merged : (new : Span) (spans : List Span) → new.start ≤ new.end → AreApart spans → AreApart (merged new spans)
+pub AreApart-merged : (new : Span) (spans : List Span) → new.first ≤ new.last → AreApart spans → AreApart (merged new spans)
 unfolding merged
 AreApart-merged new [] forward apart = (forward, tt, tt)
 AreApart-merged new (span ∷ spans) forward apart =
     elim (cases_Bool (is_below span new)) [
       | inl below ↦
-          let lt : span.end + 1 < new.start = ltb-true _ _ below in
+          let lt : span.last + 1 < new.first = ltb-true _ _ below in
           rw below (apart.0, IsApartFrom-merged span new spans lt forward apart.1 apart.2, AreApart-merged new spans forward apart.2)
       | inr not_below ↦ elim (cases_Bool (is_below new span)) [
         | inl above ↦
-            let lt : new.end + 1 < span.start = ltb-true _ _ above in
+            let lt : new.last + 1 < span.first = ltb-true _ _ above in
             let more : IsApartFrom new spans = further new span spans lt apart in
             rw (not_below, above) (forward, IsApartFrom-merged new span spans lt apart.0 more apart.2, AreApart-merged span spans apart.0 apart.2)
         | inr not_above ↦
-            let both : (join new span).start ≤ (join new span).end = omega (arith, forward, apart.0) in
+            let both : (join new span).first ≤ (join new span).last = omega (arith, forward, apart.0) in
             rw (not_below, not_above) (AreApart-merged (join new span) spans both apart.2)
       ]
     ]

@@ -1,17 +1,20 @@
 -- What the lines of a text say, line by line.
-use Rattle.std.proofs.Common.{◌≡◌, ℕ, ◌+◌, ◌<◌, ◌≤◌, ltb, eqb, List, [], ◌∷◌, ◌++◌, length, get_or, drop, Option, Some, None, Result, Ok, Err, refl, sym, ap, ◌∙◌, inl, inr, arith}
+use Rattle.std.proofs.Common.{◌≡◌, ℕ, ◌+◌, ◌<◌, ◌≤◌, ◌||◌, false, ltb, eqb, List, [], ◌∷◌, ◌++◌, length, get_or, drop, Option, Some, None, Result, Ok, Err, refl, sym, ap, ◌∙◌, inl, inr, arith}
+use Rattle.std.specs.Str.{bytes_eq}
 use Rattle.std.specs.List.{AllByRecursion}
-use Rattle.std.proofs.lemmas.Bool.{cases_Bool, ltb-true, ltb-false}
+use Rattle.std.proofs.lemmas.Bool.{cases_Bool, ltb-true, ltb-false, both_ways, false_from_ne_true, or_parts, or_from}
 use Rattle.std.proofs.lemmas.List.{drop_more, at_drop_all, length-append}
+use Rattle.std.proofs.lemmas.List.Folds.{list_any-append}
 use Rattle.std.proofs.lemmas.List.Sums.{count_by-le-length}
 use Rattle.std.proofs.lemmas.List.Splits.{length-slice_split}
+use Rattle.std.proofs.lemmas.Slice.Eq.{bytes_eq-Decides}
 use Rattle.nor_layout.specs.declared.region.Region.{Region}
 use Rattle.nor_layout.specs.declared.fault.LineFault.{LineFault}
 use Rattle.nor_layout.specs.declared.fault.LayoutFault.{LayoutFault}
 use Rattle.nor_layout.specs.declared.fault.LayoutFault.TheVariants.{InLine, TooMany, Memory, NoRegion}
 use Rattle.nor_layout.specs.Address.{address_of}
 use Rattle.nor_layout.specs.Line.{Parts, parts_of, is_name, region_of, parts_say, line_says}
-use Rattle.nor_layout.specs.Text.{◌>>=◌, lines_of, is_named, joins, joins_or_fault, with_line, lines_say, layout_says, AreRegions, Adds, Reads}
+use Rattle.nor_layout.specs.Text.{◌>>=◌, lines_of, is_named, joins, joins_or_fault, with_line, lines_say, layout_says, AreNamedApart, AreRegions, Adds, Reads}
 
 -- ---- what a line adds
 
@@ -52,6 +55,26 @@ all_of regions = Ok regions
 all_are : (a b : List Region) → all_of a ≡ all_of b → a ≡ b
 all_are a b e = cc
 
+-- one name differs from another as the other does from it
+apart_from : (a b : List ℕ) → bytes_eq a b ≡ false → bytes_eq b a ≡ false
+apart_from a b h = false_from_ne_true (bytes_eq b a) (λ same. both_ways (bytes_eq a b) h ((bytes_eq-Decides a b).1 (sym ((bytes_eq-Decides b a).0 same))))
+
+AreNamedApart-push : (regions : List Region) (region : Region) → AreNamedApart regions → is_named regions region.name.items ≡ false → AreNamedApart (regions ++ region ∷ [])
+AreNamedApart-push [] region apart once = (refl, tt)
+AreNamedApart-push (first ∷ regions) region apart once =
+    let p = or_parts (bytes_eq first.name.items region.name.items) (is_named regions region.name.items) once in
+    let late : is_named (region ∷ []) first.name.items ≡ false = or_from (bytes_eq region.name.items first.name.items) false (apart_from first.name.items region.name.items p.0) refl in
+    (list_any-append (λ (r : Region). bytes_eq r.name.items first.name.items) regions (region ∷ []) ∙ or_from (is_named regions first.name.items) (is_named (region ∷ []) first.name.items) apart.0 late, AreNamedApart-push regions region apart.1 p.1)
+
+-- a region behind others has another name than each of them
+pub is_named-before : (regions : List Region) (region : Region) (more : List Region) → AreNamedApart (regions ++ region ∷ more) → is_named regions region.name.items ≡ false
+is_named-before [] region more apart = refl
+is_named-before (first ∷ regions) region more apart =
+    let all : (is_named regions first.name.items || is_named (region ∷ more) first.name.items) ≡ false = sym (list_any-append (λ (r : Region). bytes_eq r.name.items first.name.items) regions (region ∷ more)) ∙ apart.0 in
+    let late = or_parts (is_named regions first.name.items) (is_named (region ∷ more) first.name.items) all in
+    let here = or_parts (bytes_eq region.name.items first.name.items) (is_named more first.name.items) late.1 in
+    or_from (bytes_eq first.name.items region.name.items) (is_named regions region.name.items) (apart_from region.name.items first.name.items here.0) (is_named-before regions region more apart.1)
+
 joins-keeps : (regions more : List Region) (n : ℕ) (region : Region) → AreRegions regions → region.start ≤ region.end → joins regions n region ≡ Ok more → AreRegions more
 joins-keeps regions more n region kept forward e =
     elim (cases_Bool (is_named regions region.name.items)) [
@@ -62,6 +85,7 @@ joins-keeps regions more n region kept forward e =
             rw (← is) (record {
               few = omega (arith, ltb-true _ _ room, length-append regions (region ∷ []));
               forward = AllByRecursion-push regions region kept.forward forward;
+              named_apart = AreNamedApart-push regions region kept.named_apart once;
             })
         | inr full ↦ absurd (let f = rw (once, full) at e in cc)
       ]
@@ -110,4 +134,4 @@ unfolding layout_says
 no_lines text = refl
 
 pub no_regions : AreRegions []
-no_regions = record { few = omega arith; forward = tt }
+no_regions = record { few = omega arith; forward = tt; named_apart = tt }

@@ -2,8 +2,8 @@
 use Rattle.std.specs.Prelude.{◌≡◌, ℕ, ◌+◌, ◌*◌, ◌/◌, ◌%◌, ◌<◌, ◌≤◌, Bool, ◌&&◌, ◌||◌, nat_le, nat_lt, if◌then◌else◌, List, [], ◌∷◌, Option, Some, None}
 use Rattle.std.specs.List.{list_any, filter_map}
 use Rattle.nor_layout.specs.declared.ranges.Span.{Span}
-use Rattle.nor_layout.specs.declared.ranges.Places.{Places}
-use Rattle.nor_layout.specs.declared.ranges.PlacesIn.{PlacesIn}
+use Rattle.nor_layout.specs.declared.places.Places.{Places}
+use Rattle.nor_layout.specs.declared.places.PlacesIn.{PlacesIn}
 use Rattle.nor_layout.specs.Ranges.{contains}
 
 -- the start is one of the places, and the end is the one behind them
@@ -26,12 +26,16 @@ pub record AreIncludedIn (spans : List Span) (sector : ℕ) (all : List Places) 
 -- the part of a span in a sector, if it has one
 abbrev pub part_of : ℕ → Span → Option Places
 part_of sector span =
-    if nat_lt sector (span.start / 4096) || nat_lt (span.end / 4096) sector then None
+    if nat_lt sector (span.first / 4096) || nat_lt (span.last / 4096) sector then None
     else Some (record {
-      start = if nat_lt (span.start / 4096) sector then 0 else span.start % 4096;
-      end = if nat_lt sector (span.end / 4096) then 4096 else span.end % 4096 + 1;
+      start = if nat_lt (span.first / 4096) sector then 0 else span.first % 4096;
+      end = if nat_lt sector (span.last / 4096) then 4096 else span.last % 4096 + 1;
     })
+
+-- the parts of the spans in a sector, in their order
+abbrev pub parts_of : ℕ → List Span → List Places
+parts_of sector spans = filter_map (part_of sector) spans
 
 -- what an iterator has left
 abbrev pub places_left : PlacesIn → List Places
-places_left it = filter_map (part_of it.sector) it.spans.now
+places_left it = parts_of it.sector it.spans.now

@@ -1,15 +1,15 @@
 -- Sets of addresses, as spans.
-use Rattle.std.specs.Prelude.{◌≡◌, ℕ, ◌+◌, ◌/◌, ◌<◌, ◌≤◌, Bool, true, ◌&&◌, nat_le, min, max, List, [], ◌∷◌}
+use Rattle.std.specs.Prelude.{◌≡◌, ℕ, ◌+◌, ◌/◌, ◌<◌, ◌≤◌, Bool, true, ◌&&◌, nat_le, min, max, List, [], ◌∷◌, length}
 use Rattle.std.specs.List.{list_any}
 use Rattle.nor_layout.specs.declared.ranges.Span.{Span}
 
 -- both ends belong to a span
 abbrev pub holds : Span → ℕ → Bool
-holds span address = nat_le span.start address && nat_le address span.end
+holds span address = nat_le span.first address && nat_le address span.last
 
 -- the least span that holds both
 abbrev pub join : Span → Span → Span
-join a b = record { start = min a.start b.start; end = max a.end b.end }
+join a b = record { first = min a.first b.first; last = max a.last b.last }
 
 -- whether an address belongs to the set
 abbrev pub contains : List Span → ℕ → Bool
@@ -18,12 +18,17 @@ contains spans address = list_any (λ span. holds span address) spans
 -- an address between the span and the first of those behind it belongs to none
 abbrev pub IsApartFrom : Span → List Span → Type 0
 IsApartFrom span [] = Unit {0}
-IsApartFrom span (next ∷ spans) = span.end + 1 < next.start
+IsApartFrom span (next ∷ spans) = span.last + 1 < next.first
 
 -- the spans rise, and an address between each two belongs to none
 abbrev pub AreApart : List Span → Type 0
 AreApart [] = Unit {0}
-AreApart (span ∷ spans) = (span.start ≤ span.end) × IsApartFrom span spans × AreApart spans
+AreApart (span ∷ spans) = (span.first ≤ span.last) × IsApartFrom span spans × AreApart spans
+
+-- what every set keeps
+pub record AreRanges (spans : List Span) : Type 0 where
+  pub few : length spans ≤ 64
+  pub apart : AreApart spans
 
 -- some address of the sector belongs to the set
 abbrev pub HoldsInSector : List Span → ℕ → Type 0

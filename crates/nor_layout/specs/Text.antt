@@ -1,5 +1,5 @@
 -- What a layout text says: the regions of its lines, or its first fault.
-use Rattle.std.specs.Prelude.{◌≡◌, ℕ, ◌+◌, ◌≤◌, ◌==◌, Bool, nat_lt, if◌then◌else◌, List, [], ◌∷◌, ◌++◌, length, Result, Ok, Err}
+use Rattle.std.specs.Prelude.{◌≡◌, ℕ, ◌+◌, ◌≤◌, ◌==◌, Bool, false, nat_lt, if◌then◌else◌, List, [], ◌∷◌, ◌++◌, length, Result, Ok, Err}
 use Rattle.std.specs.Str.{bytes_eq}
 use Rattle.std.specs.List.{slice_split, list_any, AllByRecursion}
 use Rattle.nor_layout.specs.declared.region.Region.{Region}
@@ -46,10 +46,16 @@ lines_say regions n (line ∷ lines) = with_line regions n line >>= λ more. lin
 unfoldable pub layout_says : List ℕ → Result (List Region) LayoutFault
 layout_says text = lines_say [] 1 (lines_of text)
 
+-- no two regions have one name
+abbrev pub AreNamedApart : List Region → Type 0
+AreNamedApart [] = Unit {0}
+AreNamedApart (region ∷ regions) = (is_named regions region.name.items ≡ false) × AreNamedApart regions
+
 -- what every layout keeps
 pub record AreRegions (regions : List Region) : Type 0 where
   pub few : length regions ≤ 64
   pub forward : AllByRecursion (λ region. region.start ≤ region.end) regions
+  pub named_apart : AreNamedApart regions
 
 -- An answer is what the text says, unless memory was refused.
 abbrev pub Reads : Result (List Region) LayoutFault → Result (List Region) LayoutFault → Type 0

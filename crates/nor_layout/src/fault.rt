@@ -1,15 +1,16 @@
 //! Why a layout text is refused, or names of it are.
 
 ghost use Rattle.std.specs.Prelude.{◌≡◌};
+ghost use Rattle.nor_layout.specs.Faults.{number_of_fault, line_of_fault};
 ghost use Rattle.nor_layout.specs.declared.fault.LayoutFault.TheVariants.{Memory};
 
 use std::alloc::{AllocError, AllocFailed};
 
-/// What is wrong with one line of a layout text.
+/// What is wrong with one line of a layout text, in the order in which it is told.
 #[derive(Clone, Copy, Debug, PartialEq, Eq)]
 pub enum LineFault {
     /// The line has no `:`, or no space behind it.
-    Line,
+    Line = 1,
     /// The start or the end is no address.
     Address,
     /// The end lies below the start.
@@ -31,6 +32,30 @@ pub enum LayoutFault {
     Memory,
     /// A name is that of no region.
     NoRegion,
+}
+
+impl LayoutFault {
+    /// The number of the fault, 1 to 8, by which messages name it.
+    pub fn number(self) -> u8
+        ensures { result ≡ number_of_fault self }
+    {
+        match self {
+            LayoutFault::InLine { fault, .. } => fault as u8,
+            LayoutFault::TooMany => 6,
+            LayoutFault::Memory => 7,
+            LayoutFault::NoRegion => 8,
+        }
+    }
+
+    /// The number of the line that is wrong, where it is one line: lines are counted from 1.
+    pub fn line(self) -> Option<usize>
+        ensures { result ≡ line_of_fault self }
+    {
+        match self {
+            LayoutFault::InLine { line, .. } => Some(line),
+            LayoutFault::TooMany | LayoutFault::Memory | LayoutFault::NoRegion => None,
+        }
+    }
 }
 
 impl From<AllocError> for LayoutFault {

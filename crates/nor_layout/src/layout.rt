@@ -1,9 +1,10 @@
 //! Layout texts, and the addresses that names of their regions include.
 
-ghost use Rattle.std.specs.Prelude.{◌≡◌, ◌↔◌, ℕ, IsTrue, IsOk, IfOk, IfErr};
+ghost use Rattle.std.specs.Prelude.{◌≡◌, ◌↔◌, ℕ, List, IsTrue, IsOk, IfOk, IfErr};
 ghost use Rattle.nor_layout.specs.Text.{is_named, with_line, layout_says, AreRegions, Reads, Adds};
-ghost use Rattle.nor_layout.specs.Included.{names_of, is_listed, is_listed_address, are_known, is_included};
-ghost use Rattle.nor_layout.specs.Ranges.{contains};
+ghost use Rattle.nor_layout.specs.Grammar.{IsLayout};
+ghost use Rattle.nor_layout.specs.Included.{is_listed, is_listed_address, are_known, is_included};
+ghost use Rattle.nor_layout.specs.Ranges.{AreRanges, contains};
 
 use crate::fault::{LayoutFault, LineFault};
 use crate::line;
@@ -12,7 +13,7 @@ use crate::region::{REGIONS, Region};
 use std::alloc::Global;
 use std::marker::Model;
 
-/// The regions that a layout text gives, in the order of its lines. No two have one name.
+/// The regions that a layout text gives, in the order of its lines: at most 64, and no two of one name.
 #[derive(Debug, Drop)]
 pub struct Layout {
     regions: Vec<Region>,
@@ -79,9 +80,24 @@ fn add_line(regions: &mut Vec<Region>, number: usize, line: &[u8]) -> Result<(),
 }
 
 impl Layout {
-    /// Reads a layout text, a region a line: `start:end name`.
+    /// Reads a layout text.
+    ///
+    /// Lines end with a line feed, which the last may lack, and an empty line is skipped. Any other is
+    /// `start:end name`: the start reaches to the first `:`, the end from there to the next space, and
+    /// behind one or more spaces the rest is the name. An address is 1 to 8 hexadecimal digits of either
+    /// case, with or without `0x`; both ends belong to the region. A name has 1 to 32 visible ASCII
+    /// characters, without `,` and `:`. Regions may overlap.
+    ///
+    /// The faults of a line are told in the order of `LineFault`, and `TooMany` comes last; the first line
+    /// that has one is told. `Memory` comes only where an allocation was refused.
     pub fn read(alloc: Global, text: &[u8]) -> Result<Layout, LayoutFault>
-        ensures { Reads result (layout_says text.now) }
+        // The regions of the lines, in order, or the first fault of the first line that has one. Else only
+        // memory was refused.
+        ensures exact { Reads result (layout_says text.now) }
+
+        // What is read is in the grammar, and what is in the grammar is read.
+        ensures found { IfOk result (λ layout. IsLayout text.now layout) }
+        ensures taken { (regions : List Region) → IsLayout text.now regions → Reads result (Ok regions) }
     {
         let mut regions = Vec::new(alloc);
         let mut number = 0;
@@ -92,18 +108,25 @@ impl Layout {
         Ok(Layout { regions })
     }
 
-    /// The regions, in the order of their lines.
+    /// The regions, in the order of their lines: at most 64, and no two of one name.
     pub fn regions(&self) -> &[Region]
-        ensures { result.now ≡ self.now }
+        ensures same { result.now ≡ self.now }
+        ensures regions { AreRegions self.now }
     {
-        &self.regions
+        self.regions.as_slice()
     }
 
-    /// The addresses of the regions that are named, with commas between the names.
+    /// The addresses of the regions that are named: all of them, from each start to each end.
+    ///
+    /// Commas separate the names. A name may come again; an empty one is that of no region. Takes no memory.
     pub fn include(&self, names: &str) -> Result<Ranges, LayoutFault>
+        // It is refused where a name is that of no region, and only there.
         ensures known { IsOk result ↔ IsTrue (are_known self.now names.now) }
         ensures unknown { IfErr result (λ fault. fault ≡ LayoutFault.NoRegion) }
-        ensures union { IfOk result (λ ranges. (address : ℕ) → contains ranges address ≡ is_included self.now names.now address) }
+
+        ensures union { IfOk result (λ ranges. (address : ℕ)
+            → contains ranges address ≡ is_included self.now names.now address) }
+        ensures ranges { IfOk result AreRanges }
     {
         let names = names.as_bytes();
         if !are_known(&self.regions, names) {
@@ -116,14 +139,16 @@ impl Layout {
 /// The addresses of the regions whose names are listed.
 fn listed_ranges(regions: &[Region], names: &[u8]) -> Ranges
     requires { AreRegions regions.now }
-    ensures { (address : ℕ) → contains result address ≡ is_listed_address regions.now names.now address }
+    ensures union { (address : ℕ)
+        → contains result address ≡ is_listed_address regions.now names.now address }
+    ensures ranges { AreRanges result }
 {
     let mut ranges = Ranges::new();
     for region in regions {
         if is_listed(names, &region.name) {
             ranges = ranges.with(Span {
-                start: region.start,
-                end: region.end,
+                first: region.start,
+                last: region.end,
             });
         }
     }

@@ -1,13 +1,15 @@
 //! Layout files: which addresses of a flash chip have which name, and which of them a request includes.
 //!
-//! A layout file names regions of a chip, a line each: `start:end name`. A request that gives names
-//! includes the addresses of their regions, and touches no other byte.
+//! A layout file names regions of a chip, a line each: `start:end name` (flashrom's manual page, layout
+//! files). A request that gives names includes the addresses of their regions, and no other byte of the
+//! chip may change.
 #![tactic(auto)]
 
 mod address;
 mod fault;
 mod layout;
 mod line;
+mod places;
 mod ranges;
 mod region;
 #[cfg(test)]
@@ -15,5 +17,6 @@ mod tests;
 
 pub use fault::{LayoutFault, LineFault};
 pub use layout::Layout;
-pub use ranges::{Places, PlacesIn, Ranges, SECTOR, Span};
+pub use places::{Places, PlacesIn, SECTOR};
+pub use ranges::{Ranges, Span};
 pub use region::{NAME_LEN, REGIONS, Region};

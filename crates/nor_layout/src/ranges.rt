@@ -1,32 +1,24 @@
 //! Sets of addresses, as a few sorted spans.
 
-ghost use Rattle.std.specs.Prelude.{◌≡◌, ◌≤◌, ◌<◌, ◌+◌, ◌*◌, ◌↔◌, ◌||◌, ℕ, IsTrue, length, nat_lt, []};
-ghost use Rattle.std.specs.Iterator.{YieldsFirst, item_count};
-ghost use Rattle.nor_layout.specs.Ranges.{holds, contains, join, AreApart, HoldsInSector, HoldsFrom};
-ghost use Rattle.nor_layout.specs.Places.{AreIncludedIn, part_of, places_left};
+ghost use Rattle.std.specs.Prelude.{◌≡◌, ◌≤◌, ◌<◌, ◌+◌, ◌↔◌, ◌||◌, ℕ, IsTrue, length, nat_lt, []};
+ghost use Rattle.nor_layout.specs.Ranges.{holds, contains, join, AreApart, AreRanges, HoldsInSector, HoldsFrom};
+ghost use Rattle.nor_layout.specs.Places.{AreIncludedIn, places_left};
 
+use crate::places::{PlacesIn, SECTOR};
 use crate::region::REGIONS;
 use arrayvec::ArrayVec;
 use std::marker::Model;
 
-/// The size of a sector, in bytes: the smallest unit that a chip erases.
-pub const SECTOR: u32 = 4096;
-
-/// Addresses in a row, from the first to the last.
+/// Addresses in a row, in bytes from the chip's beginning: both ends belong to it.
 #[derive(Clone, Copy, Debug, Default, PartialEq, Eq)]
 pub struct Span {
-    pub start: u32,
-    pub end: u32,
+    pub first: u32,
+    pub last: u32,
 }
 
-/// Places of a sector, counted from its first byte: from the first to the one behind the last.
-#[derive(Clone, Copy, Debug, PartialEq, Eq)]
-pub struct Places {
-    pub start: usize,
-    pub end: usize,
-}
-
-/// A set of addresses: spans that rise, with an address between each two that belongs to none.
+/// A set of addresses: at most 64 spans that rise, with an address between each two that belongs to none.
+///
+/// Each question takes time by the number of spans, and not by that of addresses.
 #[derive(Debug, Drop)]
 pub struct Ranges {
     spans: ArrayVec<Span, REGIONS>,
@@ -35,21 +27,21 @@ pub struct Ranges {
 impl Model for Ranges {
     ghost use Rattle.std.specs.Prelude.{List};
     ghost use Rattle.nor_layout.specs.declared.ranges.Span.{Span};
-    ghost use Rattle.nor_layout.specs.Ranges.{AreApart};
+    ghost use Rattle.nor_layout.specs.Ranges.{AreRanges};
 
     ghost Value = { List Span };
 
     ghost view = { λ r. r.spans.items };
 
-    ghost invariant = { λ r. AreApart r.spans.items };
+    ghost invariant = { λ r. AreRanges r.spans.items };
 }
 
 impl Span {
     /// Whether this span ends below the other, with an address between the two.
     fn is_apart_below(&self, other: &Span) -> bool
-        ensures { result ≡ nat_lt (self.now.end + 1) other.now.start }
+        ensures { result ≡ nat_lt (self.now.last + 1) other.now.first }
     {
-        self.end < other.start && other.start - self.end > 1
+        self.last < other.first && other.first - self.last > 1
     }
 
     /// The least span that holds both.
@@ -57,8 +49,8 @@ impl Span {
         ensures { result ≡ join self.now other.now }
     {
         Span {
-            start: self.start.min(other.start),
-            end: self.end.max(other.end),
+            first: self.first.min(other.first),
+            last: self.last.max(other.last),
         }
     }
 }
@@ -66,10 +58,11 @@ impl Span {
 /// The spans of a set to which one more is added.
 fn with_span(spans: &[Span], added: Span) -> ArrayVec<Span, REGIONS>
     requires room { length spans.now < 64 }
-    requires forward { added.start ≤ added.end }
+    requires forward { added.first ≤ added.last }
     requires apart { AreApart spans.now }
     ensures apart { AreApart result.items }
-    ensures union { (address : ℕ) → contains result.items address ≡ (holds added address || contains spans.now address) }
+    ensures union { (address : ℕ)
+        → contains result.items address ≡ (holds added address || contains spans.now address) }
     ensures room { length result.items ≤ length spans.now + 1 }
 {
     let mut all = ArrayVec::new();
@@ -91,7 +84,8 @@ fn with_span(spans: &[Span], added: Span) -> ArrayVec<Span, REGIONS>
 impl Ranges {
     /// The empty set.
     pub(crate) fn new() -> Ranges
-        ensures { result ≡ [] }
+        ensures empty { result ≡ [] }
+        ensures ranges { AreRanges result }
     {
         Ranges {
             spans: ArrayVec::new(),
@@ -101,20 +95,23 @@ impl Ranges {
     /// The set with the addresses of one more span.
     pub(crate) fn with(&self, added: Span) -> Ranges
         requires room { length self.now < 64 }
-        requires forward { added.start ≤ added.end }
-        ensures union { (address : ℕ) → contains result address ≡ (holds added address || contains self.now address) }
+        requires forward { added.first ≤ added.last }
+        ensures union { (address : ℕ)
+            → contains result address ≡ (holds added address || contains self.now address) }
         ensures room { length result ≤ length self.now + 1 }
+        ensures ranges { AreRanges result }
     {
         Ranges {
             spans: with_span(&self.spans, added),
         }
     }
 
-    /// The spans, rising.
+    /// The spans, rising: at most 64, each two with an address between them that belongs to none.
     pub fn spans(&self) -> &[Span]
-        ensures { result.now ≡ self.now }
+        ensures same { result.now ≡ self.now }
+        ensures ranges { AreRanges self.now }
     {
-        &self.spans
+        self.spans.as_slice()
     }
 
     /// Whether an address belongs to the set.
@@ -123,82 +120,27 @@ impl Ranges {
     {
         self.spans
             .iter()
-            .any(|span| span.start <= address && address <= span.end)
+            .any(|span| span.first <= address && address <= span.last)
     }
 
-    /// Whether some address of a sector belongs to the set.
+    /// Whether some address of a sector belongs to the set; sectors are counted from 0.
     pub fn has_in_sector(&self, sector: u32) -> bool
         ensures { IsTrue result ↔ HoldsInSector self.now sector }
     {
-        self.spans.iter().any(|span| span.start / SECTOR <= sector && sector <= span.end / SECTOR)
+        self.spans.iter().any(|span| span.first / SECTOR <= sector && sector <= span.last / SECTOR)
     }
 
     /// Whether some address from `size` on belongs to the set.
     pub fn reaches(&self, size: u32) -> bool
         ensures { IsTrue result ↔ HoldsFrom self.now size }
     {
-        self.spans.iter().any(|span| size <= span.end)
+        self.spans.iter().any(|span| size <= span.last)
     }
 
-    /// The places of a sector whose addresses belong to the set, rising.
+    /// The places of a sector whose addresses belong to the set, rising; sectors are counted from 0.
     pub fn places_in(&self, sector: u32) -> PlacesIn<'_>
         ensures { AreIncludedIn self.now sector (places_left result) }
     {
-        PlacesIn {
-            spans: &self.spans,
-            sector,
-        }
-    }
-}
-
-/// An iterator over the included places of one sector.
-#[derive(Debug, Drop)]
-pub struct PlacesIn<'a> {
-    spans: &'a [Span],
-    sector: u32,
-}
-
-impl Span {
-    /// The places of a sector that the span holds.
-    fn places_in(&self, sector: u32) -> Option<Places>
-        ensures { result ≡ part_of sector self.now }
-    {
-        let (first, last) = (self.start / SECTOR, self.end / SECTOR);
-        if sector < first || last < sector {
-            return None;
-        }
-        let start = if first < sector {
-            0
-        } else {
-            self.start % SECTOR
-        };
-        let end = if sector < last {
-            SECTOR
-        } else {
-            self.end % SECTOR + 1
-        };
-        Some(Places {
-            start: start as usize,
-            end: end as usize,
-        })
-    }
-}
-
-impl<'a> Iterator for PlacesIn<'a> {
-    type Item = Places;
-
-    ghost next_gives = { YieldsFirst places_left };
-
-    ghost remaining = { item_count places_left };
-
-    fn next(&mut self) -> Option<Places> {
-        while let Some((first, others)) = self.spans.split_first() {
-            self.spans = others;
-            let places = first.places_in(self.sector);
-            if places.is_some() {
-                return places;
-            }
-        }
-        None
+        PlacesIn::new(self.spans(), sector)
     }
 }

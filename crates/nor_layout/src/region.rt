@@ -8,7 +8,8 @@ pub const NAME_LEN: usize = 32;
 /// The most regions that a layout holds.
 pub const REGIONS: usize = 64;
 
-/// A named region of a chip. Both ends are addresses of it.
+/// A named region of a chip: its addresses from `start` to `end`, both included, in bytes from the chip's
+/// beginning.
 #[derive(Debug, Drop)]
 pub struct Region {
     pub start: u32,

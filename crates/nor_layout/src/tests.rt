@@ -38,8 +38,8 @@ fn names_include_their_addresses(rt: HostRuntime) -> Result<(), Fail> {
         &layout,
         "b,a",
         &[Span {
-            start: 0,
-            end: 0x17ff,
+            first: 0,
+            last: 0x17ff,
         }],
     );
     spans(
@@ -47,8 +47,8 @@ fn names_include_their_addresses(rt: HostRuntime) -> Result<(), Fail> {
         &layout,
         "c,c",
         &[Span {
-            start: 0x1800,
-            end: 0x1fff,
+            first: 0x1800,
+            last: 0x1fff,
         }],
     );
     spans(
@@ -57,12 +57,12 @@ fn names_include_their_addresses(rt: HostRuntime) -> Result<(), Fail> {
         "c,a",
         &[
             Span {
-                start: 0,
-                end: 0xfff,
+                first: 0,
+                last: 0xfff,
             },
             Span {
-                start: 0x1800,
-                end: 0x1fff,
+                first: 0x1800,
+                last: 0x1fff,
             },
         ],
     );
@@ -71,8 +71,8 @@ fn names_include_their_addresses(rt: HostRuntime) -> Result<(), Fail> {
         &layout,
         "a,b,c",
         &[Span {
-            start: 0,
-            end: 0x1fff,
+            first: 0,
+            last: 0x1fff,
         }],
     );
     Ok(())

@@ -9,7 +9,7 @@ loop-span-preserved c =
     let i = c.loop-span.span-index in
     let spans = c.args.spans.now in
     let all = merged c.args.added spans in
-    let d : Span = record { start = 0; end = 0 } in
+    let d : Span = record { first = 0; last = 0 } in
     elim c.if-is_apart_below.branch [
       | then-is_apart_below w ↦
           rw (w.all-is, w.last-is) (record {

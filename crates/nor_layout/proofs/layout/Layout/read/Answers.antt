@@ -3,8 +3,9 @@ use Rattle.std.proofs.lemmas.Iterator.Consumers.{YieldsList-at, YieldsList-turn,
 use Rattle.std.proofs.lemmas.Iterator.Splits.{YieldsList-from_slice_split}
 use Rattle.std.proofs.lemmas.List.{length_push}
 use Rattle.std.proofs.lemmas.Result.{err_from_is_err_and}
-use Rattle.nor_layout.specs.Text.{lines_of, with_line, layout_says, Adds}
+use Rattle.nor_layout.specs.Text.{lines_of, with_line, layout_says, Adds, Reads}
 use Rattle.nor_layout.proofs.Texts.{with_line-keeps, length-lines_of, lines_say-more, lines_say-fault, lines_say-all, no_lines, no_regions}
+use Rattle.nor_layout.proofs.TextLaws.{layout_says-found, reads_taken}
 use Rattle.nor_layout.proofs.layout.Layout.read.Goals as goal
 
 pub overflow_add-number : goal.overflow_add-number
@@ -40,9 +41,12 @@ returns-in_err-add_line c =
     let p = err_from_is_err_and c.from_residual.result c.from_residual.ensures.1 in
     let fault = c.in_err-add_line.field-0.0 in
     let added : Adds c.add_line.new.regions.items (Err fault) (with_line c.loop-line.regions.items (n + 1) line) = c.in_err-add_line.ensures in
-    rw (p.1, p.2) (lines_say-fault c.loop-line.regions.items n lines line (layout_says c.args.text.now) (rw c.loop-line.invariant.counted turn.0) c.loop-line.invariant.same c.add_line.new.regions.items fault (rw here added))
+    let exact : Reads (Err fault) (layout_says c.args.text.now) = lines_say-fault c.loop-line.regions.items n lines line (layout_says c.args.text.now) (rw c.loop-line.invariant.counted turn.0) c.loop-line.invariant.same c.add_line.new.regions.items fault (rw here added) in
+    rw (p.1, p.2) (record { exact = exact; found = tt; taken = reads_taken c.args.text.now (Err fault) exact })
 
 pub returns : goal.returns
 returns c =
     let end = YieldsList-end (YieldsList-at c.into_iter-line-iterator.ensures.into_iter_gives (YieldsList-from_slice_split _ (λ b. eqb b 10) c.args.text.now c.split-line-items.ensures.rest c.split-line-items.ensures.done c.split-line-items.ensures.closure (λ x b q k. search (rules, tests)))) c.loop-line.yielded _ c.loop-line.yielded_by _ _ c.in-None.is c.next.ensures.steps in
-    lines_say-all c.loop-line.regions.items c.loop-line.number (lines_of c.args.text.now) (layout_says c.args.text.now) (omega arith) c.loop-line.invariant.same
+    let regions = c.loop-line.regions.items in
+    let exact : layout_says c.args.text.now ≡ Ok regions = lines_say-all regions c.loop-line.number (lines_of c.args.text.now) (layout_says c.args.text.now) (omega arith) c.loop-line.invariant.same in
+    record { exact = exact; found = layout_says-found c.args.text.now regions exact; taken = reads_taken c.args.text.now (Ok regions) exact }

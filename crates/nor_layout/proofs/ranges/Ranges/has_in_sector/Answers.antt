@@ -9,4 +9,4 @@ pub returns : goal.returns
 returns c =
     let spans = c.args.self.now in
     let e : c.any.result ≡ list_any (is_in_sector c.args.sector) spans = any_from_yields_List (is_in_sector c.args.sector) _ _ c.any.result c.any.ensures.ran (YieldsList-from_slice spans cc) (λ x b q k. search (rules, tests)) in
-    rw e (holds_in_sector spans c.args.sector (rw (← c.self.view_is) c.self.invariant), is_in_sector-holds spans c.args.sector)
+    rw e (holds_in_sector spans c.args.sector (rw (← c.self.view_is) c.self.invariant.apart), is_in_sector-holds spans c.args.sector)

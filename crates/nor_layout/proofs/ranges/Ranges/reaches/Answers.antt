@@ -9,4 +9,4 @@ pub returns : goal.returns
 returns c =
     let spans = c.args.self.now in
     let e : c.any.result ≡ list_any (ends_from c.args.size) spans = any_from_yields_List (ends_from c.args.size) _ _ c.any.result c.any.ensures.ran (YieldsList-from_slice spans cc) (λ x b q k. search (rules, tests)) in
-    rw e (from_ends spans c.args.size (rw (← c.self.view_is) c.self.invariant), ends_from-holds spans c.args.size)
+    rw e (from_ends spans c.args.size (rw (← c.self.view_is) c.self.invariant.apart), ends_from-holds spans c.args.size)

@@ -1,6 +1,6 @@
 use Rattle.std.proofs.Common.{◌≡◌, length}
 use Rattle.nor_layout.specs.Places.{places_left}
-use Rattle.nor_layout.proofs.ranges.PlacesInIterator.next.Given as goal
+use Rattle.nor_layout.proofs.places.PlacesInIterator.next.Given as goal
 
 -- no span that was passed has a place in the sector
 abbrev pub invariant-loop-first : goal.invariant-loop-first

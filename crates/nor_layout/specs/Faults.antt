@@ -1,0 +1,27 @@
+-- The numbers of faults.
+use Rattle.std.specs.Prelude.{ℕ, Option, Some, None}
+use Rattle.nor_layout.specs.declared.fault.LineFault.{LineFault}
+use Rattle.nor_layout.specs.declared.fault.LineFault.TheVariants.{Line, Address, Backwards, Name, Twice}
+use Rattle.nor_layout.specs.declared.fault.LayoutFault.{LayoutFault}
+use Rattle.nor_layout.specs.declared.fault.LayoutFault.TheVariants.{InLine, TooMany, Memory, NoRegion}
+
+abbrev pub number_in_line : LineFault → ℕ
+number_in_line Line = 1
+number_in_line Address = 2
+number_in_line Backwards = 3
+number_in_line Name = 4
+number_in_line Twice = 5
+
+-- by which messages name a fault
+abbrev pub number_of_fault : LayoutFault → ℕ
+number_of_fault (InLine line fault) = number_in_line fault
+number_of_fault TooMany = 6
+number_of_fault Memory = 7
+number_of_fault NoRegion = 8
+
+-- the faults of a line carry its number
+abbrev pub line_of_fault : LayoutFault → Option ℕ
+line_of_fault (InLine line fault) = Some line
+line_of_fault TooMany = None
+line_of_fault Memory = None
+line_of_fault NoRegion = None

@@ -1,0 +1,75 @@
+//! The places of one sector whose addresses belong to a set.
+
+ghost use Rattle.std.specs.Prelude.{◌≡◌};
+ghost use Rattle.std.specs.Iterator.{YieldsFirst, item_count};
+ghost use Rattle.nor_layout.specs.Places.{part_of, parts_of, places_left};
+
+use crate::ranges::Span;
+
+/// The size of a sector, in bytes: the smallest unit that a chip erases.
+pub const SECTOR: u32 = 4096;
+
+/// Places of a sector in a row, counted in bytes from its beginning: from `start` on, `end` no longer among them.
+#[derive(Clone, Copy, Debug, PartialEq, Eq)]
+pub struct Places {
+    pub start: usize,
+    pub end: usize,
+}
+
+/// An iterator over the places of one sector whose addresses belong to a set, rising.
+#[derive(Debug, Drop)]
+pub struct PlacesIn<'a> {
+    spans: &'a [Span],
+    sector: u32,
+}
+
+impl<'a> PlacesIn<'a> {
+    pub(crate) fn new(spans: &'a [Span], sector: u32) -> PlacesIn<'a>
+        ensures { places_left result ≡ parts_of sector spans.now }
+    {
+        PlacesIn { spans, sector }
+    }
+}
+
+/// The part of a span in a sector, if it has one.
+fn part_of(span: &Span, sector: u32) -> Option<Places>
+    ensures { result ≡ part_of sector span.now }
+{
+    let (first, last) = (span.first / SECTOR, span.last / SECTOR);
+    if sector < first || last < sector {
+        return None;
+    }
+    let start = if first < sector {
+        0
+    } else {
+        span.first % SECTOR
+    };
+    let end = if sector < last {
+        SECTOR
+    } else {
+        span.last % SECTOR + 1
+    };
+    Some(Places {
+        start: start as usize,
+        end: end as usize,
+    })
+}
+
+impl<'a> Iterator for PlacesIn<'a> {
+    type Item = Places;
+
+    ghost next_gives = { YieldsFirst places_left };
+
+    ghost remaining = { item_count places_left };
+
+    fn next(&mut self) -> Option<Places> {
+        while let Some((first, others)) = self.spans.split_first() {
+            self.spans = others;
+            let places = part_of(first, self.sector);
+            if places.is_some() {
+                return places;
+            }
+        }
+        None
+    }
+}
