@@ -4,3 +4,5 @@ pub mod SectorRecords
 pub mod Places
 pub mod OneForm
 pub mod Writes
+pub mod Saved
+pub mod KnownBytes

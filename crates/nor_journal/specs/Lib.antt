@@ -1,4 +1,5 @@
 pub mod Vault
+pub mod FileVault
 pub mod Number
 pub mod Text
 pub mod Fault

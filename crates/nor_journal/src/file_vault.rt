@@ -1,6 +1,7 @@
 //! A vault in a file.
 ghost use Rattle.std.specs.Prelude.{◌≡◌, false, []};
-ghost use Rattle.nor_journal.specs.Vault.{new_vault, one_more};
+ghost use Rattle.nor_journal.specs.Vault.{new_vault, one_more, Puts, Seals};
+ghost use Rattle.nor_journal.specs.FileVault.{file_of, FileTakes};
 
 use crate::vault::{Vault, VaultFault};
 use std::fs::OpenFile;
@@ -19,7 +20,8 @@ pub struct FileVault<F: Write + OpenFile> {
 impl<F: Write + OpenFile> FileVault<F> {
     /// An unsealed vault over a file that nothing was written to yet.
     pub fn new(file: F) -> FileVault<F>
-        ensures { ⟦<FileVault<F> as Vault>⟧.state result ≡ new_vault false }
+        ensures state { ⟦<FileVault<F> as Vault>⟧.state result ≡ new_vault false }
+        ensures file { file_of result ≡ file }
     {
         FileVault {
             file,
@@ -41,7 +43,11 @@ impl<F: Write + OpenFile> FileVault<F> {
 impl<F: Write + OpenFile> Vault for FileVault<F> {
     ghost state = { λ v. record { telling = false; bytes = []; sealed = v.sealed; failures = v.failures } };
 
-    fn put(&mut self, piece: &[u8]) -> Result<(), VaultFault> {
+    fn put(&mut self, piece: &[u8]) -> Result<(), VaultFault>
+        requires { (⟦<FileVault<F> as Vault>⟧.state self.old).sealed ≡ false }
+        ensures law { Puts (⟦<FileVault<F> as Vault>⟧.state self.old) piece.now result (⟦<FileVault<F> as Vault>⟧.state self.new) }
+        ensures file { FileTakes (F.contents (file_of self.old)) (F.contents (file_of self.new)) piece.now result }
+    {
         let mut kept = 0;
         while kept < piece.len() {
             match self.file.write(&piece[kept..]) {
@@ -52,7 +58,11 @@ impl<F: Write + OpenFile> Vault for FileVault<F> {
         Ok(())
     }
 
-    fn seal(&mut self) -> Result<(), VaultFault> {
+    fn seal(&mut self) -> Result<(), VaultFault>
+        requires { (⟦<FileVault<F> as Vault>⟧.state self.old).sealed ≡ false }
+        ensures law { Seals (⟦<FileVault<F> as Vault>⟧.state self.old) result (⟦<FileVault<F> as Vault>⟧.state self.new) }
+        ensures file { file_of self.new ≡ file_of self.old }
+    {
         if self.file.sync_all().is_err() {
             return Err(self.refusal(0));
         }

@@ -1,6 +1,6 @@
 //! A journal that was read.
-ghost use Rattle.std.specs.Prelude.{◌≡◌, ℕ, ◌<◌, ◌≤◌, List, ◌++◌, length, take, slice_get, Some, IfOk, IfErr, OnOk, IsOkAnd};
-ghost use Rattle.nor_journal.specs.Text.{Content, IsContent, text};
+ghost use Rattle.std.specs.Prelude.{◌≡◌, ℕ, ◌/◌, ◌<◌, ◌≤◌, List, ◌++◌, length, take, slice_get, Some, IfOk, IfErr, OnOk, IsOkAnd};
+ghost use Rattle.nor_journal.specs.Text.{Content, IsContent, text, saved_in};
 ghost use Rattle.nor_journal.specs.Fault.{HasFault};
 
 use crate::fault::JournalFault;
@@ -99,6 +99,9 @@ impl<'a> Journal<'a> {
     pub fn sector(&self, i: usize) -> (u32, &'a [u8])
         requires { i < length self.now.saved }
         ensures value { slice_get self.now.saved i ≡ Some (record { number = result.0; bytes = result.1.now }) }
+        ensures saved { saved_in self.now.saved result.0 ≡ Some result.1.now }
+        ensures place { result.0 < self.now.size / 4096 }
+        ensures whole { length result.1.now ≡ 4096 }
         ensures sound { IsContent self.now }
     {
         record_at(self.records, i)

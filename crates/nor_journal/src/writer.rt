@@ -1,6 +1,6 @@
 //! Writes a journal into a vault, piece by piece.
 ghost use Rattle.std.specs.Prelude.{◌≡◌, ◌++◌, List, ℕ, [], false, true, length, OnOk, IfOk};
-ghost use Rattle.nor_journal.specs.Vault.{PutsOn, Completes, IsFresh};
+ghost use Rattle.nor_journal.specs.Vault.{Accepted, PutsOn, Completes, IsFresh};
 ghost use Rattle.nor_journal.specs.Text.{Content, IsContent, IsChipSize, MayFollow, empty_content, with_sector, text};
 ghost use Rattle.nor_journal.specs.Writer.{vault_state, HasPut, HasWritten};
 
@@ -30,6 +30,36 @@ impl<'a, V: Vault> Writer<'a, V> {
             vault,
             hasher: Sha256::new(),
         }
+    }
+
+    /// A writer into an empty, unsealed vault that has written the head. A refusal leaves the vault unsealed.
+    pub fn start(
+        vault: &'a mut V,
+        id: [u8; 3],
+        status: [u8; 2],
+        size: u32,
+    ) -> Result<Writer<'a, V>, VaultFault>
+        requires fresh { IsFresh (V.state vault.old) }
+        requires size { IsChipSize size }
+        ensures same_vault { IfOk result (λ writer. writer.vault.ghost_name ≡ vault.entry.ghost_name) }
+        ensures vault { IfOk result (λ writer. Accepted (V.state vault.old) (vault_state V.state writer)) }
+        ensures written { IfOk result (λ writer. HasWritten V.state writer (empty_content id status size)) }
+    {
+        let mut writer = Writer::on(vault);
+        writer.header(id, status, size)?;
+        Ok(writer)
+    }
+
+    /// Writes a sector behind the others, as `add` does. A refusal leaves the vault unsealed.
+    pub fn sector(mut self, number: u32, bytes: &[u8; 4096]) -> Result<Writer<'a, V>, VaultFault>
+        requires { (vault_state V.state self).sealed ≡ false }
+        ensures same_vault { IfOk result (λ writer. writer.vault.ghost_name ≡ self.entry.vault.ghost_name) }
+        ensures vault { IfOk result (λ writer. Accepted (vault_state V.state self.entry) (vault_state V.state writer)) }
+        ensures written { (c : Content) → HasWritten V.state self.entry c → MayFollow c number
+            → IfOk result (λ writer. HasWritten V.state writer (with_sector c number bytes.now)) }
+    {
+        self.add(number, bytes)?;
+        Ok(self)
     }
 
     // Puts a piece, and takes it into the digest.

@@ -1,4 +1,5 @@
-use Rattle.std.proofs.Common.{length, ◌-◌, ◌≡◌, ◌≤◌}
+use Rattle.std.proofs.Common.{length, take, ◌-◌, ◌≡◌, ◌≤◌}
+use Rattle.std.specs.Io.KnownBytes.{Appends}
 use Rattle.nor_journal.proofs.file_vault.FileVaultVault.put.Given as goal
 
 -- part of the piece went in, and nothing was counted
@@ -7,6 +8,7 @@ invariant-loop-kept g l = record {
   within : l.kept ≤ length l.piece;
   sealed : l.self.sealed ≡ l.fn.self.sealed;
   failures : l.self.failures ≡ l.fn.self.failures;
+  file : Appends (g.F.Write.contents l.fn.self.file) (g.F.Write.contents l.self.file) (take l.kept l.piece);
 }
 
 abbrev pub decreases-loop-kept : goal.decreases-loop-kept

@@ -1,0 +1,14 @@
+use Rattle.std.proofs.Common.{arith, ap, length}
+use Rattle.std.proofs.lemmas.List.{take_rest, length-drop}
+use Rattle.nor_journal.proofs.KnownBytes.{Appends-more}
+use Rattle.nor_journal.proofs.file_vault.FileVaultVault.put.Goals as goal
+
+pub loop-kept-preserved : goal.loop-kept-preserved
+loop-kept-preserved g c =
+    let so_far = c.loop-kept.invariant in
+    record {
+      within = omega (arith, c.in-Ok.ensures.bound, ap length (take_rest c.args.piece.now c.loop-kept.kept), length-drop c.loop-kept.kept c.args.piece.now);
+      sealed = so_far.sealed;
+      failures = so_far.failures;
+      file = Appends-more _ _ _ _ _ _ _ (take_rest c.args.piece.now c.loop-kept.kept) so_far.file c.in-Ok.ensures.bytes;
+    }

@@ -1,0 +1,15 @@
+-- What a vault does to the file that it writes.
+use Rattle.std.specs.Prelude.{ℕ, List, take, Option, Result, Ok, Err}
+use Rattle.std.specs.Io.KnownBytes.{Appends}
+use Rattle.nor_journal.specs.declared.file_vault.FileVault.{FileVault}
+use Rattle.nor_journal.specs.declared.vault.VaultFault.{VaultFault}
+
+-- the file of a vault
+abbrev pub file_of : {F : Type 0} → FileVault F → F
+file_of vault = vault.file
+
+-- What a file holds, where that is known, after `put` of a piece: the piece more, or at a refusal the beginning of
+-- it that the refusal tells.
+abbrev pub FileTakes : {T : Type 0} → Option (List ℕ) → Option (List ℕ) → List ℕ → Result T VaultFault → Type 0
+FileTakes old new piece (Ok _) = Appends old new piece
+FileTakes old new piece (Err fault) = Appends old new (take fault.kept piece)
