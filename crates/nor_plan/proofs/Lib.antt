@@ -1,0 +1,11 @@
+pub mod Agreement
+pub mod Coverage
+pub mod Fewest
+pub mod Masks
+pub mod Members
+pub mod Places
+pub mod PageSpans
+pub mod Planning
+pub mod Tally
+pub mod Units
+pub mod Words

@@ -1,0 +1,44 @@
+use Rattle.std.proofs.Common.{ℕ, ◌≡◌, ◌<◌, ◌≤◌, ◌/◌, true, List, length, rules, subst, refl, sym, inl, inr}
+use Rattle.std.proofs.lemmas.Bool.{cases_lt, both_ways}
+use Rattle.nor_plan.specs.declared.erase.Erase.{Erase}
+use Rattle.nor_plan.specs.declared.set.SectorSet.{SectorSet}
+use Rattle.nor_plan.specs.SectorSet.{has}
+use Rattle.nor_plan.specs.Erase.{Covers}
+use Rattle.nor_plan.proofs.Words.{none_past}
+use Rattle.nor_plan.proofs.Coverage.{IsPlannable, planned_Covers}
+use Rattle.nor_plan.proofs.Fewest.{planned_fewest}
+use Rattle.nor_plan.proofs.erase.erases.Goals as goal
+
+-- the sectors of a set are few, since its words are
+has-small : (set : SectorSet) → length set.words ≡ 64 → (s : ℕ) → has set s ≡ true → s < 4096
+unfolding has
+has-small set long s member = elim (cases_lt s 4096) [
+  | inl small ↦ small
+  | inr past ↦ absurd (both_ways _ (none_past set.words long s past) member)
+]
+
+pub returns-clause-covers : goal.returns-clause-covers
+returns-clause-covers c =
+    let long : length c.args.set.now.words ≡ 64 = search rules in
+    let set = has c.args.set.now in
+    let total = c.args.size / 4096 in
+    let can : IsPlannable c.is_run-whole.result total set = record {
+      whole_is = c.is_run-whole.ensures;
+      below = c.requires;
+      small = has-small c.args.set.now long;
+    } in
+    let P : List Erase → Type 0 = λ list. Covers c.args.kinds total list set in
+    subst P (sym c.new.ensures) (planned_Covers c.is_run-whole.result c.args.kinds total set can 0 refl)
+
+pub returns-clause-fewest : goal.returns-clause-fewest
+returns-clause-fewest c others covers =
+    let long : length c.args.set.now.words ≡ 64 = search rules in
+    let set = has c.args.set.now in
+    let total = c.args.size / 4096 in
+    let can : IsPlannable c.is_run-whole.result total set = record {
+      whole_is = c.is_run-whole.ensures;
+      below = c.requires;
+      small = has-small c.args.set.now long;
+    } in
+    let P : List Erase → Type 0 = λ list. length list ≤ length others in
+    subst P (sym c.new.ensures) (planned_fewest c.is_run-whole.result c.args.kinds total set can 0 others covers)

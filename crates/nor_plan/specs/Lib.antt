@@ -1,0 +1,9 @@
+pub mod Bytes
+pub mod Erase
+pub mod Erases
+pub mod Mask
+pub mod Planned
+pub mod SectorSet
+pub mod Sectors
+pub mod Span
+pub mod Spans

@@ -1,0 +1,48 @@
+-- The erases that are planned for a set of sectors.
+use Rattle.std.specs.Prelude.{ℕ, ◌≡◌, ◌-◌, ◌%◌, Bool, ◌&&◌, if◌then◌else◌, List, map, filter, Option, MatchOption, [], ◌∷◌}
+use Rattle.std.specs.List.{list_all, range_with_len}
+use Rattle.nor_probe.specs.declared.sfdp.Kinds.{Kinds}
+use Rattle.nor_plan.specs.declared.erase.Erase.{Erase}
+use Rattle.nor_plan.specs.declared.erase.EraseUnit.{EraseUnit}
+use Rattle.nor_plan.specs.declared.erase.EraseUnit.TheVariants.{Sector, Block32, Block64, Chip}
+use Rattle.nor_plan.specs.Erase.{is_aligned}
+
+-- the sectors from one on are all in the set
+unfoldable pub holds_run : (ℕ → Bool) → ℕ → ℕ → Bool
+holds_run set from count = list_all set (range_with_len from count)
+
+-- so is the aligned block of this many sectors that holds a sector
+abbrev pub holds_block : (ℕ → Bool) → ℕ → ℕ → Bool
+holds_block set count sector = holds_run set (sector - sector % count) count
+
+-- the unit by which a sector of the set is erased: the chip, where the whole chip is in the set; else the
+-- largest block that the chip has and that lies in the set
+unfoldable pub unit_at : Bool → Kinds → (ℕ → Bool) → ℕ → EraseUnit
+unit_at whole kinds set sector =
+    if whole then Chip
+    else if kinds.k64 && holds_block set 16 sector then Block64
+    else if kinds.k32 && holds_block set 8 sector then Block32
+    else Sector
+
+-- a sector of the set at which its unit begins
+abbrev pub begins_unit : Bool → Kinds → (ℕ → Bool) → ℕ → Bool
+begins_unit whole kinds set sector = set sector && is_aligned (unit_at whole kinds set sector) sector
+
+-- the erase of the unit that begins at a sector
+abbrev pub erase_at : Bool → Kinds → (ℕ → Bool) → ℕ → Erase
+erase_at whole kinds set sector = record { unit = unit_at whole kinds set sector; sector = sector }
+
+-- the erases from a sector on: one for each unit, rising
+unfoldable pub planned_from : Bool → Kinds → (ℕ → Bool) → ℕ → List Erase
+planned_from whole kinds set from =
+    map (erase_at whole kinds set) (filter (begins_unit whole kinds set) (range_with_len from (4096 - from)))
+
+-- the first of these erases, with the sector from which the others are, where there is one
+abbrev pub HeadsPlanned : Bool → Kinds → (ℕ → Bool) → ℕ → Option (Erase × ℕ) → Type 0
+HeadsPlanned whole kinds set from head =
+    MatchOption head (planned_from whole kinds set from ≡ [])
+    (λ h. planned_from whole kinds set from ≡ h.0 ∷ planned_from whole kinds set h.1)
+
+-- the erases of a set on a chip of this many sectors
+abbrev pub planned : Kinds → ℕ → (ℕ → Bool) → List Erase
+planned kinds total set = planned_from (holds_run set 0 total) kinds set 0

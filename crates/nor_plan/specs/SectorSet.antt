@@ -1,0 +1,44 @@
+-- A set of sectors, seen as a test of sector numbers.
+use Rattle.std.specs.Prelude.{ℕ, ◌≡◌, ◌==◌, ◌<◌, ◌≤◌, ◌-◌, ◌/◌, ◌%◌, Bool, true, false, List, slice_index, filter, ◌||◌}
+use Rattle.std.specs.Int.{bit_at}
+use Rattle.std.specs.List.{range_with_len}
+use Rattle.nor_plan.specs.declared.set.SectorSet.{SectorSet}
+
+-- whether a sector is in the set
+unfoldable pub has : SectorSet → ℕ → Bool
+has set sector = bit_at (slice_index set.words (sector / 64)) (sector % 64) == 1
+
+-- no sector is in the set
+abbrev pub IsEmpty : SectorSet → Type 0
+IsEmpty set = (sector : ℕ) → has set sector ≡ false
+
+-- some sector is in the set
+abbrev pub HasSome : SectorSet → Type 0
+HasSome set = (sector : ℕ) × (has set sector ≡ true)
+
+-- each sector of the set is below this number
+abbrev pub LiesBelow : SectorSet → ℕ → Type 0
+LiesBelow set end = (sector : ℕ) → has set sector ≡ true → sector < end
+
+-- the new set has this sector too, and else what the old one has
+abbrev pub Inserts : SectorSet → SectorSet → ℕ → Type 0
+Inserts old new sector = (s : ℕ) → has new s ≡ ((s == sector) || has old s)
+
+-- the sectors of the set from a number on, rising
+unfoldable pub members_from : SectorSet → ℕ → List ℕ
+members_from set from = filter (has set) (range_with_len from (4096 - from))
+
+-- the sectors of the set, rising
+abbrev pub members : SectorSet → List ℕ
+members set = members_from set 0
+
+-- no sector of the set is this one or above it
+abbrev pub NoneFrom : SectorSet → ℕ → Type 0
+NoneFrom set from = (s : ℕ) → from ≤ s → has set s ≡ false
+
+-- the least sector of the set that is not below a number
+pub record IsLeastFrom (set : SectorSet) (from sector : ℕ) : Type 0 where
+  pub after : from ≤ sector
+  pub below : sector < 4096
+  pub member : has set sector ≡ true
+  pub before : (s : ℕ) → from ≤ s → s < sector → has set s ≡ false

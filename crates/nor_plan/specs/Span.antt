@@ -1,0 +1,44 @@
+-- The spans of a sector: what has to be programmed, page by page. A page is 256 bytes.
+use Rattle.std.specs.Prelude.{ℕ, ◌≡◌, ◌==◌, ◌-◌, ◌*◌, min, not, List, [], ◌∷◌, Option, Some, None, MatchOption, length, filter, slice_index}
+use Rattle.std.specs.List.{filter_map, range_with_len}
+use Rattle.std.specs.Int.{div_ceil}
+use Rattle.nor_plan.specs.declared.page.Span.{Span}
+
+-- the places at which the bytes differ, of the `count` places from `from` on
+abbrev pub differences : List ℕ → List ℕ → ℕ → ℕ → List ℕ
+differences old target from count = filter (λ k. not (slice_index old k == slice_index target k)) (range_with_len from count)
+
+-- the last of some places
+abbrev pub last_of : ℕ → List ℕ → ℕ
+last_of k [] = k
+last_of k (j ∷ js) = last_of j js
+
+-- the first and the last of some places
+abbrev pub ends : List ℕ → Option Span
+ends [] = None
+ends (k ∷ ks) = Some (record { first = k; last = last_of k ks })
+
+-- the span of a page, which is its first and its last difference; the last page may be a short one
+abbrev pub page_span : List ℕ → List ℕ → ℕ → Option Span
+page_span old target page = ends (differences old target (page * 256) (min 256 (length old - page * 256)))
+
+-- the spans of some pages
+abbrev pub spans_in : List ℕ → List ℕ → ℕ → ℕ → List Span
+spans_in old target page count = filter_map (page_span old target) (range_with_len page count)
+
+-- how many pages the slice has
+abbrev pub pages_of : List ℕ → ℕ
+pages_of old = div_ceil (length old) 256
+
+-- the spans of the pages from this one on
+abbrev pub spans_from : List ℕ → List ℕ → ℕ → List Span
+spans_from old target page = spans_in old target page (pages_of old - page)
+
+-- the spans of all pages, in rising order
+abbrev pub spans_of : List ℕ → List ℕ → List Span
+spans_of old target = spans_from old target 0
+
+-- the first of these spans, with the page from which the others are, where there is one
+abbrev pub HeadsSpans : List ℕ → List ℕ → ℕ → Option (Span × ℕ) → Type 0
+HeadsSpans old target page head =
+    MatchOption head (spans_from old target page ≡ []) (λ h. spans_from old target page ≡ h.0 ∷ spans_from old target h.1)

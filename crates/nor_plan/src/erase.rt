@@ -1,0 +1,127 @@
+//! The fewest erases for a set of sectors.
+
+ghost use Rattle.std.specs.Prelude.{◌≡◌, ◌+◌, ◌*◌, ◌/◌, ◌^◌, ◌<◌, ◌≤◌, List, length};
+ghost use Rattle.nor_plan.specs.Erase.{Covers, is_aligned};
+ghost use Rattle.nor_plan.specs.Planned.{holds_block, holds_run, unit_at, planned, HeadsPlanned};
+ghost use Rattle.nor_plan.specs.Erases.{erases_left};
+ghost use Rattle.nor_plan.specs.SectorSet.{has, LiesBelow};
+
+use crate::set::{SECTORS, SectorSet};
+use nor_probe::Kinds;
+
+mod iter;
+
+pub use iter::Erases;
+
+/// The bytes of a sector.
+const SECTOR: u32 = 4096;
+
+/// What one erase sets to FFh.
+#[derive(Clone, Copy, Debug, PartialEq, Eq)]
+pub enum EraseUnit {
+    /// A sector of 4 KiB (20h).
+    Sector,
+    /// An aligned block of 32 KiB (52h).
+    Block32,
+    /// An aligned block of 64 KiB (D8h).
+    Block64,
+    /// The whole chip (C7h).
+    Chip,
+}
+
+/// An erase: a unit, and the number of its first sector.
+#[derive(Clone, Copy, Debug, PartialEq, Eq)]
+pub struct Erase {
+    pub unit: EraseUnit,
+    pub sector: u16,
+}
+
+impl Erase {
+    /// The first address of the unit.
+    pub fn address(self) -> u32
+        ensures { result ≡ self.sector * 4096 }
+    {
+        u32::from(self.sector) * SECTOR
+    }
+}
+
+/// The fewest erases that set just the sectors of `set` to FFh, on a chip of `size` bytes that has these
+/// kinds: the whole chip, where all its sectors are in the set; else in rising order D8h for each aligned
+/// 64 KiB all of whose sectors are in the set, 52h for each aligned 32 KiB outside these, and 20h for each
+/// other sector. The set lies below the chip's end.
+pub fn erases(set: &SectorSet, kinds: Kinds, size: u32) -> Erases
+    requires { LiesBelow set.now (size / 4096) }
+    ensures covers { Covers kinds (size / 4096) (erases_left result) (has set.now) }
+    ensures fewest { (others : List Erase) → Covers kinds (size / 4096) others (has set.now) → length (erases_left result) ≤ length others }
+    ensures planned { erases_left result ≡ planned kinds (size / 4096) (has set.now) }
+{
+    let whole = is_run(set, 0, size / SECTOR);
+    Erases::new(*set, kinds, whole)
+}
+
+/// The first erase from a sector on, and the sector from which to go on.
+fn next_erase(set: &SectorSet, kinds: Kinds, whole: bool, from: u32) -> Option<(Erase, u32)>
+    ensures { HeadsPlanned whole kinds (has set.now) from result }
+{
+    for sector in from..SECTORS {
+        if set.contains(sector) {
+            let unit = unit_of(set, kinds, whole, sector);
+            if begins_at(unit, sector) {
+                let sector = sector as u16;
+                return Some((Erase { unit, sector }, u32::from(sector) + 1));
+            }
+        }
+    }
+    None
+}
+
+/// The unit by which a sector of the set is erased.
+#[tactic(auto, unfolding(crate::specs::Planned::unit_at))]
+fn unit_of(set: &SectorSet, kinds: Kinds, whole: bool, sector: u32) -> EraseUnit
+    requires { sector < 4096 }
+    ensures { result ≡ unit_at whole kinds (has set.now) sector }
+{
+    if whole {
+        EraseUnit::Chip
+    } else if kinds.k64 && is_block(set, 16, sector) {
+        EraseUnit::Block64
+    } else if kinds.k32 && is_block(set, 8, sector) {
+        EraseUnit::Block32
+    } else {
+        EraseUnit::Sector
+    }
+}
+
+/// Whether a unit begins at a sector.
+fn begins_at(unit: EraseUnit, sector: u32) -> bool
+    ensures { result ≡ is_aligned unit sector }
+{
+    match unit {
+        EraseUnit::Sector => true,
+        EraseUnit::Block32 => sector % 8 == 0,
+        EraseUnit::Block64 => sector % 16 == 0,
+        EraseUnit::Chip => sector == 0,
+    }
+}
+
+/// Whether the aligned block of so many sectors that holds a sector is in the set.
+fn is_block(set: &SectorSet, count: u32, sector: u32) -> bool
+    requires some { 0 < count }
+    requires few { count ≤ 16 }
+    requires there { sector < 4096 }
+    ensures { result ≡ holds_block (has set.now) count sector }
+{
+    is_run(set, sector - sector % count, count)
+}
+
+/// Whether the sectors from one on are all in the set.
+#[tactic(auto, unfolding(crate::specs::Planned::holds_run))]
+fn is_run(set: &SectorSet, from: u32, count: u32) -> bool
+    requires { from + count < 2 ^ 32 }
+    ensures { result ≡ holds_run (has set.now) from count }
+{
+    (from..from + count).all(|sector| set.contains(sector))
+}
+
+#[cfg(test)]
+mod tests;

@@ -1,0 +1,49 @@
+//! The iterator over erases.
+
+ghost use Rattle.std.specs.Prelude.{◌≡◌};
+ghost use Rattle.std.specs.Iterator.{YieldsFirst, item_count};
+ghost use Rattle.nor_plan.specs.Erases.{erases_left};
+ghost use Rattle.nor_plan.specs.Planned.{planned_from};
+ghost use Rattle.nor_plan.specs.SectorSet.{has};
+
+use super::{Erase, next_erase};
+use crate::set::SectorSet;
+use nor_probe::Kinds;
+
+/// The erases of a set that are left, in rising order.
+#[derive(Clone, Drop)]
+pub struct Erases {
+    set: SectorSet,
+    kinds: Kinds,
+    whole: bool,
+    from: u32,
+}
+
+impl Erases {
+    #[tactic(auto, unfolding(crate::specs::Erases::erases_left))]
+    pub(super) fn new(set: SectorSet, kinds: Kinds, whole: bool) -> Self
+        ensures { erases_left result ≡ planned_from whole kinds (has set) 0 }
+    {
+        Erases {
+            set,
+            kinds,
+            whole,
+            from: 0,
+        }
+    }
+}
+
+impl Iterator for Erases {
+    type Item = Erase;
+
+    ghost next_gives = { YieldsFirst erases_left };
+
+    ghost remaining = { item_count erases_left };
+
+    #[tactic(auto, unfolding(crate::specs::Erases::erases_left))]
+    fn next(&mut self) -> Option<Erase> {
+        let (erase, from) = next_erase(&self.set, self.kinds, self.whole, self.from)?;
+        self.from = from;
+        Some(erase)
+    }
+}

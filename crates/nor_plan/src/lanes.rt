@@ -1,0 +1,115 @@
+//! Comparisons of two slices of one length, over lanes of 32 bytes and byte by byte for the rest.
+
+ghost use Rattle.std.specs.Prelude.{◌≡◌, ◌+◌, ◌≤◌, length, slice_index, MatchBool, MatchOption, IfNone, IfSome, not, bit_and, ◌==◌};
+ghost use Rattle.nor_plan.specs.Mask.{IsMask};
+ghost use Rattle.nor_plan.specs.Bytes.{AllAgree, SomeDiffer, NoneRises, SomeRise, IsFirstDifference, IsLastDifference};
+
+use std::simd::prelude::*;
+
+/// How many bytes are compared at a time.
+const LANES: usize = 32;
+
+/// Whether some byte differs.
+pub fn differs(a: &[u8], b: &[u8]) -> bool
+    requires { length a.now ≡ length b.now }
+    ensures { MatchBool result (SomeDiffer a.now b.now) (AllAgree a.now b.now) }
+{
+    first_difference(a, b).is_some()
+}
+
+/// The places of the first and the last byte that differ.
+pub fn bounds(old: &[u8], target: &[u8]) -> Option<(usize, usize)>
+    requires { length old.now ≡ length target.now }
+    ensures none { IfNone result (AllAgree old.now target.now) }
+    ensures first { IfSome result (λ bounds. IsFirstDifference old.now target.now bounds.0) }
+    ensures last { IfSome result (λ bounds. IsLastDifference old.now target.now bounds.1) }
+{
+    let first = first_difference(old, target)?;
+    let last = last_difference(old, target)?;
+    Some((first, last))
+}
+
+/// The place of the first byte that differs.
+fn first_difference(a: &[u8], b: &[u8]) -> Option<usize>
+    requires { length a.now ≡ length b.now }
+    ensures { MatchOption result (AllAgree a.now b.now) (IsFirstDifference a.now b.now) }
+{
+    for block in 0..a.len() / LANES {
+        let at = block * LANES;
+        let mask = differing(a, b, at);
+        if mask != 0 {
+            return Some(at + mask.trailing_zeros() as usize);
+        }
+    }
+    for at in a.len() / LANES * LANES..a.len() {
+        if a[at] != b[at] {
+            return Some(at);
+        }
+    }
+    None
+}
+
+/// The place of the last byte that differs.
+fn last_difference(a: &[u8], b: &[u8]) -> Option<usize>
+    requires { length a.now ≡ length b.now }
+    ensures { MatchOption result (AllAgree a.now b.now) (IsLastDifference a.now b.now) }
+{
+    for at in (a.len() / LANES * LANES..a.len()).rev() {
+        if a[at] != b[at] {
+            return Some(at);
+        }
+    }
+    for block in (0..a.len() / LANES).rev() {
+        let at = block * LANES;
+        let mask = differing(a, b, at);
+        if mask != 0 {
+            return Some(at + mask.ilog2() as usize);
+        }
+    }
+    None
+}
+
+/// Whether some bit is 1 in `target` and 0 in `old`, which only an erase can bring about.
+pub fn raises(old: &[u8], target: &[u8]) -> bool
+    requires { length old.now ≡ length target.now }
+    ensures { MatchBool result (SomeRise old.now target.now) (NoneRises old.now target.now) }
+{
+    for block in 0..old.len() / LANES {
+        if rising(old, target, block * LANES) != 0 {
+            return true;
+        }
+    }
+    for at in old.len() / LANES * LANES..old.len() {
+        if target[at] & old[at] != target[at] {
+            return true;
+        }
+    }
+    false
+}
+
+/// A bit for each of the 32 bytes from `at` on, set where they differ.
+#[inline(always)]
+fn differing(a: &[u8], b: &[u8], at: usize) -> u64
+    requires a_within { at + 32 ≤ length a.now }
+    requires b_within { at + 32 ≤ length b.now }
+    ensures { IsMask result (λ i. not (slice_index a.now (at + i) == slice_index b.now (at + i))) }
+{
+    u8x32::from_slice(&a[at..])
+        .simd_ne(u8x32::from_slice(&b[at..]))
+        .to_bitmask()
+}
+
+/// A bit for each of the 32 bytes from `at` on, set where one of their bits rises.
+#[inline(always)]
+fn rising(old: &[u8], target: &[u8], at: usize) -> u64
+    requires old_within { at + 32 ≤ length old.now }
+    requires target_within { at + 32 ≤ length target.now }
+    ensures { IsMask result (λ i. not (bit_and (slice_index target.now (at + i)) (slice_index old.now (at + i)) == slice_index target.now (at + i))) }
+{
+    let target = u8x32::from_slice(&target[at..]);
+    let kept = target & u8x32::from_slice(&old[at..]);
+    kept.simd_ne(target).to_bitmask()
+}
+
+#[cfg(test)]
+mod tests;

@@ -1,0 +1,61 @@
+//! The spans of a sector's pages: a page program sends one span, from its first differing byte to its last.
+
+ghost use Rattle.std.specs.Prelude.{◌≡◌, ◌*◌, ◌<◌, length};
+ghost use Rattle.nor_plan.specs.Span.{page_span, spans_of, HeadsSpans};
+ghost use Rattle.nor_plan.specs.Spans.{spans_left};
+
+use crate::lanes::bounds;
+
+mod iter;
+
+pub use iter::Spans;
+
+/// The bytes of a page, which one program can change.
+pub const PAGE: usize = 256;
+
+/// A run of bytes within one page, by the places of its first and its last byte.
+#[derive(Clone, Copy, Debug, PartialEq, Eq)]
+pub struct Span {
+    pub first: usize,
+    pub last: usize,
+}
+
+/// The spans of two slices of one length: for each page with a byte that differs, and no other, the places
+/// of its first and its last one, in rising order.
+pub fn spans<'a>(old: &'a [u8], target: &'a [u8]) -> Spans<'a>
+    requires { length old.now ≡ length target.now }
+    ensures { spans_left result ≡ spans_of old.now target.now }
+{
+    Spans::new(old, target)
+}
+
+#[tactic(auto, using(crate::proofs::PageSpans::page_steps))]
+/// The first span from a page on, and the page after it.
+fn next_span(old: &[u8], target: &[u8], page: usize) -> Option<(Span, usize)>
+    requires { length old.now ≡ length target.now }
+    ensures { HeadsSpans old.now target.now page result }
+{
+    for page in page..old.len().div_ceil(PAGE) {
+        if let Some(span) = span_of(old, target, page) {
+            return Some((span, page + 1));
+        }
+    }
+    None
+}
+
+/// The span of a page.
+fn span_of(old: &[u8], target: &[u8], page: usize) -> Option<Span>
+    requires same_length { length old.now ≡ length target.now }
+    requires there { page * 256 < length old.now }
+    ensures { result ≡ page_span old.now target.now page }
+{
+    let start = page * PAGE;
+    let count = PAGE.min(old.len() - start);
+    let old = &old[start..start + count];
+    let target = &target[start..start + count];
+    let (first, last) = bounds(old, target)?;
+    Some(Span {
+        first: start + first,
+        last: start + last,
+    })
+}

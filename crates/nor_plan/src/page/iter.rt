@@ -1,0 +1,49 @@
+//! The iterator over spans.
+
+ghost use Rattle.std.specs.Prelude.{◌≡◌, length};
+ghost use Rattle.std.specs.Iterator.{YieldsFirst, item_count};
+
+use super::{Span, next_span};
+
+/// The spans of the pages that are left, in rising order.
+#[derive(Drop)]
+pub struct Spans<'a> {
+    old: &'a [u8],
+    target: &'a [u8],
+    page: usize,
+    ghost same_length: { length old.now ≡ length target.now },
+}
+
+impl<'a> Spans<'a> {
+    ghost use Rattle.nor_plan.specs.Span.{spans_of};
+    ghost use Rattle.nor_plan.specs.Spans.{spans_left};
+
+    #[tactic(auto, unfolding(crate::specs::Spans::spans_left))]
+    pub(super) fn new(old: &'a [u8], target: &'a [u8]) -> Self
+        requires { length old.now ≡ length target.now }
+        ensures { spans_left result ≡ spans_of old.now target.now }
+    {
+        Spans {
+            old,
+            target,
+            page: 0,
+        }
+    }
+}
+
+impl Iterator for Spans<'_> {
+    ghost use Rattle.nor_plan.specs.Spans.{spans_left};
+
+    type Item = Span;
+
+    ghost next_gives = { YieldsFirst spans_left };
+
+    ghost remaining = { item_count spans_left };
+
+    #[tactic(auto, unfolding(crate::specs::Spans::spans_left))]
+    fn next(&mut self) -> Option<Span> {
+        let (span, page) = next_span(self.old, self.target, self.page)?;
+        self.page = page;
+        Some(span)
+    }
+}

@@ -1,0 +1,48 @@
+//! What has to be done to a sector.
+
+ghost use Rattle.std.specs.Prelude.{◌≡◌, length, MatchBool};
+ghost use Rattle.nor_plan.specs.Bytes.{AllAgree, SomeDiffer, NoneRises, SomeRise};
+
+use crate::lanes::{differs, raises};
+
+/// The planner of single sectors.
+#[derive(Clone, Copy, Debug)]
+pub struct Plan;
+
+/// What a sector needs.
+#[derive(Clone, Copy, Debug, PartialEq, Eq)]
+pub struct SectorPlan {
+    /// Some byte differs, so it has to be written.
+    pub touched: bool,
+    /// Some bit has to go from 0 to 1, so it has to be erased first.
+    pub raised: bool,
+}
+
+impl Plan {
+    #[tactic(auto, using(crate::proofs::Agreement::agreed_NoneRises))]
+    /// What it takes to make `target` of the bytes `old`.
+    pub fn of(old: &[u8], target: &[u8]) -> SectorPlan
+        requires { length old.now ≡ length target.now }
+        ensures touched { MatchBool result.touched (SomeDiffer old.now target.now) (AllAgree old.now target.now) }
+        ensures raised { MatchBool result.raised (SomeRise old.now target.now) (NoneRises old.now target.now) }
+    {
+        let touched = differs(old, target);
+        let raised = touched && raises(old, target);
+        SectorPlan { touched, raised }
+    }
+}
+
+#[cfg(test)]
+mod tests {
+    use super::*;
+
+    #[test]
+    fn sectors_are_judged(rt: HostRuntime) {
+        let untouched = Plan::of(&[0xA5, 0x0F], &[0xA5, 0x0F]);
+        assert!(rt; !untouched.touched && !untouched.raised);
+        let lowered = Plan::of(&[0xFF, 0x0F], &[0xFF, 0x0E]);
+        assert!(rt; lowered.touched && !lowered.raised);
+        let raised = Plan::of(&[0xFF, 0x0E], &[0x00, 0x0F]);
+        assert!(rt; raised.touched && raised.raised);
+    }
+}
