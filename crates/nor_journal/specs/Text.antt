@@ -1,6 +1,5 @@
 -- What a journal says, and its one text, format 1.
-use Rattle.std.specs.Prelude.{◌≡◌, ℕ, ◌+◌, ◌/◌, ◌<◌, ◌≤◌, IsTrue, ⊤, List, [], ◌∷◌, ◌++◌, length, codes, Option, Some, None, ◌==◌, if◌then◌else◌}
-use Rattle.std.specs.Int.{is_power_of_two}
+use Rattle.std.specs.Prelude.{◌≡◌, ℕ, ◌+◌, ◌/◌, ◌<◌, ◌≤◌, Bool, ◌||◌, IsTrue, ⊤, List, [], ◌∷◌, ◌++◌, length, codes, Option, Some, None, ◌==◌, if◌then◌else◌}
 use Rattle.std.specs.List.{flat_map}
 use Rattle.sha2.specs.Sha256.{sha256}
 use Rattle.nor_journal.specs.Number.{number_text}
@@ -23,11 +22,15 @@ pub record Content : Type 0 where
 
 -- ---- which contents there are
 
--- a power of two from 64 KiB to 16 MiB
+-- one of the powers of two from 64 KiB to 16 MiB
+abbrev pub is_chip_size : ℕ → Bool
+is_chip_size n = n == 65536 || n == 131072 || n == 262144 || n == 524288 || n == 1048576 || n == 2097152 || n == 4194304 || n == 8388608 || n == 16777216
+
+-- a size that a chip may have, and what follows from that
 pub record IsChipSize (size : ℕ) : Type 0 where
+  pub allowed : IsTrue (is_chip_size size)
   pub least : 65536 ≤ size
   pub most : size ≤ 16777216
-  pub power : IsTrue (is_power_of_two size)
 
 -- a whole sector of a chip that has so many
 pub record IsSectorBelow (sectors : ℕ) (s : SavedSector) : Type 0 where

@@ -30,6 +30,14 @@ impl<F: Write + OpenFile> FileVault<F> {
         }
     }
 
+    /// The file, as it is.
+    pub fn into_inner(self) -> F
+        ensures { result ≡ file_of self }
+    {
+        let FileVault { file, .. } = self;
+        file
+    }
+
     // Counts a refusal.
     fn refusal(&mut self, kept: usize) -> VaultFault
         ensures told { result.kept ≡ kept }

@@ -25,7 +25,18 @@ pub struct Head {
 fn is_chip_size(size: u32) -> bool
     ensures { IsTrue result ↔ IsChipSize size }
 {
-    size >= 0x1_0000 && size <= 0x100_0000 && size.is_power_of_two()
+    matches!(
+        size,
+        0x1_0000
+            | 0x2_0000
+            | 0x4_0000
+            | 0x8_0000
+            | 0x10_0000
+            | 0x20_0000
+            | 0x40_0000
+            | 0x80_0000
+            | 0x100_0000
+    )
 }
 
 /// Reads the head, and gives what stands behind it.

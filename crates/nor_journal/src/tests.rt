@@ -1,5 +1,10 @@
+ghost use Rattle.nor_journal.specs.Vault.{IsFresh};
+
 use super::*;
 use std::alloc::Global;
+use std::fs::{Metadata, OpenFile};
+use std::io;
+use std::io::Write;
 use std::test::Fail;
 
 /// The journal of a chip of 65,536 bytes with the ID FE 10 10 and no saved sector. The digest is that of
@@ -11,11 +16,87 @@ const EMPTY: [u8; 53] = [
     0x99, 0x18, 0xB7, 0xAE, 0xE2,
 ];
 
+/// The digest of the journal of that chip whose sector 0, all FFh, is saved, by `sha256sum`.
+const DIGEST_OF_ONE: [u8; 32] = [
+    0xE4, 0xF3, 0x7D, 0xAF, 0x28, 0x95, 0xCA, 0xC9, 0x8C, 0xFE, 0xB3, 0xD8, 0x04, 0x5D, 0x88, 0xD8,
+    0x98, 0xF1, 0x7E, 0x07, 0x8A, 0x57, 0x62, 0xBC, 0x08, 0x79, 0xCA, 0x05, 0x83, 0x28, 0xD9, 0x3D,
+];
+
 fn fault_of(bytes: &[u8]) -> u8 {
     match Journal::read(bytes) {
         Ok(_) => 0,
         Err(fault) => fault as u8,
     }
+}
+
+/// A file in memory that takes at most `most` bytes a write, and fails after `writes` of them.
+#[derive(Drop)]
+struct SmallFile {
+    bytes: Vec<u8>,
+    most: usize,
+    writes: u32,
+    syncs: bool,
+}
+
+impl SmallFile {
+    fn new(alloc: Global, most: usize, writes: u32, syncs: bool) -> SmallFile {
+        SmallFile {
+            bytes: Vec::new(alloc),
+            most,
+            writes,
+            syncs,
+        }
+    }
+}
+
+impl Write for SmallFile {
+    fn write(&mut self, buf: &[u8]) -> io::Result<usize> {
+        if self.writes == 0 {
+            return Err(io::Error::from(io::ErrorKind::Other));
+        }
+        self.writes -= 1;
+        let taken = buf.len().min(self.most);
+        self.bytes.extend_from_slice(&buf[..taken])?;
+        Ok(taken)
+    }
+
+    fn flush(&mut self) -> io::Result<()> {
+        Ok(())
+    }
+}
+
+impl OpenFile for SmallFile {
+    fn metadata(&self) -> io::Result<Metadata> {
+        Err(io::Error::from(io::ErrorKind::Unsupported))
+    }
+
+    fn set_len(&self, _size: u64) -> io::Result<()> {
+        Err(io::Error::from(io::ErrorKind::Unsupported))
+    }
+
+    fn sync_all(&self) -> io::Result<()> {
+        if self.syncs {
+            Ok(())
+        } else {
+            Err(io::Error::from(io::ErrorKind::Other))
+        }
+    }
+
+    fn sync_data(&self) -> io::Result<()> {
+        self.sync_all()
+    }
+}
+
+/// Writes a journal of the small chip whose sectors with these numbers are saved, all of them the same bytes.
+fn save<V: Vault>(vault: &mut V, numbers: &[u32], bytes: &[u8; 4096]) -> Result<(), VaultFault>
+    requires { IsFresh (V.state vault.old) }
+{
+    let mut writer = Writer::on(vault);
+    writer.header([0xFE, 0x10, 0x10], [0, 0], 65536)?;
+    for number in numbers {
+        writer.add(*number, bytes)?;
+    }
+    writer.end()
 }
 
 #[test]
@@ -26,15 +107,119 @@ fn a_vault_in_memory_takes_pieces(rt: HostRuntime) {
     assert!(rt; vault.put(b"").is_ok());
     assert!(rt; vault.put(b"nal").is_ok());
     assert_eq!(rt; vault.bytes(), b"journal".as_slice());
+    assert!(rt; vault.seal().is_ok());
+    assert!(rt; vault.is_sealed());
 }
 
 #[test]
 fn a_journal_without_sectors(rt: HostRuntime) -> Result<(), Fail> {
     let mut vault = MemVault::new(rt.alloc());
-    let mut writer = Writer::on(&mut vault);
-    writer.header([0xFE, 0x10, 0x10], [0, 0], 65536)?;
-    writer.end()?;
+    save(&mut vault, &[], &[0; 4096])?;
     assert!(rt; vault.is_sealed());
     assert_eq!(rt; vault.bytes(), EMPTY.as_slice());
     Ok(())
+}
+
+#[test]
+fn reads_what_was_written(rt: HostRuntime) -> Result<(), Fail> {
+    let mut vault = MemVault::new(rt.alloc());
+    let writer = Writer::start(&mut vault, [0xEF, 0x40, 0x17], [0x1C, 0x02], 0x80_0000)?;
+    let writer = writer.sector(7, &[0x5A; 4096])?;
+    let writer = writer.sector(2047, &[0xA5; 4096])?;
+    writer.end()?;
+    let journal = Journal::read(vault.bytes())?;
+    assert_eq!(rt; journal.id(), [0xEF, 0x40, 0x17]);
+    assert_eq!(rt; journal.status(), [0x1C, 0x02]);
+    assert_eq!(rt; journal.size(), 0x80_0000);
+    assert_eq!(rt; journal.count(), 2);
+    let (number, bytes) = journal.sector(0);
+    assert_eq!(rt; number, 7);
+    assert_eq!(rt; bytes, [0x5A; 4096].as_slice());
+    let (number, bytes) = journal.sector(1);
+    assert_eq!(rt; number, 2047);
+    assert_eq!(rt; bytes, [0xA5; 4096].as_slice());
+    Ok(())
+}
+
+#[test]
+fn lengths_and_the_digest(rt: HostRuntime) -> Result<(), Fail> {
+    let mut one = MemVault::new(rt.alloc());
+    save(&mut one, &[0], &[0xFF; 4096])?;
+    assert_eq!(rt; one.bytes().len(), 4153);
+    assert!(rt; one.bytes().ends_with(&DIGEST_OF_ONE));
+    let mut all = MemVault::new(rt.alloc());
+    let numbers = [0, 1, 2, 3, 4, 5, 6, 7, 8, 9, 10, 11, 12, 13, 14, 15];
+    save(&mut all, &numbers, &[0; 4096])?;
+    assert_eq!(rt; all.bytes().len(), 65653);
+    Ok(())
+}
+
+#[test]
+fn faults_of_cut_and_changed_journals(rt: HostRuntime) -> Result<(), Fail> {
+    assert_eq!(rt; fault_of(&EMPTY), 0);
+    assert_eq!(rt; fault_of(&EMPTY[..52]), 1);
+    assert_eq!(rt; fault_of(&[]), 1);
+    let mut longer = EMPTY.to_vec(rt.alloc())?;
+    longer.push(0)?;
+    assert_eq!(rt; fault_of(&longer), 6);
+    let mut changed = EMPTY;
+    changed[52] ^= 1;
+    assert_eq!(rt; fault_of(&changed), 7);
+    let mut one = MemVault::new(rt.alloc());
+    save(&mut one, &[0], &[0xFF; 4096])?;
+    assert_eq!(rt; fault_of(one.bytes()), 0);
+    assert!(rt; one.bytes().len() == 4153);
+    assert_eq!(rt; fault_of(&one.bytes()[..4000]), 1);
+    Ok(())
+}
+
+#[test]
+fn faults_of_numbers_and_heads(rt: HostRuntime) -> Result<(), Fail> {
+    let mut outside = MemVault::new(rt.alloc());
+    save(&mut outside, &[16], &[0; 4096])?;
+    assert_eq!(rt; fault_of(outside.bytes()), 4);
+    let mut twice = MemVault::new(rt.alloc());
+    save(&mut twice, &[3, 3], &[0; 4096])?;
+    assert_eq!(rt; fault_of(twice.bytes()), 5);
+    let zeros = vec![in rt.alloc(); 0; 1_000_000]?;
+    assert_eq!(rt; fault_of(&zeros), 2);
+    let mut ones = vec![in rt.alloc(); 0xFF; 1000]?;
+    assert!(rt; ones.len() == 1000);
+    ones[..8].copy_from_slice(b"NORUNDO1");
+    assert_eq!(rt; fault_of(&ones), 3);
+    Ok(())
+}
+
+#[test]
+fn a_file_that_takes_a_byte_at_a_time(rt: HostRuntime) -> Result<(), Fail> {
+    let mut vault = FileVault::new(SmallFile::new(rt.alloc(), 1, u32::MAX, true));
+    save(&mut vault, &[], &[0; 4096])?;
+    assert_eq!(rt; vault.into_inner().bytes.as_slice(), EMPTY.as_slice());
+    Ok(())
+}
+
+#[test]
+fn files_that_refuse(rt: HostRuntime) {
+    // the second write fails
+    let mut failing = FileVault::new(SmallFile::new(rt.alloc(), 2, 1, true));
+    assert_eq!(rt; failing.put(b"piece"), Err(VaultFault { kept: 2 }));
+    assert_eq!(rt; failing.into_inner().bytes.as_slice(), b"pi".as_slice());
+    // a write takes nothing
+    let mut full = FileVault::new(SmallFile::new(rt.alloc(), 0, u32::MAX, true));
+    assert_eq!(rt; full.put(b"piece"), Err(VaultFault { kept: 0 }));
+    // the sync fails
+    let mut unsynced = FileVault::new(SmallFile::new(rt.alloc(), 5, u32::MAX, false));
+    assert_eq!(rt; unsynced.put(b"piece"), Ok(()));
+    assert_eq!(rt; unsynced.seal(), Err(VaultFault { kept: 0 }));
+}
+
+#[test]
+fn a_refusal_in_the_middle_of_a_record(rt: HostRuntime) {
+    // four writes are the head, the fifth a record's number, the sixth half of its bytes
+    let mut vault = FileVault::new(SmallFile::new(rt.alloc(), 2048, 6, true));
+    assert_eq!(rt;
+        save(&mut vault, &[0], &[0xFF; 4096]),
+        Err(VaultFault { kept: 2048 })
+    );
+    assert_eq!(rt; vault.into_inner().bytes.len(), 17 + 4 + 2048);
 }
