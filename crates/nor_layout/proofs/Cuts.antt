@@ -2,7 +2,8 @@
 use Rattle.std.proofs.Common.{◌≡◌, ◌≢◌, ℕ, zero, suc, ◌+◌, ◌-◌, ◌<◌, false, eqb, List, [], ◌∷◌, length, get_or, take, drop, Some, None, refl, add-one, arith}
 use Rattle.std.proofs.lemmas.Bool.{eq-eqb, ne_eqb}
 use Rattle.std.proofs.lemmas.List.{take_rest}
-use Rattle.nor_layout.specs.Line.{IsFirst, cut_at}
+use Rattle.nor_layout.specs.Line.{cut_at}
+use Rattle.nor_layout.specs.Steps.{IsFirst}
 
 -- at the place of the first such byte
 cut_at-here : (byte : ℕ) (text : List ℕ) (i : ℕ) → i < length text → get_or text i 0 ≡ byte → ((k : ℕ) → k < i → get_or text k 0 ≢ byte) → cut_at byte text ≡ Some (take i text, drop (suc i) text)

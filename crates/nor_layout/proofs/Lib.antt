@@ -1,9 +1,10 @@
 pub mod Digits
 pub mod Cuts
+pub mod LineLaws
+pub mod Texts
+pub mod TextLaws
+pub mod Unions
 pub mod Spans
 pub mod Sectors
-pub mod Unions
 pub mod Parts
-pub mod Texts
-pub mod LineLaws
-pub mod TextLaws
+pub mod Fills

@@ -4,7 +4,8 @@ use Rattle.std.proofs.lemmas.Bool.{cases_Bool, ltb-true, ltb-false}
 use Rattle.std.proofs.lemmas.Bool.Decides.{nat_tests}
 use Rattle.std.proofs.lemmas.List.{drop_more, at_drop_all}
 use Rattle.nor_layout.specs.declared.ranges.Span.{Span}
-use Rattle.nor_layout.specs.Ranges.{holds, contains, join, IsApartFrom, AreApart}
+use Rattle.nor_layout.specs.Ranges.{holds, contains, IsApartFrom, AreApart}
+use Rattle.nor_layout.specs.Steps.{join}
 
 abbrev is_below : Span → Span → Bool
 is_below a b = ltb (a.last + 1) b.first

@@ -3,7 +3,8 @@ use Rattle.std.proofs.Common.{◌≡◌, ℕ, Bool, true, false, ◌&&◌, ◌||
 use Rattle.std.specs.List.{list_any}
 use Rattle.std.specs.Str.{bytes_eq}
 use Rattle.nor_layout.specs.declared.region.Region.{Region}
-use Rattle.nor_layout.specs.Included.{names_of, has_address, name_includes, is_included, is_listed_address}
+use Rattle.nor_layout.specs.Included.{names_of, has_address, name_includes, is_included}
+use Rattle.nor_layout.specs.Steps.{is_listed_address}
 
 none : {A : Type 0} (xs : List A) → list_any (λ x. false) xs ≡ false
 none [] = refl

@@ -13,10 +13,6 @@ names_of text = slice_split (λ b. b == 44) text
 abbrev pub are_known : List Region → List ℕ → Bool
 are_known regions text = list_all (λ name. is_named regions name) (names_of text)
 
--- the name stands among the names
-abbrev pub is_listed : List ℕ → List ℕ → Bool
-is_listed text name = list_any (λ listed. bytes_eq name listed) (names_of text)
-
 -- a region stands for its addresses, both ends included
 abbrev pub has_address : Region → ℕ → Bool
 has_address region address = nat_le region.start address && nat_le address region.end
@@ -28,7 +24,3 @@ name_includes regions address name = list_any (λ region. bytes_eq region.name.i
 -- the addresses of all regions that are named: their union
 abbrev pub is_included : List Region → List ℕ → ℕ → Bool
 is_included regions text address = list_any (name_includes regions address) (names_of text)
-
--- the same union, taken region by region
-abbrev pub is_listed_address : List Region → List ℕ → ℕ → Bool
-is_listed_address regions text address = list_any (λ region. is_listed text region.name.items && has_address region address) regions

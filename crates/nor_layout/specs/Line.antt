@@ -1,17 +1,11 @@
 -- What one line of a layout text says: its parts, and what they mean.
-use Rattle.std.specs.Prelude.{◌≡◌, ◌≢◌, ◌<◌, ℕ, slice_index, Bool, not, ◌&&◌, ◌==◌, nat_le, nat_lt, if◌then◌else◌, List, [], ◌∷◌, length, Option, Some, None, Result, Ok, Err}
+use Rattle.std.specs.Prelude.{ℕ, Bool, not, ◌&&◌, ◌==◌, nat_le, nat_lt, if◌then◌else◌, List, [], ◌∷◌, length, Option, Some, None, Result, Ok, Err}
 use Rattle.std.specs.Option.{option_map}
 use Rattle.std.specs.List.{list_all}
 use Rattle.nor_layout.specs.declared.region.Region.{Region}
 use Rattle.nor_layout.specs.declared.fault.LineFault.{LineFault}
 use Rattle.nor_layout.specs.declared.fault.LineFault.TheVariants.{Line, Address, Backwards, Name}
 use Rattle.nor_layout.specs.Address.{address_of}
-
--- the first such byte stands at this place
-pub record IsFirst (byte : ℕ) (text : List ℕ) (at : ℕ) : Type 0 where
-  pub within : at < length text
-  pub here : slice_index text at ≡ byte
-  pub before : (k : ℕ) → k < at → slice_index text k ≢ byte
 
 -- what stands before the first such byte, and what stands behind it
 abbrev pub cut_at : ℕ → List ℕ → Option (List ℕ × List ℕ)

@@ -1,15 +1,11 @@
 -- Sets of addresses, as spans.
-use Rattle.std.specs.Prelude.{◌≡◌, ℕ, ◌+◌, ◌/◌, ◌<◌, ◌≤◌, Bool, true, ◌&&◌, nat_le, min, max, List, [], ◌∷◌, length}
+use Rattle.std.specs.Prelude.{◌≡◌, ℕ, ◌+◌, ◌/◌, ◌<◌, ◌≤◌, Bool, true, ◌&&◌, nat_le, List, [], ◌∷◌, length}
 use Rattle.std.specs.List.{list_any}
 use Rattle.nor_layout.specs.declared.ranges.Span.{Span}
 
 -- both ends belong to a span
 abbrev pub holds : Span → ℕ → Bool
 holds span address = nat_le span.first address && nat_le address span.last
-
--- the least span that holds both
-abbrev pub join : Span → Span → Span
-join a b = record { first = min a.first b.first; last = max a.last b.last }
 
 -- whether an address belongs to the set
 abbrev pub contains : List Span → ℕ → Bool

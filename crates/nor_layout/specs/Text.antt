@@ -62,9 +62,3 @@ abbrev pub Reads : Result (List Region) LayoutFault → Result (List Region) Lay
 Reads (Ok regions) said = said ≡ Ok regions
 Reads (Err Memory) said = Unit {0}
 Reads (Err fault) said = said ≡ Err fault
-
--- The regions are those that a line leaves, unless memory was refused.
-abbrev pub Adds : List Region → Result (Unit {0}) LayoutFault → Result (List Region) LayoutFault → Type 0
-Adds regions (Ok x) said = said ≡ Ok regions
-Adds regions (Err Memory) said = Unit {0}
-Adds regions (Err fault) said = said ≡ Err fault

@@ -1,10 +1,11 @@
 //! Layout texts, and the addresses that names of their regions include.
 
 ghost use Rattle.std.specs.Prelude.{◌≡◌, ◌↔◌, ℕ, List, IsTrue, IsOk, IfOk, IfErr};
-ghost use Rattle.nor_layout.specs.Text.{is_named, with_line, layout_says, AreRegions, Reads, Adds};
+ghost use Rattle.nor_layout.specs.Text.{is_named, with_line, layout_says, AreRegions, Reads};
 ghost use Rattle.nor_layout.specs.Grammar.{IsLayout};
-ghost use Rattle.nor_layout.specs.Included.{is_listed, is_listed_address, are_known, is_included};
+ghost use Rattle.nor_layout.specs.Included.{are_known, is_included};
 ghost use Rattle.nor_layout.specs.Ranges.{AreRanges, contains};
+ghost use Rattle.nor_layout.specs.Steps.{Adds, is_listed, is_listed_address};
 
 use crate::fault::{LayoutFault, LineFault};
 use crate::line;

@@ -9,6 +9,7 @@ mod address;
 mod fault;
 mod layout;
 mod line;
+mod merge;
 mod places;
 mod ranges;
 mod region;

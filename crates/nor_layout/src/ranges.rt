@@ -1,9 +1,11 @@
 //! Sets of addresses, as a few sorted spans.
 
-ghost use Rattle.std.specs.Prelude.{◌≡◌, ◌≤◌, ◌<◌, ◌+◌, ◌↔◌, ◌||◌, ℕ, IsTrue, length, nat_lt, []};
-ghost use Rattle.nor_layout.specs.Ranges.{holds, contains, join, AreApart, AreRanges, HoldsInSector, HoldsFrom};
+ghost use Rattle.std.specs.Prelude.{◌≡◌, ◌≤◌, ◌<◌, ◌+◌, ◌↔◌, ◌||◌, ◌*◌, ℕ, IsTrue, length, nat_lt, [], slice_index, if◌then◌else◌};
+ghost use Rattle.nor_layout.specs.Ranges.{holds, contains, AreApart, AreRanges, HoldsInSector, HoldsFrom};
 ghost use Rattle.nor_layout.specs.Places.{AreIncludedIn, places_left};
+ghost use Rattle.nor_layout.specs.Steps.{join};
 
+use crate::merge::fill_around;
 use crate::places::{PlacesIn, SECTOR};
 use crate::region::REGIONS;
 use arrayvec::ArrayVec;
@@ -142,5 +144,17 @@ impl Ranges {
         ensures { AreIncludedIn self.now sector (places_left result) }
     {
         PlacesIn::new(self.spans(), sector)
+    }
+
+    /// Takes over the bytes of a sector that don't belong to the set from another copy of it.
+    ///
+    /// Both copies have 4,096 bytes, and `bytes` keeps those at addresses of the set.
+    pub fn fill_excluded(&self, sector: u32, bytes: &mut [u8], other: &[u8])
+        requires long { length bytes.old ≡ 4096 }
+        requires other_long { length other.now ≡ 4096 }
+        ensures { (at : ℕ) → at < 4096 → slice_index bytes.new at
+            ≡ (if contains self.now (4096 * sector + at) then slice_index bytes.old at else slice_index other.now at) }
+    {
+        fill_around(self.places_in(sector), bytes, other)
     }
 }

@@ -1,6 +1,6 @@
 use Rattle.std.proofs.Common.{◌≡◌, ◌≤◌, ℕ, length, take}
 use Rattle.nor_layout.specs.Ranges.{AreRanges, contains}
-use Rattle.nor_layout.specs.Included.{is_listed_address}
+use Rattle.nor_layout.specs.Steps.{is_listed_address}
 use Rattle.nor_layout.proofs.layout.listed_ranges.Given as goal
 
 -- the addresses of the regions so far, one span a region at most

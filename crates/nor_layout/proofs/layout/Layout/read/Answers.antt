@@ -3,7 +3,8 @@ use Rattle.std.proofs.lemmas.Iterator.Consumers.{YieldsList-at, YieldsList-turn,
 use Rattle.std.proofs.lemmas.Iterator.Splits.{YieldsList-from_slice_split}
 use Rattle.std.proofs.lemmas.List.{length_push}
 use Rattle.std.proofs.lemmas.Result.{err_from_is_err_and}
-use Rattle.nor_layout.specs.Text.{lines_of, with_line, layout_says, Adds, Reads}
+use Rattle.nor_layout.specs.Text.{lines_of, with_line, layout_says, Reads}
+use Rattle.nor_layout.specs.Steps.{Adds}
 use Rattle.nor_layout.proofs.Texts.{with_line-keeps, length-lines_of, lines_say-more, lines_say-fault, lines_say-all, no_lines, no_regions}
 use Rattle.nor_layout.proofs.TextLaws.{layout_says-found, reads_taken}
 use Rattle.nor_layout.proofs.layout.Layout.read.Goals as goal

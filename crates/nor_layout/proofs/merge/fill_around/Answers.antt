@@ -1,0 +1,35 @@
+use Rattle.std.proofs.Common.{◌≡◌, ℕ, ◌<◌, ◌≤◌, ◌||◌, ◌∷◌, true, false, sym, ◌∙◌, inl, inr, arith}
+use Rattle.std.proofs.lemmas.Bool.{cases_lt, or_from, or_left}
+use Rattle.nor_layout.specs.Places.{covers, is_covered, AreRisingFrom, places_left}
+use Rattle.nor_layout.proofs.Fills.{is_covered-below, covers-inside, covers-below, covers-above}
+use Rattle.nor_layout.proofs.merge.fill_around.Goals as goal
+
+pub loop-part-preserved : goal.loop-part-preserved
+loop-part-preserved c =
+    let part = c.in-Some.part in
+    let more = places_left c.next.new.self in
+    let all = places_left c.args.places in
+    let done = c.loop-part.done in
+    let kept = c.loop-part.invariant in
+    let steps : places_left c.loop-part.part-iterator ≡ part ∷ more = c.in-Some.ensures.steps in
+    let rising : AreRisingFrom done (part ∷ more) = rw steps at kept.rising in
+    let left : (at : ℕ) → done ≤ at → (covers part at || is_covered more at) ≡ is_covered all at = λ at le. rw steps at (kept.left at le) in
+    record {
+      reached = rising.2;
+      rising = rising.3;
+      left = λ at le.
+          let past : covers part at ≡ false = covers-above part at le in
+          rw past at (left at (omega (arith, le, rising.0, rising.1)));
+      filled = λ at lt. elim (cases_lt at done) [
+        | inl old ↦ c.copy_part.ensures.below at old ∙ kept.filled at old
+        | inr new ↦ elim (cases_lt at part.start) [
+            | inl between ↦
+                let none : is_covered all at ≡ false = sym (left at new) ∙ or_from _ _ (covers-below part at between) (is_covered-below part.end more at rising.3 (omega (arith, between, rising.1))) in
+                rw none (c.copy_part.ensures.part at new between)
+            | inr inside ↦
+                let some : is_covered all at ≡ true = sym (left at new) ∙ or_left _ _ (covers-inside part at inside lt) in
+                rw some (c.copy_part.ensures.above at inside ∙ kept.others at new)
+          ]
+      ];
+      others = λ at le. c.copy_part.ensures.above at (omega (arith, le, rising.1)) ∙ kept.others at (omega (arith, le, rising.0, rising.1));
+    }

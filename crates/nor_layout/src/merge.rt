@@ -1,0 +1,34 @@
+//! Bytes of a sector from two copies of it: some places keep theirs, and the others take those of the second.
+
+ghost use Rattle.std.specs.Prelude.{◌≡◌, ◌<◌, ◌≤◌, ℕ, length, slice_index, if◌then◌else◌};
+ghost use Rattle.nor_layout.specs.Places.{is_covered, AreRisingFrom, places_left};
+
+use crate::places::PlacesIn;
+
+/// Copies the bytes at the places from `start` on, up to the one before `end`.
+fn copy_part(to: &mut [u8], from: &[u8], start: usize, end: usize)
+    requires forward { start ≤ end }
+    requires to_fits { end ≤ length to.old }
+    requires from_fits { end ≤ length from.now }
+    ensures part { (at : ℕ) → start ≤ at → at < end → slice_index to.new at ≡ slice_index from.now at }
+    ensures below { (at : ℕ) → at < start → slice_index to.new at ≡ slice_index to.old at }
+    ensures above { (at : ℕ) → end ≤ at → slice_index to.new at ≡ slice_index to.old at }
+{
+    to[start..end].copy_from_slice(&from[start..end]);
+}
+
+/// Takes over the bytes of a sector that stand at none of the places.
+pub(crate) fn fill_around(places: PlacesIn<'_>, bytes: &mut [u8], other: &[u8])
+    requires long { length bytes.old ≡ 4096 }
+    requires other_long { length other.now ≡ 4096 }
+    requires rising { AreRisingFrom 0 (places_left places) }
+    ensures { (at : ℕ) → at < 4096 → slice_index bytes.new at
+        ≡ (if is_covered (places_left places.entry) at then slice_index bytes.old at else slice_index other.now at) }
+{
+    let mut done = 0;
+    for part in places {
+        copy_part(bytes, other, done, part.start);
+        done = part.end;
+    }
+    copy_part(bytes, other, done, other.len());
+}
