@@ -1,8 +1,10 @@
 -- Guarded places lie at the chip's ends and end at whole KiB; the complement guards exactly the others.
 use Rattle.std.proofs.Common.{◌≡◌, ◌≢◌, ℕ, zero, suc, ◌+◌, ◌-◌, ◌/◌, ◌%◌, ◌^◌, ◌<◌, ◌≤◌, ◌⊎◌, inl, inr, arith, refl, sym, ◌∙◌, ap}
 use Rattle.std.specs.Prelude.{Bool, true, false, not, ◌==◌, ◌&&◌, ◌||◌, ◌↔◌, nat_lt, nat_le, if◌then◌else◌}
-use Rattle.std.proofs.lemmas.Bool.{cases_lt, lt-ltb, le-ltb, le-leb, lt-leb, ltb-true, leb-true, eqb-false, or_cases}
+use Rattle.std.proofs.lemmas.Bool.{cases_lt, lt-ltb, le-ltb, le-leb, lt-leb, ltb-true, leb-true, eqb-false, eqb-true, or_cases, and_parts, and_from}
 use Rattle.std.proofs.Math.Bool.{or-true}
+use Rattle.nor_chip.specs.Size.{is_chip_size}
+use Rattle.nor_chip.specs.Offer.{GuardsExactly}
 use Rattle.nor_chip.specs.Chip.{Chip}
 use Rattle.nor_chip.specs.Guard.{guarded_by, named_length, is_undefined, is_complement, is_bottom, is_sector, bp_of, code_of, is_guarded, is_unit_guarded}
 
@@ -183,3 +185,71 @@ guarded_by-complement size code a plain defined below =
     let set : (code + 32) / 32 % 2 ≡ 1 = omega arith in
     let clear : code / 32 % 2 ≡ 0 = omega arith in
     rw (bp, bottom, sector, set, clear, defined, lt-ltb a size below) refl
+
+-- a size that a chip may have is in whole blocks
+pub record IsInBlocks (size : ℕ) : Type 0 where
+  pub large : 65536 ≤ size
+  pub small : size ≤ 16777216
+  pub blocks : size % 65536 ≡ 0
+
+in_blocks_at : (size n : ℕ) → size ≡ n → 65536 ≤ n → n ≤ 16777216 → n % 65536 ≡ 0 → IsInBlocks size
+in_blocks_at size n same large small blocks = record { large = omega arith; small = omega arith; blocks = ap (λ k. k % 65536) same ∙ blocks }
+
+in_blocks_or : (size n : ℕ) (others : Bool) → (others ≡ true → IsInBlocks size) → 65536 ≤ n → n ≤ 16777216 → n % 65536 ≡ 0 → (others || (size == n)) ≡ true → IsInBlocks size
+in_blocks_or size n others known large small blocks holds =
+    elim (or_cases others (size == n) holds) [ inl other ↦ known other | inr here ↦ in_blocks_at size n (eqb-true size n here) large small blocks ]
+
+pub is_chip_size-in_blocks : (size : ℕ) → is_chip_size size ≡ true → IsInBlocks size
+is_chip_size-in_blocks size =
+    in_blocks_or size 16777216 _ (in_blocks_or size 8388608 _ (in_blocks_or size 4194304 _ (in_blocks_or size 2097152 _
+    (in_blocks_or size 1048576 _ (in_blocks_or size 524288 _ (in_blocks_or size 262144 _ (in_blocks_or size 131072 _
+    (λ first. in_blocks_at size 65536 (eqb-true size 65536 first) (omega arith) (omega arith) refl)
+    (omega arith) (omega arith) refl) (omega arith) (omega arith) refl) (omega arith) (omega arith) refl) (omega arith) (omega arith) refl)
+    (omega arith) (omega arith) refl) (omega arith) (omega arith) refl) (omega arith) (omega arith) refl) (omega arith) (omega arith) refl
+
+-- the first places, and the last ones
+first_places : (size n a : ℕ) → n ≤ size → ((nat_lt a size && nat_lt a n) ≡ true) ↔ (a < n)
+first_places size n a within = (
+  (λ holds. ltb-true a n (and_parts (nat_lt a size) (nat_lt a n) holds).1),
+  (λ below. and_from (nat_lt a size) (nat_lt a n) (lt-ltb a size (omega arith)) (lt-ltb a n below)),
+)
+
+last_places : (size n a : ℕ) → ((nat_lt a size && nat_le n a) ≡ true) ↔ ((n ≤ a) × (a < size))
+last_places size n a = (
+  (λ holds. let parts = and_parts (nat_lt a size) (nat_le n a) holds in (leb-true n a parts.1, ltb-true a size parts.0)),
+  (λ (from, below). and_from (nat_lt a size) (nat_le n a) (lt-ltb a size below) (le-leb n a from)),
+)
+
+-- the places that a defined code guards, as a start and a length
+pub record ArePlaces (size named : ℕ) (complement bottom : Bool) (start len : ℕ) : Type 0 where
+  pub len_is : len ≡ (if complement then size - named else named)
+  pub start_is : 0 < len → start ≡ (if complement then (if bottom then size - len else 0) else (if bottom then 0 else size - len))
+
+place_test-exactly : (size named : ℕ) (complement bottom : Bool) (start len : ℕ) → named ≤ size → ArePlaces size named complement bottom start len → (a : ℕ) → (place_test size named false complement bottom a ≡ true) ↔ ((start ≤ a) × (a < start + len))
+unfolding place_test
+place_test-exactly size named false true start len within places a =
+    let fits = first_places size named a within in let len_is = places.len_is in let start_is = places.start_is in (
+      (λ holds. let below = fits.0 holds in (omega arith, omega arith)),
+      (λ (from, before). fits.1 (omega arith)),
+    )
+place_test-exactly size named false false start len within places a =
+    let fits = last_places size (size - named) a in let len_is = places.len_is in let start_is = places.start_is in (
+      (λ holds. let there = fits.0 holds in let from = there.0 in let below = there.1 in (omega arith, omega arith)),
+      (λ (from, before). fits.1 (omega arith, omega arith)),
+    )
+place_test-exactly size named true true start len within places a =
+    let fits = last_places size named a in let len_is = places.len_is in let start_is = places.start_is in rw (not_lt a named) (
+      (λ holds. let there = fits.0 holds in let from = there.0 in let below = there.1 in (omega arith, omega arith)),
+      (λ (from, before). fits.1 (omega arith, omega arith)),
+    )
+place_test-exactly size named true false start len within places a =
+    let fits = first_places size (size - named) a (omega arith) in let len_is = places.len_is in let start_is = places.start_is in rw (not_le a (size - named)) (
+      (λ holds. let below = fits.0 holds in (omega arith, omega arith)),
+      (λ (from, before). fits.1 (omega arith)),
+    )
+
+-- The places of a defined code, as a start and a length.
+pub guards_places : (size code start len : ℕ) → IsInBlocks size → is_undefined code ≡ false → ArePlaces size (named_length size code) (is_complement code) (is_bottom code) start len → GuardsExactly size code start len
+unfolding guarded_by place_test
+guards_places size code start len in_blocks defined places a =
+    rw defined (place_test-exactly size (named_length size code) (is_complement code) (is_bottom code) start len (named_length-part size code in_blocks.large in_blocks.blocks).within places a)

@@ -1,4 +1,6 @@
 pub mod Aim
 pub mod GuardedPlaces
+pub mod LeastCodes
 pub mod Page
 pub mod Round
+pub mod Stretches

@@ -9,3 +9,8 @@ pub mod Aim
 pub mod Flash
 pub mod Sim
 pub mod Start
+pub mod Makers
+pub mod Code
+pub mod Status
+pub mod Offer
+pub mod Offered

@@ -1,5 +1,5 @@
 //! What never changes of a chip.
-ghost use Rattle.std.specs.Prelude.{◌≡◌, ◌≤◌, ◌%◌, IsTrue};
+ghost use Rattle.std.specs.Prelude.{◌≡◌, ◌≤◌, ◌%◌, ◌-◌, ◌++◌, ◌↔◌, true, length, replicate, IsTrue, IsSome, IfSome};
 ghost use Rattle.nor_chip.specs.Size.{is_chip_size};
 
 /// The bytes of a sector, the smallest unit that an erase clears.
@@ -16,6 +16,31 @@ pub const TINY64_SFDP: [u8; 52] = [
     0x00, 0x00, 0x00, 0x00, 0x00, 0x00, 0x00, 0x00, 0x00, 0x00, //
     0x0C, 0x20, 0x0F, 0x52, // 8: erases of 4 KiB and 32 KiB
     0x10, 0xD8, 0x00, 0x00, // 9: erases of 64 KiB
+];
+
+/// Those of the emulated `W25Q64FV`, which differ in the size. They are this project's own too, and not the
+/// vendor's.
+pub const W25Q64FV_SFDP: [u8; 52] = [
+    0x53, 0x46, 0x44, 0x50, 0x00, 0x01, 0x00, 0xFF, //
+    0x00, 0x00, 0x01, 0x09, 0x10, 0x00, 0x00, 0xFF, //
+    0x05, 0x20, 0x00, 0x00, //
+    0xFF, 0xFF, 0xFF, 0x03, // 64 Mbit, minus one
+    0x00, 0x00, 0x00, 0x00, 0x00, 0x00, 0x00, 0x00, 0x00, 0x00, //
+    0x00, 0x00, 0x00, 0x00, 0x00, 0x00, 0x00, 0x00, 0x00, 0x00, //
+    0x0C, 0x20, 0x0F, 0x52, //
+    0x10, 0xD8, 0x00, 0x00, //
+];
+
+/// Those of the emulated `W25Q128FV`, likewise.
+pub const W25Q128FV_SFDP: [u8; 52] = [
+    0x53, 0x46, 0x44, 0x50, 0x00, 0x01, 0x00, 0xFF, //
+    0x00, 0x00, 0x01, 0x09, 0x10, 0x00, 0x00, 0xFF, //
+    0x05, 0x20, 0x00, 0x00, //
+    0xFF, 0xFF, 0xFF, 0x07, // 128 Mbit, minus one
+    0x00, 0x00, 0x00, 0x00, 0x00, 0x00, 0x00, 0x00, 0x00, 0x00, //
+    0x00, 0x00, 0x00, 0x00, 0x00, 0x00, 0x00, 0x00, 0x00, 0x00, //
+    0x0C, 0x20, 0x0F, 0x52, //
+    0x10, 0xD8, 0x00, 0x00, //
 ];
 
 /// A chip's configuration: its ID as 9Fh replies, its size in bytes, which erases it has beside those of
@@ -36,21 +61,107 @@ pub struct Config {
 
 impl Config {
     ghost use Rattle.nor_chip.specs.Chip.{IsTiny64};
+    ghost use Rattle.nor_chip.specs.Makers.{IsMade, IsW25q64fv, IsW25q128fv};
+
+    /// A chip of one's own, whose SFDP bytes are `sfdp` from address 0 on. There is none where the size isn't a
+    /// power of two from 65,536 to 16,777,216, or the SFDP bytes are more than 256. It takes no memory.
+    pub fn new(
+        id: [u8; 3],
+        size: u32,
+        k32: bool,
+        k64: bool,
+        scheme: bool,
+        sfdp: &[u8],
+    ) -> Option<Config>
+        ensures allowed { IsSome result ↔ ((is_chip_size size ≡ true) × (length sfdp.now ≤ 256)) }
+        ensures made { IfSome result (IsMade id size k32 k64 scheme sfdp.now) }
+    {
+        if !is_chip_size(size) || sfdp.len() > 256 {
+            return None;
+        }
+        Some(Config {
+            id,
+            size,
+            k32,
+            k64,
+            scheme,
+            sfdp: padded(sfdp),
+        })
+    }
 
     /// The emulated chip `TINY64`: 64 KiB, ID `FE 10 10`, all erase kinds, no protection, known by its SFDP
     /// alone.
     pub fn tiny64() -> Config
         ensures { IsTiny64 result }
     {
-        let mut sfdp = [0xFF; 256];
-        sfdp[..52].copy_from_slice(&TINY64_SFDP);
         Config {
             id: [0xFE, 0x10, 0x10],
             size: 65536,
             k32: true,
             k64: true,
             scheme: false,
-            sfdp,
+            sfdp: padded(&TINY64_SFDP),
         }
     }
+
+    /// The emulated chip `W25Q64FV`: 8 MiB, ID `EF 40 17`, all erase kinds, with block protection. (Winbond
+    /// W25Q64FV datasheet.)
+    pub fn w25q64fv() -> Config
+        ensures { IsW25q64fv result }
+    {
+        Config {
+            id: [0xEF, 0x40, 0x17],
+            size: 8388608,
+            k32: true,
+            k64: true,
+            scheme: true,
+            sfdp: padded(&W25Q64FV_SFDP),
+        }
+    }
+
+    /// The emulated chip `W25Q128FV`: 16 MiB, ID `EF 40 18`, all erase kinds, with block protection. (Winbond
+    /// W25Q128FV datasheet.)
+    pub fn w25q128fv() -> Config
+        ensures { IsW25q128fv result }
+    {
+        Config {
+            id: [0xEF, 0x40, 0x18],
+            size: 16777216,
+            k32: true,
+            k64: true,
+            scheme: true,
+            sfdp: padded(&W25Q128FV_SFDP),
+        }
+    }
+}
+
+// A power of two that three address bytes reach, from 64 KiB on.
+fn is_chip_size(size: u32) -> bool
+    ensures value { result ≡ is_chip_size size }
+    ensures at_least { result ≡ true → 65536 ≤ size }
+    ensures at_most { result ≡ true → size ≤ 16777216 }
+    ensures in_blocks { result ≡ true → size % 65536 ≡ 0 }
+{
+    matches!(
+        size,
+        0x1_0000
+            | 0x2_0000
+            | 0x4_0000
+            | 0x8_0000
+            | 0x10_0000
+            | 0x20_0000
+            | 0x40_0000
+            | 0x80_0000
+            | 0x100_0000
+    )
+}
+
+// The SFDP bytes with FFh behind them.
+fn padded(sfdp: &[u8]) -> [u8; 256]
+    requires { length sfdp.now ≤ 256 }
+    ensures { result ≡ sfdp.now ++ replicate (256 - length sfdp.now) 255 }
+{
+    let mut bytes = [0xFF; 256];
+    bytes[..sfdp.len()].copy_from_slice(sfdp);
+    bytes
 }

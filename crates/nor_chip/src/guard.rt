@@ -1,15 +1,63 @@
-//! Which places the block protection bits keep from programs and erases.
-ghost use Rattle.std.specs.Prelude.{◌≡◌, ◌≤◌, ◌<◌};
-ghost use Rattle.nor_chip.specs.Guard.{guarded_by, is_named, named_length};
+//! Which places the block protection bits keep from programs and erases. (W25Q64FV and W25Q128FV datasheets,
+//! status register memory protection.)
+ghost use Rattle.std.specs.Prelude.{◌≡◌, ◌≤◌, ◌<◌, ◌+◌, ◌-◌, ◌%◌, ◌==◌, ◌||◌, ◌↔◌, ℕ, true, false, if◌then◌else◌, IsTrue, IfSome, IfNone};
+ghost use Rattle.nor_chip.specs.Size.{is_chip_size};
+ghost use Rattle.nor_chip.specs.Code.{code_in};
+ghost use Rattle.nor_chip.specs.Guard.{guarded_by, is_named, named_length, is_bottom, is_sector, is_complement, is_undefined};
+ghost use Rattle.nor_chip.specs.Offer.{GuardsExactly, IsLeastCode, IsNotOffered};
+ghost use Rattle.nor_chip.specs.Offered.{IsStart};
 
-/// How many bytes at an end of the chip a protection code names.
+use crate::Status;
+use walk::Offered;
+
+pub(crate) mod walk;
+
+/// Codes of six bits: CMP, SEC, TB, BP2, BP1, BP0 from the high end.
+const CODES: u8 = 64;
+
+/// Places of a chip: so many from `start` on.
+#[derive(Clone, Copy, Debug, PartialEq, Eq)]
+pub struct Places {
+    pub start: u32,
+    pub len: u32,
+}
+
+// The first places of the chip are named, not the last ones.
+fn is_bottom(code: u8) -> bool
+    ensures { result ≡ is_bottom code }
+{
+    code / 8 % 2 == 1
+}
+
+// BP counts sectors, not blocks.
+fn is_sector(code: u8) -> bool
+    ensures { result ≡ is_sector code }
+{
+    code / 16 % 2 == 1
+}
+
+// The places that aren't named are guarded.
+fn is_complement(code: u8) -> bool
+    ensures { result ≡ is_complement code }
+{
+    code / 32 % 2 == 1
+}
+
+// The datasheets don't define the code.
+fn is_undefined(code: u8) -> bool
+    ensures { result ≡ is_undefined code }
+{
+    is_sector(code) && code % 8 == 6
+}
+
+// How many bytes at an end of the chip the code names.
 fn named_length(size: u32, code: u8) -> u32
     ensures { result ≡ named_length size code }
 {
     match code % 8 {
         0 => 0,
         7 => size,
-        bp if code / 16 % 2 == 1 => match bp {
+        bp if is_sector(code) => match bp {
             1 => 4096,
             2 => 8192,
             3 => 16384,
@@ -19,29 +67,120 @@ fn named_length(size: u32, code: u8) -> u32
     }
 }
 
-/// The code names this place.
+// The code names this place.
 fn is_named(size: u32, code: u8, at: u32) -> bool
     requires { 65536 ≤ size }
     ensures { result ≡ is_named size code at }
 {
     let length = named_length(size, code);
-    if code / 8 % 2 == 1 {
+    if is_bottom(code) {
         at < length
     } else {
         at >= size - length
     }
 }
 
-/// The code guards this place of a chip of this size: where it isn't defined, all places.
+/// The code guards this place of a chip of this size: where it isn't defined, every place.
 #[tactic(auto, unfolding(crate::specs::Guard::guarded_by))]
 pub(crate) fn is_guarded(size: u32, code: u8, at: u32) -> bool
     requires { 65536 ≤ size }
     ensures { result ≡ guarded_by size code at }
 {
-    if at >= size {
-        return false;
+    at < size && (is_undefined(code) || is_named(size, code, at) != is_complement(code))
+}
+
+/// These two status bytes guard this place of a chip of this size with block protection. `size` is one that a
+/// chip may have; from there on no place is guarded.
+pub fn protected(status: [u8; 2], size: u32, at: u32) -> bool
+    requires { IsTrue (is_chip_size size) }
+    ensures { result ≡ guarded_by size (code_in status) at }
+{
+    is_guarded(size, Status::of(status).code(), at)
+}
+
+// How many places a defined code guards.
+fn guarded_length(size: u32, code: u8) -> u32
+    requires { 65536 ≤ size }
+    ensures { result ≡ (if is_complement code then size - named_length size code else named_length size code) }
+{
+    let named = named_length(size, code);
+    if is_complement(code) {
+        size - named
+    } else {
+        named
     }
-    let is_undefined = code / 16 % 2 == 1 && code % 8 == 6;
-    let is_complement = code / 32 % 2 == 1;
-    is_undefined || is_named(size, code, at) != is_complement
+}
+
+// Where so many places start that are the first or the last ones of the chip; none start at 0.
+fn start_of(size: u32, len: u32, is_first: bool) -> u32
+    requires { len ≤ size }
+    ensures { result ≡ (if is_first || len == 0 then 0 else size - len) }
+{
+    if is_first || len == 0 { 0 } else { size - len }
+}
+
+// The places that a defined code guards.
+fn places_of(size: u32, code: u8) -> Places
+    requires sized { IsTrue (is_chip_size size) }
+    requires defined { is_undefined code ≡ false }
+    ensures guards { GuardsExactly size code result.start result.len }
+    ensures plain { result.len ≡ 0 → result.start ≡ 0 }
+{
+    let len = guarded_length(size, code);
+    let start = start_of(size, len, is_bottom(code) != is_complement(code));
+    Places { start, len }
+}
+
+// A defined code guards exactly so many places from `start` on.
+fn guards_exactly(size: u32, code: u8, start: u32, len: u32) -> bool
+    requires sized { IsTrue (is_chip_size size) }
+    requires defined { is_undefined code ≡ false }
+    ensures { (result ≡ true) ↔ GuardsExactly size code start len }
+{
+    let places = places_of(size, code);
+    places.len == len && (len == 0 || places.start == start)
+}
+
+/// The least defined protection code that guards exactly so many places from `start` on, of a chip of this size:
+/// its bits are CMP, SEC, TB, BP2, BP1 and BP0 from the high end. None where no defined code does. `size` is one
+/// that a chip may have. It takes no memory.
+pub fn code_for(start: u32, len: u32, size: u32) -> Option<u8>
+    requires { IsTrue (is_chip_size size) }
+    ensures least { IfSome result (IsLeastCode size start len) }
+    ensures none { IfNone result (IsNotOffered size start len) }
+{
+    for code in 0..CODES {
+        if !is_undefined(code) && guards_exactly(size, code, start, len) {
+            return Some(code);
+        }
+    }
+    None
+}
+
+// The places that a defined code guards, where no lesser one guards the same.
+fn least_at(size: u32, code: u8) -> Option<Places>
+    requires sized { IsTrue (is_chip_size size) }
+    requires six_bits { code < 64 }
+    ensures least { IfSome result (λ places. IsLeastCode size places.start places.len code) }
+    ensures plain { IfSome result (λ places. places.len ≡ 0 → places.start ≡ 0) }
+    ensures none { IfNone result ((start len : ℕ) → ¬ IsLeastCode size start len code) }
+{
+    if is_undefined(code) {
+        return None;
+    }
+    let places = places_of(size, code);
+    if code_for(places.start, places.len, size) == Some(code) {
+        Some(places)
+    } else {
+        None
+    }
+}
+
+/// The guarded sets that some defined code gives on a chip of this size, each once, in the order of their least
+/// codes. The empty set starts at 0. `size` is one that a chip may have. It takes no memory.
+pub fn offered(size: u32) -> Offered
+    requires { IsTrue (is_chip_size size) }
+    ensures { IsStart size result }
+{
+    Offered::start(size)
 }

@@ -9,8 +9,14 @@ mod command;
 mod config;
 mod guard;
 mod sim;
+mod status;
+mod trace;
 
 pub use bus::{Bus, Meter, Stopped};
 pub use command::{Command, is_changing};
-pub use config::{Config, SECTOR_LEN, TINY64_SFDP};
+pub use config::{Config, SECTOR_LEN, TINY64_SFDP, W25Q64FV_SFDP, W25Q128FV_SFDP};
+pub use guard::walk::Offered;
+pub use guard::{Places, code_for, offered, protected};
 pub use sim::{Delays, SimBus, WrongLength};
+pub use status::{Status, Status1, Status2};
+pub use trace::TraceBus;

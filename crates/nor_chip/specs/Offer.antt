@@ -1,0 +1,22 @@
+-- Which sets of places the protection codes offer, and by which code a set is asked for.
+use Rattle.std.specs.Prelude.{◌≡◌, ◌<◌, ◌≤◌, ◌+◌, ◌↔◌, ℕ, true, false}
+use Rattle.nor_chip.specs.Guard.{guarded_by, is_undefined}
+
+-- a code guards exactly so many places from `start` on
+abbrev pub GuardsExactly : ℕ → ℕ → ℕ → ℕ → Type 0
+GuardsExactly size code start len = (a : ℕ) → (guarded_by size code a ≡ true) ↔ ((start ≤ a) × (a < start + len))
+
+-- the datasheets define the code
+pub record IsDefined (code : ℕ) : Type 0 where
+  pub six_bits : code < 64
+  pub defined : is_undefined code ≡ false
+
+-- The least defined code that guards exactly these places.
+pub record IsLeastCode (size start len code : ℕ) : Type 0 where
+  pub defined : IsDefined code
+  pub guards : GuardsExactly size code start len
+  pub least : (lower : ℕ) → lower < code → IsDefined lower → ¬ GuardsExactly size lower start len
+
+-- No defined code guards exactly these places.
+abbrev pub IsNotOffered : ℕ → ℕ → ℕ → Type 0
+IsNotOffered size start len = (code : ℕ) → IsDefined code → ¬ GuardsExactly size code start len
