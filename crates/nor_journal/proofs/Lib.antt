@@ -6,3 +6,4 @@ pub mod OneForm
 pub mod Writes
 pub mod Saved
 pub mod KnownBytes
+pub mod OneFault

@@ -67,7 +67,7 @@ records_text-cons : (s : SavedSector) (ss : List SavedSector) → records_text (
 unfolding records_text
 records_text-cons s ss = refl
 
-records_text-nil : records_text [] ≡ []
+pub records_text-nil : records_text [] ≡ []
 unfolding records_text
 records_text-nil = refl
 
@@ -77,10 +77,10 @@ AreSectors [] = Unit {0}
 AreSectors (s ∷ ss) = IsSector s × AreSectors ss
 
 -- The second list goes on where the first one ends.
-record GoesOn (ss ts : List SavedSector) (x y : List ℕ) : Type 0 where
-  more : List SavedSector
-  list : ts ≡ ss ++ more
-  text : x ≡ records_text more ++ y
+pub record GoesOn (ss ts : List SavedSector) (x y : List ℕ) : Type 0 where
+  pub more : List SavedSector
+  pub list : ts ≡ ss ++ more
+  pub text : x ≡ records_text more ++ y
 
 -- of two lists of records at the front of the same bytes one goes on where the other ends
 one_goes_on : (ss ts : List SavedSector) (x y : List ℕ) → AreSectors ss → AreSectors ts → records_text ss ++ x ≡ records_text ts ++ y → GoesOn ss ts x y ⊎ GoesOn ts ss y x
@@ -100,7 +100,7 @@ sectors_are sectors least [] few rising = tt
 sectors_are sectors least (s ∷ ss) few rising =
     (record { number = omega (arith, rising.0.place); whole = rising.0.whole }, sectors_are sectors (s.number + 1) ss few rising.2)
 
-few_sectors : (size : ℕ) → IsChipSize size → size / 4096 ≤ 4096
+pub few_sectors : (size : ℕ) → IsChipSize size → size / 4096 ≤ 4096
 few_sectors size is = omega (arith, is.most)
 
 saved_are : (c : Content) → IsContent c → AreSectors c.saved
@@ -113,10 +113,10 @@ unfolding head
 length-head c is =
     omega (arith, length-append ((codes "NORUNDO1" ++ c.id) ++ c.status) (number_text c.size), length-append (codes "NORUNDO1" ++ c.id) c.status, length-append (codes "NORUNDO1") c.id, length-number_text c.size, is.id, is.status)
 
-record SameHead (c d : Content) : Type 0 where
-  id : c.id ≡ d.id
-  status : c.status ≡ d.status
-  size : c.size ≡ d.size
+pub record SameHead (c d : Content) : Type 0 where
+  pub id : c.id ≡ d.id
+  pub status : c.status ≡ d.status
+  pub size : c.size ≡ d.size
 
 same_heads : (c d : Content) (x y : List ℕ) → IsContent c → IsContent d → head c ++ x ≡ head d ++ y → SameHead c d × (x ≡ y)
 unfolding head
@@ -134,7 +134,7 @@ same_heads c d x y c-is d-is e =
       whole.1,
     )
 
-front_opened : (c : Content) (x : List ℕ) → front c ++ x ≡ head c ++ (records_text c.saved ++ x)
+pub front_opened : (c : Content) (x : List ℕ) → front c ++ x ≡ head c ++ (records_text c.saved ++ x)
 unfolding front
 front_opened c x = append_assoc (head c) (records_text c.saved) x
 
@@ -142,7 +142,7 @@ text_opened : (c : Content) → text c ≡ front c ++ (end_mark ++ sha256 (body 
 unfolding text body
 text_opened c = append_assoc (front c) end_mark (sha256 (front c ++ end_mark))
 
-same_fronts : (c d : Content) (x y : List ℕ) → IsContent c → IsContent d → front c ++ x ≡ front d ++ y → SameHead c d × (GoesOn c.saved d.saved x y ⊎ GoesOn d.saved c.saved y x)
+pub same_fronts : (c d : Content) (x y : List ℕ) → IsContent c → IsContent d → front c ++ x ≡ front d ++ y → SameHead c d × (GoesOn c.saved d.saved x y ⊎ GoesOn d.saved c.saved y x)
 same_fronts c d x y c-is d-is e =
     let heads = same_heads c d (records_text c.saved ++ x) (records_text d.saved ++ y) c-is d-is (sym (front_opened c x) ∙ e ∙ front_opened d y) in
     (heads.0, one_goes_on c.saved d.saved x y (saved_are c c-is) (saved_are d d-is) heads.1)
@@ -150,7 +150,7 @@ same_fronts c d x y c-is d-is e =
 same_fields : (i i' t t' : List ℕ) (n n' : ℕ) (s s' : List SavedSector) → i ≡ i' → t ≡ t' → n ≡ n' → s ≡ s' → (let c : Content = record { id = i; status = t; size = n; saved = s } in c) ≡ record { id = i'; status = t'; size = n'; saved = s' }
 same_fields i i' t t' n n' s s' p q r e = rw (p, q, r, e) refl
 
-same_content : (c d : Content) → SameHead c d → c.saved ≡ d.saved → c ≡ d
+pub same_content : (c d : Content) → SameHead c d → c.saved ≡ d.saved → c ≡ d
 same_content c d same e = same_fields c.id d.id c.status d.status c.size d.size c.saved d.saved same.id same.status same.size e
 
 -- ---- what follows is without fault
@@ -198,7 +198,7 @@ least_after-append : (least : ℕ) (ss ts : List SavedSector) → least_after le
 least_after-append least [] ts = refl
 least_after-append least (s ∷ ss) ts = least_after-append (s.number + 1) ss ts
 
-AreRising-behind : (sectors least : ℕ) (ss ts : List SavedSector) → AreRising sectors least (ss ++ ts) → AreRising sectors (least_after least ss) ts
+pub AreRising-behind : (sectors least : ℕ) (ss ts : List SavedSector) → AreRising sectors least (ss ++ ts) → AreRising sectors (least_after least ss) ts
 AreRising-behind sectors least [] ts rising = rising
 AreRising-behind sectors least (s ∷ ss) ts rising = AreRising-behind sectors (s.number + 1) ss ts rising.2
 
@@ -213,7 +213,7 @@ at_end c d rest fault is same ends =
     marked_faultless (d.size / 4096) (next_number d) (front d) rest fault few mark len (ap (drop 4) ends ∙ drop_at end_mark (sha256 (body c)) 4 length-end_mark ∙ digest)
 
 -- behind a part of the records stands the next record
-at_record : (d : Content) (s : SavedSector) (more : List SavedSector) (rest after : List ℕ) (fault : JournalFault) → IsContent d → IsSectorBelow (d.size / 4096) s → next_number d ≤ s.number → rest ≡ records_text (s ∷ more) ++ after
+pub at_record : (d : Content) (s : SavedSector) (more : List SavedSector) (rest after : List ℕ) (fault : JournalFault) → IsContent d → IsSectorBelow (d.size / 4096) s → next_number d ≤ s.number → rest ≡ records_text (s ∷ more) ++ after
     → NextFault d rest fault → ⊥
 at_record d s more rest after fault is s-is rises begins =
     let few = few_sectors d.size is.size in
@@ -223,7 +223,7 @@ at_record d s more rest after fault is s-is rises begins =
     let whole : 4100 ≤ length rest = omega (arith, ap length opened, length-append (record_text s) (records_text more ++ after), length-record_text s sector) in
     record_faultless (d.size / 4096) (next_number d) (front d) rest fault few (rw number s-is.place) (rw number rises) whole
 
-next_is : (d : Content) (s : SavedSector) → least_after 0 d.saved ≤ s.number → next_number d ≤ s.number
+pub next_is : (d : Content) (s : SavedSector) → least_after 0 d.saved ≤ s.number → next_number d ≤ s.number
 unfolding next_number
 next_is d s le = le
 
@@ -275,7 +275,7 @@ head_magic : (c : Content) (x : List ℕ) → take 8 (head c ++ x) ≡ codes "NO
 unfolding head
 head_magic c x = refl
 
-head_faultless : (c : Content) (x : List ℕ) (fault : JournalFault) → IsContent c → HeadFault (head c ++ x) fault → ⊥
+pub head_faultless : (c : Content) (x : List ℕ) (fault : JournalFault) → IsContent c → HeadFault (head c ++ x) fault → ⊥
 head_faultless c x Short is (inl short) = omega (arith, length-append (head c) x, length-head c is)
 head_faultless c x Short is (inr short) = omega (arith, short.1, length-append (head c) x, length-head c is)
 head_faultless c x Magic is other = other.1 (head_magic c x)
@@ -308,7 +308,7 @@ same_end c d x y [] is same list e =
 same_end c d x y (s ∷ more) is same list e =
     absurd (no_record (sha256 (body c) ++ x) s more (end_mark ++ (sha256 (body d) ++ y)) (d.size / 4096) (place_behind (d.size / 4096) 0 c.saved s more (rw (← list) is.saved)) (few_sectors d.size is.size) e)
 
-swapped : (c d : Content) → SameHead c d → SameHead d c
+pub swapped : (c d : Content) → SameHead c d → SameHead d c
 swapped c d same = record { id = sym same.id; status = sym same.status; size = sym same.size }
 
 pub one_text : (c d : Content) (x y : List ℕ) → IsContent c → IsContent d → text c ++ x ≡ text d ++ y → (c ≡ d) × (x ≡ y)

@@ -2,6 +2,7 @@
 ghost use Rattle.std.specs.Prelude.{◌≡◌, ℕ, ◌/◌, ◌<◌, ◌≤◌, List, ◌++◌, length, take, slice_get, Some, IfOk, IfErr, OnOk, IsOkAnd};
 ghost use Rattle.nor_journal.specs.Text.{Content, IsContent, text, saved_in};
 ghost use Rattle.nor_journal.specs.Fault.{HasFault};
+ghost use Rattle.nor_journal.specs.declared.fault.JournalFault.{JournalFault};
 
 use crate::fault::JournalFault;
 use crate::head::{Head, read_head};
@@ -111,4 +112,9 @@ impl<'a> Journal<'a> {
 /// Each journal says one thing, and none begins another: where two of them begin the same bytes, they say the same.
 pub fn one_text()
     ensures { (c d : Content) (x y : List ℕ) → IsContent c → IsContent d → text c ++ x ≡ text d ++ y → (c ≡ d) × (x ≡ y) }
+{}
+
+/// Bytes have one fault at most, the first that is met.
+pub fn one_fault()
+    ensures { (bytes : List ℕ) (f g : JournalFault) → HasFault bytes f → HasFault bytes g → f ≡ g }
 {}

@@ -13,7 +13,7 @@ mod writer;
 
 pub use fault::JournalFault;
 pub use file_vault::FileVault;
-pub use journal::{Journal, one_text};
+pub use journal::{Journal, one_fault, one_text};
 pub use mem_vault::MemVault;
 pub use vault::{Vault, VaultFault};
 pub use writer::Writer;

@@ -13,7 +13,10 @@ returns-clause-found c =
 
 pub returns-then-not-is_chip_size-clause-fault : goal.returns-then-not-is_chip_size-clause-fault
 returns-then-not-is_chip_size-clause-fault c =
-    let number : c.number_of-size.result ≡ number_at (drop 13 c.args.bytes.now) = c.number_of-size.ensures ∙ ap number_at (take_rest c.args.bytes.now 13) in
-    (omega arith, search rules, λ is.
-        (let allowed : IsTrue c.is_chip_size.result = c.is_chip_size.ensures.1 (rw number is) in
-        cc (allowed, c.if-not-is_chip_size.true)))
+    let number : c.number_of-size.result ≡ number_at (drop 13 c.args.bytes.now) = c.number_of-size.ensures ∙ ap number_at (take_rest c.args.bytes.now 13) in (
+      omega arith,
+      search rules,
+      λ is.
+          (let allowed : IsTrue c.is_chip_size.result = c.is_chip_size.ensures.1 (rw number is) in
+          cc (allowed, c.if-not-is_chip_size.true)),
+    )
