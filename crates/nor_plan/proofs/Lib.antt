@@ -1,4 +1,5 @@
 pub mod Agreement
+pub mod Blocks
 pub mod Coverage
 pub mod Fewest
 pub mod Masks

@@ -1,9 +1,13 @@
 -- Two slices of one length, compared byte by byte: what is on the chip (`old`) and what is wanted (`target`).
-use Rattle.std.specs.Prelude.{ℕ, ◌≡◌, ◌≢◌, ◌<◌, bit_and, List, length, slice_index, SomeIndex, EachIndex}
+use Rattle.std.specs.Prelude.{ℕ, ◌≡◌, ◌≢◌, ◌<◌, ◌≤◌, bit_and, List, length, slice_index, SomeIndex, EachIndex}
 
 -- no byte differs
 abbrev pub AllAgree : List ℕ → List ℕ → Type 0
 AllAgree a b = EachIndex a (λ k. slice_index a k ≡ slice_index b k)
+
+-- no byte differs from one place up to another
+abbrev pub AgreeWithin : List ℕ → List ℕ → ℕ → ℕ → Type 0
+AgreeWithin a b from to = (k : ℕ) → from ≤ k → k < to → slice_index a k ≡ slice_index b k
 
 -- the bytes at a place differ
 abbrev pub DifferAt : List ℕ → List ℕ → ℕ → Type 0

@@ -1,13 +1,16 @@
 //! Comparisons of two slices of one length, over lanes of 32 bytes and byte by byte for the rest.
 
 ghost use Rattle.std.specs.Prelude.{◌≡◌, ◌+◌, ◌≤◌, length, slice_index, MatchBool, MatchOption, IfNone, IfSome, not, bit_and, ◌==◌};
-ghost use Rattle.nor_plan.specs.Mask.{IsMask};
-ghost use Rattle.nor_plan.specs.Bytes.{AllAgree, SomeDiffer, NoneRises, SomeRise, IsFirstDifference, IsLastDifference};
+ghost use Rattle.nor_plan.specs.Mask.{IsMask, TellsChanges};
+ghost use Rattle.nor_plan.specs.Bytes.{AllAgree, AgreeWithin, SomeDiffer, NoneRises, SomeRise, IsFirstDifference, IsLastDifference};
 
 use std::simd::prelude::*;
 
 /// How many bytes are compared at a time.
 const LANES: usize = 32;
+
+/// How many bytes are passed at a time where none differs.
+const BLOCK: usize = 8 * LANES;
 
 /// Whether some byte differs.
 pub fn differs(a: &[u8], b: &[u8]) -> bool
@@ -34,7 +37,7 @@ fn first_difference(a: &[u8], b: &[u8]) -> Option<usize>
     requires { length a.now ≡ length b.now }
     ensures { MatchOption result (AllAgree a.now b.now) (IsFirstDifference a.now b.now) }
 {
-    for block in 0..a.len() / LANES {
+    for block in agreeing(a, b) / LANES..a.len() / LANES {
         let at = block * LANES;
         let mask = differing(a, b, at);
         if mask != 0 {
@@ -47,6 +50,21 @@ fn first_difference(a: &[u8], b: &[u8]) -> Option<usize>
         }
     }
     None
+}
+
+/// A place before which no byte differs: that of the first block with a difference, or of the last part of
+/// a block.
+fn agreeing(a: &[u8], b: &[u8]) -> usize
+    requires { length a.now ≡ length b.now }
+    ensures within { result ≤ length a.now }
+    ensures agree { AgreeWithin a.now b.now 0 result }
+{
+    for block in 0..a.len() / BLOCK {
+        if differing_block(a, b, block * BLOCK) != 0 {
+            return block * BLOCK;
+        }
+    }
+    a.len() / BLOCK * BLOCK
 }
 
 /// The place of the last byte that differs.
@@ -85,6 +103,47 @@ pub fn raises(old: &[u8], target: &[u8]) -> bool
         }
     }
     false
+}
+
+/// A bit for each lane of the 256 bytes from `at` on, set where one of the lane's bytes differs.
+#[inline(always)]
+fn differing_block(a: &[u8], b: &[u8], at: usize) -> u64
+    requires a_within { at + 256 ≤ length a.now }
+    requires b_within { at + 256 ≤ length b.now }
+    ensures { result ≡ 0 → AgreeWithin a.now b.now at (at + 256) }
+{
+    let changes = changes_128(a, b, at) | changes_128(a, b, at + 128);
+    changes.simd_ne(u8x32::splat(0)).to_bitmask()
+}
+
+/// The changes of 128 bytes, put together.
+#[inline(always)]
+fn changes_128(a: &[u8], b: &[u8], at: usize) -> u8x32
+    requires a_within { at + 128 ≤ length a.now }
+    requires b_within { at + 128 ≤ length b.now }
+    ensures { TellsChanges a.now b.now at 128 result }
+{
+    changes_64(a, b, at) | changes_64(a, b, at + 64)
+}
+
+/// The changes of 64 bytes, put together.
+#[inline(always)]
+fn changes_64(a: &[u8], b: &[u8], at: usize) -> u8x32
+    requires a_within { at + 64 ≤ length a.now }
+    requires b_within { at + 64 ≤ length b.now }
+    ensures { TellsChanges a.now b.now at 64 result }
+{
+    changes_32(a, b, at) | changes_32(a, b, at + 32)
+}
+
+/// The bits that differ of the 32 bytes from `at` on.
+#[inline(always)]
+fn changes_32(a: &[u8], b: &[u8], at: usize) -> u8x32
+    requires a_within { at + 32 ≤ length a.now }
+    requires b_within { at + 32 ≤ length b.now }
+    ensures { TellsChanges a.now b.now at 32 result }
+{
+    u8x32::from_slice(&a[at..]) ^ u8x32::from_slice(&b[at..])
 }
 
 /// A bit for each of the 32 bytes from `at` on, set where they differ.

@@ -59,3 +59,6 @@ fn span_of(old: &[u8], target: &[u8], page: usize) -> Option<Span>
         last: start + last,
     })
 }
+
+#[cfg(test)]
+mod tests;
