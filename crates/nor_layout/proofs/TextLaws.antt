@@ -1,15 +1,17 @@
 -- A text gives regions exactly where the grammar has them.
-use Rattle.std.proofs.Common.{◌≡◌, ℕ, ◌+◌, ◌≤◌, Bool, true, false, not, ltb, eqb, List, [], ◌∷◌, ◌++◌, length, filter, Result, Ok, Err, refl, sym, ap, subst, ◌∙◌, append_assoc, inl, inr, arith}
+use Rattle.std.proofs.Common.{◌≡◌, ℕ, ◌+◌, ◌≤◌, Bool, true, false, not, ltb, eqb, List, [], ◌∷◌, ◌++◌, length, filter, Result, Ok, Err, refl, sym, ap, subst, ◌∙◌, append_assoc, inl, inr, arith, ◌≢◌, ◌<◌, get_or, drop}
 use Rattle.std.specs.List.{AllZip}
 use Rattle.std.proofs.lemmas.Bool.{cases_Bool, lt-ltb}
 use Rattle.std.proofs.lemmas.List.{append-nil, length-append}
 use Rattle.nor_layout.specs.declared.region.Region.{Region}
 use Rattle.nor_layout.specs.declared.fault.LineFault.{LineFault}
 use Rattle.nor_layout.specs.declared.fault.LayoutFault.{LayoutFault}
+use Rattle.nor_layout.specs.declared.fault.LayoutFault.TheVariants.{InLine, TooMany, Memory, NoRegion}
 use Rattle.nor_layout.specs.Line.{line_says}
 use Rattle.nor_layout.specs.Text.{◌>>=◌, lines_of, is_named, joins, joins_or_fault, with_line, lines_say, layout_says, AreNamedApart, AreRegions, Reads}
 use Rattle.nor_layout.specs.Grammar.{IsLine, full_lines, IsLayout}
-use Rattle.nor_layout.proofs.Texts.{with_line-keeps, is_named-before, no_regions}
+use Rattle.nor_layout.specs.Steps.{Adds}
+use Rattle.nor_layout.proofs.Texts.{lines_say-more, lines_say-fault, with_line-keeps, is_named-before, no_regions}
 use Rattle.nor_layout.proofs.LineLaws.{line_says-taken, line_says-found}
 
 abbrev is_full : List ℕ → Bool
@@ -84,6 +86,23 @@ unfolding lines_say
 lines_say-found [] regions all n e = record { rest = []; all_is = sym (all_are regions all e) ∙ sym (append-nil regions); lines_are = tt }
 lines_say-found (line ∷ lines) regions all n e =
     said_gives line lines regions all n (with_line regions n line) refl (λ more f. lines_say-found lines more all (n + 1) f) e
+
+-- ---- what a line that can't be added leaves
+
+module _ (regions : List Region) (n : ℕ) (lines : List (List ℕ)) (d : List ℕ) (said : Result (List Region) LayoutFault) (lt : n < length lines) (same : lines_say regions (n + 1) (drop n lines) ≡ said) where
+  -- where one more region was to be added, the text gives one
+  gives_one : (region : Region) → with_line regions (n + 1) (get_or lines n d) ≡ Ok (regions ++ region ∷ []) → said ≢ Ok []
+  gives_one region added none =
+      let more : List Region = regions ++ region ∷ [] in
+      let left : lines_say more (n + 1 + 1) (drop (n + 1) lines) ≡ Ok [] = lines_say-more regions n lines d said lt same more added ∙ none in
+      let g = lines_say-found (drop (n + 1) lines) more [] (n + 1 + 1) left in
+      omega (arith, ap length g.all_is, length-append more g.rest, length-append regions (region ∷ []))
+
+  pub reads_fault : (new : List Region) (fault : LayoutFault) → Adds regions new (Err fault) (with_line regions (n + 1) (get_or lines n d)) → Reads (Err fault) said
+  reads_fault new (InLine line fault) e = lines_say-fault regions n lines d said lt same (InLine line fault) e
+  reads_fault new TooMany e = lines_say-fault regions n lines d said lt same TooMany e
+  reads_fault new Memory e = gives_one e.0 e.1
+  reads_fault new NoRegion e = lines_say-fault regions n lines d said lt same NoRegion e
 
 -- ---- what lines leave is what every layout keeps
 

@@ -117,14 +117,8 @@ module _ (regions : List Region) (n : ℕ) (lines : List (List ℕ)) (d : List �
   pub lines_say-more : (more : List Region) → with_line regions (n + 1) (get_or lines n d) ≡ Ok more → lines_say more (n + 1 + 1) (drop (n + 1) lines) ≡ said
   lines_say-more more e = sym (next ∙ ap (λ (r : Result (List Region) LayoutFault). r >>= λ (all : List Region). lines_say all (n + 1 + 1) (drop (n + 1) lines)) e)
 
-  first : (fault : LayoutFault) → with_line regions (n + 1) (get_or lines n d) ≡ Err fault → said ≡ Err fault
-  first fault e = next ∙ ap (λ (r : Result (List Region) LayoutFault). r >>= λ (all : List Region). lines_say all (n + 1 + 1) (drop (n + 1) lines)) e
-
-  pub lines_say-fault : (more : List Region) (fault : LayoutFault) → Adds more (Err fault) (with_line regions (n + 1) (get_or lines n d)) → Reads (Err fault) said
-  lines_say-fault more (InLine line fault) e = first (InLine line fault) e
-  lines_say-fault more TooMany e = first TooMany e
-  lines_say-fault more Memory e = tt
-  lines_say-fault more NoRegion e = first NoRegion e
+  pub lines_say-fault : (fault : LayoutFault) → with_line regions (n + 1) (get_or lines n d) ≡ Err fault → said ≡ Err fault
+  lines_say-fault fault e = next ∙ ap (λ (r : Result (List Region) LayoutFault). r >>= λ (all : List Region). lines_say all (n + 1 + 1) (drop (n + 1) lines)) e
 
 pub lines_say-all : (regions : List Region) (n : ℕ) (lines : List (List ℕ)) (said : Result (List Region) LayoutFault) → length lines ≤ n → lines_say regions (n + 1) (drop n lines) ≡ said → said ≡ Ok regions
 unfolding lines_say

@@ -1,5 +1,5 @@
 -- What a layout text says: the regions of its lines, or its first fault.
-use Rattle.std.specs.Prelude.{◌≡◌, ℕ, ◌+◌, ◌≤◌, ◌==◌, Bool, false, nat_lt, if◌then◌else◌, List, [], ◌∷◌, ◌++◌, length, Result, Ok, Err}
+use Rattle.std.specs.Prelude.{◌≡◌, ◌≢◌, ℕ, ◌+◌, ◌≤◌, ◌==◌, Bool, false, nat_lt, if◌then◌else◌, List, [], ◌∷◌, ◌++◌, length, Result, Ok, Err}
 use Rattle.std.specs.Str.{bytes_eq}
 use Rattle.std.specs.List.{slice_split, list_any, AllByRecursion}
 use Rattle.nor_layout.specs.declared.region.Region.{Region}
@@ -57,8 +57,8 @@ pub record AreRegions (regions : List Region) : Type 0 where
   pub forward : AllByRecursion (λ region. region.start ≤ region.end) regions
   pub named_apart : AreNamedApart regions
 
--- An answer is what the text says, unless memory was refused.
+-- An answer is what the text says, unless memory was refused. A text that gives no region asks for none.
 abbrev pub Reads : Result (List Region) LayoutFault → Result (List Region) LayoutFault → Type 0
 Reads (Ok regions) said = said ≡ Ok regions
-Reads (Err Memory) said = Unit {0}
+Reads (Err Memory) said = said ≢ Ok []
 Reads (Err fault) said = said ≡ Err fault

@@ -58,7 +58,7 @@ fn are_known(regions: &[Region], names: &[u8]) -> bool
 /// Adds the region that line `number` gives, if it gives one.
 #[tactic(auto, unfolding(crate::specs::Text::with_line))]
 fn add_line(regions: &mut Vec<Region>, number: usize, line: &[u8]) -> Result<(), LayoutFault>
-    ensures { Adds regions.new.items result (with_line regions.old.items number line.now) }
+    ensures { Adds regions.old.items regions.new.items result (with_line regions.old.items number line.now) }
 {
     if line.is_empty() {
         return Ok(());
@@ -92,8 +92,8 @@ impl Layout {
     /// The faults of a line are told in the order of `LineFault`, and `TooMany` comes last; the first line
     /// that has one is told. `Memory` comes only where an allocation was refused.
     pub fn read(alloc: Global, text: &[u8]) -> Result<Layout, LayoutFault>
-        // The regions of the lines, in order, or the first fault of the first line that has one. Else only
-        // memory was refused.
+        // The regions of the lines, in order, or the first fault of the first line that has one. Else
+        // memory was refused, for which no text without a region asks.
         ensures exact { Reads result (layout_says text.now) }
 
         // What is read is in the grammar, and what is in the grammar is read.
