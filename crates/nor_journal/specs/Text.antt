@@ -24,7 +24,9 @@ pub record Content : Type 0 where
 
 -- one of the powers of two from 64 KiB to 16 MiB
 abbrev pub is_chip_size : ℕ → Bool
-is_chip_size n = n == 65536 || n == 131072 || n == 262144 || n == 524288 || n == 1048576 || n == 2097152 || n == 4194304 || n == 8388608 || n == 16777216
+is_chip_size n =
+    n == 65536 || n == 131072 || n == 262144 || n == 524288 || n == 1048576 || n == 2097152 || n == 4194304
+    || n == 8388608 || n == 16777216
 
 -- a size that a chip may have, and what follows from that
 pub record IsChipSize (size : ℕ) : Type 0 where

@@ -1,8 +1,9 @@
--- What contracts see of a vault, and what its two calls do to that.
+-- What contracts see of a vault, and what its two calls do to it.
 use Rattle.std.specs.Prelude.{◌≡◌, ◌≢◌, ℕ, ◌+◌, ◌%◌, ◌^◌, ◌≤◌, Bool, true, false, List, [], ◌++◌, length, take, Result, Ok, Err}
-use Rattle.std.proofs.Common.{arith}
+use Rattle.std.proofs.Common.{arith, sym, ◌∙◌}
 use Rattle.nor_journal.specs.declared.vault.VaultFault.{VaultFault}
 
+-- A vault as contracts see it.
 pub record VaultState : Type 0 where
   -- whether the vault holds just the bytes that its calls tell; nothing is known of the bytes of another
   pub telling : Bool
@@ -29,7 +30,7 @@ one_more-moves failures same = omega arith
 abbrev pub Rose : VaultState → VaultState → Type 0
 Rose old new = new.failures ≢ old.failures
 
--- What each call took is behind the old bytes, and nothing else moved.
+-- The piece stands behind the old bytes, and nothing else moved.
 pub record Took (old : VaultState) (piece : List ℕ) (new : VaultState) : Type 0 where
   pub telling : new.telling ≡ old.telling
   pub sealed : new.sealed ≡ old.sealed
@@ -41,6 +42,10 @@ pub record Refused (old new : VaultState) : Type 0 where
   pub telling : new.telling ≡ old.telling
   pub sealed : new.sealed ≡ old.sealed
   pub failures : new.failures ≡ one_more old.failures
+
+-- so a refusal shows
+pub Refused-rose : (old new : VaultState) → Refused old new → Rose old new
+Refused-rose old new refused same = one_more-moves old.failures (sym refused.failures ∙ same)
 
 -- A refused piece went in by a beginning of it, as long as the refusal tells.
 pub record PutRefused (old : VaultState) (piece : List ℕ) (kept : ℕ) (new : VaultState) : Type 0 where

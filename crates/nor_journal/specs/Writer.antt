@@ -1,18 +1,23 @@
 -- What a writer has put into its vault so far.
 use Rattle.std.specs.Prelude.{◌≡◌, ℕ, true, List}
+use Rattle.std.specs.Borrow.{MutBor}
 use Rattle.sha2.specs.Hashers.{Holds256}
 use Rattle.nor_journal.specs.declared.writer.Writer.{Writer}
 use Rattle.nor_journal.specs.Vault.{VaultState}
 use Rattle.nor_journal.specs.Text.{Content, IsContent, front}
 
--- what contracts see of the vault of a writer
+-- the vault that a writer holds
+abbrev pub vault_of : {V : Type 0} → Writer V → MutBor V
+vault_of writer = writer.vault
+
+-- what contracts see of that vault
 abbrev pub vault_state : {V : Type 0} → (V → VaultState) → Writer V → VaultState
-vault_state state writer = state writer.vault.now
+vault_state state writer = state (vault_of writer).now
 
 -- These bytes went in: the hasher holds them, and a telling vault has them.
 pub record HasPut {V : Type 0} (state : V → VaultState) (writer : Writer V) (bytes : List ℕ) : Type 0 where
   pub hashed : Holds256 writer.hasher bytes
-  pub told : (state writer.vault.now).telling ≡ true → (state writer.vault.now).bytes ≡ bytes
+  pub told : (vault_state state writer).telling ≡ true → (vault_state state writer).bytes ≡ bytes
 
 -- The head and the records of this content went in.
 pub record HasWritten {V : Type 0} (state : V → VaultState) (writer : Writer V) (content : Content) : Type 0 where

@@ -3,7 +3,7 @@ ghost use Rattle.std.specs.Prelude.{◌≡◌, ◌+◌, ◌*◌, ◌≤◌, leng
 ghost use Rattle.sha2.specs.Sha256.{sha256};
 ghost use Rattle.nor_journal.specs.Text.{end_mark};
 ghost use Rattle.nor_journal.specs.Fault.{RecordFault, EndFault};
-ghost use Rattle.nor_journal.specs.Reading.{sector_at, IsHead, BeginsRecord, HasRecords, EndsBehind, FaultBehindRecords};
+ghost use Rattle.nor_journal.specs.Reading.{sector_at, BeginsRecord, HasRecords, EndsBehind, FaultBehindRecords};
 
 use crate::fault::JournalFault;
 use crate::head::Head;
@@ -49,7 +49,6 @@ fn next_record(sectors: u32, least: u32, bytes: &[u8]) -> Result<Option<u32>, Jo
 
 /// How many records stand behind the head, up to the end mark.
 pub fn count_records(head: &Head, bytes: &[u8]) -> Result<usize, JournalFault>
-    requires { IsHead head.now }
     ensures fault { IfErr result (FaultBehindRecords head.now bytes.now) }
     ensures found { IfOk result (EndsBehind head.now bytes.now) }
 {

@@ -2,11 +2,11 @@
 ghost use Rattle.std.specs.Prelude.{◌≡◌, ◌++◌, List, ℕ, [], false, true, length, OnOk, IfOk};
 ghost use Rattle.nor_journal.specs.Vault.{Accepted, PutsOn, Completes, IsFresh};
 ghost use Rattle.nor_journal.specs.Text.{Content, IsContent, IsChipSize, MayFollow, empty_content, with_sector, text};
-ghost use Rattle.nor_journal.specs.Writer.{vault_state, HasPut, HasWritten};
+ghost use Rattle.nor_journal.specs.Writer.{vault_of, vault_state, HasPut, HasWritten};
 
 use crate::head::MAGIC;
 use crate::number::number_bytes;
-use crate::records::{END_MARK, SECTOR};
+use crate::records::END_MARK;
 use crate::vault::{Vault, VaultFault};
 use sha2::{Digest, Sha256};
 
@@ -22,7 +22,7 @@ impl<'a, V: Vault> Writer<'a, V> {
     /// A writer into an empty, unsealed vault. Nothing is written yet.
     pub fn on(vault: &'a mut V) -> Writer<'a, V>
         requires { IsFresh (V.state vault.old) }
-        ensures same_vault { result.vault.ghost_name ≡ vault.entry.ghost_name }
+        ensures same_vault { (vault_of result).ghost_name ≡ vault.entry.ghost_name }
         ensures vault { vault_state V.state result ≡ V.state vault.old }
         ensures nothing { HasPut V.state result [] }
     {
@@ -41,7 +41,7 @@ impl<'a, V: Vault> Writer<'a, V> {
     ) -> Result<Writer<'a, V>, VaultFault>
         requires fresh { IsFresh (V.state vault.old) }
         requires size { IsChipSize size }
-        ensures same_vault { IfOk result (λ writer. writer.vault.ghost_name ≡ vault.entry.ghost_name) }
+        ensures same_vault { IfOk result (λ writer. (vault_of writer).ghost_name ≡ vault.entry.ghost_name) }
         ensures vault { IfOk result (λ writer. Accepted (V.state vault.old) (vault_state V.state writer)) }
         ensures written { IfOk result (λ writer. HasWritten V.state writer (empty_content id status size)) }
     {
@@ -53,7 +53,7 @@ impl<'a, V: Vault> Writer<'a, V> {
     /// Writes a sector behind the others, as `add` does. A refusal leaves the vault unsealed.
     pub fn sector(mut self, number: u32, bytes: &[u8; 4096]) -> Result<Writer<'a, V>, VaultFault>
         requires { (vault_state V.state self).sealed ≡ false }
-        ensures same_vault { IfOk result (λ writer. writer.vault.ghost_name ≡ self.entry.vault.ghost_name) }
+        ensures same_vault { IfOk result (λ writer. (vault_of writer).ghost_name ≡ (vault_of self.entry).ghost_name) }
         ensures vault { IfOk result (λ writer. Accepted (vault_state V.state self.entry) (vault_state V.state writer)) }
         ensures written { (c : Content) → HasWritten V.state self.entry c → MayFollow c number
             → IfOk result (λ writer. HasWritten V.state writer (with_sector c number bytes.now)) }
@@ -65,7 +65,7 @@ impl<'a, V: Vault> Writer<'a, V> {
     // Puts a piece, and takes it into the digest.
     fn piece(&mut self, bytes: &[u8]) -> Result<(), VaultFault>
         requires { (vault_state V.state self.old).sealed ≡ false }
-        ensures same_vault { self.new.vault.ghost_name ≡ self.old.vault.ghost_name }
+        ensures same_vault { (vault_of self.new).ghost_name ≡ (vault_of self.old).ghost_name }
         ensures vault { PutsOn (vault_state V.state self.old) result (vault_state V.state self.new) }
         ensures put { (m : List ℕ) → HasPut V.state self.old m → OnOk result (HasPut V.state self.new (m ++ bytes.now)) }
     {
@@ -78,7 +78,7 @@ impl<'a, V: Vault> Writer<'a, V> {
     pub fn header(&mut self, id: [u8; 3], status: [u8; 2], size: u32) -> Result<(), VaultFault>
         requires unsealed { (vault_state V.state self.old).sealed ≡ false }
         requires size { IsChipSize size }
-        ensures same_vault { self.new.vault.ghost_name ≡ self.old.vault.ghost_name }
+        ensures same_vault { (vault_of self.new).ghost_name ≡ (vault_of self.old).ghost_name }
         ensures vault { PutsOn (vault_state V.state self.old) result (vault_state V.state self.new) }
         ensures written { HasPut V.state self.old [] → OnOk result (HasWritten V.state self.new (empty_content id status size)) }
     {
@@ -91,7 +91,7 @@ impl<'a, V: Vault> Writer<'a, V> {
     /// Writes a sector behind the others. Its number is above theirs, and a sector of the chip has it.
     pub fn add(&mut self, number: u32, bytes: &[u8; 4096]) -> Result<(), VaultFault>
         requires { (vault_state V.state self.old).sealed ≡ false }
-        ensures same_vault { self.new.vault.ghost_name ≡ self.old.vault.ghost_name }
+        ensures same_vault { (vault_of self.new).ghost_name ≡ (vault_of self.old).ghost_name }
         ensures vault { PutsOn (vault_state V.state self.old) result (vault_state V.state self.new) }
         ensures written { (c : Content) → HasWritten V.state self.old c → MayFollow c number
             → OnOk result (HasWritten V.state self.new (with_sector c number bytes.now)) }
