@@ -1,13 +1,12 @@
 -- The changes of a block of many lanes, put together before one test.
-use Rattle.std.proofs.Common.{ℕ, ◌≡◌, ◌<◌, ◌≤◌, ◌+◌, ◌-◌, Bool, not, nat_eq, bit_or, bit_xor, List, length, get_or, replicate, sym, ◌∙◌, ap, inl, inr, arith}
+use Rattle.std.proofs.Common.{ℕ, zero, suc, ◌≡◌, ◌<◌, ◌≤◌, ◌+◌, ◌-◌, bit_or, bit_xor, List, [], ◌∷◌, length, get_or, refl, sym, ◌∙◌, ap, inl, inr, arith}
 use lib.Bits.{xor_self, xor_assoc, xor_zero_l, xor_zero_r}
-use lib.Lanes.{chunk, zip2}
+use lib.Lanes.{chunk, zip2, fold_l}
 use Rattle.std.proofs.lemmas.Bool.{cases_lt}
 use Rattle.std.proofs.lemmas.Nat.{le_or_l, le_or_r}
-use Rattle.std.proofs.lemmas.Simd.{length-chunk, get_or-chunk, length-zip2, get_or-zip2, length-replicate, get_or-replicate}
+use Rattle.std.proofs.lemmas.Simd.{length-chunk, get_or-chunk, length-zip2, get_or-zip2}
 use Rattle.nor_plan.specs.Bytes.{AgreeWithin}
-use Rattle.nor_plan.specs.Mask.{IsMask, TellsChanges}
-use Rattle.nor_plan.proofs.Masks.{compared, compared-IsMask, empty_mask, same_from_test}
+use Rattle.nor_plan.specs.Mask.{TellsChanges}
 
 -- numbers that differ in no bit are equal
 same_from_xor : (a b : ℕ) → bit_xor a b ≡ 0 → a ≡ b
@@ -26,13 +25,17 @@ or_zero_lane : (xs ys : List ℕ) → length xs ≡ 32 → length ys ≡ 32 → 
 or_zero_lane xs ys long same i lane none =
     or_zero (get_or xs i 0) (get_or ys i 0) (sym (get_or-zip2 bit_or xs ys i 0 0 0 (omega arith) (omega arith)) ∙ none)
 
--- where the mask of a vector is empty, each lane is 0
-zero_lanes : (xs : List ℕ) → length xs ≡ 32 → compared (λ x y. not (nat_eq x y)) xs (replicate 32 0) ≡ 0 → (i : ℕ) → i < 32 → get_or xs i 0 ≡ 0
-zero_lanes xs long none i lane =
-    let test : ℕ → Bool = λ j. not (nat_eq (get_or xs j 0) 0) in
-    let is = compared-IsMask (λ x y. not (nat_eq x y)) xs (replicate 32 0) long (length-replicate {A = ℕ} 32 0) test
-    (λ j within. ap (λ y. not (nat_eq (get_or xs j 0) y)) (get_or-replicate {A = ℕ} 32 j 0 0 within)) in
-    same_from_test (get_or xs i 0) 0 (empty_mask _ test is none i lane)
+-- where the bits of all lanes, put together, are nothing, each lane is 0
+zero_first : (x : ℕ) (xs : List ℕ) → x ≡ 0 → ((i : ℕ) → get_or xs i 0 ≡ 0) → (i : ℕ) → get_or (x ∷ xs) i 0 ≡ 0
+zero_first x xs first rest zero = first
+zero_first x xs first rest (suc i) = rest i
+
+zero_lanes : (start : ℕ) (xs : List ℕ) → fold_l bit_or start xs ≡ 0 → (start ≡ 0) × ((i : ℕ) → get_or xs i 0 ≡ 0)
+zero_lanes start [] none = (none, λ i. refl)
+zero_lanes start (x ∷ xs) none =
+    let rest = zero_lanes (bit_or start x) xs none in
+    let parts = or_zero start x rest.0 in
+    (parts.0, zero_first x xs parts.1 rest.1)
 
 -- the bits that differ of two chunks tell whether the bytes do
 pub TellsChanges-xor : (a b : List ℕ) (at : ℕ) → at + 32 ≤ length a → at + 32 ≤ length b → TellsChanges a b at 32 (zip2 bit_xor (chunk at 32 a) (chunk at 32 b))
@@ -64,6 +67,6 @@ TellsChanges-or a b at m n xs ys first second = record {
       ];
 }
 
--- a vector whose mask is empty
-pub TellsChanges-empty : (a b : List ℕ) (at count : ℕ) (xs : List ℕ) → TellsChanges a b at count xs → compared (λ x y. not (nat_eq x y)) xs (replicate 32 0) ≡ 0 → AgreeWithin a b at (at + count)
-TellsChanges-empty a b at count xs tells none = tells.none (zero_lanes xs tells.long none)
+-- a vector whose lanes, put together, are nothing
+pub TellsChanges-folded : (a b : List ℕ) (at count : ℕ) (xs : List ℕ) → TellsChanges a b at count xs → fold_l bit_or 0 xs ≡ 0 → AgreeWithin a b at (at + count)
+TellsChanges-folded a b at count xs tells none = tells.none (λ i lane. (zero_lanes 0 xs none).1 i)

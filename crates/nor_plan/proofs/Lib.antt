@@ -1,6 +1,7 @@
 pub mod Agreement
 pub mod Blocks
 pub mod Coverage
+pub mod Ends
 pub mod Fewest
 pub mod Masks
 pub mod Members

@@ -17,7 +17,7 @@ other old target k = not (nat_eq (get_or old k 0) (get_or target k 0))
 test-same : (x y : ℕ) → x ≡ y → not (nat_eq x y) ≡ false
 test-same x y same = grind (arith, nat_tests)
 
-test-other : (x y : ℕ) → x ≢ y → not (nat_eq x y) ≡ true
+pub test-other : (x y : ℕ) → x ≢ y → not (nat_eq x y) ≡ true
 test-other x y differ = grind (arith, nat_tests)
 
 -- a place of the part is a place of the whole

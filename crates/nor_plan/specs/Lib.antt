@@ -6,4 +6,5 @@ pub mod Planned
 pub mod SectorSet
 pub mod Sectors
 pub mod Span
+pub mod SpanFacts
 pub mod Spans

@@ -60,7 +60,7 @@ fn agreeing(a: &[u8], b: &[u8]) -> usize
     ensures agree { AgreeWithin a.now b.now 0 result }
 {
     for block in 0..a.len() / BLOCK {
-        if differing_block(a, b, block * BLOCK) != 0 {
+        if changes_256(a, b, block * BLOCK) != 0 {
             return block * BLOCK;
         }
     }
@@ -105,15 +105,15 @@ pub fn raises(old: &[u8], target: &[u8]) -> bool
     false
 }
 
-/// A bit for each lane of the 256 bytes from `at` on, set where one of the lane's bytes differs.
+/// The bits in which some of the 256 bytes from `at` on differ, put together.
 #[inline(always)]
-fn differing_block(a: &[u8], b: &[u8], at: usize) -> u64
+fn changes_256(a: &[u8], b: &[u8], at: usize) -> u8
     requires a_within { at + 256 ≤ length a.now }
     requires b_within { at + 256 ≤ length b.now }
     ensures { result ≡ 0 → AgreeWithin a.now b.now at (at + 256) }
 {
     let changes = changes_128(a, b, at) | changes_128(a, b, at + 128);
-    changes.simd_ne(u8x32::splat(0)).to_bitmask()
+    changes.reduce_or()
 }
 
 /// The changes of 128 bytes, put together.

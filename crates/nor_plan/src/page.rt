@@ -2,6 +2,7 @@
 
 ghost use Rattle.std.specs.Prelude.{◌≡◌, ◌*◌, ◌<◌, length};
 ghost use Rattle.nor_plan.specs.Span.{page_span, spans_of, HeadsSpans};
+ghost use Rattle.nor_plan.specs.SpanFacts.{AreSpans};
 ghost use Rattle.nor_plan.specs.Spans.{spans_left};
 
 use crate::lanes::bounds;
@@ -24,13 +25,14 @@ pub struct Span {
 /// of its first and its last one, in rising order.
 pub fn spans<'a>(old: &'a [u8], target: &'a [u8]) -> Spans<'a>
     requires { length old.now ≡ length target.now }
-    ensures { spans_left result ≡ spans_of old.now target.now }
+    ensures pages { spans_left result ≡ spans_of old.now target.now }
+    ensures spans { AreSpans old.now target.now (spans_left result) }
 {
     Spans::new(old, target)
 }
 
-#[tactic(auto, using(crate::proofs::PageSpans::page_steps))]
 /// The first span from a page on, and the page after it.
+#[tactic(auto, using(crate::proofs::PageSpans::page_steps))]
 fn next_span(old: &[u8], target: &[u8], page: usize) -> Option<(Span, usize)>
     requires { length old.now ≡ length target.now }
     ensures { HeadsSpans old.now target.now page result }

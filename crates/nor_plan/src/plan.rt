@@ -19,8 +19,8 @@ pub struct SectorPlan {
 }
 
 impl Plan {
-    #[tactic(auto, using(crate::proofs::Agreement::agreed_NoneRises))]
     /// What it takes to make `target` of the bytes `old`.
+    #[tactic(auto, using(crate::proofs::Agreement::agreed_NoneRises))]
     pub fn of(old: &[u8], target: &[u8]) -> SectorPlan
         requires { length old.now ≡ length target.now }
         ensures touched { MatchBool result.touched (SomeDiffer old.now target.now) (AllAgree old.now target.now) }

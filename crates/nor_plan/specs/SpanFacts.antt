@@ -1,0 +1,19 @@
+-- What spans are good for: all differences lie in them, and each is the first and the last difference of one
+-- page. A page is 256 bytes.
+use Rattle.std.specs.Prelude.{ℕ, ◌≡◌, ◌<◌, ◌≤◌, ◌/◌, List, All, Any, AllPairs}
+use Rattle.nor_plan.specs.declared.page.Span.{Span}
+use Rattle.nor_plan.specs.Bytes.{DifferAt}
+
+-- the first and the last difference of a page
+pub record IsSpan (old target : List ℕ) (span : Span) : Type 0 where
+  pub one_page : span.first / 256 ≡ span.last / 256
+  pub order : span.first ≤ span.last
+  pub first : DifferAt old target span.first
+  pub last : DifferAt old target span.last
+  pub outside : (k : ℕ) → k / 256 ≡ span.first / 256 → DifferAt old target k → (span.first ≤ k) × (k ≤ span.last)
+
+-- a span for each page with a difference, and no other, in rising order
+pub record AreSpans (old target : List ℕ) (spans : List Span) : Type 0 where
+  pub each : All (IsSpan old target) spans
+  pub complete : (k : ℕ) → DifferAt old target k → Any (λ span. (span.first ≤ k) × (k ≤ span.last)) spans
+  pub rising : AllPairs (λ span later. span.last / 256 < later.first / 256) spans
