@@ -1,5 +1,5 @@
 -- The simulated chip, as contracts see it.
-use Rattle.std.specs.Prelude.{◌≡◌, ◌<◌, ◌==◌, ℕ, not, slice_index}
+use Rattle.std.specs.Prelude.{◌≡◌, ◌<◌, ◌/◌, ◌==◌, ℕ, not, slice_index}
 use Rattle.nor_chip.specs.declared.sim.flash.Flash.{Flash}
 use Rattle.nor_chip.specs.Chip.{Chip}
 
@@ -8,8 +8,8 @@ abbrev pub chip_of : Flash → Chip
 chip_of flash = record {
   config = flash.config;
   bytes = λ a. slice_index flash.bytes.items a;
-  kept1 = flash.kept1;
-  kept2 = flash.kept2;
+  kept1 = flash.kept.one.0 / 4;
+  kept2 = flash.kept.two.0;
   latch = flash.latch;
   busy = flash.busy;
 }

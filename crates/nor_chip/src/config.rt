@@ -2,6 +2,9 @@
 ghost use Rattle.std.specs.Prelude.{◌≡◌, ◌≤◌, ◌%◌, ◌-◌, ◌++◌, ◌↔◌, true, length, replicate, IsTrue, IsSome, IfSome};
 ghost use Rattle.nor_chip.specs.Size.{is_chip_size};
 
+#[cfg(test)]
+mod tests;
+
 /// The bytes of a sector, the smallest unit that an erase clears.
 pub const SECTOR_LEN: u32 = 4096;
 

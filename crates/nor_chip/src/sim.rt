@@ -3,7 +3,8 @@ ghost use Rattle.std.specs.Prelude.{◌≡◌, ◌≢◌, ◌≤◌, ◌<◌, �
 ghost use Rattle.nor_chip.specs.Aim.{IsAimed};
 ghost use Rattle.nor_chip.specs.Step.{wears};
 
-use crate::{Bus, Command, Config, Meter, Stopped, is_changing};
+use crate::{Bus, Command, Config, Meter, Status, Status1, Stopped, is_changing};
+use bitflags::Flags;
 use flash::Flash;
 use std::fmt;
 
@@ -59,12 +60,12 @@ impl SimBus {
         if bytes.len() != config.size as usize {
             return Err(WrongLength);
         }
+        let status = Status::of(status);
         let flash = Flash {
             config,
             bytes,
-            kept1: status[0] / 4,
-            kept2: status[1] % 128,
-            latch: status[0] / 2 % 2 == 1,
+            kept: status.kept(),
+            latch: status.one.contains(Status1::WEL),
             busy: delays.now,
             each: delays.each,
         };
@@ -87,7 +88,7 @@ impl SimBus {
     pub fn status(&self) -> [u8; 2]
         ensures { result ≡ status_of (⟦<SimBus as Bus>⟧.state self.now).chip }
     {
-        [self.flash.status1(), self.flash.status2()]
+        self.flash.status().bytes()
     }
 }
 

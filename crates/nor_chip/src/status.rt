@@ -1,8 +1,11 @@
 //! The status bits by their names. (W25Q64FV datasheet, status registers.)
-ghost use Rattle.std.specs.Prelude.{⊤, ◌≡◌, [], ◌∷◌, codes};
+ghost use Rattle.std.specs.Prelude.{⊤, ◌≡◌, ◌+◌, ◌*◌, ◌/◌, ◌%◌, ◌<◌, [], ◌∷◌, codes, bit_and, bit_or, if◌then◌else◌};
 ghost use Rattle.nor_chip.specs.Code.{code_in, is_lock_set};
 
 use bitflags::{Flag, Flags, bitflag_items};
+
+#[cfg(test)]
+mod tests;
 
 /// Status register 1, as 05h replies it.
 #[derive(Clone, Copy, Debug, PartialEq, Eq)]
@@ -89,6 +92,50 @@ impl Flags for Status2 {
     }
 }
 
+impl Status1 {
+    /// The kept bits: all but BUSY and WEL.
+    pub const KEPT: Status1 = Status1(!(Self::BUSY.0 | Self::WEL.0));
+
+    // These kept bits, with WEL and BUSY as told.
+    #[tactic(auto, using(crate::proofs::StatusBits::or_latch, crate::proofs::StatusBits::or_busy))]
+    pub(crate) fn with(self, latch: bool, busy: bool) -> Status1
+        requires { self.0 % 4 ≡ 0 }
+        ensures { result.0 ≡ self.0 + (if latch then 2 else 0) + (if busy then 1 else 0) }
+    {
+        let mut status = self;
+        if latch {
+            status.insert(Status1::WEL);
+        }
+        if busy {
+            status.insert(Status1::BUSY);
+        }
+        status
+    }
+}
+
+impl Status2 {
+    /// The kept bits: all but SUS.
+    pub const KEPT: Status2 = Status2(!Self::SUS.0);
+
+    /// The bits that a status write sets as sent.
+    const WRITTEN: Status2 = Status2(Self::SRP1.0 | Self::QE.0 | Self::CMP.0);
+
+    /// The bits that stay set once they are.
+    const LB: Status2 = Status2(Self::LB1.0 | Self::LB2.0 | Self::LB3.0);
+
+    /// The bits that a status write doesn't clear: those and the reserved one.
+    const HELD: Status2 = Status2(Self::LB.0 | 0x04);
+
+    // What a status write leaves of these bits.
+    fn written(self, sent: Status2) -> Status2
+        ensures { result.0 ≡ bit_or (bit_and sent.0 0b1000011) (bit_or (bit_and self.0 0b0111100) (bit_and sent.0 0b0111000)) }
+    {
+        let held = self.intersection(Status2::HELD);
+        let set = sent.intersection(Status2::LB);
+        sent.intersection(Status2::WRITTEN).union(held.union(set))
+    }
+}
+
 /// The two status registers.
 #[derive(Clone, Copy, Debug, PartialEq, Eq)]
 pub struct Status {
@@ -125,6 +172,31 @@ impl Status {
             32 + low
         } else {
             low
+        }
+    }
+
+    /// The kept bits: all but BUSY, WEL and SUS.
+    pub fn kept(self) -> Status
+        ensures one { result.one.0 ≡ self.one.0 / 4 * 4 }
+        ensures two { result.two.0 ≡ self.two.0 % 128 }
+    {
+        Status {
+            one: self.one.intersection(Status1::KEPT),
+            two: self.two.intersection(Status2::KEPT),
+        }
+    }
+
+    /// What a status write leaves of these kept bits: BP, TB, SEC, SRP0, SRP1, QE and CMP are as sent, an LB bit
+    /// stays set once it is, and the reserved bit stays as it is.
+    #[tactic(auto, using(crate::proofs::StatusBits::written_lt))]
+    pub fn written(self, sent: Status) -> Status
+        ensures one { result.one.0 ≡ sent.one.0 / 4 * 4 }
+        ensures two { result.two.0 ≡ bit_or (bit_and sent.two.0 0b1000011) (bit_or (bit_and self.two.0 0b0111100) (bit_and sent.two.0 0b0111000)) }
+        ensures fits { result.two.0 < 128 }
+    {
+        Status {
+            one: sent.one.intersection(Status1::KEPT),
+            two: self.two.written(sent.two),
         }
     }
 

@@ -2,6 +2,10 @@
 ghost use Rattle.std.specs.Prelude.{◌≡◌, false};
 
 use crate::{Bus, Meter, Stopped};
+
+#[cfg(test)]
+mod tests;
+
 use std::io::{self, Write};
 
 /// How many bytes of a transaction are turned into digits at once.

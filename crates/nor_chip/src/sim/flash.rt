@@ -1,70 +1,57 @@
 //! The modelled chip in memory: what a transaction does to it.
-ghost use Rattle.std.specs.Prelude.{◌≡◌, ◌<◌, ◌+◌, ◌/◌, ◌^◌, ◌==◌, ◌&&◌, ◌-◌, not, if◌then◌else◌, false, ℕ, [], length, slice_index, bit_and, bit_or};
+ghost use Rattle.std.specs.Prelude.{◌≡◌, ◌%◌, ◌<◌, ◌+◌, ◌/◌, ◌^◌, ◌==◌, ◌&&◌, ◌-◌, not, if◌then◌else◌, false, ℕ, [], length, slice_index, bit_and, bit_or};
 
 use super::cells;
-use crate::{Command, Config, guard};
+use crate::{Command, Config, Status, guard};
 
-/// A chip: its configuration, its bytes, the kept bits of its status bytes, its latch, how many polls will
+/// A chip: its configuration, its bytes, the kept bits of its status, its latch, how many polls will
 /// still answer BUSY, and how many after each operation.
 #[derive(Drop)]
 pub(crate) struct Flash {
     pub(crate) config: Config,
     pub(crate) bytes: Vec<u8>,
-    pub(crate) kept1: u8,
-    pub(crate) kept2: u8,
+    pub(crate) kept: Status,
     pub(crate) latch: bool,
     pub(crate) busy: u16,
     pub(crate) each: u16,
     ghost filled: { length bytes.items ≡ config.size },
-    ghost kept1_in: { kept1 < 64 },
-    ghost kept2_in: { kept2 < 128 },
+    ghost kept_alone: { kept.one.0 % 4 ≡ 0 },
+    ghost kept1_in: { kept.one.0 / 4 < 64 },
+    ghost kept2_in: { kept.two.0 < 128 },
     ghost busy_in: { busy < 65536 },
     ghost bytes_in: { (a : ℕ) → slice_index bytes.items a < 256 },
 }
 
-/// The kept bits of status 2 after a status write: a set LB bit stays set, and the reserved bit isn't written.
-fn written_over(kept2: u8, two: u8) -> u8
-    ensures value { result ≡ bit_or (bit_and two 67) (bit_or (bit_and kept2 60) (bit_and two 56)) }
-    ensures fits { result < 128 }
-{
-    (two & 0b1000011) | ((kept2 & 0b0111100) | (two & 0b0111000))
-}
-
 impl Flash {
     ghost use Rattle.nor_chip.specs.Flash.{chip_of, Begins};
+    ghost use Rattle.nor_chip.specs.Start.{status_of};
+    ghost use Rattle.nor_chip.specs.Status.{bytes_of};
     ghost use Rattle.nor_chip.specs.Aim.{IsAimed, IsUnit};
-    ghost use Rattle.nor_chip.specs.Chip.{status1_of, status2_of, is_locked};
+    ghost use Rattle.nor_chip.specs.Chip.{is_locked};
     ghost use Rattle.nor_chip.specs.Guard.{code_of, is_guarded, is_unit_guarded};
     ghost use Rattle.nor_chip.specs.Step.{is_carried_out, done_of, reply_byte, Does, Step, kept2_after};
 
-    /// What 05h replies.
-    pub(crate) fn status1(&self) -> u8
-        ensures { result ≡ status1_of (chip_of self.now) }
+    /// The status registers, as 05h and 35h reply them.
+    pub(crate) fn status(&self) -> Status
+        ensures { bytes_of result ≡ status_of (chip_of self.now) }
     {
-        let latch = if self.latch { 2 } else { 0 };
-        let busy = if self.busy == 0 { 0 } else { 1 };
-        4 * self.kept1 + latch + busy
+        Status {
+            one: self.kept.one.with(self.latch, self.busy != 0),
+            two: self.kept.two,
+        }
     }
 
-    /// What 35h replies.
-    pub(crate) fn status2(&self) -> u8
-        ensures { result ≡ status2_of (chip_of self.now) }
-    {
-        self.kept2
-    }
-
-    // A protection bit of the status itself is set.
+    // The status itself is locked.
     fn is_locked(&self) -> bool
         ensures { result ≡ is_locked (chip_of self.now) }
     {
-        self.kept1 / 32 % 2 != 0 || self.kept2 % 2 != 0
+        self.kept.is_locked()
     }
 
     fn is_guarded(&self, at: u32) -> bool
         ensures { result ≡ is_guarded (chip_of self.now) at }
     {
-        let code = 32 * (self.kept2 / 64 % 2) + self.kept1 % 32;
-        self.config.scheme && guard::is_guarded(self.config.size, code, at)
+        self.config.scheme && guard::is_guarded(self.config.size, self.kept.code(), at)
     }
 
     fn is_unit_guarded(&self, start: u32, len: u32) -> bool
@@ -114,8 +101,8 @@ impl Flash {
         ensures { (i : ℕ) → i < length reply.new → slice_index reply.new i ≡ reply_byte (chip_of self.now) command i }
     {
         match command {
-            Command::Poll => reply.fill(self.status1()),
-            Command::ReadStatus2 => reply.fill(self.status2()),
+            Command::Poll => reply.fill(self.status().bytes()[0]),
+            Command::ReadStatus2 => reply.fill(self.status().bytes()[1]),
             Command::ReadData(at) => cells::read_round(&self.bytes, at as usize, reply),
             Command::ReadId => cells::read_padded(&self.config.id, 0, reply),
             Command::ReadSfdp(at) => cells::read_padded(&self.config.sfdp, at as usize, reply),
@@ -144,8 +131,7 @@ impl Flash {
     fn write_status(&mut self, one: u8, two: u8)
         ensures { Does (Command.WriteStatus one two) [] (chip_of self.old) [] (chip_of self.new) }
     {
-        self.kept1 = one / 4;
-        self.kept2 = written_over(self.kept2, two);
+        self.kept = self.kept.written(Status::of([one, two]));
         self.begin();
     }
 

@@ -1,4 +1,6 @@
-use Rattle.std.proofs.Common.{arith, false}
+use Rattle.std.proofs.Common.{arith, ap, ◌∙◌, ◌/◌, ◌%◌, false}
+use Rattle.std.specs.Prelude.{slice_index, ◌==◌}
+use Rattle.nor_chip.proofs.StatusBits.{wel_set}
 use Rattle.std.proofs.lemmas.Grind.{common_steps}
 use Rattle.nor_chip.proofs.Round.{get_or-replicate_all}
 use Rattle.nor_chip.proofs.sim.SimBus.new.Goals as goal
@@ -9,7 +11,7 @@ returns-clause-starts c = record {
   bytes = λ a. grind (arith, common_steps);
   kept1 = grind (arith, common_steps);
   kept2 = grind (arith, common_steps);
-  latch = grind (arith, common_steps);
+  latch = c.contains.ensures tt ∙ (wel_set c.of-status.result.one.0 ∙ ap (λ bytes. slice_index bytes 0 / 2 % 2 == 1) c.of-status.ensures);
   busy = grind (arith, common_steps);
   left = grind (arith, common_steps);
   honest = grind (arith, common_steps);

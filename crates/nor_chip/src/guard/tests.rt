@@ -1,0 +1,160 @@
+//! The guarded places of the Winbond chips. Expected sets are those of the datasheets' protection tables.
+use super::*;
+use std::test::Fail;
+
+const MIB8: u32 = 0x80_0000;
+
+const MIB16: u32 = 0x100_0000;
+
+// Places, with less to write.
+const fn places(start: u32, len: u32) -> Places {
+    Places { start, len }
+}
+
+// The first places and the last ones that are guarded, and those beside them that aren't.
+fn guards(status: [u8; 2], first: u32, last: u32) -> bool {
+    let is_inside = protected(status, MIB8, first) && protected(status, MIB8, last);
+    let is_after = last < u32::MAX && protected(status, MIB8, last + 1);
+    let is_before = first > 0 && protected(status, MIB8, first - 1);
+    is_inside && !is_before && !is_after
+}
+
+#[test]
+fn the_guarded_places_of_a_status(rt: HostRuntime) {
+    for at in [0, 1, 0x40_0000, 0x7F_FFFF] {
+        assert!(rt; !protected([0x00, 0x00], MIB8, at));
+    }
+    assert!(rt; guards([0x04, 0x00], 0x7E_0000, 0x7F_FFFF));
+    assert!(rt; guards([0x18, 0x00], 0x40_0000, 0x7F_FFFF));
+    assert!(rt; guards([0x1C, 0x00], 0x00_0000, 0x7F_FFFF));
+    assert!(rt; guards([0x24, 0x00], 0x00_0000, 0x01_FFFF));
+    assert!(rt; guards([0x44, 0x00], 0x7F_F000, 0x7F_FFFF));
+    assert!(rt; guards([0x70, 0x00], 0x00_0000, 0x00_7FFF));
+    assert!(rt; guards([0x04, 0x40], 0x00_0000, 0x7D_FFFF));
+    assert!(rt; guards([0x70, 0x40], 0x00_8000, 0x7F_FFFF));
+}
+
+#[test]
+fn an_undefined_code_guards_all_places(rt: HostRuntime) {
+    for status in [[0x58, 0x00], [0x78, 0x00], [0x58, 0x40], [0x78, 0x40]] {
+        assert!(rt; guards(status, 0x00_0000, 0x7F_FFFF));
+    }
+}
+
+#[test]
+fn bits_that_are_no_code_bits_guard_nothing(rt: HostRuntime) {
+    assert!(rt; !protected([0x83, 0xBF], MIB8, 0));
+    assert!(rt; !protected([0x83, 0xBF], MIB8, 0x7F_FFFF));
+}
+
+#[test]
+fn the_least_code_of_a_set(rt: HostRuntime) {
+    assert_eq!(rt; code_for(0xFC_0000, 0x4_0000, MIB16), Some(1));
+    assert_eq!(rt; code_for(0, 0x8000, MIB8), Some(28));
+    assert_eq!(rt; code_for(5, 0, MIB8), Some(0));
+    assert_eq!(rt; code_for(0, 0x1001, MIB8), None);
+    assert_eq!(rt; code_for(0, MIB8, MIB8), Some(7));
+    assert_eq!(rt; code_for(0, MIB8, MIB16), Some(14));
+    assert_eq!(rt; code_for(0x7F_F000, 0x1000, MIB8), Some(17));
+    assert_eq!(rt; code_for(0x7F_F000, 0x1001, MIB8), None);
+    assert_eq!(rt; code_for(0xFFFF_FFFF, 0xFFFF_FFFF, MIB8), None);
+    assert_eq!(rt; code_for(0, 0x1_0000, 0x1_0000), Some(7));
+}
+
+#[test]
+fn all_sets_of_the_8_mib_chip(rt: HostRuntime) -> Result<(), Fail> {
+    let expected = [
+        places(0x000000, 0x000000),
+        places(0x7E0000, 0x020000),
+        places(0x7C0000, 0x040000),
+        places(0x780000, 0x080000),
+        places(0x700000, 0x100000),
+        places(0x600000, 0x200000),
+        places(0x400000, 0x400000),
+        places(0x000000, 0x800000),
+        places(0x000000, 0x020000),
+        places(0x000000, 0x040000),
+        places(0x000000, 0x080000),
+        places(0x000000, 0x100000),
+        places(0x000000, 0x200000),
+        places(0x000000, 0x400000),
+        places(0x7FF000, 0x001000),
+        places(0x7FE000, 0x002000),
+        places(0x7FC000, 0x004000),
+        places(0x7F8000, 0x008000),
+        places(0x000000, 0x001000),
+        places(0x000000, 0x002000),
+        places(0x000000, 0x004000),
+        places(0x000000, 0x008000),
+        places(0x000000, 0x7E0000),
+        places(0x000000, 0x7C0000),
+        places(0x000000, 0x780000),
+        places(0x000000, 0x700000),
+        places(0x000000, 0x600000),
+        places(0x020000, 0x7E0000),
+        places(0x040000, 0x7C0000),
+        places(0x080000, 0x780000),
+        places(0x100000, 0x700000),
+        places(0x200000, 0x600000),
+        places(0x000000, 0x7FF000),
+        places(0x000000, 0x7FE000),
+        places(0x000000, 0x7FC000),
+        places(0x000000, 0x7F8000),
+        places(0x001000, 0x7FF000),
+        places(0x002000, 0x7FE000),
+        places(0x004000, 0x7FC000),
+        places(0x008000, 0x7F8000),
+    ];
+    let sets = offered(MIB8).collect::<Vec<Places>>(rt.alloc())?;
+    assert_eq!(rt; sets.as_slice(), expected.as_slice());
+    Ok(())
+}
+
+#[test]
+fn all_sets_of_the_16_mib_chip(rt: HostRuntime) -> Result<(), Fail> {
+    let expected = [
+        places(0x000000, 0x0000000),
+        places(0xFC0000, 0x0040000),
+        places(0xF80000, 0x0080000),
+        places(0xF00000, 0x0100000),
+        places(0xE00000, 0x0200000),
+        places(0xC00000, 0x0400000),
+        places(0x800000, 0x0800000),
+        places(0x000000, 0x1000000),
+        places(0x000000, 0x0040000),
+        places(0x000000, 0x0080000),
+        places(0x000000, 0x0100000),
+        places(0x000000, 0x0200000),
+        places(0x000000, 0x0400000),
+        places(0x000000, 0x0800000),
+        places(0xFFF000, 0x0001000),
+        places(0xFFE000, 0x0002000),
+        places(0xFFC000, 0x0004000),
+        places(0xFF8000, 0x0008000),
+        places(0x000000, 0x0001000),
+        places(0x000000, 0x0002000),
+        places(0x000000, 0x0004000),
+        places(0x000000, 0x0008000),
+        places(0x000000, 0x0FC0000),
+        places(0x000000, 0x0F80000),
+        places(0x000000, 0x0F00000),
+        places(0x000000, 0x0E00000),
+        places(0x000000, 0x0C00000),
+        places(0x040000, 0x0FC0000),
+        places(0x080000, 0x0F80000),
+        places(0x100000, 0x0F00000),
+        places(0x200000, 0x0E00000),
+        places(0x400000, 0x0C00000),
+        places(0x000000, 0x0FFF000),
+        places(0x000000, 0x0FFE000),
+        places(0x000000, 0x0FFC000),
+        places(0x000000, 0x0FF8000),
+        places(0x001000, 0x0FFF000),
+        places(0x002000, 0x0FFE000),
+        places(0x004000, 0x0FFC000),
+        places(0x008000, 0x0FF8000),
+    ];
+    let sets = offered(MIB16).collect::<Vec<Places>>(rt.alloc())?;
+    assert_eq!(rt; sets.as_slice(), expected.as_slice());
+    Ok(())
+}
