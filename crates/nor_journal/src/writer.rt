@@ -12,6 +12,9 @@ use sha2::{Digest, Sha256};
 
 /// Writes a journal into a vault, which it holds until the end: the head, the sectors in rising order, the end.
 /// It takes no memory: the digest is fed as the pieces go out.
+///
+/// An error of a call is the vault's refusal of one of the pieces or of the seal, and the vault is then unsealed.
+/// Contracts leave the error's `kept` open, which counts from the beginning of that piece.
 #[derive(Drop)]
 pub struct Writer<'a, V: Vault> {
     vault: &'a mut V,
@@ -32,7 +35,10 @@ impl<'a, V: Vault> Writer<'a, V> {
         }
     }
 
-    /// A writer into an empty, unsealed vault that has written the head. A refusal leaves the vault unsealed.
+    /// A writer into an empty, unsealed vault that has written the head.
+    ///
+    /// A refusal leaves the vault as that of `header` does; the contract can't say so of a vault that was lent,
+    /// so use `on` and `header` where it matters.
     pub fn start(
         vault: &'a mut V,
         id: [u8; 3],
@@ -50,7 +56,8 @@ impl<'a, V: Vault> Writer<'a, V> {
         Ok(writer)
     }
 
-    /// Writes a sector behind the others, as `add` does. A refusal leaves the vault unsealed.
+    /// Writes a sector behind the others, as `add` does. A refusal spends the writer, and leaves the vault as that
+    /// of `add` does; the contract can't say so.
     pub fn sector(mut self, number: u32, bytes: &[u8; 4096]) -> Result<Writer<'a, V>, VaultFault>
         requires { (vault_state V.state self).sealed ≡ false }
         ensures same_vault { IfOk result (λ writer. (vault_of writer).ghost_name ≡ (vault_of self.entry).ghost_name) }
