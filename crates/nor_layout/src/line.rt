@@ -1,6 +1,6 @@
 //! One line of a layout text: `start:end name`.
 
-ghost use Rattle.std.specs.Prelude.{◌≡◌, Option, MatchOption, None, Some, true, false, EachIndex, slice_index, ◌≢◌};
+ghost use Rattle.std.specs.Prelude.{◌≡◌, ◌≢◌, EachIndex, MatchOption, None, Some, slice_index};
 ghost use Rattle.nor_layout.specs.Line.{cut_at, parts_of, without_spaces, is_name_byte, is_name, line_says};
 ghost use Rattle.nor_layout.specs.Steps.{IsFirst};
 

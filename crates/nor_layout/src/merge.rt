@@ -23,7 +23,8 @@ pub(crate) fn fill_around(places: PlacesIn<'_>, bytes: &mut [u8], other: &[u8])
     requires other_long { length other.now ≡ 4096 }
     requires rising { AreRisingFrom 0 (places_left places) }
     ensures { (at : ℕ) → at < 4096 → slice_index bytes.new at
-        ≡ (if is_covered (places_left places.entry) at then slice_index bytes.old at else slice_index other.now at) }
+        ≡ (if is_covered (places_left places.entry) at
+        then slice_index bytes.old at else slice_index other.now at) }
 {
     let mut done = 0;
     for part in places {

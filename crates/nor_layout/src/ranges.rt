@@ -153,7 +153,8 @@ impl Ranges {
         requires long { length bytes.old ≡ 4096 }
         requires other_long { length other.now ≡ 4096 }
         ensures { (at : ℕ) → at < 4096 → slice_index bytes.new at
-            ≡ (if contains self.now (4096 * sector + at) then slice_index bytes.old at else slice_index other.now at) }
+            ≡ (if contains self.now (4096 * sector + at)
+            then slice_index bytes.old at else slice_index other.now at) }
     {
         fill_around(self.places_in(sector), bytes, other)
     }

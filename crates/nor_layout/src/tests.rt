@@ -60,7 +60,12 @@ fn spans_are_kept_apart_at_the_last_address(rt: HostRuntime) -> Result<(), Fail>
     let text = b"FFFFFFFE:ffffffff high\n0:0 low\n2:2 next\n0:ffffffff all";
     let layout = Layout::read(rt.alloc(), text)?;
     let high = span(0xffff_fffe, 0xffff_ffff);
-    includes(&rt, &layout, "high,next,low", &[span(0, 0), span(2, 2), high]);
+    includes(
+        &rt,
+        &layout,
+        "high,next,low",
+        &[span(0, 0), span(2, 2), high],
+    );
     includes(&rt, &layout, "low,all,high", &[span(0, 0xffff_ffff)]);
     Ok(())
 }
@@ -81,8 +86,18 @@ fn a_line_is_read(rt: HostRuntime) -> Result<(), Fail> {
         (b"0:fff a", 0, 0xfff, b"a"),
         (b"0x800:0x8ff bios", 0x800, 0x8ff, b"bios"),
         (b"00000000:00010000 all", 0, 0x1_0000, b"all"),
-        (b"\n0xABCDEFab:0xabcdefAB   !~\n\n", 0xabcd_efab, 0xabcd_efab, b"!~"),
-        (b"1:2 abcdefghijklmnopqrstuvwxyz012345", 1, 2, b"abcdefghijklmnopqrstuvwxyz012345"),
+        (
+            b"\n0xABCDEFab:0xabcdefAB   !~\n\n",
+            0xabcd_efab,
+            0xabcd_efab,
+            b"!~",
+        ),
+        (
+            b"1:2 abcdefghijklmnopqrstuvwxyz012345",
+            1,
+            2,
+            b"abcdefghijklmnopqrstuvwxyz012345",
+        ),
     ];
     for (text, start, end, name) in rows {
         let layout = Layout::read(rt.alloc(), text)?;
@@ -141,7 +156,10 @@ fn a_layout_holds_64_regions(rt: HostRuntime) -> Result<(), Fail> {
     let included = layout.include(names.as_str())?;
     assert_eq!(rt; included.spans().len(), 64);
     let text = many(rt.alloc(), 65)?;
-    assert_eq!(rt; fault(rt.alloc(), text.as_bytes()), Some(LayoutFault::TooMany));
+    assert_eq!(rt;
+        fault(rt.alloc(), text.as_bytes()),
+        Some(LayoutFault::TooMany)
+    );
     Ok(())
 }
 
@@ -152,7 +170,13 @@ fn a_set_answers_for_its_addresses(rt: HostRuntime) -> Result<(), Fail> {
     for (address, want) in [(0x7ff, false), (0x800, true), (0x8ff, true), (0x900, false)] {
         assert_eq!(rt; included.contains(address), want, "{address}");
     }
-    for (sector, want) in [(0, true), (1, true), (2, true), (3, false), (u32::MAX, false)] {
+    for (sector, want) in [
+        (0, true),
+        (1, true),
+        (2, true),
+        (3, false),
+        (u32::MAX, false),
+    ] {
         assert_eq!(rt; included.has_in_sector(sector), want, "{sector}");
     }
     for (size, want) in [(0, true), (0x2000, true), (0x2001, false)] {

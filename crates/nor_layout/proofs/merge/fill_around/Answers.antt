@@ -23,13 +23,13 @@ loop-part-preserved c =
       filled = λ at lt. elim (cases_lt at done) [
         | inl old ↦ c.copy_part.ensures.below at old ∙ kept.filled at old
         | inr new ↦ elim (cases_lt at part.start) [
-            | inl between ↦
-                let none : is_covered all at ≡ false = sym (left at new) ∙ or_from _ _ (covers-below part at between) (is_covered-below part.end more at rising.3 (omega (arith, between, rising.1))) in
-                rw none (c.copy_part.ensures.part at new between)
-            | inr inside ↦
-                let some : is_covered all at ≡ true = sym (left at new) ∙ or_left _ _ (covers-inside part at inside lt) in
-                rw some (c.copy_part.ensures.above at inside ∙ kept.others at new)
-          ]
+          | inl between ↦
+              let none : is_covered all at ≡ false = sym (left at new) ∙ or_from _ _ (covers-below part at between) (is_covered-below part.end more at rising.3 (omega (arith, between, rising.1))) in
+              rw none (c.copy_part.ensures.part at new between)
+          | inr inside ↦
+              let some : is_covered all at ≡ true = sym (left at new) ∙ or_left _ _ (covers-inside part at inside lt) in
+              rw some (c.copy_part.ensures.above at inside ∙ kept.others at new)
+        ]
       ];
       others = λ at le. c.copy_part.ensures.above at (omega (arith, le, rising.1)) ∙ kept.others at (omega (arith, le, rising.0, rising.1));
     }
