@@ -176,7 +176,7 @@ impl Status {
     }
 
     /// The kept bits: all but BUSY, WEL and SUS.
-    pub fn kept(self) -> Status
+    pub(crate) fn kept(self) -> Status
         ensures one { result.one.0 ≡ self.one.0 / 4 * 4 }
         ensures two { result.two.0 ≡ self.two.0 % 128 }
     {
@@ -189,7 +189,7 @@ impl Status {
     /// What a status write leaves of these kept bits: BP, TB, SEC, SRP0, SRP1, QE and CMP are as sent, an LB bit
     /// stays set once it is, and the reserved bit stays as it is.
     #[tactic(auto, using(crate::proofs::StatusBits::written_lt))]
-    pub fn written(self, sent: Status) -> Status
+    pub(crate) fn written(self, sent: Status) -> Status
         ensures one { result.one.0 ≡ sent.one.0 / 4 * 4 }
         ensures two { result.two.0 ≡ bit_or (bit_and sent.two.0 0b1000011) (bit_or (bit_and self.two.0 0b0111100) (bit_and sent.two.0 0b0111000)) }
         ensures fits { result.two.0 < 128 }
