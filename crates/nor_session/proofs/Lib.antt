@@ -1,0 +1,17 @@
+pub mod Operates
+pub mod Erases
+pub mod Results
+pub mod Below
+pub mod LooksLemmas
+pub mod Scans
+pub mod Applies
+pub mod Spans
+pub mod Programs
+pub mod Sectors
+pub mod Whole
+pub mod Carries
+pub mod Identity
+pub mod Saving
+pub mod Calls
+pub mod Rehearses
+pub mod Rehearsed
