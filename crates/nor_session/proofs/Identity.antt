@@ -1,5 +1,5 @@
 -- How the opening tells a chip by its ID and its SFDP bytes.
-use Rattle.std.proofs.Common.{◌≡◌, ◌<◌, ◌≤◌, ◌+◌, ◌*◌, ◌/◌, ◌%◌, ◌∙◌, ◌⊎◌, ℕ, List, [], ◌∷◌, length, slice_index, slice_index_or, refl, ap, sym, subst, arith, inl, inr}
+use Rattle.std.proofs.Common.{◌≡◌, ◌<◌, ◌≤◌, ◌+◌, ◌*◌, ◌/◌, ◌%◌, ◌∙◌, ℕ, List, [], ◌∷◌, length, slice_index, refl, ap, sym, subst, arith, inl, inr}
 use Rattle.std.specs.Prelude.{slice_range, Bool, true, false, not, if◌then◌else◌, ◌==◌}
 use Rattle.std.proofs.Math.Nat.{mod-eq_of_lt}
 use Rattle.std.proofs.lemmas.List.{ext_get_or}
@@ -8,7 +8,7 @@ use lib.Pointwise.{pointwise}
 use lib.Dec.{eqb}
 use Rattle.nor_chip.specs.declared.config.Config.{Config}
 use Rattle.nor_chip.specs.declared.config.TheConstants.{TINY64_SFDP}
-use Rattle.nor_chip.specs.Chip.{Chip, sfdp_byte, status1_of}
+use Rattle.nor_chip.specs.Chip.{Chip, status1_of}
 use Rattle.nor_chip.specs.Bus.{BusState}
 use Rattle.nor_session.specs.declared.refusal.Refusal.{Refusal}
 use Rattle.nor_session.specs.declared.refusal.Refusal.TheVariants.{NoChip, UnknownChip, ImageSize, Vault, Stopped, Timeout, Mismatch, BadJournal, OtherChip, StatusDiffers}
@@ -28,11 +28,11 @@ same_address config at below = let least = config.at_least in let small : at < c
 
 -- what is shown from an address on is one thing
 shown_same : (config : Config) (at : ℕ) (bytes expected : List ℕ) → length bytes ≡ length expected → ShowsAt config at bytes
-  → ((i : ℕ) → i < length bytes → slice_index bytes i ≡ slice_index expected i) → ShowsAt config at expected
+    → ((i : ℕ) → i < length bytes → slice_index bytes i ≡ slice_index expected i) → ShowsAt config at expected
 shown_same config at bytes expected long shows same = λ i below. sym (same i (omega arith)) ∙ shows i (omega arith)
 
 same_shown : (config : Config) (at : ℕ) (bytes expected : List ℕ) → length bytes ≡ length expected → ShowsAt config at bytes → ShowsAt config at expected
-  → (i : ℕ) → i < length bytes → slice_index bytes i ≡ slice_index expected i
+    → (i : ℕ) → i < length bytes → slice_index bytes i ≡ slice_index expected i
 same_shown config at bytes expected long shows shows' = λ i below. shows i below ∙ sym (shows' i (omega arith))
 
 module _ (config : Config) (header first table : List ℕ) (pointer : ℕ) (long_header : length header ≡ 8) (long_first : length first ≡ 8) (long_table : length table ≡ 36)
@@ -47,33 +47,33 @@ module _ (config : Config) (header first table : List ℕ) (pointer : ℕ) (long
   -- a header that points to 16 has its table there
   table_at : ((i : ℕ) → i < length first → slice_index first i ≡ slice_index (slice_range TINY64_SFDP 8 16) i) → ShowsAt config 16 table
   table_at same =
-    let low : slice_index first 4 ≡ 16 = same 4 (omega arith) in
-    let middle : slice_index first 5 ≡ 0 = same 5 (omega arith) in
-    let high : slice_index first 6 ≡ 0 = same 6 (omega arith) in
-    let points : pointer ≡ 16 = omega arith in
-    subst (λ (at : ℕ). ShowsAt config at table) (ap (λ (n : ℕ). n % config.size) points ∙ same_address config 16 (omega arith)) table_shown
+      let low : slice_index first 4 ≡ 16 = same 4 (omega arith) in
+      let middle : slice_index first 5 ≡ 0 = same 5 (omega arith) in
+      let high : slice_index first 6 ≡ 0 = same 6 (omega arith) in
+      let points : pointer ≡ 16 = omega arith in
+      subst (λ (at : ℕ). ShowsAt config at table) (ap (λ (n : ℕ). n % config.size) points ∙ same_address config 16 (omega arith)) table_shown
 
   pub parts_shown : AreSfdpParts header first table → ShowsSfdp config
   parts_shown parts = record {
-      header = shown_same config 0 header (slice_range TINY64_SFDP 0 8) long_header header_at parts.header_same;
-      first = shown_same config 8 first (slice_range TINY64_SFDP 8 16) long_first first_at parts.first_same;
-      table = shown_same config 16 table (slice_range TINY64_SFDP 16 52) long_table (table_at parts.first_same) parts.table_same
-    }
+    header = shown_same config 0 header (slice_range TINY64_SFDP 0 8) long_header header_at parts.header_same;
+    first = shown_same config 8 first (slice_range TINY64_SFDP 8 16) long_first first_at parts.first_same;
+    table = shown_same config 16 table (slice_range TINY64_SFDP 16 52) long_table (table_at parts.first_same) parts.table_same;
+  }
 
   pub shown_parts : ShowsSfdp config → AreSfdpParts header first table
   shown_parts shows =
-    let first_same = same_shown config 8 first (slice_range TINY64_SFDP 8 16) long_first first_at shows.first in
-    record {
-      header_same = same_shown config 0 header (slice_range TINY64_SFDP 0 8) long_header header_at shows.header;
-      first_same = first_same;
-      table_same = same_shown config 16 table (slice_range TINY64_SFDP 16 52) long_table (table_at first_same) shows.table
-    }
+      let first_same = same_shown config 8 first (slice_range TINY64_SFDP 8 16) long_first first_at shows.first in
+      record {
+        header_same = same_shown config 0 header (slice_range TINY64_SFDP 0 8) long_header header_at shows.header;
+        first_same = first_same;
+        table_same = same_shown config 16 table (slice_range TINY64_SFDP 16 52) long_table (table_at first_same) shows.table;
+      }
 
 -- what a refusal tells later, it tells from the start
 pub tells_from : (m n : ℕ) (old mid new : BusState) (refusal : Refusal) → mid.chip.config ≡ old.chip.config → old.left ≤ mid.left + m → OpeningTells n mid new refusal → OpeningTells (m + n) old new refusal
 tells_from m n old mid new NoChip same bound tells = subst IsNoChip same tells
 tells_from m n old mid new (UnknownChip fault) same bound tells =
-  (λ none. tells.0 (subst IsNoChip (sym same) none), λ known. tells.1 (subst IsKnown (sym same) known))
+    (λ none. tells.0 (subst IsNoChip (sym same) none), λ known. tells.1 (subst IsKnown (sym same) known))
 tells_from m n old mid new Stopped same bound tells = (tells.0, omega (arith, tells.1))
 tells_from m n old mid new (ImageSize chip image) same bound tells = tells
 tells_from m n old mid new Vault same bound tells = tells
@@ -86,20 +86,20 @@ tells_from m n old mid new StatusDiffers same bound tells = tells
 -- status 1 of two idle chips with the same latch and kept bits
 pub same_status1 : (new old : Chip) → new.kept1 ≡ old.kept1 → new.latch ≡ old.latch → new.busy ≡ 0 → old.busy ≡ 0 → status1_of new ≡ status1_of old
 same_status1 new old kept latch idle idle' =
-  ap (λ (n : ℕ). 4 * n + (if new.latch then 2 else 0) + (if new.busy == 0 then 0 else 1)) kept
+    ap (λ (n : ℕ). 4 * n + (if new.latch then 2 else 0) + (if new.busy == 0 then 0 else 1)) kept
     ∙ ap (λ (b : Bool). 4 * old.kept1 + (if b then 2 else 0) + (if new.busy == 0 then 0 else 1)) latch
     ∙ ap (λ (n : ℕ). 4 * old.kept1 + (if old.latch then 2 else 0) + (if n == 0 then 0 else 1)) (idle ∙ sym idle')
 
 -- lists of which `==` says that they differ do
 pub differ : (x y : List ℕ) (test : Bool) → test ≡ pointwise eqb x y → test ≡ false → pointwise eqb y y ≡ true → x ≡ y → ⊥
 differ x y test tells fails itself same =
-  let here : pointwise eqb x y ≡ true = ap (λ (l : List ℕ). pointwise eqb l y) same ∙ itself in
-  absurd (true≢false (sym here ∙ sym tells ∙ fails))
+    let here : pointwise eqb x y ≡ true = ap (λ (l : List ℕ). pointwise eqb l y) same ∙ itself in
+    absurd (true≢false (sym here ∙ sym tells ∙ fails))
 
 pub differ' : (x y : List ℕ) (test : Bool) → test ≡ not (pointwise eqb x y) → test ≡ true → pointwise eqb y y ≡ true → x ≡ y → ⊥
 differ' x y test tells holds itself same =
-  let here : pointwise eqb x y ≡ true = ap (λ (l : List ℕ). pointwise eqb l y) same ∙ itself in
-  absurd (true≢false (sym holds ∙ tells ∙ ap not here))
+    let here : pointwise eqb x y ≡ true = ap (λ (l : List ℕ). pointwise eqb l y) same ∙ itself in
+    absurd (true≢false (sym holds ∙ tells ∙ ap not here))
 
 -- the ID of a known chip
 pub known_id : (config : Config) (id : List ℕ) → id ≡ 254 ∷ 16 ∷ 16 ∷ [] → IsKnown config → IsId config id
@@ -114,10 +114,10 @@ two_bits false false = omega arith
 -- the kept bits of the two status bytes
 pub kept1_of : (chip : Chip) (status : ℕ) → status ≡ status1_of chip → status / 4 ≡ chip.kept1
 kept1_of chip status is =
-  let low : ℕ = (if chip.latch then 2 else 0) + (if chip.busy == 0 then 0 else 1) in
-  let small : low < 4 = two_bits chip.latch (chip.busy == 0) in
-  let whole : status ≡ 4 * chip.kept1 + low = is ∙ (let e : 4 * chip.kept1 + (if chip.latch then 2 else 0) + (if chip.busy == 0 then 0 else 1) ≡ 4 * chip.kept1 + low = omega arith in e) in
-  omega (arith, small, whole)
+    let low : ℕ = (if chip.latch then 2 else 0) + (if chip.busy == 0 then 0 else 1) in
+    let small : low < 4 = two_bits chip.latch (chip.busy == 0) in
+    let whole : status ≡ 4 * chip.kept1 + low = is ∙ (let e : 4 * chip.kept1 + (if chip.latch then 2 else 0) + (if chip.busy == 0 then 0 else 1) ≡ 4 * chip.kept1 + low = omega arith in e) in
+    omega (arith, small, whole)
 
 pub kept2_of : (chip : Chip) (status : ℕ) → status ≡ chip.kept2 → chip.kept2 < 128 → status % 128 ≡ chip.kept2
 kept2_of chip status is small = ap (λ (n : ℕ). n % 128) is ∙ mod-eq_of_lt small

@@ -1,5 +1,5 @@
 -- What a rehearsal makes of the answer of its session.
-use Rattle.std.proofs.Common.{◌≡◌, ◌<◌, ◌≤◌, ◌∙◌, ◌⊎◌, ℕ, suc, Bool, List, [], ◌∷◌, length, true, false, refl, sym, subst, arith, inl, inr}
+use Rattle.std.proofs.Common.{◌≡◌, ◌<◌, ◌∙◌, ℕ, suc, Bool, List, [], ◌∷◌, length, true, false, refl, sym, subst, arith}
 use Rattle.std.specs.Prelude.{◌==◌}
 use Rattle.std.proofs.lemmas.Bool.{true≢false, ne_eqb}
 use Rattle.nor_chip.specs.Chip.{Chip, IsSame}
@@ -13,7 +13,7 @@ use Rattle.nor_session.specs.declared.rehearsals.TheConstants.{SESSION_BOUND}
 
 -- an answer of the session that isn't a stop is that of the rehearsal
 pub session_tells : (most len : ℕ) (old new : BusState) (vault vault' : VaultState) (refusal : Refusal) → (refusal ≡ Stopped → old.left < most → ⊥)
-  → SessionTells most len old new vault vault' refusal → RehearsalTells len old.chip vault vault' refusal
+    → SessionTells most len old new vault vault' refusal → RehearsalTells len old.chip vault vault' refusal
 session_tells most len old new vault vault' NoChip never tells = tells
 session_tells most len old new vault vault' (UnknownChip fault) never tells = tells
 session_tells most len old new vault vault' (ImageSize chip image) never tells = tells
@@ -27,7 +27,7 @@ session_tells most len old new vault vault' StatusDiffers never tells = tells
 
 -- and it leaves the chip the same
 pub unchanged : (len : ℕ) (old new : BusState) (vault vault' : VaultState) (refusal : Refusal) → RehearsalTells len old.chip vault vault' refusal
-  → EarlyLeaves old new vault' refusal → CanBeUndone old.chip new.chip vault vault' → IsSame old.chip new.chip
+    → EarlyLeaves old new vault' refusal → CanBeUndone old.chip new.chip vault vault' → IsSame old.chip new.chip
 unchanged len old new vault vault' NoChip tells early undone = undone.same (early tt).1
 unchanged len old new vault vault' (UnknownChip fault) tells early undone = undone.same (early tt).1
 unchanged len old new vault vault' (ImageSize chip image) tells early undone = undone.same (early tt).1

@@ -1,5 +1,5 @@
 -- What is wanted of a chip, and what it takes to get there: touched and raised sectors, pages to program.
-use Rattle.std.specs.Prelude.{ℕ, zero, suc, ◌+◌, ◌*◌, ◌/◌, ◌==◌, ◌||◌, Bool, true, false, not, List, slice_index_or, bit_and, if◌then◌else◌}
+use Rattle.std.specs.Prelude.{ℕ, zero, suc, ◌+◌, ◌*◌, ◌/◌, ◌==◌, ◌||◌, Bool, false, not, List, slice_index_or, bit_and, if◌then◌else◌}
 
 -- some number below n passes
 unfoldable pub any_below : ℕ → (ℕ → Bool) → Bool

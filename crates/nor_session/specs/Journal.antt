@@ -1,5 +1,5 @@
 -- The plain journal: the text that saves a chip.
-use Rattle.std.specs.Prelude.{◌≡◌, ◌<◌, ◌≤◌, ◌+◌, ◌-◌, ◌*◌, ◌/◌, ◌%◌, ℕ, List, [], ◌∷◌, ◌++◌, length, take, slice_index, slice_index_or}
+use Rattle.std.specs.Prelude.{◌≡◌, ◌<◌, ◌+◌, ◌*◌, ◌/◌, ◌%◌, ℕ, List, [], ◌∷◌, length, take, slice_index, slice_index_or}
 use Rattle.nor_chip.specs.declared.config.Config.{Config}
 use Rattle.nor_chip.specs.Chip.{Chip}
 
@@ -7,7 +7,7 @@ use Rattle.nor_chip.specs.Chip.{Chip}
 -- first.
 abbrev pub head_bytes : ℕ → ℕ → ℕ → ℕ → ℕ → ℕ → List ℕ
 head_bytes x y z kept1 kept2 size =
-  x ∷ y ∷ z ∷ 4 * kept1 ∷ kept2 ∷ (size % 256) ∷ (size / 256 % 256) ∷ (size / 65536 % 256) ∷ (size / 16777216) ∷ []
+    x ∷ y ∷ z ∷ 4 * kept1 ∷ kept2 ∷ (size % 256) ∷ (size / 256 % 256) ∷ (size / 65536 % 256) ∷ (size / 16777216) ∷ []
 
 -- a byte of the ID, as 9Fh replies it
 abbrev pub id_byte : Config → ℕ → ℕ

@@ -1,5 +1,4 @@
 -- What a refusal tells while the journal is written.
-use Rattle.std.specs.Prelude.{ℕ}
 use Rattle.nor_journal.specs.Vault.{VaultState, Rose}
 use Rattle.nor_session.specs.declared.refusal.Refusal.{Refusal}
 use Rattle.nor_session.specs.declared.refusal.Refusal.TheVariants.{Vault, Stopped}

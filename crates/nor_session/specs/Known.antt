@@ -1,5 +1,5 @@
 -- Which chips are known, and what the opening of a call tells of a chip.
-use Rattle.std.specs.Prelude.{◌≡◌, ◌<◌, ◌≤◌, ◌+◌, ◌/◌, ◌%◌, ◌⊎◌, ℕ, true, List, [], ◌∷◌, length, slice_index, slice_index_or, slice_range}
+use Rattle.std.specs.Prelude.{◌≡◌, ◌<◌, ◌+◌, ◌/◌, ◌%◌, ◌⊎◌, ℕ, List, [], ◌∷◌, length, slice_index, slice_index_or, slice_range}
 use Rattle.nor_chip.specs.declared.config.Config.{Config}
 use Rattle.nor_chip.specs.declared.config.TheConstants.{TINY64_SFDP}
 use Rattle.nor_chip.specs.Chip.{Chip, IsTiny64, status1_of, sfdp_byte}
@@ -7,7 +7,7 @@ use Rattle.nor_chip.specs.Bus.{BusState}
 use Rattle.nor_session.specs.Changes.{IsEqualTo}
 use Rattle.nor_session.specs.declared.probe.Opening.{Opening}
 use Rattle.nor_session.specs.declared.refusal.Refusal.{Refusal}
-use Rattle.nor_session.specs.declared.refusal.Refusal.TheVariants.{NoChip, UnknownChip, ImageSize, Vault, Stopped, Timeout, Mismatch, BadJournal, OtherChip, StatusDiffers}
+use Rattle.nor_session.specs.declared.refusal.Refusal.TheVariants.{NoChip, UnknownChip, Stopped, Timeout}
 
 -- these three bytes are what 9Fh replies first
 abbrev pub IsId : Config → List ℕ → Type 0

@@ -1,5 +1,5 @@
 -- What functions that only read leave of a bus, and what a halt tells.
-use Rattle.std.specs.Prelude.{◌≡◌, ◌≤◌, ◌<◌, ◌+◌, ◌*◌, ℕ, Bool, true, List, ◌∷◌, slice_index}
+use Rattle.std.specs.Prelude.{◌≡◌, ◌≤◌, ◌<◌, ◌+◌, ◌*◌, ℕ, true, List, ◌∷◌, slice_index}
 use Rattle.nor_chip.specs.Bus.{BusState}
 use Rattle.nor_session.specs.declared.refusal.Halt.{Halt}
 use Rattle.nor_session.specs.declared.refusal.Halt.TheVariants.{Stopped, Timeout, Mismatch}
@@ -53,4 +53,4 @@ pub record IsSectorOf (content : ℕ → ℕ) (sector : ℕ) (bytes : List ℕ) 
 -- a command is an opcode, three bytes that name an address and then data
 abbrev pub IsCommandAt : ℕ → ℕ → List ℕ → List ℕ → Type 0
 IsCommandAt opcode at sent command =
-  (x : ℕ) × (y : ℕ) × (z : ℕ) × (65536 * x + 256 * y + z ≡ at) × (command ≡ opcode ∷ x ∷ y ∷ z ∷ sent)
+    (x : ℕ) × (y : ℕ) × (z : ℕ) × (65536 * x + 256 * y + z ≡ at) × (command ≡ opcode ∷ x ∷ y ∷ z ∷ sent)

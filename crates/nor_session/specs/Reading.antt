@@ -1,5 +1,5 @@
 -- What reading a journal gives, and which chip it saves.
-use Rattle.std.specs.Prelude.{◌≡◌, ◌<◌, ◌≤◌, ◌+◌, ◌*◌, ◌/◌, ◌%◌, ℕ, List, drop, length, slice_index}
+use Rattle.std.specs.Prelude.{◌≡◌, ◌<◌, ◌≤◌, ◌+◌, ◌/◌, ◌%◌, ℕ, List, drop, length, slice_index}
 use Rattle.nor_chip.specs.Chip.{Chip}
 use Rattle.nor_session.specs.declared.journal.Journal.{Journal}
 use Rattle.nor_session.specs.Journal.{size_of, id_byte}

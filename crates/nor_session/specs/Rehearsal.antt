@@ -1,11 +1,11 @@
 -- What a rehearsal promises.
-use Rattle.std.specs.Prelude.{◌≡◌, ◌≢◌, ◌≤◌, ◌<◌, ◌+◌, max, ℕ, Bool, true, false, List, [], ◌∷◌}
+use Rattle.std.specs.Prelude.{◌≡◌, ◌≢◌, ◌≤◌, max, ℕ, true, false, List, [], ◌∷◌}
 use Rattle.nor_chip.specs.Chip.{Chip}
 use Rattle.nor_journal.specs.Vault.{VaultState, Rose}
 use Rattle.nor_session.specs.declared.rehearsals.Rehearsal.{Rehearsal}
 use Rattle.nor_session.specs.declared.rehearsals.TheConstants.{SESSION_BOUND}
 use Rattle.nor_session.specs.declared.refusal.Refusal.{Refusal}
-use Rattle.nor_session.specs.declared.refusal.Refusal.TheVariants.{NoChip, UnknownChip, ImageSize, Vault, Stopped, Timeout, Mismatch, BadJournal, OtherChip, StatusDiffers}
+use Rattle.nor_session.specs.declared.refusal.Refusal.TheVariants.{NoChip, UnknownChip, ImageSize, Vault}
 use Rattle.nor_session.specs.Known.{IsNoChip, IsKnown}
 use Rattle.nor_session.specs.Session.{IsAccepted}
 

@@ -1,11 +1,11 @@
 -- What a restore promises.
-use Rattle.std.specs.Prelude.{◌≡◌, ◌≢◌, ◌≤◌, ◌<◌, ◌+◌, ◌*◌, ◌/◌, ◌%◌, ◌⊎◌, ℕ, true, false, slice_index}
+use Rattle.std.specs.Prelude.{◌≡◌, ◌<◌, ◌/◌, ◌%◌, ℕ, slice_index}
 use Rattle.nor_chip.specs.Chip.{Chip}
 use Rattle.nor_chip.specs.Bus.{BusState}
 use Rattle.nor_session.specs.declared.journal.Journal.{Journal}
 use Rattle.nor_session.specs.declared.probe.Opening.{Opening}
 use Rattle.nor_session.specs.declared.refusal.Refusal.{Refusal}
-use Rattle.nor_session.specs.declared.refusal.Refusal.TheVariants.{NoChip, UnknownChip, ImageSize, Vault, Stopped, Timeout, Mismatch, BadJournal, OtherChip, StatusDiffers}
+use Rattle.nor_session.specs.declared.refusal.Refusal.TheVariants.{NoChip, UnknownChip, Stopped, Timeout, Mismatch, OtherChip, StatusDiffers}
 use Rattle.nor_session.specs.Known.{IsId, IsNoChip, IsKnown}
 
 -- The refusals that a restore gives, on every bus.
@@ -49,7 +49,7 @@ pub record FitsOpening (journal : Journal) (opening : Opening) : Type 0 where
 abbrev pub JudgeTells : Journal → Opening → Refusal → Type 0
 JudgeTells journal opening OtherChip = journal.id ≡ opening.found.id → journal.size ≡ opening.found.size → ⊥
 JudgeTells journal opening StatusDiffers =
-  slice_index journal.status 0 / 4 ≡ opening.found.status1 / 4 → slice_index journal.status 1 % 128 ≡ opening.status2 % 128 → ⊥
+    slice_index journal.status 0 / 4 ≡ opening.found.status1 / 4 → slice_index journal.status 1 % 128 ≡ opening.status2 % 128 → ⊥
 JudgeTells journal opening _ = ⊥
 
 -- The answer is the verdict, the first refusal whose condition holds; or the bus stopped where there were fewer
@@ -59,6 +59,6 @@ RestoreTells most journal old new NoChip = IsNoChip old.chip.config
 RestoreTells most journal old new (UnknownChip fault) = (IsNoChip old.chip.config → ⊥) × (IsKnown old.chip.config → ⊥)
 RestoreTells most journal old new OtherChip = IsKnown old.chip.config × (IsId old.chip.config journal.id → journal.size ≡ old.chip.config.size → ⊥)
 RestoreTells most journal old new StatusDiffers =
-  IsKnown old.chip.config × (slice_index journal.status 0 / 4 ≡ old.chip.kept1 → slice_index journal.status 1 % 128 ≡ old.chip.kept2 → ⊥)
+    IsKnown old.chip.config × (slice_index journal.status 0 / 4 ≡ old.chip.kept1 → slice_index journal.status 1 % 128 ≡ old.chip.kept2 → ⊥)
 RestoreTells most journal old new Stopped = (new.left ≡ 0) × (old.left < most)
 RestoreTells most journal old new _ = ⊥

@@ -1,5 +1,5 @@
 -- What a session promises.
-use Rattle.std.specs.Prelude.{◌≡◌, ◌≢◌, ◌≤◌, ◌<◌, ◌+◌, ◌*◌, ◌/◌, ◌⊎◌, ℕ, true, false, slice_index}
+use Rattle.std.specs.Prelude.{◌≡◌, ◌≢◌, ◌≤◌, ◌<◌, ◌+◌, ◌*◌, ◌/◌, ℕ, true, false}
 use Rattle.nor_chip.specs.Chip.{Chip, IsSame}
 use Rattle.nor_chip.specs.Bus.{BusState}
 use Rattle.nor_journal.specs.Vault.{VaultState, Rose}
@@ -60,7 +60,7 @@ abbrev pub SessionTells : ℕ → ℕ → BusState → BusState → VaultState �
 SessionTells most len old new vault vault' NoChip = IsNoChip old.chip.config
 SessionTells most len old new vault vault' (UnknownChip fault) = (IsNoChip old.chip.config → ⊥) × (IsKnown old.chip.config → ⊥)
 SessionTells most len old new vault vault' (ImageSize chip image) =
-  IsKnown old.chip.config × (chip ≡ old.chip.config.size) × (image ≡ len) × (len ≢ old.chip.config.size)
+    IsKnown old.chip.config × (chip ≡ old.chip.config.size) × (image ≡ len) × (len ≢ old.chip.config.size)
 SessionTells most len old new vault vault' Vault = IsAccepted len old.chip × Rose vault vault'
 SessionTells most len old new vault vault' Stopped = (new.left ≡ 0) × (old.left < most)
 SessionTells most len old new vault vault' _ = ⊥

@@ -1,5 +1,5 @@
 -- What the changes of a session or restore leave, at every moment and at their end, and how many they are.
-use Rattle.std.specs.Prelude.{◌≡◌, ◌≤◌, ◌<◌, ◌+◌, ◌*◌, ◌/◌, ◌⊎◌, ℕ, Bool, true, false, List, length}
+use Rattle.std.specs.Prelude.{◌≡◌, ◌≤◌, ◌+◌, ◌*◌, ◌/◌, ◌⊎◌, ℕ, Bool, false, List}
 use Rattle.nor_chip.specs.Chip.{Chip}
 use Rattle.nor_chip.specs.Bus.{BusState}
 use Rattle.nor_session.specs.declared.scan.Marks.{Marks}

@@ -22,11 +22,18 @@ pub(crate) struct Tally {
 
 impl Tally {
     /// No operation.
-    const NONE: Tally = Tally { count: 0, transactions: 0 };
+    const NONE: Tally = Tally {
+        count: 0,
+        transactions: 0,
+    };
 }
 
 /// Erases the marked sectors among the first ones, so many.
-pub(crate) fn erase_all<B: Bus>(bus: &mut B, marked: &[bool; 4096], sectors: u32) -> Result<Tally, Halt>
+pub(crate) fn erase_all<B: Bus>(
+    bus: &mut B,
+    marked: &[bool; 4096],
+    sectors: u32,
+) -> Result<Tally, Halt>
     requires { sectors ≤ 4096 }
     ensures honest { (B.state bus.new).honest ≡ (B.state bus.old).honest }
     ensures few { IfOk result (λ tally. tally.transactions ≤ 65538 * tally.count) }
@@ -73,7 +80,10 @@ fn erase_marked<B: Bus>(bus: &mut B, marked: &[bool; 4096], sector: u32) -> Resu
     }
     let sent = erase_sector(bus, sector)?;
     let transactions = u64::from(sent);
-    Ok(Tally { count: 1, transactions })
+    Ok(Tally {
+        count: 1,
+        transactions,
+    })
 }
 
 // Programs the span of a page that differs from what is wanted, if any does. The page holds `old` and begins at
@@ -101,7 +111,10 @@ fn program_span<B: Bus>(bus: &mut B, old: &[u8], wanted: &[u8], address: u32) ->
         Some((first, last)) => {
             let sent = program_page(bus, address + first as u32, &wanted[first..last + 1])?;
             let transactions = u64::from(sent);
-            Ok(Tally { count: 1, transactions })
+            Ok(Tally {
+                count: 1,
+                transactions,
+            })
         }
     }
 }
@@ -128,7 +141,12 @@ fn program_pages<B: Bus>(bus: &mut B, old: &[u8], wanted: &[u8], sector: u32) ->
     for page in 0..16 {
         let start = 256 * page as usize;
         let address = 4096 * sector + 256 * page;
-        let more = program_span(bus, &old[start..start + 256], &wanted[start..start + 256], address)?;
+        let more = program_span(
+            bus,
+            &old[start..start + 256],
+            &wanted[start..start + 256],
+            address,
+        )?;
         tally.count += more.count;
         tally.transactions += more.transactions;
     }
@@ -136,7 +154,12 @@ fn program_pages<B: Bus>(bus: &mut B, old: &[u8], wanted: &[u8], sector: u32) ->
 }
 
 // The bytes of a sector, which are read unless it was erased. Answers the number of transactions.
-fn load<B: Bus>(bus: &mut B, sector: u32, erased: bool, bytes: &mut [u8; 4096]) -> Result<u64, Stopped>
+fn load<B: Bus>(
+    bus: &mut B,
+    sector: u32,
+    erased: bool,
+    bytes: &mut [u8; 4096],
+) -> Result<u64, Stopped>
     requires { sector < 4096 }
     ensures quiet { Quiet (B.state bus.old) (B.state bus.new) }
     ensures few { IfOk result (λ sent. sent ≤ 1) }
@@ -155,7 +178,12 @@ fn load<B: Bus>(bus: &mut B, sector: u32, erased: bool, bytes: &mut [u8; 4096]) 
 }
 
 // Programs a sector, if it is touched, with what is wanted of the chip.
-fn program_sector<B: Bus>(bus: &mut B, wanted: &[u8], marks: &Marks, sector: u32) -> Result<Tally, Halt>
+fn program_sector<B: Bus>(
+    bus: &mut B,
+    wanted: &[u8],
+    marks: &Marks,
+    sector: u32,
+) -> Result<Tally, Halt>
     requires in_range { sector < 4096 }
     requires in_image { 4096 * sector + 4096 ≤ length wanted.now }
     ensures honest { (B.state bus.new).honest ≡ (B.state bus.old).honest }
@@ -180,11 +208,19 @@ fn program_sector<B: Bus>(bus: &mut B, wanted: &[u8], marks: &Marks, sector: u32
     let start = 4096 * sector as usize;
     let tally = program_pages(bus, &old, &wanted[start..start + 4096], sector)?;
     let transactions = tally.transactions + reads;
-    Ok(Tally { count: tally.count, transactions })
+    Ok(Tally {
+        count: tally.count,
+        transactions,
+    })
 }
 
 /// Programs the touched sectors among the first ones, so many, with what is wanted of the chip.
-pub(crate) fn program_all<B: Bus>(bus: &mut B, wanted: &[u8], marks: &Marks, sectors: u32) -> Result<Tally, Halt>
+pub(crate) fn program_all<B: Bus>(
+    bus: &mut B,
+    wanted: &[u8],
+    marks: &Marks,
+    sectors: u32,
+) -> Result<Tally, Halt>
     requires in_range { sectors ≤ 4096 }
     requires in_image { length wanted.now ≡ 4096 * sectors }
     ensures honest { (B.state bus.new).honest ≡ (B.state bus.old).honest }
@@ -213,7 +249,12 @@ pub(crate) fn program_all<B: Bus>(bus: &mut B, wanted: &[u8], marks: &Marks, sec
 
 /// Reads the touched sectors among the first ones, so many, and compares them with what is wanted of the chip.
 /// Answers the number of transactions.
-pub(crate) fn verify_all<B: Bus>(bus: &mut B, wanted: &[u8], marks: &Marks, sectors: u32) -> Result<u64, Halt>
+pub(crate) fn verify_all<B: Bus>(
+    bus: &mut B,
+    wanted: &[u8],
+    marks: &Marks,
+    sectors: u32,
+) -> Result<u64, Halt>
     requires in_range { sectors ≤ 4096 }
     requires in_image { length wanted.now ≡ 4096 * sectors }
     ensures quiet { Quiet (B.state bus.old) (B.state bus.new) }
@@ -232,7 +273,12 @@ pub(crate) fn verify_all<B: Bus>(bus: &mut B, wanted: &[u8], marks: &Marks, sect
 }
 
 // Reads a sector, if it is touched, and compares it. Answers the number of transactions.
-fn verify_sector<B: Bus>(bus: &mut B, wanted: &[u8], marks: &Marks, sector: u32) -> Result<u64, Halt>
+fn verify_sector<B: Bus>(
+    bus: &mut B,
+    wanted: &[u8],
+    marks: &Marks,
+    sector: u32,
+) -> Result<u64, Halt>
     requires in_range { sector < 4096 }
     requires in_image { 4096 * sector + 4096 ≤ length wanted.now }
     ensures quiet { Quiet (B.state bus.old) (B.state bus.new) }
@@ -267,7 +313,12 @@ pub(crate) struct Work {
 }
 
 /// Makes the chip what is wanted of it, sector by sector as the marks say, and checks what was written.
-pub(crate) fn carry_out<B: Bus>(bus: &mut B, wanted: &[u8], marks: &Marks, sectors: u32) -> Result<Work, Halt>
+pub(crate) fn carry_out<B: Bus>(
+    bus: &mut B,
+    wanted: &[u8],
+    marks: &Marks,
+    sectors: u32,
+) -> Result<Work, Halt>
     requires in_range { sectors ≤ 4096 }
     requires in_image { length wanted.now ≡ 4096 * sectors }
     ensures honest { (B.state bus.new).honest ≡ (B.state bus.old).honest }

@@ -3,7 +3,6 @@ ghost use Rattle.std.specs.Prelude.{◌≡◌, ◌<◌, ◌≤◌, ◌+◌, ◌-
 ghost use Rattle.nor_chip.specs.Chip.{status1_of};
 ghost use Rattle.nor_session.specs.Looks.{Quiet, Looked, HaltsBelow, IsWaitHalt, NamesAddress, IsSectorOf, IsCommandAt};
 ghost use Rattle.nor_session.specs.declared.refusal.Halt.{Halt};
-
 ghost use Rattle.nor_session.specs.Operates.{Falls, HasKept, HasOperated, HasErased, HasProgrammed, CanErase, CanProgram};
 
 use crate::Halt;
@@ -75,7 +74,11 @@ pub(crate) fn wait<B: Bus>(bus: &mut B, address: u32) -> Result<Waited, Halt>
 }
 
 /// The bytes of a sector.
-pub(crate) fn read_sector<B: Bus>(bus: &mut B, sector: u32, bytes: &mut [u8; 4096]) -> Result<(), Stopped>
+pub(crate) fn read_sector<B: Bus>(
+    bus: &mut B,
+    sector: u32,
+    bytes: &mut [u8; 4096],
+) -> Result<(), Stopped>
     requires { sector < 4096 }
     ensures quiet { Quiet (B.state bus.old) (B.state bus.new) }
     ensures looked { (B.state bus.old).honest ≡ true → Looked 1 (B.state bus.old) (B.state bus.new) }
@@ -92,7 +95,11 @@ pub(crate) fn address_bytes(address: u32) -> [u8; 3]
     requires { address < 2 ^ 24 }
     ensures { NamesAddress address result }
 {
-    [(address / 65536) as u8, (address / 256 % 256) as u8, (address % 256) as u8]
+    [
+        (address / 65536) as u8,
+        (address / 256 % 256) as u8,
+        (address % 256) as u8,
+    ]
 }
 
 // One operation: write enable, the command, a wait. Answers the number of transactions.

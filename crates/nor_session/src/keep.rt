@@ -15,7 +15,12 @@ use nor_chip::Bus;
 use nor_journal::Vault;
 
 /// Reads the first sectors, so many, plans each against the image and puts it into the vault.
-pub(crate) fn save_all<B: Bus, V: Vault>(bus: &mut B, vault: &mut V, wanted: &[u8], sectors: u32) -> Result<Marks, Refusal>
+pub(crate) fn save_all<B: Bus, V: Vault>(
+    bus: &mut B,
+    vault: &mut V,
+    wanted: &[u8],
+    sectors: u32,
+) -> Result<Marks, Refusal>
     requires in_range { sectors ≤ 4096 }
     requires in_image { length wanted.now ≡ 4096 * sectors }
     requires unsealed { (V.state vault.old).sealed ≡ false }
@@ -46,7 +51,13 @@ pub(crate) fn save_all<B: Bus, V: Vault>(bus: &mut B, vault: &mut V, wanted: &[u
 }
 
 /// Saves the chip into an empty vault and seals it.
-pub(crate) fn keep<B: Bus, V: Vault>(bus: &mut B, vault: &mut V, wanted: &[u8], opening: &Opening, sectors: u32) -> Result<Marks, Refusal>
+pub(crate) fn keep<B: Bus, V: Vault>(
+    bus: &mut B,
+    vault: &mut V,
+    wanted: &[u8],
+    opening: &Opening,
+    sectors: u32,
+) -> Result<Marks, Refusal>
     requires in_range { sectors ≤ 4096 }
     requires in_image { length wanted.now ≡ 4096 * sectors }
     requires empty { (V.state vault.old).bytes ≡ [] }

@@ -1,7 +1,6 @@
 //! Sessions that change a flash chip and can be undone, the restores that undo them, and rehearsals of both.
 #![tactic(auto)]
 
-
 mod apply;
 mod command;
 mod compare;

@@ -31,7 +31,13 @@ pub struct Rehearsal {
 /// are allowed as any call needs. At most 64 stops; the vault is empty and unsealed.
 ///
 /// Afterwards the chip is as before, at every exit.
-pub fn rehearse<B: Meter>(bus: &mut B, vault: &mut MemVault, image: &mut [u8], request: &Request, stops: &[u64]) -> Result<Rehearsal, Refusal>
+pub fn rehearse<B: Meter>(
+    bus: &mut B,
+    vault: &mut MemVault,
+    image: &mut [u8],
+    request: &Request,
+    stops: &[u64],
+) -> Result<Rehearsal, Refusal>
     requires few { length stops.now ≤ 64 }
     requires empty { (⟦<MemVault as Vault>⟧.state vault.old).bytes ≡ [] }
     requires unsealed { (⟦<MemVault as Vault>⟧.state vault.old).sealed ≡ false }
@@ -78,7 +84,13 @@ fn first_allowed(stops: &[u64]) -> u64
 }
 
 // Runs the session under the first of the stops, and tells whether it ended.
-fn stopped_session<B: Meter>(bus: &mut B, vault: &mut MemVault, image: &mut [u8], request: &Request, stops: &[u64]) -> Result<bool, Refusal>
+fn stopped_session<B: Meter>(
+    bus: &mut B,
+    vault: &mut MemVault,
+    image: &mut [u8],
+    request: &Request,
+    stops: &[u64],
+) -> Result<bool, Refusal>
     requires empty { (⟦<MemVault as Vault>⟧.state vault.old).bytes ≡ [] }
     requires unsealed { (⟦<MemVault as Vault>⟧.state vault.old).sealed ≡ false }
     ensures honest { (B.state bus.new).honest ≡ (B.state bus.old).honest }
@@ -120,7 +132,11 @@ fn saved_by(text: &[u8]) -> Result<Journal<'_>, Refusal>
 }
 
 // Restores under these stops in turn, until one ends, and at last under no stop. Answers how many were run.
-fn restore_in_turn<B: Meter>(bus: &mut B, journal: &Journal<'_>, stops: &[u64]) -> Result<u32, Refusal>
+fn restore_in_turn<B: Meter>(
+    bus: &mut B,
+    journal: &Journal<'_>,
+    stops: &[u64],
+) -> Result<u32, Refusal>
     requires few { length stops.now ≤ 64 }
     ensures honest { (B.state bus.new).honest ≡ (B.state bus.old).honest }
     ensures restores { IfOk result (λ restores. (1 ≤ restores) × (restores ≤ length stops.now + 1)) }

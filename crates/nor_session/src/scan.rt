@@ -45,7 +45,12 @@ impl Marks {
 }
 
 /// Reads a sector, and plans it against an image of the chip's length.
-pub(crate) fn scan_sector<B: Bus>(bus: &mut B, wanted: &[u8], sector: u32, bytes: &mut [u8; 4096]) -> Result<SectorPlan, Stopped>
+pub(crate) fn scan_sector<B: Bus>(
+    bus: &mut B,
+    wanted: &[u8],
+    sector: u32,
+    bytes: &mut [u8; 4096],
+) -> Result<SectorPlan, Stopped>
     requires in_range { sector < 4096 }
     requires in_image { 4096 * (sector + 1) ≤ length wanted.now }
     ensures quiet { Quiet (B.state bus.old) (B.state bus.new) }

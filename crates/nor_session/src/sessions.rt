@@ -22,7 +22,12 @@ pub(crate) const SECTORS: u32 = 16;
 /// The vault is empty and unsealed. For a write the image has the whole chip's bytes; it is the session's one
 /// buffer beside fixed arrays. At every exit the chip is the same, or the vault is sealed and its journal leads
 /// back.
-pub fn session<B: Bus, V: Vault>(bus: &mut B, vault: &mut V, image: &mut [u8], request: &Request) -> Result<Report, Refusal>
+pub fn session<B: Bus, V: Vault>(
+    bus: &mut B,
+    vault: &mut V,
+    image: &mut [u8],
+    request: &Request,
+) -> Result<Report, Refusal>
     requires empty { (V.state vault.old).bytes ≡ [] }
     requires unsealed { (V.state vault.old).sealed ≡ false }
 

@@ -6,14 +6,14 @@ use Rattle.nor_session.proofs.apply.erase_all.Given as goal
 
 abbrev pub invariant-loop-sector : goal.invariant-loop-sector
 invariant-loop-sector g l =
-  let old = g.B.Bus.state l.fn.bus in let now = g.B.Bus.state l.bus in
-  record {
-    honest : now.honest ≡ old.honest;
-    few : l.tally.transactions ≤ 65538 * l.tally.count;
-    counted : l.tally.count ≡ count_below l.sector (mark_at l.fn.marked);
-    fewer : l.tally.count ≤ l.sector;
-    falls : old.honest ≡ true → Falls (65538 * l.sector) old now;
-    done : old.honest ≡ true → IsReady (4096 * l.fn.sectors) old.chip → HasErasedAll (mark_at l.fn.marked) l.sector old now;
-    idle : old.honest ≡ true → IsReady (4096 * l.fn.sectors) old.chip → now.chip.busy ≡ 0;
-    count : old.honest ≡ true → old.left ≡ now.left + l.tally.transactions
-  }
+    let old = g.B.Bus.state l.fn.bus in let now = g.B.Bus.state l.bus in
+    record {
+      honest : now.honest ≡ old.honest;
+      few : l.tally.transactions ≤ 65538 * l.tally.count;
+      counted : l.tally.count ≡ count_below l.sector (mark_at l.fn.marked);
+      fewer : l.tally.count ≤ l.sector;
+      falls : old.honest ≡ true → Falls (65538 * l.sector) old now;
+      done : old.honest ≡ true → IsReady (4096 * l.fn.sectors) old.chip → HasErasedAll (mark_at l.fn.marked) l.sector old now;
+      idle : old.honest ≡ true → IsReady (4096 * l.fn.sectors) old.chip → now.chip.busy ≡ 0;
+      count : old.honest ≡ true → old.left ≡ now.left + l.tally.transactions;
+    }

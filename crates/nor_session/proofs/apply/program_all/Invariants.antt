@@ -7,16 +7,16 @@ use Rattle.nor_session.proofs.apply.program_all.Given as goal
 
 abbrev pub invariant-loop-sector : goal.invariant-loop-sector
 invariant-loop-sector g l =
-  let old = g.B.Bus.state l.fn.bus in let now = g.B.Bus.state l.bus in
-  record {
-    honest : now.honest ≡ old.honest;
-    fewer : l.tally.count ≤ 16 * l.sector;
-    few : l.tally.transactions ≤ count_below l.sector (mark_at l.fn.marks.touched) + 65538 * l.tally.count;
-    falls : old.honest ≡ true → Falls (1048609 * l.sector) old now;
-    done : old.honest ≡ true → CanProgramAll l.fn.marks l.fn.wanted l.fn.sectors old.chip
-      → HasProgrammedAll (slice_index l.fn.wanted) 0 (4096 * l.sector) old now;
-    counted : old.honest ≡ true → CanProgramAll l.fn.marks l.fn.wanted l.fn.sectors old.chip
-      → l.tally.count ≡ count_below (16 * l.sector) (is_programmed old.chip.bytes (slice_index l.fn.wanted));
-    idle : old.honest ≡ true → old.chip.busy ≡ 0 → now.chip.busy ≡ 0;
-    count : old.honest ≡ true → old.left ≡ now.left + l.tally.transactions
-  }
+    let old = g.B.Bus.state l.fn.bus in let now = g.B.Bus.state l.bus in
+    record {
+      honest : now.honest ≡ old.honest;
+      fewer : l.tally.count ≤ 16 * l.sector;
+      few : l.tally.transactions ≤ count_below l.sector (mark_at l.fn.marks.touched) + 65538 * l.tally.count;
+      falls : old.honest ≡ true → Falls (1048609 * l.sector) old now;
+      done : old.honest ≡ true → CanProgramAll l.fn.marks l.fn.wanted l.fn.sectors old.chip
+          → HasProgrammedAll (slice_index l.fn.wanted) 0 (4096 * l.sector) old now;
+      counted : old.honest ≡ true → CanProgramAll l.fn.marks l.fn.wanted l.fn.sectors old.chip
+          → l.tally.count ≡ count_below (16 * l.sector) (is_programmed old.chip.bytes (slice_index l.fn.wanted));
+      idle : old.honest ≡ true → old.chip.busy ≡ 0 → now.chip.busy ≡ 0;
+      count : old.honest ≡ true → old.left ≡ now.left + l.tally.transactions;
+    }

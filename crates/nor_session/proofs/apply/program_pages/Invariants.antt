@@ -6,15 +6,15 @@ use Rattle.nor_session.proofs.apply.program_pages.Given as goal
 
 abbrev pub invariant-loop-page : goal.invariant-loop-page
 invariant-loop-page g l =
-  let old = g.B.Bus.state l.fn.bus in let now = g.B.Bus.state l.bus in
-  record {
-    honest : now.honest ≡ old.honest;
-    few : l.tally.transactions ≤ 65538 * l.tally.count;
-    counted : l.tally.count ≡ count_below l.page (is_page_other_at l.fn.old l.fn.wanted);
-    fewer : l.tally.count ≤ l.page;
-    falls : old.honest ≡ true → Falls (65538 * l.page) old now;
-    done : old.honest ≡ true → CanProgramSector l.fn.old l.fn.wanted l.fn.sector old.chip
-      → HasProgrammedAll (byte_from l.fn.wanted (4096 * l.fn.sector)) (4096 * l.fn.sector) (4096 * l.fn.sector + 256 * l.page) old now;
-    idle : old.honest ≡ true → old.chip.busy ≡ 0 → now.chip.busy ≡ 0;
-    count : old.honest ≡ true → old.left ≡ now.left + l.tally.transactions
-  }
+    let old = g.B.Bus.state l.fn.bus in let now = g.B.Bus.state l.bus in
+    record {
+      honest : now.honest ≡ old.honest;
+      few : l.tally.transactions ≤ 65538 * l.tally.count;
+      counted : l.tally.count ≡ count_below l.page (is_page_other_at l.fn.old l.fn.wanted);
+      fewer : l.tally.count ≤ l.page;
+      falls : old.honest ≡ true → Falls (65538 * l.page) old now;
+      done : old.honest ≡ true → CanProgramSector l.fn.old l.fn.wanted l.fn.sector old.chip
+          → HasProgrammedAll (byte_from l.fn.wanted (4096 * l.fn.sector)) (4096 * l.fn.sector) (4096 * l.fn.sector + 256 * l.page) old now;
+      idle : old.honest ≡ true → old.chip.busy ≡ 0 → now.chip.busy ≡ 0;
+      count : old.honest ≡ true → old.left ≡ now.left + l.tally.transactions;
+    }

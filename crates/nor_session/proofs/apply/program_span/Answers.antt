@@ -1,9 +1,6 @@
-use Rattle.std.proofs.Common.{◌⊎◌, sym, ap, ℕ, Bool}
+use Rattle.std.proofs.Common.{sym, ap, Bool}
 use Rattle.std.specs.Prelude.{if◌then◌else◌}
-use Rattle.nor_session.specs.Operates.{HasKept, HasProgrammed}
-use Rattle.nor_session.specs.Changes.{MayProgram, HasProgrammedAll, byte_from, CanProgramPage}
-use Rattle.nor_session.proofs.Results.{OnOk-map}
-use Rattle.nor_session.proofs.Spans.{equal_page, other_page, span_of, can_program, span_done, equal_done, done_may, kept_may}
+use Rattle.nor_session.proofs.Spans.{equal_page, other_page, can_program, span_done, equal_done}
 use Rattle.nor_session.proofs.apply.program_span.Goals as goal
 
 pub returns-in-None-clause-counted : goal.returns-in-None-clause-counted
@@ -14,11 +11,11 @@ returns-in-None-clause-done g c honest can = equal_done c.args.old.now c.args.wa
 
 pub returns-in_ok-sent-in-Some-clause-counted : goal.returns-in_ok-sent-in-Some-clause-counted
 returns-in_ok-sent-in-Some-clause-counted g c =
-  sym (ap (λ (b : Bool). if b then 1 else 0) (other_page c.args.old.now c.args.wanted.now c.in-Some.first c.in-Some.last c.requires.old_page c.in-Some.ensures))
+    sym (ap (λ (b : Bool). if b then 1 else 0) (other_page c.args.old.now c.args.wanted.now c.in-Some.first c.in-Some.last c.requires.old_page c.in-Some.ensures))
 
 pub returns-in_ok-sent-in-Some-clause-done : goal.returns-in_ok-sent-in-Some-clause-done
 returns-in_ok-sent-in-Some-clause-done g c honest can =
-  span_done c.args.old.now c.args.wanted.now c.args.address c.in-Some.first c.in-Some.last (g.B.Bus.state c.args.bus.now) (g.B.Bus.state c.program_page.new.bus)
+    span_done c.args.old.now c.args.wanted.now c.args.address c.in-Some.first c.in-Some.last (g.B.Bus.state c.args.bus.now) (g.B.Bus.state c.program_page.new.bus)
     c.requires.old_page c.requires.wanted_page c.in-Some.ensures can
     (c.in_ok-sent-in-Some.ensures.done honest (can_program c.args.old.now c.args.wanted.now c.args.address c.in-Some.first c.in-Some.last (g.B.Bus.state c.args.bus.now)
-      c.requires.old_page c.requires.wanted_page c.in-Some.ensures can))
+    c.requires.old_page c.requires.wanted_page c.in-Some.ensures can))

@@ -8,10 +8,10 @@ use Rattle.nor_session.proofs.command.program_page.Goals.{After-operation}
 
 -- the command that was sent has this effect
 sent : (g : _) (c : After-operation g) → CanProgram c.args.address (length c.args.bytes.now) (g.B.Bus.state c.args.bus.now).chip
-  → HasOperated c.deref.result.now (g.B.Bus.state c.args.bus.now) (g.B.Bus.state c.operation.new.bus)
-  → HasProgrammed c.args.address c.args.bytes.now (g.B.Bus.state c.args.bus.now) (g.B.Bus.state c.operation.new.bus)
+    → HasOperated c.deref.result.now (g.B.Bus.state c.args.bus.now) (g.B.Bus.state c.operation.new.bus)
+    → HasProgrammed c.args.address c.args.bytes.now (g.B.Bus.state c.args.bus.now) (g.B.Bus.state c.operation.new.bus)
 sent g c can operated =
-  programmed_by c.args.address c.args.bytes.now c.deref.result.now (g.B.Bus.state c.args.bus.now) (g.B.Bus.state c.operation.new.bus)
+    programmed_by c.args.address c.args.bytes.now c.deref.result.now (g.B.Bus.state c.args.bus.now) (g.B.Bus.state c.operation.new.bus)
     (subst (λ (command : List ℕ). IsCommandAt 0x02 c.args.address c.args.bytes.now command) (sym c.deref.ensures.0) c.program_command-command.ensures)
     c.requires.some c.requires.in_page can operated
 

@@ -7,5 +7,5 @@ invariant-loop-i l = record {
   within : l.last < l.i;
   inside : l.last < length l.old;
   differs : l.last ≢ l.first → slice_index l.old l.last ≢ slice_index l.wanted l.last;
-  behind : (k : ℕ) → l.last < k → k < l.i → slice_index l.old k ≡ slice_index l.wanted k
+  behind : (k : ℕ) → l.last < k → k < l.i → slice_index l.old k ≡ slice_index l.wanted k;
 }

@@ -6,5 +6,5 @@ use Rattle.nor_session.proofs.compare.raises.Goals as goal
 
 pub returns-then-wanted-i : goal.returns-then-wanted-i
 returns-then-wanted-i c =
-  let here : must_rise (slice_index c.args.old.now c.loop-i.i) (slice_index c.args.wanted.now c.loop-i.i) ≡ true = grind (arith, nat_tests) in
-  sym (any_below-some (length c.args.old.now) c.loop-i.i (λ i. must_rise (slice_index c.args.old.now i) (slice_index c.args.wanted.now i)) (omega arith) here)
+    let here : must_rise (slice_index c.args.old.now c.loop-i.i) (slice_index c.args.wanted.now c.loop-i.i) ≡ true = grind (arith, nat_tests) in
+    sym (any_below-some (length c.args.old.now) c.loop-i.i (λ i. must_rise (slice_index c.args.old.now i) (slice_index c.args.wanted.now i)) (omega arith) here)

@@ -7,20 +7,20 @@ use Rattle.nor_session.proofs.keep.save_all.Given as goal
 
 abbrev pub invariant-loop-sector : goal.invariant-loop-sector
 invariant-loop-sector g l =
-  let old = g.B.Bus.state l.fn.bus in let now = g.B.Bus.state l.bus in
-  let before = g.V.Vault.state l.fn.vault in let vault = g.V.Vault.state l.vault in
-  record {
-    quiet : Quiet old now;
-    unsealed : vault.sealed ≡ false;
-    telling : vault.telling ≡ before.telling;
-    failures : vault.failures ≡ before.failures;
-    few : l.marks.touched_count ≤ l.sector;
-    counted : IsCounted l.sector l.marks;
-    bytes : length l.bytes ≡ 4096;
-    looked : old.honest ≡ true → Looked l.sector old now;
-    marks : old.honest ≡ true → old.chip.busy ≡ 0 → old.chip.config.size ≡ 4096 * l.fn.sectors
-      → AreMarks (wanted_of l.fn.wanted old.chip.bytes) old.chip.bytes l.sector l.marks;
-    saved : old.honest ≡ true → old.chip.busy ≡ 0 → old.chip.config.size ≡ 4096 * l.fn.sectors → before.telling ≡ true → HasSaved 0 old.chip before.bytes
-      → HasSaved (4096 * l.sector) old.chip vault.bytes;
-    count : old.honest ≡ true → old.left ≡ now.left + l.sector
-  }
+    let old = g.B.Bus.state l.fn.bus in let now = g.B.Bus.state l.bus in
+    let before = g.V.Vault.state l.fn.vault in let vault = g.V.Vault.state l.vault in
+    record {
+      quiet : Quiet old now;
+      unsealed : vault.sealed ≡ false;
+      telling : vault.telling ≡ before.telling;
+      failures : vault.failures ≡ before.failures;
+      few : l.marks.touched_count ≤ l.sector;
+      counted : IsCounted l.sector l.marks;
+      bytes : length l.bytes ≡ 4096;
+      looked : old.honest ≡ true → Looked l.sector old now;
+      marks : old.honest ≡ true → old.chip.busy ≡ 0 → old.chip.config.size ≡ 4096 * l.fn.sectors
+          → AreMarks (wanted_of l.fn.wanted old.chip.bytes) old.chip.bytes l.sector l.marks;
+      saved : old.honest ≡ true → old.chip.busy ≡ 0 → old.chip.config.size ≡ 4096 * l.fn.sectors → before.telling ≡ true → HasSaved 0 old.chip before.bytes
+          → HasSaved (4096 * l.sector) old.chip vault.bytes;
+      count : old.honest ≡ true → old.left ≡ now.left + l.sector;
+    }

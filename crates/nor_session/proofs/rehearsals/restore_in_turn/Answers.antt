@@ -8,60 +8,60 @@ use Rattle.nor_session.proofs.rehearsals.restore_in_turn.Goals as goal
 
 pub loop-stop-preserved : goal.loop-stop-preserved
 loop-stop-preserved g c =
-  let here = c.loop-stop.invariant in
-  let step = c.in_ok-ends.ensures in
-  let allowed = c.allow.ensures in
-  record {
-    honest = c.ends.ensures.honest ∙ allowed.honest ∙ here.honest;
-    restores = omega (arith, here.restores);
-    config = λ honest genuine.
-      let same : (g.B.Bus.state c.allow.new.self).chip.config ≡ (g.B.Bus.state c.args.bus.now).chip.config
-        = ap (λ (chip : Chip). chip.config) allowed.chip ∙ here.config honest genuine in
-      c.ends.ensures.config (allowed.honest ∙ here.honest ∙ honest) (subst IsGenuine (sym same) genuine) ∙ same;
-    within = λ honest genuine first saves within.
-      let same : (g.B.Bus.state c.allow.new.self).chip.config ≡ (g.B.Bus.state c.args.bus.now).chip.config
-        = ap (λ (chip : Chip). chip.config) allowed.chip ∙ here.config honest genuine in
-      c.ends.ensures.keeps_within (allowed.honest ∙ here.honest ∙ honest) (subst IsGenuine (sym same) genuine) first saves
-        (subst (IsWithin first) (sym allowed.chip) (here.within honest genuine first saves within))
-  }
+    let here = c.loop-stop.invariant in
+    let step = c.in_ok-ends.ensures in
+    let allowed = c.allow.ensures in
+    record {
+      honest = c.ends.ensures.honest ∙ allowed.honest ∙ here.honest;
+      restores = omega (arith, here.restores);
+      config = λ honest genuine.
+          let same : (g.B.Bus.state c.allow.new.self).chip.config ≡ (g.B.Bus.state c.args.bus.now).chip.config
+          = ap (λ (chip : Chip). chip.config) allowed.chip ∙ here.config honest genuine in
+          c.ends.ensures.config (allowed.honest ∙ here.honest ∙ honest) (subst IsGenuine (sym same) genuine) ∙ same;
+      within = λ honest genuine first saves within.
+          let same : (g.B.Bus.state c.allow.new.self).chip.config ≡ (g.B.Bus.state c.args.bus.now).chip.config
+          = ap (λ (chip : Chip). chip.config) allowed.chip ∙ here.config honest genuine in
+          c.ends.ensures.keeps_within (allowed.honest ∙ here.honest ∙ honest) (subst IsGenuine (sym same) genuine) first saves
+          (subst (IsWithin first) (sym allowed.chip) (here.within honest genuine first saves within));
+    }
 
 pub returns-then-branch-clause-gives_back : goal.returns-then-branch-clause-gives_back
 returns-then-branch-clause-gives_back g c honest genuine known = λ first saves within.
-  let here = c.loop-stop.invariant in
-  let allowed = c.allow.ensures in
-  let same : (g.B.Bus.state c.allow.new.self).chip.config ≡ (g.B.Bus.state c.args.bus.now).chip.config
+    let here = c.loop-stop.invariant in
+    let allowed = c.allow.ensures in
+    let same : (g.B.Bus.state c.allow.new.self).chip.config ≡ (g.B.Bus.state c.args.bus.now).chip.config
     = ap (λ (chip : Chip). chip.config) allowed.chip ∙ here.config honest genuine in
-  c.in_ok-ends.ensures.gives_back (allowed.honest ∙ here.honest ∙ honest) (subst IsGenuine (sym same) genuine) first saves
+    c.in_ok-ends.ensures.gives_back (allowed.honest ∙ here.honest ∙ honest) (subst IsGenuine (sym same) genuine) first saves
     (subst (IsWithin first) (sym allowed.chip) (here.within honest genuine first saves within)) c.if-branch.true
 
 pub returns-in_err-ends-clause-ends : goal.returns-in_err-ends-clause-ends
 returns-in_err-ends-clause-ends g c honest genuine known = λ first saves within.
-  let here = c.loop-stop.invariant in
-  let allowed = c.allow.ensures in
-  let same : (g.B.Bus.state c.allow.new.self).chip.config ≡ (g.B.Bus.state c.args.bus.now).chip.config
+    let here = c.loop-stop.invariant in
+    let allowed = c.allow.ensures in
+    let same : (g.B.Bus.state c.allow.new.self).chip.config ≡ (g.B.Bus.state c.args.bus.now).chip.config
     = ap (λ (chip : Chip). chip.config) allowed.chip ∙ here.config honest genuine in
-  let never = c.in_err-ends.ensures.answers (allowed.honest ∙ here.honest ∙ honest) (subst IsGenuine (sym same) genuine) (subst IsKnown (sym same) known) first saves
+    let never = c.in_err-ends.ensures.answers (allowed.honest ∙ here.honest ∙ honest) (subst IsGenuine (sym same) genuine) (subst IsKnown (sym same) known) first saves
     (subst (IsWithin first) (sym allowed.chip) (here.within honest genuine first saves within)) in
-  absurd (true≢false (sym never))
+    absurd (true≢false (sym never))
 
 pub returns-clause-gives_back : goal.returns-clause-gives_back
 returns-clause-gives_back g c honest genuine known = λ first saves within.
-  let here = c.loop-stop.invariant in
-  let allowed = c.allow-2.ensures in
-  let same : (g.B.Bus.state c.allow-2.new.self).chip.config ≡ (g.B.Bus.state c.args.bus.now).chip.config
+    let here = c.loop-stop.invariant in
+    let allowed = c.allow-2.ensures in
+    let same : (g.B.Bus.state c.allow-2.new.self).chip.config ≡ (g.B.Bus.state c.args.bus.now).chip.config
     = ap (λ (chip : Chip). chip.config) allowed.chip ∙ here.config honest genuine in
-  c.in_ok-restore.ensures.gives_back (allowed.honest ∙ here.honest ∙ honest) (subst IsGenuine (sym same) genuine) first saves
+    c.in_ok-restore.ensures.gives_back (allowed.honest ∙ here.honest ∙ honest) (subst IsGenuine (sym same) genuine) first saves
     (subst (IsWithin first) (sym allowed.chip) (here.within honest genuine first saves within))
 
 pub returns-in_err-restore-clause-ends : goal.returns-in_err-restore-clause-ends
 returns-in_err-restore-clause-ends g c honest genuine known = λ first saves within.
-  let here = c.loop-stop.invariant in
-  let allowed = c.allow-2.ensures in
-  let same : (g.B.Bus.state c.allow-2.new.self).chip.config ≡ (g.B.Bus.state c.args.bus.now).chip.config
+    let here = c.loop-stop.invariant in
+    let allowed = c.allow-2.ensures in
+    let same : (g.B.Bus.state c.allow-2.new.self).chip.config ≡ (g.B.Bus.state c.args.bus.now).chip.config
     = ap (λ (chip : Chip). chip.config) allowed.chip ∙ here.config honest genuine in
-  let still = allowed.honest ∙ here.honest ∙ honest in
-  let left = allowed.left (here.honest ∙ honest) in
-  let stopped = c.in_err-restore.ensures.ends_or_stops still (subst IsGenuine (sym same) genuine) (subst IsKnown (sym same) known) first saves
+    let still = allowed.honest ∙ here.honest ∙ honest in
+    let left = allowed.left (here.honest ∙ honest) in
+    let stopped = c.in_err-restore.ensures.ends_or_stops still (subst IsGenuine (sym same) genuine) (subst IsKnown (sym same) known) first saves
     (subst (IsWithin first) (sym allowed.chip) (here.within honest genuine first saves within)) in
-  let ends = subst (EndsAtBound 17891925 (g.B.Bus.state c.allow-2.new.self) (g.B.Bus.state c.restore.new.bus)) stopped (c.in_err-restore.ensures.ends still) in
-  absurd (omega (arith, ends.1, left))
+    let ends = subst (EndsAtBound 17891925 (g.B.Bus.state c.allow-2.new.self) (g.B.Bus.state c.restore.new.bus)) stopped (c.in_err-restore.ensures.ends still) in
+    absurd (omega (arith, ends.1, left))

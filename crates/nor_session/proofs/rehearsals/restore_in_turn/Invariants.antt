@@ -6,10 +6,10 @@ use Rattle.nor_session.proofs.rehearsals.restore_in_turn.Given as goal
 
 abbrev pub invariant-loop-stop : goal.invariant-loop-stop
 invariant-loop-stop g l =
-  let old = g.B.Bus.state l.fn.bus in let now = g.B.Bus.state l.bus in
-  record {
-    honest : now.honest ≡ old.honest;
-    restores : l.restores ≤ l.stop-index;
-    config : old.honest ≡ true → IsGenuine old.chip.config → now.chip.config ≡ old.chip.config;
-    within : old.honest ≡ true → IsGenuine old.chip.config → (first : Chip) → Saves l.fn.journal first → IsWithin first old.chip → IsWithin first now.chip
-  }
+    let old = g.B.Bus.state l.fn.bus in let now = g.B.Bus.state l.bus in
+    record {
+      honest : now.honest ≡ old.honest;
+      restores : l.restores ≤ l.stop-index;
+      config : old.honest ≡ true → IsGenuine old.chip.config → now.chip.config ≡ old.chip.config;
+      within : old.honest ≡ true → IsGenuine old.chip.config → (first : Chip) → Saves l.fn.journal first → IsWithin first old.chip → IsWithin first now.chip;
+    }

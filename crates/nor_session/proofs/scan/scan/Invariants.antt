@@ -6,14 +6,14 @@ use Rattle.nor_session.proofs.scan.scan.Given as goal
 
 abbrev pub invariant-loop-sector : goal.invariant-loop-sector
 invariant-loop-sector g l =
-  let old = g.B.Bus.state l.fn.bus in let now = g.B.Bus.state l.bus in
-  record {
-    quiet : Quiet old now;
-    few : l.marks.touched_count ≤ l.sector;
-    counted : IsCounted l.sector l.marks;
-    bytes : length l.bytes ≡ 4096;
-    looked : old.honest ≡ true → Looked l.sector old now;
-    marks : old.honest ≡ true → old.chip.busy ≡ 0 → old.chip.config.size ≡ 4096 * l.fn.sectors
-      → AreMarks (wanted_of l.fn.wanted old.chip.bytes) old.chip.bytes l.sector l.marks;
-    count : old.honest ≡ true → old.left ≡ now.left + l.sector
-  }
+    let old = g.B.Bus.state l.fn.bus in let now = g.B.Bus.state l.bus in
+    record {
+      quiet : Quiet old now;
+      few : l.marks.touched_count ≤ l.sector;
+      counted : IsCounted l.sector l.marks;
+      bytes : length l.bytes ≡ 4096;
+      looked : old.honest ≡ true → Looked l.sector old now;
+      marks : old.honest ≡ true → old.chip.busy ≡ 0 → old.chip.config.size ≡ 4096 * l.fn.sectors
+          → AreMarks (wanted_of l.fn.wanted old.chip.bytes) old.chip.bytes l.sector l.marks;
+      count : old.honest ≡ true → old.left ≡ now.left + l.sector;
+    }
