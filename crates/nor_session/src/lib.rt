@@ -21,3 +21,6 @@ pub use rehearsals::{Rehearsal, SESSION_BOUND, rehearse};
 pub use report::{Job, Report, Request};
 pub use restores::restore;
 pub use sessions::session;
+
+#[cfg(test)]
+mod tests;
