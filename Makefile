@@ -1,0 +1,35 @@
+# `make demo` runs the main job, `make check` passes the tests. Both need the toolchain's `rt` alone.
+
+PROGRAM := crates/flashnor/out/flashnor
+SCRATCH := $(CURDIR)/out/demo
+WORDS := -p dummy:emulate=TINY64,image=chip.bin -w new.bin --rehearse 24
+
+.PHONY: build demo files check bench clean
+
+# Proves the program and everything below it, builds it, and runs it once.
+build: files
+	cd crates/flashnor && rt run -- -p dummy:emulate=TINY64,image=$(SCRATCH)/chip.bin -w $(SCRATCH)/new.bin --rehearse 24
+	@test -x $(PROGRAM)
+
+# A chip file whose byte 0 is 00h, an image whose byte 0 is 01h, and FFh in all other bytes of both.
+files:
+	@mkdir -p $(SCRATCH)
+	@head -c 65535 /dev/zero | tr '\000' '\377' > $(SCRATCH)/rest
+	@{ printf '\000'; cat $(SCRATCH)/rest; } > $(SCRATCH)/chip.bin
+	@{ printf '\001'; cat $(SCRATCH)/rest; } > $(SCRATCH)/new.bin
+
+# The first run, on these files: a session that is stopped after 24 transactions and given back.
+demo: files
+	@if [ -x $(PROGRAM) ]; then \
+	  cd $(SCRATCH) && $(CURDIR)/$(PROGRAM) $(WORDS); \
+	else \
+	  echo "(the proved program isn't built yet: this run compiles it without its proof; 'make' proves and builds it)"; \
+	  cd crates/flashnor && rt try --data chip.bin=$(SCRATCH)/chip.bin --data new.bin=$(SCRATCH)/new.bin -- $(WORDS) 2>/dev/null | grep -v '^run='; \
+	fi
+
+# The merge gate.
+check:
+	@bash .ci/run
+
+clean:
+	rm -rf out crates/*/out
