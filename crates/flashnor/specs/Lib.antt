@@ -1,0 +1,9 @@
+pub mod Text
+pub mod Programmer
+pub mod Settings
+pub mod Stops
+pub mod Options
+pub mod Words
+pub mod Messages
+pub mod Files
+pub mod Run

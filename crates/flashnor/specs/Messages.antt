@@ -1,0 +1,9 @@
+-- The numbers and faults that messages show.
+use Rattle.std.specs.Prelude.{ℕ}
+use Rattle.flashnor.specs.declared.messages.FileFault.{FileFault}
+use Rattle.flashnor.specs.declared.messages.FileFault.TheVariants as file
+
+-- the number that a fault of a file has in its message
+abbrev pub file_number : FileFault → ℕ
+file_number file.Read = 1
+file_number file.Length = 3
