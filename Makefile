@@ -4,7 +4,7 @@ PROGRAM := crates/flashnor/out/flashnor
 SCRATCH := $(CURDIR)/out/demo
 WORDS := -p dummy:emulate=TINY64,image=chip.bin -w new.bin --rehearse 24
 
-.PHONY: build demo files check bench clean
+.PHONY: build demo files check clean
 
 # Proves the program and everything below it, builds it, and runs it once.
 build: files
