@@ -9,7 +9,7 @@ invariant-loop-sector g l =
     let old = g.B.Bus.state l.fn.bus in let now = g.B.Bus.state l.bus in
     record {
       quiet : Quiet old now;
-      few : l.sent ≤ count_below l.sector (mark_at l.fn.marks.touched);
+      few : l.sent ≡ count_below l.sector (mark_at l.fn.marks.touched);
       looked : old.honest ≡ true → Looked l.sector old now;
       count : old.honest ≡ true → old.left ≡ now.left + l.sent;
     }
