@@ -1,12 +1,12 @@
 //! A rehearsal: a session that is stopped on purpose, and the restores from its journal.
-ghost use Rattle.std.specs.Prelude.{◌≡◌, ◌<◌, ◌≤◌, ◌+◌, ℕ, Bool, true, false, [], length, IfOk, IfErr, IsOk, OnOk, OnErr};
+ghost use Rattle.std.specs.Prelude.{◌≡◌, ◌<◌, ◌≤◌, ◌+◌, ℕ, Bool, true, false, [], length, drop, IfOk, IfErr, IsOk, OnOk, OnErr};
 ghost use Rattle.nor_chip.specs.Chip.{Chip, IsChip, IsSame};
 ghost use Rattle.nor_session.specs.declared.refusal.Refusal.{Refusal};
 ghost use Rattle.nor_session.specs.Known.{IsGenuine, IsKnown};
 ghost use Rattle.nor_session.specs.Journal.{IsJournalOf};
 ghost use Rattle.nor_session.specs.Reading.{Saves, IsWithin};
 ghost use Rattle.nor_session.specs.Session.{CanBeUndone};
-ghost use Rattle.nor_session.specs.Rehearsal.{RehearsalTells, IsRehearsal, first_allowance, BlamesVault};
+ghost use Rattle.nor_session.specs.Rehearsal.{RehearsalTells, IsRehearsal, first_allowance, CanEnd, AreRestores, BlamesVault};
 
 use crate::restores::restore;
 use crate::sessions::session;
@@ -53,6 +53,10 @@ pub fn rehearse<B: Meter>(
         → IfErr result (RehearsalTells (length image.old) (B.state bus.old).chip (⟦<MemVault as Vault>⟧.state vault.old) (⟦<MemVault as Vault>⟧.state vault.new)) }
     ensures ended { (B.state bus.old).honest ≡ true → IsGenuine (B.state bus.old).chip.config → 17891925 ≤ first_allowance stops.now
         → IfOk result (λ rehearsal. rehearsal.ended ≡ true) }
+    ensures stopped { (B.state bus.old).honest ≡ true → IsGenuine (B.state bus.old).chip.config
+        → IfOk result (λ rehearsal. rehearsal.ended ≡ true → CanEnd image.old (first_allowance stops.now) (B.state bus.old).chip) }
+    ensures restores { (B.state bus.old).honest ≡ true → IsGenuine (B.state bus.old).chip.config
+        → IfOk result (λ rehearsal. rehearsal.sealed ≡ true → AreRestores (drop 1 stops.now) rehearsal.restores) }
 {
     let ended = stopped_session(bus, vault, image, request, stops)?;
     if !vault.is_sealed() {
@@ -103,6 +107,8 @@ fn stopped_session<B: Meter>(
         → IfErr result (RehearsalTells (length image.old) (B.state bus.old).chip (⟦<MemVault as Vault>⟧.state vault.old) (⟦<MemVault as Vault>⟧.state vault.new)) }
     ensures ended { (B.state bus.old).honest ≡ true → IsGenuine (B.state bus.old).chip.config → 17891925 ≤ first_allowance stops.now
         → IfOk result (λ ended. ended ≡ true) }
+    ensures stopped { (B.state bus.old).honest ≡ true → IsGenuine (B.state bus.old).chip.config
+        → IfOk result (λ ended. ended ≡ true → CanEnd image.old (first_allowance stops.now) (B.state bus.old).chip) }
 {
     bus.allow(first_allowed(stops));
     match session(bus, vault, image, request) {
@@ -140,6 +146,7 @@ fn restore_in_turn<B: Meter>(
     requires few { length stops.now ≤ 64 }
     ensures honest { (B.state bus.new).honest ≡ (B.state bus.old).honest }
     ensures restores { IfOk result (λ restores. (1 ≤ restores) × (restores ≤ length stops.now + 1)) }
+    ensures counts { (B.state bus.old).honest ≡ true → IsGenuine (B.state bus.old).chip.config → IfOk result (AreRestores stops.now) }
     ensures blames { IfErr result (λ refusal. refusal ≡ Refusal.Vault → ⊥) }
     ensures gives_back { (B.state bus.old).honest ≡ true → IsGenuine (B.state bus.old).chip.config → IsKnown (B.state bus.old).chip.config
         → (first : Chip) → Saves journal.now first → IsWithin first (B.state bus.old).chip → OnOk result (IsSame first (B.state bus.new).chip) }
@@ -170,6 +177,9 @@ fn ends<B: Bus>(bus: &mut B, journal: &Journal<'_>) -> Result<bool, Refusal>
         → (first : Chip) → Saves journal.now first → IsWithin first (B.state bus.old).chip → IfOk result (λ ended. ended ≡ true → IsSame first (B.state bus.new).chip) }
     ensures answers { (B.state bus.old).honest ≡ true → IsGenuine (B.state bus.old).chip.config → IsKnown (B.state bus.old).chip.config
         → (first : Chip) → Saves journal.now first → IsWithin first (B.state bus.old).chip → IsOk result }
+    ensures stopped { (B.state bus.old).honest ≡ true → IfOk result (λ ended. ended ≡ false → (B.state bus.old).left < 17891925) }
+    ensures ended { (B.state bus.old).honest ≡ true → IsGenuine (B.state bus.old).chip.config
+        → IfOk result (λ ended. ended ≡ true → 22 ≤ (B.state bus.old).left) }
 {
     match restore(bus, journal) {
         Ok(_) => Ok(true),

@@ -1,4 +1,4 @@
-use Rattle.std.proofs.Common.{◌≡◌, ◌+◌, ◌≤◌, true}
+use Rattle.std.proofs.Common.{◌≡◌, ◌+◌, true}
 use Rattle.nor_session.specs.Looks.{Quiet, Looked}
 use Rattle.nor_session.specs.Content.{count_below}
 use Rattle.nor_session.specs.Changes.{mark_at}
