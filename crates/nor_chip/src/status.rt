@@ -176,7 +176,7 @@ impl Status {
     }
 
     /// The kept bits: all but BUSY, WEL and SUS.
-    pub(crate) fn kept(self) -> Status
+    pub fn kept(self) -> Status
         ensures one { result.one.0 ≡ self.one.0 / 4 * 4 }
         ensures two { result.two.0 ≡ self.two.0 % 128 }
     {

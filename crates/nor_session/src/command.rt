@@ -7,13 +7,11 @@ ghost use Rattle.nor_session.specs.Operates.{Falls, HasKept, HasOperated, HasEra
 
 use crate::Halt;
 use arrayvec::ArrayVec;
-use nor_chip::{Bus, Stopped};
+use bitflags::Flags;
+use nor_chip::{Bus, Status1, Stopped};
 
 /// The most polls that a wait sends.
 pub const MOST_POLLS: u32 = 65536;
-
-// BUSY of status 1.
-const BUSY: u8 = 1;
 
 /// Status 1, by one poll.
 pub(crate) fn poll<B: Bus>(bus: &mut B) -> Result<u8, Stopped>
@@ -66,7 +64,7 @@ pub(crate) fn wait<B: Bus>(bus: &mut B, address: u32) -> Result<Waited, Halt>
 {
     for polls in 0..MOST_POLLS {
         let status1 = poll(bus)?;
-        if status1 & BUSY == 0 {
+        if !Status1::from_bits_retain(status1).contains(Status1::BUSY) {
             let polls = polls + 1;
             return Ok(Waited { status1, polls });
         }

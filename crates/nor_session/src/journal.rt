@@ -2,6 +2,8 @@
 ghost use Rattle.std.specs.Prelude.{◌≡◌, ◌≤◌, ◌+◌, ◌/◌, ◌%◌, ◌*◌, ◌-◌, ◌^◌, ◌<◌, ℕ, [], ◌∷◌, drop, length, slice_index, MatchOption};
 ghost use Rattle.nor_session.specs.Journal.{head_bytes, size_of, IsJournalText};
 
+use nor_chip::Status;
+
 /// The bytes before those of the chip.
 pub(crate) const HEAD_LEN: usize = 9;
 
@@ -11,13 +13,13 @@ pub(crate) fn head(id: [u8; 3], status: [u8; 2], size: u32) -> [u8; 9]
     ensures { result ≡ head_bytes (slice_index id 0) (slice_index id 1) (slice_index id 2) (slice_index status 0 / 4) (slice_index status 1 % 128) size }
 {
     let [x, y, z] = id;
-    let [one, two] = status;
+    let [one, two] = Status::of(status).kept().bytes();
     [
         x,
         y,
         z,
-        one / 4 * 4,
-        two % 128,
+        one,
+        two,
         (size % 256) as u8,
         (size / 256 % 256) as u8,
         (size / 65536 % 256) as u8,

@@ -14,7 +14,7 @@ use crate::probe::{Opening, open};
 use crate::scan::scan;
 use crate::sessions::SECTORS;
 use crate::{Journal, Refusal, Report};
-use nor_chip::Bus;
+use nor_chip::{Bus, Status};
 
 /// Makes the chip what the journal saves. It may be stopped and called again as often as it takes.
 pub fn restore<B: Bus>(bus: &mut B, journal: &Journal<'_>) -> Result<Report, Refusal>
@@ -71,9 +71,8 @@ fn judge(opening: &Opening, journal: &Journal<'_>) -> Result<(), Refusal>
     if journal.id != found.id || journal.size != found.size {
         return Err(Refusal::OtherChip);
     }
-    let same1 = journal.status[0] / 4 == found.status1 / 4;
-    let same2 = journal.status[1] % 128 == opening.status2 % 128;
-    if !same1 || !same2 {
+    let status = Status::of([found.status1, opening.status2]);
+    if Status::of(journal.status).kept() != status.kept() {
         return Err(Refusal::StatusDiffers);
     }
     Ok(())
