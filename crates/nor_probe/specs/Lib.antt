@@ -1,1 +1,2 @@
 pub mod Sfdp
+pub mod Table
