@@ -1,0 +1,75 @@
+-- What a probe tells of the chip.
+use Rattle.std.specs.Prelude.{◌≡◌, ◌≢◌, ◌+◌, ◌≤◌, ◌⊎◌, ℕ, true, false, Option, None, Some, Ok, Err, List, if◌then◌else◌}
+use Rattle.nor_chip.specs.declared.config.Config.{Config}
+use Rattle.nor_chip.specs.Chip.{Chip, status1_of}
+use Rattle.nor_chip.specs.Size.{is_chip_size}
+use Rattle.nor_chip.specs.Bus.{BusState}
+use Rattle.nor_probe.specs.declared.table.ChipName.{ChipName}
+use Rattle.nor_probe.specs.declared.table.ChipName.TheVariants.{Sfdp}
+use Rattle.nor_probe.specs.declared.table.Part.{Part}
+use Rattle.nor_probe.specs.declared.probes.Found.{Found}
+use Rattle.nor_probe.specs.declared.probes.ProbeFault.{ProbeFault}
+use Rattle.nor_probe.specs.declared.probes.ProbeFault.TheVariants.{NoChip, UnknownChip, OtherName, Stopped, Timeout}
+use Rattle.nor_probe.specs.Table.{part_of}
+use Rattle.nor_probe.specs.Looks.{RanOut}
+use Rattle.nor_probe.specs.Known.{id_of, is_no_chip, shown_as, IsKnown}
+
+-- the part that was found
+abbrev pub part_in : Found → Part
+part_in found = record { name = found.name; id = found.id; size = found.size; kinds = found.kinds; scheme = found.scheme }
+
+-- the chip may have this name
+abbrev pub IsWanted : Option ChipName → ChipName → Type 0
+IsWanted None name = Unit {0}
+IsWanted (Some wanted) name = wanted ≡ name
+
+-- how many transactions tell which part has this ID: 9Fh, and where the table doesn't have it 5Ah three times
+abbrev pub reads_by : Option Part → ℕ
+reads_by (Some part) = 1
+reads_by None = 4
+
+abbrev pub reads_of : List ℕ → ℕ
+reads_of of_id = if is_no_chip of_id then 1 else reads_by (part_of of_id)
+
+-- how many transactions a probe of this chip takes: a poll for each BUSY, one that sees it idle, and the reads
+abbrev pub needed : Chip → ℕ
+needed chip = chip.busy + 1 + reads_of (id_of chip.config)
+
+-- Whatever the bus: the part is a row of the table, or one by SFDP, of a size that a chip may have.
+pub record IsPart (found : Found) : Type 0 where
+  pub driven : is_no_chip found.id ≡ false
+  pub origin : (part_of found.id ≡ Some (part_in found)) ⊎ ((part_of found.id ≡ None) × (found.name ≡ Sfdp) × (found.scheme ≡ false))
+  pub sized : is_chip_size found.size ≡ true
+  pub least : 1 + reads_of found.id ≤ found.transactions
+  pub most : found.transactions ≤ 65540
+
+-- On an honest bus: the part is what the chip shows itself as, the chip is idle, and the status is the chip's.
+pub record Finds (old new : BusState) (found : Found) : Type 0 where
+  pub part : shown_as old.chip.config ≡ Ok (part_in found)
+  pub idle : new.chip.busy ≡ 0
+  pub status1 : found.status1 ≡ status1_of new.chip
+  pub transactions : found.transactions ≡ needed old.chip
+  pub count : old.left ≡ new.left + found.transactions
+
+-- What was found is the configuration of a known chip.
+pub record IsConfigOf (config : Config) (found : Found) : Type 0 where
+  pub known : IsKnown config
+  pub id : found.id ≡ id_of config
+  pub size : found.size ≡ config.size
+  pub k32 : found.kinds.k32 ≡ config.k32
+  pub k64 : found.kinds.k64 ≡ config.k64
+  pub scheme : found.scheme ≡ config.scheme
+
+-- The chip shows itself as a part that has another name than the one that is wanted.
+pub record HasOtherName (named : Option ChipName) (config : Config) : Type 0 where
+  pub part : Part
+  pub shown : shown_as config ≡ Ok part
+  pub other : ¬ IsWanted named part.name
+
+-- what a fault tells, on an honest bus
+abbrev pub Tells : Option ChipName → BusState → BusState → ProbeFault → Type 0
+Tells named old new NoChip = (shown_as old.chip.config ≡ Err NoChip) × (old.left ≡ new.left + needed old.chip)
+Tells named old new (UnknownChip fault) = (shown_as old.chip.config ≡ Err (UnknownChip fault)) × (old.left ≡ new.left + needed old.chip)
+Tells named old new OtherName = HasOtherName named old.chip.config × (old.left ≡ new.left + needed old.chip)
+Tells named old new Stopped = RanOut (needed old.chip) old new
+Tells named old new Timeout = ⊥
