@@ -11,7 +11,7 @@ use Rattle.nor_probe.specs.declared.probes.Found.{Found}
 use Rattle.nor_probe.specs.declared.probes.ProbeFault.{ProbeFault}
 use Rattle.nor_probe.specs.declared.probes.ProbeFault.TheVariants.{NoChip, UnknownChip, OtherName, Stopped, Timeout}
 use Rattle.nor_probe.specs.Table.{part_of}
-use Rattle.nor_probe.specs.Looks.{RanOut}
+use Rattle.nor_probe.specs.Looks.{RanOut, latch_when_idle}
 use Rattle.nor_probe.specs.declared.probes.Parameters.{Parameters}
 use Rattle.nor_probe.specs.declared.waits.WaitFault.{WaitFault}
 use Rattle.nor_probe.specs.declared.waits.WaitFault.TheVariants as Waits
@@ -46,10 +46,12 @@ pub record IsPart (found : Found) : Type 0 where
   pub least : 1 + reads_of found.id ≤ found.transactions
   pub most : found.transactions ≤ 65540
 
--- On an honest bus: the part is what the chip shows itself as, the chip is idle, and the status is the chip's.
+-- On an honest bus: the part is what the chip shows itself as, the chip is idle, and the status is the chip's. The
+-- chip's bytes, kept bits and worn sectors are as they were, since it was only looked at.
 pub record Finds (old new : BusState) (found : Found) : Type 0 where
   pub part : shown_as old.chip.config ≡ Ok (part_in found)
   pub idle : new.chip.busy ≡ 0
+  pub latch : new.chip.latch ≡ latch_when_idle old.chip
   pub status1 : found.status1 ≡ status1_of new.chip
   pub transactions : found.transactions ≡ needed old.chip
   pub count : old.left ≡ new.left + found.transactions

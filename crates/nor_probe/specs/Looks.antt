@@ -1,5 +1,6 @@
 -- What functions that only read leave of a bus.
-use Rattle.std.specs.Prelude.{◌≡◌, ◌≤◌, ◌<◌, ◌+◌, ℕ, true}
+use Rattle.std.specs.Prelude.{◌≡◌, ◌≤◌, ◌<◌, ◌+◌, ◌==◌, ℕ, Bool, true, false, if◌then◌else◌}
+use Rattle.nor_chip.specs.Chip.{Chip}
 use Rattle.nor_chip.specs.Bus.{BusState}
 
 -- On every bus: no changing opcode was sent.
@@ -26,3 +27,7 @@ pub record Looked (most : ℕ) (old new : BusState) : Type 0 where
 pub record RanOut (needed : ℕ) (old new : BusState) : Type 0 where
   pub none_left : new.left ≡ 0
   pub below : old.left < needed
+
+-- the latch of a chip once it is idle: an operation that was running has ended and cleared it
+abbrev pub latch_when_idle : Chip → Bool
+latch_when_idle chip = if chip.busy == 0 then chip.latch else false

@@ -46,6 +46,26 @@ pub enum SfdpFault {
     NoSector,
 }
 
+impl SfdpFault {
+    ghost use Rattle.nor_probe.specs.Sfdp.{number_of};
+
+    /// The number that a message shows, from 1 on, in the order of the tests.
+    pub fn number(self) -> u8
+        ensures { result ≡ number_of self }
+    {
+        match self {
+            SfdpFault::Signature => 1,
+            SfdpFault::Major => 2,
+            SfdpFault::FirstHeader => 3,
+            SfdpFault::Length => 4,
+            SfdpFault::Address => 5,
+            SfdpFault::Granularity => 6,
+            SfdpFault::Size => 7,
+            SfdpFault::NoSector => 8,
+        }
+    }
+}
+
 /// The least number of double words of the table: those up to the erase types.
 const TABLE_LENGTH: u8 = 9;
 

@@ -1,9 +1,9 @@
 //! Polls, and waits for a chip to be idle.
 
-ghost use Rattle.std.specs.Prelude.{◌≡◌, ◌≤◌, ◌<◌, ◌+◌, ◌-◌, ◌%◌, true, IfOk, IfErr, OnOk, OnErr};
+ghost use Rattle.std.specs.Prelude.{◌≡◌, ◌≤◌, ◌<◌, ◌+◌, ◌-◌, ◌%◌, ◌==◌, if◌then◌else◌, true, false, IfOk, IfErr, OnOk, OnErr};
 ghost use Rattle.nor_chip.specs.Chip.{status1_of};
 ghost use Rattle.nor_probe.specs.declared.waits.WaitFault.TheVariants as WaitFaults;
-ghost use Rattle.nor_probe.specs.Looks.{Quiet, Looked, RanOut};
+ghost use Rattle.nor_probe.specs.Looks.{Quiet, Looked, RanOut, latch_when_idle};
 
 use nor_chip::{Bus, Stopped};
 
@@ -19,7 +19,7 @@ pub fn poll<B: Bus>(bus: &mut B) -> Result<u8, Stopped>
     ensures looked { (B.state bus.old).honest ≡ true → Looked 1 (B.state bus.old) (B.state bus.new) }
     ensures status { (B.state bus.old).honest ≡ true → IfOk result (λ status. status ≡ status1_of (B.state bus.old).chip) }
     ensures busy { (B.state bus.old).honest ≡ true → OnOk result ((B.state bus.new).chip.busy ≡ (B.state bus.old).chip.busy - 1) }
-    ensures latch { (B.state bus.old).honest ≡ true → (B.state bus.old).chip.busy ≡ 0 → OnOk result ((B.state bus.new).chip.latch ≡ (B.state bus.old).chip.latch) }
+    ensures latch { (B.state bus.old).honest ≡ true → OnOk result ((B.state bus.new).chip.latch ≡ (if (B.state bus.old).chip.busy == 1 then false else (B.state bus.old).chip.latch)) }
     ensures count { (B.state bus.old).honest ≡ true → OnOk result ((B.state bus.old).left ≡ (B.state bus.new).left + 1) }
     ensures stops { (B.state bus.old).honest ≡ true → OnErr result (RanOut 1 (B.state bus.old) (B.state bus.new)) }
 {
@@ -63,6 +63,7 @@ pub fn wait<B: Bus>(bus: &mut B) -> Result<Waited, WaitFault>
 
     ensures looked { (B.state bus.old).honest ≡ true → Looked 65536 (B.state bus.old) (B.state bus.new) }
     ensures idle { (B.state bus.old).honest ≡ true → OnOk result ((B.state bus.new).chip.busy ≡ 0) }
+    ensures latch { (B.state bus.old).honest ≡ true → OnOk result ((B.state bus.new).chip.latch ≡ latch_when_idle (B.state bus.old).chip) }
     ensures status { (B.state bus.old).honest ≡ true → IfOk result (λ waited. waited.status1 ≡ status1_of (B.state bus.new).chip) }
     ensures polls { (B.state bus.old).honest ≡ true → IfOk result (λ waited. waited.polls ≡ (B.state bus.old).chip.busy + 1) }
     ensures count { (B.state bus.old).honest ≡ true → IfOk result (λ waited. (B.state bus.old).left ≡ (B.state bus.new).left + waited.polls) }
