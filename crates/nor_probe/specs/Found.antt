@@ -71,12 +71,12 @@ pub record HasOtherName (named : Option ChipName) (config : Config) : Type 0 whe
   pub shown : shown_as config ≡ Ok part
   pub other : ¬ IsWanted named part.name
 
--- what a fault tells, on an honest bus
+-- what a fault tells, on an honest bus: 65,540 transactions are always enough
 abbrev pub Tells : Option ChipName → BusState → BusState → ProbeFault → Type 0
 Tells named old new NoChip = (shown_as old.chip.config ≡ Err NoChip) × (old.left ≡ new.left + needed old.chip)
 Tells named old new (UnknownChip fault) = (shown_as old.chip.config ≡ Err (UnknownChip fault)) × (old.left ≡ new.left + needed old.chip)
 Tells named old new OtherName = HasOtherName named old.chip.config × (old.left ≡ new.left + needed old.chip)
-Tells named old new Stopped = RanOut (needed old.chip) old new
+Tells named old new Stopped = RanOut (needed old.chip) old new × (old.left < 65540)
 Tells named old new Timeout = ⊥
 
 -- the fault that a wait's is told as
