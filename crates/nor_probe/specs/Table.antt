@@ -1,0 +1,35 @@
+-- The chips that are known by their ID, and the names that chips have.
+use Rattle.std.specs.Prelude.{ℕ, true, Option, List, [], ◌∷◌, find, bytes_eq, codes, if◌then◌else◌}
+use Rattle.nor_probe.specs.declared.table.ChipName.{ChipName}
+use Rattle.nor_probe.specs.declared.table.ChipName.TheVariants.{W25Q64FV, W25Q128FV, Sfdp, Other}
+use Rattle.nor_probe.specs.declared.table.Part.{Part}
+
+-- the name that a text gives
+abbrev pub name_of : List ℕ → ChipName
+name_of text =
+    if bytes_eq text (codes "W25Q64FV") then W25Q64FV
+    else (if bytes_eq text (codes "W25Q128FV") then W25Q128FV
+    else (if bytes_eq text (codes "SFDP") then Sfdp
+    else Other))
+
+-- Both Winbond chips have all erase kinds and block protection. (W25Q64FV and W25Q128FV datasheets: manufacturer
+-- and device identification, memory organization, instruction set table.)
+abbrev pub winbond : ChipName → List ℕ → ℕ → Part
+winbond called with_id with_size = record {
+  name = called;
+  id = with_id;
+  size = with_size;
+  kinds = record { k32 = true; k64 = true };
+  scheme = true;
+}
+
+-- the table: 64 Mbit and 128 Mbit
+abbrev pub chips : List Part
+chips =
+    winbond W25Q64FV (0xEF ∷ 0x40 ∷ 0x17 ∷ []) 8388608
+    ∷ winbond W25Q128FV (0xEF ∷ 0x40 ∷ 0x18 ∷ []) 16777216
+    ∷ []
+
+-- the chip of the table that has this ID
+abbrev pub part_of : List ℕ → Option Part
+part_of of_id = find (λ part. bytes_eq part.id of_id) chips

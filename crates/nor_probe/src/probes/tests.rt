@@ -1,0 +1,166 @@
+//! Probes of simulated chips, by what they find and send.
+use crate::{ChipName, Found, Kinds, ProbeFault, SfdpFault, probe};
+use nor_chip::{Config, Delays, Meter, SimBus, TraceBus};
+use std::alloc::Global;
+use std::test::Fail;
+
+const IDLE: Delays = Delays { now: 0, each: 0 };
+
+const BOTH: Kinds = Kinds {
+    k32: true,
+    k64: true,
+};
+
+// A bus to an erased chip of this configuration, which lets so many transactions through.
+fn bus_to(alloc: Global, config: Config, delays: Delays, allowed: u64) -> Result<SimBus, Fail> {
+    let bytes = vec![in alloc; 0xFF; config.size as usize]?;
+    let mut bus = SimBus::new(config, bytes, [0x04, 0x00], delays)?;
+    bus.allow(allowed);
+    Ok(bus)
+}
+
+// Probes an idle chip, and compares what is sent.
+fn probed(
+    rt: &impl std::process::Abort,
+    alloc: Global,
+    config: Config,
+    named: Option<ChipName>,
+    sent: &str,
+) -> Result<Result<Found, ProbeFault>, Fail> {
+    let mut log = Vec::new(alloc);
+    let mut bus = TraceBus::new(bus_to(alloc, config, IDLE, 100)?, &mut log);
+    let found = probe(&mut bus, named);
+    let _bus = bus.into_inner();
+    assert!(rt; log.as_slice() == sent.as_bytes());
+    Ok(found)
+}
+
+const TINY64: Found = Found {
+    name: ChipName::Sfdp,
+    id: [0xFE, 0x10, 0x10],
+    size: 65_536,
+    kinds: BOTH,
+    scheme: false,
+    status1: 0x04,
+    transactions: 5,
+};
+
+const TINY64_SENT: &str = "05 > 04\n9f > fe1010\n\
+    5a00000000 > 8 bytes\n5a00000800 > 8 bytes\n5a00001000 > 36 bytes\n";
+
+#[test]
+fn a_chip_of_the_table_is_found_by_its_id_alone(rt: HostRuntime) -> Result<(), Fail> {
+    let sent = "05 > 04\n9f > ef4017\n";
+    let found = Found {
+        name: ChipName::W25Q64FV,
+        id: [0xEF, 0x40, 0x17],
+        size: 8_388_608,
+        kinds: BOTH,
+        scheme: true,
+        status1: 0x04,
+        transactions: 2,
+    };
+    let answer = probed(&rt, rt.alloc(), Config::w25q64fv(), None, sent)?;
+    assert_eq!(rt; answer, Ok(found));
+    let answer = probed(
+        &rt,
+        rt.alloc(),
+        Config::w25q64fv(),
+        Some(ChipName::W25Q128FV),
+        sent,
+    )?;
+    assert_eq!(rt; answer, Err(ProbeFault::OtherName));
+    Ok(())
+}
+
+#[test]
+fn the_larger_chip_of_the_table(rt: HostRuntime) -> Result<(), Fail> {
+    let sent = "05 > 04\n9f > ef4018\n";
+    let found = Found {
+        name: ChipName::W25Q128FV,
+        id: [0xEF, 0x40, 0x18],
+        size: 16_777_216,
+        kinds: BOTH,
+        scheme: true,
+        status1: 0x04,
+        transactions: 2,
+    };
+    let named = Some(ChipName::of("W25Q128FV"));
+    let answer = probed(&rt, rt.alloc(), Config::w25q128fv(), named, sent)?;
+    assert_eq!(rt; answer, Ok(found));
+    Ok(())
+}
+
+#[test]
+fn another_chip_is_found_by_its_sfdp(rt: HostRuntime) -> Result<(), Fail> {
+    let answer = probed(&rt, rt.alloc(), Config::tiny64(), None, TINY64_SENT)?;
+    assert_eq!(rt; answer, Ok(TINY64));
+    let named = Some(ChipName::of("SFDP"));
+    let answer = probed(&rt, rt.alloc(), Config::tiny64(), named, TINY64_SENT)?;
+    assert_eq!(rt; answer, Ok(TINY64));
+    let named = Some(ChipName::of("TINY64"));
+    let answer = probed(&rt, rt.alloc(), Config::tiny64(), named, TINY64_SENT)?;
+    assert_eq!(rt; answer, Err(ProbeFault::OtherName));
+    Ok(())
+}
+
+// A chip of one's own, without SFDP bytes.
+fn silent(id: [u8; 3]) -> Result<Config, Fail> {
+    Ok(Config::new(id, 65_536, true, true, false, &[]).ok_or("no such size")?)
+}
+
+#[test]
+fn a_chip_without_sfdp_is_unknown(rt: HostRuntime) -> Result<(), Fail> {
+    let config = silent([0xAA, 0x11, 0x22])?;
+    let sent = "05 > 04\n9f > aa1122\n\
+        5a00000000 > 8 bytes\n5a00000800 > 8 bytes\n5affffff00 > 36 bytes\n";
+    let named = Some(ChipName::W25Q64FV);
+    let answer = probed(&rt, rt.alloc(), config, named, sent)?;
+    let unknown = Err(ProbeFault::UnknownChip(SfdpFault::Signature));
+    assert_eq!(rt; answer, unknown);
+    Ok(())
+}
+
+#[test]
+fn a_bus_that_nothing_drives(rt: HostRuntime) -> Result<(), Fail> {
+    let named = Some(ChipName::W25Q64FV);
+    let answer = probed(
+        &rt,
+        rt.alloc(),
+        silent([0xFF; 3])?,
+        named,
+        "05 > 04\n9f > ffffff\n",
+    )?;
+    assert_eq!(rt; answer, Err(ProbeFault::NoChip));
+    let answer = probed(
+        &rt,
+        rt.alloc(),
+        silent([0x00; 3])?,
+        named,
+        "05 > 04\n9f > 000000\n",
+    )?;
+    assert_eq!(rt; answer, Err(ProbeFault::NoChip));
+    Ok(())
+}
+
+#[test]
+fn a_busy_chip_is_waited_for(rt: HostRuntime) -> Result<(), Fail> {
+    let busy = Delays { now: 3, each: 0 };
+    let mut bus = bus_to(rt.alloc(), Config::tiny64(), busy, 8)?;
+    let waited = Found {
+        transactions: 8,
+        ..TINY64
+    };
+    assert_eq!(rt; probe(&mut bus, None), Ok(waited));
+    assert_eq!(rt; probe(&mut bus, None), Err(ProbeFault::Stopped));
+    Ok(())
+}
+
+#[test]
+fn names_are_compared_letter_by_letter(rt: HostRuntime) {
+    assert_eq!(rt; ChipName::of("W25Q64FV"), ChipName::W25Q64FV);
+    assert_eq!(rt; ChipName::of("w25q64fv"), ChipName::Other);
+    assert_eq!(rt; ChipName::of("W25Q64FV "), ChipName::Other);
+    assert_eq!(rt; ChipName::of(""), ChipName::Other);
+    assert_eq!(rt; ChipName::of(ChipName::Sfdp.as_str()), ChipName::Sfdp);
+}
