@@ -5,13 +5,11 @@ ghost use Rattle.nor_chip.specs.Chip.{status1_of};
 ghost use Rattle.nor_probe.specs.declared.waits.WaitFault.TheVariants as WaitFaults;
 ghost use Rattle.nor_probe.specs.Looks.{Quiet, Looked, RanOut, latch_when_idle};
 
-use nor_chip::{Bus, Stopped};
+use bitflags::Flags;
+use nor_chip::{Bus, Status1, Stopped};
 
 /// The most polls that a wait sends.
 pub const MOST_POLLS: u32 = 65536;
-
-/// BUSY of status 1.
-const BUSY: u8 = 1;
 
 /// Status 1, by one poll (05h).
 pub fn poll<B: Bus>(bus: &mut B) -> Result<u8, Stopped>
@@ -73,7 +71,7 @@ pub fn wait<B: Bus>(bus: &mut B) -> Result<Waited, WaitFault>
 {
     for polls in 0..MOST_POLLS {
         let status1 = poll(bus)?;
-        if status1 & BUSY == 0 {
+        if !Status1::from_bits_retain(status1).contains(Status1::BUSY) {
             let polls = polls + 1;
             return Ok(Waited { status1, polls });
         }

@@ -4,7 +4,7 @@ use Rattle.nor_chip.specs.Bus.{BusState}
 use Rattle.nor_session.specs.Looks.{Quiet, Looked}
 
 pub Quiet-then : (old mid new : BusState) → Quiet old mid → Quiet mid new → Quiet old new
-Quiet-then old mid new first second = record { honest = second.honest ∙ first.honest; stirred = second.stirred ∙ first.stirred }
+Quiet-then old mid new first second = record { honest = second.honest ∙ first.honest; steady = second.steady ∙ first.steady; stirred = second.stirred ∙ first.stirred }
 
 pub Looked-none : (bus : BusState) → Looked 0 bus bus
 Looked-none bus = record {

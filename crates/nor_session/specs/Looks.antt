@@ -1,27 +1,9 @@
--- What functions that only read leave of a bus, and what a halt tells.
+-- What a halt tells, and what is read and sent. (What functions that only read leave of a bus is said in nor_probe.)
 use Rattle.std.specs.Prelude.{◌≡◌, ◌≤◌, ◌<◌, ◌+◌, ◌*◌, ℕ, true, List, ◌∷◌, slice_index}
 use Rattle.nor_chip.specs.Bus.{BusState}
 use Rattle.nor_session.specs.declared.refusal.Halt.{Halt}
 use Rattle.nor_session.specs.declared.refusal.Halt.TheVariants.{Stopped, Timeout, Mismatch}
-
--- On every bus: no changing opcode was sent.
-pub record Quiet (old new : BusState) : Type 0 where
-  pub honest : new.honest ≡ old.honest
-  pub stirred : new.stirred ≡ old.stirred
-
--- On an honest bus, after at most so many transactions: bytes, kept bits and worn sectors are as they were, an
--- idle chip is idle still with the latch as it was, and the latch of any chip is set only where it was.
-pub record Looked (most : ℕ) (old new : BusState) : Type 0 where
-  pub config : new.chip.config ≡ old.chip.config
-  pub bytes : (a : ℕ) → new.chip.bytes a ≡ old.chip.bytes a
-  pub kept1 : new.chip.kept1 ≡ old.chip.kept1
-  pub kept2 : new.chip.kept2 ≡ old.chip.kept2
-  pub idle : old.chip.busy ≡ 0 → new.chip.busy ≡ 0
-  pub latch : new.chip.latch ≡ true → old.chip.latch ≡ true
-  pub idle_latch : old.chip.busy ≡ 0 → new.chip.latch ≡ old.chip.latch
-  pub worn : (s : ℕ) → new.worn s ≡ old.worn s
-  pub fell : new.left ≤ old.left
-  pub bound : old.left ≤ new.left + most
+pub use Rattle.nor_probe.specs.Looks.{Quiet, Looked}
 
 -- On an honest bus, a call that needs at most so many transactions halts only since the bus stopped, and that
 -- only where there were fewer.

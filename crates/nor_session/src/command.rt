@@ -7,26 +7,8 @@ ghost use Rattle.nor_session.specs.Operates.{Falls, HasKept, HasOperated, HasEra
 
 use crate::Halt;
 use arrayvec::ArrayVec;
-use bitflags::Flags;
-use nor_chip::{Bus, Status1, Stopped};
-
-/// The most polls that a wait sends.
-pub const MOST_POLLS: u32 = 65536;
-
-/// Status 1, by one poll.
-pub(crate) fn poll<B: Bus>(bus: &mut B) -> Result<u8, Stopped>
-    ensures quiet { Quiet (B.state bus.old) (B.state bus.new) }
-    ensures looked { (B.state bus.old).honest ≡ true → Looked 1 (B.state bus.old) (B.state bus.new) }
-    ensures status { (B.state bus.old).honest ≡ true → IfOk result (λ status. status ≡ status1_of (B.state bus.old).chip) }
-    ensures busy { (B.state bus.old).honest ≡ true → OnOk result ((B.state bus.new).chip.busy ≡ (B.state bus.old).chip.busy - 1) }
-    ensures latch { (B.state bus.old).honest ≡ true → (B.state bus.old).chip.busy ≡ 0 → OnOk result ((B.state bus.new).chip.latch ≡ (B.state bus.old).chip.latch) }
-    ensures count { (B.state bus.old).honest ≡ true → OnOk result ((B.state bus.old).left ≡ (B.state bus.new).left + 1) }
-    ensures stops { (B.state bus.old).honest ≡ true → OnErr result ((B.state bus.old).left ≡ 0) }
-{
-    let mut reply = [0];
-    bus.transfer(&[0x05], &mut reply)?;
-    Ok(reply[0])
-}
+use nor_chip::{Bus, Stopped};
+use nor_probe::{WaitFault, Waited};
 
 /// Status 2.
 pub(crate) fn read_status2<B: Bus>(bus: &mut B) -> Result<u8, Stopped>
@@ -41,15 +23,7 @@ pub(crate) fn read_status2<B: Bus>(bus: &mut B) -> Result<u8, Stopped>
     Ok(reply[0])
 }
 
-/// The end of a wait: the last poll's status 1, and how many polls there were.
-#[derive(Clone, Copy, Debug, PartialEq, Eq)]
-pub(crate) struct Waited {
-    pub status1: u8,
-    pub polls: u32,
-}
-
-/// Polls until the chip is idle, at most 65,536 times. A timeout names the address of the command that is
-/// waited for.
+/// Waits until the chip is idle. A timeout names the address of the command that is waited for.
 pub(crate) fn wait<B: Bus>(bus: &mut B, address: u32) -> Result<Waited, Halt>
     ensures quiet { Quiet (B.state bus.old) (B.state bus.new) }
     ensures few { IfOk result (λ waited. waited.polls ≤ 65536) }
@@ -62,14 +36,11 @@ pub(crate) fn wait<B: Bus>(bus: &mut B, address: u32) -> Result<Waited, Halt>
     ensures count { (B.state bus.old).honest ≡ true → IfOk result (λ waited. (B.state bus.old).left ≡ (B.state bus.new).left + waited.polls) }
     ensures stops { (B.state bus.old).honest ≡ true → IfErr result (λ halt. HaltsBelow 65536 (B.state bus.old) halt (B.state bus.new)) }
 {
-    for polls in 0..MOST_POLLS {
-        let status1 = poll(bus)?;
-        if !Status1::from_bits_retain(status1).contains(Status1::BUSY) {
-            let polls = polls + 1;
-            return Ok(Waited { status1, polls });
-        }
+    match nor_probe::wait(bus) {
+        Ok(waited) => Ok(waited),
+        Err(WaitFault::Stopped) => Err(Halt::Stopped),
+        Err(WaitFault::Timeout) => Err(Halt::Timeout { address }),
     }
-    Err(Halt::Timeout { address })
 }
 
 /// The bytes of a sector.

@@ -6,7 +6,7 @@ use Rattle.nor_session.proofs.apply.verify_all.Goals as goal
 
 pub loop-sector-init : goal.loop-sector-init
 loop-sector-init g c = record {
-  quiet = record { honest = refl; stirred = refl };
+  quiet = record { honest = refl; steady = refl; stirred = refl };
   few = sym (count_below-zero _);
   looked = λ honest. Looked-none _;
   count = λ honest. omega arith;

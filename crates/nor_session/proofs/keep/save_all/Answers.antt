@@ -10,7 +10,7 @@ use Rattle.nor_session.proofs.keep.save_all.Goals as goal
 
 pub loop-sector-init : goal.loop-sector-init
 loop-sector-init g c = record {
-  quiet = record { honest = refl; stirred = refl };
+  quiet = record { honest = refl; steady = refl; stirred = refl };
   unsealed = c.requires.unsealed;
   telling = refl;
   failures = refl;
