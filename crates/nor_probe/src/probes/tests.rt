@@ -14,7 +14,6 @@ const BOTH: Kinds = Kinds {
 };
 
 // The emulated chips are known, so what is promised of genuine chips is promised of each of them.
-#[tactic(auto, using(crate::proofs::Emulated::tiny64_known))]
 fn tiny64() -> Config
     ensures { IsKnown result }
 {
