@@ -1,10 +1,11 @@
 # `make demo` runs the main job, `make check` passes the tests. Both need the toolchain's `rt` alone.
 
 PROGRAM := crates/flashnor/out/flashnor
+BENCH := crates/bench/out/bench
 SCRATCH := $(CURDIR)/out/demo
 WORDS := -p dummy:emulate=TINY64,image=chip.bin -w new.bin --rehearse 24
 
-.PHONY: build demo files check clean
+.PHONY: build demo files bench check clean
 
 # Proves the program and everything below it, builds it, and runs it once.
 build: files
@@ -26,6 +27,14 @@ demo: files
 	  echo "(the proved program isn't built yet: this run compiles it without its proof; 'make' proves and builds it)"; \
 	  cd crates/flashnor && rt try --data chip.bin=$(SCRATCH)/chip.bin --data new.bin=$(SCRATCH)/new.bin -- $(WORDS) 2>/dev/null | grep -v '^run='; \
 	fi
+
+# Measures the parts, each beside plain work of the same size in the same run. A time that is longer than wanted is
+# printed, and no failure.
+bench:
+	@test -x $(BENCH) || { cd crates/bench && rt run > /dev/null; }
+	@$(BENCH) chip
+	@$(BENCH) plan
+	@$(BENCH) journal
 
 # The merge gate.
 check:

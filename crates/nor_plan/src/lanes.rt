@@ -1,6 +1,6 @@
 //! Comparisons of two slices of one length, over lanes of 32 bytes and byte by byte for the rest.
 
-ghost use Rattle.std.specs.Prelude.{◌≡◌, ◌+◌, ◌≤◌, length, slice_index, MatchBool, MatchOption, IfNone, IfSome, not, bit_and, ◌==◌};
+ghost use Rattle.std.specs.Prelude.{◌≡◌, ◌+◌, ◌*◌, ◌/◌, ◌≤◌, length, slice_index, MatchBool, MatchOption, IfNone, IfSome, not, bit_and, ◌==◌};
 ghost use Rattle.nor_plan.specs.Mask.{IsMask, TellsChanges};
 ghost use Rattle.nor_plan.specs.Bytes.{AllAgree, AgreeWithin, SomeDiffer, NoneRises, SomeRise, IsFirstDifference, IsLastDifference};
 
@@ -9,7 +9,7 @@ use std::simd::prelude::*;
 /// How many bytes are compared at a time.
 const LANES: usize = 32;
 
-/// How many bytes are passed at a time where none differs.
+/// How many bytes are put together before a test.
 const BLOCK: usize = 8 * LANES;
 
 /// Whether some byte differs.
@@ -17,7 +17,20 @@ pub fn differs(a: &[u8], b: &[u8]) -> bool
     requires { length a.now ≡ length b.now }
     ensures { MatchBool result (SomeDiffer a.now b.now) (AllAgree a.now b.now) }
 {
-    first_difference(a, b).is_some()
+    blocks_differ(a, b) || first_from(a, b, a.len() / BLOCK * BLOCK).is_some()
+}
+
+/// Whether some byte of the whole blocks differs. All of them are passed before the one test, which takes less
+/// time than a test of each.
+fn blocks_differ(a: &[u8], b: &[u8]) -> bool
+    requires { length a.now ≡ length b.now }
+    ensures { MatchBool result (SomeDiffer a.now b.now) (AgreeWithin a.now b.now 0 (length a.now / 256 * 256)) }
+{
+    let mut changes = u8x32::splat(0);
+    for block in 0..a.len() / BLOCK {
+        changes |= changes_256(a, b, block * BLOCK);
+    }
+    changes.reduce_or() != 0
 }
 
 /// The places of the first and the last byte that differ.
@@ -37,7 +50,17 @@ fn first_difference(a: &[u8], b: &[u8]) -> Option<usize>
     requires { length a.now ≡ length b.now }
     ensures { MatchOption result (AllAgree a.now b.now) (IsFirstDifference a.now b.now) }
 {
-    for block in agreeing(a, b) / LANES..a.len() / LANES {
+    first_from(a, b, agreeing(a, b))
+}
+
+/// The place of the first byte that differs, which isn't before `from`.
+fn first_from(a: &[u8], b: &[u8], from: usize) -> Option<usize>
+    requires same_length { length a.now ≡ length b.now }
+    requires within { from ≤ length a.now }
+    requires agree { AgreeWithin a.now b.now 0 from }
+    ensures { MatchOption result (AllAgree a.now b.now) (IsFirstDifference a.now b.now) }
+{
+    for block in from / LANES..a.len() / LANES {
         let at = block * LANES;
         let mask = differing(a, b, at);
         if mask != 0 {
@@ -60,7 +83,7 @@ fn agreeing(a: &[u8], b: &[u8]) -> usize
     ensures agree { AgreeWithin a.now b.now 0 result }
 {
     for block in 0..a.len() / BLOCK {
-        if changes_256(a, b, block * BLOCK) != 0 {
+        if changes_256(a, b, block * BLOCK).reduce_or() != 0 {
             return block * BLOCK;
         }
     }
@@ -105,15 +128,14 @@ pub fn raises(old: &[u8], target: &[u8]) -> bool
     false
 }
 
-/// The bits in which some of the 256 bytes from `at` on differ, put together.
+/// The changes of 256 bytes, put together.
 #[inline(always)]
-fn changes_256(a: &[u8], b: &[u8], at: usize) -> u8
+fn changes_256(a: &[u8], b: &[u8], at: usize) -> u8x32
     requires a_within { at + 256 ≤ length a.now }
     requires b_within { at + 256 ≤ length b.now }
-    ensures { result ≡ 0 → AgreeWithin a.now b.now at (at + 256) }
+    ensures { TellsChanges a.now b.now at 256 result }
 {
-    let changes = changes_128(a, b, at) | changes_128(a, b, at + 128);
-    changes.reduce_or()
+    changes_128(a, b, at) | changes_128(a, b, at + 128)
 }
 
 /// The changes of 128 bytes, put together.

@@ -1,5 +1,5 @@
 use Rattle.std.proofs.Common.{ℕ, ◌≡◌, ◌*◌, ◌<◌, get_or}
-use Rattle.nor_plan.proofs.lanes.first_difference.Given as goal
+use Rattle.nor_plan.proofs.lanes.first_from.Given as goal
 
 abbrev pub invariant-loop-block : goal.invariant-loop-block
 invariant-loop-block l = (k : ℕ) → k < l.block * 32 → get_or l.fn.a k 0 ≡ get_or l.fn.b k 0

@@ -1,7 +1,7 @@
 use Rattle.std.proofs.Common.{ℕ, Bool, not, nat_eq, get_or, ◌*◌, inl, inr, arith}
 use Rattle.std.proofs.lemmas.Bool.{cases_lt}
 use Rattle.nor_plan.proofs.Masks.{first_in_block, passed_block, same_from_test, other_from_test}
-use Rattle.nor_plan.proofs.lanes.first_difference.Goals as goal
+use Rattle.nor_plan.proofs.lanes.first_from.Goals as goal
 
 pub returns-then-mask-ne0 : goal.returns-then-mask-ne0
 returns-then-mask-ne0 c =

@@ -1,0 +1,19 @@
+-- What the words of the command line ask for.
+use Rattle.std.specs.Prelude.{ℕ, List, [], ◌∷◌, codes, if◌then◌else◌}
+use Rattle.std.specs.Str.{bytes_eq}
+use Rattle.bench.specs.declared.words.Request.{Request}
+use Rattle.bench.specs.declared.words.Request.TheVariants.{Usage, Chip, Plan, Journal, Unknown}
+
+-- the measurement of this name
+abbrev pub named : List ℕ → Request
+named word =
+    if bytes_eq word (codes "chip") then Chip
+    else if bytes_eq word (codes "plan") then Plan
+    else if bytes_eq word (codes "journal") then Journal
+    else Unknown
+
+-- no word asks for the usage, and one for the measurement of its name
+abbrev pub request_of : List (List ℕ) → Request
+request_of [] = Usage
+request_of (word ∷ []) = named word
+request_of (word ∷ other ∷ others) = Unknown

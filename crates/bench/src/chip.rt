@@ -1,0 +1,216 @@
+//! Reads, erases and page programs of the simulated W25Q128FV, each over its whole 16 MiB.
+ghost use Rattle.std.specs.Prelude.{◌≡◌, ◌*◌, ◌<◌, ◌^◌, IfOk, vec_len};
+ghost use Rattle.bench.specs.Command.{IsCommandAt};
+
+use crate::fault::Fault;
+use crate::timing::{Aim, Work, compare, look_at};
+use nor_chip::{Bus, Config, Delays, Meter, SimBus, Stopped};
+use std::alloc::{AllocError, Global};
+use std::rt::Clock;
+
+/// The bytes of the chip.
+const CHIP: usize = 16777216;
+
+/// How many sectors it has, and how many pages.
+const SECTORS: u32 = 4096;
+
+const PAGES: u32 = 65536;
+
+/// The most polls after an operation.
+const MOST_POLLS: u32 = 65536;
+
+const READS: Aim = Aim {
+    what: "reads of a sector",
+    beside: "a copy",
+    at_most: 2.0,
+    rounds: 51,
+};
+
+const ERASES: Aim = Aim {
+    what: "erases of a sector",
+    beside: "a copy",
+    at_most: 2.0,
+    rounds: 51,
+};
+
+const PROGRAMS: Aim = Aim {
+    what: "programs of a page",
+    beside: "a copy",
+    at_most: 6.0,
+    rounds: 51,
+};
+
+/// Prints how long the simulated chip takes. The plain work copies as many bytes by sectors: beside the reads out of
+/// 16 MiB of memory to one place, and beside the others from one place into that memory.
+pub fn measure<R: Clock + Print + AllocGlobal>(rt: &R) -> Result<u64, Fault> {
+    let mut bus = open_bus(rt.alloc())?;
+    let mut memory = erased_bytes(rt.alloc())?;
+    let mut sum = measure_reads(rt, &mut bus, &memory)?;
+    let mut copies = CopiesIn {
+        memory: &mut memory,
+        sector: [0x5A; 4096],
+    };
+    let mut erases = Erases { bus: &mut bus };
+    sum ^= compare(rt, ERASES, &mut erases, &mut copies)?;
+    let mut programs = Programs { bus: &mut bus };
+    sum ^= compare(rt, PROGRAMS, &mut programs, &mut copies)?;
+    Ok(sum)
+}
+
+fn measure_reads<R: Clock + Print>(rt: &R, bus: &mut SimBus, memory: &[u8]) -> Result<u64, Fault> {
+    let mut copies = CopiesOut {
+        memory,
+        sector: [0; 4096],
+    };
+    let mut reads = Reads {
+        bus,
+        sector: [0; 4096],
+    };
+    compare(rt, READS, &mut reads, &mut copies)
+}
+
+// The bytes of an erased chip.
+fn erased_bytes(alloc: Global) -> Result<Vec<u8>, AllocError>
+    ensures { IfOk result (λ bytes. vec_len bytes ≡ 16777216) }
+{
+    vec![in alloc; 0xFF; CHIP]
+}
+
+// The bus to an erased W25Q128FV, which answers one poll BUSY after each operation. It lets 2^64 transactions through.
+fn open_bus(alloc: Global) -> Result<SimBus, Fault> {
+    let delays = Delays { now: 0, each: 1 };
+    let bytes = erased_bytes(alloc)?;
+    let mut bus = SimBus::new(Config::w25q128fv(), bytes, [0, 0], delays)?;
+    bus.allow(u64::MAX);
+    Ok(bus)
+}
+
+// The bytes that begin a command: the opcode and an address, high byte first.
+fn command_at(opcode: u8, address: u32) -> [u8; 4]
+    requires { address < 2 ^ 24 }
+    ensures { IsCommandAt opcode address result }
+{
+    [
+        opcode,
+        (address / 65536) as u8,
+        (address / 256 % 256) as u8,
+        (address % 256) as u8,
+    ]
+}
+
+// A write enable, the command, and polls until the chip is idle.
+fn operate(bus: &mut SimBus, command: &[u8]) -> Result<(), Stopped> {
+    bus.transfer(&[0x06], &mut [])?;
+    bus.transfer(command, &mut [])?;
+    let mut status = [0];
+    for _ in 0..MOST_POLLS {
+        bus.transfer(&[0x05], &mut status)?;
+        if status[0] & 1 == 0 {
+            break;
+        }
+    }
+    Ok(())
+}
+
+#[derive(Drop)]
+struct Reads<'a> {
+    bus: &'a mut SimBus,
+    sector: [u8; 4096],
+}
+
+impl Work for Reads<'_> {
+    fn run(&mut self) -> Result<u64, Fault> {
+        let mut sum = 0u64;
+        for sector in 0..SECTORS {
+            let command = command_at(0x03, 4096 * sector);
+            self.bus.transfer(&command, &mut self.sector)?;
+            sum = look_at(&self.sector, sum);
+        }
+        Ok(sum)
+    }
+}
+
+#[derive(Drop)]
+struct Erases<'a> {
+    bus: &'a mut SimBus,
+}
+
+impl Work for Erases<'_> {
+    fn run(&mut self) -> Result<u64, Fault> {
+        for sector in 0..SECTORS {
+            operate(self.bus, &command_at(0x20, 4096 * sector))?;
+        }
+        Ok(u64::from(self.bus.bytes()[0]))
+    }
+}
+
+#[derive(Drop)]
+struct Programs<'a> {
+    bus: &'a mut SimBus,
+}
+
+impl Work for Programs<'_> {
+    fn run(&mut self) -> Result<u64, Fault> {
+        let mut command = [0x5A; 260];
+        for page in 0..PAGES {
+            command[..4].copy_from_slice(&command_at(0x02, 256 * page));
+            operate(self.bus, &command)?;
+        }
+        Ok(u64::from(self.bus.bytes()[0]))
+    }
+}
+
+// The plain work beside the reads.
+#[derive(Drop)]
+struct CopiesOut<'a> {
+    memory: &'a [u8],
+    sector: [u8; 4096],
+}
+
+impl Work for CopiesOut<'_> {
+    fn run(&mut self) -> Result<u64, Fault> {
+        let mut sum = 0u64;
+        for sector in self.memory.as_chunks::<4096>().0 {
+            self.sector.copy_from_slice(sector);
+            sum = look_at(&self.sector, sum);
+        }
+        Ok(sum)
+    }
+}
+
+// The plain work beside the erases and the programs.
+#[derive(Drop)]
+struct CopiesIn<'a> {
+    memory: &'a mut [u8],
+    sector: [u8; 4096],
+}
+
+impl Work for CopiesIn<'_> {
+    fn run(&mut self) -> Result<u64, Fault> {
+        for sector in self.memory.as_chunks_mut::<4096>().0 {
+            sector.copy_from_slice(&self.sector);
+        }
+        Ok(self.memory.first().map_or(0, |byte| u64::from(*byte)))
+    }
+}
+
+#[cfg(test)]
+mod tests {
+    use super::*;
+    use std::test::Fail;
+
+    #[test]
+    fn operations_are_carried_out(rt: HostRuntime) -> Result<(), Fail> {
+        let mut bus = open_bus(rt.alloc())?;
+        Programs { bus: &mut bus }.run()?;
+        assert!(rt; bus.bytes().iter().all(|byte| *byte == 0x5A));
+        Erases { bus: &mut bus }.run()?;
+        assert!(rt; bus.bytes().iter().all(|byte| *byte == 0xFF));
+        let mut reads = Reads {
+            bus: &mut bus,
+            sector: [0; 4096],
+        };
+        assert_eq!(rt; reads.run()?, 4096 * 0xFF);
+        Ok(())
+    }
+}

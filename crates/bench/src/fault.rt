@@ -1,0 +1,57 @@
+//! What ends a measurement.
+
+use nor_chip::{Stopped, WrongLength};
+use nor_journal::{JournalFault, VaultFault};
+use std::alloc::AllocError;
+use std::io;
+
+/// Why there is no result.
+#[derive(Debug, Drop)]
+pub enum Fault {
+    /// The clock can't be read, or a line not be printed.
+    System(io::Error),
+    /// Memory ran out.
+    Memory,
+    /// The simulated chip isn't made, doesn't answer or doesn't become idle.
+    Chip,
+    /// The journal isn't written.
+    Vault(VaultFault),
+    /// What was written is no journal.
+    Journal(JournalFault),
+}
+
+impl From<io::Error> for Fault {
+    fn from(error: io::Error) -> Fault {
+        Fault::System(error)
+    }
+}
+
+impl From<AllocError> for Fault {
+    fn from(_: AllocError) -> Fault {
+        Fault::Memory
+    }
+}
+
+impl From<WrongLength> for Fault {
+    fn from(_: WrongLength) -> Fault {
+        Fault::Chip
+    }
+}
+
+impl From<Stopped> for Fault {
+    fn from(_: Stopped) -> Fault {
+        Fault::Chip
+    }
+}
+
+impl From<VaultFault> for Fault {
+    fn from(fault: VaultFault) -> Fault {
+        Fault::Vault(fault)
+    }
+}
+
+impl From<JournalFault> for Fault {
+    fn from(fault: JournalFault) -> Fault {
+        Fault::Journal(fault)
+    }
+}

@@ -1,0 +1,106 @@
+//! A journal of all sectors of a 16 MiB chip, written and read.
+
+ghost use Rattle.std.specs.Prelude.{◌≡◌, true, OnOk};
+ghost use Rattle.nor_journal.specs.Vault.{IsFresh};
+
+use crate::fault::Fault;
+use crate::timing::{Aim, Work, compare};
+use nor_journal::{Journal, MemVault, Vault, VaultFault, Writer};
+use sha2::{Digest, Sha256};
+use std::alloc::Global;
+use std::rt::Clock;
+
+/// The bytes of the chip, and how many sectors it has.
+const CHIP: u32 = 16777216;
+
+const SECTORS: u32 = 4096;
+
+const WRITING: Aim = Aim {
+    what: "a journal written",
+    beside: "SHA-256",
+    at_most: 1.4,
+    rounds: 9,
+};
+
+const READING: Aim = Aim {
+    what: "a journal read",
+    beside: "SHA-256",
+    at_most: 1.2,
+    rounds: 9,
+};
+
+/// Prints how long the journal takes. The plain work is the digest of all its bytes.
+pub fn measure<R: Clock + Print + AllocGlobal>(rt: &R) -> Result<u64, Fault> {
+    let alloc = rt.alloc();
+    let mut vault = MemVault::new(alloc);
+    write(&mut vault)?;
+    let bytes = vault.bytes();
+    let mut digests = Digests { bytes };
+    let mut writing = Writing { alloc };
+    let sum = compare(rt, WRITING, &mut writing, &mut digests)?;
+    Ok(sum ^ compare(rt, READING, &mut Reading { bytes }, &mut digests)?)
+}
+
+// Writes the journal of a chip whose bytes are all alike into an empty vault.
+fn write<V: Vault>(vault: &mut V) -> Result<(), VaultFault>
+    requires { IsFresh (V.state vault.old) }
+    ensures { OnOk result ((V.state vault.new).sealed ≡ true) }
+{
+    let sector = [0x5A; 4096];
+    let mut writer = Writer::start(vault, [0xEF, 0x40, 0x18], [0, 0], CHIP)?;
+    for number in 0..SECTORS {
+        writer.add(number, &sector)?;
+    }
+    writer.end()
+}
+
+#[derive(Drop)]
+struct Writing {
+    alloc: Global,
+}
+
+impl Work for Writing {
+    fn run(&mut self) -> Result<u64, Fault> {
+        let mut vault = MemVault::new(self.alloc);
+        write(&mut vault)?;
+        Ok(u64::from(vault.bytes().last().copied().unwrap_or(0)))
+    }
+}
+
+#[derive(Drop)]
+struct Reading<'a> {
+    bytes: &'a [u8],
+}
+
+impl Work for Reading<'_> {
+    fn run(&mut self) -> Result<u64, Fault> {
+        Ok(Journal::read(self.bytes)?.count() as u64)
+    }
+}
+
+// The plain work.
+#[derive(Drop)]
+struct Digests<'a> {
+    bytes: &'a [u8],
+}
+
+impl Work for Digests<'_> {
+    fn run(&mut self) -> Result<u64, Fault> {
+        Ok(u64::from(Sha256::digest(self.bytes)[0]))
+    }
+}
+
+#[cfg(test)]
+mod tests {
+    use super::*;
+    use std::test::Fail;
+
+    #[test]
+    fn all_sectors_are_written(rt: HostRuntime) -> Result<(), Fail> {
+        let mut vault = MemVault::new(rt.alloc());
+        write(&mut vault)?;
+        let bytes = vault.bytes();
+        assert_eq!(rt; Reading { bytes }.run()?, 4096);
+        Ok(())
+    }
+}

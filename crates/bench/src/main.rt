@@ -1,0 +1,41 @@
+//! `bench` measures the parts of this project. Each line says how long something takes, as a ratio to plain work on
+//! as many bytes that is timed in the same run, and the ratio that is wanted.
+#![tactic(auto)]
+
+mod chip;
+mod fault;
+mod journal;
+mod plan;
+mod timing;
+mod words;
+
+use fault::Fault;
+use std::env;
+use std::process::ExitCode;
+use words::{Request, request_of};
+
+const USAGE: &str = "\
+usage: bench chip | plan | journal
+  chip     reads, erases and page programs of a simulated chip, beside copies
+  plan     comparisons of two sectors, beside copies
+  journal  a journal of 4,096 sectors, written and read, beside SHA-256
+";
+
+fn main(rt: HostRuntime) -> Result<ExitCode, Fault> {
+    let words: Vec<String> = env::args(&rt)?.skip(1).collect(rt.alloc())?;
+    let sum = match request_of(words.as_slice()) {
+        Request::Usage => {
+            rt.print(USAGE)?;
+            return Ok(ExitCode::SUCCESS);
+        }
+        Request::Chip => chip::measure(&rt)?,
+        Request::Journal => journal::measure(&rt)?,
+        Request::Plan => plan::measure(&rt)?,
+        Request::Unknown => {
+            rt.eprint(USAGE)?;
+            return Ok(ExitCode::FAILURE);
+        }
+    };
+    println!(rt; "sum of all answers: {sum}")?;
+    Ok(ExitCode::SUCCESS)
+}

@@ -1,0 +1,121 @@
+//! The comparisons of two sectors whose last byte alone differs.
+
+use crate::fault::Fault;
+use crate::timing::{Aim, Work, compare, look_at};
+use nor_plan::{bounds, differs};
+use std::alloc::{AllocError, Global};
+use std::rt::Clock;
+
+/// How many sectors are compared before the clock is read again.
+const PASSES: u32 = 2000;
+
+const DIFFERS: Aim = Aim {
+    what: "whether a sector differs",
+    beside: "a copy",
+    at_most: 2.0,
+    rounds: 2001,
+};
+
+const BOUNDS: Aim = Aim {
+    what: "bounds of what differs",
+    beside: "a copy",
+    at_most: 3.0,
+    rounds: 2001,
+};
+
+/// Prints how long the comparisons take.
+pub fn measure<R: Clock + Print + AllocGlobal>(rt: &R) -> Result<u64, Fault> {
+    let mut copies = Copies(Sectors::new(rt.alloc())?);
+    let mut work = Differs(Sectors::new(rt.alloc())?);
+    let sum = compare(rt, DIFFERS, &mut work, &mut copies)?;
+    let mut work = Bounds(Sectors::new(rt.alloc())?);
+    Ok(sum ^ compare(rt, BOUNDS, &mut work, &mut copies)?)
+}
+
+// A sector, the same once more, and room for a copy, each in memory of its own as a program's buffers are.
+#[derive(Drop)]
+struct Sectors {
+    old: Box<[u8; 4096]>,
+    target: Box<[u8; 4096]>,
+    copy: Box<[u8; 4096]>,
+}
+
+impl Sectors {
+    fn new(alloc: Global) -> Result<Sectors, AllocError> {
+        let old = Box::new(alloc, [0xA5; 4096])?;
+        let target = Box::new(alloc, [0xA5; 4096])?;
+        let copy = Box::new(alloc, [0; 4096])?;
+        Ok(Sectors { old, target, copy })
+    }
+
+    // Makes the last byte alone differ, by another difference in each pass.
+    fn touch(&mut self, pass: u32) {
+        self.target[4095] = self.old[4095] ^ ((pass % 255) as u8 + 1);
+    }
+}
+
+#[derive(Drop)]
+struct Differs(Sectors);
+
+impl Work for Differs {
+    fn run(&mut self) -> Result<u64, Fault> {
+        let mut sum = 0u64;
+        for pass in 0..PASSES {
+            self.0.touch(pass);
+            let Sectors { old, target, .. } = &self.0;
+            sum = sum.wrapping_add(u64::from(differs(&**old, &**target)));
+        }
+        Ok(sum)
+    }
+}
+
+#[derive(Drop)]
+struct Bounds(Sectors);
+
+impl Work for Bounds {
+    fn run(&mut self) -> Result<u64, Fault> {
+        let mut sum = 0u64;
+        for pass in 0..PASSES {
+            self.0.touch(pass);
+            let Sectors { old, target, .. } = &self.0;
+            if let Some((first, last)) = bounds(&**old, &**target) {
+                sum = sum.wrapping_add(first as u64).wrapping_add(last as u64);
+            }
+        }
+        Ok(sum)
+    }
+}
+
+// The plain work.
+#[derive(Drop)]
+struct Copies(Sectors);
+
+impl Work for Copies {
+    fn run(&mut self) -> Result<u64, Fault> {
+        let mut sum = 0u64;
+        for pass in 0..PASSES {
+            self.0.touch(pass);
+            let Sectors { target, copy, .. } = &mut self.0;
+            copy.copy_from_slice(&**target);
+            sum = look_at(&**copy, sum);
+        }
+        Ok(sum)
+    }
+}
+
+#[cfg(test)]
+mod tests {
+    use super::*;
+    use std::test::Fail;
+
+    #[test]
+    fn last_byte_alone_differs(rt: HostRuntime) -> Result<(), Fail> {
+        let passes = u64::from(PASSES);
+        assert_eq!(rt; Differs(Sectors::new(rt.alloc())?).run()?, passes);
+        assert_eq!(rt;
+            Bounds(Sectors::new(rt.alloc())?).run()?,
+            passes * (4095 + 4095)
+        );
+        Ok(())
+    }
+}

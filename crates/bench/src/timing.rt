@@ -1,0 +1,104 @@
+//! Times of two pieces of work that are done in turn.
+
+use crate::fault::Fault;
+use std::fmt;
+use std::rt::Clock;
+use std::time::{Duration, Instant};
+
+/// Work that is timed.
+pub trait Work {
+    /// Does it once. The answer hangs on what was done, so that no compiler leaves the work out.
+    fn run(&mut self) -> Result<u64, Fault>;
+}
+
+/// Adds the byte to a sum that lies at a place which the sum names. No compiler knows the place, so none leaves out
+/// what made the bytes.
+pub fn look_at(bytes: &[u8; 4096], sum: u64) -> u64 {
+    sum.wrapping_add(u64::from(bytes[(sum % 4096) as usize]))
+}
+
+/// What is measured, beside what plain work, and at most how many times as long it shall take.
+#[derive(Clone, Copy)]
+pub struct Aim {
+    pub what: &'static str,
+    pub beside: &'static str,
+    pub at_most: f64,
+    /// How often each of the two is timed.
+    pub rounds: u32,
+}
+
+/// The least times that the work and the plain work took.
+#[derive(Clone, Copy)]
+struct Outcome {
+    aim: Aim,
+    work: Duration,
+    plain: Duration,
+}
+
+impl fmt::Display for Outcome {
+    fn fmt<W: fmt::Write>(&self, f: &mut fmt::Formatter<W>) -> fmt::Result {
+        let Aim {
+            what,
+            beside,
+            at_most,
+            rounds: _,
+        } = self.aim;
+        let times = self.work.as_secs_f64() / self.plain.as_secs_f64();
+        write!(f, "{what}: {times:.2} times {beside} (at most {at_most})")
+    }
+}
+
+/// Measures work beside plain work and prints the ratio of their least times. The two are done in turn, so that what
+/// slows the machine down slows both. Answers the sum of what they answered.
+pub fn compare<R: Clock + Print, W: Work, P: Work>(
+    rt: &R,
+    aim: Aim,
+    work: &mut W,
+    plain: &mut P,
+) -> Result<u64, Fault> {
+    let mut sum = 0;
+    let mut outcome = Outcome {
+        aim,
+        work: Duration::MAX,
+        plain: Duration::MAX,
+    };
+    for _ in 0..aim.rounds {
+        outcome.plain = outcome.plain.min(time(rt, plain, &mut sum)?);
+        outcome.work = outcome.work.min(time(rt, work, &mut sum)?);
+    }
+    rt.println(outcome)?;
+    Ok(sum)
+}
+
+// How long the work takes once.
+fn time<C: Clock, W: Work>(clock: &C, work: &mut W, sum: &mut u64) -> Result<Duration, Fault> {
+    let start = Instant::now(clock)?;
+    let answer = work.run()?;
+    let time = start.elapsed(clock)?;
+    *sum = sum.wrapping_add(answer);
+    Ok(time)
+}
+
+#[cfg(test)]
+mod tests {
+    use super::*;
+    use std::test::Fail;
+
+    #[test]
+    fn line_has_the_ratio(rt: HostRuntime) -> Result<(), Fail> {
+        let aim = Aim {
+            what: "reads of a sector",
+            beside: "a copy",
+            at_most: 1.4,
+            rounds: 1,
+        };
+        let work = Duration::from_millis(111);
+        let plain = Duration::from_millis(100);
+        let line = format!(in rt.alloc(); "{}", Outcome { aim, work, plain })?;
+        assert_eq!(rt;
+            line.as_str(),
+            "reads of a sector: 1.11 times a copy (at most 1.4)"
+        );
+        Ok(())
+    }
+}
