@@ -30,6 +30,8 @@ pub struct Rehearsal {
 /// sealed restores under the following ones, one each, until one ends. Where no stop is left as many transactions
 /// are allowed as any call needs. At most 64 stops; the vault is empty and unsealed.
 ///
+/// The session ends where it is allowed 17,891,925 transactions, and only where it is allowed what its readings,
+/// erases and programs take; its vault is sealed where it is allowed 65,557, and only where it is allowed 22.
 /// Afterwards the chip is as before, at every exit.
 pub fn rehearse<B: Meter>(
     bus: &mut B,
@@ -44,6 +46,10 @@ pub fn rehearse<B: Meter>(
     ensures honest { (B.state bus.new).honest ≡ (B.state bus.old).honest }
     ensures counts { IfOk result (IsRehearsal (length stops.now) (⟦<MemVault as Vault>⟧.state vault.new)) }
     ensures blames { IfErr result (BlamesVault (⟦<MemVault as Vault>⟧.state vault.old) (⟦<MemVault as Vault>⟧.state vault.new)) }
+
+    // On an honest bus.
+    ensures sealed { (B.state bus.old).honest ≡ true → IfOk result (λ rehearsal. rehearsal.sealed ≡ true → 22 ≤ first_allowance stops.now) }
+    ensures unsealed { (B.state bus.old).honest ≡ true → IfOk result (λ rehearsal. rehearsal.sealed ≡ false → first_allowance stops.now < 65557) }
 
     // On an honest bus whose chip is what it shows itself to be.
     ensures gives_back { (B.state bus.old).honest ≡ true → IsGenuine (B.state bus.old).chip.config → IsSame (B.state bus.old).chip (B.state bus.new).chip }
@@ -109,6 +115,8 @@ fn stopped_session<B: Meter>(
         → IfOk result (λ ended. ended ≡ true) }
     ensures stopped { (B.state bus.old).honest ≡ true → IsGenuine (B.state bus.old).chip.config
         → IfOk result (λ ended. ended ≡ true → CanEnd image.old (first_allowance stops.now) (B.state bus.old).chip) }
+    ensures scanned { (B.state bus.old).honest ≡ true → (⟦<MemVault as Vault>⟧.state vault.new).sealed ≡ true → 22 ≤ first_allowance stops.now }
+    ensures unsealed { (B.state bus.old).honest ≡ true → (⟦<MemVault as Vault>⟧.state vault.new).sealed ≡ false → OnOk result (first_allowance stops.now < 65557) }
 {
     bus.allow(first_allowed(stops));
     match session(bus, vault, image, request) {
