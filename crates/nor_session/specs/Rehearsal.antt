@@ -36,7 +36,7 @@ pub record CanEnd (image : List ℕ) (allowance : ℕ) (chip : Chip) : Type 0 wh
   pub enough : least_needed image chip.bytes ≤ allowance
 
 -- So many restores were run, under these stops in turn: each before the last was stopped, so it was allowed fewer
--- transactions than the bound, and the last ended, so where it ran under a stop that allowed 22 or more.
+-- transactions than the bound, and the last ended, so where it ran under a stop, that allowed 22 or more.
 pub record AreRestores (stops : List ℕ) (restores : ℕ) : Type 0 where
   pub stopped : (i : ℕ) → i + 1 < restores → slice_index stops i < 17891925
   pub ended : restores ≤ length stops → 22 ≤ slice_index stops (restores - 1)
