@@ -76,7 +76,8 @@ fn erased_bytes(alloc: Global) -> Result<Vec<u8>, AllocError>
     vec![in alloc; 0xFF; CHIP]
 }
 
-// The bus to an erased W25Q128FV, which answers one poll BUSY after each operation. It lets 2^64 transactions through.
+// The bus to an erased W25Q128FV, which answers one poll BUSY after each operation. It lets more transactions through
+// than any measurement sends.
 fn open_bus(alloc: Global) -> Result<SimBus, Fault> {
     let delays = Delays { now: 0, each: 1 };
     let bytes = erased_bytes(alloc)?;
