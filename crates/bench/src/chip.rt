@@ -23,21 +23,21 @@ const READS: Aim = Aim {
     what: "reads of a sector",
     beside: "a copy",
     at_most: 2.0,
-    rounds: 51,
+    rounds: 301,
 };
 
 const ERASES: Aim = Aim {
     what: "erases of a sector",
     beside: "a copy",
     at_most: 2.0,
-    rounds: 51,
+    rounds: 301,
 };
 
 const PROGRAMS: Aim = Aim {
     what: "programs of a page",
     beside: "a copy",
     at_most: 6.0,
-    rounds: 51,
+    rounds: 301,
 };
 
 /// Prints how long the simulated chip takes. The plain work copies as many bytes by sectors: beside the reads out of
