@@ -23,21 +23,21 @@ const READS: Aim = Aim {
     what: "reads of a sector",
     beside: "a copy",
     at_most: 2.0,
-    rounds: 51,
+    rounds: 301,
 };
 
 const ERASES: Aim = Aim {
     what: "erases of a sector",
     beside: "a copy",
     at_most: 2.0,
-    rounds: 51,
+    rounds: 301,
 };
 
 const PROGRAMS: Aim = Aim {
     what: "programs of a page",
     beside: "a copy",
     at_most: 6.0,
-    rounds: 51,
+    rounds: 301,
 };
 
 /// Prints how long the simulated chip takes. The plain work copies as many bytes by sectors: beside the reads out of
@@ -76,7 +76,8 @@ fn erased_bytes(alloc: Global) -> Result<Vec<u8>, AllocError>
     vec![in alloc; 0xFF; CHIP]
 }
 
-// The bus to an erased W25Q128FV, which answers one poll BUSY after each operation. It lets 2^64 transactions through.
+// The bus to an erased W25Q128FV, which answers one poll BUSY after each operation. It lets more transactions through
+// than any measurement sends.
 fn open_bus(alloc: Global) -> Result<SimBus, Fault> {
     let delays = Delays { now: 0, each: 1 };
     let bytes = erased_bytes(alloc)?;

@@ -12,7 +12,7 @@ pub enum Fault {
     System(io::Error),
     /// Memory ran out.
     Memory,
-    /// The simulated chip isn't made, doesn't answer or doesn't become idle.
+    /// The simulated chip isn't made or doesn't answer.
     Chip,
     /// The journal isn't written.
     Vault(VaultFault),

@@ -19,14 +19,14 @@ const WRITING: Aim = Aim {
     what: "a journal written",
     beside: "SHA-256",
     at_most: 1.4,
-    rounds: 9,
+    rounds: 15,
 };
 
 const READING: Aim = Aim {
     what: "a journal read",
     beside: "SHA-256",
     at_most: 1.2,
-    rounds: 9,
+    rounds: 15,
 };
 
 /// Prints how long the journal takes. The plain work is the digest of all its bytes.

@@ -7,20 +7,20 @@ use std::alloc::{AllocError, Global};
 use std::rt::Clock;
 
 /// How many sectors are compared before the clock is read again.
-const PASSES: u32 = 2000;
+const PASSES: u32 = 1000;
 
 const DIFFERS: Aim = Aim {
     what: "whether a sector differs",
     beside: "a copy",
     at_most: 2.0,
-    rounds: 2001,
+    rounds: 10001,
 };
 
 const BOUNDS: Aim = Aim {
     what: "bounds of what differs",
     beside: "a copy",
     at_most: 3.0,
-    rounds: 2001,
+    rounds: 10001,
 };
 
 /// Prints how long the comparisons take.

@@ -9,7 +9,7 @@ use std::simd::prelude::*;
 /// How many bytes are compared at a time.
 const LANES: usize = 32;
 
-/// How many bytes are put together before a test.
+/// How many bytes are passed a turn.
 const BLOCK: usize = 8 * LANES;
 
 /// Whether some byte differs.
