@@ -4,7 +4,7 @@ ghost use Rattle.std.proofs.lemmas.Bool.{false≢true};
 ghost use Rattle.nor_probe.specs.Known.{IsKnown};
 
 use crate::{ChipName, Found, Geometry, Kinds, ProbeFault, SfdpFault, probe, read_sfdp};
-use nor_chip::{Bus, Config, Delays, Meter, SimBus, Stopped, TraceBus};
+use nor_chip::{Bus, Config, Delays, Meter, SimBus, Stopped, TINY64_SFDP, TraceBus};
 use std::alloc::Global;
 use std::test::Fail;
 
@@ -185,6 +185,15 @@ fn emulated_chips_show_their_sfdp(rt: HostRuntime) -> Result<(), Fail> {
         [0xFF, 0xFF, 0xFF, 0x07],
         16_777_216,
     )
+}
+
+#[test]
+fn an_id_of_the_table_is_believed(rt: HostRuntime) -> Result<(), Fail> {
+    let id = [0xEF, 0x40, 0x17];
+    let small = Config::new(id, 65_536, false, false, false, &TINY64_SFDP).ok_or("no such size")?;
+    let found = probed(&rt, rt.alloc(), small, None, "05 > 04\n9f > ef4017\n")?;
+    assert_eq!(rt; found.map(|found| found.size), Ok(8_388_608));
+    Ok(())
 }
 
 #[test]
