@@ -4,7 +4,8 @@ ghost use Rattle.bench.specs.Command.{IsCommandAt};
 
 use crate::fault::Fault;
 use crate::timing::{Aim, Work, compare, look_at};
-use nor_chip::{Bus, Config, Delays, Meter, SimBus, Stopped};
+use nor_chip::{Bus, Config, Delays, Meter, SimBus};
+use nor_probe::wait;
 use std::alloc::{AllocError, Global};
 use std::rt::Clock;
 
@@ -15,9 +16,6 @@ const CHIP: usize = 16777216;
 const SECTORS: u32 = 4096;
 
 const PAGES: u32 = 65536;
-
-/// The most polls after an operation.
-const MOST_POLLS: u32 = 65536;
 
 const READS: Aim = Aim {
     what: "reads of a sector",
@@ -100,16 +98,10 @@ fn command_at(opcode: u8, address: u32) -> [u8; 4]
 }
 
 // A write enable, the command, and polls until the chip is idle.
-fn operate(bus: &mut SimBus, command: &[u8]) -> Result<(), Stopped> {
+fn operate(bus: &mut SimBus, command: &[u8]) -> Result<(), Fault> {
     bus.transfer(&[0x06], &mut [])?;
     bus.transfer(command, &mut [])?;
-    let mut status = [0];
-    for _ in 0..MOST_POLLS {
-        bus.transfer(&[0x05], &mut status)?;
-        if status[0] & 1 == 0 {
-            break;
-        }
-    }
+    wait(bus)?;
     Ok(())
 }
 

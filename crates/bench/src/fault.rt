@@ -2,6 +2,7 @@
 
 use nor_chip::{Stopped, WrongLength};
 use nor_journal::{JournalFault, VaultFault};
+use nor_probe::WaitFault;
 use std::alloc::AllocError;
 use std::io;
 
@@ -40,6 +41,12 @@ impl From<WrongLength> for Fault {
 
 impl From<Stopped> for Fault {
     fn from(_: Stopped) -> Fault {
+        Fault::Chip
+    }
+}
+
+impl From<WaitFault> for Fault {
+    fn from(_: WaitFault) -> Fault {
         Fault::Chip
     }
 }
