@@ -6,7 +6,12 @@ use nor_chip::Config;
 /// A chip that the program emulates.
 #[derive(Clone, Copy, Debug, PartialEq, Eq)]
 pub enum Emulated {
+    /// 64 KiB, known by its SFDP alone.
     Tiny64,
+    /// 8 MiB.
+    W25q64fv,
+    /// 16 MiB.
+    W25q128fv,
 }
 
 impl Emulated {
@@ -18,6 +23,10 @@ impl Emulated {
     {
         if name == "TINY64" {
             Some(Emulated::Tiny64)
+        } else if name == "W25Q64FV" {
+            Some(Emulated::W25q64fv)
+        } else if name == "W25Q128FV" {
+            Some(Emulated::W25q128fv)
         } else {
             None
         }
@@ -29,6 +38,8 @@ impl Emulated {
     {
         match self {
             Emulated::Tiny64 => Config::tiny64(),
+            Emulated::W25q64fv => Config::w25q64fv(),
+            Emulated::W25q128fv => Config::w25q128fv(),
         }
     }
 }
