@@ -1,1 +1,2 @@
 pub mod SfdpLemmas
+pub mod Shown

@@ -80,3 +80,14 @@ first_fault_or geometry (case ∷ cases) = if case.0 then Err case.1 else first_
 -- what these bytes of SFDP say
 abbrev pub sfdp_says : List ℕ → List ℕ → List ℕ → Result Geometry SfdpFault
 sfdp_says header first table = first_fault_or (geometry_of table) (header_faults header first ++ table_faults table)
+
+-- the number that a message shows for a fault
+abbrev pub number_of : SfdpFault → ℕ
+number_of Signature = 1
+number_of Major = 2
+number_of FirstHeader = 3
+number_of Length = 4
+number_of Address = 5
+number_of Granularity = 6
+number_of Size = 7
+number_of NoSector = 8

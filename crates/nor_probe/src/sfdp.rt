@@ -1,7 +1,8 @@
 //! Serial Flash Discoverable Parameters (JEDEC JESD216): the size of a chip and its erase kinds, from
 //! the header and the basic flash parameter table.
 
-ghost use Rattle.std.specs.Prelude.{◌≡◌, ◌<◌, ◌≤◌, ◌+◌, ◌*◌, ◌-◌, ◌/◌, length, IsTrue};
+ghost use Rattle.std.specs.Prelude.{◌≡◌, ◌<◌, ◌≤◌, ◌+◌, ◌*◌, ◌-◌, ◌/◌, true, length, IsTrue, IfSome, IfOk};
+ghost use Rattle.nor_chip.specs.Size.{is_chip_size};
 ghost use Rattle.std.specs.Option.{SomeIff};
 ghost use Rattle.nor_probe.specs.Sfdp.{double_word, size_in_bits, is_supported_size, has_signature, is_basic, address_mode, has_write_granularity, is_erase_type_at, has_erase_type, geometry_of, table_faults, first_fault_or, sfdp_says};
 
@@ -45,6 +46,26 @@ pub enum SfdpFault {
     NoSector,
 }
 
+impl SfdpFault {
+    ghost use Rattle.nor_probe.specs.Sfdp.{number_of};
+
+    /// The number that a message shows, from 1 on, in the order of the tests.
+    pub fn number(self) -> u8
+        ensures { result ≡ number_of self }
+    {
+        match self {
+            SfdpFault::Signature => 1,
+            SfdpFault::Major => 2,
+            SfdpFault::FirstHeader => 3,
+            SfdpFault::Length => 4,
+            SfdpFault::Address => 5,
+            SfdpFault::Granularity => 6,
+            SfdpFault::Size => 7,
+            SfdpFault::NoSector => 8,
+        }
+    }
+}
+
 /// The least number of double words of the table: those up to the erase types.
 const TABLE_LENGTH: u8 = 9;
 
@@ -59,7 +80,8 @@ const MOST_EXPONENT: u32 = 27;
 /// Reads the SFDP of a chip: `header` is the bytes at 0 to 7, `first` those at 8 to 15, `table` the 36 bytes
 /// from the pointer in `first` on. The answer is the first fault, or else the geometry.
 pub fn read_sfdp(header: &[u8; 8], first: &[u8; 8], table: &[u8; 36]) -> Result<Geometry, SfdpFault>
-    ensures { result ≡ sfdp_says header.now first.now table.now }
+    ensures says { result ≡ sfdp_says header.now first.now table.now }
+    ensures sized { IfOk result (λ geometry. is_chip_size geometry.size ≡ true) }
 {
     if !is_sfdp(header) {
         return Err(SfdpFault::Signature);
@@ -78,7 +100,8 @@ pub fn read_sfdp(header: &[u8; 8], first: &[u8; 8], table: &[u8; 36]) -> Result<
 
 /// The part of `read_sfdp` that looks at the table.
 fn read_table(table: &[u8; 36]) -> Result<Geometry, SfdpFault>
-    ensures { result ≡ first_fault_or (geometry_of table.now) (table_faults table.now) }
+    ensures says { result ≡ first_fault_or (geometry_of table.now) (table_faults table.now) }
+    ensures sized { IfOk result (λ geometry. is_chip_size geometry.size ≡ true) }
 {
     if address_bits(table) >= 2 {
         return Err(SfdpFault::Address);
@@ -144,7 +167,8 @@ fn double_word_of(table: &[u8; 36], k: usize) -> u32
 /// The size in bytes that the density double word gives, if it is one of those that are supported.
 #[tactic(auto, using(crate::proofs::SfdpLemmas::large_exponent), unfolding(crate::specs::Sfdp::size_in_bits, crate::specs::Sfdp::is_supported_size))]
 fn size_in_bytes(density: u32) -> Option<u32>
-    ensures { SomeIff result (IsTrue (is_supported_size (size_in_bits density))) (size_in_bits density / 8) }
+    ensures value { SomeIff result (IsTrue (is_supported_size (size_in_bits density))) (size_in_bits density / 8) }
+    ensures sized { IfSome result (λ size. is_chip_size size ≡ true) }
 {
     let bits = if density < BY_EXPONENT {
         density + 1

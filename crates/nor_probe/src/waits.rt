@@ -1,7 +1,9 @@
 //! Polls, and waits for a chip to be idle.
 
-ghost use Rattle.std.specs.Prelude.{◌≡◌, ◌≤◌, ◌<◌, ◌+◌, ◌-◌, ◌%◌, true, IfOk, IfErr, OnOk, OnErr};
+ghost use Rattle.std.specs.Prelude.{◌≡◌, ◌≤◌, ◌<◌, ◌+◌, ◌-◌, ◌%◌, ◌==◌, if◌then◌else◌, true, false, IfOk, IfErr, OnOk, OnErr};
+ghost use Rattle.nor_chip.specs.Chip.{status1_of};
 ghost use Rattle.nor_probe.specs.declared.waits.WaitFault.TheVariants as WaitFaults;
+ghost use Rattle.nor_probe.specs.Looks.{Quiet, Looked, RanOut, latch_when_idle};
 
 use nor_chip::{Bus, Stopped};
 
@@ -12,7 +14,15 @@ pub const MOST_POLLS: u32 = 65536;
 const BUSY: u8 = 1;
 
 /// Status 1, by one poll (05h).
-pub fn poll<B: Bus>(bus: &mut B) -> Result<u8, Stopped> {
+pub fn poll<B: Bus>(bus: &mut B) -> Result<u8, Stopped>
+    ensures quiet { Quiet (B.state bus.old) (B.state bus.new) }
+    ensures looked { (B.state bus.old).honest ≡ true → Looked 1 (B.state bus.old) (B.state bus.new) }
+    ensures status { (B.state bus.old).honest ≡ true → IfOk result (λ status. status ≡ status1_of (B.state bus.old).chip) }
+    ensures busy { (B.state bus.old).honest ≡ true → OnOk result ((B.state bus.new).chip.busy ≡ (B.state bus.old).chip.busy - 1) }
+    ensures latch { (B.state bus.old).honest ≡ true → OnOk result ((B.state bus.new).chip.latch ≡ (if (B.state bus.old).chip.busy == 1 then false else (B.state bus.old).chip.latch)) }
+    ensures count { (B.state bus.old).honest ≡ true → OnOk result ((B.state bus.old).left ≡ (B.state bus.new).left + 1) }
+    ensures stops { (B.state bus.old).honest ≡ true → OnErr result (RanOut 1 (B.state bus.old) (B.state bus.new)) }
+{
     let mut reply = [0];
     bus.transfer(&[0x05], &mut reply)?;
     Ok(reply[0])
@@ -45,7 +55,22 @@ pub struct Waited {
 }
 
 /// Polls until the chip is idle, at most 65,536 times.
-pub fn wait<B: Bus>(bus: &mut B) -> Result<Waited, WaitFault> {
+pub fn wait<B: Bus>(bus: &mut B) -> Result<Waited, WaitFault>
+    ensures quiet { Quiet (B.state bus.old) (B.state bus.new) }
+    ensures some { IfOk result (λ waited. 1 ≤ waited.polls) }
+    ensures few { IfOk result (λ waited. waited.polls ≤ 65536) }
+    ensures clear { IfOk result (λ waited. waited.status1 % 2 ≡ 0) }
+
+    ensures looked { (B.state bus.old).honest ≡ true → Looked 65536 (B.state bus.old) (B.state bus.new) }
+    ensures idle { (B.state bus.old).honest ≡ true → OnOk result ((B.state bus.new).chip.busy ≡ 0) }
+    ensures latch { (B.state bus.old).honest ≡ true → OnOk result ((B.state bus.new).chip.latch ≡ latch_when_idle (B.state bus.old).chip) }
+    ensures status { (B.state bus.old).honest ≡ true → IfOk result (λ waited. waited.status1 ≡ status1_of (B.state bus.new).chip) }
+    ensures polls { (B.state bus.old).honest ≡ true → IfOk result (λ waited. waited.polls ≡ (B.state bus.old).chip.busy + 1) }
+    ensures count { (B.state bus.old).honest ≡ true → IfOk result (λ waited. (B.state bus.old).left ≡ (B.state bus.new).left + waited.polls) }
+    ensures patient { (B.state bus.old).honest ≡ true → IfErr result (λ fault. fault ≡ WaitFaults.Stopped) }
+    ensures stops { (B.state bus.old).honest ≡ true → OnErr result (RanOut ((B.state bus.old).chip.busy + 1) (B.state bus.old) (B.state bus.new)) }
+    ensures below { (B.state bus.old).honest ≡ true → OnErr result ((B.state bus.old).left < 65536) }
+{
     for polls in 0..MOST_POLLS {
         let status1 = poll(bus)?;
         if status1 & BUSY == 0 {

@@ -1,0 +1,128 @@
+-- What a probe tells of the chip.
+use Rattle.std.specs.Prelude.{◌≡◌, ◌≢◌, ◌+◌, ◌≤◌, ◌<◌, ◌⊎◌, ℕ, true, false, Option, None, Some, Ok, Err, List, if◌then◌else◌}
+use Rattle.nor_chip.specs.declared.config.Config.{Config}
+use Rattle.nor_chip.specs.Chip.{Chip, status1_of}
+use Rattle.nor_chip.specs.Size.{is_chip_size}
+use Rattle.nor_chip.specs.Bus.{BusState}
+use Rattle.nor_probe.specs.declared.table.ChipName.{ChipName}
+use Rattle.nor_probe.specs.declared.table.ChipName.TheVariants.{Sfdp}
+use Rattle.nor_probe.specs.declared.table.Part.{Part}
+use Rattle.nor_probe.specs.declared.probes.Found.{Found}
+use Rattle.nor_probe.specs.declared.probes.ProbeFault.{ProbeFault}
+use Rattle.nor_probe.specs.declared.probes.ProbeFault.TheVariants.{NoChip, UnknownChip, OtherName, Stopped, Timeout}
+use Rattle.nor_probe.specs.Table.{part_of}
+use Rattle.nor_probe.specs.Looks.{RanOut, latch_when_idle}
+use Rattle.nor_probe.specs.declared.probes.Parameters.{Parameters}
+use Rattle.nor_probe.specs.declared.waits.WaitFault.{WaitFault}
+use Rattle.nor_probe.specs.declared.waits.WaitFault.TheVariants as Waits
+use Rattle.nor_probe.specs.Known.{id_of, is_no_chip, shown, pointer_in, chip_says, shown_as, IsKnown}
+
+-- the part that was found
+abbrev pub part_in : Found → Part
+part_in found = record { name = found.name; id = found.id; size = found.size; kinds = found.kinds; scheme = found.scheme }
+
+-- the chip may have this name
+abbrev pub IsWanted : Option ChipName → ChipName → Type 0
+IsWanted None name = Unit {0}
+IsWanted (Some wanted) name = wanted ≡ name
+
+-- how many transactions tell which part has this ID: 9Fh, and where the table doesn't have it 5Ah three times
+abbrev pub reads_by : Option Part → ℕ
+reads_by (Some part) = 1
+reads_by None = 4
+
+abbrev pub reads_of : List ℕ → ℕ
+reads_of of_id = if is_no_chip of_id then 1 else reads_by (part_of of_id)
+
+-- how many transactions a probe of this chip takes: a poll for each BUSY, one that sees it idle, and the reads
+abbrev pub needed : Chip → ℕ
+needed chip = chip.busy + 1 + reads_of (id_of chip.config)
+
+-- Whatever the bus: the part is a row of the table, or one by SFDP, of a size that a chip may have.
+pub record IsPart (found : Found) : Type 0 where
+  pub driven : is_no_chip found.id ≡ false
+  pub origin : (part_of found.id ≡ Some (part_in found)) ⊎ ((part_of found.id ≡ None) × (found.name ≡ Sfdp) × (found.scheme ≡ false))
+  pub sized : is_chip_size found.size ≡ true
+  pub least : 1 + reads_of found.id ≤ found.transactions
+  pub most : found.transactions ≤ 65540
+
+-- On an honest bus: the part is what the chip shows itself as, the chip is idle, and the status is the chip's. The
+-- chip's bytes, kept bits and worn sectors are as they were, since it was only looked at.
+pub record Finds (old new : BusState) (found : Found) : Type 0 where
+  pub part : shown_as old.chip.config ≡ Ok (part_in found)
+  pub idle : new.chip.busy ≡ 0
+  pub latch : new.chip.latch ≡ latch_when_idle old.chip
+  pub status1 : found.status1 ≡ status1_of new.chip
+  pub transactions : found.transactions ≡ needed old.chip
+  pub count : old.left ≡ new.left + found.transactions
+
+-- What was found is the configuration of a known chip.
+pub record IsConfigOf (config : Config) (found : Found) : Type 0 where
+  pub known : IsKnown config
+  pub id : found.id ≡ id_of config
+  pub size : found.size ≡ config.size
+  pub k32 : found.kinds.k32 ≡ config.k32
+  pub k64 : found.kinds.k64 ≡ config.k64
+  pub scheme : found.scheme ≡ config.scheme
+
+-- The chip shows itself as a part that has another name than the one that is wanted.
+pub record HasOtherName (named : Option ChipName) (config : Config) : Type 0 where
+  pub part : Part
+  pub shown : shown_as config ≡ Ok part
+  pub other : ¬ IsWanted named part.name
+
+-- what a fault tells, on an honest bus: 65,540 transactions are always enough
+abbrev pub Tells : Option ChipName → BusState → BusState → ProbeFault → Type 0
+Tells named old new NoChip = (shown_as old.chip.config ≡ Err NoChip) × (old.left ≡ new.left + needed old.chip)
+Tells named old new (UnknownChip fault) = (shown_as old.chip.config ≡ Err (UnknownChip fault)) × (old.left ≡ new.left + needed old.chip)
+Tells named old new OtherName = HasOtherName named old.chip.config × (old.left ≡ new.left + needed old.chip)
+Tells named old new Stopped = RanOut (needed old.chip) old new × (old.left < 65540)
+Tells named old new Timeout = ⊥
+
+-- the fault that a wait's is told as
+abbrev pub fault_of : WaitFault → ProbeFault
+fault_of Waits.Stopped = Stopped
+fault_of Waits.Timeout = Timeout
+
+-- how many transactions tell a part of this name
+abbrev pub reads_under : ChipName → ℕ
+reads_under Sfdp = 4
+reads_under _ = 1
+
+-- These are the parts of the SFDP that are read.
+pub record AreParameters (config : Config) (parameters : Parameters) : Type 0 where
+  pub header : parameters.header ≡ shown config 0 8
+  pub first : parameters.first ≡ shown config 8 8
+  pub table : parameters.table ≡ shown config (pointer_in (shown config 8 8)) 36
+
+-- Whatever the bus: a part with this ID, from the table or by SFDP.
+pub record IsIdentified (of_id : List ℕ) (part : Part) : Type 0 where
+  pub driven : is_no_chip of_id ≡ false
+  pub same_id : part.id ≡ of_id
+  pub origin : (part_of of_id ≡ Some part) ⊎ ((part_of of_id ≡ None) × (part.name ≡ Sfdp) × (part.scheme ≡ false))
+  pub sized : is_chip_size part.size ≡ true
+  pub reads : reads_under part.name ≡ reads_of of_id
+
+-- what a fault tells of an idle chip, of which the SFDP alone was read
+abbrev pub GeometryTells : BusState → BusState → ProbeFault → Type 0
+GeometryTells old new (UnknownChip fault) = (chip_says old.chip.config ≡ Err fault) × (old.left ≡ new.left + 3)
+GeometryTells old new Stopped = RanOut 3 old new
+GeometryTells old new _ = ⊥
+
+-- the faults of the part alone
+abbrev pub IsIdentityFault : ProbeFault → Type 0
+IsIdentityFault NoChip = Unit {0}
+IsIdentityFault (UnknownChip fault) = Unit {0}
+IsIdentityFault OtherName = ⊥
+IsIdentityFault Stopped = Unit {0}
+IsIdentityFault Timeout = ⊥
+
+-- The part of an idle chip whose ID was read, and that so many transactions were sent for it.
+pub record Identifies (old new : BusState) (part : Part) : Type 0 where
+  pub shows : shown_as old.chip.config ≡ Ok part
+  pub count : old.left + 1 ≡ new.left + reads_of (id_of old.chip.config)
+
+-- what a fault tells of such a chip
+abbrev pub IdentityTells : BusState → BusState → ProbeFault → Type 0
+IdentityTells old new Stopped = (new.left ≡ 0) × (old.left + 1 < reads_of (id_of old.chip.config))
+IdentityTells old new fault = (shown_as old.chip.config ≡ Err fault) × (old.left + 1 ≡ new.left + reads_of (id_of old.chip.config))

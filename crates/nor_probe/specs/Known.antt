@@ -1,0 +1,76 @@
+-- What a chip shows of itself, and which chips are genuine and known.
+use Rattle.std.specs.Prelude.{◌≡◌, ◌+◌, ◌*◌, ◌%◌, ◌||◌, ℕ, Bool, false, Option, None, Some, Result, Ok, Err, List, [], ◌∷◌, map, bytes_eq, slice_index, slice_index_or, IsOk, if◌then◌else◌}
+use Rattle.std.specs.List.{range_with_len}
+use Rattle.nor_chip.specs.declared.config.Config.{Config}
+use Rattle.nor_chip.specs.Chip.{sfdp_byte}
+use Rattle.nor_probe.specs.declared.sfdp.Geometry.{Geometry}
+use Rattle.nor_probe.specs.declared.sfdp.SfdpFault.{SfdpFault}
+use Rattle.nor_probe.specs.declared.table.ChipName.TheVariants.{Sfdp}
+use Rattle.nor_probe.specs.declared.table.Part.{Part}
+use Rattle.nor_probe.specs.declared.probes.ProbeFault.{ProbeFault}
+use Rattle.nor_probe.specs.declared.probes.ProbeFault.TheVariants.{NoChip, UnknownChip}
+use Rattle.nor_probe.specs.Sfdp.{sfdp_says}
+use Rattle.nor_probe.specs.Table.{part_of}
+
+-- the ID: the three bytes that 9Fh replies first (W25Q64FV datasheet, Read JEDEC ID)
+abbrev pub id_of : Config → List ℕ
+id_of config = slice_index_or config.id 0 255 ∷ slice_index_or config.id 1 255 ∷ slice_index_or config.id 2 255 ∷ []
+
+-- nothing drives the bus: its lines rest high, or low
+abbrev pub is_no_chip : List ℕ → Bool
+is_no_chip of_id = bytes_eq of_id (0xFF ∷ 0xFF ∷ 0xFF ∷ []) || bytes_eq of_id (0 ∷ 0 ∷ 0 ∷ [])
+
+-- so many SFDP bytes as 5Ah shows them, from an address on that is taken modulo the chip's size
+unfoldable pub shown : Config → ℕ → ℕ → List ℕ
+shown config at len = map (sfdp_byte config) (range_with_len (at % config.size) len)
+
+-- the address of the table that a parameter header points to: three bytes, low byte first (JESD216)
+abbrev pub pointer_in : List ℕ → ℕ
+pointer_in first = slice_index first 4 + 256 * slice_index first 5 + 65536 * slice_index first 6
+
+-- what the chip says of itself by SFDP: by the header, the first parameter header and the table that this points to
+unfoldable pub chip_says : Config → Result Geometry SfdpFault
+chip_says config = sfdp_says (shown config 0 8) (shown config 8 8) (shown config (pointer_in (shown config 8 8)) 36)
+
+-- a chip that is known by its SFDP alone has no block protection that is known
+abbrev pub sfdp_part : List ℕ → Geometry → Part
+sfdp_part with_id geometry = record {
+  name = Sfdp;
+  id = with_id;
+  size = geometry.size;
+  kinds = geometry.kinds;
+  scheme = false;
+}
+
+abbrev pub part_by_sfdp : List ℕ → Result Geometry SfdpFault → Result Part ProbeFault
+part_by_sfdp with_id (Ok geometry) = Ok (sfdp_part with_id geometry)
+part_by_sfdp with_id (Err fault) = Err (UnknownChip fault)
+
+-- the row of the table, or where there is none what SFDP says
+abbrev pub listed_or : Result Part ProbeFault → Option Part → Result Part ProbeFault
+listed_or by_sfdp (Some part) = Ok part
+listed_or by_sfdp None = by_sfdp
+
+-- what the chip shows itself as
+abbrev pub shown_as : Config → Result Part ProbeFault
+shown_as config =
+    if is_no_chip (id_of config) then Err NoChip
+    else listed_or (part_by_sfdp (id_of config) (chip_says config)) (part_of (id_of config))
+
+-- The chip has the size and the erase kinds of this geometry.
+pub record HasGeometry (geometry : Geometry) (config : Config) : Type 0 where
+  pub size : config.size ≡ geometry.size
+  pub k32 : config.k32 ≡ geometry.kinds.k32
+  pub k64 : config.k64 ≡ geometry.kinds.k64
+
+-- A chip is genuine: if its ID is in the table, size, erase kinds and protection are those of the row; and if it
+-- isn't, the chip has no block protection, and an SFDP that is accepted tells its size and erase kinds.
+pub record IsGenuine (config : Config) : Type 0 where
+  pub listed : (part : Part) → part_of (id_of config) ≡ Some part → HasGeometry (record { size = part.size; kinds = part.kinds }) config × (config.scheme ≡ part.scheme)
+  pub unlisted : part_of (id_of config) ≡ None → config.scheme ≡ false
+  pub described : part_of (id_of config) ≡ None → (geometry : Geometry) → chip_says config ≡ Ok geometry → HasGeometry geometry config
+
+-- A chip is known: it is genuine, its ID isn't that of no chip, and it is in the table or its SFDP is accepted.
+pub record IsKnown (config : Config) : Type 0 where
+  pub genuine : IsGenuine config
+  pub shown : IsOk (shown_as config)
