@@ -3,3 +3,4 @@ pub mod Numbers
 pub mod Named
 pub mod Taken
 pub mod Asked
+pub mod Shown

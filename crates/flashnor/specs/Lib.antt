@@ -9,4 +9,5 @@ pub mod Job
 pub mod Words
 pub mod Messages
 pub mod Files
+pub mod Found
 pub mod Run

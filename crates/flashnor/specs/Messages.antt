@@ -2,8 +2,6 @@
 use Rattle.std.specs.Prelude.{ℕ}
 use Rattle.nor_probe.specs.declared.probes.ProbeFault.{ProbeFault}
 use Rattle.nor_probe.specs.declared.probes.ProbeFault.TheVariants.{NoChip, UnknownChip, OtherName, Stopped, Timeout}
-use Rattle.nor_probe.specs.declared.sfdp.SfdpFault.{SfdpFault}
-use Rattle.nor_probe.specs.declared.sfdp.SfdpFault.TheVariants as sfdp
 use Rattle.flashnor.specs.declared.messages.FileFault.{FileFault}
 use Rattle.flashnor.specs.declared.messages.FileFault.TheVariants as file
 
@@ -19,14 +17,3 @@ probe_number (UnknownChip fault) = 2
 probe_number OtherName = 3
 probe_number Stopped = 12
 probe_number Timeout = 13
-
--- the number of a fault of SFDP bytes
-abbrev pub sfdp_number : SfdpFault → ℕ
-sfdp_number sfdp.Signature = 1
-sfdp_number sfdp.Major = 2
-sfdp_number sfdp.FirstHeader = 3
-sfdp_number sfdp.Length = 4
-sfdp_number sfdp.Address = 5
-sfdp_number sfdp.Granularity = 6
-sfdp_number sfdp.Size = 7
-sfdp_number sfdp.NoSector = 8

@@ -1,6 +1,6 @@
 //! What the program prints: each message is one line.
 ghost use Rattle.std.specs.Prelude.{◌≡◌};
-ghost use Rattle.flashnor.specs.Messages.{probe_number, sfdp_number};
+ghost use Rattle.flashnor.specs.Messages.{probe_number};
 
 use crate::answers::Answer;
 use crate::words::UsageFault;
@@ -103,7 +103,7 @@ impl fmt::Display for ProbeReason {
             ProbeFault::UnknownChip(fault) => write!(
                 f,
                 "unknown chip, SFDP fault {}",
-                sfdp_number(fault)
+                fault.number()
             ),
             ProbeFault::OtherName => f.write_str("another chip than named"),
             ProbeFault::Stopped => f.write_str("stopped"),
@@ -152,22 +152,6 @@ fn probe_number(fault: ProbeFault) -> u8
         ProbeFault::OtherName => 3,
         ProbeFault::Stopped => 12,
         ProbeFault::Timeout => 13,
-    }
-}
-
-// The number of a fault of SFDP bytes, which is its place in the order of the tests.
-fn sfdp_number(fault: SfdpFault) -> u8
-    ensures { result ≡ sfdp_number fault }
-{
-    match fault {
-        SfdpFault::Signature => 1,
-        SfdpFault::Major => 2,
-        SfdpFault::FirstHeader => 3,
-        SfdpFault::Length => 4,
-        SfdpFault::Address => 5,
-        SfdpFault::Granularity => 6,
-        SfdpFault::Size => 7,
-        SfdpFault::NoSector => 8,
     }
 }
 

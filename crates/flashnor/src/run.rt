@@ -1,14 +1,17 @@
 //! A run of the program.
-ghost use Rattle.std.specs.Prelude.{◌≡◌, ◌≤◌, length, map, string_bytes, IfErr, MatchResult};
+ghost use Rattle.std.specs.Prelude.{◌≡◌, ◌≤◌, length, map, string_bytes, MatchResult};
 ghost use Rattle.flashnor.specs.Words.{IsRefused};
-ghost use Rattle.flashnor.specs.Run.{IsAnswer, IsWorkOf, IsEnd};
+ghost use Rattle.flashnor.specs.declared.programmer.Programmer.{Programmer};
+ghost use Rattle.flashnor.specs.Files.{Opens};
+ghost use Rattle.flashnor.specs.Found.{HasName, IsFound, IsOther};
+ghost use Rattle.flashnor.specs.Run.{IsAnswer, IsAnswerOf, IsEndOf, IsWriteEnd};
 
 use crate::answers::Answer;
 use crate::files::{open_chip, read_image};
 use crate::messages::{Fault, print_answer, print_fault};
 use crate::words::{ChipJob, Job, Task, UsageFault, request_of};
 use clap::error::ErrorKind;
-use nor_chip::{Meter, SimBus};
+use nor_chip::{Bus, Meter, SimBus};
 use nor_journal::MemVault;
 use nor_probe::{ChipName, Found, ProbeFault, probe};
 use nor_session::{Rehearsal, Request, rehearse};
@@ -47,7 +50,7 @@ fn run<'a, R: Files + AllocGlobal>(rt: &R, words: &'a [String]) -> Result<Answer
 
 // Opens the programmer's chip and does the job's task.
 fn work_on_chip<'a, R: Files + AllocGlobal>(rt: &R, job: &ChipJob<'a>) -> Result<Answer, Fault<'a>>
-    ensures { MatchResult result (IsWorkOf job.now) IsEnd }
+    ensures { MatchResult result (IsAnswerOf job.now) (IsEndOf job.now) }
 {
     let mut bus = open_chip(rt, &job.programmer)?;
     match &job.task {
@@ -69,12 +72,11 @@ fn rehearse_write<'a, R: Files + AllocGlobal>(
     stops: &[u64],
 ) -> Result<Rehearsal, Fault<'a>>
     requires { length stops.now ≤ 64 }
-    ensures { IfErr result IsEnd }
+    ensures { (programmer : Programmer) → Opens programmer (⟦<SimBus as Bus>⟧.state bus.old)
+        → MatchResult result (λ _. HasName named.entry programmer.chip) (IsWriteEnd named.entry programmer.chip) }
 {
     let mut image = read_image(rt, image)?;
-    if named.is_some() {
-        find(bus, named)?;
-    }
+    check_name(bus, named)?;
     let mut vault = MemVault::new(rt.alloc());
     let request = Request {
         what: nor_session::Job::Write,
@@ -83,8 +85,22 @@ fn rehearse_write<'a, R: Files + AllocGlobal>(
     Ok(rehearsal)
 }
 
+// The chip has the name that is given. Where none is given it isn't looked at.
+fn check_name(bus: &mut SimBus, named: Option<&str>) -> Result<(), ProbeFault>
+    ensures { (programmer : Programmer) → Opens programmer (⟦<SimBus as Bus>⟧.state bus.old)
+        → MatchResult result (λ _. HasName named.entry programmer.chip) (IsOther named.entry programmer.chip) }
+{
+    if named.is_some() {
+        find(bus, named)?;
+    }
+    Ok(())
+}
+
 // Finds the chip on the bus, which nothing stops. The chip must have the name that is given, if one is.
-fn find(bus: &mut SimBus, named: Option<&str>) -> Result<Found, ProbeFault> {
+fn find(bus: &mut SimBus, named: Option<&str>) -> Result<Found, ProbeFault>
+    ensures { (programmer : Programmer) → Opens programmer (⟦<SimBus as Bus>⟧.state bus.old)
+        → MatchResult result (IsFound named.entry programmer.chip) (IsOther named.entry programmer.chip) }
+{
     bus.allow(u64::MAX);
     probe(bus, named.map(ChipName::of))
 }
