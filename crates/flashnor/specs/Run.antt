@@ -1,7 +1,11 @@
 -- What a run came to.
-use Rattle.std.specs.Prelude.{◌≡◌, List, Option, Result, Ok, Err, ⊤}
+use Rattle.std.specs.Prelude.{◌≡◌, ◌⊎◌, ℕ, List, Option, Result, Ok, Err, length, option_map, ⊤}
 use Rattle.std.specs.Borrow.{Bor}
+use Rattle.nor_journal.specs.Vault.{VaultState}
+use Rattle.nor_session.specs.Rehearsal.{IsRehearsal}
+use Rattle.nor_session.specs.declared.rehearsals.Rehearsal.{Rehearsal}
 use Rattle.flashnor.specs.Text.{Text}
+use Rattle.flashnor.specs.Files.{IsOpening, IsReading}
 use Rattle.flashnor.specs.Found.{HasName, IsFound, IsOther, part_of}
 use Rattle.flashnor.specs.Words.{IsJob, IsFault}
 use Rattle.flashnor.specs.declared.answers.Answer.{Answer}
@@ -15,10 +19,24 @@ use Rattle.flashnor.specs.declared.words.Task.TheVariants as task
 use Rattle.flashnor.specs.declared.messages.Fault.{Fault}
 use Rattle.flashnor.specs.declared.messages.Fault.TheVariants as end
 
--- the task is a rehearsal
-abbrev pub IsRehearsal : Task → Type 0
-IsRehearsal (task.Rehearse image stops) = ⊤
-IsRehearsal _ = ⊥
+-- a rehearsal under so many stops, with a vault of its own
+abbrev pub IsRehearsed : ℕ → Rehearsal → Type 0
+IsRehearsed stops rehearsal = (vault : VaultState) × IsRehearsal stops vault rehearsal
+
+-- the task is a rehearsal, and comes to this
+abbrev pub ComesTo : Task → Rehearsal → Type 0
+ComesTo (task.Rehearse image stops) rehearsal = IsRehearsed (length stops.items) rehearsal
+ComesTo _ rehearsal = ⊥
+
+-- the task is a rehearsal, which its session may refuse
+abbrev pub MayBeRefused : Task → Type 0
+MayBeRefused (task.Rehearse image stops) = ⊤
+MayBeRefused _ = ⊥
+
+-- the fault is that of the image that the task reads
+abbrev pub IsOfImage : Task → Fault → Type 0
+IsOfImage (task.Rehearse image stops) fault = IsReading image.now fault
+IsOfImage _ fault = ⊥
 
 -- An answer is of the task's kind, and tells of the programmer's chip, which has the name that is given.
 abbrev pub IsAnswerOf : ChipJob → Answer → Type 0
@@ -28,21 +46,23 @@ IsAnswerOf on_chip (answer.Found found) =
 IsAnswerOf on_chip (answer.Size size) = (on_chip.task ≡ task.FlashSize)
     × HasName on_chip.named on_chip.programmer.chip × (size ≡ (part_of on_chip.programmer.chip).size)
 IsAnswerOf on_chip (answer.Rehearsed rehearsal) =
-    IsRehearsal on_chip.task × HasName on_chip.named on_chip.programmer.chip
+    ComesTo on_chip.task rehearsal × HasName on_chip.named on_chip.programmer.chip
 
--- how the writing of an image may end beside: with a fault of a file or of memory, or of the name, or a refusal
-abbrev pub IsWriteEnd : Option (Bor Text) → Emulated → Fault → Type 0
-IsWriteEnd named chip (end.Usage fault) = ⊥
-IsWriteEnd named chip (end.Probe fault) = IsOther named chip fault
-IsWriteEnd named chip _ = ⊤
+-- How the writing of the image of this name may end beside: with a fault of its file or of memory, where the chip has
+-- another name than the one given, or with a refusal of the session.
+abbrev pub IsWriteEnd : Option (Bor Text) → Emulated → Text → Fault → Type 0
+IsWriteEnd named chip image (end.Usage fault) = ⊥
+IsWriteEnd named chip image (end.Probe fault) = IsOther named chip fault
+IsWriteEnd named chip image (end.Refused refusal) = ⊤
+IsWriteEnd named chip image fault = IsReading image fault
 
--- How else a job on a chip ends: with a fault of a file or of memory, or where the chip has another name than the one
--- given, and a rehearsal with any refusal of its session.
+-- How a job on a chip may end beside: with a fault of the chip's file, of the image or of memory, where the chip has
+-- another name than the one given, and a rehearsal with a refusal of its session.
 abbrev pub IsEndOf : ChipJob → Fault → Type 0
 IsEndOf on_chip (end.Usage fault) = ⊥
 IsEndOf on_chip (end.Probe fault) = IsOther on_chip.named on_chip.programmer.chip fault
-IsEndOf on_chip (end.Refused refusal) = IsRehearsal on_chip.task
-IsEndOf on_chip _ = ⊤
+IsEndOf on_chip (end.Refused refusal) = MayBeRefused on_chip.task
+IsEndOf on_chip fault = IsOpening (option_map (λ name. name.now) on_chip.programmer.image) fault ⊎ IsOfImage on_chip.task fault
 
 -- the list of chips is the answer to nothing else
 abbrev pub Answers : Job → Answer → Type 0

@@ -21,14 +21,11 @@ impl Emulated {
     pub fn named(name: &str) -> Option<Emulated>
         ensures { result ≡ chip_named name.now }
     {
-        if name == "TINY64" {
-            Some(Emulated::Tiny64)
-        } else if name == "W25Q64FV" {
-            Some(Emulated::W25q64fv)
-        } else if name == "W25Q128FV" {
-            Some(Emulated::W25q128fv)
-        } else {
-            None
+        match name {
+            "TINY64" => Some(Emulated::Tiny64),
+            "W25Q64FV" => Some(Emulated::W25q64fv),
+            "W25Q128FV" => Some(Emulated::W25q128fv),
+            _ => None,
         }
     }
 

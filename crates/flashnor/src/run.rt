@@ -1,10 +1,10 @@
 //! A run of the program.
-ghost use Rattle.std.specs.Prelude.{◌≡◌, ◌≤◌, length, map, string_bytes, MatchResult};
+ghost use Rattle.std.specs.Prelude.{◌≡◌, ◌≤◌, length, map, string_bytes, IfOk, MatchResult};
 ghost use Rattle.flashnor.specs.Words.{IsRefused};
 ghost use Rattle.flashnor.specs.declared.programmer.Programmer.{Programmer};
 ghost use Rattle.flashnor.specs.Files.{Opens};
 ghost use Rattle.flashnor.specs.Found.{HasName, IsFound, IsOther};
-ghost use Rattle.flashnor.specs.Run.{IsAnswer, IsAnswerOf, IsEndOf, IsWriteEnd};
+ghost use Rattle.flashnor.specs.Run.{IsAnswer, IsAnswerOf, IsEndOf, IsRehearsed, IsWriteEnd};
 
 use crate::answers::Answer;
 use crate::files::{open_chip, read_image};
@@ -72,8 +72,9 @@ fn rehearse_write<'a, R: Files + AllocGlobal>(
     stops: &[u64],
 ) -> Result<Rehearsal, Fault<'a>>
     requires { length stops.now ≤ 64 }
-    ensures { (programmer : Programmer) → Opens programmer (⟦<SimBus as Bus>⟧.state bus.old)
-        → MatchResult result (λ _. HasName named.entry programmer.chip) (IsWriteEnd named.entry programmer.chip) }
+    ensures comes_to { IfOk result (IsRehearsed (length stops.now)) }
+    ensures ends { (programmer : Programmer) → Opens programmer (⟦<SimBus as Bus>⟧.state bus.old)
+        → MatchResult result (λ _. HasName named.entry programmer.chip) (IsWriteEnd named.entry programmer.chip image.entry.now) }
 {
     let mut image = read_image(rt, image)?;
     check_name(bus, named)?;
