@@ -1,8 +1,9 @@
 //! Probes of simulated chips, by what they find and send.
+ghost use Rattle.std.specs.Prelude.{false, refl};
 ghost use Rattle.nor_probe.specs.Known.{IsKnown};
 
 use crate::{ChipName, Found, Geometry, Kinds, ProbeFault, SfdpFault, probe, read_sfdp};
-use nor_chip::{Bus, Config, Delays, Meter, SimBus, TraceBus};
+use nor_chip::{Bus, Config, Delays, Meter, SimBus, Stopped, TraceBus};
 use std::alloc::Global;
 use std::test::Fail;
 
@@ -234,6 +235,34 @@ fn the_longest_wait_and_one_transaction_too_few(rt: HostRuntime) -> Result<(), F
     assert_eq!(rt; probe(&mut bus, None), Ok(waited));
     let mut bus = bus_to(rt.alloc(), tiny64(), busy, 65_539)?;
     assert_eq!(rt; probe(&mut bus, None), Err(ProbeFault::Stopped));
+    Ok(())
+}
+
+// A bus that lies: whatever the chip replies, it says that it is busy.
+#[derive(Drop)]
+struct Stuck {
+    bus: SimBus,
+}
+
+impl Bus for Stuck {
+    ghost state = { λ stuck. record (⟦<SimBus as Bus>⟧.state stuck.bus) { honest = false } };
+
+    ghost reaches = { λ stuck honest. ⟦<SimBus as Bus>⟧.reaches stuck.bus refl };
+
+    fn transfer(&mut self, out: &[u8], reply: &mut [u8]) -> Result<(), Stopped> {
+        self.bus.transfer(out, reply)?;
+        reply.fill(0x01);
+        Ok(())
+    }
+}
+
+// No clause tells a stop from a timeout on a bus that lies, so that is shown here.
+#[test]
+fn patience_runs_out_at_a_bus_that_is_always_busy(rt: HostRuntime) -> Result<(), Fail> {
+    let bus = bus_to(rt.alloc(), tiny64(), IDLE, 65_536)?;
+    assert_eq!(rt; probe(&mut Stuck { bus }, None), Err(ProbeFault::Timeout));
+    let bus = bus_to(rt.alloc(), tiny64(), IDLE, 65_535)?;
+    assert_eq!(rt; probe(&mut Stuck { bus }, None), Err(ProbeFault::Stopped));
     Ok(())
 }
 
