@@ -1,2 +1,3 @@
 pub mod SfdpLemmas
 pub mod Shown
+pub mod Emulated

@@ -13,7 +13,7 @@ use Rattle.nor_chip.specs.Bus.{BusState, Carries}
 use Rattle.nor_probe.specs.declared.probes.Parameters.{Parameters}
 use Rattle.nor_probe.specs.Sfdp.{sfdp_says}
 use Rattle.nor_probe.specs.Known.{id_of, shown, pointer_in, chip_says}
-use Rattle.nor_probe.specs.Found.{AreParameters}
+use Rattle.nor_probe.specs.Steps.{AreParameters}
 
 -- bytes that are those of each address in turn are what is shown
 pub reply_shown : (config : Config) (at len : ℕ) (bytes : List ℕ) → length bytes ≡ len

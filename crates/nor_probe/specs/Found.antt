@@ -1,5 +1,5 @@
 -- What a probe tells of the chip.
-use Rattle.std.specs.Prelude.{◌≡◌, ◌≢◌, ◌+◌, ◌≤◌, ◌<◌, ◌⊎◌, ℕ, true, false, Option, None, Some, Ok, Err, List, if◌then◌else◌}
+use Rattle.std.specs.Prelude.{◌≡◌, ◌+◌, ◌≤◌, ◌<◌, ◌⊎◌, ℕ, true, false, Option, None, Some, Ok, Err, List, if◌then◌else◌}
 use Rattle.nor_chip.specs.declared.config.Config.{Config}
 use Rattle.nor_chip.specs.Chip.{Chip, status1_of}
 use Rattle.nor_chip.specs.Size.{is_chip_size}
@@ -12,10 +12,7 @@ use Rattle.nor_probe.specs.declared.probes.ProbeFault.{ProbeFault}
 use Rattle.nor_probe.specs.declared.probes.ProbeFault.TheVariants.{NoChip, UnknownChip, OtherName, Stopped, Timeout}
 use Rattle.nor_probe.specs.Table.{part_of}
 use Rattle.nor_probe.specs.Looks.{RanOut, latch_when_idle}
-use Rattle.nor_probe.specs.declared.probes.Parameters.{Parameters}
-use Rattle.nor_probe.specs.declared.waits.WaitFault.{WaitFault}
-use Rattle.nor_probe.specs.declared.waits.WaitFault.TheVariants as Waits
-use Rattle.nor_probe.specs.Known.{id_of, is_no_chip, shown, pointer_in, chip_says, shown_as, IsKnown}
+use Rattle.nor_probe.specs.Known.{id_of, is_no_chip, shown_as, IsKnown}
 
 -- the part that was found
 abbrev pub part_in : Found → Part
@@ -78,51 +75,3 @@ Tells named old new (UnknownChip fault) = (shown_as old.chip.config ≡ Err (Unk
 Tells named old new OtherName = HasOtherName named old.chip.config × (old.left ≡ new.left + needed old.chip)
 Tells named old new Stopped = RanOut (needed old.chip) old new × (old.left < 65540)
 Tells named old new Timeout = ⊥
-
--- the fault that a wait's is told as
-abbrev pub fault_of : WaitFault → ProbeFault
-fault_of Waits.Stopped = Stopped
-fault_of Waits.Timeout = Timeout
-
--- how many transactions tell a part of this name
-abbrev pub reads_under : ChipName → ℕ
-reads_under Sfdp = 4
-reads_under _ = 1
-
--- These are the parts of the SFDP that are read.
-pub record AreParameters (config : Config) (parameters : Parameters) : Type 0 where
-  pub header : parameters.header ≡ shown config 0 8
-  pub first : parameters.first ≡ shown config 8 8
-  pub table : parameters.table ≡ shown config (pointer_in (shown config 8 8)) 36
-
--- Whatever the bus: a part with this ID, from the table or by SFDP.
-pub record IsIdentified (of_id : List ℕ) (part : Part) : Type 0 where
-  pub driven : is_no_chip of_id ≡ false
-  pub same_id : part.id ≡ of_id
-  pub origin : (part_of of_id ≡ Some part) ⊎ ((part_of of_id ≡ None) × (part.name ≡ Sfdp) × (part.scheme ≡ false))
-  pub sized : is_chip_size part.size ≡ true
-  pub reads : reads_under part.name ≡ reads_of of_id
-
--- what a fault tells of an idle chip, of which the SFDP alone was read
-abbrev pub GeometryTells : BusState → BusState → ProbeFault → Type 0
-GeometryTells old new (UnknownChip fault) = (chip_says old.chip.config ≡ Err fault) × (old.left ≡ new.left + 3)
-GeometryTells old new Stopped = RanOut 3 old new
-GeometryTells old new _ = ⊥
-
--- the faults of the part alone
-abbrev pub IsIdentityFault : ProbeFault → Type 0
-IsIdentityFault NoChip = Unit {0}
-IsIdentityFault (UnknownChip fault) = Unit {0}
-IsIdentityFault OtherName = ⊥
-IsIdentityFault Stopped = Unit {0}
-IsIdentityFault Timeout = ⊥
-
--- The part of an idle chip whose ID was read, and that so many transactions were sent for it.
-pub record Identifies (old new : BusState) (part : Part) : Type 0 where
-  pub shows : shown_as old.chip.config ≡ Ok part
-  pub count : old.left + 1 ≡ new.left + reads_of (id_of old.chip.config)
-
--- what a fault tells of such a chip
-abbrev pub IdentityTells : BusState → BusState → ProbeFault → Type 0
-IdentityTells old new Stopped = (new.left ≡ 0) × (old.left + 1 < reads_of (id_of old.chip.config))
-IdentityTells old new fault = (shown_as old.chip.config ≡ Err fault) × (old.left + 1 ≡ new.left + reads_of (id_of old.chip.config))

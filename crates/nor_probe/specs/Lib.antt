@@ -3,3 +3,4 @@ pub mod Table
 pub mod Looks
 pub mod Known
 pub mod Found
+pub mod Steps

@@ -12,6 +12,13 @@ name_of text =
     else (if bytes_eq text (codes "SFDP") then Sfdp
     else Other))
 
+-- the text of a name; what stands for a name that no chip has is no chip's name either
+abbrev pub text_of : ChipName → List ℕ
+text_of W25Q64FV = codes "W25Q64FV"
+text_of W25Q128FV = codes "W25Q128FV"
+text_of Sfdp = codes "SFDP"
+text_of Other = codes "other"
+
 -- Both Winbond chips have all erase kinds and block protection. (W25Q64FV and W25Q128FV datasheets: manufacturer
 -- and device identification, memory organization, instruction set table.)
 abbrev pub winbond : ChipName → List ℕ → ℕ → Part

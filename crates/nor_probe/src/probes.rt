@@ -5,7 +5,8 @@ ghost use Rattle.nor_chip.specs.Size.{is_chip_size};
 ghost use Rattle.nor_probe.specs.declared.probes.ProbeFault.TheVariants as Faults;
 ghost use Rattle.nor_probe.specs.Looks.{Quiet, Looked, RanOut};
 ghost use Rattle.nor_probe.specs.Known.{id_of, shown, chip_says, is_no_chip, IsGenuine};
-ghost use Rattle.nor_probe.specs.Found.{Finds, IsConfigOf, IsPart, IsWanted, Tells, AreParameters, Identifies, GeometryTells, IdentityTells, IsIdentified, IsIdentityFault, reads_under, fault_of};
+ghost use Rattle.nor_probe.specs.Found.{Finds, IsConfigOf, IsPart, IsWanted, Tells};
+ghost use Rattle.nor_probe.specs.Steps.{AreParameters, Identifies, GeometryTells, IdentityTells, IsIdentified, IsIdentityFault, reads_under, fault_of};
 
 use crate::{ChipName, Geometry, Kinds, Part, SfdpFault, WaitFault, part_of, read_sfdp, wait};
 use nor_chip::{Bus, Stopped};

@@ -1,7 +1,7 @@
 //! The chips that are known by their ID, and the names that chips have.
 
 ghost use Rattle.std.specs.Prelude.{◌≡◌};
-ghost use Rattle.nor_probe.specs.Table.{name_of, chips, part_of};
+ghost use Rattle.nor_probe.specs.Table.{name_of, text_of, chips, part_of};
 
 use crate::Kinds;
 
@@ -33,7 +33,8 @@ impl ChipName {
 
     /// The name as a text, which `of` reads back.
     pub fn as_str(self) -> &'static str
-        ensures { name_of result.now ≡ self }
+        ensures text { result.now ≡ text_of self }
+        ensures read_back { name_of result.now ≡ self }
     {
         match self {
             ChipName::W25Q64FV => "W25Q64FV",

@@ -1,6 +1,9 @@
 //! Probes of simulated chips, by what they find and send.
-use crate::{ChipName, Found, Kinds, ProbeFault, SfdpFault, probe};
-use nor_chip::{Config, Delays, Meter, SimBus, TraceBus};
+ghost use Rattle.std.specs.Prelude.{false, refl};
+ghost use Rattle.nor_probe.specs.Known.{IsKnown};
+
+use crate::{ChipName, Found, Geometry, Kinds, ProbeFault, SfdpFault, probe, read_sfdp};
+use nor_chip::{Bus, Config, Delays, Meter, SimBus, Stopped, TraceBus};
 use std::alloc::Global;
 use std::test::Fail;
 
@@ -10,6 +13,27 @@ const BOTH: Kinds = Kinds {
     k32: true,
     k64: true,
 };
+
+// The emulated chips are known, so what is promised of genuine chips is promised of each of them.
+fn tiny64() -> Config
+    ensures { IsKnown result }
+{
+    Config::tiny64()
+}
+
+#[tactic(auto, using(crate::proofs::Emulated::w25q64fv_known))]
+fn w25q64fv() -> Config
+    ensures { IsKnown result }
+{
+    Config::w25q64fv()
+}
+
+#[tactic(auto, using(crate::proofs::Emulated::w25q128fv_known))]
+fn w25q128fv() -> Config
+    ensures { IsKnown result }
+{
+    Config::w25q128fv()
+}
 
 // A bus to an erased chip of this configuration, which lets so many transactions through.
 fn bus_to(alloc: Global, config: Config, delays: Delays, allowed: u64) -> Result<SimBus, Fail> {
@@ -60,15 +84,9 @@ fn a_chip_of_the_table_is_found_by_its_id_alone(rt: HostRuntime) -> Result<(), F
         status1: 0x04,
         transactions: 2,
     };
-    let answer = probed(&rt, rt.alloc(), Config::w25q64fv(), None, sent)?;
+    let answer = probed(&rt, rt.alloc(), w25q64fv(), None, sent)?;
     assert_eq!(rt; answer, Ok(found));
-    let answer = probed(
-        &rt,
-        rt.alloc(),
-        Config::w25q64fv(),
-        Some(ChipName::W25Q128FV),
-        sent,
-    )?;
+    let answer = probed(&rt, rt.alloc(), w25q64fv(), Some(ChipName::W25Q128FV), sent)?;
     assert_eq!(rt; answer, Err(ProbeFault::OtherName));
     Ok(())
 }
@@ -86,21 +104,49 @@ fn the_larger_chip_of_the_table(rt: HostRuntime) -> Result<(), Fail> {
         transactions: 2,
     };
     let named = Some(ChipName::of("W25Q128FV"));
-    let answer = probed(&rt, rt.alloc(), Config::w25q128fv(), named, sent)?;
+    let answer = probed(&rt, rt.alloc(), w25q128fv(), named, sent)?;
     assert_eq!(rt; answer, Ok(found));
     Ok(())
 }
 
 #[test]
 fn another_chip_is_found_by_its_sfdp(rt: HostRuntime) -> Result<(), Fail> {
-    let answer = probed(&rt, rt.alloc(), Config::tiny64(), None, TINY64_SENT)?;
+    let answer = probed(&rt, rt.alloc(), tiny64(), None, TINY64_SENT)?;
     assert_eq!(rt; answer, Ok(TINY64));
     let named = Some(ChipName::of("SFDP"));
-    let answer = probed(&rt, rt.alloc(), Config::tiny64(), named, TINY64_SENT)?;
+    let answer = probed(&rt, rt.alloc(), tiny64(), named, TINY64_SENT)?;
     assert_eq!(rt; answer, Ok(TINY64));
     let named = Some(ChipName::of("TINY64"));
-    let answer = probed(&rt, rt.alloc(), Config::tiny64(), named, TINY64_SENT)?;
+    let answer = probed(&rt, rt.alloc(), tiny64(), named, TINY64_SENT)?;
     assert_eq!(rt; answer, Err(ProbeFault::OtherName));
+    Ok(())
+}
+
+// Reads the SFDP of an emulated chip over its bus, and compares its size in bits less one and what it says.
+fn shows(
+    rt: &impl std::process::Abort,
+    alloc: Global,
+    config: Config,
+    density: [u8; 4],
+    size: u32,
+) -> Result<(), Fail> {
+    let mut bus = bus_to(alloc, config, IDLE, 3)?;
+    let mut header = [0; 8];
+    let mut first = [0; 8];
+    let mut table = [0; 36];
+    bus.transfer(&[0x5A, 0x00, 0x00, 0x00, 0x00], &mut header)?;
+    bus.transfer(&[0x5A, 0x00, 0x00, 0x08, 0x00], &mut first)?;
+    bus.transfer(&[0x5A, 0x00, 0x00, 0x10, 0x00], &mut table)?;
+    assert_eq!(rt; header, [0x53, 0x46, 0x44, 0x50, 0x00, 0x01, 0x00, 0xFF]);
+    assert_eq!(rt; first, [0x00, 0x00, 0x01, 0x09, 0x10, 0x00, 0x00, 0xFF]);
+    let [a, b, c, d] = density;
+    let expected = [
+        0x05, 0x20, 0x00, 0x00, a, b, c, d, 0, 0, 0, 0, 0, 0, 0, 0, 0, 0, 0, 0, 0, 0, 0, 0, 0, 0,
+        0, 0, 0x0C, 0x20, 0x0F, 0x52, 0x10, 0xD8, 0x00, 0x00,
+    ];
+    assert_eq!(rt; table, expected);
+    let said = Geometry { size, kinds: BOTH };
+    assert_eq!(rt; read_sfdp(&header, &first, &table), Ok(said));
     Ok(())
 }
 
@@ -119,6 +165,25 @@ fn a_chip_without_sfdp_is_unknown(rt: HostRuntime) -> Result<(), Fail> {
     let unknown = Err(ProbeFault::UnknownChip(SfdpFault::Signature));
     assert_eq!(rt; answer, unknown);
     Ok(())
+}
+
+#[test]
+fn emulated_chips_show_their_sfdp(rt: HostRuntime) -> Result<(), Fail> {
+    shows(&rt, rt.alloc(), tiny64(), [0xFF, 0xFF, 0x07, 0x00], 65_536)?;
+    shows(
+        &rt,
+        rt.alloc(),
+        w25q64fv(),
+        [0xFF, 0xFF, 0xFF, 0x03],
+        8_388_608,
+    )?;
+    shows(
+        &rt,
+        rt.alloc(),
+        w25q128fv(),
+        [0xFF, 0xFF, 0xFF, 0x07],
+        16_777_216,
+    )
 }
 
 #[test]
@@ -146,7 +211,7 @@ fn a_bus_that_nothing_drives(rt: HostRuntime) -> Result<(), Fail> {
 #[test]
 fn a_busy_chip_is_waited_for(rt: HostRuntime) -> Result<(), Fail> {
     let busy = Delays { now: 3, each: 0 };
-    let mut bus = bus_to(rt.alloc(), Config::tiny64(), busy, 8)?;
+    let mut bus = bus_to(rt.alloc(), tiny64(), busy, 8)?;
     let waited = Found {
         transactions: 8,
         ..TINY64
@@ -154,6 +219,57 @@ fn a_busy_chip_is_waited_for(rt: HostRuntime) -> Result<(), Fail> {
     assert_eq!(rt; probe(&mut bus, None), Ok(waited));
     assert_eq!(rt; probe(&mut bus, None), Err(ProbeFault::Stopped));
     Ok(())
+}
+
+#[test]
+fn the_longest_wait_and_one_transaction_too_few(rt: HostRuntime) -> Result<(), Fail> {
+    let busy = Delays {
+        now: 65_535,
+        each: 0,
+    };
+    let mut bus = bus_to(rt.alloc(), tiny64(), busy, 65_540)?;
+    let waited = Found {
+        transactions: 65_540,
+        ..TINY64
+    };
+    assert_eq!(rt; probe(&mut bus, None), Ok(waited));
+    let mut bus = bus_to(rt.alloc(), tiny64(), busy, 65_539)?;
+    assert_eq!(rt; probe(&mut bus, None), Err(ProbeFault::Stopped));
+    Ok(())
+}
+
+// A bus that lies: whatever the chip replies, it says that it is busy.
+#[derive(Drop)]
+struct Stuck {
+    bus: SimBus,
+}
+
+impl Bus for Stuck {
+    ghost state = { λ stuck. record (⟦<SimBus as Bus>⟧.state stuck.bus) { honest = false } };
+
+    ghost reaches = { λ stuck honest. ⟦<SimBus as Bus>⟧.reaches stuck.bus refl };
+
+    fn transfer(&mut self, out: &[u8], reply: &mut [u8]) -> Result<(), Stopped> {
+        self.bus.transfer(out, reply)?;
+        reply.fill(0x01);
+        Ok(())
+    }
+}
+
+// No clause tells a stop from a timeout on a bus that lies, so that is shown here.
+#[test]
+fn patience_runs_out_at_a_bus_that_is_always_busy(rt: HostRuntime) -> Result<(), Fail> {
+    let bus = bus_to(rt.alloc(), tiny64(), IDLE, 65_536)?;
+    assert_eq!(rt; probe(&mut Stuck { bus }, None), Err(ProbeFault::Timeout));
+    let bus = bus_to(rt.alloc(), tiny64(), IDLE, 65_535)?;
+    assert_eq!(rt; probe(&mut Stuck { bus }, None), Err(ProbeFault::Stopped));
+    Ok(())
+}
+
+#[test]
+fn faults_have_the_numbers_of_their_tests(rt: HostRuntime) {
+    assert_eq!(rt; SfdpFault::Signature.number(), 1);
+    assert_eq!(rt; SfdpFault::NoSector.number(), 8);
 }
 
 #[test]
