@@ -1,21 +1,20 @@
 -- What the emulated chips show themselves as.
-use Rattle.std.proofs.Common.{◌≡◌, ◌∙◌, ◌+◌, ◌++◌, ◌≤◌, ℕ, true, List, [], ◌∷◌, Option, None, Some, Result, Ok, Err, replicate, ap, refl, sym, arith}
-use Rattle.std.specs.Option.{MatchOption, IsSomeAnd}
-use Rattle.nor_probe.specs.Table.{name_of}
-use Rattle.std.specs.Prelude.{IfOk, IfErr, MatchResult}
+use Rattle.std.proofs.Common.{◌≡◌, ◌∙◌, ◌≤◌, true, List, ℕ, [], ◌∷◌, Option, None, Some, Result, Ok, Err, ap, refl, subst, sym, arith}
+use Rattle.std.specs.Prelude.{IfOk, IfErr, IsOk, MatchResult, if◌then◌else◌}
 use Rattle.std.specs.Borrow.{Bor}
-use Rattle.std.specs.Int.RustNames.{count_ones}
-use Rattle.std.proofs.lemmas.Nat.{ones_cat}
+use Rattle.std.specs.Option.{MatchOption, IsSomeAnd}
 use Rattle.nor_chip.specs.declared.config.Config.{Config}
 use Rattle.nor_chip.specs.Bus.{BusState}
 use Rattle.nor_chip.specs.Chip.{IsTiny64}
 use Rattle.nor_probe.specs.Found.{Finds, IsWanted, Tells, part_in}
-use Rattle.nor_probe.specs.Known.{chip_says, shown, shown_as}
-use Rattle.nor_probe.specs.Sfdp.{address_mode, double_word, has_erase_type, has_signature, has_write_granularity, is_basic, is_supported_size, size_in_bits}
+use Rattle.nor_probe.specs.Known.{HasGeometry, chip_says, id_of, is_no_chip, listed_or, part_by_sfdp, shown_as}
+use Rattle.nor_probe.specs.Table.{name_of, part_of as row_of}
+use Rattle.nor_probe.proofs.Emulated.{tiny64_known}
 use Rattle.nor_probe.specs.declared.probes.Found.{Found}
 use Rattle.nor_probe.specs.declared.probes.ProbeFault.{ProbeFault}
 use Rattle.nor_probe.specs.declared.probes.ProbeFault.TheVariants.{NoChip, UnknownChip, OtherName, Stopped, Timeout}
 use Rattle.nor_probe.specs.declared.sfdp.Geometry.{Geometry}
+use Rattle.nor_probe.specs.declared.sfdp.SfdpFault.{SfdpFault}
 use Rattle.nor_probe.specs.declared.table.ChipName.{ChipName}
 use Rattle.nor_probe.specs.declared.table.Part.{Part}
 use Rattle.flashnor.specs.Found.{IsFound, IsOther, part_of, wanted}
@@ -24,42 +23,32 @@ use Rattle.flashnor.specs.Text.{Text}
 use Rattle.flashnor.specs.declared.programmer.Emulated.{Emulated}
 use Rattle.flashnor.specs.declared.programmer.Emulated.TheVariants.{Tiny64, W25q64fv, W25q128fv}
 
-header : (config : Config) → IsTiny64 config → shown config 0 8 ≡ 0x53 ∷ 0x46 ∷ 0x44 ∷ 0x50 ∷ 0 ∷ 1 ∷ 0 ∷ 0xFF ∷ []
-unfolding shown
-header config is = rw (is.size, is.sfdp) refl
+-- what a geometry makes of TINY64, where it is that of the chip
+by_geometry : (config : Config) → IsTiny64 config → (says : Result Geometry SfdpFault)
+    → ((geometry : Geometry) → says ≡ Ok geometry → HasGeometry geometry config)
+    → IsOk (part_by_sfdp (254 ∷ 16 ∷ 16 ∷ []) says) → part_by_sfdp (254 ∷ 16 ∷ 16 ∷ []) says ≡ Ok (part_of Tiny64)
+by_geometry config is (Ok geometry) described ok =
+    let has = described geometry refl in
+    let size : geometry.size ≡ 65536 = sym has.size ∙ is.size in
+    let k32 : geometry.kinds.k32 ≡ true = sym has.k32 ∙ is.k32 in
+    let k64 : geometry.kinds.k64 ≡ true = sym has.k64 ∙ is.k64 in
+    rw (size, k32, k64) refl
+by_geometry config is (Err fault) described ok = cc
 
-first : (config : Config) → IsTiny64 config → shown config 8 8 ≡ 0 ∷ 0 ∷ 1 ∷ 9 ∷ 0x10 ∷ 0 ∷ 0 ∷ 0xFF ∷ []
-unfolding shown
-first config is = rw (is.size, is.sfdp) refl
-
-abbrev table : List ℕ
-table = 5 ∷ 0x20 ∷ 0 ∷ 0 ∷ 0xFF ∷ 0xFF ∷ 7 ∷ 0 ∷ replicate 20 0 ++ 0x0C ∷ 0x20 ∷ 0x0F ∷ 0x52 ∷ 0x10 ∷ 0xD8 ∷ 0 ∷ 0 ∷ []
-
-tabled : (config : Config) → IsTiny64 config → shown config 16 36 ≡ table
-unfolding shown
-tabled config is = rw (is.size, is.sfdp) refl
-
-abbrev both : Geometry
-both = record { size = 65536; kinds = record { k32 = true; k64 = true } }
-
-single : count_ones 1 + count_ones 0 ≡ 1
-unfolding lib.Count.ones
-single = refl
-
--- 64 KiB in bits
-supported : is_supported_size 524288 ≡ true
-unfolding is_supported_size
-supported =
-    let one : count_ones 524288 ≡ 1 = ones_cat 19 1 0 (omega arith) ∙ single in
-    rw one refl
-
-tiny64_says : (config : Config) → IsTiny64 config → chip_says config ≡ Ok both
-unfolding chip_says has_signature is_basic address_mode double_word has_write_granularity size_in_bits has_erase_type
-tiny64_says config is = rw (header config is, first config is) (rw (tabled config is, supported) refl)
+-- a chip with the ID of TINY64 is what its SFDP says
+shown-by : (config : Config) (id : List ℕ) → id ≡ 254 ∷ 16 ∷ 16 ∷ []
+    → (if is_no_chip id then Err NoChip else listed_or (part_by_sfdp id (chip_says config)) (row_of id))
+    ≡ part_by_sfdp (254 ∷ 16 ∷ 16 ∷ []) (chip_says config)
+shown-by config id same = rw same refl
 
 -- each is found as what it is
 shown-emulated : (chip : Emulated) (config : Config) → IsConfigOf chip config → shown_as config ≡ Ok (part_of chip)
-shown-emulated Tiny64 config is = rw (tiny64_says config is, is.id) refl
+shown-emulated Tiny64 config is =
+    let known = tiny64_known config is in
+    let id : id_of config ≡ 254 ∷ 16 ∷ 16 ∷ [] = rw is.id refl in
+    let unlisted : row_of (id_of config) ≡ None = ap row_of id in
+    let by_id : shown_as config ≡ part_by_sfdp (254 ∷ 16 ∷ 16 ∷ []) (chip_says config) = shown-by config (id_of config) id in
+    by_id ∙ by_geometry config is (chip_says config) (known.genuine.described unlisted) (subst (λ r. IsOk r) by_id known.shown)
 shown-emulated W25q64fv config is = rw is.id refl
 shown-emulated W25q128fv config is = rw is.id refl
 

@@ -22,10 +22,14 @@ programmer_faults given =
     ∷ (means_nothing programmer_of given.programmer, why.Programmer)
     ∷ []
 
+-- one option is given, and the other isn't
+abbrev pub is_alone : Option Text → Option Text → Bool
+is_alone one other = is_some one && not (is_some other)
+
 -- what may be wrong with `-w` and `--rehearse`, which go together
 abbrev pub task_faults : Texts → List Case
 task_faults given =
-    ((is_some given.write && not (is_some given.rehearse)) || (is_some given.rehearse && not (is_some given.write)), why.Journal)
+    (is_alone given.write given.rehearse || is_alone given.rehearse given.write, why.Journal)
     ∷ (means_nothing stops_of given.rehearse, why.Stops)
     ∷ []
 

@@ -1,5 +1,5 @@
 //! What the words give each option.
-ghost use Rattle.std.specs.Prelude.{◌≡◌, None, true, Some, MatchResult, length, option_map, option_and_then};
+ghost use Rattle.std.specs.Prelude.{◌≡◌, None, true, Some, MatchResult, option_map, option_and_then};
 ghost use Rattle.clap.specs.Words.{found_of, rows_of, first_of};
 ghost use Rattle.flashnor.specs.Given.{given_in, is_flag_set, operations};
 ghost use Rattle.flashnor.specs.Programmer.{programmer_of, shown};

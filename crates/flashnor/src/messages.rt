@@ -120,9 +120,9 @@ impl fmt::Display for Reason {
     fn fmt<W: fmt::Write>(&self, f: &mut fmt::Formatter<W>) -> fmt::Result {
         match self.0 {
             Refusal::NoChip => ProbeReason(ProbeFault::NoChip).fmt(f),
-            Refusal::UnknownChip(_) => ProbeReason(ProbeFault::UnknownChip(
-                SfdpFault::Signature,
-            )).fmt(f),
+            Refusal::UnknownChip(nor_session::SfdpFault::Signature) => ProbeReason(
+                ProbeFault::UnknownChip(SfdpFault::Signature),
+            ).fmt(f),
             Refusal::ImageSize { chip, image } => write!(
                 f,
                 "image of {image} bytes, chip of {chip} bytes"

@@ -2,6 +2,8 @@
 
 use super::shelf::Shelf;
 use super::{all_fail, run};
+use crate::messages::Fault;
+use nor_probe::{ProbeFault, SfdpFault};
 use std::test::Fail;
 
 // What ails the image's file, the chip's file and the image, in this order.
@@ -123,6 +125,30 @@ fn tells_the_first_usage_fault(rt: HostRuntime) -> Result<(), Fail> {
             ("-p dummy:emulate=TINY64 --rehearse x", "Usage fault 6."),
         ],
     )
+}
+
+// Emulated chips are refused for their name alone. What others would be told:
+#[test]
+fn shows_what_probes_refuse(rt: HostRuntime) -> Result<(), Fail> {
+    for (fault, told) in [
+        (ProbeFault::NoChip, "Error 1: no chip."),
+        (
+            ProbeFault::UnknownChip(SfdpFault::Signature),
+            "Error 2: unknown chip, SFDP fault 1.",
+        ),
+        (
+            ProbeFault::UnknownChip(SfdpFault::NoSector),
+            "Error 2: unknown chip, SFDP fault 8.",
+        ),
+        (ProbeFault::OtherName, "Error 3: another chip than named."),
+        (ProbeFault::Stopped, "Error 12: stopped."),
+        (ProbeFault::Timeout, "Error 13: timeout at 0x000000."),
+    ] {
+        let shown = Fault::Probe(fault);
+        let text = format!(in rt.alloc(); "{shown}")?;
+        assert_eq!(rt; text.as_str(), told);
+    }
+    Ok(())
 }
 
 // The text of `clap` comes first, and then the line.
