@@ -1,6 +1,6 @@
 pub mod InTurn
 pub mod Numbers
 pub mod Named
-pub mod Chain
 pub mod Taken
-pub mod Ends
+pub mod Asked
+pub mod Shown

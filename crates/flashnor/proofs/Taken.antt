@@ -1,15 +1,16 @@
 -- What a parse of the program's options gives.
-use Rattle.std.proofs.Common.{◌≡◌, ◌∙◌, [], true, List, Option, Some, Err, Ok, ap, inl, inr, refl, sym, subst, option_map}
+use Rattle.std.proofs.Common.{◌≡◌, ◌∙◌, [], true, List, Option, Err, Ok, inl, inr, option_map, refl, subst}
 use Rattle.std.specs.Borrow.{Bor}
-use Rattle.clap.specs.Words.{App, FailsBy, HasMatchesOf, fault_of, first_of, first_value, found_of, is_simple, is_simple_and_free}
+use Rattle.clap.specs.Words.{App, FailsBy, HasMatchesOf, fault_of, first_of, first_value, found_of, is_simple, is_simple_and_free, matches_of, rows_of}
 use Rattle.clap.specs.declared.error.Error.{Error}
 use Rattle.clap.specs.declared.parser.matches.ArgMatches.{ArgMatches}
+use Rattle.clap.specs.declared.parser.matches.Found.{Found}
 use Rattle.clap.proofs.OnLiterals.{clap_on_literals}
 use Rattle.clap.proofs.WalkLemmas.{first_value-rows}
 use Rattle.flashnor.specs.declared.words.UsageFault.{UsageFault}
 use Rattle.flashnor.specs.Text.{Text}
 use Rattle.flashnor.specs.Options.{options}
-use Rattle.flashnor.specs.Words.{IsFault, IsToldAs, given, refusals_of}
+use Rattle.flashnor.specs.Words.{IsFault, IsToldAs, refusals_of}
 
 -- no option has a rule on another
 options_are_free : is_simple_and_free options ≡ true
@@ -36,10 +37,12 @@ pub refusals_of-taken : (app : App) → app ≡ options → (words : List Text) 
 refusals_of-taken app same words m fails =
     subst (λ a. is_simple_and_free a ≡ true → FailsBy (fault_of a words) (Ok m)) same fails options_are_free
 
--- the value of an option in the matches is the one that the words give
-pub value-given : (app : App) → app ≡ options → (words : List Text) (m : ArgMatches) → HasMatchesOf app words m
-    → (id : Text) (r : Option (Bor Text)) (text : Bor Text) → option_map (λ s. s.now) r ≡ first_value (found_of m) id → r ≡ Some text
-    → given id words ≡ Some text.now
-value-given app same words m matches id r text value some =
-    let rows = (subst (λ a. HasMatchesOf a words m) same matches options_are_simple).0 in
-    sym (first_value-rows (found_of m) id ∙ ap (first_of id) rows) ∙ (sym value ∙ ap (option_map (λ s. s.now)) some)
+-- the rows of the matches are those that the words give
+pub rows-taken : (app : App) → app ≡ options → (words : List Text) (m : ArgMatches) → HasMatchesOf app words m
+    → rows_of (found_of m) ≡ matches_of options words
+rows-taken app same words m matches = (subst (λ a. HasMatchesOf a words m) same matches options_are_simple).0
+
+-- the value of an option in the matches is that of its row
+pub row-value : (found : Found) (id : Text) (r : Option (Bor Text)) → option_map (λ text. text.now) r ≡ first_value found id
+    → option_map (λ text. text.now) r ≡ first_of id (rows_of found)
+row-value found id r value = value ∙ first_value-rows found id

@@ -3,7 +3,11 @@ pub mod Programmer
 pub mod Settings
 pub mod Stops
 pub mod Options
+pub mod Given
+pub mod Faults
+pub mod Job
 pub mod Words
 pub mod Messages
 pub mod Files
+pub mod Found
 pub mod Run

@@ -1,21 +1,27 @@
 -- What the text of `-p` says.
-use Rattle.std.specs.Prelude.{◌≡◌, ◌&&◌, ◌||◌, Bool, List, Option, Some, None, length, drop, filter, find, codes, is_some, nat_eq, nat_lt, nat_le, option_map, option_and_then, if◌then◌else◌}
+use Rattle.std.specs.Prelude.{◌&&◌, ◌||◌, Bool, List, Option, Some, None, length, drop, filter, find, codes, is_some, nat_eq, nat_lt, nat_le, option_map, option_and_then, if◌then◌else◌}
 use Rattle.std.specs.List.{starts_with, list_all}
 use Rattle.std.specs.Str.{bytes_eq}
 use Rattle.nor_chip.specs.Chip.{IsTiny64}
+use Rattle.nor_chip.specs.Makers.{IsW25q64fv, IsW25q128fv}
 use Rattle.nor_chip.specs.declared.config.Config.{Config}
 use Rattle.flashnor.specs.declared.programmer.Emulated.{Emulated}
-use Rattle.flashnor.specs.declared.programmer.Emulated.TheVariants.{Tiny64}
+use Rattle.flashnor.specs.declared.programmer.Emulated.TheVariants.{Tiny64, W25q64fv, W25q128fv}
 use Rattle.flashnor.specs.declared.programmer.Programmer.{Programmer}
 use Rattle.flashnor.specs.Text.{Text, pieces_of, key_of, value_of}
 
 -- the emulated chip of this name
 abbrev pub chip_named : Text → Option Emulated
-chip_named name = if bytes_eq name (codes "TINY64") then Some Tiny64 else None
+chip_named name = if bytes_eq name (codes "TINY64") then Some Tiny64
+    else if bytes_eq name (codes "W25Q64FV") then Some W25q64fv
+    else if bytes_eq name (codes "W25Q128FV") then Some W25q128fv
+    else None
 
 -- the configuration of an emulated chip
 abbrev pub IsConfigOf : Emulated → Config → Type 0
 IsConfigOf Tiny64 config = IsTiny64 config
+IsConfigOf W25q64fv config = IsW25q64fv config
+IsConfigOf W25q128fv config = IsW25q128fv config
 
 -- `emulate=NAME`, the name of an emulated chip
 abbrev pub names_chip : Text → Bool

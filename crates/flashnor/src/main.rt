@@ -1,10 +1,12 @@
 //! `flashnor`, a programmer for SPI NOR flash that can give back what it changed.
 //!
-//! At this stage it rehearses the writing of an image on an emulated chip: the session is stopped after so many
-//! transactions, and restores give the chip back.
+//! At this stage it finds emulated chips, and rehearses the writing of an image on one: the session is stopped after so
+//! many transactions, and restores give the chip back.
 #![tactic(auto)]
 
+mod answers;
 mod files;
+mod given;
 mod messages;
 mod options;
 mod programmer;

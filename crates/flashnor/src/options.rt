@@ -1,21 +1,23 @@
 //! The options of the program.
 ghost use Rattle.std.specs.Prelude.{◌≡◌, IfOk};
 ghost use Rattle.clap.specs.Words.{app_of};
-ghost use Rattle.flashnor.specs.Options.{options, programmer_rule, write_rule, rehearse_rule, help_rule, IsOption, NeedsAll};
+ghost use Rattle.flashnor.specs.Options.{options, programmer_rule, write_rule, flash_size_rule, list_rule, chip_rule, rehearse_rule, help_rule, IsOption};
 
 use clap::{Arg, ArgAction, Command};
 use std::alloc::{AllocError, Global};
 
 /// The command that reads the words after the program's name.
 pub fn make_options<'a>(alloc: Global) -> Result<Command<'a>, AllocError>
-    ensures options { IfOk result (λ command. app_of command ≡ options) }
-    ensures needs { IfOk result NeedsAll }
+    ensures { IfOk result (λ command. app_of command ≡ options) }
 {
     let command = Command::new(alloc, "flashnor")
         .no_binary_name(true)
         .disable_help_flag(true)
         .arg(programmer_option(alloc))?
         .arg(write_option(alloc))?
+        .arg(flash_size_option(alloc))?
+        .arg(list_option(alloc))?
+        .arg(chip_option(alloc))?
         .arg(rehearse_option(alloc))?
         .arg(help_option(alloc))?;
     Ok(command)
@@ -27,9 +29,8 @@ fn programmer_option<'a>(alloc: Global) -> Arg<'a>
     Arg::new(alloc, "programmer")
         .short('p')
         .value_name("TEXT")
-        .help("The programmer: dummy:emulate=TINY64[,image=FILE]")
+        .help("The programmer: dummy:emulate=NAME[,image=FILE]")
         .action(ArgAction::Set)
-        .required(true)
 }
 
 fn write_option<'a>(alloc: Global) -> Arg<'a>
@@ -40,7 +41,34 @@ fn write_option<'a>(alloc: Global) -> Arg<'a>
         .value_name("FILE")
         .help("Write the image in the file")
         .action(ArgAction::Set)
-        .required(true)
+}
+
+fn flash_size_option<'a>(alloc: Global) -> Arg<'a>
+    ensures { IsOption flash_size_rule result }
+{
+    Arg::new(alloc, "flash-size")
+        .long("flash-size")
+        .help("Print the chip's size in bytes")
+        .action(ArgAction::SetTrue)
+}
+
+fn list_option<'a>(alloc: Global) -> Arg<'a>
+    ensures { IsOption list_rule result }
+{
+    Arg::new(alloc, "list")
+        .short('L')
+        .help("List the chips that are known")
+        .action(ArgAction::SetTrue)
+}
+
+fn chip_option<'a>(alloc: Global) -> Arg<'a>
+    ensures { IsOption chip_rule result }
+{
+    Arg::new(alloc, "chip")
+        .short('c')
+        .value_name("NAME")
+        .help("The chip must have this name")
+        .action(ArgAction::Set)
 }
 
 fn rehearse_option<'a>(alloc: Global) -> Arg<'a>
@@ -51,7 +79,6 @@ fn rehearse_option<'a>(alloc: Global) -> Arg<'a>
         .value_name("N,N,..")
         .help("Stop the session after N transactions, then each restore, and give the chip back")
         .action(ArgAction::Set)
-        .required(true)
 }
 
 fn help_option<'a>(alloc: Global) -> Arg<'a>

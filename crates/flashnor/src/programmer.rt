@@ -6,7 +6,12 @@ use nor_chip::Config;
 /// A chip that the program emulates.
 #[derive(Clone, Copy, Debug, PartialEq, Eq)]
 pub enum Emulated {
+    /// 64 KiB, known by its SFDP alone.
     Tiny64,
+    /// 8 MiB.
+    W25q64fv,
+    /// 16 MiB.
+    W25q128fv,
 }
 
 impl Emulated {
@@ -16,10 +21,11 @@ impl Emulated {
     pub fn named(name: &str) -> Option<Emulated>
         ensures { result ≡ chip_named name.now }
     {
-        if name == "TINY64" {
-            Some(Emulated::Tiny64)
-        } else {
-            None
+        match name {
+            "TINY64" => Some(Emulated::Tiny64),
+            "W25Q64FV" => Some(Emulated::W25q64fv),
+            "W25Q128FV" => Some(Emulated::W25q128fv),
+            _ => None,
         }
     }
 
@@ -29,6 +35,8 @@ impl Emulated {
     {
         match self {
             Emulated::Tiny64 => Config::tiny64(),
+            Emulated::W25q64fv => Config::w25q64fv(),
+            Emulated::W25q128fv => Config::w25q128fv(),
         }
     }
 }

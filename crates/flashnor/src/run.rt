@@ -1,14 +1,20 @@
 //! A run of the program.
-ghost use Rattle.std.specs.Prelude.{◌≡◌, ◌≤◌, map, string_bytes};
+ghost use Rattle.std.specs.Prelude.{◌≡◌, ◌≤◌, length, map, string_bytes, IfOk, MatchResult};
 ghost use Rattle.flashnor.specs.Words.{IsRefused};
-ghost use Rattle.flashnor.specs.Run.{IsAnswer};
+ghost use Rattle.flashnor.specs.declared.programmer.Programmer.{Programmer};
+ghost use Rattle.flashnor.specs.Files.{Opens};
+ghost use Rattle.flashnor.specs.Found.{HasName, IsFound, IsOther};
+ghost use Rattle.flashnor.specs.Run.{IsAnswer, IsAnswerOf, IsEndOf, IsRehearsed, IsWriteEnd};
 
+use crate::answers::Answer;
 use crate::files::{open_chip, read_image};
-use crate::messages::{Fault, print_fault, print_rehearsal};
-use crate::words::{UsageFault, request_of};
+use crate::messages::{Fault, print_answer, print_fault};
+use crate::words::{ChipJob, Job, Task, UsageFault, request_of};
 use clap::error::ErrorKind;
+use nor_chip::{Bus, Meter, SimBus};
 use nor_journal::MemVault;
-use nor_session::{Job, Rehearsal, Request, rehearse};
+use nor_probe::{ChipName, Found, ProbeFault, probe};
+use nor_session::{Rehearsal, Request, rehearse};
 use std::io::Write;
 use std::rt::Files;
 
@@ -24,7 +30,7 @@ pub fn run_words<R: Files + AllocGlobal, O: Write, E: Write>(
     ensures refused { IsRefused (map string_bytes words.now) → result ≡ 1 }
 {
     let printed = match run(rt, words) {
-        Ok(rehearsal) => print_rehearsal(output, &rehearsal),
+        Ok(answer) => print_answer(output, &answer),
         Err(Fault::Usage(UsageFault::Words(text))) if text.kind() == ErrorKind::DisplayHelp =>
             write!(output, "{text}"),
         Err(fault) => return print_fault(errors, fault),
@@ -32,21 +38,70 @@ pub fn run_words<R: Files + AllocGlobal, O: Write, E: Write>(
     if printed.is_ok() { 0 } else { 1 }
 }
 
-// Rehearses what the words ask for.
-fn run<'a, R: Files + AllocGlobal>(rt: &R, words: &'a [String]) -> Result<Rehearsal, Fault<'a>>
+// Does what the words ask for.
+fn run<'a, R: Files + AllocGlobal>(rt: &R, words: &'a [String]) -> Result<Answer, Fault<'a>>
     ensures { IsAnswer (map string_bytes words.now) result }
 {
-    let job = request_of(rt.alloc(), words)?;
+    match request_of(rt.alloc(), words)? {
+        Job::List => Ok(Answer::Chips),
+        Job::Chip(job) => work_on_chip(rt, &job),
+    }
+}
+
+// Opens the programmer's chip and does the job's task.
+fn work_on_chip<'a, R: Files + AllocGlobal>(rt: &R, job: &ChipJob<'a>) -> Result<Answer, Fault<'a>>
+    ensures { MatchResult result (IsAnswerOf job.now) (IsEndOf job.now) }
+{
     let mut bus = open_chip(rt, &job.programmer)?;
-    let mut image = read_image(rt, job.image)?;
+    match &job.task {
+        Task::Probe => Ok(Answer::Found(find(&mut bus, job.named)?)),
+        Task::FlashSize => Ok(Answer::Size(find(&mut bus, job.named)?.size)),
+        Task::Rehearse { image, stops } => {
+            let rehearsal = rehearse_write(rt, &mut bus, job.named, *image, stops.as_slice())?;
+            Ok(Answer::Rehearsed(rehearsal))
+        }
+    }
+}
+
+// Rehearses the writing of an image, on a chip that must have the name that is given, if one is.
+fn rehearse_write<'a, R: Files + AllocGlobal>(
+    rt: &R,
+    bus: &mut SimBus,
+    named: Option<&str>,
+    image: &'a str,
+    stops: &[u64],
+) -> Result<Rehearsal, Fault<'a>>
+    requires { length stops.now ≤ 64 }
+    ensures comes_to { IfOk result (IsRehearsed (length stops.now)) }
+    ensures ends { (programmer : Programmer) → Opens programmer (⟦<SimBus as Bus>⟧.state bus.old)
+        → MatchResult result (λ _. HasName named.entry programmer.chip) (IsWriteEnd named.entry programmer.chip image.entry.now) }
+{
+    let mut image = read_image(rt, image)?;
+    check_name(bus, named)?;
     let mut vault = MemVault::new(rt.alloc());
-    let request = Request { what: Job::Write };
-    let rehearsal = rehearse(
-        &mut bus,
-        &mut vault,
-        &mut image,
-        &request,
-        job.stops.as_slice(),
-    )?;
+    let request = Request {
+        what: nor_session::Job::Write,
+    };
+    let rehearsal = rehearse(bus, &mut vault, &mut image, &request, stops)?;
     Ok(rehearsal)
+}
+
+// The chip has the name that is given. Where none is given it isn't looked at.
+fn check_name(bus: &mut SimBus, named: Option<&str>) -> Result<(), ProbeFault>
+    ensures { (programmer : Programmer) → Opens programmer (⟦<SimBus as Bus>⟧.state bus.old)
+        → MatchResult result (λ _. HasName named.entry programmer.chip) (IsOther named.entry programmer.chip) }
+{
+    if named.is_some() {
+        find(bus, named)?;
+    }
+    Ok(())
+}
+
+// Finds the chip on the bus, which nothing stops. The chip must have the name that is given, if one is.
+fn find(bus: &mut SimBus, named: Option<&str>) -> Result<Found, ProbeFault>
+    ensures { (programmer : Programmer) → Opens programmer (⟦<SimBus as Bus>⟧.state bus.old)
+        → MatchResult result (IsFound named.entry programmer.chip) (IsOther named.entry programmer.chip) }
+{
+    bus.allow(u64::MAX);
+    probe(bus, named.map(ChipName::of))
 }

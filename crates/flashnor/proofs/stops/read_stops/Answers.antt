@@ -1,10 +1,8 @@
-use Rattle.std.proofs.Common.{◌≡◌, ◌∙◌, ◌<◌, ◌≤◌, ◌+◌, ℕ, List, Option, Some, None, length, get_or, lit<, option_map, rules, sym, ap, arith}
-use Rattle.std.proofs.lemmas.Iterator.{YieldsList}
+use Rattle.std.proofs.Common.{◌≡◌, ◌∙◌, None, length, lit<, rules, sym, arith}
 use Rattle.std.proofs.lemmas.Iterator.Consumers.{YieldsList-turn, YieldsList-end}
 use Rattle.std.proofs.lemmas.Iterator.Splits.{YieldsList-from_str_split}
 use Rattle.std.proofs.lemmas.List.{length_push}
-use Rattle.flashnor.specs.Text.{Text, pieces_of}
-use Rattle.flashnor.specs.Stops.{stop_of, stops_of}
+use Rattle.flashnor.specs.Text.{pieces_of}
 use Rattle.flashnor.proofs.InTurn.{reads-added, reads-refused, reads-done}
 use Rattle.flashnor.proofs.Numbers.{not_pushed, was_pushed, pushed_is_ok, stops_of-read, with_stop, with_stop-full, with_stop-number, with_stop-other}
 use Rattle.flashnor.proofs.stops.read_stops.Goals as goal

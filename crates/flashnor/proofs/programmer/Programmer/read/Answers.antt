@@ -1,13 +1,12 @@
-use Rattle.std.proofs.Common.{◌≡◌, ◌∙◌, Option, Some, None, true, length, drop, codes, lit<, option_map, rules, sym, ap}
+use Rattle.std.proofs.Common.{◌≡◌, ◌∙◌, Some, None, length, codes, lit<, option_map, rules, sym, ap}
 use Rattle.std.specs.Prelude.{option_and_then}
-use Rattle.std.specs.Str.Iter.{split_text}
 use Rattle.std.proofs.lemmas.Iterator.Consumers.{YieldsList-turn, YieldsList-end}
 use Rattle.std.proofs.lemmas.Iterator.Splits.{YieldsList-from_str_split}
 use Rattle.std.proofs.lemmas.List.{length_push}
-use Rattle.flashnor.specs.Programmer.{programmer_of, settings_of}
+use Rattle.flashnor.specs.Programmer.{settings_of}
 use Rattle.flashnor.specs.Settings.{named_by, with_setting}
 use Rattle.flashnor.proofs.InTurn.{reads, reads-added, reads-refused, reads-done}
-use Rattle.flashnor.proofs.Named.{finished, programmer_of-read, programmer_of-other, stripped}
+use Rattle.flashnor.proofs.Named.{finished, programmer_of-read, stripped}
 use Rattle.flashnor.proofs.programmer.Programmer.read.Goals as goal
 
 pub returns-in_err-settings : goal.returns-in_err-settings

@@ -1,0 +1,88 @@
+-- What the emulated chips show themselves as.
+use Rattle.std.proofs.Common.{◌≡◌, ◌∙◌, ◌≤◌, true, List, ℕ, [], ◌∷◌, Option, None, Some, Result, Ok, Err, ap, refl, subst, sym, arith}
+use Rattle.std.specs.Prelude.{IfOk, IfErr, IsOk, MatchResult, if◌then◌else◌}
+use Rattle.std.specs.Borrow.{Bor}
+use Rattle.std.specs.Option.{MatchOption, IsSomeAnd}
+use Rattle.nor_chip.specs.declared.config.Config.{Config}
+use Rattle.nor_chip.specs.Bus.{BusState}
+use Rattle.nor_chip.specs.Chip.{IsTiny64}
+use Rattle.nor_probe.specs.Found.{Finds, IsWanted, Tells, part_in}
+use Rattle.nor_probe.specs.Known.{HasGeometry, chip_says, id_of, is_no_chip, listed_or, part_by_sfdp, shown_as}
+use Rattle.nor_probe.specs.Table.{name_of, part_of as row_of}
+use Rattle.nor_probe.proofs.Emulated.{tiny64_known}
+use Rattle.nor_probe.specs.declared.probes.Found.{Found}
+use Rattle.nor_probe.specs.declared.probes.ProbeFault.{ProbeFault}
+use Rattle.nor_probe.specs.declared.probes.ProbeFault.TheVariants.{NoChip, UnknownChip, OtherName, Stopped, Timeout}
+use Rattle.nor_probe.specs.declared.sfdp.Geometry.{Geometry}
+use Rattle.nor_probe.specs.declared.sfdp.SfdpFault.{SfdpFault}
+use Rattle.nor_probe.specs.declared.table.ChipName.{ChipName}
+use Rattle.nor_probe.specs.declared.table.Part.{Part}
+use Rattle.flashnor.specs.Found.{IsFound, IsOther, part_of, wanted}
+use Rattle.flashnor.specs.Programmer.{IsConfigOf}
+use Rattle.flashnor.specs.Text.{Text}
+use Rattle.flashnor.specs.declared.programmer.Emulated.{Emulated}
+use Rattle.flashnor.specs.declared.programmer.Emulated.TheVariants.{Tiny64, W25q64fv, W25q128fv}
+
+-- what a geometry makes of TINY64, where it is that of the chip
+by_geometry : (config : Config) → IsTiny64 config → (says : Result Geometry SfdpFault)
+    → ((geometry : Geometry) → says ≡ Ok geometry → HasGeometry geometry config)
+    → IsOk (part_by_sfdp (254 ∷ 16 ∷ 16 ∷ []) says) → part_by_sfdp (254 ∷ 16 ∷ 16 ∷ []) says ≡ Ok (part_of Tiny64)
+by_geometry config is (Ok geometry) described ok =
+    let has = described geometry refl in
+    let size : geometry.size ≡ 65536 = sym has.size ∙ is.size in
+    let k32 : geometry.kinds.k32 ≡ true = sym has.k32 ∙ is.k32 in
+    let k64 : geometry.kinds.k64 ≡ true = sym has.k64 ∙ is.k64 in
+    rw (size, k32, k64) refl
+by_geometry config is (Err fault) described ok = cc
+
+-- a chip with the ID of TINY64 is what its SFDP says
+shown-by : (config : Config) (id : List ℕ) → id ≡ 254 ∷ 16 ∷ 16 ∷ []
+    → (if is_no_chip id then Err NoChip else listed_or (part_by_sfdp id (chip_says config)) (row_of id))
+    ≡ part_by_sfdp (254 ∷ 16 ∷ 16 ∷ []) (chip_says config)
+shown-by config id same = rw same refl
+
+-- each is found as what it is
+shown-emulated : (chip : Emulated) (config : Config) → IsConfigOf chip config → shown_as config ≡ Ok (part_of chip)
+shown-emulated Tiny64 config is =
+    let known = tiny64_known config is in
+    let id : id_of config ≡ 254 ∷ 16 ∷ 16 ∷ [] = rw is.id refl in
+    let unlisted : row_of (id_of config) ≡ None = ap row_of id in
+    let by_id : shown_as config ≡ part_by_sfdp (254 ∷ 16 ∷ 16 ∷ []) (chip_says config) = shown-by config (id_of config) id in
+    by_id ∙ by_geometry config is (chip_says config) (known.genuine.described unlisted) (subst (λ r. IsOk r) by_id known.shown)
+shown-emulated W25q64fv config is = rw is.id refl
+shown-emulated W25q128fv config is = rw is.id refl
+
+-- the names that are asked for, as they are read one by one
+pub named-wanted : (named : Option (Bor Text)) (r : Option ChipName)
+    → MatchOption named (r ≡ None) (λ name. IsSomeAnd r (λ asked. asked ≡ name_of name.now)) → r ≡ wanted named
+named-wanted None r h = h
+named-wanted (Some name) None h = absurd h
+named-wanted (Some name) (Some asked) h = ap (λ (n : ChipName). Some n) h
+
+ok-same : (x y : Part) (r : Result Part ProbeFault) → r ≡ Ok x → r ≡ Ok y → x ≡ y
+ok-same x y r to_x to_y =
+    let same = sym to_x ∙ to_y in
+    cc
+
+-- what a probe answers on a bus to one of them that is idle and not stopped
+pub found-emulated : (chip : Emulated) (named : Option (Bor Text)) (asked : Option ChipName) (old new : BusState) (r : Result Found ProbeFault)
+    → asked ≡ wanted named → IsConfigOf chip old.chip.config → old.chip.busy ≡ 0 → 65540 ≤ old.left
+    → IfOk r (λ found. IsWanted asked found.name) → IfOk r (Finds old new) → IfErr r (Tells asked old new)
+    → MatchResult r (IsFound named chip) (IsOther named chip)
+found-emulated chip named asked old new (Ok found) same config idle left name finds tells =
+    let part : part_of chip ≡ part_in found = ok-same (part_of chip) (part_in found) (shown_as old.chip.config) (shown-emulated chip old.chip.config config) finds.part in
+    record { part = sym part; name = rw (← same, part) name }
+found-emulated chip named asked old new (Err NoChip) same config idle left name finds tells =
+    let bad = sym (shown-emulated chip old.chip.config config) ∙ tells.0 in
+    cc
+found-emulated chip named asked old new (Err (UnknownChip fault)) same config idle left name finds tells =
+    let bad = sym (shown-emulated chip old.chip.config config) ∙ tells.0 in
+    cc
+found-emulated chip named asked old new (Err OtherName) same config idle left name finds tells =
+    let other = tells.0 in
+    let part : part_of chip ≡ other.part = ok-same (part_of chip) other.part (shown_as old.chip.config) (shown-emulated chip old.chip.config config) other.shown in
+    (refl, λ has. other.other (rw (same, ← part) has))
+found-emulated chip named asked old new (Err Stopped) same config idle left name finds tells =
+    let below = tells.1 in
+    absurd (omega arith)
+found-emulated chip named asked old new (Err Timeout) same config idle left name finds tells = absurd tells

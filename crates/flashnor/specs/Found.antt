@@ -1,0 +1,43 @@
+-- Which chip a run finds.
+use Rattle.std.specs.Prelude.{◌≡◌, true, false, [], ◌∷◌, Option, option_map}
+use Rattle.std.specs.Borrow.{Bor}
+use Rattle.nor_probe.specs.Found.{IsWanted, part_in}
+use Rattle.nor_probe.specs.Table.{name_of, winbond}
+use Rattle.nor_probe.specs.declared.probes.Found.{Found}
+use Rattle.nor_probe.specs.declared.probes.ProbeFault.{ProbeFault}
+use Rattle.nor_probe.specs.declared.probes.ProbeFault.TheVariants.{OtherName}
+use Rattle.nor_probe.specs.declared.table.ChipName.{ChipName}
+use Rattle.nor_probe.specs.declared.table.ChipName.TheVariants.{W25Q64FV, W25Q128FV, Sfdp}
+use Rattle.nor_probe.specs.declared.table.Part.{Part}
+use Rattle.flashnor.specs.Text.{Text}
+use Rattle.flashnor.specs.declared.programmer.Emulated.{Emulated}
+use Rattle.flashnor.specs.declared.programmer.Emulated.TheVariants.{Tiny64, W25q64fv, W25q128fv}
+
+-- what an emulated chip is found as: a Winbond chip as its row of the table, TINY64 as its SFDP says
+abbrev pub part_of : Emulated → Part
+part_of Tiny64 = record {
+  name = Sfdp;
+  id = 0xFE ∷ 0x10 ∷ 0x10 ∷ [];
+  size = 65536;
+  kinds = record { k32 = true; k64 = true };
+  scheme = false;
+}
+part_of W25q64fv = winbond W25Q64FV (0xEF ∷ 0x40 ∷ 0x17 ∷ []) 8388608
+part_of W25q128fv = winbond W25Q128FV (0xEF ∷ 0x40 ∷ 0x18 ∷ []) 16777216
+
+-- the name that the chip must have, if one is given
+abbrev pub wanted : Option (Bor Text) → Option ChipName
+wanted = option_map (λ name. name_of name.now)
+
+-- the chip is found under the name that is given, if one is
+abbrev pub HasName : Option (Bor Text) → Emulated → Type 0
+HasName named chip = IsWanted (wanted named) (part_of chip).name
+
+-- This chip was found.
+pub record IsFound (named : Option (Bor Text)) (chip : Emulated) (found : Found) : Type 0 where
+  pub part : part_in found ≡ part_of chip
+  pub name : HasName named chip
+
+-- the chip has another name than the one given, which is all that is ever wrong with an emulated chip
+abbrev pub IsOther : Option (Bor Text) → Emulated → ProbeFault → Type 0
+IsOther named chip fault = (fault ≡ OtherName) × (HasName named chip → ⊥)
