@@ -223,6 +223,13 @@ fn as_many_bytes_as_the_chip_has(rt: HostRuntime) -> Result<(), Fail> {
 }
 
 #[test]
+fn a_wrong_length_has_a_text(rt: HostRuntime) -> Result<(), Fail> {
+    let text = format!(in rt.alloc(); "{WrongLength}")?;
+    assert_eq!(rt; text.as_str(), "the bytes aren't as many as the chip has");
+    Ok(())
+}
+
+#[test]
 fn a_guarded_place_keeps_its_unit_from_an_erase(rt: HostRuntime) -> Result<(), Fail> {
     let mut bus = filled(rt.alloc(), Config::w25q64fv(), 0x00, [0x44, 0x00], IDLE)?;
     let exchanges: [Exchange; 5] = [
