@@ -83,6 +83,11 @@ pub at_most_one : (b : Bool) → (if b then 1 else 0) ≤ 1
 at_most_one true = omega arith
 at_most_one false = omega arith
 
+-- a test counts once, as passed or as failed
+pub one_of_two : (b : Bool) → (if b then 0 else 1) + (if b then 1 else 0) ≡ 1
+one_of_two true = refl
+one_of_two false = refl
+
 pub count_below-none : (n : ℕ) (test : ℕ → Bool) → ((k : ℕ) → k < n → test k ≡ false) → count_below n test ≡ 0
 unfolding count_below
 count_below-none zero test each = refl

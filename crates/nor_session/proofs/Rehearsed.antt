@@ -1,14 +1,15 @@
 -- What a rehearsal makes of the answer of its session.
-use Rattle.std.proofs.Common.{◌≡◌, ◌<◌, ◌∙◌, ℕ, suc, Bool, List, [], ◌∷◌, length, true, false, refl, sym, subst, arith}
-use Rattle.std.specs.Prelude.{◌==◌}
-use Rattle.std.proofs.lemmas.Bool.{true≢false, ne_eqb}
+use Rattle.std.proofs.Common.{◌≡◌, ◌<◌, ◌≤◌, ◌+◌, ◌-◌, ◌∙◌, ℕ, suc, Bool, List, [], ◌∷◌, length, take, drop, slice_index, true, false, refl, ap, sym, subst, arith, inl, inr}
+use Rattle.std.specs.Prelude.{◌==◌, min}
+use Rattle.std.proofs.lemmas.Bool.{true≢false, ne_eqb, cases_eq}
+use Rattle.std.proofs.lemmas.List.{take_all, drop_all}
 use Rattle.nor_chip.specs.Chip.{Chip, IsSame}
 use Rattle.nor_chip.specs.Bus.{BusState}
 use Rattle.nor_journal.specs.Vault.{VaultState}
 use Rattle.nor_session.specs.declared.refusal.Refusal.{Refusal}
 use Rattle.nor_session.specs.declared.refusal.Refusal.TheVariants.{NoChip, UnknownChip, ImageSize, Vault, Stopped, Timeout, Mismatch, BadJournal, OtherChip, StatusDiffers}
 use Rattle.nor_session.specs.Session.{SessionTells, EarlyLeaves, CanBeUndone}
-use Rattle.nor_session.specs.Rehearsal.{RehearsalTells, first_allowance}
+use Rattle.nor_session.specs.Rehearsal.{RehearsalTells, first_allowance, AreRestores}
 use Rattle.nor_session.specs.declared.rehearsals.TheConstants.{SESSION_BOUND}
 
 -- an answer of the session that isn't a stop is that of the rehearsal
@@ -47,6 +48,31 @@ tells_at len first first' vault vault' refusal same tells = subst (λ (c : Chip)
 
 pub same_at : (first first' chip : Chip) → first' ≡ first → IsSame first' chip → IsSame first chip
 same_at first first' chip same is = subst (λ (c : Chip). IsSame c chip) same is
+
+-- one restore more was stopped
+pub stopped_more : (stops : List ℕ) (n left : ℕ) → ((i : ℕ) → i < n → slice_index stops i < 17891925) → left ≡ slice_index stops n → left < 17891925
+    → (i : ℕ) → i < n + 1 → slice_index stops i < 17891925
+stopped_more stops n left before allowed stopped = λ i below. elim (cases_eq i n) [
+  | inl here ↦ subst (λ (k : ℕ). slice_index stops k < 17891925) (sym here) (omega (arith, allowed, stopped))
+  | inr other ↦ before i (omega arith)
+]
+
+-- the restore under this stop ended
+pub ended_at : (stops : List ℕ) (n restores left : ℕ) → restores ≡ n → ((i : ℕ) → i < n → slice_index stops i < 17891925) → left ≡ slice_index stops n → 22 ≤ left
+    → AreRestores stops (restores + 1)
+ended_at stops n restores left is before allowed enough = record {
+  stopped = λ i below. before i (omega (arith, is, below));
+  ended = λ under.
+      let last : n ≡ restores + 1 - 1 = omega (arith, is) in
+      subst (λ (k : ℕ). 22 ≤ slice_index stops k) last (omega (arith, allowed, enough));
+}
+
+-- the stops behind the first
+pub later_stops : (stops : List ℕ) (k : ℕ) → k ≡ min (length stops) 1 → take (length stops - k) (drop k stops) ≡ drop 1 stops
+later_stops [] k is = take_all (0 - k) (drop k []) (let none = drop_all k [] (omega arith) in let e = ap (λ (l : List ℕ). length l) none in omega (arith, e)) ∙ drop_all k [] (omega arith)
+later_stops (first ∷ later) k is =
+    let one : k ≡ 1 = omega (arith, is) in
+    subst (λ (j : ℕ). take (length (first ∷ later) - j) (drop j (first ∷ later)) ≡ drop 1 (first ∷ later)) (sym one) (take_all (length (first ∷ later) - 1) later (omega arith))
 
 not_zero : (n : ℕ) → (suc n == 0) ≡ false
 not_zero n = ne_eqb (suc n) 0 (λ same. omega arith)

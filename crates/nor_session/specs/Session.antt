@@ -36,11 +36,14 @@ IsEarly _ = ⊥
 abbrev pub EarlyLeaves : BusState → BusState → VaultState → Refusal → Type 0
 EarlyLeaves old new vault refusal = IsEarly refusal → (new.stirred ≡ old.stirred) × (vault.sealed ≡ false)
 
--- On every bus: what a report may count, of so many sectors.
+-- On every bus: what a report may count, of so many sectors. The opening takes six transactions or more, each
+-- sector is read once and a touched one twice more, each erase or program takes three or more (write enable, the
+-- command, a poll), and an erase spares one reading.
 pub record IsWithinBound (sectors : ℕ) (report : Report) : Type 0 where
   pub touched : report.touched ≤ sectors
   pub erases : report.erases ≤ sectors
   pub programs : report.programs ≤ 16 * sectors
+  pub least : 6 + sectors + 2 * report.touched + 2 * report.erases + 3 * report.programs ≤ report.transactions
   pub transactions : report.transactions ≤ 65541 + sectors + 2 * report.touched + 65538 * (report.erases + report.programs)
 
 -- On an honest bus: no timeout comes, and a stop only where no transaction is left of fewer than the bound.

@@ -28,8 +28,10 @@ pub record IsWork (wanted old : ℕ → ℕ) (sectors : ℕ) (work : Work) : Typ
   pub erases : work.erases ≡ count_below sectors (is_raised old wanted)
   pub programs : work.programs ≡ count_below (16 * sectors) (is_programmed (after_erases old wanted) wanted)
 
--- On every bus: so much work at the most, and so many transactions for it.
+-- On every bus: so much work at the most, and so many transactions for it, at least and at most. A
+-- touched sector is read twice, an erase or a program takes three or more, and an erase spares one reading.
 pub record IsWorkOf (sectors : ℕ) (touched : ℕ → Bool) (work : Work) : Type 0 where
   pub erases : work.erases ≤ sectors
   pub programs : work.programs ≤ 16 * sectors
+  pub least : 2 * count_below sectors touched + 2 * work.erases + 3 * work.programs ≤ work.transactions
   pub transactions : work.transactions ≤ 2 * count_below sectors touched + 65538 * (work.erases + work.programs)

@@ -37,6 +37,7 @@ pub(crate) fn erase_all<B: Bus>(
     requires { sectors ≤ 4096 }
     ensures honest { (B.state bus.new).honest ≡ (B.state bus.old).honest }
     ensures few { IfOk result (λ tally. tally.transactions ≤ 65538 * tally.count) }
+    ensures least { IfOk result (λ tally. 3 * tally.count ≤ tally.transactions) }
     ensures counted { IfOk result (λ tally. tally.count ≡ count_below sectors (mark_at marked.now)) }
 
     ensures falls { (B.state bus.old).honest ≡ true → Falls (65538 * sectors) (B.state bus.old) (B.state bus.new) }
@@ -63,6 +64,7 @@ fn erase_marked<B: Bus>(bus: &mut B, marked: &[bool; 4096], sector: u32) -> Resu
     requires { sector < 4096 }
     ensures honest { (B.state bus.new).honest ≡ (B.state bus.old).honest }
     ensures few { IfOk result (λ tally. tally.transactions ≤ 65538 * tally.count) }
+    ensures least { IfOk result (λ tally. 3 * tally.count ≤ tally.transactions) }
     ensures counted { IfOk result (λ tally. tally.count ≡ (if mark_at marked.now sector then 1 else 0)) }
 
     ensures falls { (B.state bus.old).honest ≡ true → Falls 65538 (B.state bus.old) (B.state bus.new) }
@@ -95,6 +97,7 @@ fn program_span<B: Bus>(bus: &mut B, old: &[u8], wanted: &[u8], address: u32) ->
     requires reachable { address + 256 ≤ 2 ^ 24 }
     ensures honest { (B.state bus.new).honest ≡ (B.state bus.old).honest }
     ensures few { IfOk result (λ tally. tally.transactions ≤ 65538 * tally.count) }
+    ensures least { IfOk result (λ tally. 3 * tally.count ≤ tally.transactions) }
     ensures counted { IfOk result (λ tally. tally.count ≡ (if is_page_other old.now wanted.now then 1 else 0)) }
 
     ensures falls { (B.state bus.old).honest ≡ true → Falls 65538 (B.state bus.old) (B.state bus.new) }
@@ -126,6 +129,7 @@ fn program_pages<B: Bus>(bus: &mut B, old: &[u8], wanted: &[u8], sector: u32) ->
     requires wanted_sector { length wanted.now ≡ 4096 }
     ensures honest { (B.state bus.new).honest ≡ (B.state bus.old).honest }
     ensures few { IfOk result (λ tally. tally.transactions ≤ 65538 * tally.count) }
+    ensures least { IfOk result (λ tally. 3 * tally.count ≤ tally.transactions) }
     ensures counted { IfOk result (λ tally. tally.count ≡ count_below 16 (is_page_other_at old.now wanted.now)) }
 
     ensures falls { (B.state bus.old).honest ≡ true → Falls 1048608 (B.state bus.old) (B.state bus.new) }
@@ -162,7 +166,7 @@ fn load<B: Bus>(
 ) -> Result<u64, Stopped>
     requires { sector < 4096 }
     ensures quiet { Quiet (B.state bus.old) (B.state bus.new) }
-    ensures few { IfOk result (λ sent. sent ≤ 1) }
+    ensures few { IfOk result (λ sent. sent ≡ (if erased then 0 else 1)) }
     ensures looked { (B.state bus.old).honest ≡ true → Looked 1 (B.state bus.old) (B.state bus.new) }
     ensures bytes { (B.state bus.old).honest ≡ true → (B.state bus.old).chip.busy ≡ 0 → 4096 * (sector + 1) ≤ (B.state bus.old).chip.config.size
         → IsBlankWhere erased sector (B.state bus.old).chip.bytes → OnOk result (IsSectorOf (B.state bus.old).chip.bytes sector bytes.new) }
@@ -188,6 +192,8 @@ fn program_sector<B: Bus>(
     requires in_image { 4096 * sector + 4096 ≤ length wanted.now }
     ensures honest { (B.state bus.new).honest ≡ (B.state bus.old).honest }
     ensures few { IfOk result (λ tally. (tally.count ≤ 16) × (tally.transactions ≤ (if mark_at marks.now.touched sector then 1 else 0) + 65538 * tally.count)) }
+    ensures least { IfOk result (λ tally. (if mark_at marks.now.touched sector then 1 else 0) + 3 * tally.count
+        ≤ tally.transactions + (if mark_at marks.now.raised sector then 1 else 0)) }
 
     ensures falls { (B.state bus.old).honest ≡ true → Falls 1048609 (B.state bus.old) (B.state bus.new) }
     ensures reached { (B.state bus.old).honest ≡ true → CanProgramMarked marks.now wanted.now sector (B.state bus.old).chip
@@ -226,6 +232,8 @@ pub(crate) fn program_all<B: Bus>(
     ensures honest { (B.state bus.new).honest ≡ (B.state bus.old).honest }
     ensures few { IfOk result (λ tally. (tally.count ≤ 16 * sectors)
         × (tally.transactions ≤ count_below sectors (mark_at marks.now.touched) + 65538 * tally.count)) }
+    ensures least { IfOk result (λ tally. count_below sectors (mark_at marks.now.touched) + 3 * tally.count
+        ≤ tally.transactions + count_below sectors (mark_at marks.now.raised)) }
 
     ensures falls { (B.state bus.old).honest ≡ true → Falls (1048609 * sectors) (B.state bus.old) (B.state bus.new) }
     ensures reached { (B.state bus.old).honest ≡ true → CanProgramAll marks.now wanted.now sectors (B.state bus.old).chip
@@ -258,7 +266,7 @@ pub(crate) fn verify_all<B: Bus>(
     requires in_range { sectors ≤ 4096 }
     requires in_image { length wanted.now ≡ 4096 * sectors }
     ensures quiet { Quiet (B.state bus.old) (B.state bus.new) }
-    ensures few { IfOk result (λ sent. sent ≤ count_below sectors (mark_at marks.now.touched)) }
+    ensures few { IfOk result (λ sent. sent ≡ count_below sectors (mark_at marks.now.touched)) }
     ensures looked { (B.state bus.old).honest ≡ true → Looked sectors (B.state bus.old) (B.state bus.new) }
     ensures count { (B.state bus.old).honest ≡ true → IfOk result (λ sent. (B.state bus.old).left ≡ (B.state bus.new).left + sent) }
     ensures ends { (B.state bus.old).honest ≡ true → IfErr result (EndsBelow sectors (B.state bus.old) (B.state bus.new)) }
@@ -282,7 +290,7 @@ fn verify_sector<B: Bus>(
     requires in_range { sector < 4096 }
     requires in_image { 4096 * sector + 4096 ≤ length wanted.now }
     ensures quiet { Quiet (B.state bus.old) (B.state bus.new) }
-    ensures few { IfOk result (λ sent. sent ≤ (if mark_at marks.now.touched sector then 1 else 0)) }
+    ensures few { IfOk result (λ sent. sent ≡ (if mark_at marks.now.touched sector then 1 else 0)) }
     ensures looked { (B.state bus.old).honest ≡ true → Looked 1 (B.state bus.old) (B.state bus.new) }
     ensures count { (B.state bus.old).honest ≡ true → IfOk result (λ sent. (B.state bus.old).left ≡ (B.state bus.new).left + sent) }
     ensures ends { (B.state bus.old).honest ≡ true → IfErr result (EndsBelow 1 (B.state bus.old) (B.state bus.new)) }

@@ -55,6 +55,7 @@ pub(crate) struct Waited {
 pub(crate) fn wait<B: Bus>(bus: &mut B, address: u32) -> Result<Waited, Halt>
     ensures quiet { Quiet (B.state bus.old) (B.state bus.new) }
     ensures few { IfOk result (λ waited. waited.polls ≤ 65536) }
+    ensures least { IfOk result (λ waited. 1 ≤ waited.polls) }
     ensures halts { IfErr result (IsWaitHalt address) }
 
     ensures looked { (B.state bus.old).honest ≡ true → Looked 65536 (B.state bus.old) (B.state bus.new) }
@@ -106,6 +107,7 @@ pub(crate) fn address_bytes(address: u32) -> [u8; 3]
 fn operation<B: Bus>(bus: &mut B, command: &[u8], address: u32) -> Result<u32, Halt>
     ensures honest { (B.state bus.new).honest ≡ (B.state bus.old).honest }
     ensures few { IfOk result (λ sent. sent ≤ 65538) }
+    ensures least { IfOk result (λ sent. 3 ≤ sent) }
     ensures halts { IfErr result (IsWaitHalt address) }
 
     ensures falls { (B.state bus.old).honest ≡ true → Falls 65538 (B.state bus.old) (B.state bus.new) }
@@ -128,6 +130,7 @@ pub(crate) fn erase_sector<B: Bus>(bus: &mut B, sector: u32) -> Result<u32, Halt
     requires { sector < 4096 }
     ensures honest { (B.state bus.new).honest ≡ (B.state bus.old).honest }
     ensures few { IfOk result (λ sent. sent ≤ 65538) }
+    ensures least { IfOk result (λ sent. 3 ≤ sent) }
     ensures halts { IfErr result (IsWaitHalt (4096 * sector)) }
 
     ensures falls { (B.state bus.old).honest ≡ true → Falls 65538 (B.state bus.old) (B.state bus.new) }
@@ -151,6 +154,7 @@ pub(crate) fn program_page<B: Bus>(bus: &mut B, address: u32, bytes: &[u8]) -> R
     requires in_page { address % 256 + length bytes.now ≤ 256 }
     ensures honest { (B.state bus.new).honest ≡ (B.state bus.old).honest }
     ensures few { IfOk result (λ sent. sent ≤ 65538) }
+    ensures least { IfOk result (λ sent. 3 ≤ sent) }
     ensures halts { IfErr result (IsWaitHalt address) }
 
     ensures falls { (B.state bus.old).honest ≡ true → Falls 65538 (B.state bus.old) (B.state bus.new) }

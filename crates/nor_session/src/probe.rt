@@ -36,6 +36,7 @@ pub(crate) struct Opening {
 pub(crate) fn open<B: Bus>(bus: &mut B) -> Result<Opening, Refusal>
     ensures quiet { Quiet (B.state bus.old) (B.state bus.new) }
     ensures few { IfOk result (λ opening. opening.transactions ≤ 65541) }
+    ensures least { IfOk result (λ opening. 6 ≤ opening.transactions) }
     ensures refusals { IfErr result IsOpeningRefusal }
     ensures size { IfOk result (λ opening. opening.found.size ≡ SIZE) }
 

@@ -1,12 +1,12 @@
 //! A rehearsal: a session that is stopped on purpose, and the restores from its journal.
-ghost use Rattle.std.specs.Prelude.{◌≡◌, ◌<◌, ◌≤◌, ◌+◌, ℕ, Bool, true, false, [], length, IfOk, IfErr, IsOk, OnOk, OnErr};
+ghost use Rattle.std.specs.Prelude.{◌≡◌, ◌<◌, ◌≤◌, ◌+◌, ℕ, Bool, true, false, [], length, drop, IfOk, IfErr, IsOk, OnOk, OnErr};
 ghost use Rattle.nor_chip.specs.Chip.{Chip, IsChip, IsSame};
 ghost use Rattle.nor_session.specs.declared.refusal.Refusal.{Refusal};
 ghost use Rattle.nor_session.specs.Known.{IsGenuine, IsKnown};
 ghost use Rattle.nor_session.specs.Journal.{IsJournalOf};
 ghost use Rattle.nor_session.specs.Reading.{Saves, IsWithin};
 ghost use Rattle.nor_session.specs.Session.{CanBeUndone};
-ghost use Rattle.nor_session.specs.Rehearsal.{RehearsalTells, IsRehearsal, first_allowance, BlamesVault};
+ghost use Rattle.nor_session.specs.Rehearsal.{RehearsalTells, IsRehearsal, first_allowance, CanEnd, AreRestores, BlamesVault};
 
 use crate::restores::restore;
 use crate::sessions::session;
@@ -30,6 +30,8 @@ pub struct Rehearsal {
 /// sealed restores under the following ones, one each, until one ends. Where no stop is left as many transactions
 /// are allowed as any call needs. At most 64 stops; the vault is empty and unsealed.
 ///
+/// The session ends where it is allowed 17,891,925 transactions, and only where it is allowed what its readings,
+/// erases and programs take; its vault is sealed where it is allowed 65,557, and only where it is allowed 22.
 /// Afterwards the chip is as before, at every exit.
 pub fn rehearse<B: Meter>(
     bus: &mut B,
@@ -45,6 +47,10 @@ pub fn rehearse<B: Meter>(
     ensures counts { IfOk result (IsRehearsal (length stops.now) (⟦<MemVault as Vault>⟧.state vault.new)) }
     ensures blames { IfErr result (BlamesVault (⟦<MemVault as Vault>⟧.state vault.old) (⟦<MemVault as Vault>⟧.state vault.new)) }
 
+    // On an honest bus.
+    ensures sealed { (B.state bus.old).honest ≡ true → IfOk result (λ rehearsal. rehearsal.sealed ≡ true → 22 ≤ first_allowance stops.now) }
+    ensures unsealed { (B.state bus.old).honest ≡ true → IfOk result (λ rehearsal. rehearsal.sealed ≡ false → first_allowance stops.now < 65557) }
+
     // On an honest bus whose chip is what it shows itself to be.
     ensures gives_back { (B.state bus.old).honest ≡ true → IsGenuine (B.state bus.old).chip.config → IsSame (B.state bus.old).chip (B.state bus.new).chip }
     ensures saves { (B.state bus.old).honest ≡ true → IsGenuine (B.state bus.old).chip.config
@@ -53,6 +59,10 @@ pub fn rehearse<B: Meter>(
         → IfErr result (RehearsalTells (length image.old) (B.state bus.old).chip (⟦<MemVault as Vault>⟧.state vault.old) (⟦<MemVault as Vault>⟧.state vault.new)) }
     ensures ended { (B.state bus.old).honest ≡ true → IsGenuine (B.state bus.old).chip.config → 17891925 ≤ first_allowance stops.now
         → IfOk result (λ rehearsal. rehearsal.ended ≡ true) }
+    ensures stopped { (B.state bus.old).honest ≡ true → IsGenuine (B.state bus.old).chip.config
+        → IfOk result (λ rehearsal. rehearsal.ended ≡ true → CanEnd image.old (first_allowance stops.now) (B.state bus.old).chip) }
+    ensures restores { (B.state bus.old).honest ≡ true → IsGenuine (B.state bus.old).chip.config
+        → IfOk result (λ rehearsal. rehearsal.sealed ≡ true → AreRestores (drop 1 stops.now) rehearsal.restores) }
 {
     let ended = stopped_session(bus, vault, image, request, stops)?;
     if !vault.is_sealed() {
@@ -103,6 +113,10 @@ fn stopped_session<B: Meter>(
         → IfErr result (RehearsalTells (length image.old) (B.state bus.old).chip (⟦<MemVault as Vault>⟧.state vault.old) (⟦<MemVault as Vault>⟧.state vault.new)) }
     ensures ended { (B.state bus.old).honest ≡ true → IsGenuine (B.state bus.old).chip.config → 17891925 ≤ first_allowance stops.now
         → IfOk result (λ ended. ended ≡ true) }
+    ensures stopped { (B.state bus.old).honest ≡ true → IsGenuine (B.state bus.old).chip.config
+        → IfOk result (λ ended. ended ≡ true → CanEnd image.old (first_allowance stops.now) (B.state bus.old).chip) }
+    ensures scanned { (B.state bus.old).honest ≡ true → (⟦<MemVault as Vault>⟧.state vault.new).sealed ≡ true → 22 ≤ first_allowance stops.now }
+    ensures unsealed { (B.state bus.old).honest ≡ true → (⟦<MemVault as Vault>⟧.state vault.new).sealed ≡ false → OnOk result (first_allowance stops.now < 65557) }
 {
     bus.allow(first_allowed(stops));
     match session(bus, vault, image, request) {
@@ -140,6 +154,7 @@ fn restore_in_turn<B: Meter>(
     requires few { length stops.now ≤ 64 }
     ensures honest { (B.state bus.new).honest ≡ (B.state bus.old).honest }
     ensures restores { IfOk result (λ restores. (1 ≤ restores) × (restores ≤ length stops.now + 1)) }
+    ensures counts { (B.state bus.old).honest ≡ true → IsGenuine (B.state bus.old).chip.config → IfOk result (AreRestores stops.now) }
     ensures blames { IfErr result (λ refusal. refusal ≡ Refusal.Vault → ⊥) }
     ensures gives_back { (B.state bus.old).honest ≡ true → IsGenuine (B.state bus.old).chip.config → IsKnown (B.state bus.old).chip.config
         → (first : Chip) → Saves journal.now first → IsWithin first (B.state bus.old).chip → OnOk result (IsSame first (B.state bus.new).chip) }
@@ -170,6 +185,9 @@ fn ends<B: Bus>(bus: &mut B, journal: &Journal<'_>) -> Result<bool, Refusal>
         → (first : Chip) → Saves journal.now first → IsWithin first (B.state bus.old).chip → IfOk result (λ ended. ended ≡ true → IsSame first (B.state bus.new).chip) }
     ensures answers { (B.state bus.old).honest ≡ true → IsGenuine (B.state bus.old).chip.config → IsKnown (B.state bus.old).chip.config
         → (first : Chip) → Saves journal.now first → IsWithin first (B.state bus.old).chip → IsOk result }
+    ensures stopped { (B.state bus.old).honest ≡ true → IfOk result (λ ended. ended ≡ false → (B.state bus.old).left < 17891925) }
+    ensures ended { (B.state bus.old).honest ≡ true → IsGenuine (B.state bus.old).chip.config
+        → IfOk result (λ ended. ended ≡ true → 22 ≤ (B.state bus.old).left) }
 {
     match restore(bus, journal) {
         Ok(_) => Ok(true),

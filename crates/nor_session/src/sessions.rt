@@ -38,9 +38,12 @@ pub fn session<B: Bus, V: Vault>(
     ensures stirs { (V.state vault.new).sealed ≡ false → (B.state bus.new).stirred ≡ (B.state bus.old).stirred }
     ensures bounded { IfOk result (IsWithinBound 16) }
 
-    // On an honest bus.
+    // On an honest bus. The vault is sealed after opening and scan, which take 22 transactions to 65,557.
     ensures falls { (B.state bus.old).honest ≡ true → Falls 17891925 (B.state bus.old) (B.state bus.new) }
     ensures ends { (B.state bus.old).honest ≡ true → IfErr result (EndsAtBound 17891925 (B.state bus.old) (B.state bus.new)) }
+    ensures scanned { (B.state bus.old).honest ≡ true → (V.state vault.new).sealed ≡ true → (B.state bus.new).left + 22 ≤ (B.state bus.old).left }
+    ensures unsealed { (B.state bus.old).honest ≡ true → (V.state vault.new).sealed ≡ false
+        → IfErr result (λ refusal. refusal ≡ Refusal.Stopped → (B.state bus.old).left < 65557) }
 
     // On an honest bus whose chip is what it shows itself to be.
     ensures tells { (B.state bus.old).honest ≡ true → IsGenuine (B.state bus.old).chip.config

@@ -180,11 +180,14 @@ fn a_text_of_another_length_is_no_journal(rt: HostRuntime) {
 #[test]
 fn rehearsals_give_the_chip_back(rt: HostRuntime) -> Result<(), Fail> {
     let alloc = rt.alloc();
-    let rows: [(&[u64], bool, bool, u32); 6] = [
+    let rows: [(&[u64], bool, bool, u32); 9] = [
         (&[24], false, true, 1),
         (&[26, 24], false, true, 2),
+        (&[24, 21, 27], false, true, 2),
+        (&[24, 21, 26], false, true, 3),
         (&[21], false, false, 0),
         (&[22], false, true, 1),
+        (&[28], false, true, 1),
         (&[29], true, true, 1),
         (&[], true, true, 1),
     ];

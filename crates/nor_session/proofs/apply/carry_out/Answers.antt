@@ -73,7 +73,13 @@ pub returns-clause-few : goal.returns-clause-few
 returns-clause-few g c =
     let erased = c.in_ok-erased.ensures.few in let counted = c.in_ok-erased.ensures.counted in let programmed = c.in_ok-programmed.ensures.few in let verified = c.in_ok-verified.ensures.few in
     let most = count_below-most c.args.sectors (mark_at c.args.marks.now.raised) in
-    record { erases = omega (arith, counted, most); programs = omega (arith, programmed); transactions = omega (arith, erased, programmed, verified) }
+    let erased' = c.in_ok-erased.ensures.least in let programmed' = c.in_ok-programmed.ensures.least in
+    record {
+      erases = omega (arith, counted, most);
+      programs = omega (arith, programmed);
+      least = omega (arith, counted, erased', programmed', verified);
+      transactions = omega (arith, erased, programmed, verified);
+    }
 
 pub returns-in_err-verified-clause-stops : goal.returns-in_err-verified-clause-stops
 returns-in_err-verified-clause-stops g c honest marked =

@@ -9,6 +9,7 @@ pub loop-sector-init : goal.loop-sector-init
 loop-sector-init g c = record {
   honest = refl;
   few = omega arith;
+  least = omega arith;
   counted = sym (count_below-zero _);
   fewer = omega arith;
   falls = λ honest. record { fell = omega arith; bound = omega arith };
@@ -24,6 +25,7 @@ loop-sector-preserved g c =
     record {
       honest = c.erase_marked.ensures.honest ∙ here.honest;
       few = omega (arith, here.few, step.few);
+      least = omega (arith, here.least, step.least);
       counted = ap (λ (n : ℕ). n + c.in_ok-more.more.count) here.counted ∙ ap (λ (n : ℕ). count_below c.loop-sector.sector (mark_at c.args.marked.now) + n) step.counted
           ∙ sym (count_below-more c.loop-sector.sector (mark_at c.args.marked.now));
       fewer = let most = at_most_one (mark_at c.args.marked.now c.loop-sector.sector) in let same = step.counted in omega (arith, here.fewer, most, same);

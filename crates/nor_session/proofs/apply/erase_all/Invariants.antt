@@ -10,6 +10,7 @@ invariant-loop-sector g l =
     record {
       honest : now.honest ≡ old.honest;
       few : l.tally.transactions ≤ 65538 * l.tally.count;
+      least : 3 * l.tally.count ≤ l.tally.transactions;
       counted : l.tally.count ≡ count_below l.sector (mark_at l.fn.marked);
       fewer : l.tally.count ≤ l.sector;
       falls : old.honest ≡ true → Falls (65538 * l.sector) old now;

@@ -11,6 +11,7 @@ loop-sector-init g c = record {
   honest = refl;
   fewer = omega arith;
   few = omega arith;
+  least = let none = count_below-zero (mark_at c.args.marks.now.touched) in omega (arith, none);
   falls = λ honest. record { fell = omega arith; bound = omega arith };
   done = λ honest can. programmed_none _ 0 0 _ (omega arith);
   counted = λ honest can. sym (count_below-zero _);
@@ -36,6 +37,10 @@ loop-sector-preserved g c =
       honest = c.program_sector.ensures.honest ∙ here.honest;
       fewer = let few = step.few in omega (arith, here.fewer, few);
       few = let few = step.few in let next = count_below-more sector (mark_at c.args.marks.now.touched) in omega (arith, here.few, few, next);
+      least =
+          let least = step.least in
+          let touched = count_below-more sector (mark_at c.args.marks.now.touched) in let raised = count_below-more sector (mark_at c.args.marks.now.raised) in
+          omega (arith, here.least, least, touched, raised);
       falls = λ honest.
           let before = here.falls honest in let after = step.falls (here.honest ∙ honest) in
           record { fell = omega (arith, before.fell, after.fell); bound = omega (arith, before.bound, after.bound) };

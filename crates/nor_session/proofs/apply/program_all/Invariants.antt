@@ -12,6 +12,7 @@ invariant-loop-sector g l =
       honest : now.honest ≡ old.honest;
       fewer : l.tally.count ≤ 16 * l.sector;
       few : l.tally.transactions ≤ count_below l.sector (mark_at l.fn.marks.touched) + 65538 * l.tally.count;
+      least : count_below l.sector (mark_at l.fn.marks.touched) + 3 * l.tally.count ≤ l.tally.transactions + count_below l.sector (mark_at l.fn.marks.raised);
       falls : old.honest ≡ true → Falls (1048609 * l.sector) old now;
       done : old.honest ≡ true → CanProgramAll l.fn.marks l.fn.wanted l.fn.sectors old.chip
           → HasProgrammedAll (slice_index l.fn.wanted) 0 (4096 * l.sector) old now;

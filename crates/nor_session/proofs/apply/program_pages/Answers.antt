@@ -10,6 +10,7 @@ pub loop-page-init : goal.loop-page-init
 loop-page-init g c = record {
   honest = refl;
   few = omega arith;
+  least = omega arith;
   counted = sym (count_below-zero _);
   fewer = omega arith;
   falls = λ honest. record { fell = omega arith; bound = omega arith };
@@ -27,6 +28,7 @@ loop-page-preserved g c =
     record {
       honest = c.program_span.ensures.honest ∙ here.honest;
       few = omega (arith, here.few, step.few);
+      least = omega (arith, here.least, step.least);
       counted = ap (λ (n : ℕ). n + c.in_ok-more.more.count) here.counted ∙ ap (λ (n : ℕ). count_below page (is_page_other_at c.args.old.now c.args.wanted.now) + n) step.counted
           ∙ sym (count_below-more page (is_page_other_at c.args.old.now c.args.wanted.now));
       fewer = let most = at_most_one (is_page_other_at c.args.old.now c.args.wanted.now page) in let same = step.counted in omega (arith, here.fewer, most, same);

@@ -10,6 +10,7 @@ invariant-loop-page g l =
     record {
       honest : now.honest ≡ old.honest;
       few : l.tally.transactions ≤ 65538 * l.tally.count;
+      least : 3 * l.tally.count ≤ l.tally.transactions;
       counted : l.tally.count ≡ count_below l.page (is_page_other_at l.fn.old l.fn.wanted);
       fewer : l.tally.count ≤ l.page;
       falls : old.honest ≡ true → Falls (65538 * l.page) old now;

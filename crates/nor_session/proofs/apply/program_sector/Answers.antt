@@ -1,7 +1,7 @@
 use Rattle.std.proofs.Common.{◌≡◌, ◌+◌, ◌*◌, ℕ, Bool, true, arith, ap, ◌∙◌}
 use Rattle.std.specs.Prelude.{slice_range, if◌then◌else◌}
 use Rattle.nor_session.specs.Changes.{mark_at, is_page_other_at}
-use Rattle.nor_session.proofs.Below.{count_below-most}
+use Rattle.nor_session.proofs.Below.{count_below-most, one_of_two}
 use Rattle.nor_session.proofs.Sectors.{untouched_done, untouched_count, can_sector, sector_done, sector_reached, sector_count}
 use Rattle.nor_session.proofs.apply.program_sector.Goals as goal
 
@@ -19,7 +19,16 @@ returns-clause-few g c =
     let few = c.in_ok-tally.ensures.few in let one = c.in_ok-reads.ensures.few in
     let one_of : Bool → ℕ = λ b. if b then 1 else 0 in
     let marked : one_of (mark_at c.args.marks.now.touched c.args.sector) ≡ one_of true = ap one_of c.if-not-marks-sector.false in
-    (omega (arith, most, counted), omega (arith, few, one, marked))
+    let either = one_of_two (mark_at c.args.marks.now.raised c.args.sector) in
+    (omega (arith, most, counted), omega (arith, few, one, marked, either))
+
+pub returns-clause-least : goal.returns-clause-least
+returns-clause-least g c =
+    let least = c.in_ok-tally.ensures.least in let one = c.in_ok-reads.ensures.few in
+    let one_of : Bool → ℕ = λ b. if b then 1 else 0 in
+    let marked : one_of (mark_at c.args.marks.now.touched c.args.sector) ≡ one_of true = ap one_of c.if-not-marks-sector.false in
+    let either = one_of_two (mark_at c.args.marks.now.raised c.args.sector) in
+    omega (arith, least, one, marked, either)
 
 pub returns-clause-reached : goal.returns-clause-reached
 returns-clause-reached g c honest can =

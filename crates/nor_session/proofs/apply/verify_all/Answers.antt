@@ -1,8 +1,16 @@
-use Rattle.std.proofs.Common.{◌+◌, arith, ◌∙◌}
+use Rattle.std.proofs.Common.{◌+◌, arith, refl, ◌∙◌, sym}
 use Rattle.nor_session.specs.Changes.{mark_at}
-use Rattle.nor_session.proofs.Below.{count_below-more, count_below-most}
-use Rattle.nor_session.proofs.LooksLemmas.{Quiet-then, Looked-then}
+use Rattle.nor_session.proofs.Below.{count_below-zero, count_below-more, count_below-most}
+use Rattle.nor_session.proofs.LooksLemmas.{Quiet-then, Looked-none, Looked-then}
 use Rattle.nor_session.proofs.apply.verify_all.Goals as goal
+
+pub loop-sector-init : goal.loop-sector-init
+loop-sector-init g c = record {
+  quiet = record { honest = refl; stirred = refl };
+  few = sym (count_below-zero _);
+  looked = λ honest. Looked-none _;
+  count = λ honest. omega arith;
+}
 
 pub overflow_add-sent : goal.overflow_add-sent
 overflow_add-sent g c =

@@ -1,4 +1,4 @@
-use Rattle.std.proofs.Common.{◌≡◌, ◌+◌, ◌≤◌, true}
+use Rattle.std.proofs.Common.{◌≡◌, ◌+◌, true}
 use Rattle.nor_session.specs.Looks.{Quiet, Looked}
 use Rattle.nor_session.specs.Content.{count_below}
 use Rattle.nor_session.specs.Changes.{mark_at}
@@ -9,7 +9,7 @@ invariant-loop-sector g l =
     let old = g.B.Bus.state l.fn.bus in let now = g.B.Bus.state l.bus in
     record {
       quiet : Quiet old now;
-      few : l.sent ≤ count_below l.sector (mark_at l.fn.marks.touched);
+      few : l.sent ≡ count_below l.sector (mark_at l.fn.marks.touched);
       looked : old.honest ≡ true → Looked l.sector old now;
       count : old.honest ≡ true → old.left ≡ now.left + l.sent;
     }

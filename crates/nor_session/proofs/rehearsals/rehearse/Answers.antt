@@ -2,6 +2,8 @@ use Rattle.std.proofs.Common.{◌∙◌, ℕ, List, refl, sym, subst}
 use Rattle.std.proofs.lemmas.Bool.{true≢false}
 use Rattle.nor_session.specs.Known.{IsKnown, IsGenuine}
 use Rattle.nor_session.specs.Journal.{IsJournalOf}
+use Rattle.nor_session.specs.Rehearsal.{AreRestores}
+use Rattle.nor_session.proofs.Rehearsed.{later_stops}
 use Rattle.nor_session.proofs.rehearsals.rehearse.Goals as goal
 
 pub returns-then-not-is_sealed-clause-gives_back : goal.returns-then-not-is_sealed-clause-gives_back
@@ -20,6 +22,22 @@ returns-clause-gives_back g c honest genuine =
     let genuine' = subst IsGenuine (sym within.config) genuine in
     let known = subst IsKnown (sym within.config) (undone.known sealed) in
     c.in_ok-restores.ensures.gives_back still genuine' known chip saves within
+
+pub returns-clause-saves : goal.returns-clause-saves
+returns-clause-saves g c honest genuine = λ _.
+    let undone = c.in_ok-ended.ensures.undone honest genuine in
+    let sealed = sym c.is_sealed.ensures ∙ c.if-not-is_sealed.false in
+    undone.saves sealed refl
+
+pub returns-clause-restores : goal.returns-clause-restores
+returns-clause-restores g c honest genuine = λ _.
+    let undone = c.in_ok-ended.ensures.undone honest genuine in
+    let sealed = sym c.is_sealed.ensures ∙ c.if-not-is_sealed.false in
+    let within = undone.within sealed in
+    let still = c.stopped_session.ensures.honest ∙ honest in
+    let genuine' = subst IsGenuine (sym within.config) genuine in
+    subst (λ (stops : List ℕ). AreRestores stops c.in_ok-restores.restores) (later_stops c.args.stops.now c.min.result c.min.ensures)
+    (c.in_ok-restores.ensures.counts still genuine')
 
 pub returns-in_err-restores-clause-gives_back : goal.returns-in_err-restores-clause-gives_back
 returns-in_err-restores-clause-gives_back g c honest genuine =

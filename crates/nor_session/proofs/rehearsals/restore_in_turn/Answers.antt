@@ -4,6 +4,7 @@ use Rattle.nor_chip.specs.Chip.{Chip}
 use Rattle.nor_session.specs.Known.{IsKnown, IsGenuine}
 use Rattle.nor_session.specs.Reading.{IsWithin}
 use Rattle.nor_session.specs.Session.{EndsAtBound}
+use Rattle.nor_session.proofs.Rehearsed.{stopped_more, ended_at}
 use Rattle.nor_session.proofs.rehearsals.restore_in_turn.Goals as goal
 
 pub loop-stop-preserved : goal.loop-stop-preserved
@@ -14,6 +15,8 @@ loop-stop-preserved g c =
     record {
       honest = c.ends.ensures.honest ∙ allowed.honest ∙ here.honest;
       restores = omega (arith, here.restores);
+      stopped = λ honest. stopped_more c.args.stops.now c.loop-stop.stop-index _ (here.stopped honest) (allowed.left (here.honest ∙ honest))
+          (step.stopped (allowed.honest ∙ here.honest ∙ honest) c.if-branch.false);
       config = λ honest genuine.
           let same : (g.B.Bus.state c.allow.new.self).chip.config ≡ (g.B.Bus.state c.args.bus.now).chip.config
           = ap (λ (chip : Chip). chip.config) allowed.chip ∙ here.config honest genuine in
@@ -23,6 +26,25 @@ loop-stop-preserved g c =
           = ap (λ (chip : Chip). chip.config) allowed.chip ∙ here.config honest genuine in
           c.ends.ensures.keeps_within (allowed.honest ∙ here.honest ∙ honest) (subst IsGenuine (sym same) genuine) first saves
           (subst (IsWithin first) (sym allowed.chip) (here.within honest genuine first saves within));
+    }
+
+pub returns-then-branch-clause-counts : goal.returns-then-branch-clause-counts
+returns-then-branch-clause-counts g c honest genuine =
+    let here = c.loop-stop.invariant in
+    let allowed = c.allow.ensures in
+    let still = here.honest ∙ honest in
+    let same : (g.B.Bus.state c.allow.new.self).chip.config ≡ (g.B.Bus.state c.args.bus.now).chip.config
+    = ap (λ (chip : Chip). chip.config) allowed.chip ∙ here.config honest genuine in
+    ended_at c.args.stops.now c.loop-stop.stop-index c.loop-stop.restores _ here.restores (here.stopped honest) (allowed.left still)
+    (c.in_ok-ends.ensures.ended (allowed.honest ∙ still) (subst IsGenuine (sym same) genuine) c.if-branch.true)
+
+pub returns-clause-counts : goal.returns-clause-counts
+returns-clause-counts g c honest genuine =
+    let here = c.loop-stop.invariant in
+    let restores = here.restores in let past = c.loop-stop-test.false in
+    record {
+      stopped = λ i before. here.stopped honest i (omega (arith, before, restores));
+      ended = λ under. absurd (omega (arith, under, restores, past));
     }
 
 pub returns-then-branch-clause-gives_back : goal.returns-then-branch-clause-gives_back

@@ -1,4 +1,4 @@
-use Rattle.std.proofs.Common.{◌≡◌, ◌≤◌, true}
+use Rattle.std.proofs.Common.{◌≡◌, ◌<◌, ℕ, true, slice_index}
 use Rattle.nor_chip.specs.Chip.{Chip}
 use Rattle.nor_session.specs.Known.{IsGenuine}
 use Rattle.nor_session.specs.Reading.{Saves, IsWithin}
@@ -9,7 +9,8 @@ invariant-loop-stop g l =
     let old = g.B.Bus.state l.fn.bus in let now = g.B.Bus.state l.bus in
     record {
       honest : now.honest ≡ old.honest;
-      restores : l.restores ≤ l.stop-index;
+      restores : l.restores ≡ l.stop-index;
+      stopped : old.honest ≡ true → (i : ℕ) → i < l.stop-index → slice_index l.fn.stops i < 17891925;
       config : old.honest ≡ true → IsGenuine old.chip.config → now.chip.config ≡ old.chip.config;
       within : old.honest ≡ true → IsGenuine old.chip.config → (first : Chip) → Saves l.fn.journal first → IsWithin first old.chip → IsWithin first now.chip;
     }

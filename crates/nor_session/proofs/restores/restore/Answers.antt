@@ -12,7 +12,14 @@ pub returns-clause-bounded : goal.returns-clause-bounded
 returns-clause-bounded g c =
     let opening = c.in_ok-opening.ensures.few in let counted = c.in_ok-marks.ensures.counted in let work = c.in_ok-work.ensures.few in let sixteen = c.from.ensures in
     let most = count_below-most 16 (mark_at c.in_ok-marks.marks.touched) in
-    record { touched = omega (arith, counted, most); erases = work.erases; programs = work.programs; transactions = omega (arith, opening, counted, work.transactions, sixteen) }
+    let opening' = c.in_ok-opening.ensures.least in
+    record {
+      touched = omega (arith, counted, most);
+      erases = work.erases;
+      programs = work.programs;
+      least = omega (arith, opening', counted, work.least, sixteen);
+      transactions = omega (arith, opening, counted, work.transactions, sixteen);
+    }
 
 pub returns-clause-between : goal.returns-clause-between
 returns-clause-between g c honest genuine =
