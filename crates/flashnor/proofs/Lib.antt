@@ -4,3 +4,4 @@ pub mod Named
 pub mod Taken
 pub mod Asked
 pub mod Shown
+pub mod Genuine

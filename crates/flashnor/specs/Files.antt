@@ -1,6 +1,7 @@
 -- What a run opens.
 use Rattle.std.specs.Prelude.{◌≡◌, ◌<◌, ℕ, true, false, Option, Some, None, ⊤}
 use Rattle.nor_chip.specs.Bus.{BusState}
+use Rattle.nor_chip.specs.Chip.{IsSame}
 use Rattle.flashnor.specs.declared.messages.Fault.{Fault}
 use Rattle.flashnor.specs.declared.messages.Fault.TheVariants as end
 use Rattle.flashnor.specs.declared.messages.FileFault.TheVariants as file
@@ -19,6 +20,10 @@ pub record Opens (programmer : Programmer) (bus : BusState) : Type 0 where
   pub honest : bus.honest ≡ true
   pub steady : bus.steady ≡ true
   pub erased : programmer.image ≡ None → (a : ℕ) → a < bus.chip.config.size → bus.chip.bytes a ≡ 255
+
+-- An honest bus stays honest, and its chip the same but for latch and `busy`.
+abbrev pub StaysOpen : BusState → BusState → Type 0
+StaysOpen old new = old.honest ≡ true → (new.honest ≡ true) × IsSame old.chip new.chip
 
 -- how the reading of the file of this name may end a run
 abbrev pub IsReading : Text → Fault → Type 0

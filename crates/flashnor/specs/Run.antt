@@ -1,8 +1,8 @@
 -- What a run came to.
-use Rattle.std.specs.Prelude.{◌≡◌, ◌⊎◌, ℕ, List, Option, Result, Ok, Err, length, option_map, ⊤}
+use Rattle.std.specs.Prelude.{◌≡◌, ◌≤◌, ◌<◌, ◌⊎◌, ℕ, true, false, List, Option, Result, Ok, Err, drop, length, option_map, ⊤}
 use Rattle.std.specs.Borrow.{Bor}
 use Rattle.nor_journal.specs.Vault.{VaultState}
-use Rattle.nor_session.specs.Rehearsal.{IsRehearsal}
+use Rattle.nor_session.specs.Rehearsal.{AreRestores, IsRehearsal, first_allowance}
 use Rattle.nor_session.specs.declared.rehearsals.Rehearsal.{Rehearsal}
 use Rattle.flashnor.specs.Text.{Text}
 use Rattle.flashnor.specs.Files.{IsOpening, IsReading}
@@ -19,13 +19,20 @@ use Rattle.flashnor.specs.declared.words.Task.TheVariants as task
 use Rattle.flashnor.specs.declared.messages.Fault.{Fault}
 use Rattle.flashnor.specs.declared.messages.Fault.TheVariants as end
 
--- a rehearsal under so many stops, with a vault of its own
-abbrev pub IsRehearsed : ℕ → Rehearsal → Type 0
-IsRehearsed stops rehearsal = (vault : VaultState) × IsRehearsal stops vault rehearsal
+-- A rehearsal under these stops, with a vault of its own. The session was allowed the first: it ended if that was as much
+-- as any session needs, it sealed its journal if that was more than the opening and the scan may take, and neither if
+-- it was less than they take. The restores were run under the others in turn.
+pub record IsRehearsed (stops : List ℕ) (rehearsal : Rehearsal) : Type 0 where
+  pub vault : VaultState
+  pub counts : IsRehearsal (length stops) vault rehearsal
+  pub ended : 17891925 ≤ first_allowance stops → rehearsal.ended ≡ true
+  pub sealed : rehearsal.sealed ≡ true → 22 ≤ first_allowance stops
+  pub unsealed : rehearsal.sealed ≡ false → first_allowance stops < 65557
+  pub restores : rehearsal.sealed ≡ true → AreRestores (drop 1 stops) rehearsal.restores
 
 -- the task is a rehearsal, and comes to this
 abbrev pub ComesTo : Task → Rehearsal → Type 0
-ComesTo (task.Rehearse image stops) rehearsal = IsRehearsed (length stops.items) rehearsal
+ComesTo (task.Rehearse image stops) rehearsal = IsRehearsed stops.items rehearsal
 ComesTo _ rehearsal = ⊥
 
 -- the task is a rehearsal, which its session may refuse

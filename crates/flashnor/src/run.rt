@@ -1,8 +1,8 @@
 //! A run of the program.
-ghost use Rattle.std.specs.Prelude.{◌≡◌, ◌≤◌, length, map, string_bytes, IfOk, MatchResult};
+ghost use Rattle.std.specs.Prelude.{◌≡◌, ◌≤◌, length, map, string_bytes, MatchResult};
 ghost use Rattle.flashnor.specs.Words.{IsRefused};
 ghost use Rattle.flashnor.specs.declared.programmer.Programmer.{Programmer};
-ghost use Rattle.flashnor.specs.Files.{Opens};
+ghost use Rattle.flashnor.specs.Files.{Opens, StaysOpen};
 ghost use Rattle.flashnor.specs.Found.{HasName, IsFound, IsOther};
 ghost use Rattle.flashnor.specs.Run.{IsAnswer, IsAnswerOf, IsEndOf, IsRehearsed, IsWriteEnd};
 
@@ -72,9 +72,10 @@ fn rehearse_write<'a, R: Files + AllocGlobal>(
     stops: &[u64],
 ) -> Result<Rehearsal, Fault<'a>>
     requires { length stops.now ≤ 64 }
-    ensures comes_to { IfOk result (IsRehearsed (length stops.now)) }
-    ensures ends { (programmer : Programmer) → Opens programmer (⟦<SimBus as Bus>⟧.state bus.old)
-        → MatchResult result (λ _. HasName named.entry programmer.chip) (IsWriteEnd named.entry programmer.chip image.entry.now) }
+    ensures { (programmer : Programmer) → Opens programmer (⟦<SimBus as Bus>⟧.state bus.old)
+        → MatchResult result
+        (λ rehearsal. IsRehearsed stops.now rehearsal × HasName named.entry programmer.chip)
+        (IsWriteEnd named.entry programmer.chip image.entry.now) }
 {
     let mut image = read_image(rt, image)?;
     check_name(bus, named)?;
@@ -88,7 +89,8 @@ fn rehearse_write<'a, R: Files + AllocGlobal>(
 
 // The chip has the name that is given. Where none is given it isn't looked at.
 fn check_name(bus: &mut SimBus, named: Option<&str>) -> Result<(), ProbeFault>
-    ensures { (programmer : Programmer) → Opens programmer (⟦<SimBus as Bus>⟧.state bus.old)
+    ensures stays { StaysOpen (⟦<SimBus as Bus>⟧.state bus.old) (⟦<SimBus as Bus>⟧.state bus.new) }
+    ensures name { (programmer : Programmer) → Opens programmer (⟦<SimBus as Bus>⟧.state bus.old)
         → MatchResult result (λ _. HasName named.entry programmer.chip) (IsOther named.entry programmer.chip) }
 {
     if named.is_some() {
@@ -99,7 +101,8 @@ fn check_name(bus: &mut SimBus, named: Option<&str>) -> Result<(), ProbeFault>
 
 // Finds the chip on the bus, which nothing stops. The chip must have the name that is given, if one is.
 fn find(bus: &mut SimBus, named: Option<&str>) -> Result<Found, ProbeFault>
-    ensures { (programmer : Programmer) → Opens programmer (⟦<SimBus as Bus>⟧.state bus.old)
+    ensures stays { StaysOpen (⟦<SimBus as Bus>⟧.state bus.old) (⟦<SimBus as Bus>⟧.state bus.new) }
+    ensures found { (programmer : Programmer) → Opens programmer (⟦<SimBus as Bus>⟧.state bus.old)
         → MatchResult result (IsFound named.entry programmer.chip) (IsOther named.entry programmer.chip) }
 {
     bus.allow(u64::MAX);

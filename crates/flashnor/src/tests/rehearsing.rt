@@ -55,8 +55,8 @@ fn starts_erased(rt: HostRuntime) -> Result<(), Fail> {
     )
 }
 
-// A chip with another name than the one given isn't written, and sessions know one chip alone so far. The image is read
-// before either is seen.
+// A chip with another name than the one given isn't written, and sessions know one chip alone so far. An image that
+// can't be read is told before either.
 #[test]
 fn refuses_other_chips(rt: HostRuntime) -> Result<(), Fail> {
     let shelf = Shelf::new(rt.alloc()).with("new.bin", 0x01, 65536)?;

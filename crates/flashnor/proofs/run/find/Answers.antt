@@ -1,14 +1,18 @@
 use Rattle.std.proofs.Common.{◌≡◌, ◌∙◌, ap, arith, subst, sym}
 use Rattle.flashnor.specs.Found.{wanted}
 use Rattle.flashnor.specs.Programmer.{IsConfigOf}
+use Rattle.flashnor.proofs.Genuine.{same-looked}
 use Rattle.flashnor.proofs.Shown.{found-emulated, named-wanted}
 use Rattle.flashnor.proofs.run.find.Goals as goal
 
-pub returns : goal.returns
-returns c = λ programmer opens.
+pub returns-clause-found : goal.returns-clause-found
+returns-clause-found c = λ programmer opens.
     let asked : c.map.result ≡ wanted c.args.named = named-wanted c.args.named c.map.result c.map.ensures.cases in
     let config = subst (IsConfigOf programmer.chip) (sym (ap (λ chip. chip.config) c.allow.ensures.chip)) opens.config in
     let idle = ap (λ chip. chip.busy) c.allow.ensures.chip ∙ opens.idle in
     let left = c.allow.ensures.left opens.honest in
     found-emulated programmer.chip c.args.named c.map.result _ _ c.probe.result asked config idle (omega (arith, left))
     c.probe.ensures.wanted (c.probe.ensures.finds opens.honest) (c.probe.ensures.tells opens.honest)
+
+pub returns-clause-stays : goal.returns-clause-stays
+returns-clause-stays c = λ honest. (honest, same-looked _ _ _ _ c.allow.ensures.chip (c.probe.ensures.looked honest))
