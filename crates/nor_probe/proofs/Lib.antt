@@ -1,3 +1,4 @@
 pub mod SfdpLemmas
 pub mod Shown
 pub mod Emulated
+pub mod Sizes

@@ -1,5 +1,5 @@
 -- What a probe tells of the chip.
-use Rattle.std.specs.Prelude.{◌≡◌, ◌+◌, ◌≤◌, ◌<◌, ◌⊎◌, ℕ, true, false, Option, None, Some, Ok, Err, List, if◌then◌else◌}
+use Rattle.std.specs.Prelude.{◌≡◌, ◌+◌, ◌%◌, ◌≤◌, ◌<◌, ◌⊎◌, ℕ, true, false, Option, None, Some, Ok, Err, List, if◌then◌else◌}
 use Rattle.nor_chip.specs.declared.config.Config.{Config}
 use Rattle.nor_chip.specs.Chip.{Chip, status1_of}
 use Rattle.nor_chip.specs.Size.{is_chip_size}
@@ -40,6 +40,9 @@ pub record IsPart (found : Found) : Type 0 where
   pub driven : is_no_chip found.id ≡ false
   pub origin : (part_of found.id ≡ Some (part_in found)) ⊎ ((part_of found.id ≡ None) × (found.name ≡ Sfdp) × (found.scheme ≡ false))
   pub sized : is_chip_size found.size ≡ true
+  pub at_least : 65536 ≤ found.size
+  pub at_most : found.size ≤ 16777216
+  pub in_blocks : found.size % 65536 ≡ 0
   pub least : 1 + reads_of found.id ≤ found.transactions
   pub most : found.transactions ≤ 65540
 

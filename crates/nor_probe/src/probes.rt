@@ -49,6 +49,7 @@ pub struct Found {
 
 /// Tells which chip is on the bus: waits until it is idle, reads its ID, and where that isn't in the table also
 /// its SFDP. Where a name is given the chip must have it.
+#[tactic(auto, using(crate::proofs::Sizes::size_at_least, crate::proofs::Sizes::size_at_most, crate::proofs::Sizes::size_in_blocks))]
 pub fn probe<B: Bus>(bus: &mut B, named: Option<ChipName>) -> Result<Found, ProbeFault>
     ensures quiet { Quiet (B.state bus.old) (B.state bus.new) }
     ensures part { IfOk result IsPart }

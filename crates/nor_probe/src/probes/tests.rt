@@ -1,9 +1,10 @@
 //! Probes of simulated chips, by what they find and send.
-ghost use Rattle.std.specs.Prelude.{false, refl};
+ghost use Rattle.std.specs.Prelude.{false};
+ghost use Rattle.std.proofs.lemmas.Bool.{false≢true};
 ghost use Rattle.nor_probe.specs.Known.{IsKnown};
 
 use crate::{ChipName, Found, Geometry, Kinds, ProbeFault, SfdpFault, probe, read_sfdp};
-use nor_chip::{Bus, Config, Delays, Meter, SimBus, Stopped, TraceBus};
+use nor_chip::{Bus, Config, Delays, Meter, SimBus, Stopped, TINY64_SFDP, TraceBus};
 use std::alloc::Global;
 use std::test::Fail;
 
@@ -187,6 +188,15 @@ fn emulated_chips_show_their_sfdp(rt: HostRuntime) -> Result<(), Fail> {
 }
 
 #[test]
+fn an_id_of_the_table_is_believed(rt: HostRuntime) -> Result<(), Fail> {
+    let id = [0xEF, 0x40, 0x17];
+    let small = Config::new(id, 65_536, false, false, false, &TINY64_SFDP).ok_or("no such size")?;
+    let found = probed(&rt, rt.alloc(), small, None, "05 > 04\n9f > ef4017\n")?;
+    assert_eq!(rt; found.map(|found| found.size), Ok(8_388_608));
+    Ok(())
+}
+
+#[test]
 fn a_bus_that_nothing_drives(rt: HostRuntime) -> Result<(), Fail> {
     let named = Some(ChipName::W25Q64FV);
     let answer = probed(
@@ -247,7 +257,7 @@ struct Stuck {
 impl Bus for Stuck {
     ghost state = { λ stuck. record (⟦<SimBus as Bus>⟧.state stuck.bus) { honest = false } };
 
-    ghost reaches = { λ stuck honest. ⟦<SimBus as Bus>⟧.reaches stuck.bus refl };
+    ghost reaches = { λ stuck honest. absurd (false≢true honest) };
 
     fn transfer(&mut self, out: &[u8], reply: &mut [u8]) -> Result<(), Stopped> {
         self.bus.transfer(out, reply)?;

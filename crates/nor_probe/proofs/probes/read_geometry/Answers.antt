@@ -1,4 +1,4 @@
-use Rattle.std.proofs.Common.{rules, ◌∙◌, sym, arith}
+use Rattle.std.proofs.Common.{◌∙◌, sym, arith}
 use Rattle.std.proofs.lemmas.Grind.{common_steps}
 use Rattle.nor_probe.proofs.Shown.{parameters_say}
 use Rattle.nor_probe.proofs.probes.read_geometry.Goals as goal
