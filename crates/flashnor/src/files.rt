@@ -1,6 +1,9 @@
 //! The files that a run reads.
-ghost use Rattle.std.specs.Prelude.{◌≡◌, Some, IfOk, IfErr, IfSome, option_map, replicate, take, vec_len};
+ghost use Rattle.std.specs.Prelude.{◌≡◌, ◌↔◌, Some, IfOk, IfErr, IfSome, option_map, replicate, take, vec_len};
+ghost use Rattle.std.specs.IoError.{error_kind};
+ghost use Rattle.std.specs.declared.io.ErrorKind.TheVariants as Kinds;
 ghost use Rattle.flashnor.specs.Files.{Opens, IsReading, IsOpening};
+ghost use Rattle.flashnor.specs.declared.messages.Fault.TheVariants as Faults;
 
 use crate::messages::{Fault, FileFault};
 use crate::programmer::Programmer;
@@ -90,7 +93,8 @@ where
 
 // The fault of a file that can't be opened or read.
 fn reading(error: io::Error, name: &str) -> Fault<'_>
-    ensures { IsReading name.now result }
+    ensures file { IsReading name.now result }
+    ensures memory { result ≡ Faults.Memory ↔ error_kind error ≡ Kinds.OutOfMemory }
 {
     match error.kind() {
         ErrorKind::OutOfMemory => Fault::Memory,
