@@ -2,12 +2,12 @@
 use Rattle.std.specs.Prelude.{◌≡◌, true, false, [], ◌∷◌, Option, option_map}
 use Rattle.std.specs.Borrow.{Bor}
 use Rattle.nor_probe.specs.Found.{IsWanted, part_in}
-use Rattle.nor_probe.specs.Table.{name_of, winbond}
+use Rattle.nor_probe.specs.Table.{name_of, w25q64fv, w25q128fv}
 use Rattle.nor_probe.specs.declared.probes.Found.{Found}
 use Rattle.nor_probe.specs.declared.probes.ProbeFault.{ProbeFault}
 use Rattle.nor_probe.specs.declared.probes.ProbeFault.TheVariants.{OtherName}
 use Rattle.nor_probe.specs.declared.table.ChipName.{ChipName}
-use Rattle.nor_probe.specs.declared.table.ChipName.TheVariants.{W25Q64FV, W25Q128FV, Sfdp}
+use Rattle.nor_probe.specs.declared.table.ChipName.TheVariants.{Sfdp}
 use Rattle.nor_probe.specs.declared.table.Part.{Part}
 use Rattle.flashnor.specs.Text.{Text}
 use Rattle.flashnor.specs.declared.programmer.Emulated.{Emulated}
@@ -22,8 +22,8 @@ part_of Tiny64 = record {
   kinds = record { k32 = true; k64 = true };
   scheme = false;
 }
-part_of W25q64fv = winbond W25Q64FV (0xEF ∷ 0x40 ∷ 0x17 ∷ []) 8388608
-part_of W25q128fv = winbond W25Q128FV (0xEF ∷ 0x40 ∷ 0x18 ∷ []) 16777216
+part_of W25q64fv = w25q64fv
+part_of W25q128fv = w25q128fv
 
 -- the name that the chip must have, if one is given
 abbrev pub wanted : Option (Bor Text) → Option ChipName

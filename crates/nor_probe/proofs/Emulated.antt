@@ -13,11 +13,10 @@ use Rattle.nor_probe.specs.declared.sfdp.Geometry.{Geometry}
 use Rattle.nor_probe.specs.declared.sfdp.SfdpFault.{SfdpFault}
 use Rattle.nor_probe.specs.declared.sfdp.SfdpFault.TheVariants.{Size}
 use Rattle.nor_probe.specs.Sfdp.{double_word, size_in_bits, is_supported_size, has_signature, is_basic, address_mode, has_write_granularity, has_erase_type, sfdp_says}
-use Rattle.nor_probe.specs.declared.table.ChipName.TheVariants.{W25Q64FV, W25Q128FV}
 use Rattle.nor_probe.specs.declared.table.Part.{Part}
 use Rattle.nor_probe.specs.declared.probes.ProbeFault.{ProbeFault}
 use Rattle.nor_probe.specs.declared.probes.ProbeFault.TheVariants.{NoChip}
-use Rattle.nor_probe.specs.Table.{winbond, part_of}
+use Rattle.nor_probe.specs.Table.{w25q64fv, w25q128fv, part_of}
 use Rattle.nor_probe.specs.Known.{id_of, is_no_chip, shown, pointer_in, chip_says, part_by_sfdp, listed_or, HasGeometry, IsKnown}
 
 -- 64 KiB in bits has a single one
@@ -110,9 +109,9 @@ listed_known config part listed driven size k32 k64 scheme = record {
 pub w25q64fv_known : (config : Config) → IsW25q64fv config → IsKnown config
 w25q64fv_known config made =
     let id = same_id config _ made.id in
-    listed_known config (winbond W25Q64FV (0xEF ∷ 0x40 ∷ 0x17 ∷ []) 8388608) (ap part_of id) (ap is_no_chip id) made.size made.k32 made.k64 made.scheme
+    listed_known config w25q64fv (ap part_of id) (ap is_no_chip id) made.size made.k32 made.k64 made.scheme
 
 pub w25q128fv_known : (config : Config) → IsW25q128fv config → IsKnown config
 w25q128fv_known config made =
     let id = same_id config _ made.id in
-    listed_known config (winbond W25Q128FV (0xEF ∷ 0x40 ∷ 0x18 ∷ []) 16777216) (ap part_of id) (ap is_no_chip id) made.size made.k32 made.k64 made.scheme
+    listed_known config w25q128fv (ap part_of id) (ap is_no_chip id) made.size made.k32 made.k64 made.scheme

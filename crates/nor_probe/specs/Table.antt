@@ -30,12 +30,17 @@ winbond called with_id with_size = record {
   scheme = true;
 }
 
--- the table: 64 Mbit and 128 Mbit
+-- 64 Mbit
+abbrev pub w25q64fv : Part
+w25q64fv = winbond W25Q64FV (0xEF ∷ 0x40 ∷ 0x17 ∷ []) 8388608
+
+-- 128 Mbit
+abbrev pub w25q128fv : Part
+w25q128fv = winbond W25Q128FV (0xEF ∷ 0x40 ∷ 0x18 ∷ []) 16777216
+
+-- the table
 abbrev pub chips : List Part
-chips =
-    winbond W25Q64FV (0xEF ∷ 0x40 ∷ 0x17 ∷ []) 8388608
-    ∷ winbond W25Q128FV (0xEF ∷ 0x40 ∷ 0x18 ∷ []) 16777216
-    ∷ []
+chips = w25q64fv ∷ w25q128fv ∷ []
 
 -- the chip of the table that has this ID
 abbrev pub part_of : List ℕ → Option Part
