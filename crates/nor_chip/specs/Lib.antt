@@ -1,5 +1,6 @@
 pub mod Size
 pub mod Chip
+pub mod Power
 pub mod Guard
 pub mod Command
 pub mod Step

@@ -47,7 +47,8 @@ pub const W25Q128FV_SFDP: [u8; 52] = [
 ];
 
 /// A chip's configuration: its ID as 9Fh replies, its size in bytes, which erases it has beside those of
-/// 4 KiB and of the whole chip, whether it has block protection, and its SFDP bytes, FFh past their end.
+/// 4 KiB and of the whole chip, whether it has block protection, the unique ID that 4Bh replies, and its SFDP bytes,
+/// FFh past their end.
 #[derive(Clone, Copy)]
 pub struct Config {
     pub id: [u8; 3],
@@ -55,6 +56,7 @@ pub struct Config {
     pub k32: bool,
     pub k64: bool,
     pub scheme: bool,
+    pub unique: [u8; 8],
     pub sfdp: [u8; 256],
     pub ghost sized: { IsTrue (is_chip_size size) },
     pub ghost at_least: { 65536 ≤ size },
@@ -88,6 +90,7 @@ impl Config {
             k32,
             k64,
             scheme,
+            unique: [0; 8],
             sfdp: padded(sfdp),
         })
     }
@@ -103,6 +106,7 @@ impl Config {
             k32: true,
             k64: true,
             scheme: false,
+            unique: [0; 8],
             sfdp: padded(&TINY64_SFDP),
         }
     }
@@ -118,6 +122,7 @@ impl Config {
             k32: true,
             k64: true,
             scheme: true,
+            unique: [0; 8],
             sfdp: padded(&W25Q64FV_SFDP),
         }
     }
@@ -133,8 +138,18 @@ impl Config {
             k32: true,
             k64: true,
             scheme: true,
+            unique: [0; 8],
             sfdp: padded(&W25Q128FV_SFDP),
         }
+    }
+
+    /// The same chip with this unique ID. (W25Q64FV datasheet, read unique ID number.)
+    pub fn with_unique(self, unique: [u8; 8]) -> Config
+        ensures { result ≡ record self { unique = unique } }
+    {
+        let mut config = self;
+        config.unique = unique;
+        config
     }
 }
 
