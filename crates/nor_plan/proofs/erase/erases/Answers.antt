@@ -1,6 +1,6 @@
 use Rattle.std.proofs.Common.{ℕ, ◌≡◌, ◌<◌, ◌≤◌, ◌/◌, true, List, length, rules, subst, refl, sym, inl, inr}
 use Rattle.std.proofs.lemmas.Bool.{cases_lt, both_ways}
-use Rattle.nor_plan.specs.declared.erase.Erase.{Erase}
+use Rattle.nor_driver.specs.declared.units.Erase.{Erase}
 use Rattle.nor_plan.specs.declared.set.SectorSet.{SectorSet}
 use Rattle.nor_plan.specs.SectorSet.{has}
 use Rattle.nor_plan.specs.Erase.{Covers}
