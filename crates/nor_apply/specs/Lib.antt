@@ -7,3 +7,5 @@ pub mod Erasing
 pub mod Programming
 pub mod Checking
 pub mod Protecting
+pub mod Applying
+pub mod Faults
