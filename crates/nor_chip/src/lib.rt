@@ -15,9 +15,9 @@ mod trace;
 
 pub use bus::{Bus, Meter, Stopped};
 pub use command::{Command, is_changing};
-pub use config::{Config, SECTOR_LEN, TINY64_SFDP, W25Q64FV_SFDP, W25Q128FV_SFDP};
+pub use config::{Config, TINY64_SFDP};
 pub use guard::walk::Offered;
-pub use guard::{Places, code_for, offered, protected};
+pub use guard::{Places, code_for, offered, protected, unit_protected};
 pub use running::Running;
 pub use sim::{Delays, SimBus, WrongLength};
 pub use status::{Status, Status1, Status2};

@@ -35,6 +35,24 @@ fn the_guarded_places_of_a_status(rt: HostRuntime) {
 }
 
 #[test]
+fn a_unit_with_some_guarded_place_is_protected(rt: HostRuntime) {
+    let last_sector = [0x44, 0x00];
+    assert!(rt; unit_protected(last_sector, MIB8, 0x7F_F000, 256));
+    assert!(rt; unit_protected(last_sector, MIB8, 0x7F_F000, 4096));
+    assert!(rt; unit_protected(last_sector, MIB8, 0x7F_8000, 32768));
+    assert!(rt; unit_protected(last_sector, MIB8, 0x7F_0000, 65536));
+    assert!(rt; unit_protected(last_sector, MIB8, 0, MIB8));
+    assert!(rt; !unit_protected(last_sector, MIB8, 0x7F_EF00, 256));
+    assert!(rt; !unit_protected(last_sector, MIB8, 0x7F_E000, 4096));
+    assert!(rt; !unit_protected(last_sector, MIB8, 0x7E_0000, 65536));
+    let all_but_the_last_sector = [0x44, 0x40];
+    assert!(rt; !unit_protected(all_but_the_last_sector, MIB8, 0x7F_F000, 4096));
+    assert!(rt; unit_protected(all_but_the_last_sector, MIB8, 0x7F_8000, 32768));
+    assert!(rt; !unit_protected([0x00, 0x00], MIB8, 0, MIB8));
+    assert!(rt; unit_protected([0x58, 0x00], MIB8, 0x40_0000, 256));
+}
+
+#[test]
 fn an_undefined_code_guards_all_places(rt: HostRuntime) {
     for status in [[0x58, 0x00], [0x78, 0x00], [0x58, 0x40], [0x78, 0x40]] {
         assert!(rt; guards(status, 0x00_0000, 0x7F_FFFF));
