@@ -17,3 +17,4 @@ pub mod Units
 pub mod Status
 pub mod Offer
 pub mod Offered
+pub mod Spoilt

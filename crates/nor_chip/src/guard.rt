@@ -18,11 +18,11 @@ pub(crate) mod walk;
 /// Codes of six bits: CMP, SEC, TB, BP2, BP1, BP0 from the high end.
 const CODES: u8 = 64;
 
-/// Places of a chip: so many from `start` on.
-#[derive(Clone, Copy, Debug, PartialEq, Eq)]
-pub struct Places {
-    pub start: u32,
-    pub len: u32,
+// Places of a chip: so many from `start` on.
+#[derive(Clone, Copy)]
+struct Places {
+    start: u32,
+    len: u32,
 }
 
 // The first places of the chip are named, not the last ones.
@@ -197,7 +197,7 @@ fn least_at(size: u32, code: u8) -> Option<Places>
 }
 
 /// The guarded sets that some defined code gives on a chip of this size, each once, in the order of their least
-/// codes. The empty set starts at 0. `size` is one that a chip may have. It takes no memory.
+/// codes: where it starts, and how many places it has. The empty set starts at 0. `size` is one that a chip may have. It takes no memory.
 pub fn offered(size: u32) -> Offered
     requires { IsTrue (is_chip_size size) }
     ensures { IsStart size result }

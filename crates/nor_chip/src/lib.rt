@@ -10,6 +10,7 @@ mod config;
 mod guard;
 mod running;
 mod sim;
+mod spoilt;
 mod status;
 mod trace;
 
@@ -17,8 +18,9 @@ pub use bus::{Bus, Meter, Stopped};
 pub use command::{Command, is_changing};
 pub use config::{Config, TINY64_SFDP};
 pub use guard::walk::Offered;
-pub use guard::{Places, code_for, offered, protected, unit_protected};
+pub use guard::{code_for, offered, protected, unit_protected};
 pub use running::Running;
 pub use sim::{Delays, SimBus, WrongLength};
+pub use spoilt::{Spoil, SpoiltBus};
 pub use status::{Status, Status1, Status2};
 pub use trace::TraceBus;
