@@ -2,7 +2,7 @@
 use Rattle.std.specs.Prelude.{◌≡◌, ◌<◌, ◌+◌, ◌*◌, ◌/◌, ◌%◌, ◌++◌, ◌==◌, ℕ, Bool, true, false, [], ◌∷◌, replicate, slice_index_or, if◌then◌else◌}
 use Rattle.nor_chip.specs.declared.config.Config.{Config}
 use Rattle.nor_chip.specs.declared.running.Running.{Running}
-use Rattle.nor_chip.specs.declared.config.TheConstants.{TINY64_SFDP}
+use Rattle.nor_chip.specs.Sfdp.{sfdp_of}
 
 -- A chip at a moment. Any values may stand together: a busy chip with its latch clear is a chip too.
 -- (W25Q64FV and W25Q128FV datasheets, status registers.)
@@ -53,7 +53,7 @@ pub record IsTiny64 (config : Config) : Type 0 where
   pub k64 : config.k64 ≡ true
   pub scheme : config.scheme ≡ false
   pub unique : config.unique ≡ replicate 8 0
-  pub sfdp : config.sfdp ≡ TINY64_SFDP ++ replicate 204 255
+  pub sfdp : config.sfdp ≡ sfdp_of 0xFF 0xFF 0x07 0x00 ++ replicate 204 255
 
 -- Two chips are the same: configuration, bytes and kept bits agree. Latch and `busy` are free.
 pub record IsSame (old new : Chip) : Type 0 where
