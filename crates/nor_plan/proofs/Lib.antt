@@ -8,6 +8,7 @@ pub mod Members
 pub mod Places
 pub mod PageSpans
 pub mod Planning
+pub mod Plans
 pub mod Tally
 pub mod Units
 pub mod Words

@@ -11,7 +11,7 @@ use crate::set::SectorSet;
 use nor_probe::Kinds;
 
 /// The erases of a set that are left, in rising order.
-#[derive(Clone, Drop)]
+#[derive(Drop)]
 pub struct Erases {
     set: SectorSet,
     kinds: Kinds,
