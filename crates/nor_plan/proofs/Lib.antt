@@ -3,6 +3,7 @@ pub mod Blocks
 pub mod Coverage
 pub mod Ends
 pub mod Fewest
+pub mod Loops
 pub mod Masks
 pub mod Members
 pub mod Places
