@@ -1,5 +1,5 @@
 -- Places that rise, one after the other.
-use Rattle.std.proofs.Common.{◌≡◌, ℕ, ◌<◌, ◌≤◌, false, true, ◌||◌, leb, ltb, List, [], ◌∷◌, refl, arith}
+use Rattle.std.proofs.Common.{◌≡◌, ℕ, ◌<◌, ◌≤◌, false, true, leb, List, [], ◌∷◌, refl, arith}
 use Rattle.std.proofs.lemmas.Bool.{le-leb, lt-leb, lt-ltb, le-ltb, and_from, and_left, and_right, or_from}
 use Rattle.nor_layout.specs.declared.places.Places.{Places}
 use Rattle.nor_layout.specs.Places.{covers, is_covered, AreRisingFrom}

@@ -1,5 +1,5 @@
 -- The parts of spans in a sector.
-use Rattle.std.proofs.Common.{◌≡◌, ℕ, ◌+◌, ◌-◌, ◌*◌, ◌/◌, ◌%◌, ◌<◌, ◌≤◌, ◌⊎◌, Bool, true, false, ◌||◌, cond, ltb, leb, List, [], ◌∷◌, Option, Some, None, MatchOption, refl, sym, ap, ◌∙◌, inl, inr, arith}
+use Rattle.std.proofs.Common.{◌≡◌, ℕ, ◌+◌, ◌-◌, ◌*◌, ◌/◌, ◌%◌, ◌<◌, ◌≤◌, ◌⊎◌, false, ◌||◌, cond, ltb, leb, List, [], ◌∷◌, Option, Some, None, MatchOption, refl, ap, ◌∙◌, inl, inr, arith}
 use Rattle.std.specs.List.{cons_option}
 use Rattle.std.specs.Prelude.{min, max}
 use Rattle.std.proofs.lemmas.Bool.{cases_Bool, ltb-true, ltb-false, leb-true, le-leb, lt-leb, lt-ltb, and_from, and_parts, and_left, and_right, or_parts, or_cases}
@@ -7,6 +7,7 @@ use Rattle.nor_layout.specs.declared.ranges.Span.{Span}
 use Rattle.nor_layout.specs.declared.places.Places.{Places}
 use Rattle.nor_layout.specs.Ranges.{holds, contains, IsApartFrom, AreApart}
 use Rattle.nor_layout.specs.Places.{covers, is_covered, part_of, parts_of, AreRisingFrom, AreIncludedIn}
+use Rattle.nor_layout.proofs.Below.{same_tests}
 
 -- these are the places of a span in a sector
 record IsPart (sector : ℕ) (span : Span) (part : Places) : Type 0 where
@@ -51,11 +52,6 @@ part_of-is sector span =
     ]
 
 -- ---- each place is in a part where its address is in a span
-
-same_tests : (p q : Bool) → (p ≡ true → q ≡ true) → (q ≡ true → p ≡ true) → p ≡ q
-same_tests true q to from = sym (to refl)
-same_tests false true to from = from refl
-same_tests false false to from = refl
 
 covers-part : (sector : ℕ) (span : Span) (part : Places) (at : ℕ) → at < 4096 → IsPart sector span part → covers part at ≡ holds span (4096 * sector + at)
 covers-part sector span part at lt is =

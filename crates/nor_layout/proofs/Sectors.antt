@@ -1,9 +1,12 @@
 -- What a set of spans has in a sector, and from an address on.
-use Rattle.std.proofs.Common.{◌≡◌, ℕ, ◌*◌, ◌/◌, ◌≤◌, Bool, true, ◌&&◌, leb, List, [], ◌∷◌, inl, inr, arith}
+use Rattle.std.proofs.Common.{◌≡◌, ℕ, ◌+◌, ◌*◌, ◌/◌, ◌%◌, ◌≤◌, Bool, true, ◌&&◌, leb, List, [], ◌∷◌, Option, None, refl, ap, ◌∙◌, inl, inr, arith}
+use Rattle.std.specs.Prelude.{MatchBool}
 use Rattle.std.specs.List.{list_any}
-use Rattle.std.proofs.lemmas.Bool.{cases_lt, leb-true, le-leb, and_from, and_parts, or_left, or_right, or_cases}
+use Rattle.std.proofs.lemmas.Bool.{cases_Bool, cases_lt, both_ways, leb-true, le-leb, and_from, and_parts, or_left, or_right, or_cases}
 use Rattle.nor_layout.specs.declared.ranges.Span.{Span}
-use Rattle.nor_layout.specs.Ranges.{holds, contains, AreApart, HoldsInSector, HoldsFrom}
+use Rattle.nor_layout.specs.Ranges.{holds, contains, AreApart}
+use Rattle.nor_layout.specs.Sectors.{includes, sectors_included, SomeInSector, NoneInSector, has_in_sector, ReachesTo, EndsBelow}
+use Rattle.nor_layout.proofs.Below.{same_tests, any_below-some, any_below-found, any_below-cases, count_below-all, count_below-most}
 
 -- ---- from an address on
 
@@ -13,7 +16,7 @@ ends_from size span = leb size span.last
 last_holds : (span : Span) → span.first ≤ span.last → holds span span.last ≡ true
 last_holds span forward = and_from _ _ (le-leb span.first span.last forward) (le-leb span.last span.last (omega arith))
 
-pub from_ends : (spans : List Span) (size : ℕ) → AreApart spans → list_any (ends_from size) spans ≡ true → HoldsFrom spans size
+from_ends : (spans : List Span) (size : ℕ) → AreApart spans → list_any (ends_from size) spans ≡ true → ReachesTo (contains spans) size
 from_ends [] size apart h = absurd cc
 from_ends (span ∷ spans) size apart h =
     elim (or_cases (ends_from size span) (list_any (ends_from size) spans) h) [
@@ -21,7 +24,7 @@ from_ends (span ∷ spans) size apart h =
       | inr later ↦ let rest = from_ends spans size apart.2 later in (rest.0, rest.1, or_right (holds span rest.0) _ rest.2)
     ]
 
-pub ends_from-holds : (spans : List Span) (size : ℕ) → HoldsFrom spans size → list_any (ends_from size) spans ≡ true
+ends_from-holds : (spans : List Span) (size : ℕ) → ReachesTo (contains spans) size → list_any (ends_from size) spans ≡ true
 ends_from-holds [] size h = absurd (let e = h.2 in cc)
 ends_from-holds (span ∷ spans) size h =
     elim (or_cases (holds span h.0) (contains spans h.0) h.2) [
@@ -29,7 +32,23 @@ ends_from-holds (span ∷ spans) size h =
       | inr later ↦ or_right (ends_from size span) _ (ends_from-holds spans size (h.0, h.1, later))
     ]
 
+-- one ends from the size on, or each address is below it
+pub size_cases : (spans : List Span) (size : ℕ) → AreApart spans → MatchBool (list_any (ends_from size) spans) (ReachesTo (contains spans) size) (EndsBelow (contains spans) size)
+size_cases spans size apart =
+    elim (cases_Bool (list_any (ends_from size) spans)) [
+      | inl some ↦ rw some (from_ends spans size apart some)
+      | inr none ↦ rw none (λ address member.
+          elim (cases_lt address size) [
+            | inl below ↦ below
+            | inr from ↦ absurd (both_ways _ none (ends_from-holds spans size (address, from, member)))
+          ])
+    ]
+
 -- ---- in a sector
+
+-- some address of the set has this sector's number
+abbrev HoldsInSector : List Span → ℕ → Type 0
+HoldsInSector spans sector = (address : ℕ) × (address / 4096 ≡ sector) × (contains spans address ≡ true)
 
 abbrev pub is_in_sector : ℕ → Span → Bool
 is_in_sector sector span = leb (span.first / 4096) sector && leb sector (span.last / 4096)
@@ -44,7 +63,7 @@ common span sector forward h =
       | inr ge ↦ (span.first, omega arith, and_from _ _ (le-leb span.first span.first (omega arith)) (le-leb span.first span.last forward))
     ]
 
-pub holds_in_sector : (spans : List Span) (sector : ℕ) → AreApart spans → list_any (is_in_sector sector) spans ≡ true → HoldsInSector spans sector
+holds_in_sector : (spans : List Span) (sector : ℕ) → AreApart spans → list_any (is_in_sector sector) spans ≡ true → HoldsInSector spans sector
 holds_in_sector [] sector apart h = absurd cc
 holds_in_sector (span ∷ spans) sector apart h =
     elim (or_cases (is_in_sector sector span) (list_any (is_in_sector sector) spans) h) [
@@ -52,7 +71,7 @@ holds_in_sector (span ∷ spans) sector apart h =
       | inr later ↦ let rest = holds_in_sector spans sector apart.2 later in (rest.0, rest.1, or_right (holds span rest.0) _ rest.2)
     ]
 
-pub is_in_sector-holds : (spans : List Span) (sector : ℕ) → HoldsInSector spans sector → list_any (is_in_sector sector) spans ≡ true
+is_in_sector-holds : (spans : List Span) (sector : ℕ) → HoldsInSector spans sector → list_any (is_in_sector sector) spans ≡ true
 is_in_sector-holds [] sector h = absurd (let e = h.2 in cc)
 is_in_sector-holds (span ∷ spans) sector h =
     elim (or_cases (holds span h.0) (contains spans h.0) h.2) [
@@ -62,3 +81,30 @@ is_in_sector-holds (span ∷ spans) sector h =
           or_left _ _ (and_from _ _ (le-leb (span.first / 4096) sector (omega (arith, h.1))) (le-leb sector (span.last / 4096) (omega (arith, h.1))))
       | inr later ↦ or_right (is_in_sector sector span) _ (is_in_sector-holds spans sector (h.0, h.1, later))
     ]
+
+-- the spans have an address in the sector exactly where a place of it has one
+pub in_sector-is : (spans : List Span) (sector : ℕ) → AreApart spans → list_any (is_in_sector sector) spans ≡ has_in_sector (contains spans) sector
+in_sector-is spans sector apart =
+    same_tests (list_any (is_in_sector sector) spans) (has_in_sector (contains spans) sector)
+    (λ yes.
+    let h = holds_in_sector spans sector apart yes in
+    let place : 4096 * sector + h.0 % 4096 ≡ h.0 = omega (arith, h.1) in
+    any_below-some 4096 (h.0 % 4096) (λ i. contains spans (4096 * sector + i)) (omega arith) (ap (contains spans) place ∙ h.2))
+    (λ yes.
+    let h = any_below-found 4096 (λ i. contains spans (4096 * sector + i)) yes in
+    is_in_sector-holds spans sector (4096 * sector + h.0, omega (arith, h.1), h.2))
+
+-- some address of the sector belongs to a set, or none does
+pub sector_cases : (set : ℕ → Bool) (sector : ℕ) → MatchBool (has_in_sector set sector) (SomeInSector set sector) (NoneInSector set sector)
+sector_cases set sector = any_below-cases 4096 (λ i. set (4096 * sector + i))
+
+-- ---- how many sectors are included
+
+pub sectors_included-most : (included : Option (List Span)) (size : ℕ) → sectors_included included size ≤ size / 4096
+sectors_included-most included size = count_below-most (size / 4096) (has_in_sector (includes included))
+
+-- without ranges all of them
+pub sectors_included-whole : (size : ℕ) → sectors_included None size ≡ size / 4096
+sectors_included-whole size =
+    count_below-all (size / 4096) (has_in_sector (includes None)) (λ sector below.
+    any_below-some 4096 0 (λ i. includes None (4096 * sector + i)) (omega arith) refl)

@@ -11,11 +11,9 @@ use Rattle.std.proofs.lemmas.Slice.Eq.{bytes_eq-Decides}
 use Rattle.nor_layout.specs.declared.region.Region.{Region}
 use Rattle.nor_layout.specs.declared.fault.LineFault.{LineFault}
 use Rattle.nor_layout.specs.declared.fault.LayoutFault.{LayoutFault}
-use Rattle.nor_layout.specs.declared.fault.LayoutFault.TheVariants.{InLine, TooMany, Memory, NoRegion}
 use Rattle.nor_layout.specs.Address.{address_of}
 use Rattle.nor_layout.specs.Line.{Parts, parts_of, is_name, region_of, parts_say, line_says}
-use Rattle.nor_layout.specs.Text.{◌>>=◌, lines_of, is_named, joins, joins_or_fault, with_line, lines_say, layout_says, AreNamedApart, AreRegions, Reads}
-use Rattle.nor_layout.specs.Steps.{Adds}
+use Rattle.nor_layout.specs.Text.{◌>>=◌, lines_of, is_named, joins, joins_or_fault, with_line, lines_say, layout_says, AreNamedApart, AreRegions}
 
 -- ---- what a line adds
 

@@ -1,5 +1,5 @@
 -- Sets of addresses, as spans.
-use Rattle.std.specs.Prelude.{◌≡◌, ℕ, ◌+◌, ◌/◌, ◌<◌, ◌≤◌, Bool, true, ◌&&◌, nat_le, List, [], ◌∷◌, length}
+use Rattle.std.specs.Prelude.{ℕ, ◌+◌, ◌<◌, ◌≤◌, Bool, ◌&&◌, nat_le, List, [], ◌∷◌, length}
 use Rattle.std.specs.List.{list_any}
 use Rattle.nor_layout.specs.declared.ranges.Span.{Span}
 
@@ -25,11 +25,3 @@ AreApart (span ∷ spans) = (span.first ≤ span.last) × IsApartFrom span spans
 pub record AreRanges (spans : List Span) : Type 0 where
   pub few : length spans ≤ 64
   pub apart : AreApart spans
-
--- some address of the sector belongs to the set
-abbrev pub HoldsInSector : List Span → ℕ → Type 0
-HoldsInSector spans sector = (address : ℕ) × (address / 4096 ≡ sector) × (contains spans address ≡ true)
-
--- some address from the size on belongs to the set
-abbrev pub HoldsFrom : List Span → ℕ → Type 0
-HoldsFrom spans size = (address : ℕ) × (size ≤ address) × (contains spans address ≡ true)

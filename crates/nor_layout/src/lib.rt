@@ -7,6 +7,7 @@
 
 mod address;
 mod fault;
+mod included;
 mod layout;
 mod line;
 mod merge;
@@ -17,6 +18,7 @@ mod region;
 mod tests;
 
 pub use fault::{LayoutFault, LineFault};
+pub use included::{blank_excluded, fill_excluded, includes, includes_in_sector, reaches_past};
 pub use layout::Layout;
 pub use places::{Places, PlacesIn, SECTOR};
 pub use ranges::{Ranges, Span};

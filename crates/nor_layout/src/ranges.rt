@@ -1,7 +1,8 @@
 //! Sets of addresses, as a few sorted spans.
 
-ghost use Rattle.std.specs.Prelude.{◌≡◌, ◌≤◌, ◌<◌, ◌+◌, ◌↔◌, ◌||◌, ◌*◌, ℕ, IsTrue, length, nat_lt, [], slice_index, if◌then◌else◌};
-ghost use Rattle.nor_layout.specs.Ranges.{holds, contains, AreApart, AreRanges, HoldsInSector, HoldsFrom};
+ghost use Rattle.std.specs.Prelude.{◌≡◌, ◌≤◌, ◌<◌, ◌+◌, ◌||◌, ◌*◌, ℕ, MatchBool, length, nat_lt, [], slice_index, if◌then◌else◌};
+ghost use Rattle.nor_layout.specs.Ranges.{holds, contains, AreApart, AreRanges};
+ghost use Rattle.nor_layout.specs.Sectors.{SomeInSector, NoneInSector, has_in_sector, ReachesTo, EndsBelow};
 ghost use Rattle.nor_layout.specs.Places.{AreIncludedIn, places_left};
 ghost use Rattle.nor_layout.specs.Steps.{join};
 
@@ -127,14 +128,17 @@ impl Ranges {
 
     /// Whether some address of a sector belongs to the set; sectors are counted from 0.
     pub fn has_in_sector(&self, sector: u32) -> bool
-        ensures { IsTrue result ↔ HoldsInSector self.now sector }
+        ensures test { result ≡ has_in_sector (contains self.now) sector }
+        ensures cases { MatchBool result
+            (SomeInSector (contains self.now) sector) (NoneInSector (contains self.now) sector) }
     {
         self.spans.iter().any(|span| span.first / SECTOR <= sector && sector <= span.last / SECTOR)
     }
 
     /// Whether some address from `size` on belongs to the set.
     pub fn reaches(&self, size: u32) -> bool
-        ensures { IsTrue result ↔ HoldsFrom self.now size }
+        ensures { MatchBool result
+            (ReachesTo (contains self.now) size) (EndsBelow (contains self.now) size) }
     {
         self.spans.iter().any(|span| size <= span.last)
     }

@@ -12,7 +12,7 @@ fn span(first: u32, last: u32) -> Span {
 }
 
 /// Asserts which spans the names of a layout include.
-fn includes(rt: &impl Abort, layout: &Layout, names: &str, want: &[Span]) {
+fn assert_spans(rt: &impl Abort, layout: &Layout, names: &str, want: &[Span]) {
     let included = layout.include(names).expect(rt, "the names are known");
     assert_eq!(rt; included.spans(), want, "{names}");
 }
@@ -48,10 +48,10 @@ fn many_names(alloc: Global, count: u8) -> Result<String, AllocError> {
 #[test]
 fn names_include_their_addresses(rt: HostRuntime) -> Result<(), Fail> {
     let layout = Layout::read(rt.alloc(), THREE)?;
-    includes(&rt, &layout, "b,a", &[span(0, 0x17ff)]);
-    includes(&rt, &layout, "c,c", &[span(0x1800, 0x1fff)]);
-    includes(&rt, &layout, "c,a", &[span(0, 0xfff), span(0x1800, 0x1fff)]);
-    includes(&rt, &layout, "c,a,b", &[span(0, 0x1fff)]);
+    assert_spans(&rt, &layout, "b,a", &[span(0, 0x17ff)]);
+    assert_spans(&rt, &layout, "c,c", &[span(0x1800, 0x1fff)]);
+    assert_spans(&rt, &layout, "c,a", &[span(0, 0xfff), span(0x1800, 0x1fff)]);
+    assert_spans(&rt, &layout, "c,a,b", &[span(0, 0x1fff)]);
     Ok(())
 }
 
@@ -60,13 +60,13 @@ fn spans_are_kept_apart_at_the_last_address(rt: HostRuntime) -> Result<(), Fail>
     let text = b"FFFFFFFE:ffffffff high\n0:0 low\n2:2 next\n0:ffffffff all";
     let layout = Layout::read(rt.alloc(), text)?;
     let high = span(0xffff_fffe, 0xffff_ffff);
-    includes(
+    assert_spans(
         &rt,
         &layout,
         "high,next,low",
         &[span(0, 0), span(2, 2), high],
     );
-    includes(&rt, &layout, "low,all,high", &[span(0, 0xffff_ffff)]);
+    assert_spans(&rt, &layout, "low,all,high", &[span(0, 0xffff_ffff)]);
     Ok(())
 }
 
@@ -214,6 +214,42 @@ fn excluded_bytes_come_from_the_other_copy(rt: HostRuntime) -> Result<(), Fail> 
     assert_eq!(rt; &bytes[..6], [2, 2, 1, 1, 2, 2].as_slice());
     assert_eq!(rt; &bytes[4092..], [2, 2, 1, 1].as_slice());
     assert_eq!(rt; bytes.iter().filter(|b| **b == 1).count(), 4);
+    Ok(())
+}
+
+#[test]
+fn ranges_or_the_whole_chip_are_included(rt: HostRuntime) -> Result<(), Fail> {
+    let layout = Layout::read(rt.alloc(), b"1002:1003 a\n1ffe:2000 b\n")?;
+    let ranges = layout.include("a,b")?;
+    let some = Some(&ranges);
+    for (address, want) in [(0x1001, false), (0x1002, true), (0x2000, true)] {
+        assert_eq!(rt; includes(some, address), want, "{address}");
+        assert!(rt; includes(None, address));
+    }
+    for (sector, want) in [(0, false), (1, true), (2, true), (3, false)] {
+        assert_eq!(rt; includes_in_sector(some, sector), want, "{sector}");
+        assert!(rt; includes_in_sector(None, sector));
+    }
+    for (size, want) in [(0x2000, true), (0x2001, false)] {
+        assert_eq!(rt; reaches_past(some, size), want, "{size}");
+        assert!(rt; !reaches_past(None, size));
+    }
+    Ok(())
+}
+
+#[test]
+fn excluded_bytes_are_filled_or_blank(rt: HostRuntime) -> Result<(), Fail> {
+    let layout = Layout::read(rt.alloc(), b"1002:1003 a\n1ffe:2000 b\n")?;
+    let ranges = layout.include("a,b")?;
+    let mut bytes = [1; 4096];
+    blank_excluded(None, 1, &mut bytes);
+    fill_excluded(None, 1, &mut bytes, &[2; 4096]);
+    assert!(rt; bytes.iter().all(|b| *b == 1));
+    fill_excluded(Some(&ranges), 1, &mut bytes, &[2; 4096]);
+    assert_eq!(rt; &bytes[..6], [2, 2, 1, 1, 2, 2].as_slice());
+    blank_excluded(Some(&ranges), 1, &mut bytes);
+    assert_eq!(rt; &bytes[..6], [0xFF, 0xFF, 1, 1, 0xFF, 0xFF].as_slice());
+    assert_eq!(rt; &bytes[4092..], [0xFF, 0xFF, 1, 1].as_slice());
     Ok(())
 }
 

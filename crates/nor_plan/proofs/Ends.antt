@@ -1,15 +1,18 @@
 -- From the spans of the pages, as they are defined, to what they tell.
-use Rattle.std.proofs.Common.{ℕ, zero, suc, ◌≡◌, ◌<◌, ◌≤◌, ◌+◌, ◌-◌, ◌*◌, ◌/◌, ◌⊎◌, min, Bool, true, false, List, [], ◌∷◌, All, Option, Some, None, length, subst, refl, sym, ap, ◌∙◌, inl, inr, arith}
-use Rattle.std.specs.Prelude.{Any, AllPairs, MatchOption}
-use Rattle.std.specs.List.{cons_option}
-use Rattle.std.proofs.lemmas.Bool.{cases_eq, cases_Bool, both_ways}
+use Rattle.std.proofs.Common.{ℕ, zero, suc, ◌≡◌, ◌<◌, ◌≤◌, ◌+◌, ◌-◌, ◌*◌, ◌/◌, ◌⊎◌, min, Bool, true, false, ◌&&◌, leb, get_or, List, [], ◌∷◌, All, Option, Some, None, length, subst, refl, sym, ap, ◌∙◌, inl, inr, arith}
+use Rattle.std.specs.Prelude.{Any, AllPairs, MatchOption, is_some, count_by}
+use Rattle.std.specs.List.{cons_option, range_with_len}
+use Rattle.std.proofs.lemmas.Bool.{cases_eq, cases_Bool, both_ways, and_from, le-leb}
+use Rattle.std.proofs.lemmas.List.Folds.{list_any_at}
+use Rattle.std.proofs.lemmas.List.FromFn.{length-range_with_len}
+use Rattle.std.proofs.lemmas.List.Sums.{count_by-le-length}
 use Rattle.std.proofs.lemmas.List.Elements.{All-nil, All-cons, All-weaker}
 use Rattle.std.proofs.lemmas.List.Kept.{AllPairs-cons}
 use Rattle.nor_plan.specs.declared.page.Span.{Span}
 use Rattle.nor_plan.specs.Bytes.{DifferAt}
-use Rattle.nor_plan.specs.Span.{ends, page_span, spans_from, pages_of}
-use Rattle.nor_plan.specs.SpanFacts.{IsSpan, AreSpans}
-use Rattle.nor_plan.proofs.Places.{passing, passing-none, ends-passing}
+use Rattle.nor_plan.specs.Span.{ends, page_span, page_differs, pages_changed, spans_from, pages_of}
+use Rattle.nor_plan.specs.SpanFacts.{IsSpan, AreSpans, spanned_by}
+use Rattle.nor_plan.proofs.Places.{passing, passing-none, ends-passing, is_some-ends, length-filter_map}
 use Rattle.nor_plan.proofs.Masks.{other_from_test}
 use Rattle.nor_plan.proofs.PageSpans.{other, test-other, spans_from-end, spans_from-step}
 
@@ -208,6 +211,33 @@ tell_from old target (suc left) page all =
     (tell_step old target page (page_span old target page) (spans_from old target (page + 1))
     (page_tells old target page) (tell_from old target left (page + 1) (omega arith)))
 
+-- a place that no span holds is one at which the bytes agree
+others_agree : (old target : List ℕ) (spans : List Span) → ((k : ℕ) → DifferAt old target k → Any (λ s. (s.first ≤ k) × (k ≤ s.last)) spans) → (k : ℕ) → k < length old → spanned_by spans k ≡ false → get_or old k 0 ≡ get_or target k 0
+others_agree old target spans complete k within outside =
+    elim (cases_eq (get_or old k 0) (get_or target k 0)) [
+      | inl same ↦ same
+      | inr other ↦
+          let found = complete k (within, other) in
+          let holds = found.4 in
+          let inside : (leb (get_or spans found.0 found.1).first k && leb k (get_or spans found.0 found.1).last) ≡ true =
+          ap (λ s. leb s.first k && leb k s.last) found.3 ∙ and_from _ _ (le-leb _ _ holds.0) (le-leb _ _ holds.1) in
+          absurd (both_ways _ outside (list_any_at (λ s. leb s.first k && leb k s.last) spans found.0 found.1 found.2 inside))
+    ]
+
+-- as many spans as pages that differ
+count_pages : (old target : List ℕ) (start : ℕ) → start ≡ 0 → length (spans_from old target start) ≡ pages_changed old target
+count_pages old target start first =
+    let all : pages_of old - start ≡ pages_of old = omega arith in
+    let each : (λ page. is_some (page_span old target page)) ≡ page_differs old target =
+    λ i page. is_some-ends (other old target) (page * 256) (min 256 (length old - page * 256)) i in
+    length-filter_map (page_span old target) start (pages_of old - start)
+    ∙ ap (λ n. count_by (λ page. is_some (page_span old target page)) (range_with_len start n)) all
+    ∙ ap (λ n. count_by (λ page. is_some (page_span old target page)) (range_with_len n (pages_of old))) first
+    ∙ ap (λ test. count_by test (range_with_len 0 (pages_of old))) each
+
+pub pages_changed-most : (old target : List ℕ) → pages_changed old target ≤ pages_of old
+pages_changed-most old target = omega (arith, count_by-le-length (page_differs old target) (range_with_len 0 (pages_of old)), length-range_with_len 0 (pages_of old))
+
 pub spans_from-AreSpans : (old target : List ℕ) (start : ℕ) → start ≡ 0 → AreSpans old target (spans_from old target start)
 spans_from-AreSpans old target start first =
     let told = tell_from old target (pages_of old - start) start (omega arith) in
@@ -215,4 +245,6 @@ spans_from-AreSpans old target start first =
       each = All-weaker (SpanFrom old target start) (IsSpan old target) (λ s is. is.0) (spans_from old target start) told.each;
       complete = λ k differ. told.complete k (omega arith) differ;
       rising = told.rising;
+      others = others_agree old target (spans_from old target start) (λ k differ. told.complete k (omega arith) differ);
+      count = count_pages old target start first;
     }

@@ -8,12 +8,14 @@ use Rattle.std.proofs.lemmas.List.{length-map}
 use Rattle.std.proofs.lemmas.List.Folds.{list_any_at}
 use Rattle.nor_probe.specs.declared.sfdp.Kinds.{Kinds}
 use Rattle.nor_driver.specs.declared.units.Erase.{Erase}
+use Rattle.nor_plan.specs.declared.set.SectorSet.{SectorSet}
+use Rattle.nor_plan.specs.SectorSet.{has, members_from}
 use Rattle.nor_driver.specs.declared.units.EraseUnit.{EraseUnit}
 use Rattle.nor_driver.specs.declared.units.EraseUnit.TheVariants.{Sector, Block32, Block64, Chip}
 use Rattle.nor_driver.specs.Units.{sectors_in, is_aligned, erases_sector}
 use Rattle.nor_plan.specs.Erase.{is_offered, IsErase, Covers}
 use Rattle.nor_plan.specs.Planned.{holds_block, begins_unit, erase_at, planned_from}
-use Rattle.nor_plan.proofs.Places.{passing, All-passing}
+use Rattle.nor_plan.proofs.Places.{passing, All-passing, length-passing-implied}
 use Rattle.nor_plan.proofs.Tally.{tally, tally-implied, tally-all, tally-once, tally-cover}
 use Rattle.nor_plan.proofs.Units.{holds_run-from, unit_cases}
 use Rattle.nor_plan.proofs.Coverage.{IsPlannable, begins_in, begins_aligned}
@@ -92,3 +94,11 @@ planned_fewest whole kinds total set can from others covers =
     let few : tally (λ q. list_any (erases_sector total q) others) starts ≤ length others =
     tally-cover (erases_sector total) starts others (holds_one whole kinds total set can from (4096 - from) others covers) in
     omega arith
+
+-- each erase begins at a sector of its own
+pub planned_few : (whole : Bool) (kinds : Kinds) (set : SectorSet) (from : ℕ) → length (planned_from whole kinds (has set) from) ≤ length (members_from set from)
+unfolding planned_from members_from
+planned_few whole kinds set from =
+    let count : length (map (erase_at whole kinds (has set)) (passing (begins_unit whole kinds (has set)) from (4096 - from))) ≡ length (passing (begins_unit whole kinds (has set)) from (4096 - from)) =
+    length-map (passing (begins_unit whole kinds (has set)) from (4096 - from)) (erase_at whole kinds (has set)) in
+    omega (arith, length-passing-implied (begins_unit whole kinds (has set)) (has set) from (4096 - from) (begins_in whole kinds (has set)))

@@ -3,11 +3,13 @@ pub mod Blocks
 pub mod Coverage
 pub mod Ends
 pub mod Fewest
+pub mod Loops
 pub mod Masks
 pub mod Members
 pub mod Places
 pub mod PageSpans
 pub mod Planning
+pub mod Plans
 pub mod Tally
 pub mod Units
 pub mod Words

@@ -1,8 +1,13 @@
 -- The members of a set, one after the other.
-use Rattle.std.proofs.Common.{ℕ, ◌≡◌, ◌≤◌, ◌+◌, ◌-◌, [], ◌∷◌, length, ap, ◌∙◌, arith}
+use Rattle.std.proofs.Common.{ℕ, ◌≡◌, ◌<◌, ◌≤◌, ◌+◌, ◌-◌, true, [], ◌∷◌, length, ap, ◌∙◌, inl, inr, arith}
+use Rattle.std.specs.Prelude.{count_by}
+use Rattle.std.specs.List.{range_with_len}
+use Rattle.std.proofs.lemmas.Bool.{cases_lt, both_ways}
+use Rattle.std.proofs.lemmas.List.Sums.{length-filter}
 use Rattle.nor_plan.specs.declared.set.SectorSet.{SectorSet}
-use Rattle.nor_plan.specs.SectorSet.{has, members_from, NoneFrom, IsLeastFrom}
-use Rattle.nor_plan.proofs.Places.{passing, passing-none, passing-first, length-passing}
+use Rattle.nor_plan.specs.SectorSet.{has, members_from, LiesBelow, NoneFrom, IsLeastFrom}
+use Rattle.nor_plan.proofs.Places.{passing, passing-none, passing-first, passing-same, length-passing}
+use Rattle.nor_plan.proofs.Words.{none_past}
 
 pub members_from-end : (set : SectorSet) (from : ℕ) → NoneFrom set from → members_from set from ≡ []
 unfolding members_from
@@ -22,3 +27,20 @@ pub ruleset member_steps = (members_from-end, members_from-least)
 pub length-members : (set : SectorSet) (from : ℕ) → length (members_from set from) ≤ 4096
 unfolding members_from
 length-members set from = omega (arith, length-passing (has set) from (4096 - from))
+
+-- the sectors of a set are few, since its words are
+pub has-small : (set : SectorSet) → length set.words ≡ 64 → (s : ℕ) → has set s ≡ true → s < 4096
+unfolding has
+has-small set long s member = elim (cases_lt s 4096) [
+  | inl small ↦ small
+  | inr past ↦ absurd (both_ways _ (none_past set.words long s past) member)
+]
+
+-- they are as many as are counted below any number that none of them reaches
+pub length-members-below : (set : SectorSet) → length set.words ≡ 64 → (from end : ℕ) → from ≡ 0 → LiesBelow set end → length (members_from set from) ≡ count_by (has set) (range_with_len from end)
+unfolding members_from
+length-members-below set long from end start below =
+    ap length (passing-same (has set) from (4096 - from) end
+    (λ s member. let small : s < 4096 = has-small set long s member in omega arith)
+    (λ s member. let under : s < end = below s member in omega arith))
+    ∙ length-filter (has set) (range_with_len from end)

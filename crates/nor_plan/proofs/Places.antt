@@ -1,8 +1,11 @@
 -- The first and the last of the places in a range that pass a test.
-use Rattle.std.proofs.Common.{ℕ, zero, suc, ◌≡◌, ◌<◌, ◌≤◌, ◌+◌, ◌-◌, Bool, ◌||◌, All, map, subst, true, false, cond, List, [], ◌∷◌, Option, Some, length, filter, refl, sym, ap, ◌∙◌, inl, inr, arith}
-use Rattle.std.specs.List.{range_with_len, list_any}
+use Rattle.std.proofs.Common.{ℕ, zero, suc, ◌≡◌, ◌<◌, ◌≤◌, ◌+◌, ◌-◌, Bool, ◌||◌, All, map, subst, true, false, cond, List, [], ◌∷◌, ◌++◌, Option, Some, None, length, filter, refl, sym, ap, ◌∙◌, inl, inr, arith}
+use Rattle.std.specs.Prelude.{is_some, count_by}
+use Rattle.std.specs.List.{cons_option, filter_map, range_with_len, list_any}
 use Rattle.std.proofs.lemmas.Bool.{cases_lt, cases_eq, cases_Bool}
+use Rattle.std.proofs.lemmas.List.{append-nil}
 use Rattle.std.proofs.lemmas.List.Elements.{All-nil, All-cons}
+use Rattle.std.proofs.lemmas.List.Sums.{sum_by-cons}
 use Rattle.nor_plan.specs.declared.page.Span.{Span}
 use Rattle.nor_plan.specs.Span.{last_of, ends}
 
@@ -119,3 +122,87 @@ list_any-passing p f test from (suc count) k low high passes here =
     or_right : (b : Bool) → (b || true) ≡ true
     or_right true = refl
     or_right false = refl
+
+-- the places of two ranges in a row
+passing-append : (test : ℕ → Bool) (from a b : ℕ) → passing test from (a + b) ≡ passing test from a ++ passing test (from + a) b
+passing-append test from zero b =
+    let same : zero + b ≡ b = omega arith in
+    let start : from ≡ from + zero = omega arith in
+    ap (passing test from) same ∙ ap (λ k. passing test k b) start
+passing-append test from (suc a) b =
+    let more : suc a + b ≡ suc (a + b) = omega arith in
+    let later : (from + 1) + a ≡ from + suc a = omega arith in
+    let rest : passing test (from + 1) (a + b) ≡ passing test (from + 1) a ++ passing test (from + suc a) b =
+    passing-append test (from + 1) a b ∙ ap (λ k. passing test (from + 1) a ++ passing test k b) later in
+    ap (passing test from) more ∙ elim (cases_Bool (test from)) [
+      | inl passes ↦ passing-true test from (a + b) passes ∙ ap (λ ks. from ∷ ks) rest ∙ ap (λ ks. ks ++ passing test (from + suc a) b) (sym (passing-true test from a passes))
+      | inr fails ↦ passing-false test from (a + b) fails ∙ rest ∙ ap (λ ks. ks ++ passing test (from + suc a) b) (sym (passing-false test from a fails))
+    ]
+
+-- a longer range adds nothing where none of its further places passes
+passing-longer : (test : ℕ → Bool) (from a b : ℕ) → a ≤ b → ((k : ℕ) → from + a ≤ k → k < from + b → test k ≡ false) → passing test from b ≡ passing test from a
+passing-longer test from a b shorter none =
+    let sum : b ≡ a + (b - a) = omega arith in
+    let past : passing test (from + a) (b - a) ≡ [] = passing-none test (from + a) (b - a) (λ k low high. none k low (omega arith)) in
+    ap (passing test from) sum ∙ passing-append test from a (b - a)
+    ∙ ap (λ ks. passing test from a ++ ks) past ∙ append-nil (passing test from a)
+
+-- ranges that both reach past all that pass
+pub passing-same : (test : ℕ → Bool) (from a b : ℕ) → ((k : ℕ) → test k ≡ true → k < from + a) → ((k : ℕ) → test k ≡ true → k < from + b) → passing test from a ≡ passing test from b
+passing-same test from a b below_a below_b =
+    elim (cases_lt a b) [
+      | inl shorter ↦ sym (passing-longer test from a b (omega arith) (λ k past high. fails k (omega (arith, past)) below_a))
+      | inr longer ↦ passing-longer test from b a longer (λ k past high. fails k (omega (arith, past)) below_b)
+    ]
+  where
+    fails : {end : ℕ} (k : ℕ) → end ≤ k → ((j : ℕ) → test j ≡ true → j < end) → test k ≡ false
+    fails {end} k past below =
+        elim (cases_Bool (test k)) [
+          | inl passes ↦ absurd (let before : k < end = below k passes in omega arith)
+          | inr not ↦ not
+        ]
+
+-- what passes one test passes the other
+pub length-passing-implied : (p q : ℕ → Bool) (from count : ℕ) → ((k : ℕ) → p k ≡ true → q k ≡ true) → length (passing p from count) ≤ length (passing q from count)
+length-passing-implied p q from zero implied = omega arith
+length-passing-implied p q from (suc count) implied =
+    let rest : length (passing p (from + 1) count) ≤ length (passing q (from + 1) count) = length-passing-implied p q (from + 1) count implied in
+    elim (cases_Bool (p from)) [
+      | inl here ↦
+          let fewer : length (passing p from (suc count)) ≡ suc (length (passing p (from + 1) count)) = ap length (passing-true p from count here) in
+          let more : length (passing q from (suc count)) ≡ suc (length (passing q (from + 1) count)) = ap length (passing-true q from count (implied from here)) in
+          omega arith
+      | inr not_here ↦
+          let fewer : length (passing p from (suc count)) ≡ length (passing p (from + 1) count) = ap length (passing-false p from count not_here) in
+          elim (cases_Bool (q from)) [
+            | inl also ↦
+                let more : length (passing q from (suc count)) ≡ suc (length (passing q (from + 1) count)) = ap length (passing-true q from count also) in
+                omega arith
+            | inr neither ↦
+                let same : length (passing q from (suc count)) ≡ length (passing q (from + 1) count) = ap length (passing-false q from count neither) in
+                omega arith
+          ]
+    ]
+
+-- a range has an end exactly where some place passes
+pub is_some-ends : (test : ℕ → Bool) (from count : ℕ) → is_some (ends (passing test from count)) ≡ list_any test (range_with_len from count)
+is_some-ends test from zero = refl
+is_some-ends test from (suc count) =
+    elim (cases_Bool (test from)) [
+      | inl passes ↦ ap (λ ks. is_some (ends ks)) (passing-true test from count passes) ∙ sym (ap (λ b. b || list_any test (range_with_len (from + 1) count)) passes)
+      | inr fails ↦
+          ap (λ ks. is_some (ends ks)) (passing-false test from count fails) ∙ is_some-ends test (from + 1) count
+          ∙ sym (ap (λ b. b || list_any test (range_with_len (from + 1) count)) fails)
+    ]
+
+-- how many places have a value
+pub length-filter_map : {X : Type 0} (f : ℕ → Option X) (from count : ℕ) → length (filter_map f (range_with_len from count)) ≡ count_by (λ k. is_some (f k)) (range_with_len from count)
+length-filter_map f from zero = refl
+length-filter_map f from (suc count) =
+    one (f from) (filter_map f (range_with_len (from + 1) count))
+    ∙ ap (λ n. cond (is_some (f from)) 1 0 + n) (length-filter_map f (from + 1) count)
+    ∙ sym (sum_by-cons (λ k. cond (is_some (f k)) 1 0) from (range_with_len (from + 1) count))
+  where
+    one : {X : Type 0} (o : Option X) (xs : List X) → length (cons_option o xs) ≡ cond (is_some o) 1 0 + length xs
+    one None xs = omega arith
+    one (Some x) xs = omega arith

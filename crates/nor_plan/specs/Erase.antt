@@ -20,8 +20,12 @@ pub record IsErase (kinds : Kinds) (total : ℕ) (erase : Erase) : Type 0 where
   pub aligned : is_aligned erase.unit erase.sector ≡ true
   pub within : erase.sector + sectors_in total erase.unit ≤ total
 
+-- some erase of the list sets this sector to FFh
+abbrev pub erased_by : ℕ → List Erase → ℕ → Bool
+erased_by total erases sector = list_any (erases_sector total sector) erases
+
 -- the list is one of erases, in any order and with any overlap, and what they erase together is the set,
 -- no more and no less
 pub record Covers (kinds : Kinds) (total : ℕ) (erases : List Erase) (set : ℕ → Bool) : Type 0 where
   pub units : All (IsErase kinds total) erases
-  pub union : (sector : ℕ) → list_any (erases_sector total sector) erases ≡ set sector
+  pub union : (sector : ℕ) → erased_by total erases sector ≡ set sector

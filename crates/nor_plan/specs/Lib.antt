@@ -2,6 +2,7 @@ pub mod Bytes
 pub mod Erase
 pub mod Erases
 pub mod Mask
+pub mod Plan
 pub mod Planned
 pub mod SectorSet
 pub mod Sectors

@@ -1,5 +1,5 @@
 -- The erases that are planned for a set of sectors.
-use Rattle.std.specs.Prelude.{ℕ, ◌≡◌, ◌-◌, ◌%◌, Bool, ◌&&◌, if◌then◌else◌, List, map, filter, Option, MatchOption, [], ◌∷◌}
+use Rattle.std.specs.Prelude.{ℕ, ◌≡◌, ◌-◌, ◌%◌, Bool, ◌&&◌, if◌then◌else◌, List, length, map, filter, Option, MatchOption, [], ◌∷◌}
 use Rattle.std.specs.List.{list_all, range_with_len}
 use Rattle.nor_probe.specs.declared.sfdp.Kinds.{Kinds}
 use Rattle.nor_driver.specs.declared.units.Erase.{Erase}
@@ -46,3 +46,7 @@ HeadsPlanned whole kinds set from head =
 -- the erases of a set on a chip of this many sectors
 abbrev pub planned : Kinds → ℕ → (ℕ → Bool) → List Erase
 planned kinds total set = planned_from (holds_run set 0 total) kinds set 0
+
+-- the length of a shortest list of erases that covers a set
+abbrev pub fewest_erases : Kinds → ℕ → (ℕ → Bool) → ℕ
+fewest_erases kinds total set = length (planned kinds total set)

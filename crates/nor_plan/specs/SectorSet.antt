@@ -1,5 +1,5 @@
 -- A set of sectors, seen as a test of sector numbers.
-use Rattle.std.specs.Prelude.{ℕ, ◌≡◌, ◌==◌, ◌<◌, ◌≤◌, ◌-◌, ◌/◌, ◌%◌, Bool, true, false, List, slice_index, filter, ◌||◌}
+use Rattle.std.specs.Prelude.{ℕ, ◌≡◌, ◌==◌, ◌<◌, ◌≤◌, ◌-◌, ◌/◌, ◌%◌, Bool, true, false, List, length, slice_index, filter, ◌||◌}
 use Rattle.std.specs.Int.{bit_at}
 use Rattle.std.specs.List.{range_with_len}
 use Rattle.nor_plan.specs.declared.set.SectorSet.{SectorSet}
@@ -31,6 +31,10 @@ members_from set from = filter (has set) (range_with_len from (4096 - from))
 -- the sectors of the set, rising
 abbrev pub members : SectorSet → List ℕ
 members set = members_from set 0
+
+-- how many sectors are in the set
+abbrev pub sector_count : SectorSet → ℕ
+sector_count set = length (members set)
 
 -- no sector of the set is this one or above it
 abbrev pub NoneFrom : SectorSet → ℕ → Type 0

@@ -1,6 +1,6 @@
 -- The spans of a sector: what has to be programmed, page by page. A page is 256 bytes.
-use Rattle.std.specs.Prelude.{ℕ, ◌≡◌, ◌==◌, ◌-◌, ◌*◌, min, not, List, [], ◌∷◌, Option, Some, None, MatchOption, length, filter, slice_index}
-use Rattle.std.specs.List.{filter_map, range_with_len}
+use Rattle.std.specs.Prelude.{ℕ, ◌≡◌, ◌==◌, ◌-◌, ◌*◌, min, not, Bool, List, [], ◌∷◌, Option, Some, None, MatchOption, length, filter, count_by, slice_index}
+use Rattle.std.specs.List.{filter_map, list_any, range_with_len}
 use Rattle.std.specs.Int.{div_ceil}
 use Rattle.nor_plan.specs.declared.page.Span.{Span}
 
@@ -42,3 +42,12 @@ spans_of old target = spans_from old target 0
 abbrev pub HeadsSpans : List ℕ → List ℕ → ℕ → Option (Span × ℕ) → Type 0
 HeadsSpans old target page head =
     MatchOption head (spans_from old target page ≡ []) (λ h. spans_from old target page ≡ h.0 ∷ spans_from old target h.1)
+
+-- some byte of the page differs
+abbrev pub page_differs : List ℕ → List ℕ → ℕ → Bool
+page_differs old target page =
+    list_any (λ k. not (slice_index old k == slice_index target k)) (range_with_len (page * 256) (min 256 (length old - page * 256)))
+
+-- how many pages have a byte that differs
+abbrev pub pages_changed : List ℕ → List ℕ → ℕ
+pages_changed old target = count_by (page_differs old target) (range_with_len 0 (pages_of old))

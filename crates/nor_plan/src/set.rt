@@ -10,8 +10,9 @@ pub struct SectorSet {
 }
 
 impl SectorSet {
-    ghost use Rattle.std.specs.Prelude.{◌≡◌, ◌<◌, MatchBool, MatchOption, length};
-    ghost use Rattle.nor_plan.specs.SectorSet.{has, IsEmpty, HasSome, Inserts, NoneFrom, IsLeastFrom, members};
+    ghost use Rattle.std.specs.Prelude.{◌≡◌, ◌<◌, ℕ, MatchBool, MatchOption, count_by};
+    ghost use Rattle.nor_plan.specs.SectorSet.{has, IsEmpty, HasSome, Inserts, NoneFrom, IsLeastFrom, LiesBelow, members, sector_count};
+    ghost use Rattle.std.specs.List.{range_with_len};
     ghost use Rattle.nor_plan.specs.Sectors.{sectors_left};
 
     /// The empty set.
@@ -49,7 +50,9 @@ impl SectorSet {
 
     /// How many sectors are in the set.
     pub fn len(&self) -> usize
-        ensures { result ≡ length (members self.now) }
+        ensures count { result ≡ sector_count self.now }
+        ensures below { (end : ℕ) → LiesBelow self.now end
+            → result ≡ count_by (has self.now) (range_with_len 0 end) }
     {
         self.iter().count()
     }

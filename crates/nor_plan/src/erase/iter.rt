@@ -12,7 +12,7 @@ use nor_driver::Erase;
 use nor_probe::Kinds;
 
 /// The erases of a set that are left, in rising order.
-#[derive(Clone, Drop)]
+#[derive(Drop)]
 pub struct Erases {
     set: SectorSet,
     kinds: Kinds,

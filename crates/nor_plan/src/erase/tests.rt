@@ -1,5 +1,7 @@
-ghost use Rattle.std.specs.Prelude.{◌/◌, ◌<◌, ◌≤◌};
-ghost use Rattle.nor_plan.specs.SectorSet.{LiesBelow};
+ghost use Rattle.std.specs.Prelude.{◌≡◌, ◌+◌, ◌/◌, ◌<◌, ◌≤◌, ◌||◌, ℕ};
+ghost use Rattle.nor_driver.specs.Units.{sectors_in, erases_sector};
+ghost use Rattle.nor_plan.specs.Planned.{fewest_erases};
+ghost use Rattle.nor_plan.specs.SectorSet.{has, LiesBelow};
 
 use super::*;
 use EraseUnit::{Block32, Block64, Chip, Sector};
@@ -34,6 +36,39 @@ fn how_many(mut list: Erases) -> Option<u32> {
         }
     }
     None
+}
+
+/// Puts the sectors of a unit into a set.
+fn insert_unit(set: &mut SectorSet, erase: Erase, size: u32)
+    requires { erase.sector + sectors_in (size / 4096) erase.unit ≤ 4096 }
+    ensures { (s : ℕ) → has set.new s ≡ (has set.old s || erases_sector (size / 4096) s erase) }
+{
+    let count = match erase.unit {
+        Sector => 1,
+        Block32 => 8,
+        Block64 => 16,
+        Chip => size / 4096,
+    };
+    let first = u32::from(erase.sector);
+    for sector in first..first + count {
+        set.insert(sector);
+    }
+}
+
+/// Goes through the erases of a set: the sectors that they erase together, and their number.
+fn erase_all(set: &SectorSet, kinds: Kinds, size: u32) -> (SectorSet, usize)
+    requires small { size ≤ 16777216 }
+    requires below { LiesBelow set.now (size / 4096) }
+    ensures union { (s : ℕ) → has result.0 s ≡ has set.now s }
+    ensures fewest { result.1 ≡ fewest_erases kinds (size / 4096) (has set.now) }
+{
+    let mut erased = SectorSet::new();
+    let mut count = 0;
+    for erase in erases(set, kinds, size) {
+        insert_unit(&mut erased, erase, size);
+        count += 1;
+    }
+    (erased, count)
 }
 
 fn erase(unit: EraseUnit, sector: u16) -> Option<Erase> {
@@ -95,4 +130,12 @@ fn block_and_sector(rt: HostRuntime) {
 #[test]
 fn empty_set_needs_no_erase(rt: HostRuntime) {
     assert_eq!(rt; erases(&SectorSet::new(), BOTH, TINY64).next(), None);
+}
+
+#[test]
+fn erases_set_the_sectors_of_the_set_to_ff(rt: HostRuntime) {
+    let set = sectors(8, 39, W25Q64FV);
+    assert_eq!(rt; erase_all(&set, BOTH, W25Q64FV), (set, 3));
+    let whole = sectors(0, 15, TINY64);
+    assert_eq!(rt; erase_all(&whole, BOTH, TINY64), (whole, 1));
 }

@@ -1,4 +1,35 @@
+ghost use Rattle.std.specs.Prelude.{◌≡◌, ◌<◌, ◌≤◌, ℕ, length, slice_index, if◌then◌else◌};
+ghost use Rattle.nor_plan.specs.Span.{pages_changed};
+ghost use Rattle.nor_plan.specs.SpanFacts.{is_within_span};
+
 use super::*;
+
+/// Takes over the bytes of a span.
+fn take_over(bytes: &mut [u8], target: &[u8], span: Span)
+    requires order { span.first ≤ span.last }
+    requires within { span.last < length bytes.old }
+    requires same_length { length bytes.old ≡ length target.now }
+    ensures { (k : ℕ) → slice_index bytes.new k
+        ≡ (if is_within_span k span then slice_index target.now k else slice_index bytes.old k) }
+{
+    let Span { first, last } = span;
+    bytes[first..last + 1].copy_from_slice(&target[first..last + 1]);
+}
+
+/// Goes through the spans, takes them over, and counts them.
+fn take_over_all(bytes: &mut [u8], old: &[u8], target: &[u8]) -> usize
+    requires copy { bytes.old ≡ old.now }
+    requires same_length { length old.now ≡ length target.now }
+    ensures all { (k : ℕ) → k < length old.now → slice_index bytes.new k ≡ slice_index target.now k }
+    ensures fewest { result ≡ pages_changed old.now target.now }
+{
+    let mut count = 0;
+    for span in spans(old, target) {
+        take_over(bytes, target, span);
+        count += 1;
+    }
+    count
+}
 
 #[test]
 fn each_page_has_its_span(rt: HostRuntime) {
@@ -67,4 +98,16 @@ fn short_and_equal_slices(rt: HostRuntime) {
         })
     );
     assert_eq!(rt; list.next(), None);
+}
+
+#[test]
+fn spans_make_the_target_of_the_old_bytes(rt: HostRuntime) {
+    let old = [0xFFu8; 600];
+    let mut target = [0xFFu8; 600];
+    for place in [3, 9, 300, 599] {
+        target[place] = 0x00;
+    }
+    let mut bytes = old;
+    assert_eq!(rt; take_over_all(&mut bytes, &old, &target), 3);
+    assert_eq!(rt; bytes.as_slice(), target.as_slice());
 }

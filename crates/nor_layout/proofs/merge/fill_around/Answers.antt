@@ -1,4 +1,4 @@
-use Rattle.std.proofs.Common.{◌≡◌, ℕ, ◌<◌, ◌≤◌, ◌||◌, ◌∷◌, true, false, sym, ◌∙◌, inl, inr, arith}
+use Rattle.std.proofs.Common.{◌≡◌, ℕ, ◌≤◌, ◌||◌, ◌∷◌, true, false, sym, ◌∙◌, inl, inr, arith}
 use Rattle.std.proofs.lemmas.Bool.{cases_lt, or_from, or_left}
 use Rattle.nor_layout.specs.Places.{covers, is_covered, AreRisingFrom, places_left}
 use Rattle.nor_layout.proofs.Fills.{is_covered-below, covers-inside, covers-below, covers-above}

@@ -1,21 +1,12 @@
 use Rattle.std.proofs.Common.{ℕ, ◌≡◌, ◌<◌, ◌≤◌, ◌/◌, true, List, length, rules, subst, refl, sym, inl, inr}
-use Rattle.std.proofs.lemmas.Bool.{cases_lt, both_ways}
 use Rattle.nor_driver.specs.declared.units.Erase.{Erase}
 use Rattle.nor_plan.specs.declared.set.SectorSet.{SectorSet}
-use Rattle.nor_plan.specs.SectorSet.{has}
+use Rattle.nor_plan.specs.SectorSet.{has, sector_count}
 use Rattle.nor_plan.specs.Erase.{Covers}
-use Rattle.nor_plan.proofs.Words.{none_past}
+use Rattle.nor_plan.proofs.Members.{has-small}
 use Rattle.nor_plan.proofs.Coverage.{IsPlannable, planned_Covers}
-use Rattle.nor_plan.proofs.Fewest.{planned_fewest}
+use Rattle.nor_plan.proofs.Fewest.{planned_fewest, planned_few}
 use Rattle.nor_plan.proofs.erase.erases.Goals as goal
-
--- the sectors of a set are few, since its words are
-has-small : (set : SectorSet) → length set.words ≡ 64 → (s : ℕ) → has set s ≡ true → s < 4096
-unfolding has
-has-small set long s member = elim (cases_lt s 4096) [
-  | inl small ↦ small
-  | inr past ↦ absurd (both_ways _ (none_past set.words long s past) member)
-]
 
 pub returns-clause-covers : goal.returns-clause-covers
 returns-clause-covers c =
@@ -42,3 +33,8 @@ returns-clause-fewest c others covers =
     } in
     let P : List Erase → Type 0 = λ list. length list ≤ length others in
     subst P (sym c.new.ensures) (planned_fewest c.is_run-whole.result c.args.kinds total set can 0 others covers)
+
+pub returns-clause-few : goal.returns-clause-few
+returns-clause-few c =
+    let P : List Erase → Type 0 = λ list. length list ≤ sector_count c.args.set.now in
+    subst P (sym c.new.ensures) (planned_few c.is_run-whole.result c.args.kinds c.args.set.now 0)

@@ -1,0 +1,52 @@
+-- What a request includes of a chip, sector by sector. Sector s has the 4,096 addresses from 4096 * s on.
+use Rattle.std.specs.Prelude.{◌≡◌, ℕ, ◌+◌, ◌*◌, ◌/◌, ◌<◌, ◌≤◌, Bool, true, false, List, slice_index, Option, Some, None, if◌then◌else◌}
+use Rattle.nor_layout.specs.declared.ranges.Span.{Span}
+use Rattle.nor_layout.specs.Below.{any_below, count_below}
+use Rattle.nor_layout.specs.Ranges.{contains}
+
+-- A request includes the addresses of its ranges, and without ranges those of the whole chip.
+abbrev pub includes : Option (List Span) → ℕ → Bool
+includes None address = true
+includes (Some spans) address = contains spans address
+
+-- some address of the sector belongs to the set
+abbrev pub SomeInSector : (ℕ → Bool) → ℕ → Type 0
+SomeInSector set sector = (i : ℕ) × (i < 4096) × (set (4096 * sector + i) ≡ true)
+
+-- no address of the sector belongs to it
+abbrev pub NoneInSector : (ℕ → Bool) → ℕ → Type 0
+NoneInSector set sector = (i : ℕ) → i < 4096 → set (4096 * sector + i) ≡ false
+
+-- the same as a test: some address of the sector belongs to the set
+abbrev pub has_in_sector : (ℕ → Bool) → ℕ → Bool
+has_in_sector set sector = any_below 4096 (λ i. set (4096 * sector + i))
+
+-- how many sectors of a chip of this size hold an included address
+abbrev pub sectors_included : Option (List Span) → ℕ → ℕ
+sectors_included included size = count_below (size / 4096) (has_in_sector (includes included))
+
+-- some address from the size on belongs to the set
+abbrev pub ReachesTo : (ℕ → Bool) → ℕ → Type 0
+ReachesTo set size = (address : ℕ) × (size ≤ address) × (set address ≡ true)
+
+-- each address of the set is below the size
+abbrev pub EndsBelow : (ℕ → Bool) → ℕ → Type 0
+EndsBelow set size = (address : ℕ) → set address ≡ true → address < size
+
+-- Ranges may reach past a chip of this size; the whole chip doesn't.
+abbrev pub ReachesPast : Option (List Span) → ℕ → Type 0
+ReachesPast None size = ⊥
+ReachesPast (Some spans) size = ReachesTo (contains spans) size
+
+-- they don't
+abbrev pub FitsInto : Option (List Span) → ℕ → Type 0
+FitsInto None size = Unit {0}
+FitsInto (Some spans) size = EndsBelow (contains spans) size
+
+-- What is wanted at an address: the image's byte where it is included, and else the content's, as it is on the chip.
+abbrev pub wanted_of : (ℕ → Bool) → (ℕ → ℕ) → (ℕ → ℕ) → ℕ → ℕ
+wanted_of included image content a = if included a then image a else content a
+
+-- these are the bytes of a sector
+abbrev pub AreOfSector : (ℕ → ℕ) → ℕ → List ℕ → Type 0
+AreOfSector content sector bytes = (i : ℕ) → i < 4096 → slice_index bytes i ≡ content (4096 * sector + i)
