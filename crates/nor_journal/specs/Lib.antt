@@ -1,5 +1,6 @@
 pub mod Vault
 pub mod FileVault
+pub mod BrokenVault
 pub mod Number
 pub mod Text
 pub mod Saved
