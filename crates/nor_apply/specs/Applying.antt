@@ -1,16 +1,13 @@
--- What the whole of the changes of a session or restore leaves: unlock, erases, programs, the status, the check.
+-- What the whole of the changes of a session or restore leaves: unlock, erases, programs, the status.
 use Rattle.std.specs.Prelude.{◌≡◌, ◌≤◌, ◌+◌, ◌*◌, ◌/◌, ◌||◌, ◌&&◌, ◌==◌, ℕ, Bool, true, false, not, length, bit_and, if◌then◌else◌}
 use Rattle.nor_chip.specs.Chip.{Chip}
 use Rattle.nor_chip.specs.Guard.{is_guarded}
 use Rattle.nor_chip.specs.Bus.{BusState}
-use Rattle.nor_driver.specs.Looks.{RunsOut}
 use Rattle.nor_driver.specs.StatusWrites.{KeepsFixed, HasCode, HasFixed}
 use Rattle.nor_plan.specs.Planned.{planned}
 use Rattle.nor_plan.specs.SectorSet.{has}
 use Rattle.nor_apply.specs.declared.apply.Changes.{Changes}
 use Rattle.nor_apply.specs.declared.apply.Work.{Work}
-use Rattle.nor_apply.specs.declared.apply.ApplyFault.{ApplyFault}
-use Rattle.nor_apply.specs.declared.apply.ApplyFault.TheVariants.{Stopped, Timeout, Mismatch}
 use Rattle.nor_apply.specs.Counts.{count_below, sector_count}
 use Rattle.nor_apply.specs.Content.{once_erased, is_programmed}
 use Rattle.nor_apply.specs.Within.{is_writable}
@@ -64,10 +61,10 @@ pub record HasApplied (changes : Changes) (wanted : ℕ → ℕ) (old new : BusS
   pub worn : (s : ℕ) → new.worn s ≡ (old.worn s || raised_in changes s)
   pub idle : new.chip.busy ≡ 0
 
--- The most transactions: each touched sector is read twice, once for its programs and once for the check; it is
--- erased once and has sixteen pages; the status is written twice.
+-- The most transactions: each touched sector is read once for its programs, it is erased once and has sixteen pages,
+-- and the status is written twice.
 abbrev pub most_applied : ℕ → ℕ
-most_applied touched = 2 * touched + 65538 * (17 * touched + 2)
+most_applied touched = touched + 65538 * (17 * touched + 2)
 
 -- At every exit.
 pub record LeavesApply (changes : Changes) (wanted : ℕ → ℕ) (old new : BusState) : Type 0 where
@@ -79,16 +76,9 @@ pub record DoesApply (changes : Changes) (wanted : ℕ → ℕ) (old new : BusSt
   pub erases : work.erases ≡ length (planned changes.kinds (changes.size / 4096) (raised_in changes))
   pub fewer_erases : work.erases ≤ sector_count (raised_in changes)
   pub fewer_programs : work.programs ≤ 16 * sector_count (touched_in changes)
-  pub few : work.transactions ≤ 2 * sector_count (touched_in changes) + 65538 * (work.erases + work.programs + status_writes changes)
+  pub few : work.transactions ≤ sector_count (touched_in changes) + 65538 * (work.erases + work.programs + status_writes changes)
   pub least : 3 * (work.erases + work.programs + status_writes changes) ≤ work.transactions
   pub sent : old.honest ≡ true → old.left ≡ new.left + work.transactions
   pub done : old.honest ≡ true → CanApply changes wanted old.chip → HasApplied changes wanted old new
   pub programs : old.honest ≡ true → CanApply changes wanted old.chip
     → work.programs ≡ count_below 65536 (is_programmed (touched_in changes) (once_erased (raised_in changes) old.chip.bytes) wanted)
-
--- A halt. On an honest bus a timeout never comes, and a stop only where there were fewer transactions than the most;
--- where the changes can be made the check finds no difference.
-abbrev pub ApplyHalts : Changes → (ℕ → ℕ) → BusState → BusState → ApplyFault → Type 0
-ApplyHalts changes wanted old new Stopped = RunsOut (most_applied (sector_count (touched_in changes))) old new
-ApplyHalts changes wanted old new (Timeout address) = old.honest ≡ true → ⊥
-ApplyHalts changes wanted old new (Mismatch address) = old.honest ≡ true → CanApply changes wanted old.chip → ⊥

@@ -8,4 +8,3 @@ pub mod Programming
 pub mod Checking
 pub mod Protecting
 pub mod Applying
-pub mod Faults

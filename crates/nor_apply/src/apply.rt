@@ -1,10 +1,11 @@
 //! The changes of a session or restore, as one.
-ghost use Rattle.std.specs.Prelude.{◌≡◌, ◌<◌, ◌≤◌, ◌/◌, ◌==◌, ℕ, true, not, IfOk, IfErr, if◌then◌else◌};
+ghost use Rattle.std.specs.Prelude.{◌≡◌, ◌<◌, ◌≤◌, ◌/◌, ℕ, true, IfOk, IfErr};
 ghost use Rattle.nor_plan.specs.SectorSet.{has, LiesBelow};
-ghost use Rattle.nor_apply.specs.declared.apply.ApplyFault.{ApplyFault};
-ghost use Rattle.nor_apply.specs.Applying.{LeavesApply, DoesApply, ApplyHalts, LeavesChange, DoesChange, ChangeHalts, LeavesEnd, DoesEnd, writes_code};
+ghost use Rattle.nor_apply.specs.Counts.{sector_count};
+ghost use Rattle.nor_apply.specs.Spending.{HaltsBelow};
+ghost use Rattle.nor_apply.specs.Applying.{LeavesApply, DoesApply, writes_code, touched_in, most_applied};
 
-use crate::{CheckFault, Source, Tally, check_all, erase_all, program_all, write_code};
+use crate::{Source, erase_all, program_all, write_code};
 use nor_chip::{Bus, Status};
 use nor_driver::Halt;
 use nor_plan::SectorSet;
@@ -27,8 +28,16 @@ pub struct Changes {
     pub unlock: bool,
     /// The protection code at the end, below 64.
     pub code: u8,
-    /// What was written is read back.
-    pub verify: bool,
+}
+
+impl Changes {
+    /// The code bits at the end, none where protection was lifted, aren't the wanted ones.
+    fn writes_code(&self) -> bool
+        ensures { result ≡ writes_code self.now }
+    {
+        let code = if self.unlock { 0 } else { self.status.code() };
+        code != self.code
+    }
 }
 
 /// What the changes came to.
@@ -39,50 +48,9 @@ pub struct Work {
     pub transactions: u64,
 }
 
-/// Why changes weren't made to their end.
-#[derive(Clone, Copy, Debug, PartialEq, Eq)]
-pub enum ApplyFault {
-    /// The bus stopped.
-    Stopped,
-    /// 65,536 polls in a row showed BUSY, after the command for this address.
-    Timeout { address: u32 },
-    /// A byte that was read back isn't the wanted one, first at this address.
-    Mismatch { address: u32 },
-}
-
-impl From<Halt> for ApplyFault {
-    ghost use Rattle.nor_apply.specs.Faults.{fault_of_halt};
-
-    ghost from_gives = { λ halt fault. fault ≡ fault_of_halt halt };
-
-    fn from(halt: Halt) -> ApplyFault {
-        match halt {
-            Halt::Stopped => ApplyFault::Stopped,
-            Halt::Timeout { address } => ApplyFault::Timeout { address },
-        }
-    }
-}
-
-impl From<CheckFault> for ApplyFault {
-    ghost use Rattle.nor_apply.specs.Faults.{fault_of_check};
-
-    ghost from_gives = { λ check fault. fault ≡ fault_of_check check };
-
-    fn from(check: CheckFault) -> ApplyFault {
-        match check {
-            CheckFault::Stopped => ApplyFault::Stopped,
-            CheckFault::Mismatch { address } => ApplyFault::Mismatch { address },
-        }
-    }
-}
-
-/// Makes the touched sectors what the source has of them and the protection code the wanted one: lifts protection where
-/// that is asked, erases, programs, writes the status where its code bits differ then, and reads back.
-pub fn apply<B: Bus, S: Source>(
-    bus: &mut B,
-    source: &S,
-    changes: &Changes,
-) -> Result<Work, ApplyFault>
+/// Makes the touched sectors what the source has of them and the protection code the wanted one: lifts protection
+/// where that is asked, erases, programs, and writes the status where its code bits differ then.
+pub fn apply<B: Bus, S: Source>(bus: &mut B, source: &S, changes: &Changes) -> Result<Work, Halt>
     requires inside { LiesBelow changes.now.touched (changes.now.size / 4096) }
     requires raised { (s : ℕ) → has changes.now.raised s ≡ true → has changes.now.touched s ≡ true }
     requires small { changes.now.size ≤ 16777216 }
@@ -90,57 +58,15 @@ pub fn apply<B: Bus, S: Source>(
     requires sourced { (s : ℕ) → has changes.now.touched s ≡ true → S.has source.now s ≡ true }
     ensures leaves { LeavesApply changes.now (S.wanted source.now) (B.state bus.old) (B.state bus.new) }
     ensures does { IfOk result (DoesApply changes.now (S.wanted source.now) (B.state bus.old) (B.state bus.new)) }
-    ensures halts { IfErr result (ApplyHalts changes.now (S.wanted source.now) (B.state bus.old) (B.state bus.new)) }
-{
-    let changed = change(bus, source, changes)?;
-    let finished = finish(bus, source, changes)?;
-    Ok(Work {
-        erases: changed.erases,
-        programs: changed.programs,
-        transactions: changed.transactions + finished,
-    })
-}
-
-// Lifts protection where that is asked, erases and programs.
-fn change<B: Bus, S: Source>(bus: &mut B, source: &S, changes: &Changes) -> Result<Work, Halt>
-    requires inside { LiesBelow changes.now.touched (changes.now.size / 4096) }
-    requires raised { (s : ℕ) → has changes.now.raised s ≡ true → has changes.now.touched s ≡ true }
-    requires small { changes.now.size ≤ 16777216 }
-    requires sourced { (s : ℕ) → has changes.now.touched s ≡ true → S.has source.now s ≡ true }
-    ensures leaves { LeavesChange changes.now (S.wanted source.now) (B.state bus.old) (B.state bus.new) }
-    ensures does { IfOk result (DoesChange changes.now (S.wanted source.now) (B.state bus.old) (B.state bus.new)) }
-    ensures halts { IfErr result (ChangeHalts changes.now (B.state bus.old) (B.state bus.new)) }
+    ensures halts { IfErr result (HaltsBelow (most_applied (sector_count (touched_in changes.now))) (B.state bus.old) (B.state bus.new)) }
 {
     let lifted = write_code(bus, changes.status, 0, changes.unlock)?;
     let erased = erase_all(bus, &changes.raised, changes.kinds, changes.size)?;
     let programmed = program_all(bus, source, &changes.touched, &changes.raised)?;
+    let written = write_code(bus, changes.status, changes.code, changes.writes_code())?;
     Ok(Work {
         erases: erased.count,
         programs: programmed.count,
-        transactions: lifted + erased.transactions + programmed.transactions,
+        transactions: lifted + erased.transactions + programmed.transactions + written,
     })
-}
-
-// Writes the status where its code bits aren't the wanted ones, and reads the touched sectors back where that is
-// asked. Answers the number of transactions.
-fn finish<B: Bus, S: Source>(bus: &mut B, source: &S, changes: &Changes) -> Result<u64, ApplyFault>
-    requires code { changes.now.code < 64 }
-    requires sourced { (s : ℕ) → has changes.now.touched s ≡ true → S.has source.now s ≡ true }
-    ensures leaves { LeavesEnd changes.now (S.wanted source.now) (B.state bus.old) (B.state bus.new) }
-    ensures does { IfOk result (DoesEnd changes.now (S.wanted source.now) (B.state bus.old) (B.state bus.new)) }
-    ensures halts { IfErr result (EndHalts changes.now (S.wanted source.now) (B.state bus.old) (B.state bus.new)) }
-{
-    let written = write_code(bus, changes.status, changes.code, changes.writes_code())?;
-    let checked = if changes.verify { check_all(bus, source, &changes.touched)? } else { 0 };
-    Ok(written + checked)
-}
-
-impl Changes {
-    /// The code bits, none where protection was lifted, aren't the wanted ones.
-    fn writes_code(&self) -> bool
-        ensures { result ≡ writes_code self.now }
-    {
-        let code = if self.unlock { 0 } else { self.status.code() };
-        code != self.code
-    }
 }

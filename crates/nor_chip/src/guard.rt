@@ -46,8 +46,8 @@ fn is_complement(code: u8) -> bool
     code / 32 % 2 == 1
 }
 
-// The datasheets don't define the code.
-fn is_undefined(code: u8) -> bool
+/// The datasheets don't define the code.
+pub(crate) fn is_undefined(code: u8) -> bool
     ensures { result ≡ is_undefined code }
 {
     is_sector(code) && code % 8 == 6
