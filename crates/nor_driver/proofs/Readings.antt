@@ -1,6 +1,6 @@
 -- What one transaction that reads leaves, and what it tells.
 use Rattle.std.proofs.Common.{◌≡◌, ◌≢◌, ◌≤◌, ◌<◌, ◌+◌, ◌-◌, ◌*◌, ◌%◌, ◌∙◌, ◌⊎◌, ◌||◌, ℕ, Bool, true, false, cond, List, [], ◌∷◌, length, slice_index, ap, sym, refl, subst, arith, inl, inr}
-use Rattle.std.specs.Prelude.{◌==◌, if◌then◌else◌}
+use Rattle.std.specs.Prelude.{◌==◌, Result, Ok, Err, OnOk, OnErr, if◌then◌else◌}
 use Rattle.nor_chip.specs.declared.command.Command.{Command}
 use Rattle.nor_chip.specs.declared.command.Command.TheVariants.{WriteEnable, WriteDisable, Poll, ReadStatus2, WriteStatus, Program, Erase, ReadData, ReadId, ReadSfdp, ReadUnique, Ignored}
 use Rattle.nor_chip.specs.Chip.{Chip, status1_of}
@@ -179,3 +179,19 @@ quiet_send out most old new quiet sends looked = record {
   stirred = sends.stirred ∙ ap (λ (b : Bool). cond b true old.stirred) quiet;
   looked = looked;
 }
+
+-- a transaction that reads, at any exit
+pub read_leaves : {T E : Type 0} (outcome : Result T E) (out answer : List ℕ) (old new : BusState) → IsReading out → Sends out old new
+    → (old.honest ≡ true → OnErr outcome (Stops old new)) → (old.honest ≡ true → OnOk outcome (Carries out answer old new)) → Looks 1 old new
+read_leaves (Ok value) out answer old new is sends stops carries =
+    quiet_send out 1 old new is.quiet sends (λ honest. let read = carried_reading out answer old new is (carries honest) in looked_by old new 1 read.rested read.count)
+read_leaves (Err fault) out answer old new is sends stops carries =
+    quiet_send out 1 old new is.quiet sends (λ honest. looked_at_stop old new 1 (stops honest))
+
+pub read_does : {T E : Type 0} (outcome : Result T E) (out answer : List ℕ) (old new : BusState) → IsReading out
+    → (old.honest ≡ true → OnOk outcome (Carries out answer old new)) → OnOk outcome (Replies out old new answer)
+read_does (Ok value) out answer old new is carries = record {
+  read = λ honest. carried_reading out answer old new is (carries honest);
+  told = λ honest i below. (carries honest).step.replies i below;
+}
+read_does (Err fault) out answer old new is carries = tt
