@@ -12,16 +12,13 @@ use Rattle.nor_chip.specs.Power.{is_in_work, KeptStay, KeptCut}
 use Rattle.nor_chip.specs.Command.{command_of, begins_change}
 use Rattle.nor_chip.specs.Step.{Does, is_idle, is_operation, is_carried_out, done_of, byte_after, kept1_after, kept2_after, running_after, latch_after, wears}
 use Rattle.nor_chip.specs.Bus.{BusState, Sends, Stops, Carries}
+use Rattle.nor_driver.proofs.Bools.{or_false}
 use Rattle.nor_driver.specs.Looks.{IsCalm, Unchanged, Stays, Looked, Looks}
 use Rattle.nor_driver.specs.Waits.{HasWaited, latch_when_idle}
 use Rattle.nor_driver.specs.Operations.{operation_of, is_change, IsOperation, ChangesOnly, Stirs, Falls, HasIgnored, MayOperate, HasOperated, LeavesOperation, Operates, Ends}
 use Rattle.nor_driver.specs.Reads.{HasRead}
 use Rattle.nor_driver.proofs.Cuts.{stays_at_stop, stays_after, unchanged_then}
 use Rattle.nor_driver.proofs.Readings.{carried_ignored}
-
-or_false : (b : Bool) → (b || false) ≡ b
-or_false true = refl
-or_false false = refl
 
 -- Two chips that agree in all but their bytes.
 record Agrees (x y : Chip) : Type 0 where
@@ -109,12 +106,12 @@ pub then_done : (out : List ℕ) (old ready : BusState) → IsOperation out → 
 then_done out old ready asks enabling =
     elim (nat_eq old.chip.busy 0) as (λ b. nat_eq old.chip.busy 0 ≡ b → done_of ready.chip out 0 ≡ operation_of old.chip out) [
       | true ↦ λ idle. done-agrees (record old.chip { latch = true }) ready.chip out (record {
-          config = enabling.unchanged.same.config;
-          kept1 = enabling.unchanged.same.kept1;
-          kept2 = enabling.unchanged.same.kept2;
-          latch = enabling.latch ∙ ap (λ (b : Bool). cond b true old.chip.latch) idle;
-          busy = enabling.busy;
-        })
+        config = enabling.unchanged.same.config;
+        kept1 = enabling.unchanged.same.kept1;
+        kept2 = enabling.unchanged.same.kept2;
+        latch = enabling.latch ∙ ap (λ (b : Bool). cond b true old.chip.latch) idle;
+        busy = enabling.busy;
+      })
       | false ↦ λ busy.
           busy-refuses ready.chip (command_of ready.chip.config out 0) (asks ready.chip.config) (ap (λ (n : ℕ). nat_eq n 0) enabling.busy ∙ busy)
           ∙ sym (busy-refuses (record old.chip { latch = true }) (command_of old.chip.config out 0) (asks old.chip.config) busy)
@@ -236,9 +233,9 @@ may-after command sent old begun new is steady has stays = record {
   config = stays.config ∙ has.config;
   bytes = λ a. elim (is_in_work (running_after old.chip command) a) as (λ b. is_in_work (running_after old.chip command) a ≡ b
       → (new.chip.bytes a ≡ old.chip.bytes a) ⊎ ((is_in_work (running_after old.chip command) a ≡ true) × (old.steady ≡ true → new.chip.bytes a ≡ byte_after old.chip command sent a))) [
-    | true ↦ λ inside. inr (inside, λ on. let same : IsSame begun.chip new.chip = stays.calm (inl (steady ∙ on)) in same.bytes a ∙ has.bytes a)
-    | false ↦ λ outside. inl (stays.bytes a (ap (λ (running : Running). is_in_work running a) has.running ∙ outside) ∙ has.bytes a ∙ outside-work old.chip command sent a is outside)
-  ] refl;
+        | true ↦ λ inside. inr (inside, λ on. let same : IsSame begun.chip new.chip = stays.calm (inl (steady ∙ on)) in same.bytes a ∙ has.bytes a)
+        | false ↦ λ outside. inl (stays.bytes a (ap (λ (running : Running). is_in_work running a) has.running ∙ outside) ∙ has.bytes a ∙ outside-work old.chip command sent a is outside)
+      ] refl;
   kept = kept-cut command old.chip begun.chip new.chip is has.kept1 has.kept2 (subst (λ (running : Running). KeptCut running begun.chip new.chip) has.running stays.kept);
   runs = λ busy. stays.running busy ∙ has.running;
   worn = λ s free. stays.worn s ∙ has.worn s ∙ ap (λ (b : Bool). old.worn s || b) free ∙ or_false (old.worn s);
@@ -278,4 +275,3 @@ latch-kept old ready begun enabling latch busy =
     let set = latch ∙ enabling.latch in
     ap (λ (n : ℕ). cond (n == 0) begun.chip.latch false) same ∙ ap (λ (b : Bool). cond (old.chip.busy == 0) b false) set
     ∙ both (old.chip.busy == 0) old.chip.latch
-

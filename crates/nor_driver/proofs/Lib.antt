@@ -1,5 +1,9 @@
+pub mod Bools
 pub mod Cuts
 pub mod Readings
 pub mod Told
 pub mod Begun
 pub mod Exits
+pub mod Programming
+pub mod Erasing
+pub mod StatusBytes

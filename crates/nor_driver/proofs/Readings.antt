@@ -7,14 +7,11 @@ use Rattle.nor_chip.specs.Chip.{Chip, status1_of}
 use Rattle.nor_chip.specs.Command.{command_of, begins_change}
 use Rattle.nor_chip.specs.Step.{Does, is_carried_out, done_of, reply_byte, latch_after, wears}
 use Rattle.nor_chip.specs.Bus.{BusState, Sends, Stops, Carries}
+use Rattle.nor_driver.proofs.Bools.{or_false}
 use Rattle.nor_driver.specs.Looks.{Unchanged, Stays, Rested, Looked, Looks, RanOut, RunsOut}
 use Rattle.nor_driver.specs.Waits.{HasPolled}
 use Rattle.nor_driver.specs.Reads.{is_reading, IsReading, HasRead, Replies}
 use Rattle.nor_driver.proofs.Cuts.{stays_at_stop, stays_after, unchanged_none, unchanged_then, unchanged_stays}
-
-or_false : (b : Bool) → (b || false) ≡ b
-or_false true = refl
-or_false false = refl
 
 -- What nothing but a reading leaves of a chip.
 record Kept (old new : Chip) : Type 0 where
