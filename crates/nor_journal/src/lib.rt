@@ -15,7 +15,7 @@ mod writer;
 pub use broken::BrokenVault;
 pub use fault::JournalFault;
 pub use file_vault::FileVault;
-pub use journal::{Journal, one_fault, one_text};
+pub use journal::{Journal, one_fault, one_record, one_text};
 pub use mem_vault::MemVault;
 pub use vault::{Vault, VaultFault};
 pub use writer::Writer;

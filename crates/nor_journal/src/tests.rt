@@ -33,7 +33,7 @@ const DIGEST_OF_ONE: [u8; 32] = [
 fn fault_of(bytes: &[u8]) -> u8 {
     match Journal::read(bytes) {
         Ok(_) => 0,
-        Err(fault) => fault as u8,
+        Err(fault) => fault.number(),
     }
 }
 
