@@ -1,4 +1,6 @@
 //! Vaults that refuse one call, and what a writer leaves then.
+ghost use Rattle.nor_journal.specs.Vault.{IsFresh};
+
 use super::*;
 
 /// Starts a journal of the small chip, and adds a sector.
