@@ -1,11 +1,11 @@
 -- What a content saves, one sector after the other: for the loops that write and restore it.
 use Rattle.std.proofs.Common.{◌≡◌, ◌≢◌, ℕ, zero, suc, ◌+◌, ◌/◌, ◌<◌, ◌≤◌, cond, eqb, List, [], ◌∷◌, ◌++◌, length, take, refl, sym, ap, subst, ◌∙◌, arith, Option, Some, None, inl, inr}
-use Rattle.std.specs.Prelude.{slice_get}
+use Rattle.std.specs.Prelude.{◌↔◌, slice_get}
 use Rattle.std.proofs.lemmas.Bool.{eq-eqb, ne_eqb}
 use Rattle.std.proofs.lemmas.Bool.Decides.{eqb_tells}
 use Rattle.std.proofs.lemmas.Option.{same_Some}
 use Rattle.nor_journal.specs.Text.{SavedSector, Content, IsContent, IsSectorBelow, AreRising, MayFollow, least_after, next_number, empty_content, with_sector}
-use Rattle.nor_journal.specs.Saved.{saved_in}
+use Rattle.nor_journal.specs.Saved.{HasRecord, saved_in}
 use Rattle.nor_journal.specs.declared.head.Head.{Head}
 use Rattle.nor_journal.specs.Reading.{sector_at, sectors_in, HasRecords}
 use Rattle.nor_journal.proofs.SectorRecords.{least_after-push, slice_get-sectors_in}
@@ -83,7 +83,32 @@ saved_in-at sectors least (t ∷ ss) (suc i) s rising e =
     let later = rising_at sectors (t.number + 1) ss i s rising.2 e in
     at_miss t.number s.number (Some t.bytes) (saved_in ss s.number) (λ same. omega (arith, later.1, same)) ∙ saved_in-at sectors (t.number + 1) ss i s rising.2 e
 
+-- a sector that is saved has a record
+pub saved_in-record : (ss : List SavedSector) (n : ℕ) (bytes : List ℕ) → saved_in ss n ≡ Some bytes → (i : ℕ) × (slice_get ss i ≡ Some (record { number = n; bytes = bytes }))
+unfolding saved_in
+saved_in-record [] n bytes e = absurd cc
+saved_in-record (s ∷ rest) n bytes e =
+    elim (eqb_tells s.number n) [
+      | inl hit ↦ (let is : s.bytes ≡ bytes = same_Some s.bytes bytes (sym (at_hit s.number n (Some s.bytes) (saved_in rest n) hit.1) ∙ e) in
+          (0, same_sector s.number n s.bytes bytes hit.1 is))
+      | inr miss ↦ (let later = saved_in-record rest n bytes (sym (at_miss s.number n (Some s.bytes) (saved_in rest n) miss.1) ∙ e) in
+          (suc later.0, later.1))
+    ]
+  where
+    same_sector : (m n : ℕ) (a b : List ℕ) → m ≡ n → a ≡ b → (let o : Option SavedSector = Some (record { number = m; bytes = a }) in o) ≡ Some (record { number = n; bytes = b })
+    same_sector m n a b p q = rw (p, q) refl
+
 -- ---- of a content
+
+-- a sector is saved exactly where a record has it
+pub saved_record : (c : Content) (sector : ℕ) (bytes : List ℕ) → IsContent c → saved_in c.saved sector ≡ Some bytes ↔ HasRecord c sector bytes
+saved_record c sector bytes is = (there, back)
+  where
+    there : saved_in c.saved sector ≡ Some bytes → HasRecord c sector bytes
+    there e = (let found = saved_in-record c.saved sector bytes e in record { place = found.0; is = found.1 })
+
+    back : HasRecord c sector bytes → saved_in c.saved sector ≡ Some bytes
+    back has = saved_in-at (c.size / 4096) 0 c.saved has.place (record { number = sector; bytes = bytes }) is.saved has.is
 
 pub saved_in-with_sector : (c : Content) (number : ℕ) (bytes : List ℕ) (n : ℕ) → IsContent c → MayFollow c number → saved_in (with_sector c number bytes).saved n ≡ cond (eqb number n) (Some bytes) (saved_in c.saved n)
 unfolding next_number

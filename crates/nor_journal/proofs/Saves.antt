@@ -1,14 +1,16 @@
 -- Which sectors a journal saves, as it is written and as it is read.
-use Rattle.std.proofs.Common.{◌≡◌, ◌≢◌, ℕ, ◌+◌, ◌/◌, ◌<◌, ◌≤◌, cond, eqb, Bool, true, false, List, length, refl, sym, ap, subst, ◌∙◌, arith, Option, Some, None, inl, inr}
-use Rattle.std.specs.Prelude.{IsSomeAnd}
+use Rattle.std.proofs.Common.{◌≡◌, ◌≢◌, ℕ, ◌+◌, ◌*◌, ◌/◌, ◌%◌, ◌<◌, ◌≤◌, cond, eqb, Bool, true, false, List, [], length, refl, sym, ap, subst, ◌∙◌, arith, Option, Some, None, inl, inr}
+use Rattle.std.specs.Prelude.{slice_index, IsSomeAnd, Result, Ok, Err, IsOkAnd}
+use Rattle.std.specs.Option.{is_some, unwrap_or}
 use Rattle.std.proofs.lemmas.Bool.{eq-eqb, ne_eqb}
 use Rattle.std.proofs.lemmas.Bool.Decides.{eqb_tells}
 use Rattle.nor_journal.specs.declared.writer.Writer.{Writer}
 use Rattle.nor_journal.specs.Vault.{VaultState}
 use Rattle.nor_journal.specs.Text.{Content, IsContent, SameHead, MayFollow, next_number, empty_content, with_sector, text}
-use Rattle.nor_journal.specs.Saved.{IsSector, Saves, HasOneMore, JournalSaves, saved_in}
+use Rattle.nor_journal.specs.Saved.{IsSector, Saves, HasOneMore, JournalSaves, saved_in, is_saved, saved_byte}
+use Rattle.nor_journal.specs.declared.fault.JournalFault.{JournalFault}
 use Rattle.nor_journal.specs.Writer.{HasWritten, HasKept}
-use Rattle.nor_journal.proofs.Saved.{saved_in-with_sector, saved_in-empty_content, next_number-empty_content, next_number-with_sector}
+use Rattle.nor_journal.proofs.Saved.{saved_in-whole, saved_in-with_sector, saved_in-empty_content, next_number-empty_content, next_number-with_sector}
 use Rattle.nor_journal.proofs.Writes.{IsContent-with_sector}
 
 -- ---- of a content
@@ -42,6 +44,58 @@ Saves-more chip saved more c number bytes saves follows sector one = record {
           | inl hit ↦ (let both : true ≡ false = sym one.here ∙ ap more hit.1 ∙ is in absurd cc)
           | inr miss ↦ rw (ne_eqb number s miss.1) (saves.others s (sym (one.others s (λ e. miss.1 (sym e))) ∙ is))
         ]
+
+-- a sector that is saved is one of the set, and has the chip's bytes
+pub Saves-sector : (chip : ℕ → ℕ) (saved : ℕ → Bool) (c : Content) (s : ℕ) (bytes : List ℕ) → Saves chip saved c → saved_in c.saved s ≡ Some bytes → (saved s ≡ true) × IsSector chip s bytes
+Saves-sector chip saved c s bytes saves e = by_cases (saved s) refl
+  where
+    by_cases : (b : Bool) → saved s ≡ b → (saved s ≡ true) × IsSector chip s bytes
+    by_cases true is = (is, subst (λ (o : Option (List ℕ)). IsSomeAnd o (IsSector chip s)) e (saves.sectors s is))
+    by_cases false is = (let none : Some bytes ≡ None = sym e ∙ saves.others s is in absurd cc)
+
+-- the set is that of the saved sectors
+pub Saves-set : (chip : ℕ → ℕ) (saved : ℕ → Bool) (c : Content) (s : ℕ) → Saves chip saved c → saved s ≡ is_saved c s
+Saves-set chip saved c s saves = by_cases (saved_in c.saved s) refl (saved s) refl
+  where
+    by_cases : (o : Option (List ℕ)) → saved_in c.saved s ≡ o → (b : Bool) → saved s ≡ b → saved s ≡ is_saved c s
+    by_cases None e true is = absurd (subst (λ (o : Option (List ℕ)). IsSomeAnd o (IsSector chip s)) e (saves.sectors s is))
+    by_cases None e false is = is ∙ sym (ap is_some e)
+    by_cases (Some bytes) e true is = is ∙ sym (ap is_some e)
+    by_cases (Some bytes) e false is = (let none : Some bytes ≡ None = sym e ∙ saves.others s is in absurd cc)
+
+-- a saved byte is the chip's
+pub saved_byte-is : (chip : ℕ → ℕ) (saved : ℕ → Bool) (c : Content) (a : ℕ) → Saves chip saved c → saved (a / 4096) ≡ true → saved_byte c a ≡ chip a
+saved_byte-is chip saved c a saves is = of_sector (saved_in c.saved (a / 4096)) (saves.sectors (a / 4096) is)
+  where
+    of_sector : (o : Option (List ℕ)) → IsSomeAnd o (IsSector chip (a / 4096)) → slice_index (unwrap_or o []) (a % 4096) ≡ chip a
+    of_sector None never = absurd never
+    of_sector (Some bytes) sector = sector.same (a % 4096) (omega arith) ∙ ap chip (omega arith)
+
+-- each content saves its own sectors, with its own bytes
+pub Saves-itself : (c : Content) → IsContent c → Saves (saved_byte c) (is_saved c) c
+Saves-itself c is = record { is = is; sectors = λ s e. of_sector s (saved_in c.saved s) refl e; others = λ s e. of_other (saved_in c.saved s) e }
+  where
+    of_other : (o : Option (List ℕ)) → is_some o ≡ false → o ≡ None
+    of_other None e = refl
+    of_other (Some bytes) e = absurd cc
+
+    of_sector : (s : ℕ) (o : Option (List ℕ)) → saved_in c.saved s ≡ o → is_some o ≡ true → IsSomeAnd o (IsSector (saved_byte c) s)
+    of_sector s None e some = absurd cc
+    of_sector s (Some bytes) e some = record {
+      whole = (saved_in-whole (c.size / 4096) 0 c.saved s bytes is.saved e).1;
+      same = λ i below.
+          (let sector : (4096 * s + i) / 4096 ≡ s = omega arith in
+          let place : (4096 * s + i) % 4096 ≡ i = omega arith in
+          rw (sector, place, e) refl);
+    }
+
+-- ---- of the bytes of a journal
+
+-- what was kept is read
+pub reads_kept : (bytes : List ℕ) (r : Result Content JournalFault) (head : Content) (chip : ℕ → ℕ) (saved : ℕ → Bool) (kept : JournalSaves head chip saved bytes) → IsOkAnd r (λ journal. journal ≡ kept.content)
+    → IsOkAnd r (λ journal. SameHead head journal × Saves chip saved journal)
+reads_kept bytes (Ok journal) head chip saved kept is = subst (λ (c : Content). SameHead head c × Saves chip saved c) (sym is) (kept.same, kept.saves)
+reads_kept bytes (Err fault) head chip saved kept never = absurd never
 
 -- ---- of a writer
 

@@ -29,14 +29,13 @@ same_head : (c : Content) (number : ℕ) (bytes : List ℕ) → head (with_secto
 unfolding head
 same_head c number bytes = refl
 
-front-with_sector : (c : Content) (number : ℕ) (bytes : List ℕ) → front (with_sector c number bytes) ≡ (front c ++ number_text number) ++ bytes
-unfolding front record_text
+front-with_sector : (c : Content) (number : ℕ) (bytes : List ℕ) → front (with_sector c number bytes) ≡ front c ++ record_text (record { number = number; bytes = bytes })
+unfolding front
 front-with_sector c number bytes =
     let added : SavedSector = record { number = number; bytes = bytes } in
     ap (λ (t : List ℕ). t ++ records_text (c.saved ++ added ∷ [])) (same_head c number bytes)
     ∙ ap (λ (t : List ℕ). head c ++ t) (records_text-push c.saved added)
-    ∙ sym (append_assoc (head c) (records_text c.saved) (number_text number ++ bytes))
-    ∙ sym (append_assoc (head c ++ records_text c.saved) (number_text number) bytes)
+    ∙ sym (append_assoc (head c) (records_text c.saved) (record_text added))
 
 -- one sector more is a content still
 pub IsContent-with_sector : (c : Content) (number : ℕ) (bytes : List ℕ) → IsContent c → MayFollow c number → length bytes ≡ 4096 → IsContent (with_sector c number bytes)
@@ -50,9 +49,9 @@ IsContent-with_sector c number bytes is follows whole = record {
 }
 
 -- a record makes a content with one sector more
-pub adds : {V : Type 0} (state : V → VaultState) (w : Writer V) (c : Content) (number : ℕ) (digits bytes : List ℕ) → IsContent c → MayFollow c number → length bytes ≡ 4096 → digits ≡ number_text number
-    → HasPut state w ((front c ++ digits) ++ bytes) → HasWritten state w (with_sector c number bytes)
-adds state w c number digits bytes is follows whole e put = record {
+pub adds : {V : Type 0} (state : V → VaultState) (w : Writer V) (c : Content) (number : ℕ) (bytes piece : List ℕ) → IsContent c → MayFollow c number → length bytes ≡ 4096 → piece ≡ record_text (record { number = number; bytes = bytes })
+    → HasPut state w (front c ++ piece) → HasWritten state w (with_sector c number bytes)
+adds state w c number bytes piece is follows whole e put = record {
   is = IsContent-with_sector c number bytes is follows whole;
   put = rw (front-with_sector c number bytes, ← e) put;
 }

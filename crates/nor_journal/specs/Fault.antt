@@ -6,6 +6,16 @@ use Rattle.nor_journal.specs.Text.{Content, IsContent, IsChipSize, Format, First
 use Rattle.nor_journal.specs.declared.fault.JournalFault.{JournalFault}
 use Rattle.nor_journal.specs.declared.fault.JournalFault.TheVariants.{Short, Magic, Size, Place, Order, Long, Digest}
 
+-- the numbers of the faults
+abbrev pub number_of_fault : JournalFault → ℕ
+number_of_fault Short = 1
+number_of_fault Magic = 2
+number_of_fault Size = 3
+number_of_fault Place = 4
+number_of_fault Order = 5
+number_of_fault Long = 6
+number_of_fault Digest = 7
+
 -- the length of a head, whose last four bytes are the size
 abbrev pub head_length : Format → ℕ
 head_length First = 17

@@ -1,11 +1,25 @@
 -- Which sectors a content saves, and with which bytes.
-use Rattle.std.specs.Prelude.{◌≡◌, ◌≢◌, ℕ, ◌+◌, ◌*◌, ◌<◌, Bool, true, false, List, [], ◌∷◌, length, slice_index, Option, Some, None, IsSomeAnd, ◌==◌, if◌then◌else◌}
+use Rattle.std.specs.Prelude.{◌≡◌, ◌≢◌, ℕ, ◌+◌, ◌*◌, ◌/◌, ◌%◌, ◌<◌, Bool, true, false, List, [], ◌∷◌, length, slice_index, slice_get, Option, Some, None, IsSomeAnd, ◌==◌, if◌then◌else◌}
+use Rattle.std.specs.Option.{is_some, unwrap_or}
 use Rattle.nor_journal.specs.Text.{SavedSector, Content, IsContent, SameHead, text}
 
 -- the bytes that are saved for a sector, if it is saved
 unfoldable pub saved_in : List SavedSector → ℕ → Option (List ℕ)
 saved_in [] number = None
 saved_in (s ∷ rest) number = if s.number == number then Some s.bytes else saved_in rest number
+
+-- A record has this sector, with these bytes.
+pub record HasRecord (content : Content) (sector : ℕ) (bytes : List ℕ) : Type 0 where
+  pub place : ℕ
+  pub is : slice_get content.saved place ≡ Some (record { number = sector; bytes = bytes })
+
+-- whether a sector is saved
+abbrev pub is_saved : Content → ℕ → Bool
+is_saved content s = is_some (saved_in content.saved s)
+
+-- the byte that is saved for an address of a saved sector
+abbrev pub saved_byte : Content → ℕ → ℕ
+saved_byte content a = slice_index (unwrap_or (saved_in content.saved (a / 4096)) []) (a % 4096)
 
 -- The bytes are those of sector s, where each address of a chip has its byte.
 pub record IsSector (chip : ℕ → ℕ) (s : ℕ) (bytes : List ℕ) : Type 0 where

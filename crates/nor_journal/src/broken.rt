@@ -50,6 +50,13 @@ impl<V: Vault> BrokenVault<V> {
         inner
     }
 
+    /// How often it refused, in 64 bits.
+    pub fn failures(&self) -> u64
+        ensures { result ≡ (⟦<BrokenVault<V> as Vault>⟧.state self.now).failures }
+    {
+        self.failures
+    }
+
     // Counts a call, and says whether it is the one that is refused.
     fn breaks(&mut self) -> bool
         ensures now { IsTrue result ↔ calls_left self.old ≡ 1 }

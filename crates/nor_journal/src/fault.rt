@@ -1,7 +1,8 @@
 //! Why bytes are no journal.
+ghost use Rattle.std.specs.Prelude.{◌≡◌};
+ghost use Rattle.nor_journal.specs.Fault.{number_of_fault};
 
-/// The first fault that is met where a journal is read from its front, part by part. As a number, `fault as u8`,
-/// it is 1 to 7.
+/// The first fault that is met where a journal is read from its front, part by part.
 #[derive(Clone, Copy, Debug, PartialEq, Eq)]
 pub enum JournalFault {
     /// A part isn't wholly there: a part of the head, a sector's number, its bytes, the end mark or the digest.
@@ -18,4 +19,13 @@ pub enum JournalFault {
     Long,
     /// The digest is another.
     Digest,
+}
+
+impl JournalFault {
+    /// The number of the fault, 1 to 7, by which messages name it.
+    pub fn number(self) -> u8
+        ensures { result ≡ number_of_fault self }
+    {
+        self as u8
+    }
 }

@@ -1,23 +1,22 @@
 //! A vault in a file.
 ghost use Rattle.std.specs.Prelude.{◌≡◌, false, []};
 ghost use Rattle.nor_journal.specs.Vault.{new_vault, one_more, Puts, Seals};
-ghost use Rattle.nor_journal.specs.FileVault.{file_of, FileTakes};
+ghost use Rattle.nor_journal.specs.FileVault.{file_of, FileTakes, Syncs};
 
+use crate::file::VaultFile;
 use crate::vault::{Vault, VaultFault};
-use std::fs::OpenFile;
-use std::io::Write;
 
 /// A vault that writes its bytes to a file opened for writing. An error of a write, and a write of no bytes,
-/// is a refusal; it tells how much of the piece the writes before it took. The seal syncs the file, and an
-/// error of the sync is a refusal. It isn't telling, since nothing is known of what a real file holds.
+/// is a refusal; it tells how much of the piece the writes before it took. The seal syncs the file, so that
+/// what was put is what is synced, and an error of the sync is a refusal. It isn't telling, since nothing is known of what a real file holds.
 #[derive(Drop)]
-pub struct FileVault<F: Write + OpenFile> {
+pub struct FileVault<F: VaultFile> {
     file: F,
     sealed: bool,
     failures: u64,
 }
 
-impl<F: Write + OpenFile> FileVault<F> {
+impl<F: VaultFile> FileVault<F> {
     /// An unsealed vault over a file that nothing was written to yet.
     pub fn new(file: F) -> FileVault<F>
         ensures state { ⟦<FileVault<F> as Vault>⟧.state result ≡ new_vault false }
@@ -48,7 +47,7 @@ impl<F: Write + OpenFile> FileVault<F> {
     }
 }
 
-impl<F: Write + OpenFile> Vault for FileVault<F> {
+impl<F: VaultFile> Vault for FileVault<F> {
     ghost state = { λ v. record { telling = false; bytes = []; sealed = v.sealed; failures = v.failures } };
 
     fn put(&mut self, piece: &[u8]) -> Result<(), VaultFault>
@@ -58,7 +57,7 @@ impl<F: Write + OpenFile> Vault for FileVault<F> {
     {
         let mut kept = 0;
         while kept < piece.len() {
-            match self.file.write(&piece[kept..]) {
+            match self.file.append(&piece[kept..]) {
                 Ok(0) | Err(_) => return Err(self.refusal(kept)),
                 Ok(taken) => kept += taken,
             }
@@ -69,9 +68,9 @@ impl<F: Write + OpenFile> Vault for FileVault<F> {
     fn seal(&mut self) -> Result<(), VaultFault>
         requires { (⟦<FileVault<F> as Vault>⟧.state self.old).sealed ≡ false }
         ensures law { Seals (⟦<FileVault<F> as Vault>⟧.state self.old) result (⟦<FileVault<F> as Vault>⟧.state self.new) }
-        ensures file { file_of self.new ≡ file_of self.old }
+        ensures file { Syncs (F.contents (file_of self.old)) (F.contents (file_of self.new)) (F.synced (file_of self.new)) result }
     {
-        if self.file.sync_all().is_err() {
+        if self.file.sync().is_err() {
             return Err(self.refusal(0));
         }
         self.sealed = true;

@@ -1,7 +1,7 @@
 //! A journal that was read.
-ghost use Rattle.std.specs.Prelude.{◌≡◌, ℕ, ◌/◌, ◌<◌, ◌≤◌, List, ◌++◌, length, take, slice_get, Some, IfOk, IfErr, OnOk, IsOkAnd};
-ghost use Rattle.nor_journal.specs.Text.{Content, IsContent, text};
-ghost use Rattle.nor_journal.specs.Saved.{saved_in};
+ghost use Rattle.std.specs.Prelude.{◌≡◌, ◌↔◌, ℕ, ◌/◌, ◌<◌, ◌≤◌, Bool, List, ◌++◌, length, take, slice_get, Some, IfOk, IfErr, OnOk, IsOkAnd};
+ghost use Rattle.nor_journal.specs.Text.{Content, IsContent, SameHead, text};
+ghost use Rattle.nor_journal.specs.Saved.{Saves, JournalSaves, HasRecord, saved_in};
 ghost use Rattle.nor_journal.specs.Fault.{HasFault};
 ghost use Rattle.nor_journal.specs.declared.fault.JournalFault.{JournalFault};
 
@@ -42,6 +42,9 @@ impl<'a> Journal<'a> {
         ensures found { IfOk result (λ journal. IsContent journal × (bytes.now ≡ text journal)) }
         // A journal is read.
         ensures only { (c : Content) → IsContent c → bytes.now ≡ text c → IsOkAnd result (λ journal. journal ≡ c) }
+        // What was kept is read.
+        ensures kept { (head : Content) (chip : ℕ → ℕ) (saved : ℕ → Bool) → JournalSaves head chip saved bytes.now
+            → IsOkAnd result (λ journal. SameHead head journal × Saves chip saved journal) }
         // No proper beginning of a journal is a journal.
         ensures whole { OnOk result ((c : Content) (n : ℕ) → IsContent c → take n bytes.now ≡ text c → length bytes.now ≤ n) }
         // Which fault it is.
@@ -126,4 +129,9 @@ pub fn one_text()
 /// Bytes have one fault at most, the first that is met.
 pub fn one_fault()
     ensures { (bytes : List ℕ) (f g : JournalFault) → HasFault bytes f → HasFault bytes g → f ≡ g }
+{}
+
+/// A sector is saved exactly where a record has its number, and then with the bytes of that record.
+pub fn one_record()
+    ensures { (c : Content) (sector : ℕ) (bytes : List ℕ) → IsContent c → saved_in c.saved sector ≡ Some bytes ↔ HasRecord c sector bytes }
 {}

@@ -3,6 +3,7 @@
 
 mod broken;
 mod fault;
+mod file;
 mod file_vault;
 mod head;
 mod journal;
@@ -14,8 +15,9 @@ mod writer;
 
 pub use broken::BrokenVault;
 pub use fault::JournalFault;
+pub use file::VaultFile;
 pub use file_vault::FileVault;
-pub use journal::{Journal, one_fault, one_text};
+pub use journal::{Journal, one_fault, one_record, one_text};
 pub use mem_vault::MemVault;
 pub use vault::{Vault, VaultFault};
 pub use writer::Writer;

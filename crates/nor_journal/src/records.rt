@@ -1,13 +1,13 @@
 //! The records of a journal, and its end.
 ghost use Rattle.std.specs.Prelude.{◌≡◌, ◌+◌, ◌*◌, ◌≤◌, length, take, drop, IfOk, IfErr, OnOk, MatchOption};
 ghost use Rattle.sha2.specs.Sha256.{sha256};
-ghost use Rattle.nor_journal.specs.Text.{end_mark};
+ghost use Rattle.nor_journal.specs.Text.{end_mark, record_text};
 ghost use Rattle.nor_journal.specs.Fault.{RecordFault, EndFault};
 ghost use Rattle.nor_journal.specs.Reading.{sector_at, BeginsRecord, HasRecords, EndsBehind, FaultBehindRecords};
 
 use crate::fault::JournalFault;
 use crate::head::Head;
-use crate::number::number_of;
+use crate::number::{number_bytes, number_of};
 use sha2::{Digest, Sha256};
 
 /// The length of a sector in bytes.
@@ -63,6 +63,16 @@ pub fn count_records(head: &Head, bytes: &[u8]) -> Result<usize, JournalFault>
         count += 1;
     }
     Ok(count)
+}
+
+/// The bytes of a record.
+pub fn record_bytes(number: u32, bytes: &[u8; 4096]) -> [u8; RECORD]
+    ensures { result ≡ record_text (record { number = number; bytes = bytes.now }) }
+{
+    let mut record = [0; RECORD];
+    record[..4].copy_from_slice(&number_bytes(number));
+    record[4..].copy_from_slice(bytes);
+    record
 }
 
 /// The number and the bytes of record `i`.

@@ -1,11 +1,11 @@
 ghost use Rattle.nor_journal.specs.Vault.{IsFresh, Completes};
 
 use super::*;
-use std::alloc::Global;
-use std::fs::{Metadata, OpenFile};
-use std::io;
-use std::io::Write;
 use std::test::Fail;
+
+mod breaks;
+mod faults;
+mod files;
 
 /// The journal of a chip of 65,536 bytes with the ID FE 10 10, a unique ID of zeros and no saved sector. The digest
 /// is that of `sha256sum`.
@@ -33,65 +33,7 @@ const DIGEST_OF_ONE: [u8; 32] = [
 fn fault_of(bytes: &[u8]) -> u8 {
     match Journal::read(bytes) {
         Ok(_) => 0,
-        Err(fault) => fault as u8,
-    }
-}
-
-/// A file in memory that takes at most `most` bytes a write, and fails after `writes` of them.
-#[derive(Drop)]
-struct SmallFile {
-    bytes: Vec<u8>,
-    most: usize,
-    writes: u32,
-    syncs: bool,
-}
-
-impl SmallFile {
-    fn new(alloc: Global, most: usize, writes: u32, syncs: bool) -> SmallFile {
-        SmallFile {
-            bytes: Vec::new(alloc),
-            most,
-            writes,
-            syncs,
-        }
-    }
-}
-
-impl Write for SmallFile {
-    fn write(&mut self, buf: &[u8]) -> io::Result<usize> {
-        if self.writes == 0 {
-            return Err(io::Error::from(io::ErrorKind::Other));
-        }
-        self.writes -= 1;
-        let taken = buf.len().min(self.most);
-        self.bytes.extend_from_slice(&buf[..taken])?;
-        Ok(taken)
-    }
-
-    fn flush(&mut self) -> io::Result<()> {
-        Ok(())
-    }
-}
-
-impl OpenFile for SmallFile {
-    fn metadata(&self) -> io::Result<Metadata> {
-        Err(io::Error::from(io::ErrorKind::Unsupported))
-    }
-
-    fn set_len(&self, _size: u64) -> io::Result<()> {
-        Err(io::Error::from(io::ErrorKind::Unsupported))
-    }
-
-    fn sync_all(&self) -> io::Result<()> {
-        if self.syncs {
-            Ok(())
-        } else {
-            Err(io::Error::from(io::ErrorKind::Other))
-        }
-    }
-
-    fn sync_data(&self) -> io::Result<()> {
-        self.sync_all()
+        Err(fault) => fault.number(),
     }
 }
 
@@ -179,79 +121,4 @@ fn a_journal_of_format_1(rt: HostRuntime) -> Result<(), Fail> {
     assert_eq!(rt; journal.size(), 65536);
     assert_eq!(rt; journal.count(), 0);
     Ok(())
-}
-
-#[test]
-fn faults_of_cut_and_changed_journals(rt: HostRuntime) -> Result<(), Fail> {
-    assert_eq!(rt; fault_of(&EMPTY), 0);
-    assert_eq!(rt; fault_of(&EMPTY[..60]), 1);
-    assert_eq!(rt; fault_of(&[]), 1);
-    let mut longer = EMPTY.to_vec(rt.alloc())?;
-    longer.push(0)?;
-    assert_eq!(rt; fault_of(&longer), 6);
-    let mut changed = EMPTY;
-    changed[60] ^= 1;
-    assert_eq!(rt; fault_of(&changed), 7);
-    Ok(())
-}
-
-#[test]
-fn a_journal_cut_in_a_sector(rt: HostRuntime) -> Result<(), Fail> {
-    let mut one = MemVault::new(rt.alloc());
-    save(&mut one, &[0], &[0xFF; 4096])?;
-    assert_eq!(rt; fault_of(one.bytes()), 0);
-    let cut = one.bytes().get(..4000).ok_or("it has 4,161 bytes")?;
-    assert_eq!(rt; fault_of(cut), 1);
-    Ok(())
-}
-
-#[test]
-fn faults_of_numbers_and_heads(rt: HostRuntime) -> Result<(), Fail> {
-    let mut outside = MemVault::new(rt.alloc());
-    save(&mut outside, &[16], &[0; 4096])?;
-    assert_eq!(rt; fault_of(outside.bytes()), 4);
-    let mut twice = MemVault::new(rt.alloc());
-    save(&mut twice, &[3, 3], &[0; 4096])?;
-    assert_eq!(rt; fault_of(twice.bytes()), 5);
-    let zeros = vec![in rt.alloc(); 0; 1_000_000]?;
-    assert_eq!(rt; fault_of(&zeros), 2);
-    let mut ones = vec![in rt.alloc(); 0xFF; 1000]?;
-    assert!(rt; ones.len() == 1000);
-    ones[..8].copy_from_slice(b"NORUNDO1");
-    assert_eq!(rt; fault_of(&ones), 3);
-    Ok(())
-}
-
-#[test]
-fn a_file_that_takes_a_byte_at_a_time(rt: HostRuntime) -> Result<(), Fail> {
-    let mut vault = FileVault::new(SmallFile::new(rt.alloc(), 1, u32::MAX, true));
-    save(&mut vault, &[], &[0; 4096])?;
-    assert_eq!(rt; vault.into_inner().bytes.as_slice(), EMPTY.as_slice());
-    Ok(())
-}
-
-#[test]
-fn files_that_refuse(rt: HostRuntime) {
-    // the second write fails
-    let mut failing = FileVault::new(SmallFile::new(rt.alloc(), 2, 1, true));
-    assert_eq!(rt; failing.put(b"piece"), Err(VaultFault { kept: 2 }));
-    assert_eq!(rt; failing.into_inner().bytes.as_slice(), b"pi".as_slice());
-    // a write takes nothing
-    let mut full = FileVault::new(SmallFile::new(rt.alloc(), 0, u32::MAX, true));
-    assert_eq!(rt; full.put(b"piece"), Err(VaultFault { kept: 0 }));
-    // the sync fails
-    let mut unsynced = FileVault::new(SmallFile::new(rt.alloc(), 5, u32::MAX, false));
-    assert_eq!(rt; unsynced.put(b"piece"), Ok(()));
-    assert_eq!(rt; unsynced.seal(), Err(VaultFault { kept: 0 }));
-}
-
-#[test]
-fn a_refusal_in_the_middle_of_a_record(rt: HostRuntime) {
-    // five writes are the head, the sixth a record's number, the seventh half of its bytes
-    let mut vault = FileVault::new(SmallFile::new(rt.alloc(), 2048, 7, true));
-    assert_eq!(rt;
-        save(&mut vault, &[0], &[0xFF; 4096]),
-        Err(VaultFault { kept: 2048 })
-    );
-    assert_eq!(rt; vault.into_inner().bytes.len(), 25 + 4 + 2048);
 }

@@ -7,7 +7,7 @@ ghost use Rattle.nor_journal.specs.Writer.{vault_of, vault_state, HasPut, HasWri
 
 use crate::head::MAGIC;
 use crate::number::number_bytes;
-use crate::records::END_MARK;
+use crate::records::{END_MARK, record_bytes};
 use crate::vault::{Vault, VaultFault};
 use sha2::{Digest, Sha256};
 
@@ -116,8 +116,7 @@ impl<'a, V: Vault> Writer<'a, V> {
             → IsSector chip number bytes.now → HasOneMore saved number more
             → OnOk result (HasKept V.state self.new head chip more (number + 1)) }
     {
-        self.piece(&number_bytes(number))?;
-        self.piece(bytes)
+        self.piece(&record_bytes(number, bytes))
     }
 
     /// Writes the end mark and the digest, and seals the vault, whose bytes are then the journal's text.

@@ -8,7 +8,7 @@ invariant-loop-kept g l = record {
   within : l.kept ≤ length l.piece;
   sealed : l.self.sealed ≡ l.fn.self.sealed;
   failures : l.self.failures ≡ l.fn.self.failures;
-  file : Appends (g.F.Write.contents l.fn.self.file) (g.F.Write.contents l.self.file) (take l.kept l.piece);
+  file : Appends (g.F.VaultFile.contents l.fn.self.file) (g.F.VaultFile.contents l.self.file) (take l.kept l.piece);
 }
 
 abbrev pub decreases-loop-kept : goal.decreases-loop-kept
