@@ -1,10 +1,10 @@
 -- Which places and units of a chip are guarded: what callers need of it.
-use Rattle.std.proofs.Common.{◌≡◌, ℕ, ◌+◌, ◌-◌, ◌*◌, ◌/◌, ◌%◌, ◌<◌, ◌≤◌, inl, inr, arith, refl, sym, ◌∙◌, ap}
-use Rattle.std.specs.Prelude.{Bool, true, false, ◌&&◌, ◌||◌, ◌↔◌}
+use Rattle.std.proofs.Common.{◌≡◌, ℕ, ◌+◌, ◌-◌, ◌*◌, ◌/◌, ◌<◌, ◌≤◌, inl, inr, arith, refl, sym, ◌∙◌, ap}
+use Rattle.std.specs.Prelude.{Bool, true, false, ◌&&◌, ◌↔◌}
 use Rattle.std.proofs.Math.Bool.{and-false}
 use Rattle.std.proofs.lemmas.Bool.{cases_lt, lt-ltb, le-ltb, lt-leb}
 use Rattle.nor_chip.specs.Chip.{Chip}
-use Rattle.nor_chip.specs.Guard.{guarded_by, named_length, code_of, is_guarded, is_unit_guarded}
+use Rattle.nor_chip.specs.Guard.{guarded_by, code_of, is_guarded, is_unit_guarded}
 use Rattle.nor_chip.specs.Units.{LieAtAnEnd, HoldsSomewhere}
 use Rattle.nor_chip.proofs.GuardedPlaces.{guarded_by-end, guarded_by-page, guarded_by-past, borders, lies_nowhere}
 
