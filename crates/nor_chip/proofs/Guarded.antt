@@ -2,7 +2,7 @@
 use Rattle.std.proofs.Common.{◌≡◌, ℕ, ◌+◌, ◌-◌, ◌*◌, ◌/◌, ◌<◌, ◌≤◌, inl, inr, arith, refl, sym, ◌∙◌, ap}
 use Rattle.std.specs.Prelude.{Bool, true, false, ◌&&◌, ◌↔◌}
 use Rattle.std.proofs.Math.Bool.{and-false}
-use Rattle.std.proofs.lemmas.Bool.{cases_lt, lt-ltb, le-ltb, lt-leb}
+use Rattle.std.proofs.lemmas.Bool.{cases_lt, lt-ltb, le-ltb, lt-leb, false_from_ne_true}
 use Rattle.nor_chip.specs.Chip.{Chip}
 use Rattle.nor_chip.specs.Guard.{guarded_by, code_of, is_guarded, is_unit_guarded}
 use Rattle.nor_chip.specs.Units.{LieAtAnEnd, HoldsSomewhere}
@@ -22,15 +22,10 @@ is_guarded-end chip =
 pub is_unit_guarded-iff : (chip : Chip) (start len : ℕ) → 0 < len → start + len ≤ chip.config.size → (is_unit_guarded chip start len ≡ true) ↔ HoldsSomewhere (is_guarded chip) start len
 is_unit_guarded-iff chip start len some fits = borders chip.config.size (is_guarded chip) start len (is_guarded-end chip) some fits
 
--- a test that holds nowhere is false
-false_from : (test : Bool) → (test ≡ true → ⊥) → test ≡ false
-false_from true never = absurd (never refl)
-false_from false never = refl
-
 -- A unit that isn't guarded has no guarded place, ..
 pub is_unit_guarded-none : (chip : Chip) (start len a : ℕ) → start + len ≤ chip.config.size → is_unit_guarded chip start len ≡ false → start ≤ a → a < start + len → is_guarded chip a ≡ false
 is_unit_guarded-none chip start len a fits free from before =
-    false_from (is_guarded chip a) (λ guarded.
+    false_from_ne_true (is_guarded chip a) (λ guarded.
     let there = (is_unit_guarded-iff chip start len (omega arith) fits).1 record { place = a; from = from; before = before; holds = guarded } in
     let both : true ≡ false = sym there ∙ free in cc)
 
