@@ -45,6 +45,13 @@ is_guarded-sector chip a below free =
     let blocks = chip.config.in_blocks in
     is_unit_guarded-none chip (4096 * (a / 4096)) 4096 a (omega arith) free (omega arith) (omega arith)
 
+-- A sector isn't guarded exactly where none of its addresses is.
+pub is_unit_guarded-sector : (chip : Chip) (s : ℕ) → 4096 * s < chip.config.size → (is_unit_guarded chip (4096 * s) 4096 ≡ false) ↔ ((a : ℕ) → a / 4096 ≡ s → is_guarded chip a ≡ false)
+is_unit_guarded-sector chip s below = let blocks = chip.config.in_blocks in (
+  (λ free a inside. is_unit_guarded-none chip (4096 * s) 4096 a (omega arith) free (omega arith) (omega arith)),
+  (λ free. is_unit_guarded-free chip (4096 * s) 4096 (omega arith) (λ a from before. free a (omega arith))),
+)
+
 -- A unit of whole sectors of which none is guarded isn't guarded.
 pub is_unit_guarded-sectors : (chip : Chip) (start len : ℕ) → 0 < len → start + len ≤ chip.config.size → ((s : ℕ) → start / 4096 ≤ s → 4096 * s < start + len → is_unit_guarded chip (4096 * s) 4096 ≡ false) → is_unit_guarded chip start len ≡ false
 is_unit_guarded-sectors chip start len some fits free =
@@ -73,6 +80,9 @@ guarded_by-zero size a = elim (cases_lt a size) [
 
 pub is_guarded-zero : (chip : Chip) (a : ℕ) → code_of chip ≡ 0 → is_guarded chip a ≡ false
 is_guarded-zero chip a zeros = rw (zeros, guarded_by-zero chip.config.size a) (and-false chip.config.scheme)
+
+pub is_unit_guarded-zero : (chip : Chip) (start len : ℕ) → code_of chip ≡ 0 → is_unit_guarded chip start len ≡ false
+is_unit_guarded-zero chip start len zeros = rw (is_guarded-zero chip start zeros, is_guarded-zero chip (start + len - 1) zeros) refl
 
 -- Two chips of one configuration and the same kept bits guard the same places.
 pub is_guarded-same : (old new : Chip) → new.config ≡ old.config → new.kept1 ≡ old.kept1 → new.kept2 ≡ old.kept2 → (a : ℕ) → is_guarded new a ≡ is_guarded old a
