@@ -1,10 +1,10 @@
 -- Which places and units of a chip are guarded: what callers need of it.
-use Rattle.std.proofs.Common.{◌≡◌, ℕ, ◌+◌, ◌-◌, ◌*◌, ◌/◌, ◌%◌, ◌<◌, ◌≤◌, inl, inr, arith, refl, sym, ◌∙◌, ap}
-use Rattle.std.specs.Prelude.{Bool, true, false, ◌&&◌, ◌||◌, ◌↔◌}
+use Rattle.std.proofs.Common.{◌≡◌, ℕ, ◌+◌, ◌-◌, ◌*◌, ◌/◌, ◌<◌, ◌≤◌, inl, inr, arith, refl, sym, ◌∙◌, ap}
+use Rattle.std.specs.Prelude.{Bool, true, false, ◌&&◌, ◌↔◌}
 use Rattle.std.proofs.Math.Bool.{and-false}
-use Rattle.std.proofs.lemmas.Bool.{cases_lt, lt-ltb, le-ltb, lt-leb}
+use Rattle.std.proofs.lemmas.Bool.{cases_lt, lt-ltb, le-ltb, lt-leb, false_from_ne_true}
 use Rattle.nor_chip.specs.Chip.{Chip}
-use Rattle.nor_chip.specs.Guard.{guarded_by, named_length, code_of, is_guarded, is_unit_guarded}
+use Rattle.nor_chip.specs.Guard.{guarded_by, code_of, is_guarded, is_unit_guarded}
 use Rattle.nor_chip.specs.Units.{LieAtAnEnd, HoldsSomewhere}
 use Rattle.nor_chip.proofs.GuardedPlaces.{guarded_by-end, guarded_by-page, guarded_by-past, borders, lies_nowhere}
 
@@ -22,15 +22,10 @@ is_guarded-end chip =
 pub is_unit_guarded-iff : (chip : Chip) (start len : ℕ) → 0 < len → start + len ≤ chip.config.size → (is_unit_guarded chip start len ≡ true) ↔ HoldsSomewhere (is_guarded chip) start len
 is_unit_guarded-iff chip start len some fits = borders chip.config.size (is_guarded chip) start len (is_guarded-end chip) some fits
 
--- a test that holds nowhere is false
-false_from : (test : Bool) → (test ≡ true → ⊥) → test ≡ false
-false_from true never = absurd (never refl)
-false_from false never = refl
-
 -- A unit that isn't guarded has no guarded place, ..
 pub is_unit_guarded-none : (chip : Chip) (start len a : ℕ) → start + len ≤ chip.config.size → is_unit_guarded chip start len ≡ false → start ≤ a → a < start + len → is_guarded chip a ≡ false
 is_unit_guarded-none chip start len a fits free from before =
-    false_from (is_guarded chip a) (λ guarded.
+    false_from_ne_true (is_guarded chip a) (λ guarded.
     let there = (is_unit_guarded-iff chip start len (omega arith) fits).1 record { place = a; from = from; before = before; holds = guarded } in
     let both : true ≡ false = sym there ∙ free in cc)
 
@@ -49,6 +44,13 @@ pub is_guarded-sector : (chip : Chip) (a : ℕ) → a < chip.config.size → is_
 is_guarded-sector chip a below free =
     let blocks = chip.config.in_blocks in
     is_unit_guarded-none chip (4096 * (a / 4096)) 4096 a (omega arith) free (omega arith) (omega arith)
+
+-- A sector isn't guarded exactly where none of its addresses is.
+pub is_unit_guarded-sector : (chip : Chip) (s : ℕ) → 4096 * s < chip.config.size → (is_unit_guarded chip (4096 * s) 4096 ≡ false) ↔ ((a : ℕ) → a / 4096 ≡ s → is_guarded chip a ≡ false)
+is_unit_guarded-sector chip s below = let blocks = chip.config.in_blocks in (
+  (λ free a inside. is_unit_guarded-none chip (4096 * s) 4096 a (omega arith) free (omega arith) (omega arith)),
+  (λ free. is_unit_guarded-free chip (4096 * s) 4096 (omega arith) (λ a from before. free a (omega arith))),
+)
 
 -- A unit of whole sectors of which none is guarded isn't guarded.
 pub is_unit_guarded-sectors : (chip : Chip) (start len : ℕ) → 0 < len → start + len ≤ chip.config.size → ((s : ℕ) → start / 4096 ≤ s → 4096 * s < start + len → is_unit_guarded chip (4096 * s) 4096 ≡ false) → is_unit_guarded chip start len ≡ false
@@ -78,6 +80,9 @@ guarded_by-zero size a = elim (cases_lt a size) [
 
 pub is_guarded-zero : (chip : Chip) (a : ℕ) → code_of chip ≡ 0 → is_guarded chip a ≡ false
 is_guarded-zero chip a zeros = rw (zeros, guarded_by-zero chip.config.size a) (and-false chip.config.scheme)
+
+pub is_unit_guarded-zero : (chip : Chip) (start len : ℕ) → code_of chip ≡ 0 → is_unit_guarded chip start len ≡ false
+is_unit_guarded-zero chip start len zeros = rw (is_guarded-zero chip start zeros, is_guarded-zero chip (start + len - 1) zeros) refl
 
 -- Two chips of one configuration and the same kept bits guard the same places.
 pub is_guarded-same : (old new : Chip) → new.config ≡ old.config → new.kept1 ≡ old.kept1 → new.kept2 ≡ old.kept2 → (a : ℕ) → is_guarded new a ≡ is_guarded old a

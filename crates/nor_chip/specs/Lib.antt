@@ -18,3 +18,4 @@ pub mod Status
 pub mod Offer
 pub mod Offered
 pub mod Spoilt
+pub mod Trace

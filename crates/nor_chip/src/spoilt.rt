@@ -1,5 +1,7 @@
 //! A bus that lies.
-ghost use Rattle.std.specs.Prelude.{◌≡◌, true, false, OnOk, OnErr, EachIndex, slice_index};
+ghost use Rattle.std.specs.Prelude.{◌≡◌, Bool, true, false, OnOk, OnErr, MatchBool, EachIndex, slice_index};
+ghost use Rattle.std.proofs.Common.{subst};
+ghost use Rattle.nor_chip.specs.Chip.{IsChip};
 ghost use Rattle.nor_chip.specs.Bus.{Sends, Stops, Carries, Allows};
 ghost use Rattle.nor_chip.specs.Spoilt.{inner_of, spoil_of, sent_of, spoilt_state, kept_back, spoilt_byte, Spoils};
 
@@ -71,7 +73,7 @@ impl<B: Bus> SpoiltBus<B> {
 impl<B: Bus> Bus for SpoiltBus<B> {
     ghost state = { spoilt_state B.state };
 
-    ghost reaches = { λ spoilt honest. absurd (cc) };
+    ghost reaches = { λ spoilt honest. subst (λ (b : Bool). MatchBool b (IsChip (spoilt_state B.state spoilt).chip) (Unit {0})) honest tt };
 
     fn transfer(&mut self, out: &[u8], reply: &mut [u8]) -> Result<(), Stopped>
         ensures sends { Sends out.now (spoilt_state B.state self.old) (spoilt_state B.state self.new) }

@@ -1,5 +1,7 @@
 //! A bus that writes down what it carries out.
-ghost use Rattle.std.specs.Prelude.{◌≡◌, false};
+ghost use Rattle.std.specs.Prelude.{◌≡◌, true, false, OnOk, OnErr};
+ghost use Rattle.nor_chip.specs.Bus.{Sends, Stops, Carries, Allows};
+ghost use Rattle.nor_chip.specs.Trace.{traced_by, has_lost, Traces};
 
 use crate::{Bus, Meter, Stopped};
 
@@ -28,6 +30,7 @@ impl<B: Bus + Drop, L: Write + Drop> TraceBus<B, L> {
     /// A bus that traces this one into this log.
     pub fn new(bus: B, log: L) -> TraceBus<B, L>
         ensures state { ⟦<TraceBus<B, L> as Bus>⟧.state result ≡ B.state bus }
+        ensures lost { has_lost result ≡ false }
     {
         TraceBus {
             bus,
@@ -37,13 +40,16 @@ impl<B: Bus + Drop, L: Write + Drop> TraceBus<B, L> {
     }
 
     /// A line of the log is lost. Once one is, this stays so.
-    pub fn lost(&self) -> bool {
+    pub fn lost(&self) -> bool
+        ensures { result ≡ has_lost self.now }
+    {
         self.lost
     }
 
     /// Hands over to the log's own sink what the log holds back. What doesn't get there counts as lost.
     pub fn flush(&mut self)
-        ensures { ⟦<TraceBus<B, L> as Bus>⟧.state self.new ≡ ⟦<TraceBus<B, L> as Bus>⟧.state self.old }
+        ensures state { ⟦<TraceBus<B, L> as Bus>⟧.state self.new ≡ ⟦<TraceBus<B, L> as Bus>⟧.state self.old }
+        ensures lost { has_lost self.old ≡ true → has_lost self.new ≡ true }
     {
         if self.log.flush().is_err() {
             self.lost = true;
@@ -68,7 +74,13 @@ impl<B: Bus, L: Write> Bus for TraceBus<B, L> {
 
     ghost reaches = { λ traced honest. B.reaches traced.bus honest };
 
-    fn transfer(&mut self, out: &[u8], reply: &mut [u8]) -> Result<(), Stopped> {
+    fn transfer(&mut self, out: &[u8], reply: &mut [u8]) -> Result<(), Stopped>
+        ensures sends { Sends out.now (B.state (traced_by self.old)) (B.state (traced_by self.new)) }
+        ensures stops { (B.state (traced_by self.old)).honest ≡ true → OnErr result (Stops (B.state (traced_by self.old)) (B.state (traced_by self.new))) }
+        ensures unread { (B.state (traced_by self.old)).honest ≡ true → OnErr result (reply.new ≡ reply.old) }
+        ensures carries { (B.state (traced_by self.old)).honest ≡ true → OnOk result (Carries out.now reply.new (B.state (traced_by self.old)) (B.state (traced_by self.new))) }
+        ensures traces { Traces result self.old self.new }
+    {
         self.bus.transfer(out, reply)?;
         if write_line(&mut self.log, out, reply).is_err() {
             self.lost = true;
@@ -78,7 +90,10 @@ impl<B: Bus, L: Write> Bus for TraceBus<B, L> {
 }
 
 impl<B: Meter, L: Write> Meter for TraceBus<B, L> {
-    fn allow(&mut self, n: u64) {
+    fn allow(&mut self, n: u64)
+        ensures allows { Allows n (B.state (traced_by self.old)) (B.state (traced_by self.new)) }
+        ensures lost { has_lost self.new ≡ has_lost self.old }
+    {
         self.bus.allow(n);
     }
 }

@@ -48,7 +48,7 @@ fn a_unit_with_some_guarded_place_is_protected(rt: HostRuntime) {
 }
 
 #[test]
-fn an_undefined_code_guards_all_(rt: HostRuntime) {
+fn an_undefined_code_guards_all_places(rt: HostRuntime) {
     for status in [[0x58, 0x00], [0x78, 0x00], [0x58, 0x40], [0x78, 0x40]] {
         assert!(rt; guards(status, 0x00_0000, 0x7F_FFFF));
     }

@@ -90,11 +90,58 @@ fn a_stopped_transaction_has_no_line(rt: HostRuntime) -> Result<(), Fail> {
     let mut bus = TraceBus::new(erased(rt.alloc(), 1)?, &mut log);
     bus.transfer(&[0x06], &mut [])?;
     assert_eq!(rt; bus.transfer(&[0x05], &mut [0x00]), Err(Stopped));
+    assert_eq!(rt; bus.transfer(&[0x06], &mut []), Err(Stopped));
+    assert_eq!(rt;
+        bus.transfer(&[0x20, 0x00, 0x00, 0x00], &mut []),
+        Err(Stopped)
+    );
     bus.allow(1);
     bus.transfer(&[0x04], &mut [])?;
     assert!(rt; !bus.lost());
     let _ = bus.into_inner();
     assert_eq!(rt; log.as_slice(), b"06\n04\n".as_slice());
+    Ok(())
+}
+
+#[test]
+fn more_than_three_replies_are_told_by_their_number(rt: HostRuntime) -> Result<(), Fail> {
+    let mut log = Vec::new(rt.alloc());
+    let mut bus = TraceBus::new(erased(rt.alloc(), 9)?, &mut log);
+    for replies in [3, 4, 5, 6, 7] {
+        let mut reply = vec![in rt.alloc(); 0x00; replies]?;
+        bus.transfer(&[0x9F], &mut reply)?;
+    }
+    let _ = bus.into_inner();
+    let expected = b"9f > fe1010\n9f > 4 bytes\n9f > 5 bytes\n9f > 6 bytes\n9f > 7 bytes\n";
+    assert_eq!(rt; log.as_slice(), expected.as_slice());
+    Ok(())
+}
+
+#[test]
+fn a_lost_line_feed_is_told(rt: HostRuntime) -> Result<(), Fail> {
+    let mut lines = Vec::new(rt.alloc());
+    let log = Failing {
+        lines: &mut lines,
+        good: 1,
+    };
+    let mut bus = TraceBus::new(erased(rt.alloc(), 9)?, log);
+    bus.transfer(&[0x06], &mut [])?;
+    assert!(rt; bus.lost());
+    let _ = bus.into_inner();
+    assert_eq!(rt; lines.as_slice(), b"06".as_slice());
+    Ok(())
+}
+
+#[test]
+fn a_traced_bus_loses_its_power_like_the_bus_inside(rt: HostRuntime) -> Result<(), Fail> {
+    let mut log = Vec::new(rt.alloc());
+    let mut chip = erased(rt.alloc(), 1)?;
+    chip.lose(Some(0x00));
+    let mut bus = TraceBus::new(chip, &mut log);
+    bus.transfer(&[0x06], &mut [])?;
+    assert_eq!(rt; bus.transfer(&[0x04], &mut []), Err(Stopped));
+    assert_eq!(rt; bus.into_inner().status(), [0x00, 0x00]);
+    assert_eq!(rt; log.as_slice(), b"06\n".as_slice());
     Ok(())
 }
 
