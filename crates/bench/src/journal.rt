@@ -47,7 +47,7 @@ fn write<V: Vault>(vault: &mut V) -> Result<(), VaultFault>
     ensures { OnOk result ((V.state vault.new).sealed ≡ true) }
 {
     let sector = [0x5A; 4096];
-    let mut writer = Writer::start(vault, [0xEF, 0x40, 0x18], [0, 0], CHIP)?;
+    let mut writer = Writer::start(vault, [0xEF, 0x40, 0x18], [0; 8], [0, 0], CHIP)?;
     for number in 0..SECTORS {
         writer.add(number, &sector)?;
     }

@@ -52,6 +52,7 @@ command_of-aimed config (opcode ∷ x ∷ y ∷ []) replies large blocks = IsAim
 command_of-aimed config (opcode ∷ x ∷ y ∷ z ∷ []) replies large blocks =
     addressed_command-aimed config opcode (address_of config x y z) replies blocks (address_of-lt config x y z large)
 command_of-aimed config (opcode ∷ x ∷ y ∷ z ∷ fifth ∷ []) replies large blocks =
-    IsAimed-if config.size (opcode == 0x5A) _ _ (address_of-lt config x y z large) (IsAimed-if config.size (opcode == 0x02 && replies == 0) _ _ (address_of-lt config x y z large) tt)
+    IsAimed-if config.size (opcode == 0x5A) _ _ (address_of-lt config x y z large)
+    (IsAimed-if config.size (opcode == 0x4B) _ _ tt (IsAimed-if config.size (opcode == 0x02 && replies == 0) _ _ (address_of-lt config x y z large) tt))
 command_of-aimed config (opcode ∷ x ∷ y ∷ z ∷ fifth ∷ sixth ∷ rest) replies large blocks =
     IsAimed-if config.size (opcode == 0x02 && replies == 0) _ _ (address_of-lt config x y z large) tt

@@ -1,17 +1,18 @@
 -- Guarded places lie at the chip's ends and end at whole KiB; the complement guards exactly the others.
-use Rattle.std.proofs.Common.{◌≡◌, ◌≢◌, ℕ, zero, suc, ◌+◌, ◌-◌, ◌/◌, ◌%◌, ◌^◌, ◌<◌, ◌≤◌, ◌⊎◌, inl, inr, arith, refl, sym, ◌∙◌, ap}
+use Rattle.std.proofs.Common.{◌≡◌, ◌≢◌, ℕ, zero, suc, ◌+◌, ◌-◌, ◌*◌, ◌/◌, ◌%◌, ◌^◌, ◌<◌, ◌≤◌, ◌⊎◌, inl, inr, arith, refl, sym, ◌∙◌, ap}
 use Rattle.std.specs.Prelude.{Bool, true, false, not, ◌==◌, ◌&&◌, ◌||◌, ◌↔◌, nat_lt, nat_le, if◌then◌else◌}
 use Rattle.std.proofs.lemmas.Bool.{cases_lt, lt-ltb, le-ltb, le-leb, lt-leb, ltb-true, leb-true, eqb-false, eqb-true, or_cases, and_parts, and_from}
 use Rattle.std.proofs.Math.Bool.{or-true}
-use Rattle.nor_chip.specs.Size.{is_chip_size}
+use Rattle.nor_chip.proofs.Sizes.{IsInBlocks}
 use Rattle.nor_chip.specs.Offer.{GuardsExactly}
-use Rattle.nor_chip.specs.Chip.{Chip}
-use Rattle.nor_chip.specs.Guard.{guarded_by, named_length, is_undefined, is_complement, is_bottom, is_sector, bp_of, code_of, is_guarded, is_unit_guarded}
+use Rattle.nor_chip.specs.Guard.{guarded_by, named_length, is_undefined, is_complement, is_bottom, is_sector, bp_of}
+use Rattle.nor_chip.specs.Units.{LieAtAnEnd, HoldsSomewhere}
 
--- a number of bytes of the chip, in whole KiB
+-- a number of bytes of the chip, in whole KiB, and in whole sectors where the 64th part of the chip is one
 pub record IsPart (size n : ℕ) : Type 0 where
   pub within : n ≤ size
   pub whole : n % 1024 ≡ 0
+  pub sectors : size % 262144 ≡ 0 → n % 4096 ≡ 0
 
 part_if : (size : ℕ) (test : Bool) (x y : ℕ) → IsPart size x → IsPart size y → IsPart size (if test then x else y)
 part_if size true x y fits other = fits
@@ -24,40 +25,27 @@ part_if_not size false x y fits other = other refl
 -- a 64th of the chip and its doubles
 part_of_blocks : (size bp : ℕ) → 65536 ≤ size → size % 65536 ≡ 0 → bp ≢ 0 → bp < 8 → IsPart size (size / 2 ^ (7 - bp))
 part_of_blocks size zero large blocks some small = absurd (some refl)
-part_of_blocks size (suc zero) large blocks some small = record { within = omega arith; whole = omega arith }
-part_of_blocks size (suc (suc zero)) large blocks some small = record { within = omega arith; whole = omega arith }
-part_of_blocks size (suc (suc (suc zero))) large blocks some small = record { within = omega arith; whole = omega arith }
-part_of_blocks size (suc (suc (suc (suc zero)))) large blocks some small = record { within = omega arith; whole = omega arith }
-part_of_blocks size (suc (suc (suc (suc (suc zero))))) large blocks some small = record { within = omega arith; whole = omega arith }
-part_of_blocks size (suc (suc (suc (suc (suc (suc zero)))))) large blocks some small = record { within = omega arith; whole = omega arith }
-part_of_blocks size (suc (suc (suc (suc (suc (suc (suc zero))))))) large blocks some small = record { within = omega arith; whole = omega arith }
+part_of_blocks size (suc zero) large blocks some small = record { within = omega arith; whole = omega arith; sectors = λ quarter. omega arith }
+part_of_blocks size (suc (suc zero)) large blocks some small = record { within = omega arith; whole = omega arith; sectors = λ quarter. omega arith }
+part_of_blocks size (suc (suc (suc zero))) large blocks some small = record { within = omega arith; whole = omega arith; sectors = λ quarter. omega arith }
+part_of_blocks size (suc (suc (suc (suc zero)))) large blocks some small = record { within = omega arith; whole = omega arith; sectors = λ quarter. omega arith }
+part_of_blocks size (suc (suc (suc (suc (suc zero))))) large blocks some small = record { within = omega arith; whole = omega arith; sectors = λ quarter. omega arith }
+part_of_blocks size (suc (suc (suc (suc (suc (suc zero)))))) large blocks some small = record { within = omega arith; whole = omega arith; sectors = λ quarter. omega arith }
+part_of_blocks size (suc (suc (suc (suc (suc (suc (suc zero))))))) large blocks some small = record { within = omega arith; whole = omega arith; sectors = λ quarter. omega arith }
 part_of_blocks size (suc (suc (suc (suc (suc (suc (suc (suc bp)))))))) large blocks some small = absurd (omega arith)
 
 -- the bytes that a code names are a part of the chip
 named_length-part : (size code : ℕ) → 65536 ≤ size → size % 65536 ≡ 0 → IsPart size (named_length size code)
 named_length-part size code large blocks =
-    let small : IsPart size 4096 = record { within = omega arith; whole = refl } in
-    let two : IsPart size 8192 = record { within = omega arith; whole = refl } in
-    let four : IsPart size 16384 = record { within = omega arith; whole = refl } in
-    let eight : IsPart size 32768 = record { within = omega arith; whole = refl } in
-    part_if_not size (bp_of code == 0) _ _ record { within = omega arith; whole = refl }
-    (λ some. part_if size (bp_of code == 7) _ _ record { within = omega arith; whole = omega arith }
+    let small : IsPart size 4096 = record { within = omega arith; whole = refl; sectors = λ quarter. refl } in
+    let two : IsPart size 8192 = record { within = omega arith; whole = refl; sectors = λ quarter. refl } in
+    let four : IsPart size 16384 = record { within = omega arith; whole = refl; sectors = λ quarter. refl } in
+    let eight : IsPart size 32768 = record { within = omega arith; whole = refl; sectors = λ quarter. refl } in
+    part_if_not size (bp_of code == 0) _ _ record { within = omega arith; whole = refl; sectors = λ quarter. refl }
+    (λ some. part_if size (bp_of code == 7) _ _ record { within = omega arith; whole = omega arith; sectors = λ quarter. omega arith }
     (part_if size (is_sector code) _ _
     (part_if size (bp_of code == 1) _ _ small (part_if size (bp_of code == 2) _ _ two (part_if size (bp_of code == 3) _ _ four eight)))
     (part_of_blocks size (bp_of code) large blocks (eqb-false (bp_of code) 0 some) (omega arith))))
-
--- Tests on the places below the size that hold on the first ones, or on the last ones.
-abbrev pub OnFirst : ℕ → (ℕ → Bool) → ℕ → Type 0
-OnFirst size test end = (a : ℕ) → a < size → test a ≡ nat_lt a end
-
-abbrev pub OnLast : ℕ → (ℕ → Bool) → ℕ → Type 0
-OnLast size test start = (a : ℕ) → a < size → test a ≡ nat_le start a
-
--- a test that holds at one end of the chip, up to a whole KiB
-pub record IsAtAnEnd (size : ℕ) (test : ℕ → Bool) : Type 0 where
-  pub border : ℕ
-  pub part : IsPart size border
-  pub side : OnFirst size test border ⊎ OnLast size test border
 
 -- the tests that `guarded_by` is made of
 place_test : ℕ → ℕ → Bool → Bool → Bool → ℕ → Bool
@@ -76,39 +64,53 @@ not_le a n = elim (cases_lt a n) [
   | inr above ↦ ap not (le-leb n a above) ∙ sym (le-ltb a n above)
 ]
 
-place_test-end : (size named : ℕ) (undefined complement bottom : Bool) → size % 1024 ≡ 0 → IsPart size named → IsAtAnEnd size (place_test size named undefined complement bottom)
+place_test-end : (size named : ℕ) (undefined complement bottom : Bool) → size % 1024 ≡ 0 → IsPart size named → LieAtAnEnd size (place_test size named undefined complement bottom)
 unfolding place_test
 place_test-end size named true complement bottom whole part = record {
   border = size;
-  part = record { within = omega arith; whole = whole };
+  within = omega arith;
+  whole = whole;
+  sectors = λ quarter. omega arith;
   side = inl (λ a below. rw (lt-ltb a size below) refl);
 }
 place_test-end size named false true true whole part = record {
   border = named;
-  part = part;
+  within = part.within;
+  whole = part.whole;
+  sectors = part.sectors;
   side = inr (λ a below. rw (lt-ltb a size below) (not_lt a named));
 }
 place_test-end size named false true false whole part = let within = part.within in let named_whole = part.whole in record {
   border = size - named;
-  part = record { within = omega arith; whole = omega arith };
+  within = omega arith;
+  whole = omega arith;
+  sectors = λ quarter. let named_sectors = part.sectors quarter in omega arith;
   side = inl (λ a below. rw (lt-ltb a size below) (not_le a (size - named)));
 }
 place_test-end size named false false true whole part = record {
   border = named;
-  part = part;
+  within = part.within;
+  whole = part.whole;
+  sectors = part.sectors;
   side = inl (λ a below. rw (lt-ltb a size below) refl);
 }
 place_test-end size named false false false whole part = let within = part.within in let named_whole = part.whole in record {
   border = size - named;
-  part = record { within = omega arith; whole = omega arith };
+  within = omega arith;
+  whole = omega arith;
+  sectors = λ quarter. let named_sectors = part.sectors quarter in omega arith;
   side = inr (λ a below. rw (lt-ltb a size below) refl);
 }
 
 -- The places that a code guards are the first ones of the chip or the last ones, up to a whole KiB.
-pub guarded_by-end : (size code : ℕ) → 65536 ≤ size → size % 65536 ≡ 0 → IsAtAnEnd size (guarded_by size code)
+pub guarded_by-end : (size code : ℕ) → 65536 ≤ size → size % 65536 ≡ 0 → LieAtAnEnd size (guarded_by size code)
 unfolding guarded_by place_test
 guarded_by-end size code large blocks =
     place_test-end size (named_length size code) (is_undefined code) (is_complement code) (is_bottom code) (omega arith) (named_length-part size code large blocks)
+
+-- a test that holds nowhere holds on the first places, of which there are none
+pub lies_nowhere : (size : ℕ) → LieAtAnEnd size (λ a. false)
+lies_nowhere size = record { border = 0; within = omega arith; whole = refl; sectors = λ quarter. refl; side = inl (λ a below. sym (le-ltb a 0 (omega arith))) }
 
 -- nothing is guarded past the chip's end
 pub guarded_by-past : (size code a : ℕ) → size ≤ a → guarded_by size code a ≡ false
@@ -116,9 +118,9 @@ unfolding guarded_by
 guarded_by-past size code a past = rw (le-ltb a size past) refl
 
 -- a test at an end of the chip is one and the same all over a page
-alike : (size : ℕ) (test : ℕ → Bool) (a b : ℕ) → IsAtAnEnd size test → a < size → b < size → a / 256 ≡ b / 256 → test a ≡ test b
+alike : (size : ℕ) (test : ℕ → Bool) (a b : ℕ) → LieAtAnEnd size test → a < size → b < size → a / 256 ≡ b / 256 → test a ≡ test b
 alike size test a b ends below_a below_b page =
-    let border = ends.border in let whole = ends.part.whole in
+    let border = ends.border in let whole = ends.whole in
     elim ends.side [
       | inl first ↦ first a below_a ∙ (elim (cases_lt a border) [
         | inl here ↦ lt-ltb a border here ∙ sym (lt-ltb b border (omega arith))
@@ -135,7 +137,7 @@ pub guarded_by-page : (size code a b : ℕ) → 65536 ≤ size → size % 65536 
 guarded_by-page size code a b large blocks below_a below_b page = alike size (guarded_by size code) a b (guarded_by-end size code large blocks) below_a below_b page
 
 -- where a test at an end of the chip holds somewhere in a stretch, it holds at its first place or its last one
-at_borders : (size : ℕ) (test : ℕ → Bool) (start len a : ℕ) → IsAtAnEnd size test → start + len ≤ size → start ≤ a → a < start + len → test a ≡ true → (test start || test (start + len - 1)) ≡ true
+at_borders : (size : ℕ) (test : ℕ → Bool) (start len a : ℕ) → LieAtAnEnd size test → start + len ≤ size → start ≤ a → a < start + len → test a ≡ true → (test start || test (start + len - 1)) ≡ true
 at_borders size test start len a ends fits from before holds =
     elim ends.side [
       | inl first ↦
@@ -148,32 +150,27 @@ at_borders size test start len a ends fits from before holds =
           rw there (or-true (test start))
     ]
 
--- some place of a stretch is guarded
-pub record IsSomeGuarded (chip : Chip) (start len : ℕ) : Type 0 where
-  pub place : ℕ
-  pub from : start ≤ place
-  pub before : place < start + len
-  pub guarded : is_guarded chip place ≡ true
-
-with_scheme : (scheme : Bool) (size : ℕ) (test : ℕ → Bool) (start len a : ℕ) → IsAtAnEnd size test → start + len ≤ size → start ≤ a → a < start + len → (scheme && test a) ≡ true → ((scheme && test start) || (scheme && test (start + len - 1))) ≡ true
-with_scheme true size test start len a ends fits from before holds = at_borders size test start len a ends fits from before holds
-with_scheme false size test start len a ends fits from before holds = holds
-
--- A unit of the chip counts as guarded exactly where some place of it is.
-pub is_unit_guarded-iff : (chip : Chip) (start len : ℕ) → 0 < len → start + len ≤ chip.config.size → (is_unit_guarded chip start len ≡ true) ↔ IsSomeGuarded chip start len
-is_unit_guarded-iff chip start len some fits = (
-  (λ holds. elim (or_cases (is_guarded chip start) (is_guarded chip (start + len - 1)) holds) [
-    | inl first ↦ record { place = start; from = omega arith; before = omega arith; guarded = first }
-    | inr last ↦ record { place = start + len - 1; from = omega arith; before = omega arith; guarded = last }
+-- so it holds there exactly where it holds at one of the two
+pub borders : (size : ℕ) (test : ℕ → Bool) (start len : ℕ) → LieAtAnEnd size test → 0 < len → start + len ≤ size → ((test start || test (start + len - 1)) ≡ true) ↔ HoldsSomewhere test start len
+borders size test start len ends some fits = (
+  (λ holds. elim (or_cases (test start) (test (start + len - 1)) holds) [
+    | inl first ↦ record { place = start; from = omega arith; before = omega arith; holds = first }
+    | inr last ↦ record { place = start + len - 1; from = omega arith; before = omega arith; holds = last }
   ]),
-  (λ there. with_scheme chip.config.scheme chip.config.size (guarded_by chip.config.size (code_of chip)) start len there.place
-      (guarded_by-end chip.config.size (code_of chip) chip.config.at_least chip.config.in_blocks) fits there.from there.before there.guarded),
+  (λ there. at_borders size test start len there.place ends fits there.from there.before there.holds),
 )
 
--- all places of a page of the chip are guarded, or none is
-pub is_guarded-page : (chip : Chip) (a b : ℕ) → a < chip.config.size → b < chip.config.size → a / 256 ≡ b / 256 → is_guarded chip a ≡ is_guarded chip b
-is_guarded-page chip a b below_a below_b page =
-    ap (λ test. chip.config.scheme && test) (guarded_by-page chip.config.size (code_of chip) a b chip.config.at_least chip.config.in_blocks below_a below_b page)
+-- Some place of a stretch is guarded exactly where its first place or its last one is.
+pub guarded_by-borders : (size code start len : ℕ) → 65536 ≤ size → size % 65536 ≡ 0 → 0 < len → start + len ≤ size → ((guarded_by size code start || guarded_by size code (start + len - 1)) ≡ true) ↔ HoldsSomewhere (guarded_by size code) start len
+guarded_by-borders size code start len large blocks some fits = borders size (guarded_by size code) start len (guarded_by-end size code large blocks) some fits
+
+-- A page has a guarded place exactly where any one place of it is guarded.
+pub guarded_by-page_of : (size code at : ℕ) → 65536 ≤ size → size % 65536 ≡ 0 → at < size → (guarded_by size code at ≡ true) ↔ HoldsSomewhere (guarded_by size code) (at / 256 * 256) 256
+guarded_by-page_of size code at large blocks below = (
+  (λ guarded. record { place = at; from = omega arith; before = omega arith; holds = guarded }),
+  (λ there. let from = there.from in let before = there.before in
+      guarded_by-page size code at there.place large blocks below (omega arith) (omega arith) ∙ there.holds),
+)
 
 -- The complement of a defined code guards exactly the other places.
 pub guarded_by-complement : (size code a : ℕ) → code < 32 → is_undefined code ≡ false → a < size → guarded_by size (code + 32) a ≡ not (guarded_by size code a)
@@ -185,27 +182,6 @@ guarded_by-complement size code a plain defined below =
     let set : (code + 32) / 32 % 2 ≡ 1 = omega arith in
     let clear : code / 32 % 2 ≡ 0 = omega arith in
     rw (bp, bottom, sector, set, clear, defined, lt-ltb a size below) refl
-
--- a size that a chip may have is in whole blocks
-pub record IsInBlocks (size : ℕ) : Type 0 where
-  pub large : 65536 ≤ size
-  pub small : size ≤ 16777216
-  pub blocks : size % 65536 ≡ 0
-
-in_blocks_at : (size n : ℕ) → size ≡ n → 65536 ≤ n → n ≤ 16777216 → n % 65536 ≡ 0 → IsInBlocks size
-in_blocks_at size n same large small blocks = record { large = omega arith; small = omega arith; blocks = ap (λ k. k % 65536) same ∙ blocks }
-
-in_blocks_or : (size n : ℕ) (others : Bool) → (others ≡ true → IsInBlocks size) → 65536 ≤ n → n ≤ 16777216 → n % 65536 ≡ 0 → (others || (size == n)) ≡ true → IsInBlocks size
-in_blocks_or size n others known large small blocks holds =
-    elim (or_cases others (size == n) holds) [ inl other ↦ known other | inr here ↦ in_blocks_at size n (eqb-true size n here) large small blocks ]
-
-pub is_chip_size-in_blocks : (size : ℕ) → is_chip_size size ≡ true → IsInBlocks size
-is_chip_size-in_blocks size =
-    in_blocks_or size 16777216 _ (in_blocks_or size 8388608 _ (in_blocks_or size 4194304 _ (in_blocks_or size 2097152 _
-    (in_blocks_or size 1048576 _ (in_blocks_or size 524288 _ (in_blocks_or size 262144 _ (in_blocks_or size 131072 _
-    (λ first. in_blocks_at size 65536 (eqb-true size 65536 first) (omega arith) (omega arith) refl)
-    (omega arith) (omega arith) refl) (omega arith) (omega arith) refl) (omega arith) (omega arith) refl) (omega arith) (omega arith) refl)
-    (omega arith) (omega arith) refl) (omega arith) (omega arith) refl) (omega arith) (omega arith) refl) (omega arith) (omega arith) refl
 
 -- the first places, and the last ones
 first_places : (size n a : ℕ) → n ≤ size → ((nat_lt a size && nat_lt a n) ≡ true) ↔ (a < n)

@@ -1,7 +1,9 @@
 pub mod Aim
+pub mod Guarded
 pub mod GuardedPlaces
 pub mod LeastCodes
 pub mod Page
 pub mod Round
+pub mod Sizes
 pub mod StatusBits
 pub mod Stretches

@@ -1,6 +1,7 @@
 -- What a bus keeps. Contracts see a bus as one state.
 use Rattle.std.specs.Prelude.{◌≡◌, ◌+◌, ◌||◌, ℕ, Bool, true, List, length, if◌then◌else◌}
 use Rattle.nor_chip.specs.Chip.{Chip}
+use Rattle.nor_chip.specs.Power.{AtStop}
 use Rattle.nor_chip.specs.Command.{begins_change}
 use Rattle.nor_chip.specs.Step.{Step, done_of, wears}
 
@@ -15,7 +16,7 @@ pub record BusState : Type 0 where
   pub stirred : Bool
   -- the sectors that were erased
   pub worn : ℕ → Bool
-  -- a stop leaves the chip as it was
+  -- a stop leaves the chip as it was, and no power is lost
   pub steady : Bool
 
 -- On every bus: whether it is honest and steady never changes, and a changing opcode stirs it for good.
@@ -24,15 +25,11 @@ pub record Sends (out : List ℕ) (old new : BusState) : Type 0 where
   pub steady : new.steady ≡ old.steady
   pub stirred : new.stirred ≡ (if begins_change out then true else old.stirred)
 
--- what a stop may leave of the chip: the same chip
-abbrev pub AtStop : Chip → Chip → Type 0
-AtStop old new = new ≡ old
-
--- Stopped: there was no transaction left, and nothing moved.
+-- Stopped: there was no transaction left, and nothing moved, or on a bus that isn't steady the power was lost.
 pub record Stops (old new : BusState) : Type 0 where
   pub none_left : old.left ≡ 0
   pub left : new.left ≡ old.left
-  pub chip : AtStop old.chip new.chip
+  pub chip : AtStop old.steady old.chip new.chip
   pub worn : (s : ℕ) → new.worn s ≡ old.worn s
 
 -- Carried out: the chip made one step, one transaction less is left, and an erase wore its sectors.

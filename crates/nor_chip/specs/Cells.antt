@@ -7,7 +7,7 @@ abbrev pub IsProgrammed : ℕ → List ℕ → List ℕ → List ℕ → Type 0
 IsProgrammed at sent old new =
     (a : ℕ) → slice_index new a ≡ (if a / 256 == at / 256 then lowered (slice_index old a) (last_for at sent a) else slice_index old a)
 
--- so many places from `start` on are FFh, and all else stays
-abbrev pub IsErased : ℕ → ℕ → List ℕ → List ℕ → Type 0
-IsErased start len old new =
-    (a : ℕ) → slice_index new a ≡ (if nat_le start a && nat_lt a (start + len) then 255 else slice_index old a)
+-- so many places from `start` on are this byte, and all else stays
+abbrev pub IsFilled : ℕ → ℕ → ℕ → List ℕ → List ℕ → Type 0
+IsFilled byte start len old new =
+    (a : ℕ) → slice_index new a ≡ (if nat_le start a && nat_lt a (start + len) then byte else slice_index old a)

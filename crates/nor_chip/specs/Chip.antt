@@ -1,7 +1,8 @@
 -- The chip: what it holds at a moment.
 use Rattle.std.specs.Prelude.{◌≡◌, ◌<◌, ◌+◌, ◌*◌, ◌/◌, ◌%◌, ◌++◌, ◌==◌, ℕ, Bool, true, false, [], ◌∷◌, replicate, slice_index_or, if◌then◌else◌}
 use Rattle.nor_chip.specs.declared.config.Config.{Config}
-use Rattle.nor_chip.specs.declared.config.TheConstants.{TINY64_SFDP}
+use Rattle.nor_chip.specs.declared.running.Running.{Running}
+use Rattle.nor_chip.specs.Sfdp.{sfdp_of}
 
 -- A chip at a moment. Any values may stand together: a busy chip with its latch clear is a chip too.
 -- (W25Q64FV and W25Q128FV datasheets, status registers.)
@@ -18,6 +19,8 @@ pub record Chip : Type 0 where
   pub latch : Bool
   -- how many polls will still answer BUSY
   pub busy : ℕ
+  -- what runs; looked at only while the chip is busy
+  pub running : Running
 
 -- What holds of every chip that a bus can reach.
 pub record IsChip (chip : Chip) : Type 0 where
@@ -49,7 +52,8 @@ pub record IsTiny64 (config : Config) : Type 0 where
   pub k32 : config.k32 ≡ true
   pub k64 : config.k64 ≡ true
   pub scheme : config.scheme ≡ false
-  pub sfdp : config.sfdp ≡ TINY64_SFDP ++ replicate 204 255
+  pub unique : config.unique ≡ replicate 8 0
+  pub sfdp : config.sfdp ≡ sfdp_of 0xFF 0xFF 0x07 0x00 ++ replicate 204 255
 
 -- Two chips are the same: configuration, bytes and kept bits agree. Latch and `busy` are free.
 pub record IsSame (old new : Chip) : Type 0 where

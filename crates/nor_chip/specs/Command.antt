@@ -2,7 +2,7 @@
 use Rattle.std.specs.Prelude.{◌+◌, ◌*◌, ◌/◌, ◌%◌, ◌==◌, ◌&&◌, ◌||◌, ℕ, Bool, false, List, [], ◌∷◌, if◌then◌else◌}
 use Rattle.nor_chip.specs.declared.config.Config.{Config}
 use Rattle.nor_chip.specs.declared.command.Command.{Command}
-use Rattle.nor_chip.specs.declared.command.Command.TheVariants.{WriteEnable, WriteDisable, Poll, ReadStatus2, WriteStatus, Program, Erase, ReadData, ReadId, ReadSfdp, Ignored}
+use Rattle.nor_chip.specs.declared.command.Command.TheVariants.{WriteEnable, WriteDisable, Poll, ReadStatus2, WriteStatus, Program, Erase, ReadData, ReadId, ReadSfdp, ReadUnique, Ignored}
 
 -- the address that three bytes name on a chip of this size, high byte first
 abbrev pub address_of : Config → ℕ → ℕ → ℕ → ℕ
@@ -42,7 +42,8 @@ command_of config (opcode ∷ x ∷ y ∷ []) replies = if opcode == 0x01 && rep
 command_of config (opcode ∷ x ∷ y ∷ z ∷ []) replies = addressed_command config opcode (address_of config x y z) replies
 command_of config (opcode ∷ x ∷ y ∷ z ∷ fifth ∷ []) replies =
     if opcode == 0x5A then ReadSfdp (address_of config x y z)
-    else (if opcode == 0x02 && replies == 0 then Program (address_of config x y z) else Ignored)
+    else (if opcode == 0x4B then ReadUnique
+    else (if opcode == 0x02 && replies == 0 then Program (address_of config x y z) else Ignored))
 command_of config (opcode ∷ x ∷ y ∷ z ∷ fifth ∷ sixth ∷ rest) replies =
     if opcode == 0x02 && replies == 0 then Program (address_of config x y z) else Ignored
 

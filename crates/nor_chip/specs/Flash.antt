@@ -1,7 +1,11 @@
 -- The simulated chip, as contracts see it.
-use Rattle.std.specs.Prelude.{◌≡◌, ◌<◌, ◌/◌, ◌==◌, ℕ, not, slice_index}
+use Rattle.std.specs.Prelude.{◌≡◌, ◌<◌, ◌≤◌, ◌+◌, ◌*◌, ◌/◌, ◌%◌, ◌==◌, ◌&&◌, ℕ, true, not, slice_index, if◌then◌else◌}
+use Rattle.nor_chip.specs.declared.command.Command.{Command}
+use Rattle.nor_chip.specs.declared.running.Running.{Running}
 use Rattle.nor_chip.specs.declared.sim.flash.Flash.{Flash}
 use Rattle.nor_chip.specs.Chip.{Chip}
+use Rattle.nor_chip.specs.Power.{is_known, is_in_work, kept1_before, kept2_before}
+use Rattle.nor_chip.specs.Step.{is_operation}
 
 -- the chip that it simulates
 abbrev pub chip_of : Flash → Chip
@@ -12,13 +16,27 @@ chip_of flash = record {
   kept2 = flash.kept.two.0;
   latch = flash.latch;
   busy = flash.busy;
+  running = flash.running;
 }
 
--- an operation begins: the chip is busy for a while, with its latch set, or not at all, and all else stays
-pub record Begins (old new : Chip) : Type 0 where
+-- an operation begins: the chip is busy for so many polls, with its latch set, or not at all, and all else stays
+pub record Begins (runs : Running) (polls : ℕ) (old new : Chip) : Type 0 where
   pub config : new.config ≡ old.config
   pub bytes : (a : ℕ) → new.bytes a ≡ old.bytes a
   pub kept1 : new.kept1 ≡ old.kept1
   pub kept2 : new.kept2 ≡ old.kept2
-  pub busy : new.busy < 65536
+  pub busy : new.busy ≡ polls
+  pub running : new.running ≡ runs
   pub latch : new.latch ≡ not (new.busy == 0)
+
+-- what runs is cut off: each byte of it becomes this fill, and for a status write an even fill brings the old bits back
+pub record Cuts (fill : ℕ) (old new : Chip) : Type 0 where
+  pub config : new.config ≡ old.config
+  pub bytes : (a : ℕ) → new.bytes a ≡ (if is_known old.running && is_in_work old.running a then fill else old.bytes a)
+  pub kept1 : new.kept1 ≡ (if fill % 2 == 0 then kept1_before old else old.kept1)
+  pub kept2 : new.kept2 ≡ (if fill % 2 == 0 then kept2_before old else old.kept2)
+
+-- how long operations take stays as it is, and after an operation the chip is busy for as long
+pub record Paces (command : Command) (old new : Flash) : Type 0 where
+  pub each : new.each ≡ old.each
+  pub busy : is_operation command ≡ true → new.busy ≡ old.each

@@ -1,5 +1,7 @@
 pub mod Size
+pub mod Sfdp
 pub mod Chip
+pub mod Power
 pub mod Guard
 pub mod Command
 pub mod Step
@@ -11,6 +13,8 @@ pub mod Sim
 pub mod Start
 pub mod Makers
 pub mod Code
+pub mod Units
 pub mod Status
 pub mod Offer
 pub mod Offered
+pub mod Spoilt

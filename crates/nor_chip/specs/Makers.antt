@@ -1,20 +1,21 @@
 -- The configurations that are made.
 use Rattle.std.specs.Prelude.{◌≡◌, ◌-◌, ◌++◌, ℕ, Bool, true, List, [], ◌∷◌, length, replicate}
 use Rattle.nor_chip.specs.declared.config.Config.{Config}
-use Rattle.nor_chip.specs.declared.config.TheConstants.{W25Q64FV_SFDP, W25Q128FV_SFDP}
+use Rattle.nor_chip.specs.Sfdp.{sfdp_of}
 
--- A configuration of these parts, with FFh behind the SFDP bytes.
+-- A configuration of these parts, with FFh behind the SFDP bytes and the unique ID zero.
 pub record IsMade (with_id : List ℕ) (with_size : ℕ) (with_k32 with_k64 with_scheme : Bool) (with_sfdp : List ℕ) (config : Config) : Type 0 where
   pub id : config.id ≡ with_id
   pub size : config.size ≡ with_size
   pub k32 : config.k32 ≡ with_k32
   pub k64 : config.k64 ≡ with_k64
   pub scheme : config.scheme ≡ with_scheme
+  pub unique : config.unique ≡ replicate 8 0
   pub sfdp : config.sfdp ≡ with_sfdp ++ replicate (256 - length with_sfdp) 255
 
 -- The configurations of the emulated Winbond chips.
 abbrev pub IsW25q64fv : Config → Type 0
-IsW25q64fv = IsMade (239 ∷ 64 ∷ 23 ∷ []) 8388608 true true true W25Q64FV_SFDP
+IsW25q64fv = IsMade (239 ∷ 64 ∷ 23 ∷ []) 8388608 true true true (sfdp_of 0xFF 0xFF 0xFF 0x03)
 
 abbrev pub IsW25q128fv : Config → Type 0
-IsW25q128fv = IsMade (239 ∷ 64 ∷ 24 ∷ []) 16777216 true true true W25Q128FV_SFDP
+IsW25q128fv = IsMade (239 ∷ 64 ∷ 24 ∷ []) 16777216 true true true (sfdp_of 0xFF 0xFF 0xFF 0x07)

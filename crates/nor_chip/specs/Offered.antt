@@ -1,6 +1,5 @@
 -- The walk over the offered sets.
 use Rattle.std.specs.Prelude.{◌≡◌, ◌<◌, ◌≤◌, ◌+◌, ℕ, Option, None, Some}
-use Rattle.nor_chip.specs.declared.guard.Places.{Places}
 use Rattle.nor_chip.specs.declared.guard.walk.Offered.{Offered}
 use Rattle.nor_chip.specs.Offer.{IsLeastCode}
 
@@ -12,20 +11,26 @@ size_of walk = walk.size
 abbrev pub next_code : Offered → ℕ
 next_code walk = walk.next
 
--- a set whose least code was not passed yet, and before whose code no other's lies
-pub record IsNextSet (old : Offered) (places : Places) (new : Offered) : Type 0 where
+-- a set, so many places from a start on, whose least code was not passed yet, and before whose code no other's lies
+pub record IsNextSet (old : Offered) (start len : ℕ) (new : Offered) : Type 0 where
   pub code : ℕ
   pub not_passed : next_code old ≤ code
-  pub least : IsLeastCode (size_of old) places.start places.len code
-  pub plain : places.len ≡ 0 → places.start ≡ 0
-  pub no_other : (other start len : ℕ) → next_code old ≤ other → other < code → ¬ IsLeastCode (size_of old) start len other
+  pub least : IsLeastCode (size_of old) start len code
+  pub plain : len ≡ 0 → start ≡ 0
+  pub no_other : (other start' len' : ℕ) → next_code old ≤ other → other < code → ¬ IsLeastCode (size_of old) start' len' other
   pub passed : next_code new ≡ code + 1
   pub size : size_of new ≡ size_of old
 
+-- no set is left, and none will come later
+pub record IsAtEnd (old new : Offered) : Type 0 where
+  pub none : (code start len : ℕ) → next_code old ≤ code → ¬ IsLeastCode (size_of old) start len code
+  pub ended : next_code new ≡ 64
+  pub size : size_of new ≡ size_of old
+
 -- Each step gives the set with the least code that was not passed, until no set has one.
-abbrev pub GivesNextSet : Offered → Option Places → Offered → Type 0
-GivesNextSet old (Some places) new = IsNextSet old places new
-GivesNextSet old None new = (code start len : ℕ) → next_code old ≤ code → ¬ IsLeastCode (size_of old) start len code
+abbrev pub GivesNextSet : Offered → Option (ℕ × ℕ) → Offered → Type 0
+GivesNextSet old (Some (start, len)) new = IsNextSet old start len new
+GivesNextSet old None new = IsAtEnd old new
 
 -- a walk that begins, on a chip of this size
 pub record IsStart (chip_size : ℕ) (walk : Offered) : Type 0 where

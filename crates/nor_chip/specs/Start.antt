@@ -2,11 +2,12 @@
 use Rattle.std.specs.Prelude.{◌≡◌, ◌<◌, ◌/◌, ◌%◌, ◌==◌, [], ◌∷◌, ℕ, List, true, false, length, slice_index}
 use Rattle.nor_chip.specs.declared.config.Config.{Config}
 use Rattle.nor_chip.specs.declared.sim.Delays.{Delays}
+use Rattle.nor_chip.specs.declared.running.Running.TheVariants.{Unknown}
 use Rattle.nor_chip.specs.Chip.{Chip, status1_of, status2_of}
 use Rattle.nor_chip.specs.Bus.{BusState}
 
 -- A new bus: its chip has this configuration, these bytes, the kept bits and the latch of these two status
--- bytes, and answers BUSY to so many polls. No transaction is let through yet, none was sent, and no sector
+-- bytes, and answers BUSY to so many polls, though nothing is known of what runs. No transaction is let through yet, none was sent, and no sector
 -- was erased.
 pub record Starts (setup : Config) (image flags : List ℕ) (delays : Delays) (state : BusState) : Type 0 where
   pub config : state.chip.config ≡ setup
@@ -15,6 +16,7 @@ pub record Starts (setup : Config) (image flags : List ℕ) (delays : Delays) (s
   pub kept2 : state.chip.kept2 ≡ slice_index flags 1 % 128
   pub latch : state.chip.latch ≡ (slice_index flags 0 / 2 % 2 == 1)
   pub busy : state.chip.busy ≡ delays.now
+  pub running : state.chip.running ≡ Unknown
   pub left : state.left ≡ 0
   pub honest : state.honest ≡ true
   pub stirred : state.stirred ≡ false

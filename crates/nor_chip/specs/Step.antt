@@ -3,7 +3,9 @@
 -- number, is this model's own: no program can tell it from a chip that works while it is polled.)
 use Rattle.std.specs.Prelude.{◌≡◌, ◌<◌, ◌+◌, ◌-◌, ◌*◌, ◌/◌, ◌%◌, ◌==◌, ◌&&◌, ℕ, Bool, true, false, not, Option, None, Some, List, [], ◌∷◌, length, drop, slice_index, slice_index_or, bit_and, bit_or, nat_lt, nat_le, if◌then◌else◌}
 use Rattle.nor_chip.specs.declared.command.Command.{Command}
-use Rattle.nor_chip.specs.declared.command.Command.TheVariants.{WriteEnable, WriteDisable, Poll, ReadStatus2, WriteStatus, Program, Erase, ReadData, ReadId, ReadSfdp, Ignored}
+use Rattle.nor_chip.specs.declared.command.Command.TheVariants.{WriteEnable, WriteDisable, Poll, ReadStatus2, WriteStatus, Program, Erase, ReadData, ReadId, ReadSfdp, ReadUnique, Ignored}
+use Rattle.nor_chip.specs.declared.running.Running.{Running}
+use Rattle.nor_chip.specs.declared.running.Running.TheVariants as Runs
 use Rattle.nor_chip.specs.Chip.{Chip, status1_of, status2_of, is_locked, sfdp_byte}
 use Rattle.nor_chip.specs.Guard.{is_guarded, is_unit_guarded}
 use Rattle.nor_chip.specs.Command.{command_of}
@@ -23,6 +25,7 @@ is_carried_out chip WriteDisable = is_idle chip
 is_carried_out chip (ReadData at) = is_idle chip
 is_carried_out chip ReadId = is_idle chip
 is_carried_out chip (ReadSfdp at) = is_idle chip
+is_carried_out chip ReadUnique = is_idle chip
 is_carried_out chip (WriteStatus one two) = is_idle chip && chip.latch && not (is_locked chip)
 is_carried_out chip (Program at) = is_idle chip && chip.latch && not (is_guarded chip at)
 is_carried_out chip (Erase start len) = is_idle chip && chip.latch && not (is_unit_guarded chip start len)
@@ -33,14 +36,15 @@ abbrev pub done_of : Chip → List ℕ → ℕ → Command
 done_of chip out replies =
     let command = command_of chip.config out replies in if is_carried_out chip command then command else Ignored
 
--- The reply byte at a place: status, data (running on over the chip's end), the ID or SFDP with FFh past
--- their ends, and FFh for all else.
+-- The reply byte at a place: status, data (running on over the chip's end), the ID, the SFDP or the unique ID
+-- with FFh past their ends, and FFh for all else.
 abbrev pub reply_byte : Chip → Command → ℕ → ℕ
 reply_byte chip Poll i = status1_of chip
 reply_byte chip ReadStatus2 i = status2_of chip
 reply_byte chip (ReadData at) i = chip.bytes ((at + i) % chip.config.size)
 reply_byte chip ReadId i = slice_index_or chip.config.id i 255
 reply_byte chip (ReadSfdp at) i = sfdp_byte chip.config (at + i)
+reply_byte chip ReadUnique i = slice_index_or chip.config.unique i 255
 reply_byte chip WriteEnable i = 255
 reply_byte chip WriteDisable i = 255
 reply_byte chip (WriteStatus one two) i = 255
@@ -68,6 +72,7 @@ byte_after chip ReadStatus2 sent a = chip.bytes a
 byte_after chip (ReadData at) sent a = chip.bytes a
 byte_after chip ReadId sent a = chip.bytes a
 byte_after chip (ReadSfdp at) sent a = chip.bytes a
+byte_after chip ReadUnique sent a = chip.bytes a
 byte_after chip WriteEnable sent a = chip.bytes a
 byte_after chip WriteDisable sent a = chip.bytes a
 byte_after chip (WriteStatus one two) sent a = chip.bytes a
@@ -109,6 +114,13 @@ latch_after chip (Erase start len) busy = not (busy == 0)
 latch_after chip Poll busy = if chip.busy == 1 then false else chip.latch
 latch_after chip _ busy = chip.latch
 
+-- what runs afterwards: the operation, or what ran before
+abbrev pub running_after : Chip → Command → Running
+running_after chip (WriteStatus one two) = Runs.StatusWrite chip.kept1 chip.kept2
+running_after chip (Program at) = Runs.Program (at / 256)
+running_after chip (Erase start len) = Runs.Erase start len
+running_after chip _ = chip.running
+
 -- What doing a command replies and leaves.
 pub record Does (command : Command) (sent : List ℕ) (old : Chip) (answer : List ℕ) (new : Chip) : Type 0 where
   pub replies : (i : ℕ) → i < length answer → slice_index answer i ≡ reply_byte old command i
@@ -118,6 +130,7 @@ pub record Does (command : Command) (sent : List ℕ) (old : Chip) (answer : Lis
   pub kept2 : new.kept2 ≡ kept2_after old command
   pub busy : BusyAfter old command new.busy
   pub latch : new.latch ≡ latch_after old command new.busy
+  pub running : new.running ≡ running_after old command
 
 -- The chip's step: `out` goes out, `answer` comes in. A program's data stand behind its three address bytes.
 abbrev pub Step : Chip → List ℕ → List ℕ → Chip → Type 0

@@ -27,6 +27,8 @@ pub enum Command {
     ReadId,
     /// 5Ah: replies the SFDP bytes from this address on.
     ReadSfdp(u32),
+    /// 4Bh: replies the unique ID.
+    ReadUnique,
     /// Any other transaction.
     Ignored,
 }
@@ -47,6 +49,7 @@ impl Command {
                 replies,
             ),
             [0x5A, x, y, z, _] => Command::ReadSfdp(address(config, *x, *y, *z)),
+            [0x4B, _, _, _, _] => Command::ReadUnique,
             [0x02, x, y, z, _, ..] if replies == 0 => Command::Program(address(config, *x, *y, *z)),
             _ => Command::Ignored,
         }

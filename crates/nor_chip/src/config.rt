@@ -5,9 +5,6 @@ ghost use Rattle.nor_chip.specs.Size.{is_chip_size};
 #[cfg(test)]
 mod tests;
 
-/// The bytes of a sector, the smallest unit that an erase clears.
-pub const SECTOR_LEN: u32 = 4096;
-
 /// The SFDP bytes that `TINY64` shows from address 0 on: the header, one parameter header and the double
 /// words 1 to 9 of the basic flash parameter table (JESD216). They are this project's own.
 pub const TINY64_SFDP: [u8; 52] = [
@@ -21,9 +18,9 @@ pub const TINY64_SFDP: [u8; 52] = [
     0x10, 0xD8, 0x00, 0x00, // 9: erases of 64 KiB
 ];
 
-/// Those of the emulated `W25Q64FV`, which differ in the size. They are this project's own too, and not the
-/// vendor's.
-pub const W25Q64FV_SFDP: [u8; 52] = [
+// Those of the emulated `W25Q64FV`, which differ in the size. They are this project's own too, and not the
+// vendor's.
+const W25Q64FV_SFDP: [u8; 52] = [
     0x53, 0x46, 0x44, 0x50, 0x00, 0x01, 0x00, 0xFF, //
     0x00, 0x00, 0x01, 0x09, 0x10, 0x00, 0x00, 0xFF, //
     0x05, 0x20, 0x00, 0x00, //
@@ -34,8 +31,8 @@ pub const W25Q64FV_SFDP: [u8; 52] = [
     0x10, 0xD8, 0x00, 0x00, //
 ];
 
-/// Those of the emulated `W25Q128FV`, likewise.
-pub const W25Q128FV_SFDP: [u8; 52] = [
+// Those of the emulated `W25Q128FV`, likewise.
+const W25Q128FV_SFDP: [u8; 52] = [
     0x53, 0x46, 0x44, 0x50, 0x00, 0x01, 0x00, 0xFF, //
     0x00, 0x00, 0x01, 0x09, 0x10, 0x00, 0x00, 0xFF, //
     0x05, 0x20, 0x00, 0x00, //
@@ -47,7 +44,8 @@ pub const W25Q128FV_SFDP: [u8; 52] = [
 ];
 
 /// A chip's configuration: its ID as 9Fh replies, its size in bytes, which erases it has beside those of
-/// 4 KiB and of the whole chip, whether it has block protection, and its SFDP bytes, FFh past their end.
+/// 4 KiB and of the whole chip, whether it has block protection, the unique ID that 4Bh replies, and its SFDP bytes,
+/// FFh past their end.
 #[derive(Clone, Copy)]
 pub struct Config {
     pub id: [u8; 3],
@@ -55,6 +53,7 @@ pub struct Config {
     pub k32: bool,
     pub k64: bool,
     pub scheme: bool,
+    pub unique: [u8; 8],
     pub sfdp: [u8; 256],
     pub ghost sized: { IsTrue (is_chip_size size) },
     pub ghost at_least: { 65536 ≤ size },
@@ -88,6 +87,7 @@ impl Config {
             k32,
             k64,
             scheme,
+            unique: [0; 8],
             sfdp: padded(sfdp),
         })
     }
@@ -103,6 +103,7 @@ impl Config {
             k32: true,
             k64: true,
             scheme: false,
+            unique: [0; 8],
             sfdp: padded(&TINY64_SFDP),
         }
     }
@@ -118,6 +119,7 @@ impl Config {
             k32: true,
             k64: true,
             scheme: true,
+            unique: [0; 8],
             sfdp: padded(&W25Q64FV_SFDP),
         }
     }
@@ -133,8 +135,18 @@ impl Config {
             k32: true,
             k64: true,
             scheme: true,
+            unique: [0; 8],
             sfdp: padded(&W25Q128FV_SFDP),
         }
+    }
+
+    /// The same chip with this unique ID. (W25Q64FV datasheet, read unique ID number.)
+    pub fn with_unique(self, unique: [u8; 8]) -> Config
+        ensures { result ≡ record self { unique = unique } }
+    {
+        let mut config = self;
+        config.unique = unique;
+        config
     }
 }
 
@@ -145,18 +157,7 @@ fn is_chip_size(size: u32) -> bool
     ensures at_most { result ≡ true → size ≤ 16777216 }
     ensures in_blocks { result ≡ true → size % 65536 ≡ 0 }
 {
-    matches!(
-        size,
-        0x1_0000
-            | 0x2_0000
-            | 0x4_0000
-            | 0x8_0000
-            | 0x10_0000
-            | 0x20_0000
-            | 0x40_0000
-            | 0x80_0000
-            | 0x100_0000
-    )
+    matches!(size, 0x1_0000..=0x100_0000) && size.is_power_of_two()
 }
 
 // The SFDP bytes with FFh behind them.

@@ -1,9 +1,10 @@
 //! Which places the block protection bits keep from programs and erases. (W25Q64FV and W25Q128FV datasheets,
 //! status register memory protection.)
-ghost use Rattle.std.specs.Prelude.{◌≡◌, ◌≤◌, ◌<◌, ◌+◌, ◌-◌, ◌%◌, ◌==◌, ◌||◌, ◌↔◌, ℕ, true, false, if◌then◌else◌, IsTrue, IfSome, IfNone};
+ghost use Rattle.std.specs.Prelude.{◌≡◌, ◌≤◌, ◌<◌, ◌+◌, ◌-◌, ◌*◌, ◌/◌, ◌%◌, ◌==◌, ◌||◌, ◌↔◌, ℕ, true, false, if◌then◌else◌, IsTrue, IfSome, IfNone};
 ghost use Rattle.nor_chip.specs.Size.{is_chip_size};
 ghost use Rattle.nor_chip.specs.Code.{code_in};
 ghost use Rattle.nor_chip.specs.Guard.{guarded_by, is_named, named_length, is_bottom, is_sector, is_complement, is_undefined};
+ghost use Rattle.nor_chip.specs.Units.{LieAtAnEnd, HoldsSomewhere};
 ghost use Rattle.nor_chip.specs.Offer.{GuardsExactly, IsLeastCode, IsNotOffered};
 ghost use Rattle.nor_chip.specs.Offered.{IsStart};
 
@@ -17,11 +18,11 @@ pub(crate) mod walk;
 /// Codes of six bits: CMP, SEC, TB, BP2, BP1, BP0 from the high end.
 const CODES: u8 = 64;
 
-/// Places of a chip: so many from `start` on.
-#[derive(Clone, Copy, Debug, PartialEq, Eq)]
-pub struct Places {
-    pub start: u32,
-    pub len: u32,
+// Places of a chip: so many from `start` on.
+#[derive(Clone, Copy)]
+struct Places {
+    start: u32,
+    len: u32,
 }
 
 // The first places of the chip are named, not the last ones.
@@ -45,8 +46,8 @@ fn is_complement(code: u8) -> bool
     code / 32 % 2 == 1
 }
 
-// The datasheets don't define the code.
-fn is_undefined(code: u8) -> bool
+/// The datasheets don't define the code.
+pub(crate) fn is_undefined(code: u8) -> bool
     ensures { result ≡ is_undefined code }
 {
     is_sector(code) && code % 8 == 6
@@ -92,12 +93,29 @@ pub(crate) fn is_guarded(size: u32, code: u8, at: u32) -> bool
 }
 
 /// These two status bytes guard this place of a chip of this size with block protection. `size` is one that a
-/// chip may have; from there on no place is guarded.
+/// chip may have; from there on no place is guarded. The guarded places lie at one end of the chip, and the page
+/// of a guarded one is guarded whole, so a program that begins there is ignored.
 pub fn protected(status: [u8; 2], size: u32, at: u32) -> bool
     requires { IsTrue (is_chip_size size) }
-    ensures { result ≡ guarded_by size (code_in status) at }
+    ensures value { result ≡ guarded_by size (code_in status) at }
+    ensures ends { LieAtAnEnd size (guarded_by size (code_in status)) }
+    ensures page { at < size → (IsTrue result ↔ HoldsSomewhere (guarded_by size (code_in status)) (at / 256 * 256) 256) }
 {
     is_guarded(size, Status::of(status).code(), at)
+}
+
+/// These two status bytes guard some place of a unit of a chip of this size with block protection, so an erase of
+/// it is ignored. The unit is a page, a sector, a larger block, the chip or any other places in a row, `len` of them
+/// from `start` on and inside the chip, of which `size` is one that a chip may have. Only its first and its last
+/// place are looked at, since the guarded places lie at one end of the chip.
+pub fn unit_protected(status: [u8; 2], size: u32, start: u32, len: u32) -> bool
+    requires sized { IsTrue (is_chip_size size) }
+    requires some { 0 < len }
+    requires inside { start + len ≤ size }
+    ensures borders { result ≡ (guarded_by size (code_in status) start || guarded_by size (code_in status) (start + len - 1)) }
+    ensures somewhere { IsTrue result ↔ HoldsSomewhere (guarded_by size (code_in status)) start len }
+{
+    protected(status, size, start) || protected(status, size, start + len - 1)
 }
 
 // How many places a defined code guards.
@@ -179,7 +197,7 @@ fn least_at(size: u32, code: u8) -> Option<Places>
 }
 
 /// The guarded sets that some defined code gives on a chip of this size, each once, in the order of their least
-/// codes. The empty set starts at 0. `size` is one that a chip may have. It takes no memory.
+/// codes: where it starts, and how many places it has. The empty set starts at 0. `size` is one that a chip may have. It takes no memory.
 pub fn offered(size: u32) -> Offered
     requires { IsTrue (is_chip_size size) }
     ensures { IsStart size result }

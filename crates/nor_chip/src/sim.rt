@@ -1,9 +1,9 @@
 //! A simulated bus: the modelled chip in memory.
-ghost use Rattle.std.specs.Prelude.{◌≡◌, ◌≢◌, ◌≤◌, ◌<◌, ◌||◌, ◌↔◌, ℕ, false, length, slice_index_or, vec_len, IsErr, IfOk};
+ghost use Rattle.std.specs.Prelude.{◌≡◌, ◌≢◌, ◌≤◌, ◌<◌, ◌||◌, ◌↔◌, ℕ, true, false, OnOk, OnErr, length, slice_index_or, vec_len, IsErr, IfOk};
 ghost use Rattle.nor_chip.specs.Aim.{IsAimed};
 ghost use Rattle.nor_chip.specs.Step.{wears};
 
-use crate::{Bus, Command, Config, Meter, Status, Status1, Stopped, is_changing};
+use crate::{Bus, Command, Config, Meter, Running, Status, Status1, Stopped, is_changing};
 use bitflags::Flags;
 use flash::Flash;
 use std::fmt;
@@ -38,12 +38,15 @@ impl std::error::Error for WrongLength {}
 pub struct SimBus {
     flash: Flash,
     left: u64,
+    fill: Option<u8>,
     stirred: bool,
     worn: [bool; 4096],
 }
 
 impl SimBus {
+    ghost use Rattle.std.specs.Option.{is_none};
     ghost use Rattle.nor_chip.specs.Start.{Starts, AreBytesOf, status_of};
+    ghost use Rattle.nor_chip.specs.Sim.{fill_of, pace_of};
 
     /// A bus to a chip with this configuration, these bytes and these two status bytes, of which BUSY (bit 0 of
     /// the first) and SUS (bit 7 of the second) aren't looked at. It lets no transaction through until it is
@@ -56,6 +59,8 @@ impl SimBus {
     ) -> Result<SimBus, WrongLength>
         ensures length { IsErr result ↔ (vec_len bytes ≢ config.size) }
         ensures starts { IfOk result (λ bus. Starts config bytes.items status delays (⟦<SimBus as Bus>⟧.state bus)) }
+        ensures pace { IfOk result (λ bus. pace_of bus ≡ delays.each) }
+        ensures fill { IfOk result (λ bus. fill_of bus ≡ None) }
     {
         if bytes.len() != config.size as usize {
             return Err(WrongLength);
@@ -68,10 +73,12 @@ impl SimBus {
             latch: status.one.contains(Status1::WEL),
             busy: delays.now,
             each: delays.each,
+            running: Running::Unknown,
         };
         Ok(SimBus {
             flash,
             left: 0,
+            fill: None,
             stirred: false,
             worn: [false; 4096],
         })
@@ -84,6 +91,18 @@ impl SimBus {
         &self.flash.bytes
     }
 
+    /// From now on a stop loses the power, where a fill is given: each byte of what runs becomes the fill, a running
+    /// status write leaves the old bits where the fill is even and the new ones where it is odd, and the latch is
+    /// clear and nothing runs. Where nothing is known of what runs, bytes and kept bits stay. Without a fill a stop
+    /// leaves the chip as it is, as at the start.
+    pub fn lose(&mut self, fill: Option<u8>)
+        ensures state { ⟦<SimBus as Bus>⟧.state self.new ≡ record (⟦<SimBus as Bus>⟧.state self.old) { steady = is_none fill } }
+        ensures fill { fill_of self.new ≡ fill }
+        ensures pace { pace_of self.new ≡ pace_of self.old }
+    {
+        self.fill = fill;
+    }
+
     /// The two status bytes, as 05h and 35h would reply them.
     pub fn status(&self) -> [u8; 2]
         ensures { result ≡ status_of (⟦<SimBus as Bus>⟧.state self.now).chip }
@@ -93,7 +112,8 @@ impl SimBus {
 }
 
 impl Bus for SimBus {
-    ghost use Rattle.nor_chip.specs.Sim.{state_of};
+    ghost use Rattle.nor_chip.specs.Bus.{Sends, Stops, Carries};
+    ghost use Rattle.nor_chip.specs.Sim.{state_of, Simulates};
 
     ghost state = { state_of };
 
@@ -104,9 +124,18 @@ impl Bus for SimBus {
       bytes = bus.flash.bytes_in;
     } };
 
-    fn transfer(&mut self, out: &[u8], reply: &mut [u8]) -> Result<(), Stopped> {
+    fn transfer(&mut self, out: &[u8], reply: &mut [u8]) -> Result<(), Stopped>
+        ensures sends { Sends out.now (state_of self.old) (state_of self.new) }
+        ensures stops { (state_of self.old).honest ≡ true → OnErr result (Stops (state_of self.old) (state_of self.new)) }
+        ensures unread { (state_of self.old).honest ≡ true → OnErr result (reply.new ≡ reply.old) }
+        ensures carries { (state_of self.old).honest ≡ true → OnOk result (Carries out.now reply.new (state_of self.old) (state_of self.new)) }
+        ensures simulates { Simulates out.now reply.new result self.old self.new }
+    {
         self.stirred = is_changing(out) || self.stirred;
         if self.left == 0 {
+            if let Some(fill) = self.fill {
+                self.flash.lose_power(fill);
+            }
             return Err(Stopped);
         }
         self.left -= 1;
@@ -117,7 +146,14 @@ impl Bus for SimBus {
 }
 
 impl Meter for SimBus {
-    fn allow(&mut self, n: u64) {
+    ghost use Rattle.nor_chip.specs.Bus.{Allows};
+    ghost use Rattle.nor_chip.specs.Sim.{state_of, fill_of, pace_of};
+
+    fn allow(&mut self, n: u64)
+        ensures allows { Allows n (state_of self.old) (state_of self.new) }
+        ensures fill { fill_of self.new ≡ fill_of self.old }
+        ensures pace { pace_of self.new ≡ pace_of self.old }
+    {
         self.left = n;
     }
 }

@@ -1,7 +1,9 @@
 //! The status bits by their names. (W25Q64FV datasheet, status registers.)
 ghost use Rattle.std.specs.Prelude.{⊤, ◌≡◌, ◌+◌, ◌*◌, ◌/◌, ◌%◌, ◌<◌, [], ◌∷◌, codes, bit_and, bit_or, if◌then◌else◌};
 ghost use Rattle.nor_chip.specs.Code.{code_in, is_lock_set};
+ghost use Rattle.nor_chip.specs.Guard.{is_undefined};
 
+use crate::guard;
 use bitflags::{Flag, Flags, bitflag_items};
 
 #[cfg(test)]
@@ -173,6 +175,13 @@ impl Status {
         } else {
             low
         }
+    }
+
+    /// The datasheets don't define the protection code, and every place is guarded.
+    pub fn is_undefined(self) -> bool
+        ensures { result ≡ is_undefined (code_in (bytes_of self)) }
+    {
+        guard::is_undefined(self.code())
     }
 
     /// The kept bits: all but BUSY, WEL and SUS.

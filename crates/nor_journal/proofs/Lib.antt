@@ -7,3 +7,5 @@ pub mod Writes
 pub mod Saved
 pub mod KnownBytes
 pub mod OneFault
+pub mod Saves
+pub mod Sizes

@@ -1,6 +1,5 @@
 -- Bytes have one fault at most: the first one is the only one.
 use Rattle.std.proofs.Common.{◌≡◌, ◌≢◌, ℕ, ◌/◌, ◌<◌, ◌≤◌, Bool, true, false, cond, ltb, List, [], ◌∷◌, ◌++◌, length, take, refl, sym, ap, subst, ◌∙◌, arith, inl, inr}
-use Rattle.std.specs.Prelude.{codes}
 use Rattle.std.specs.Str.{bytes_eq}
 use Rattle.std.proofs.lemmas.Bool.{cases_lt, lt-ltb, le-ltb}
 use Rattle.std.proofs.lemmas.List.{append-nil, length-take}
@@ -8,9 +7,9 @@ use Rattle.std.proofs.lemmas.Slice.Eq.{bytes_eq-Decides}
 use Rattle.nor_journal.specs.declared.fault.JournalFault.{JournalFault}
 use Rattle.nor_journal.specs.declared.fault.JournalFault.TheVariants.{Short, Magic, Size, Place, Order, Long, Digest}
 use Rattle.nor_journal.specs.Number.{number_at}
-use Rattle.nor_journal.specs.Text.{SavedSector, Content, IsContent, AreRising, next_number, records_text, front, end_mark}
-use Rattle.nor_journal.specs.Fault.{HasFault, HeadFault, FaultBehindFront, NextFault, RecordFault, EndFault}
-use Rattle.nor_journal.proofs.OneForm.{SameHead, same_fronts, same_content, few_sectors, number_at-marked, at_record, AreRising-behind, next_is, records_text-nil, length-end_mark, swapped, head_faultless, front_opened}
+use Rattle.nor_journal.specs.Text.{SavedSector, Content, IsContent, Format, First, Second, magic, SameHead, AreRising, next_number, records_text, front, end_mark}
+use Rattle.nor_journal.specs.Fault.{HasFault, HeadFault, IsCut, HasWrongSize, head_length, FaultBehindFront, NextFault, RecordFault, EndFault}
+use Rattle.nor_journal.proofs.OneForm.{same_format, least_head, same_fronts, same_content, few_sectors, number_at-marked, at_record, AreRising-behind, next_is, records_text-nil, length-end_mark, swapped, head_faultless, front_opened}
 
 -- the test of two lists, as it comes out
 same_tests : (xs ys : List ℕ) → xs ≡ ys → bytes_eq xs ys ≡ true
@@ -32,31 +31,50 @@ passed b x y e = rw e refl
 
 -- ---- in the head
 
-abbrev of_short_head : List ℕ → JournalFault
-of_short_head bytes = cond (ltb (length bytes) 17) Short Size
+abbrev of_format : Format → List ℕ → JournalFault
+of_format f bytes = cond (ltb (length bytes) (head_length f)) Short Size
+
+abbrev of_second : List ℕ → JournalFault
+of_second bytes = cond (bytes_eq (take 8 bytes) (magic Second)) (of_format Second bytes) Magic
 
 abbrev of_magic : List ℕ → JournalFault
-of_magic bytes = cond (bytes_eq (take 8 bytes) (codes "NORUNDO1")) (of_short_head bytes) Magic
+of_magic bytes = cond (bytes_eq (take 8 bytes) (magic First)) (of_format First bytes) (of_second bytes)
 
 abbrev the_head_fault : List ℕ → JournalFault
 the_head_fault bytes = cond (ltb (length bytes) 8) Short (of_magic bytes)
 
-behind_magic : (bytes : List ℕ) → 8 ≤ length bytes → take 8 bytes ≡ codes "NORUNDO1" → the_head_fault bytes ≡ of_short_head bytes
-behind_magic bytes long magic =
-    passed (ltb (length bytes) 8) Short (of_magic bytes) (le-ltb (length bytes) 8 long)
-    ∙ chosen (bytes_eq (take 8 bytes) (codes "NORUNDO1")) (of_short_head bytes) Magic (same_tests (take 8 bytes) (codes "NORUNDO1") magic)
+at_format : (f : Format) (bytes : List ℕ) → take 8 bytes ≡ magic f → of_magic bytes ≡ of_format f bytes
+at_format First bytes begins = chosen (bytes_eq (take 8 bytes) (magic First)) (of_format First bytes) (of_second bytes) (same_tests (take 8 bytes) (magic First) begins)
+at_format Second bytes begins =
+    passed (bytes_eq (take 8 bytes) (magic First)) (of_format First bytes) (of_second bytes)
+    (other_tests (take 8 bytes) (magic First) (λ e. let same : Second ≡ First = same_format Second First (sym begins ∙ e) in (cc)))
+    ∙ chosen (bytes_eq (take 8 bytes) (magic Second)) (of_format Second bytes) Magic (same_tests (take 8 bytes) (magic Second) begins)
+
+behind_magic : (f : Format) (bytes : List ℕ) → 8 ≤ length bytes → take 8 bytes ≡ magic f → the_head_fault bytes ≡ of_format f bytes
+behind_magic f bytes long begins = passed (ltb (length bytes) 8) Short (of_magic bytes) (le-ltb (length bytes) 8 long) ∙ at_format f bytes begins
+
+cut_head : (f : Format) (bytes : List ℕ) → IsCut f bytes → the_head_fault bytes ≡ Short
+cut_head f bytes cut =
+    elim (cases_lt (length bytes) 8) [
+      | inl below ↦ chosen (ltb (length bytes) 8) Short (of_magic bytes) (lt-ltb (length bytes) 8 below)
+      | inr above ↦ behind_magic f bytes above cut.begins ∙ chosen (ltb (length bytes) (head_length f)) Short Size (lt-ltb (length bytes) (head_length f) cut.cut)
+    ]
+
+wrong_size : (f : Format) (bytes : List ℕ) → HasWrongSize f bytes → the_head_fault bytes ≡ Size
+wrong_size f bytes found =
+    behind_magic f bytes (omega (arith, found.whole, least_head f)) found.begins
+    ∙ passed (ltb (length bytes) (head_length f)) Short Size (le-ltb (length bytes) (head_length f) found.whole)
 
 head_fault : (bytes : List ℕ) (f : JournalFault) → HeadFault bytes f → the_head_fault bytes ≡ f
 head_fault bytes Short (inl lt) = chosen (ltb (length bytes) 8) Short (of_magic bytes) (lt-ltb (length bytes) 8 lt)
-head_fault bytes Short (inr (magic, lt)) =
-    elim (cases_lt (length bytes) 8) [
-      | inl below ↦ chosen (ltb (length bytes) 8) Short (of_magic bytes) (lt-ltb (length bytes) 8 below)
-      | inr above ↦ behind_magic bytes above magic ∙ chosen (ltb (length bytes) 17) Short Size (lt-ltb (length bytes) 17 lt)
-    ]
-head_fault bytes Magic (long, other) =
+head_fault bytes Short (inr (inl cut)) = cut_head First bytes cut
+head_fault bytes Short (inr (inr cut)) = cut_head Second bytes cut
+head_fault bytes Magic (long, one, two) =
     passed (ltb (length bytes) 8) Short (of_magic bytes) (le-ltb (length bytes) 8 long)
-    ∙ passed (bytes_eq (take 8 bytes) (codes "NORUNDO1")) (of_short_head bytes) Magic (other_tests (take 8 bytes) (codes "NORUNDO1") other)
-head_fault bytes Size (long, magic, wrong) = behind_magic bytes (omega arith) magic ∙ passed (ltb (length bytes) 17) Short Size (le-ltb (length bytes) 17 long)
+    ∙ passed (bytes_eq (take 8 bytes) (magic First)) (of_format First bytes) (of_second bytes) (other_tests (take 8 bytes) (magic First) one)
+    ∙ passed (bytes_eq (take 8 bytes) (magic Second)) (of_format Second bytes) Magic (other_tests (take 8 bytes) (magic Second) two)
+head_fault bytes Size (inl found) = wrong_size First bytes found
+head_fault bytes Size (inr found) = wrong_size Second bytes found
 head_fault bytes Place never = absurd never
 head_fault bytes Order never = absurd never
 head_fault bytes Long never = absurd never

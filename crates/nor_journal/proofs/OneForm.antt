@@ -1,14 +1,15 @@
 -- No body of a journal begins another, and a journal has no fault.
-use Rattle.std.proofs.Common.{◌≡◌, ℕ, ◌+◌, ◌/◌, ◌^◌, ◌<◌, ◌≤◌, ◌⊎◌, List, [], ◌∷◌, ◌++◌, length, take, drop, refl, sym, ap, subst, ◌∙◌, append_assoc, arith, inl, inr}
-use Rattle.std.specs.Prelude.{codes, Result, Ok, Err, IfOk, IfErr, OnOk, IsOkAnd}
+use Rattle.std.proofs.Common.{◌≡◌, ◌≢◌, ℕ, ◌+◌, ◌-◌, ◌/◌, ◌^◌, ◌<◌, ◌≤◌, ◌⊎◌, List, [], ◌∷◌, ◌++◌, length, get_or, take, drop, Option, Some, None, refl, sym, ap, subst, ◌∙◌, append_assoc, arith, inl, inr}
+use Rattle.std.specs.Prelude.{Result, Ok, Err, IfOk, IfErr, OnOk, IsOkAnd, IfSome}
+use Rattle.std.specs.Option.{unwrap_or}
 use Rattle.std.proofs.lemmas.List.{length-append, length-drop, take_at, drop_at, append-nil, append_cancel_left, take-append-drop}
 use Rattle.sha2.specs.Sha256.{sha256}
 use Rattle.sha2.proofs.Facts256.{length-sha256}
 use Rattle.nor_journal.specs.declared.fault.JournalFault.{JournalFault}
 use Rattle.nor_journal.specs.declared.fault.JournalFault.TheVariants.{Short, Magic, Size, Place, Order, Long, Digest}
 use Rattle.nor_journal.specs.Number.{number_text, number_at}
-use Rattle.nor_journal.specs.Text.{SavedSector, Content, IsContent, IsChipSize, IsSectorBelow, AreRising, least_after, next_number, head, record_text, records_text, front, body, text, end_mark}
-use Rattle.nor_journal.specs.Fault.{HasFault, HeadFault, NextFault, RecordFault, EndFault}
+use Rattle.nor_journal.specs.Text.{SavedSector, Content, IsContent, IsChipSize, IsSectorBelow, AreRising, Format, First, Second, format_of, magic, SameHead, least_after, next_number, head, record_text, records_text, front, body, text, end_mark}
+use Rattle.nor_journal.specs.Fault.{HasFault, HeadFault, IsCut, HasWrongSize, head_length, NextFault, RecordFault, EndFault}
 use Rattle.nor_journal.proofs.Numbers.{length-number_text, number_at-number_text, number_at-take}
 
 -- two lists that go on differently, after parts of one length
@@ -108,30 +109,69 @@ saved_are c is = sectors_are (c.size / 4096) 0 c.saved (few_sectors c.size is.si
 
 -- ---- heads and fronts
 
-length-head : (c : Content) → IsContent c → length (head c) ≡ 17
+pub length-magic : (f : Format) → length (magic f) ≡ 8
+length-magic First = refl
+length-magic Second = refl
+
+-- the last digits of the magics
+two_digits : (one two : ℕ) → one ≡ 49 → two ≡ 50 → one ≡ two → ⊥
+two_digits one two p q e = omega arith
+
+-- two formats have two magics
+pub same_format : (f g : Format) → magic f ≡ magic g → f ≡ g
+same_format First First e = refl
+same_format First Second e = absurd (two_digits _ _ refl refl (ap (λ (t : List ℕ). get_or t 7 0) e))
+same_format Second First e = absurd (two_digits _ _ refl refl (sym (ap (λ (t : List ℕ). get_or t 7 0) e)))
+same_format Second Second e = refl
+
+-- how long what a head tells of the unique ID is
+length-unique : (u : Option (List ℕ)) → IfSome u (λ unique. length unique ≡ 8) → length (unwrap_or u []) + 17 ≡ head_length (format_of u)
+length-unique None is = refl
+length-unique (Some u) is = omega arith
+
+same_unique : (u v : Option (List ℕ)) → format_of u ≡ format_of v → unwrap_or u [] ≡ unwrap_or v [] → u ≡ v
+same_unique None None f e = refl
+same_unique None (Some v) f e = absurd cc
+same_unique (Some u) None f e = absurd cc
+same_unique (Some u) (Some v) f e = rw e refl
+
+-- a head, part by part
+head_opened : (c : Content) (x : List ℕ) → head c ++ x ≡ magic (format_of c.unique) ++ (c.id ++ (unwrap_or c.unique [] ++ (c.status ++ (number_text c.size ++ x))))
+unfolding head
+head_opened c x = simp append_assoc
+
+length-head : (c : Content) → IsContent c → length (head c) ≡ head_length (format_of c.unique)
 unfolding head
 length-head c is =
-    omega (arith, length-append ((codes "NORUNDO1" ++ c.id) ++ c.status) (number_text c.size), length-append (codes "NORUNDO1" ++ c.id) c.status, length-append (codes "NORUNDO1") c.id, length-number_text c.size, is.id, is.status)
-
-pub record SameHead (c d : Content) : Type 0 where
-  pub id : c.id ≡ d.id
-  pub status : c.status ≡ d.status
-  pub size : c.size ≡ d.size
+    let before : List ℕ = (magic (format_of c.unique) ++ c.id) ++ unwrap_or c.unique [] in
+    omega (
+      arith,
+      length-append (before ++ c.status) (number_text c.size),
+      length-append before c.status,
+      length-append (magic (format_of c.unique) ++ c.id) (unwrap_or c.unique []),
+      length-append (magic (format_of c.unique)) c.id,
+      length-magic (format_of c.unique),
+      length-unique c.unique is.unique,
+      length-number_text c.size,
+      is.id,
+      is.status,
+    )
 
 same_heads : (c d : Content) (x y : List ℕ) → IsContent c → IsContent d → head c ++ x ≡ head d ++ y → SameHead c d × (x ≡ y)
-unfolding head
 same_heads c d x y c-is d-is e =
-    let whole = same_parts (head c) (head d) x y (length-head c c-is ∙ sym (length-head d d-is)) e in
-    let to_size = same_parts ((codes "NORUNDO1" ++ c.id) ++ c.status) ((codes "NORUNDO1" ++ d.id) ++ d.status) (number_text c.size) (number_text d.size)
-    (omega (arith, length-append (codes "NORUNDO1" ++ c.id) c.status, length-append (codes "NORUNDO1") c.id, length-append (codes "NORUNDO1" ++ d.id) d.status, length-append (codes "NORUNDO1") d.id, c-is.id, c-is.status, d-is.id, d-is.status)) whole.0 in
-    let to_status = same_parts (codes "NORUNDO1" ++ c.id) (codes "NORUNDO1" ++ d.id) c.status d.status
-    (omega (arith, length-append (codes "NORUNDO1") c.id, length-append (codes "NORUNDO1") d.id, c-is.id, d-is.id)) to_size.0 in (
+    let magics = same_parts (magic (format_of c.unique)) (magic (format_of d.unique)) _ _ (length-magic (format_of c.unique) ∙ sym (length-magic (format_of d.unique))) (sym (head_opened c x) ∙ e ∙ head_opened d y) in
+    let format : format_of c.unique ≡ format_of d.unique = same_format _ _ magics.0 in
+    let ids = same_parts c.id d.id _ _ (c-is.id ∙ sym d-is.id) magics.1 in
+    let uniques = same_parts (unwrap_or c.unique []) (unwrap_or d.unique []) _ _ (omega (arith, length-unique c.unique c-is.unique, length-unique d.unique d-is.unique, ap head_length format)) ids.1 in
+    let statuses = same_parts c.status d.status _ _ (c-is.status ∙ sym d-is.status) uniques.1 in
+    let sizes = same_parts (number_text c.size) (number_text d.size) x y (length-number_text c.size ∙ sym (length-number_text d.size)) statuses.1 in (
       record {
-        id = append_cancel_left (codes "NORUNDO1") c.id d.id to_status.0;
-        status = to_status.1;
-        size = same_number c.size d.size (omega (arith, c-is.size.most)) (omega (arith, d-is.size.most)) to_size.1;
+        id = ids.0;
+        unique = same_unique c.unique d.unique format uniques.0;
+        status = statuses.0;
+        size = same_number c.size d.size (omega (arith, c-is.size.most)) (omega (arith, d-is.size.most)) sizes.0;
       },
-      whole.1,
+      sizes.1,
     )
 
 pub front_opened : (c : Content) (x : List ℕ) → front c ++ x ≡ head c ++ (records_text c.saved ++ x)
@@ -147,11 +187,12 @@ same_fronts c d x y c-is d-is e =
     let heads = same_heads c d (records_text c.saved ++ x) (records_text d.saved ++ y) c-is d-is (sym (front_opened c x) ∙ e ∙ front_opened d y) in
     (heads.0, one_goes_on c.saved d.saved x y (saved_are c c-is) (saved_are d d-is) heads.1)
 
-same_fields : (i i' t t' : List ℕ) (n n' : ℕ) (s s' : List SavedSector) → i ≡ i' → t ≡ t' → n ≡ n' → s ≡ s' → (let c : Content = record { id = i; status = t; size = n; saved = s } in c) ≡ record { id = i'; status = t'; size = n'; saved = s' }
-same_fields i i' t t' n n' s s' p q r e = rw (p, q, r, e) refl
-
 pub same_content : (c d : Content) → SameHead c d → c.saved ≡ d.saved → c ≡ d
-same_content c d same e = same_fields c.id d.id c.status d.status c.size d.size c.saved d.saved same.id same.status same.size e
+same_content c d same e = same_fields c.id d.id c.unique d.unique c.status d.status c.size d.size c.saved d.saved same.id same.unique same.status same.size e
+  where
+    same_fields : (i i' : List ℕ) (u u' : Option (List ℕ)) (t t' : List ℕ) (n n' : ℕ) (s s' : List SavedSector) → i ≡ i' → u ≡ u' → t ≡ t' → n ≡ n' → s ≡ s'
+        → (let c : Content = record { id = i; unique = u; status = t; size = n; saved = s } in c) ≡ record { id = i'; unique = u'; status = t'; size = n'; saved = s' }
+    same_fields i i' u u' t t' n n' s s' p o q r e = rw (p, o, q, r, e) refl
 
 -- ---- what follows is without fault
 
@@ -264,22 +305,43 @@ next_faultless c d rest fault c-is d-is e found =
 
 -- ---- the head of a text is without fault
 
-head_number : (c : Content) (x : List ℕ) → IsContent c → number_at (drop 13 (head c ++ x)) ≡ c.size
+head_number : (f : Format) (c : Content) (x : List ℕ) → IsContent c → format_of c.unique ≡ f → number_at (drop (head_length f - 4) (head c ++ x)) ≡ c.size
 unfolding head
-head_number c x is =
-    let regrouped : head c ++ x ≡ ((codes "NORUNDO1" ++ c.id) ++ c.status) ++ (number_text c.size ++ x) = append_assoc ((codes "NORUNDO1" ++ c.id) ++ c.status) (number_text c.size) x in
-    let len : length ((codes "NORUNDO1" ++ c.id) ++ c.status) ≡ 13 = omega (arith, length-append (codes "NORUNDO1" ++ c.id) c.status, length-append (codes "NORUNDO1") c.id, is.id, is.status) in
-    ap (λ (t : List ℕ). number_at (drop 13 t)) regrouped ∙ ap number_at (drop_at ((codes "NORUNDO1" ++ c.id) ++ c.status) (number_text c.size ++ x) 13 len) ∙ number_at-number_text c.size x (omega (arith, is.size.most))
+head_number f c x is e =
+    let before : List ℕ = ((magic (format_of c.unique) ++ c.id) ++ unwrap_or c.unique []) ++ c.status in
+    let len : length before ≡ head_length f - 4 = omega (arith, length-head c is, ap head_length e, length-append before (number_text c.size), length-number_text c.size) in
+    ap (λ (t : List ℕ). number_at (drop (head_length f - 4) t)) (append_assoc before (number_text c.size) x)
+    ∙ ap number_at (drop_at before (number_text c.size ++ x) (head_length f - 4) len)
+    ∙ number_at-number_text c.size x (omega (arith, is.size.most))
 
-head_magic : (c : Content) (x : List ℕ) → take 8 (head c ++ x) ≡ codes "NORUNDO1"
-unfolding head
-head_magic c x = refl
+head_magic : (c : Content) (x : List ℕ) → take 8 (head c ++ x) ≡ magic (format_of c.unique)
+head_magic c x = ap (take 8) (head_opened c x) ∙ take_at _ _ _ (length-magic (format_of c.unique))
+
+-- the format of the bytes is that of the content
+head_format : (f : Format) (c : Content) (x : List ℕ) → take 8 (head c ++ x) ≡ magic f → format_of c.unique ≡ f
+head_format f c x begins = same_format _ _ (sym (head_magic c x) ∙ begins)
+
+not_cut : (f : Format) (c : Content) (x : List ℕ) → IsContent c → IsCut f (head c ++ x) → ⊥
+not_cut f c x is cut = omega (arith, cut.cut, length-append (head c) x, length-head c is, ap head_length (head_format f c x cut.begins))
+
+size_is_right : (f : Format) (c : Content) (x : List ℕ) → IsContent c → HasWrongSize f (head c ++ x) → ⊥
+size_is_right f c x is found = found.wrong (rw (head_number f c x is (head_format f c x found.begins)) is.size)
+
+some_format : (f : Format) (bytes : List ℕ) → bytes ≡ magic f → bytes ≢ magic First → bytes ≢ magic Second → ⊥
+some_format First bytes e one two = one e
+some_format Second bytes e one two = two e
+
+pub least_head : (f : Format) → 17 ≤ head_length f
+least_head First = omega arith
+least_head Second = omega arith
 
 pub head_faultless : (c : Content) (x : List ℕ) (fault : JournalFault) → IsContent c → HeadFault (head c ++ x) fault → ⊥
-head_faultless c x Short is (inl short) = omega (arith, length-append (head c) x, length-head c is)
-head_faultless c x Short is (inr short) = omega (arith, short.1, length-append (head c) x, length-head c is)
-head_faultless c x Magic is other = other.1 (head_magic c x)
-head_faultless c x Size is wrong = wrong.2 (rw (head_number c x is) is.size)
+head_faultless c x Short is (inl short) = omega (arith, length-append (head c) x, length-head c is, least_head (format_of c.unique))
+head_faultless c x Short is (inr (inl cut)) = not_cut First c x is cut
+head_faultless c x Short is (inr (inr cut)) = not_cut Second c x is cut
+head_faultless c x Magic is other = some_format (format_of c.unique) (take 8 (head c ++ x)) (head_magic c x) other.1 other.2
+head_faultless c x Size is (inl wrong) = size_is_right First c x is wrong
+head_faultless c x Size is (inr wrong) = size_is_right Second c x is wrong
 head_faultless c x Place is never = never
 head_faultless c x Order is never = never
 head_faultless c x Long is never = never
@@ -309,7 +371,7 @@ same_end c d x y (s ∷ more) is same list e =
     absurd (no_record (sha256 (body c) ++ x) s more (end_mark ++ (sha256 (body d) ++ y)) (d.size / 4096) (place_behind (d.size / 4096) 0 c.saved s more (rw (← list) is.saved)) (few_sectors d.size is.size) e)
 
 pub swapped : (c d : Content) → SameHead c d → SameHead d c
-swapped c d same = record { id = sym same.id; status = sym same.status; size = sym same.size }
+swapped c d same = record { id = sym same.id; unique = sym same.unique; status = sym same.status; size = sym same.size }
 
 pub one_text : (c d : Content) (x y : List ℕ) → IsContent c → IsContent d → text c ++ x ≡ text d ++ y → (c ≡ d) × (x ≡ y)
 one_text c d x y c-is d-is e =

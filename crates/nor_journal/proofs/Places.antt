@@ -21,7 +21,7 @@ unfolding head
 same_head h k records = refl
 
 pub is_content : (h : Head) (records : List ℕ) (k : ℕ) → IsHead h → HasRecords h records k → IsContent (content_at h k records)
-is_content h records k is has = record { id = is.id; status = is.status; size = is.size; saved = has.rising }
+is_content h records k is has = record { id = is.id; unique = is.unique; status = is.status; size = is.size; saved = has.rising }
 
 module _ (h : Head) (bytes records : List ℕ) (split : bytes ≡ head (headed h) ++ records) (fits : IsBytes bytes) (k : ℕ) (within : 4100 * k ≤ length records) where
   pub front_splits : bytes ≡ front (content_at h k records) ++ drop (4100 * k) records

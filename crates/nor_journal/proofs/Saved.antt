@@ -4,22 +4,23 @@ use Rattle.std.specs.Prelude.{slice_get}
 use Rattle.std.proofs.lemmas.Bool.{eq-eqb, ne_eqb}
 use Rattle.std.proofs.lemmas.Bool.Decides.{eqb_tells}
 use Rattle.std.proofs.lemmas.Option.{same_Some}
-use Rattle.nor_journal.specs.Text.{SavedSector, Content, IsContent, IsSectorBelow, AreRising, MayFollow, least_after, next_number, saved_in, empty_content, with_sector}
+use Rattle.nor_journal.specs.Text.{SavedSector, Content, IsContent, IsSectorBelow, AreRising, MayFollow, least_after, next_number, empty_content, with_sector}
+use Rattle.nor_journal.specs.Saved.{saved_in}
 use Rattle.nor_journal.specs.declared.head.Head.{Head}
 use Rattle.nor_journal.specs.Reading.{sector_at, sectors_in, HasRecords}
 use Rattle.nor_journal.proofs.SectorRecords.{least_after-push, slice_get-sectors_in}
 
-pub next_number-empty_content : (id status : List ℕ) (size : ℕ) → next_number (empty_content id status size) ≡ 0
+pub next_number-empty_content : (id : List ℕ) (unique : Option (List ℕ)) (status : List ℕ) (size : ℕ) → next_number (empty_content id unique status size) ≡ 0
 unfolding next_number
-next_number-empty_content id status size = refl
+next_number-empty_content id unique status size = refl
 
 pub next_number-with_sector : (c : Content) (number : ℕ) (bytes : List ℕ) → next_number (with_sector c number bytes) ≡ number + 1
 unfolding next_number
 next_number-with_sector c number bytes = least_after-push 0 c.saved (record { number = number; bytes = bytes })
 
-pub saved_in-empty_content : (id status : List ℕ) (size number : ℕ) → saved_in (empty_content id status size).saved number ≡ None
+pub saved_in-empty_content : (id : List ℕ) (unique : Option (List ℕ)) (status : List ℕ) (size number : ℕ) → saved_in (empty_content id unique status size).saved number ≡ None
 unfolding saved_in
-saved_in-empty_content id status size number = refl
+saved_in-empty_content id unique status size number = refl
 
 -- ---- of a list that rises
 

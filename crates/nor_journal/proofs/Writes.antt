@@ -1,27 +1,28 @@
 -- What the pieces of a journal make, one behind the other.
 use Rattle.std.proofs.Common.{◌≡◌, ℕ, ◌/◌, List, [], ◌∷◌, ◌++◌, length, refl, sym, ap, ◌∙◌, append_assoc}
-use Rattle.std.specs.Prelude.{codes, true, Result, Ok, Err, OnOk}
+use Rattle.std.specs.Prelude.{true, Some, Result, Ok, Err, OnOk}
 use Rattle.sha2.specs.Sha256.{sha256}
 use Rattle.nor_journal.specs.declared.vault.VaultFault.{VaultFault}
 use Rattle.std.proofs.lemmas.List.{append-nil}
 use Rattle.nor_journal.specs.Vault.{VaultState, Took, Seals}
 use Rattle.nor_journal.specs.declared.writer.Writer.{Writer}
 use Rattle.nor_journal.specs.Number.{number_text}
-use Rattle.nor_journal.specs.Text.{SavedSector, Content, IsContent, IsChipSize, MayFollow, next_number, head, record_text, records_text, end_mark, front, body, text, empty_content, with_sector}
+use Rattle.nor_journal.specs.Text.{SavedSector, Content, IsContent, IsChipSize, Second, magic, MayFollow, next_number, head, record_text, records_text, end_mark, front, body, text, empty_content, with_sector}
 use Rattle.nor_journal.specs.Writer.{HasPut, HasWritten}
 use Rattle.nor_journal.proofs.SectorRecords.{AreRising-push, records_text-push, records_text-nil}
 
-front-empty_content : (id status : List ℕ) (size : ℕ) → front (empty_content id status size) ≡ ((codes "NORUNDO1" ++ id) ++ status) ++ number_text size
+front-empty_content : (id unique status : List ℕ) (size : ℕ) → front (empty_content id (Some unique) status size) ≡ (((magic Second ++ id) ++ unique) ++ status) ++ number_text size
 unfolding front head
-front-empty_content id status size =
-    ap (λ (t : List ℕ). (((codes "NORUNDO1" ++ id) ++ status) ++ number_text size) ++ t) records_text-nil ∙ append-nil (((codes "NORUNDO1" ++ id) ++ status) ++ number_text size)
+front-empty_content id unique status size =
+    let whole : List ℕ = (((magic Second ++ id) ++ unique) ++ status) ++ number_text size in
+    ap (λ (t : List ℕ). whole ++ t) records_text-nil ∙ append-nil whole
 
 -- the head makes a content with no sector
-pub opens : {V : Type 0} (state : V → VaultState) (w : Writer V) (id status number : List ℕ) (size : ℕ) → length id ≡ 3 → length status ≡ 2 → IsChipSize size → number ≡ number_text size
-    → HasPut state w (((codes "NORUNDO1" ++ id) ++ status) ++ number) → HasWritten state w (empty_content id status size)
-opens state w id status number size three two is e put = record {
-  is = record { id = three; status = two; size = is; saved = tt };
-  put = rw (front-empty_content id status size, ← e) put;
+pub opens : {V : Type 0} (state : V → VaultState) (w : Writer V) (id unique status number : List ℕ) (size : ℕ) → length id ≡ 3 → length unique ≡ 8 → length status ≡ 2 → IsChipSize size → number ≡ number_text size
+    → HasPut state w ((((magic Second ++ id) ++ unique) ++ status) ++ number) → HasWritten state w (empty_content id (Some unique) status size)
+opens state w id unique status number size three eight two is e put = record {
+  is = record { id = three; unique = eight; status = two; size = is; saved = tt };
+  put = rw (front-empty_content id unique status size, ← e) put;
 }
 
 same_head : (c : Content) (number : ℕ) (bytes : List ℕ) → head (with_sector c number bytes) ≡ head c
@@ -42,6 +43,7 @@ pub IsContent-with_sector : (c : Content) (number : ℕ) (bytes : List ℕ) → 
 unfolding next_number
 IsContent-with_sector c number bytes is follows whole = record {
   id = is.id;
+  unique = is.unique;
   status = is.status;
   size = is.size;
   saved = AreRising-push (c.size / 4096) 0 c.saved (record { number = number; bytes = bytes }) is.saved (record { place = follows.place; whole = whole }) follows.rises;

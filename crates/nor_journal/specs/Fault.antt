@@ -1,17 +1,33 @@
 -- What is wrong with bytes that are no journal: the first fault that is met from the front, part by part.
-use Rattle.std.specs.Prelude.{◌≡◌, ◌≢◌, ℕ, ◌/◌, ◌<◌, ◌≤◌, List, ◌++◌, length, take, drop, codes, ◌⊎◌}
+use Rattle.std.specs.Prelude.{◌≡◌, ◌≢◌, ℕ, ◌-◌, ◌/◌, ◌<◌, ◌≤◌, List, ◌++◌, length, take, drop, ◌⊎◌}
 use Rattle.sha2.specs.Sha256.{sha256}
 use Rattle.nor_journal.specs.Number.{number_at}
-use Rattle.nor_journal.specs.Text.{Content, IsContent, IsChipSize, front, end_mark, next_number}
+use Rattle.nor_journal.specs.Text.{Content, IsContent, IsChipSize, Format, First, Second, magic, front, end_mark, next_number}
 use Rattle.nor_journal.specs.declared.fault.JournalFault.{JournalFault}
 use Rattle.nor_journal.specs.declared.fault.JournalFault.TheVariants.{Short, Magic, Size, Place, Order, Long, Digest}
+
+-- the length of a head, whose last four bytes are the size
+abbrev pub head_length : Format → ℕ
+head_length First = 17
+head_length Second = 25
+
+-- The magic is this format's, and the head isn't wholly there.
+pub record IsCut (format : Format) (bytes : List ℕ) : Type 0 where
+  pub begins : take 8 bytes ≡ magic format
+  pub cut : length bytes < head_length format
+
+-- The head of this format is there, and its size is none that a chip may have.
+pub record HasWrongSize (format : Format) (bytes : List ℕ) : Type 0 where
+  pub begins : take 8 bytes ≡ magic format
+  pub whole : head_length format ≤ length bytes
+  pub wrong : ¬ IsChipSize (number_at (drop (head_length format - 4) bytes))
 
 -- The head has this fault.
 abbrev pub HeadFault : List ℕ → JournalFault → Type 0
 -- the magic isn't wholly there, or the magic is and another part of the head isn't
-HeadFault bytes Short = (length bytes < 8) ⊎ ((take 8 bytes ≡ codes "NORUNDO1") × (length bytes < 17))
-HeadFault bytes Magic = (8 ≤ length bytes) × (take 8 bytes ≢ codes "NORUNDO1")
-HeadFault bytes Size = (17 ≤ length bytes) × (take 8 bytes ≡ codes "NORUNDO1") × ¬ IsChipSize (number_at (drop 13 bytes))
+HeadFault bytes Short = (length bytes < 8) ⊎ (IsCut First bytes ⊎ IsCut Second bytes)
+HeadFault bytes Magic = (8 ≤ length bytes) × (take 8 bytes ≢ magic First) × (take 8 bytes ≢ magic Second)
+HeadFault bytes Size = HasWrongSize First bytes ⊎ HasWrongSize Second bytes
 HeadFault bytes Place = ⊥
 HeadFault bytes Order = ⊥
 HeadFault bytes Long = ⊥

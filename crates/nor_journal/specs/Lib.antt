@@ -1,7 +1,9 @@
 pub mod Vault
 pub mod FileVault
+pub mod BrokenVault
 pub mod Number
 pub mod Text
+pub mod Saved
 pub mod Fault
 pub mod Reading
 pub mod Writer

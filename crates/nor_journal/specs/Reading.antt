@@ -1,5 +1,5 @@
 -- The content that bytes have at their places.
-use Rattle.std.specs.Prelude.{◌≡◌, ℕ, zero, suc, ◌+◌, ◌*◌, ◌/◌, ◌<◌, ◌≤◌, List, [], ◌∷◌, ◌++◌, length, take, drop}
+use Rattle.std.specs.Prelude.{◌≡◌, ℕ, zero, suc, ◌+◌, ◌*◌, ◌/◌, ◌<◌, ◌≤◌, List, [], ◌∷◌, ◌++◌, length, take, drop, IfSome}
 use Rattle.nor_journal.specs.Number.{number_at}
 use Rattle.nor_journal.specs.Text.{SavedSector, Content, IsChipSize, AreRising, next_number, end_mark}
 use Rattle.nor_journal.specs.Fault.{RecordFault}
@@ -17,15 +17,16 @@ sectors_in (suc k) bytes = sectors_in k bytes ++ sector_at bytes k ∷ []
 
 -- what a head says, with no sector saved
 abbrev pub headed : Head → Content
-headed h = record { id = h.id; status = h.status; size = h.size; saved = [] }
+headed h = record { id = h.id; unique = h.unique; status = h.status; size = h.size; saved = [] }
 
 -- the same with the first k records of the bytes behind the head
 abbrev pub content_at : Head → ℕ → List ℕ → Content
-content_at h k bytes = record { id = h.id; status = h.status; size = h.size; saved = sectors_in k bytes }
+content_at h k bytes = record { id = h.id; unique = h.unique; status = h.status; size = h.size; saved = sectors_in k bytes }
 
 -- a head that a content may have
 pub record IsHead (h : Head) : Type 0 where
   pub id : length h.id ≡ 3
+  pub unique : IfSome h.unique (λ unique. length unique ≡ 8)
   pub status : length h.status ≡ 2
   pub size : IsChipSize h.size
 

@@ -1,6 +1,8 @@
--- What a journal says, and its one text, format 1.
-use Rattle.std.specs.Prelude.{◌≡◌, ℕ, ◌+◌, ◌/◌, ◌<◌, ◌≤◌, Bool, ◌||◌, IsTrue, ⊤, List, [], ◌∷◌, ◌++◌, length, codes, Option, Some, None, ◌==◌, if◌then◌else◌}
+-- What a journal says, and its one text, in two formats.
+use Rattle.std.specs.Prelude.{◌≡◌, ℕ, ◌+◌, ◌/◌, ◌<◌, ◌≤◌, true, ⊤, List, [], ◌∷◌, ◌++◌, length, codes, Option, Some, None, IfSome}
+use Rattle.std.specs.Int.{is_power_of_two}
 use Rattle.std.specs.List.{flat_map}
+use Rattle.std.specs.Option.{unwrap_or}
 use Rattle.sha2.specs.Sha256.{sha256}
 use Rattle.nor_journal.specs.Number.{number_text}
 
@@ -14,6 +16,8 @@ pub record SavedSector : Type 0 where
 pub record Content : Type 0 where
   -- the three bytes of the chip's ID
   pub id : List ℕ
+  -- the eight bytes of its unique ID, which a journal of format 1 doesn't tell
+  pub unique : Option (List ℕ)
   -- status 1 and status 2
   pub status : List ℕ
   -- the chip's size in bytes
@@ -22,15 +26,9 @@ pub record Content : Type 0 where
 
 -- ---- which contents there are
 
--- one of the powers of two from 64 KiB to 16 MiB
-abbrev pub is_chip_size : ℕ → Bool
-is_chip_size n =
-    n == 65536 || n == 131072 || n == 262144 || n == 524288 || n == 1048576 || n == 2097152 || n == 4194304
-    || n == 8388608 || n == 16777216
-
--- a size that a chip may have, and what follows from that
+-- a size that a chip may have: a power of two from 64 KiB to 16 MiB
 pub record IsChipSize (size : ℕ) : Type 0 where
-  pub allowed : IsTrue (is_chip_size size)
+  pub power : is_power_of_two size ≡ true
   pub least : 65536 ≤ size
   pub most : size ≤ 16777216
 
@@ -46,15 +44,31 @@ AreRising sectors least (s ∷ rest) = IsSectorBelow sectors s × (least ≤ s.n
 
 pub record IsContent (c : Content) : Type 0 where
   pub id : length c.id ≡ 3
+  pub unique : IfSome c.unique (λ unique. length unique ≡ 8)
   pub status : length c.status ≡ 2
   pub size : IsChipSize c.size
   pub saved : AreRising (c.size / 4096) 0 c.saved
 
 -- ---- the text
 
--- The head: the magic, the ID, the status bytes and the size. Another format has another head.
+-- The two formats: only format 2 tells the chip's unique ID.
+pub data Format : Type 0 where
+  First : Format
+  Second : Format
+
+-- the format of a content with this unique ID
+abbrev pub format_of : Option (List ℕ) → Format
+format_of None = First
+format_of (Some _) = Second
+
+-- the first eight bytes of a journal
+abbrev pub magic : Format → List ℕ
+magic First = codes "NORUNDO1"
+magic Second = codes "NORUNDO2"
+
+-- The head: the magic, the ID, the unique ID where it is told, the status bytes and the size.
 unfoldable pub head : Content → List ℕ
-head c = codes "NORUNDO1" ++ c.id ++ c.status ++ number_text c.size
+head c = magic (format_of c.unique) ++ c.id ++ unwrap_or c.unique [] ++ c.status ++ number_text c.size
 
 -- a record: the sector's number and its bytes
 unfoldable pub record_text : SavedSector → List ℕ
@@ -79,15 +93,22 @@ body c = front c ++ end_mark
 unfoldable pub text : Content → List ℕ
 text c = body c ++ sha256 (body c)
 
--- ---- a content that grows, and what it saves
+-- ---- a content that grows
 
 -- what a journal says before any sector is saved
-abbrev pub empty_content : List ℕ → List ℕ → ℕ → Content
-empty_content id status size = record { id = id; status = status; size = size; saved = [] }
+abbrev pub empty_content : List ℕ → Option (List ℕ) → List ℕ → ℕ → Content
+empty_content id unique status size = record { id = id; unique = unique; status = status; size = size; saved = [] }
 
 -- the content with one more sector, the last
 abbrev pub with_sector : Content → ℕ → List ℕ → Content
 with_sector c number bytes = record c { saved = c.saved ++ record { number = number; bytes = bytes } ∷ [] }
+
+-- two contents that say the same but for the sectors that they save
+pub record SameHead (c d : Content) : Type 0 where
+  pub id : c.id ≡ d.id
+  pub unique : c.unique ≡ d.unique
+  pub status : c.status ≡ d.status
+  pub size : c.size ≡ d.size
 
 -- the least number that a sector may have which follows these
 abbrev pub least_after : ℕ → List SavedSector → ℕ
@@ -102,8 +123,3 @@ next_number c = least_after 0 c.saved
 pub record MayFollow (c : Content) (number : ℕ) : Type 0 where
   pub rises : next_number c ≤ number
   pub place : number < c.size / 4096
-
--- the bytes that are saved for a sector, if it is saved
-unfoldable pub saved_in : List SavedSector → ℕ → Option (List ℕ)
-saved_in [] number = None
-saved_in (s ∷ rest) number = if s.number == number then Some s.bytes else saved_in rest number

@@ -1,10 +1,11 @@
 -- What a writer has put into its vault so far.
-use Rattle.std.specs.Prelude.{◌≡◌, ℕ, true, List}
+use Rattle.std.specs.Prelude.{◌≡◌, ℕ, ◌≤◌, Bool, true, List}
 use Rattle.std.specs.Borrow.{MutBor}
 use Rattle.sha2.specs.Hashers.{Holds256}
 use Rattle.nor_journal.specs.declared.writer.Writer.{Writer}
 use Rattle.nor_journal.specs.Vault.{VaultState}
-use Rattle.nor_journal.specs.Text.{Content, IsContent, front}
+use Rattle.nor_journal.specs.Text.{Content, IsContent, SameHead, next_number, front}
+use Rattle.nor_journal.specs.Saved.{Saves}
 
 -- the vault that a writer holds
 abbrev pub vault_of : {V : Type 0} → Writer V → MutBor V
@@ -23,3 +24,11 @@ pub record HasPut {V : Type 0} (state : V → VaultState) (writer : Writer V) (b
 pub record HasWritten {V : Type 0} (state : V → VaultState) (writer : Writer V) (content : Content) : Type 0 where
   pub is : IsContent content
   pub put : HasPut state writer (front content)
+
+-- The head went in, and of the chip just these sectors, all below n.
+pub record HasKept {V : Type 0} (state : V → VaultState) (writer : Writer V) (head : Content) (chip : ℕ → ℕ) (saved : ℕ → Bool) (n : ℕ) : Type 0 where
+  pub content : Content
+  pub written : HasWritten state writer content
+  pub same : SameHead head content
+  pub saves : Saves chip saved content
+  pub next : next_number content ≤ n

@@ -1,6 +1,7 @@
 //! A journal that was read.
 ghost use Rattle.std.specs.Prelude.{◌≡◌, ℕ, ◌/◌, ◌<◌, ◌≤◌, List, ◌++◌, length, take, slice_get, Some, IfOk, IfErr, OnOk, IsOkAnd};
-ghost use Rattle.nor_journal.specs.Text.{Content, IsContent, text, saved_in};
+ghost use Rattle.nor_journal.specs.Text.{Content, IsContent, text};
+ghost use Rattle.nor_journal.specs.Saved.{saved_in};
 ghost use Rattle.nor_journal.specs.Fault.{HasFault};
 ghost use Rattle.nor_journal.specs.declared.fault.JournalFault.{JournalFault};
 
@@ -33,7 +34,7 @@ impl<'a> Model for Journal<'a> {
 }
 
 impl<'a> Journal<'a> {
-    /// Reads a journal, all of the bytes. It takes no memory.
+    /// Reads a journal of either format, all of the bytes. It takes no memory.
     ///
     /// An error is the first fault that is met from the front.
     pub fn read(bytes: &'a [u8]) -> Result<Journal<'a>, JournalFault>
@@ -70,6 +71,14 @@ impl<'a> Journal<'a> {
         ensures sound { IsContent self.now }
     {
         self.head.id
+    }
+
+    /// The eight bytes of the chip's unique ID, or None in a journal of format 1, which doesn't tell it.
+    pub fn unique(&self) -> Option<[u8; 8]>
+        ensures value { result ≡ self.now.unique }
+        ensures sound { IsContent self.now }
+    {
+        self.head.unique
     }
 
     /// Status 1 and status 2.

@@ -1,6 +1,7 @@
 //! Vaults, which take bytes and are sealed, and the journal of a flash chip that a session puts into one.
 #![tactic(auto)]
 
+mod broken;
 mod fault;
 mod file_vault;
 mod head;
@@ -11,6 +12,7 @@ mod records;
 mod vault;
 mod writer;
 
+pub use broken::BrokenVault;
 pub use fault::JournalFault;
 pub use file_vault::FileVault;
 pub use journal::{Journal, one_fault, one_text};

@@ -1,8 +1,9 @@
 //! Writes a journal into a vault, piece by piece.
-ghost use Rattle.std.specs.Prelude.{◌≡◌, ◌++◌, List, ℕ, [], false, true, length, OnOk, IfOk};
+ghost use Rattle.std.specs.Prelude.{◌≡◌, ◌+◌, ◌/◌, ◌<◌, ◌≤◌, ◌++◌, List, ℕ, Bool, [], false, true, length, Some, OnOk, IfOk};
 ghost use Rattle.nor_journal.specs.Vault.{Accepted, PutsOn, Completes, IsFresh};
 ghost use Rattle.nor_journal.specs.Text.{Content, IsContent, IsChipSize, MayFollow, empty_content, with_sector, text};
-ghost use Rattle.nor_journal.specs.Writer.{vault_of, vault_state, HasPut, HasWritten};
+ghost use Rattle.nor_journal.specs.Saved.{IsSector, HasOneMore, JournalSaves};
+ghost use Rattle.nor_journal.specs.Writer.{vault_of, vault_state, HasPut, HasWritten, HasKept};
 
 use crate::head::MAGIC;
 use crate::number::number_bytes;
@@ -10,7 +11,7 @@ use crate::records::END_MARK;
 use crate::vault::{Vault, VaultFault};
 use sha2::{Digest, Sha256};
 
-/// Writes a journal into a vault, which it holds until the end: the head, the sectors in rising order, the end.
+/// Writes a journal of format 2 into a vault, which it holds until the end: the head, the sectors in rising order, the end.
 /// It takes no memory: the digest is fed as the pieces go out.
 ///
 /// An error of a call is the vault's refusal of one of the pieces or of the seal, and the vault is then unsealed.
@@ -42,6 +43,7 @@ impl<'a, V: Vault> Writer<'a, V> {
     pub fn start(
         vault: &'a mut V,
         id: [u8; 3],
+        unique: [u8; 8],
         status: [u8; 2],
         size: u32,
     ) -> Result<Writer<'a, V>, VaultFault>
@@ -49,10 +51,10 @@ impl<'a, V: Vault> Writer<'a, V> {
         requires size { IsChipSize size }
         ensures same_vault { IfOk result (λ writer. (vault_of writer).ghost_name ≡ vault.entry.ghost_name) }
         ensures vault { IfOk result (λ writer. Accepted (V.state vault.old) (vault_state V.state writer)) }
-        ensures written { IfOk result (λ writer. HasWritten V.state writer (empty_content id status size)) }
+        ensures written { IfOk result (λ writer. HasWritten V.state writer (empty_content id (Some unique) status size)) }
     {
         let mut writer = Writer::on(vault);
-        writer.header(id, status, size)?;
+        writer.header(id, unique, status, size)?;
         Ok(writer)
     }
 
@@ -81,16 +83,23 @@ impl<'a, V: Vault> Writer<'a, V> {
         Ok(())
     }
 
-    /// Writes the head, with the chip's ID, its two status bytes and its size in bytes.
-    pub fn header(&mut self, id: [u8; 3], status: [u8; 2], size: u32) -> Result<(), VaultFault>
+    /// Writes the head, with the chip's ID, its unique ID, its two status bytes and its size in bytes.
+    pub fn header(
+        &mut self,
+        id: [u8; 3],
+        unique: [u8; 8],
+        status: [u8; 2],
+        size: u32,
+    ) -> Result<(), VaultFault>
         requires unsealed { (vault_state V.state self.old).sealed ≡ false }
         requires size { IsChipSize size }
         ensures same_vault { (vault_of self.new).ghost_name ≡ (vault_of self.old).ghost_name }
         ensures vault { PutsOn (vault_state V.state self.old) result (vault_state V.state self.new) }
-        ensures written { HasPut V.state self.old [] → OnOk result (HasWritten V.state self.new (empty_content id status size)) }
+        ensures written { HasPut V.state self.old [] → OnOk result (HasWritten V.state self.new (empty_content id (Some unique) status size)) }
     {
         self.piece(&MAGIC)?;
         self.piece(&id)?;
+        self.piece(&unique)?;
         self.piece(&status)?;
         self.piece(&number_bytes(size))
     }
@@ -102,6 +111,10 @@ impl<'a, V: Vault> Writer<'a, V> {
         ensures vault { PutsOn (vault_state V.state self.old) result (vault_state V.state self.new) }
         ensures written { (c : Content) → HasWritten V.state self.old c → MayFollow c number
             → OnOk result (HasWritten V.state self.new (with_sector c number bytes.now)) }
+        ensures kept { (head : Content) (chip : ℕ → ℕ) (saved more : ℕ → Bool) (n : ℕ)
+            → HasKept V.state self.old head chip saved n → n ≤ number → number < head.size / 4096
+            → IsSector chip number bytes.now → HasOneMore saved number more
+            → OnOk result (HasKept V.state self.new head chip more (number + 1)) }
     {
         self.piece(&number_bytes(number))?;
         self.piece(bytes)
@@ -113,6 +126,8 @@ impl<'a, V: Vault> Writer<'a, V> {
         ensures vault { Completes (vault_state V.state self.entry) result (V.state self.exit.0.now) }
         ensures written { (c : Content) → HasWritten V.state self.entry c
             → OnOk result ((V.state self.exit.0.now).telling ≡ true → (V.state self.exit.0.now).bytes ≡ text c) }
+        ensures kept { (head : Content) (chip : ℕ → ℕ) (saved : ℕ → Bool) (n : ℕ) → HasKept V.state self.entry head chip saved n
+            → OnOk result ((V.state self.exit.0.now).telling ≡ true → JournalSaves head chip saved (V.state self.exit.0.now).bytes) }
     {
         let Writer { vault, mut hasher } = self;
         vault.put(&END_MARK)?;

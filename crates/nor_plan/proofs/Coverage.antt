@@ -6,9 +6,10 @@ use Rattle.std.proofs.lemmas.Bool.{cases_Bool, and_parts, and_from, both_ways, e
 use Rattle.std.proofs.lemmas.List.Elements.{All-map}
 use Rattle.std.proofs.lemmas.List.Folds.{list_any_none}
 use Rattle.nor_probe.specs.declared.sfdp.Kinds.{Kinds}
-use Rattle.nor_plan.specs.declared.erase.EraseUnit.{EraseUnit}
-use Rattle.nor_plan.specs.declared.erase.EraseUnit.TheVariants.{Sector, Block32, Block64, Chip}
-use Rattle.nor_plan.specs.Erase.{sectors_in, is_offered, is_aligned, IsErase, erases_sector, Covers}
+use Rattle.nor_driver.specs.declared.units.EraseUnit.{EraseUnit}
+use Rattle.nor_driver.specs.declared.units.EraseUnit.TheVariants.{Sector, Block32, Block64, Chip}
+use Rattle.nor_driver.specs.Units.{sectors_in, is_aligned, erases_sector}
+use Rattle.nor_plan.specs.Erase.{is_offered, IsErase, Covers}
 use Rattle.nor_plan.specs.Planned.{holds_run, unit_at, begins_unit, erase_at, planned_from}
 use Rattle.nor_plan.proofs.Places.{All-passing, list_any-passing}
 use Rattle.nor_plan.proofs.Units.{holds_run-at, unit_cases, unit_at-chip, unit_at-64, unit_at-32}

@@ -7,12 +7,13 @@ use Rattle.std.proofs.lemmas.Bool.{and_parts, and_from, both_ways, eq-eqb, eqb-t
 use Rattle.std.proofs.lemmas.List.{length-map}
 use Rattle.std.proofs.lemmas.List.Folds.{list_any_at}
 use Rattle.nor_probe.specs.declared.sfdp.Kinds.{Kinds}
-use Rattle.nor_plan.specs.declared.erase.Erase.{Erase}
+use Rattle.nor_driver.specs.declared.units.Erase.{Erase}
 use Rattle.nor_plan.specs.declared.set.SectorSet.{SectorSet}
 use Rattle.nor_plan.specs.SectorSet.{has, members_from}
-use Rattle.nor_plan.specs.declared.erase.EraseUnit.{EraseUnit}
-use Rattle.nor_plan.specs.declared.erase.EraseUnit.TheVariants.{Sector, Block32, Block64, Chip}
-use Rattle.nor_plan.specs.Erase.{sectors_in, is_offered, is_aligned, IsErase, erases_sector, Covers}
+use Rattle.nor_driver.specs.declared.units.EraseUnit.{EraseUnit}
+use Rattle.nor_driver.specs.declared.units.EraseUnit.TheVariants.{Sector, Block32, Block64, Chip}
+use Rattle.nor_driver.specs.Units.{sectors_in, is_aligned, erases_sector}
+use Rattle.nor_plan.specs.Erase.{is_offered, IsErase, Covers}
 use Rattle.nor_plan.specs.Planned.{holds_block, begins_unit, erase_at, planned_from}
 use Rattle.nor_plan.proofs.Places.{passing, All-passing, length-passing-implied}
 use Rattle.nor_plan.proofs.Tally.{tally, tally-implied, tally-all, tally-once, tally-cover}

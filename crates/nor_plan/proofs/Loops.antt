@@ -6,9 +6,10 @@ use Rattle.std.proofs.lemmas.Bool.{or_left, or_right}
 use Rattle.std.proofs.lemmas.List.{append-nil, length-append, get_or_append_left, get_or-append-add}
 use Rattle.std.proofs.lemmas.List.Folds.{list_any-append}
 use Rattle.nor_probe.specs.declared.sfdp.Kinds.{Kinds}
-use Rattle.nor_plan.specs.declared.erase.Erase.{Erase}
+use Rattle.nor_driver.specs.declared.units.Erase.{Erase}
 use Rattle.nor_plan.specs.declared.page.Span.{Span}
-use Rattle.nor_plan.specs.Erase.{IsErase, erases_sector, erased_by, Covers}
+use Rattle.nor_driver.specs.Units.{erases_sector}
+use Rattle.nor_plan.specs.Erase.{IsErase, erased_by, Covers}
 use Rattle.nor_plan.specs.SpanFacts.{IsSpan, AreSpans, spanned_by, is_within_span}
 
 module _ {X : Type 0} (P : List X → Type 0) (done left : List X) where

@@ -3,8 +3,8 @@ use Rattle.std.proofs.Common.{ℕ, zero, suc, ◌≡◌, ◌<◌, ◌≤◌, ◌
 use Rattle.std.specs.Prelude.{if◌then◌else◌}
 use Rattle.std.proofs.lemmas.Bool.{cases_eq, cases_Bool, and_parts, and_from}
 use Rattle.nor_probe.specs.declared.sfdp.Kinds.{Kinds}
-use Rattle.nor_plan.specs.declared.erase.EraseUnit.{EraseUnit}
-use Rattle.nor_plan.specs.declared.erase.EraseUnit.TheVariants.{Sector, Block32, Block64, Chip}
+use Rattle.nor_driver.specs.declared.units.EraseUnit.{EraseUnit}
+use Rattle.nor_driver.specs.declared.units.EraseUnit.TheVariants.{Sector, Block32, Block64, Chip}
 use Rattle.nor_plan.specs.Planned.{holds_run, holds_block, unit_at}
 
 -- a run is in the set exactly where each of its sectors is

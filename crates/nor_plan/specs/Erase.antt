@@ -2,16 +2,10 @@
 use Rattle.std.specs.Prelude.{ℕ, ◌≡◌, ◌==◌, ◌+◌, ◌≤◌, ◌%◌, nat_le, nat_lt, Bool, true, ◌&&◌, List, All}
 use Rattle.std.specs.List.{list_any}
 use Rattle.nor_probe.specs.declared.sfdp.Kinds.{Kinds}
-use Rattle.nor_plan.specs.declared.erase.Erase.{Erase}
-use Rattle.nor_plan.specs.declared.erase.EraseUnit.{EraseUnit}
-use Rattle.nor_plan.specs.declared.erase.EraseUnit.TheVariants.{Sector, Block32, Block64, Chip}
-
--- how many sectors a unit has
-abbrev pub sectors_in : ℕ → EraseUnit → ℕ
-sectors_in total Sector = 1
-sectors_in total Block32 = 8
-sectors_in total Block64 = 16
-sectors_in total Chip = total
+use Rattle.nor_driver.specs.Units.{sectors_in, is_aligned, erases_sector}
+use Rattle.nor_driver.specs.declared.units.Erase.{Erase}
+use Rattle.nor_driver.specs.declared.units.EraseUnit.{EraseUnit}
+use Rattle.nor_driver.specs.declared.units.EraseUnit.TheVariants.{Sector, Block32, Block64, Chip}
 
 -- a chip of these kinds has the unit
 abbrev pub is_offered : Kinds → EraseUnit → Bool
@@ -20,23 +14,11 @@ is_offered kinds Block32 = kinds.k32
 is_offered kinds Block64 = kinds.k64
 is_offered kinds Chip = true
 
--- a unit begins at this sector: blocks at multiples of their size, the chip at 0
-abbrev pub is_aligned : EraseUnit → ℕ → Bool
-is_aligned Sector sector = true
-is_aligned Block32 sector = sector % 8 == 0
-is_aligned Block64 sector = sector % 16 == 0
-is_aligned Chip sector = sector == 0
-
 -- an aligned unit, of a kind that the chip has, or the whole chip
 pub record IsErase (kinds : Kinds) (total : ℕ) (erase : Erase) : Type 0 where
   pub offered : is_offered kinds erase.unit ≡ true
   pub aligned : is_aligned erase.unit erase.sector ≡ true
   pub within : erase.sector + sectors_in total erase.unit ≤ total
-
--- the erase sets this sector to FFh
-abbrev pub erases_sector : ℕ → ℕ → Erase → Bool
-erases_sector total sector erase =
-    nat_le erase.sector sector && nat_lt sector (erase.sector + sectors_in total erase.unit)
 
 -- some erase of the list sets this sector to FFh
 abbrev pub erased_by : ℕ → List Erase → ℕ → Bool

@@ -1,6 +1,6 @@
 -- What the iterator over erases has left.
 use Rattle.std.specs.Prelude.{List}
-use Rattle.nor_plan.specs.declared.erase.Erase.{Erase}
+use Rattle.nor_driver.specs.declared.units.Erase.{Erase}
 use Rattle.nor_plan.specs.declared.erase.iter.Erases.{Erases}
 use Rattle.nor_plan.specs.SectorSet.{has}
 use Rattle.nor_plan.specs.Planned.{planned_from}

@@ -2,10 +2,10 @@
 use Rattle.std.specs.Prelude.{ℕ, ◌≡◌, ◌-◌, ◌%◌, Bool, ◌&&◌, if◌then◌else◌, List, length, map, filter, Option, MatchOption, [], ◌∷◌}
 use Rattle.std.specs.List.{list_all, range_with_len}
 use Rattle.nor_probe.specs.declared.sfdp.Kinds.{Kinds}
-use Rattle.nor_plan.specs.declared.erase.Erase.{Erase}
-use Rattle.nor_plan.specs.declared.erase.EraseUnit.{EraseUnit}
-use Rattle.nor_plan.specs.declared.erase.EraseUnit.TheVariants.{Sector, Block32, Block64, Chip}
-use Rattle.nor_plan.specs.Erase.{is_aligned}
+use Rattle.nor_driver.specs.declared.units.Erase.{Erase}
+use Rattle.nor_driver.specs.declared.units.EraseUnit.{EraseUnit}
+use Rattle.nor_driver.specs.declared.units.EraseUnit.TheVariants.{Sector, Block32, Block64, Chip}
+use Rattle.nor_driver.specs.Units.{is_aligned}
 
 -- the sectors from one on are all in the set
 unfoldable pub holds_run : (ℕ → Bool) → ℕ → ℕ → Bool

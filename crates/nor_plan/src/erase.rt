@@ -1,13 +1,15 @@
 //! The fewest erases for a set of sectors.
 
 ghost use Rattle.std.specs.Prelude.{◌≡◌, ◌+◌, ◌*◌, ◌/◌, ◌^◌, ◌<◌, ◌≤◌, ℕ, List, length};
+ghost use Rattle.nor_driver.specs.Units.{is_aligned};
 ghost use Rattle.nor_plan.specs.Counts.{IsCount};
-ghost use Rattle.nor_plan.specs.Erase.{Covers, is_aligned};
+ghost use Rattle.nor_plan.specs.Erase.{Covers};
 ghost use Rattle.nor_plan.specs.Planned.{holds_block, holds_run, unit_at, planned, HeadsPlanned};
 ghost use Rattle.nor_plan.specs.Erases.{erases_left};
 ghost use Rattle.nor_plan.specs.SectorSet.{has, LiesBelow, sector_count};
 
 use crate::set::{SECTORS, SectorSet};
+use nor_driver::{Erase, EraseUnit};
 use nor_probe::Kinds;
 
 mod iter;
@@ -16,35 +18,6 @@ pub use iter::Erases;
 
 /// The bytes of a sector.
 const SECTOR: u32 = 4096;
-
-/// What one erase sets to FFh.
-#[derive(Clone, Copy, Debug, PartialEq, Eq)]
-pub enum EraseUnit {
-    /// A sector of 4 KiB (20h).
-    Sector,
-    /// An aligned block of 32 KiB (52h).
-    Block32,
-    /// An aligned block of 64 KiB (D8h).
-    Block64,
-    /// The whole chip (C7h).
-    Chip,
-}
-
-/// An erase: a unit, and the number of its first sector.
-#[derive(Clone, Copy, Debug, PartialEq, Eq)]
-pub struct Erase {
-    pub unit: EraseUnit,
-    pub sector: u16,
-}
-
-impl Erase {
-    /// The first address of the unit.
-    pub fn address(self) -> u32
-        ensures { result ≡ self.sector * 4096 }
-    {
-        u32::from(self.sector) * SECTOR
-    }
-}
 
 /// The fewest erases that set just the sectors of `set` to FFh, on a chip of `size` bytes that has these
 /// kinds: the whole chip, where all its sectors are in the set; else in rising order D8h for each aligned

@@ -6,11 +6,6 @@ const MIB8: u32 = 0x80_0000;
 
 const MIB16: u32 = 0x100_0000;
 
-// Places, with less to write.
-const fn places(start: u32, len: u32) -> Places {
-    Places { start, len }
-}
-
 // The first places and the last ones that are guarded, and those beside them that aren't.
 fn guards(status: [u8; 2], first: u32, last: u32) -> bool {
     let is_inside = protected(status, MIB8, first) && protected(status, MIB8, last);
@@ -35,7 +30,25 @@ fn the_guarded_places_of_a_status(rt: HostRuntime) {
 }
 
 #[test]
-fn an_undefined_code_guards_all_places(rt: HostRuntime) {
+fn a_unit_with_some_guarded_place_is_protected(rt: HostRuntime) {
+    let last_sector = [0x44, 0x00];
+    assert!(rt; unit_protected(last_sector, MIB8, 0x7F_F000, 256));
+    assert!(rt; unit_protected(last_sector, MIB8, 0x7F_F000, 4096));
+    assert!(rt; unit_protected(last_sector, MIB8, 0x7F_8000, 32768));
+    assert!(rt; unit_protected(last_sector, MIB8, 0x7F_0000, 65536));
+    assert!(rt; unit_protected(last_sector, MIB8, 0, MIB8));
+    assert!(rt; !unit_protected(last_sector, MIB8, 0x7F_EF00, 256));
+    assert!(rt; !unit_protected(last_sector, MIB8, 0x7F_E000, 4096));
+    assert!(rt; !unit_protected(last_sector, MIB8, 0x7E_0000, 65536));
+    let all_but_the_last_sector = [0x44, 0x40];
+    assert!(rt; !unit_protected(all_but_the_last_sector, MIB8, 0x7F_F000, 4096));
+    assert!(rt; unit_protected(all_but_the_last_sector, MIB8, 0x7F_8000, 32768));
+    assert!(rt; !unit_protected([0x00, 0x00], MIB8, 0, MIB8));
+    assert!(rt; unit_protected([0x58, 0x00], MIB8, 0x40_0000, 256));
+}
+
+#[test]
+fn an_undefined_code_guards_all_(rt: HostRuntime) {
     for status in [[0x58, 0x00], [0x78, 0x00], [0x58, 0x40], [0x78, 0x40]] {
         assert!(rt; guards(status, 0x00_0000, 0x7F_FFFF));
     }
@@ -64,48 +77,48 @@ fn the_least_code_of_a_set(rt: HostRuntime) {
 #[test]
 fn all_sets_of_the_8_mib_chip(rt: HostRuntime) -> Result<(), Fail> {
     let expected = [
-        places(0x000000, 0x000000),
-        places(0x7E0000, 0x020000),
-        places(0x7C0000, 0x040000),
-        places(0x780000, 0x080000),
-        places(0x700000, 0x100000),
-        places(0x600000, 0x200000),
-        places(0x400000, 0x400000),
-        places(0x000000, 0x800000),
-        places(0x000000, 0x020000),
-        places(0x000000, 0x040000),
-        places(0x000000, 0x080000),
-        places(0x000000, 0x100000),
-        places(0x000000, 0x200000),
-        places(0x000000, 0x400000),
-        places(0x7FF000, 0x001000),
-        places(0x7FE000, 0x002000),
-        places(0x7FC000, 0x004000),
-        places(0x7F8000, 0x008000),
-        places(0x000000, 0x001000),
-        places(0x000000, 0x002000),
-        places(0x000000, 0x004000),
-        places(0x000000, 0x008000),
-        places(0x000000, 0x7E0000),
-        places(0x000000, 0x7C0000),
-        places(0x000000, 0x780000),
-        places(0x000000, 0x700000),
-        places(0x000000, 0x600000),
-        places(0x020000, 0x7E0000),
-        places(0x040000, 0x7C0000),
-        places(0x080000, 0x780000),
-        places(0x100000, 0x700000),
-        places(0x200000, 0x600000),
-        places(0x000000, 0x7FF000),
-        places(0x000000, 0x7FE000),
-        places(0x000000, 0x7FC000),
-        places(0x000000, 0x7F8000),
-        places(0x001000, 0x7FF000),
-        places(0x002000, 0x7FE000),
-        places(0x004000, 0x7FC000),
-        places(0x008000, 0x7F8000),
+        (0x000000, 0x000000),
+        (0x7E0000, 0x020000),
+        (0x7C0000, 0x040000),
+        (0x780000, 0x080000),
+        (0x700000, 0x100000),
+        (0x600000, 0x200000),
+        (0x400000, 0x400000),
+        (0x000000, 0x800000),
+        (0x000000, 0x020000),
+        (0x000000, 0x040000),
+        (0x000000, 0x080000),
+        (0x000000, 0x100000),
+        (0x000000, 0x200000),
+        (0x000000, 0x400000),
+        (0x7FF000, 0x001000),
+        (0x7FE000, 0x002000),
+        (0x7FC000, 0x004000),
+        (0x7F8000, 0x008000),
+        (0x000000, 0x001000),
+        (0x000000, 0x002000),
+        (0x000000, 0x004000),
+        (0x000000, 0x008000),
+        (0x000000, 0x7E0000),
+        (0x000000, 0x7C0000),
+        (0x000000, 0x780000),
+        (0x000000, 0x700000),
+        (0x000000, 0x600000),
+        (0x020000, 0x7E0000),
+        (0x040000, 0x7C0000),
+        (0x080000, 0x780000),
+        (0x100000, 0x700000),
+        (0x200000, 0x600000),
+        (0x000000, 0x7FF000),
+        (0x000000, 0x7FE000),
+        (0x000000, 0x7FC000),
+        (0x000000, 0x7F8000),
+        (0x001000, 0x7FF000),
+        (0x002000, 0x7FE000),
+        (0x004000, 0x7FC000),
+        (0x008000, 0x7F8000),
     ];
-    let sets = offered(MIB8).collect::<Vec<Places>>(rt.alloc())?;
+    let sets = offered(MIB8).collect::<Vec<(u32, u32)>>(rt.alloc())?;
     assert_eq!(rt; sets.as_slice(), expected.as_slice());
     Ok(())
 }
@@ -113,48 +126,48 @@ fn all_sets_of_the_8_mib_chip(rt: HostRuntime) -> Result<(), Fail> {
 #[test]
 fn all_sets_of_the_16_mib_chip(rt: HostRuntime) -> Result<(), Fail> {
     let expected = [
-        places(0x000000, 0x0000000),
-        places(0xFC0000, 0x0040000),
-        places(0xF80000, 0x0080000),
-        places(0xF00000, 0x0100000),
-        places(0xE00000, 0x0200000),
-        places(0xC00000, 0x0400000),
-        places(0x800000, 0x0800000),
-        places(0x000000, 0x1000000),
-        places(0x000000, 0x0040000),
-        places(0x000000, 0x0080000),
-        places(0x000000, 0x0100000),
-        places(0x000000, 0x0200000),
-        places(0x000000, 0x0400000),
-        places(0x000000, 0x0800000),
-        places(0xFFF000, 0x0001000),
-        places(0xFFE000, 0x0002000),
-        places(0xFFC000, 0x0004000),
-        places(0xFF8000, 0x0008000),
-        places(0x000000, 0x0001000),
-        places(0x000000, 0x0002000),
-        places(0x000000, 0x0004000),
-        places(0x000000, 0x0008000),
-        places(0x000000, 0x0FC0000),
-        places(0x000000, 0x0F80000),
-        places(0x000000, 0x0F00000),
-        places(0x000000, 0x0E00000),
-        places(0x000000, 0x0C00000),
-        places(0x040000, 0x0FC0000),
-        places(0x080000, 0x0F80000),
-        places(0x100000, 0x0F00000),
-        places(0x200000, 0x0E00000),
-        places(0x400000, 0x0C00000),
-        places(0x000000, 0x0FFF000),
-        places(0x000000, 0x0FFE000),
-        places(0x000000, 0x0FFC000),
-        places(0x000000, 0x0FF8000),
-        places(0x001000, 0x0FFF000),
-        places(0x002000, 0x0FFE000),
-        places(0x004000, 0x0FFC000),
-        places(0x008000, 0x0FF8000),
+        (0x000000, 0x0000000),
+        (0xFC0000, 0x0040000),
+        (0xF80000, 0x0080000),
+        (0xF00000, 0x0100000),
+        (0xE00000, 0x0200000),
+        (0xC00000, 0x0400000),
+        (0x800000, 0x0800000),
+        (0x000000, 0x1000000),
+        (0x000000, 0x0040000),
+        (0x000000, 0x0080000),
+        (0x000000, 0x0100000),
+        (0x000000, 0x0200000),
+        (0x000000, 0x0400000),
+        (0x000000, 0x0800000),
+        (0xFFF000, 0x0001000),
+        (0xFFE000, 0x0002000),
+        (0xFFC000, 0x0004000),
+        (0xFF8000, 0x0008000),
+        (0x000000, 0x0001000),
+        (0x000000, 0x0002000),
+        (0x000000, 0x0004000),
+        (0x000000, 0x0008000),
+        (0x000000, 0x0FC0000),
+        (0x000000, 0x0F80000),
+        (0x000000, 0x0F00000),
+        (0x000000, 0x0E00000),
+        (0x000000, 0x0C00000),
+        (0x040000, 0x0FC0000),
+        (0x080000, 0x0F80000),
+        (0x100000, 0x0F00000),
+        (0x200000, 0x0E00000),
+        (0x400000, 0x0C00000),
+        (0x000000, 0x0FFF000),
+        (0x000000, 0x0FFE000),
+        (0x000000, 0x0FFC000),
+        (0x000000, 0x0FF8000),
+        (0x001000, 0x0FFF000),
+        (0x002000, 0x0FFE000),
+        (0x004000, 0x0FFC000),
+        (0x008000, 0x0FF8000),
     ];
-    let sets = offered(MIB16).collect::<Vec<Places>>(rt.alloc())?;
+    let sets = offered(MIB16).collect::<Vec<(u32, u32)>>(rt.alloc())?;
     assert_eq!(rt; sets.as_slice(), expected.as_slice());
     Ok(())
 }

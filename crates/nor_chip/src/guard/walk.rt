@@ -3,9 +3,10 @@ ghost use Rattle.std.specs.Prelude.{◌≡◌, ◌≤◌, ◌-◌, IsTrue};
 ghost use Rattle.std.specs.Iterator.{at_most};
 ghost use Rattle.nor_chip.specs.Size.{is_chip_size};
 
-use super::{CODES, Places, least_at};
+use super::{CODES, least_at};
 
-/// A walk over the guarded sets that the defined codes give, each once, in the order of their least codes.
+/// A walk over the guarded sets that the defined codes give, each once, in the order of their least codes. A set is
+/// the number of its first place and how many places it has.
 #[derive(Drop, Debug)]
 pub struct Offered {
     size: u32,
@@ -28,17 +29,17 @@ impl Offered {
 impl Iterator for Offered {
     ghost use Rattle.nor_chip.specs.Offered.{GivesNextSet, next_code};
 
-    type Item = Places;
+    type Item = (u32, u32);
 
     ghost next_gives = { GivesNextSet };
 
     ghost remaining = { λ walk. at_most (64 - next_code walk) };
 
-    fn next(&mut self) -> Option<Places> {
+    fn next(&mut self) -> Option<(u32, u32)> {
         for code in self.next..CODES {
             if let Some(places) = least_at(self.size, code) {
                 self.next = code + 1;
-                return Some(places);
+                return Some((places.start, places.len));
             }
         }
         self.next = CODES;

@@ -1,9 +1,9 @@
 //! What the opcodes do to bytes, over plain slices.
 ghost use Rattle.std.specs.Prelude.{◌≡◌, ℕ, ◌+◌, ◌*◌, ◌/◌, ◌%◌, ◌<◌, ◌≤◌, length, slice_index, slice_index_or, bit_and};
-ghost use Rattle.nor_chip.specs.Cells.{IsProgrammed, IsErased};
+ghost use Rattle.nor_chip.specs.Cells.{IsProgrammed, IsFilled};
 
 /// The bytes of a page, which a program wraps inside.
-const PAGE_LEN: usize = 256;
+pub(crate) const PAGE_LEN: usize = 256;
 
 // Clears the bits that aren't set in the bytes sent, from `from` on.
 fn clear_bits(bytes: &mut [u8], from: usize, sent: &[u8])
@@ -32,12 +32,12 @@ pub(crate) fn program(bytes: &mut [u8], at: usize, sent: &[u8])
     clear_bits(bytes, page, back);
 }
 
-/// An erase: `len` bytes from `start` on become FFh.
-pub(crate) fn erase(bytes: &mut [u8], start: usize, len: usize)
+/// `len` bytes from `start` on become this byte.
+pub(crate) fn fill(bytes: &mut [u8], start: usize, len: usize, byte: u8)
     requires { start + len ≤ length bytes.old }
-    ensures { IsErased start len bytes.old bytes.new }
+    ensures { IsFilled byte start len bytes.old bytes.new }
 {
-    bytes[start..start + len].fill(0xFF);
+    bytes[start..start + len].fill(byte);
 }
 
 /// Reads from `at` on, and on from the first byte where the bytes end.

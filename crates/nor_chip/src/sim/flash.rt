@@ -1,11 +1,12 @@
 //! The modelled chip in memory: what a transaction does to it.
 ghost use Rattle.std.specs.Prelude.{◌≡◌, ◌%◌, ◌<◌, ◌+◌, ◌/◌, ◌^◌, ◌==◌, ◌&&◌, ◌-◌, not, if◌then◌else◌, false, ℕ, [], length, slice_index, bit_and, bit_or};
+ghost use Rattle.nor_chip.specs.Power.{RunsInside};
 
 use super::cells;
-use crate::{Command, Config, Status, guard};
+use crate::{Command, Config, Running, Status, guard};
 
 /// A chip: its configuration, its bytes, the kept bits of its status, its latch, how many polls will
-/// still answer BUSY, and how many after each operation.
+/// still answer BUSY, how many after each operation, and what runs.
 #[derive(Drop)]
 pub(crate) struct Flash {
     pub(crate) config: Config,
@@ -14,16 +15,19 @@ pub(crate) struct Flash {
     pub(crate) latch: bool,
     pub(crate) busy: u16,
     pub(crate) each: u16,
+    pub(crate) running: Running,
     ghost filled: { length bytes.items ≡ config.size },
     ghost kept_alone: { kept.one.0 % 4 ≡ 0 },
     ghost kept1_in: { kept.one.0 / 4 < 64 },
     ghost kept2_in: { kept.two.0 < 128 },
     ghost busy_in: { busy < 65536 },
     ghost bytes_in: { (a : ℕ) → slice_index bytes.items a < 256 },
+    ghost runs_in: { RunsInside config.size running },
 }
 
 impl Flash {
-    ghost use Rattle.nor_chip.specs.Flash.{chip_of, Begins};
+    ghost use Rattle.nor_chip.specs.Flash.{chip_of, Begins, Cuts, Paces};
+    ghost use Rattle.nor_chip.specs.Power.{CutBy};
     ghost use Rattle.nor_chip.specs.Start.{status_of};
     ghost use Rattle.nor_chip.specs.Status.{bytes_of};
     ghost use Rattle.nor_chip.specs.Aim.{IsAimed, IsUnit};
@@ -106,21 +110,26 @@ impl Flash {
             Command::ReadData(at) => cells::read_round(&self.bytes, at as usize, reply),
             Command::ReadId => cells::read_padded(&self.config.id, 0, reply),
             Command::ReadSfdp(at) => cells::read_padded(&self.config.sfdp, at as usize, reply),
+            Command::ReadUnique => cells::read_padded(&self.config.unique, 0, reply),
             _ => reply.fill(0xFF),
         }
     }
 
     // An operation begins; where it takes no time, it has ended.
-    fn begin(&mut self)
-        ensures { Begins (chip_of self.old) (chip_of self.new) }
+    fn begin(&mut self, running: Running)
+        requires { RunsInside self.old.config.size running }
+        ensures begins { Begins running self.old.each (chip_of self.old) (chip_of self.new) }
+        ensures pace { self.new.each ≡ self.old.each }
     {
+        self.running = running;
         self.busy = self.each;
         self.latch = self.each != 0;
     }
 
     // A poll; the one that sees the last BUSY clears the latch.
     fn tick(&mut self)
-        ensures { Does Command.Poll [] (chip_of self.old) [] (chip_of self.new) }
+        ensures does { Does Command.Poll [] (chip_of self.old) [] (chip_of self.new) }
+        ensures paces { Paces Command.Poll self.old self.new }
     {
         if self.busy == 1 {
             self.latch = false;
@@ -129,32 +138,38 @@ impl Flash {
     }
 
     fn write_status(&mut self, one: u8, two: u8)
-        ensures { Does (Command.WriteStatus one two) [] (chip_of self.old) [] (chip_of self.new) }
+        ensures does { Does (Command.WriteStatus one two) [] (chip_of self.old) [] (chip_of self.new) }
+        ensures paces { Paces (Command.WriteStatus one two) self.old self.new }
     {
+        let [one_before, two_before] = self.kept.bytes();
+        let running = Running::StatusWrite(one_before / 4, two_before);
         self.kept = self.kept.written(Status::of([one, two]));
-        self.begin();
+        self.begin(running);
     }
 
     fn program(&mut self, at: u32, sent: &[u8])
         requires { at < self.old.config.size }
-        ensures { Does (Command.Program at) sent.now (chip_of self.old) [] (chip_of self.new) }
+        ensures does { Does (Command.Program at) sent.now (chip_of self.old) [] (chip_of self.new) }
+        ensures paces { Paces (Command.Program at) self.old self.new }
     {
         cells::program(&mut self.bytes, at as usize, sent);
-        self.begin();
+        self.begin(Running::Program(at / cells::PAGE_LEN as u32));
     }
 
     fn erase(&mut self, start: u32, len: u32)
         requires { IsUnit self.old.config.size start len }
-        ensures { Does (Command.Erase start len) [] (chip_of self.old) [] (chip_of self.new) }
+        ensures does { Does (Command.Erase start len) [] (chip_of self.old) [] (chip_of self.new) }
+        ensures paces { Paces (Command.Erase start len) self.old self.new }
     {
-        cells::erase(&mut self.bytes, start as usize, len as usize);
-        self.begin();
+        cells::fill(&mut self.bytes, start as usize, len as usize, 0xFF);
+        self.begin(Running::Erase(start, len));
     }
 
     // Does the command, but for its reply.
     fn change(&mut self, command: Command, sent: &[u8])
         requires { IsAimed self.old.config.size command }
-        ensures { Does command sent.now (chip_of self.old) [] (chip_of self.new) }
+        ensures does { Does command sent.now (chip_of self.old) [] (chip_of self.new) }
+        ensures paces { Paces command self.old self.new }
     {
         match command {
             Command::Poll => self.tick(),
@@ -167,11 +182,46 @@ impl Flash {
         }
     }
 
+    /// The power is lost: what runs is cut off, each byte of it becomes this fill, and a status write leaves the
+    /// old bits where the fill is even.
+    pub(crate) fn lose_power(&mut self, fill: u8)
+        ensures cut { CutBy fill (chip_of self.old) (chip_of self.new) }
+        ensures pace { self.new.each ≡ self.old.each }
+    {
+        if self.busy != 0 {
+            self.cut(fill);
+        }
+        self.latch = false;
+        self.busy = 0;
+    }
+
+    // Cuts off what runs.
+    fn cut(&mut self, fill: u8)
+        ensures cut { Cuts fill (chip_of self.old) (chip_of self.new) }
+        ensures pace { self.new.each ≡ self.old.each }
+    {
+        match self.running {
+            Running::Program(page) => {
+                let start = page as usize * cells::PAGE_LEN;
+                cells::fill(&mut self.bytes, start, cells::PAGE_LEN, fill);
+            }
+            Running::Erase(start, len) => {
+                cells::fill(&mut self.bytes, start as usize, len as usize, fill);
+            }
+            Running::StatusWrite(one, two) if fill % 2 == 0 => self.kept = Status::of([
+                4 * one,
+                two,
+            ]),
+            Running::StatusWrite(..) | Running::Unknown => {}
+        }
+    }
+
     /// One transaction that is let through. Gives what the chip did.
     pub(crate) fn step(&mut self, out: &[u8], reply: &mut [u8]) -> Command
         ensures steps { Step (chip_of self.old) out.now reply.new (chip_of self.new) }
         ensures done { result ≡ done_of (chip_of self.old) out.now (length reply.new) }
         ensures aimed { IsAimed self.old.config.size result }
+        ensures paces { Paces result self.old self.new }
     {
         let command = self.command(out, reply.len());
         self.answer(command, reply);

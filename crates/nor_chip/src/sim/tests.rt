@@ -4,6 +4,10 @@ use std::alloc::Global;
 use std::process::Abort;
 use std::test::Fail;
 
+mod pace;
+mod power;
+mod unique;
+
 const IDLE: Delays = Delays { now: 0, each: 0 };
 
 // A transaction: the bytes that go out, and those that are to come in.
@@ -26,7 +30,7 @@ fn filled(
 // Sends the transactions in turn, and compares what comes in.
 fn play(rt: &impl Abort, bus: &mut SimBus, exchanges: &[Exchange<'_>]) -> Result<(), Fail> {
     for (out, expected) in exchanges {
-        let mut reply = [0xAA; 8];
+        let mut reply = [0xAA; 12];
         let reply = reply.get_mut(..expected.len()).ok_or("too long a reply")?;
         bus.transfer(out, &mut *reply)?;
         assert_eq!(rt; &*reply, *expected);
@@ -34,40 +38,18 @@ fn play(rt: &impl Abort, bus: &mut SimBus, exchanges: &[Exchange<'_>]) -> Result
     Ok(())
 }
 
-// The bytes from `start` to `end` are FFh, and all others 00h.
-fn is_erased(bus: &SimBus, start: usize, end: usize) -> bool {
+// The bytes from `start` to `end` are `inside`, and all others `outside`.
+fn is_filled(bus: &SimBus, (start, end): (usize, usize), inside: u8, outside: u8) -> bool {
     let mut bytes = bus.bytes().iter().enumerate();
-    bytes.all(|(at, byte)| *byte == if start <= at && at < end { 0xFF } else { 0x00 })
+    bytes.all(|(at, byte)| {
+        let is_inside = start <= at && at < end;
+        *byte == if is_inside { inside } else { outside }
+    })
 }
 
-#[test]
-fn an_erase_stays_busy_for_its_polls(rt: HostRuntime) -> Result<(), Fail> {
-    let delays = Delays { now: 0, each: 2 };
-    let mut bus = filled(rt.alloc(), Config::tiny64(), 0xFF, [0x00, 0x00], delays)?;
-    let exchanges: [Exchange; 7] = [
-        (&[0x06], &[]),
-        (&[0x20, 0x00, 0x00, 0x00], &[]),
-        (&[0x05], &[0x03]),
-        (&[0x9F], &[0xFF, 0xFF, 0xFF]),
-        (&[0x05], &[0x03]),
-        (&[0x05], &[0x00]),
-        (&[0x9F], &[0xFE, 0x10, 0x10, 0xFF]),
-    ];
-    play(&rt, &mut bus, &exchanges)
-}
-
-#[test]
-fn a_chip_that_is_busy_at_first_answers_so(rt: HostRuntime) -> Result<(), Fail> {
-    let delays = Delays { now: 2, each: 0 };
-    let mut bus = filled(rt.alloc(), Config::tiny64(), 0xFF, [0x03, 0x80], delays)?;
-    assert_eq!(rt; bus.status(), [0x03, 0x00]);
-    let exchanges: [Exchange; 4] = [
-        (&[0x05], &[0x03, 0x03]),
-        (&[0x35], &[0x00]),
-        (&[0x05], &[]),
-        (&[0x05], &[0x00]),
-    ];
-    play(&rt, &mut bus, &exchanges)
+// Those bytes are FFh, and all others 00h.
+fn is_erased(bus: &SimBus, start: usize, end: usize) -> bool {
+    is_filled(bus, (start, end), 0xFF, 0x00)
 }
 
 #[test]

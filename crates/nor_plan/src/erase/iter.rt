@@ -6,8 +6,9 @@ ghost use Rattle.nor_plan.specs.Erases.{erases_left};
 ghost use Rattle.nor_plan.specs.Planned.{planned_from};
 ghost use Rattle.nor_plan.specs.SectorSet.{has};
 
-use super::{Erase, next_erase};
+use super::next_erase;
 use crate::set::SectorSet;
+use nor_driver::Erase;
 use nor_probe::Kinds;
 
 /// The erases of a set that are left, in rising order.

@@ -1,5 +1,5 @@
 ghost use Rattle.std.specs.Prelude.{◌≡◌, ◌+◌, ◌/◌, ◌<◌, ◌≤◌, ◌||◌, ℕ};
-ghost use Rattle.nor_plan.specs.Erase.{sectors_in, erases_sector};
+ghost use Rattle.nor_driver.specs.Units.{sectors_in, erases_sector};
 ghost use Rattle.nor_plan.specs.Planned.{fewest_erases};
 ghost use Rattle.nor_plan.specs.SectorSet.{has, LiesBelow};
 

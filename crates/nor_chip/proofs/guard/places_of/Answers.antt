@@ -1,5 +1,6 @@
 use Rattle.std.proofs.Common.{◌∙◌}
-use Rattle.nor_chip.proofs.GuardedPlaces.{guards_places, is_chip_size-in_blocks}
+use Rattle.nor_chip.proofs.GuardedPlaces.{guards_places}
+use Rattle.nor_chip.proofs.Sizes.{is_chip_size-in_blocks}
 use Rattle.nor_chip.proofs.LeastCodes.{starts}
 use Rattle.nor_chip.specs.Guard.{is_complement, is_bottom}
 use Rattle.nor_chip.proofs.guard.places_of.Goals as goal

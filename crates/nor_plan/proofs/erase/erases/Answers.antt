@@ -1,5 +1,5 @@
 use Rattle.std.proofs.Common.{◌≡◌, ◌≤◌, ◌/◌, List, length, rules, subst, refl, sym, arith}
-use Rattle.nor_plan.specs.declared.erase.Erase.{Erase}
+use Rattle.nor_driver.specs.declared.units.Erase.{Erase}
 use Rattle.nor_plan.specs.SectorSet.{has, sector_count}
 use Rattle.nor_plan.specs.Erase.{Covers}
 use Rattle.nor_plan.specs.Erases.{erases_left}

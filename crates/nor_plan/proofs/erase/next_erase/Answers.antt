@@ -1,9 +1,9 @@
 use Rattle.std.proofs.Common.{ℕ, ◌≡◌, ◌∷◌, ◌+◌, true, false, List, sym, ap, ◌∙◌, arith}
 use Rattle.std.proofs.lemmas.Bool.{and_from, and_left, and_right}
-use Rattle.nor_plan.specs.declared.erase.Erase.{Erase}
-use Rattle.nor_plan.specs.declared.erase.EraseUnit.{EraseUnit}
+use Rattle.nor_driver.specs.declared.units.Erase.{Erase}
+use Rattle.nor_driver.specs.declared.units.EraseUnit.{EraseUnit}
 use Rattle.nor_plan.specs.SectorSet.{has}
-use Rattle.nor_plan.specs.Erase.{is_aligned}
+use Rattle.nor_driver.specs.Units.{is_aligned}
 use Rattle.nor_plan.specs.Planned.{begins_unit, unit_at, planned_from}
 use Rattle.nor_plan.proofs.Planning.{planned_from-end, planned_from-skip, planned_from-take}
 use Rattle.nor_plan.proofs.erase.next_erase.Goals as goal

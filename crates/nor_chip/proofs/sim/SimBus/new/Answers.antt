@@ -13,6 +13,7 @@ returns-clause-starts c = record {
   kept2 = grind (arith, common_steps);
   latch = c.contains.ensures tt ∙ (wel_set c.of-status.result.one.0 ∙ ap (λ bytes. slice_index bytes 0 / 2 % 2 == 1) c.of-status.ensures);
   busy = grind (arith, common_steps);
+  running = grind (arith, common_steps);
   left = grind (arith, common_steps);
   honest = grind (arith, common_steps);
   stirred = grind (arith, common_steps);

@@ -1,6 +1,12 @@
+use Rattle.std.proofs.lemmas.Result.{on_ok_weaker}
 use Rattle.nor_journal.proofs.Writes.{ends}
+use Rattle.nor_journal.proofs.Saves.{HasKept-ends}
 use Rattle.nor_journal.proofs.writer.Writer.end.Goals as goal
 
 pub returns-clause-written : goal.returns-clause-written
 returns-clause-written g c = λ content written.
     ends _ _ _ _ c.seal.result content _ written.put.told c.in_ok-put.ensures c.in_ok-put-2.ensures (c.finalize.ensures _ (c.update.ensures _ written.put.hashed)) c.seal.ensures
+
+pub returns-clause-kept : goal.returns-clause-kept
+returns-clause-kept g c = λ head chip saved n kept.
+    on_ok_weaker c.seal.result (λ is tells. HasKept-ends _ _ head chip saved n _ kept (is tells)) (returns-clause-written g c kept.content kept.written)

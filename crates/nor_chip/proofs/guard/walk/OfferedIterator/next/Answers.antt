@@ -1,4 +1,4 @@
-use Rattle.std.proofs.Common.{◌≡◌, inl, inr, arith, sym, ap}
+use Rattle.std.proofs.Common.{◌≡◌, inl, inr, arith, rules, sym, ap}
 use Rattle.nor_chip.specs.declared.guard.walk.Offered.{Offered}
 use Rattle.std.proofs.lemmas.Bool.{cases_lt}
 use Rattle.nor_chip.proofs.guard.walk.OfferedIterator.next.Goals as goal
@@ -17,6 +17,10 @@ loop-code-preserved c = record {
 }
 
 pub returns-clause-steps : goal.returns-clause-steps
-returns-clause-steps c = λ code start len from least.
-    let six_bits = least.defined.six_bits in
-    c.loop-code.invariant.none code start len from (omega arith) least
+returns-clause-steps c = record {
+  none = λ code start len from least.
+      let six_bits = least.defined.six_bits in
+      c.loop-code.invariant.none code start len from (omega arith) least;
+  ended = search rules;
+  size = search rules;
+}

@@ -1,0 +1,32 @@
+-- What a check tells of touched sectors.
+use Rattle.std.specs.Prelude.{◌≡◌, ◌≢◌, ◌≤◌, ◌<◌, ◌+◌, ◌*◌, ◌/◌, ℕ, Bool, true}
+use Rattle.nor_chip.specs.Chip.{Chip}
+use Rattle.nor_chip.specs.Bus.{BusState}
+use Rattle.nor_driver.specs.Looks.{Rested, RunsOut}
+use Rattle.nor_apply.specs.declared.checks.CheckFault.{CheckFault}
+use Rattle.nor_apply.specs.declared.checks.CheckFault.TheVariants.{Stopped, Mismatch}
+use Rattle.nor_apply.specs.Counts.{sector_count}
+
+-- The chip is idle, and the sectors lie inside it.
+pub record CanCheck (sectors : ℕ → Bool) (chip : Chip) : Type 0 where
+  pub idle : chip.busy ≡ 0
+  pub inside : (s : ℕ) → sectors s ≡ true → 4096 * s + 4096 ≤ chip.config.size
+
+-- the first address in these sectors at which a byte isn't the wanted one
+pub record IsFirstMismatch (sectors : ℕ → Bool) (wanted content : ℕ → ℕ) (address : ℕ) : Type 0 where
+  pub in_sector : sectors (address / 4096) ≡ true
+  pub differs : content address ≢ wanted address
+  pub before : (a : ℕ) → a < address → sectors (a / 4096) ≡ true → content a ≡ wanted a
+
+-- A check was passed: each sector was read once, nothing changed, and each byte is the wanted one.
+pub record DoesChecks (sectors : ℕ → Bool) (wanted : ℕ → ℕ) (old new : BusState) (sent : ℕ) : Type 0 where
+  pub reads : sent ≡ sector_count sectors
+  pub count : old.honest ≡ true → old.left ≡ new.left + sent
+  pub rested : old.honest ≡ true → Rested old new
+  pub same : old.honest ≡ true → CanCheck sectors old.chip → (a : ℕ) → sectors (a / 4096) ≡ true → old.chip.bytes a ≡ wanted a
+
+-- A check wasn't passed: the bus stopped, with fewer transactions than sectors, or this is the first difference.
+abbrev pub CheckTells : (ℕ → Bool) → (ℕ → ℕ) → BusState → BusState → CheckFault → Type 0
+CheckTells sectors wanted old new Stopped = RunsOut (sector_count sectors) old new
+CheckTells sectors wanted old new (Mismatch address) =
+    old.honest ≡ true → CanCheck sectors old.chip → IsFirstMismatch sectors wanted old.chip.bytes address

@@ -1,0 +1,27 @@
+-- What the erases of a set of sectors leave.
+use Rattle.std.specs.Prelude.{◌≡◌, ◌≤◌, ◌*◌, ◌/◌, ℕ, Bool, true, length}
+use Rattle.nor_chip.specs.Chip.{Chip}
+use Rattle.nor_chip.specs.Bus.{BusState}
+use Rattle.nor_probe.specs.declared.sfdp.Kinds.{Kinds}
+use Rattle.nor_plan.specs.Planned.{planned}
+use Rattle.nor_apply.specs.declared.tally.Tally.{Tally}
+use Rattle.nor_apply.specs.Counts.{sector_count}
+use Rattle.nor_apply.specs.Change.{CanChange, IsSized, MayChange, HasChanged, blank}
+use Rattle.nor_apply.specs.Spending.{Spends, Tallies}
+
+-- The sectors can be changed, on a chip of this size and of these erase kinds.
+pub record CanEraseAll (sectors : ℕ → Bool) (kinds : Kinds) (size : ℕ) (chip : Chip) : Type 0 where
+  pub can : CanChange sectors chip
+  pub sized : IsSized size kinds chip
+
+-- At every exit, on the way to sectors that are all FFh.
+pub record LeavesErases (sectors : ℕ → Bool) (kinds : Kinds) (size : ℕ) (old new : BusState) : Type 0 where
+  pub spends : Spends (65538 * sector_count sectors) old new
+  pub reached : old.honest ≡ true → CanEraseAll sectors kinds size old.chip → MayChange sectors sectors blank old new
+
+-- At the end. There were as many erases as the planner's list has, which is the shortest that covers the set.
+pub record DoesErases (sectors : ℕ → Bool) (kinds : Kinds) (size : ℕ) (old new : BusState) (tally : Tally) : Type 0 where
+  pub count : tally.count ≡ length (planned kinds (size / 4096) sectors)
+  pub fewer : tally.count ≤ sector_count sectors
+  pub tallies : Tallies 0 old new tally
+  pub done : old.honest ≡ true → CanEraseAll sectors kinds size old.chip → HasChanged sectors blank sectors old new

@@ -1,0 +1,10 @@
+pub mod Counts
+pub mod Content
+pub mod Within
+pub mod Change
+pub mod Spending
+pub mod Erasing
+pub mod Programming
+pub mod Checking
+pub mod Protecting
+pub mod Applying

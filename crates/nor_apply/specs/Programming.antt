@@ -1,0 +1,87 @@
+-- What page programs leave: of a sector's spans, of a sector, of a set of sectors.
+use Rattle.std.specs.Prelude.{◌≡◌, ◌≤◌, ◌<◌, ◌+◌, ◌*◌, ◌/◌, ℕ, Bool, true, false, Result, Ok, Err, List, slice_index, bit_and, if◌then◌else◌}
+use Rattle.nor_chip.specs.declared.bus.Stopped.{Stopped}
+use Rattle.nor_chip.specs.Chip.{Chip}
+use Rattle.nor_chip.specs.Bus.{BusState}
+use Rattle.nor_driver.specs.Looks.{Looks, RunsOut}
+use Rattle.nor_driver.specs.Reads.{IsSectorOf, HasRead}
+use Rattle.nor_apply.specs.declared.tally.Tally.{Tally}
+use Rattle.nor_apply.specs.Counts.{count_below, sector_count}
+use Rattle.nor_apply.specs.Content.{is_page_other, is_programmed}
+use Rattle.nor_apply.specs.Change.{CanChange, OnlyFalls, MayChange, HasChanged, none, only, byte_of}
+use Rattle.nor_apply.specs.Spending.{Spends, Tallies}
+
+-- ---- the spans of a sector
+
+-- A sector that can be changed holds `old`, and no bit of it has to rise.
+pub record CanProgramSpans (sector : ℕ) (old wanted : List ℕ) (chip : Chip) : Type 0 where
+  pub can : CanChange (only sector) chip
+  pub shown : IsSectorOf chip.bytes sector old
+  pub falls : (i : ℕ) → i < 4096 → bit_and (slice_index wanted i) (slice_index old i) ≡ slice_index wanted i
+
+pub record LeavesSpans (sector : ℕ) (bytes wanted : List ℕ) (old new : BusState) : Type 0 where
+  pub spends : Spends 1048608 old new
+  pub reached : old.honest ≡ true → CanProgramSpans sector bytes wanted old.chip → MayChange (only sector) none (byte_of sector wanted) old new
+
+-- At the end: a program for each page of the sector that isn't as wanted.
+pub record DoesSpans (sector : ℕ) (bytes wanted : List ℕ) (old new : BusState) (tally : Tally) : Type 0 where
+  pub fewer : tally.count ≤ 16
+  pub tallies : Tallies 0 old new tally
+  pub done : old.honest ≡ true → CanProgramSpans sector bytes wanted old.chip → HasChanged (only sector) (byte_of sector wanted) none old new
+  pub counted : old.honest ≡ true → CanProgramSpans sector bytes wanted old.chip
+    → tally.count ≡ count_below 16 (λ page. is_page_other old.chip.bytes (byte_of sector wanted) (16 * sector + page))
+
+-- ---- a sector
+
+-- A sector that can be changed is blank where it was erased, and no bit of it has to rise.
+pub record CanProgramSector (sector : ℕ) (wanted : List ℕ) (erased : Bool) (chip : Chip) : Type 0 where
+  pub can : CanChange (only sector) chip
+  pub blank : erased ≡ true → (a : ℕ) → a / 4096 ≡ sector → chip.bytes a ≡ 255
+  pub falls : OnlyFalls (only sector) (byte_of sector wanted) chip.bytes
+
+-- its bytes are read, or where it was erased known
+pub record LoadsOk (sector : ℕ) (erased : Bool) (bytes bytes' : List ℕ) (reads : ℕ) (old new : BusState) : Type 0 where
+  pub reads_once : reads ≡ (if erased then 0 else 1)
+  pub kept : erased ≡ true → (bytes' ≡ bytes) × (new ≡ old)
+  pub read : erased ≡ false → old.honest ≡ true → HasRead old new
+  pub told : erased ≡ false → old.honest ≡ true → old.chip.busy ≡ 0 → 4096 * (sector + 1) ≤ old.chip.config.size → IsSectorOf old.chip.bytes sector bytes'
+
+abbrev pub LoadEnds : ℕ → Bool → List ℕ → List ℕ → Result ℕ Stopped → BusState → BusState → Type 0
+LoadEnds sector erased bytes bytes' (Ok reads) old new = LoadsOk sector erased bytes bytes' reads old new
+LoadEnds sector erased bytes bytes' (Err stopped) old new = RunsOut 1 old new
+
+pub record Loads (sector : ℕ) (erased : Bool) (bytes bytes' : List ℕ) (outcome : Result ℕ Stopped) (old new : BusState) : Type 0 where
+  pub looks : Looks 1 old new
+  pub ends : LoadEnds sector erased bytes bytes' outcome old new
+
+pub record LeavesSector (sector : ℕ) (wanted : List ℕ) (erased : Bool) (old new : BusState) : Type 0 where
+  pub spends : Spends 1048609 old new
+  pub reached : old.honest ≡ true → CanProgramSector sector wanted erased old.chip → MayChange (only sector) none (byte_of sector wanted) old new
+
+pub record DoesSector (sector : ℕ) (wanted : List ℕ) (erased : Bool) (old new : BusState) (tally : Tally) : Type 0 where
+  pub fewer : tally.count ≤ 16
+  pub tallies : Tallies 1 old new tally
+  pub done : old.honest ≡ true → CanProgramSector sector wanted erased old.chip → HasChanged (only sector) (byte_of sector wanted) none old new
+  pub counted : old.honest ≡ true → CanProgramSector sector wanted erased old.chip
+    → tally.count ≡ count_below 16 (λ page. is_page_other old.chip.bytes (byte_of sector wanted) (16 * sector + page))
+
+-- ---- all touched sectors
+
+-- The touched sectors can be changed, those that were erased are blank, and no bit has to rise.
+pub record CanProgramAll (touched raised : ℕ → Bool) (wanted : ℕ → ℕ) (chip : Chip) : Type 0 where
+  pub can : CanChange touched chip
+  pub blank : (a : ℕ) → touched (a / 4096) ≡ true → raised (a / 4096) ≡ true → chip.bytes a ≡ 255
+  pub falls : OnlyFalls touched wanted chip.bytes
+
+-- At every exit, on the way to the wanted bytes.
+pub record LeavesPrograms (touched raised : ℕ → Bool) (wanted : ℕ → ℕ) (old new : BusState) : Type 0 where
+  pub spends : Spends (1048609 * sector_count touched) old new
+  pub reached : old.honest ≡ true → CanProgramAll touched raised wanted old.chip → MayChange touched none wanted old new
+
+-- At the end: a program for each page of the touched sectors that wasn't as wanted.
+pub record DoesPrograms (touched raised : ℕ → Bool) (wanted : ℕ → ℕ) (old new : BusState) (tally : Tally) : Type 0 where
+  pub fewer : tally.count ≤ 16 * sector_count touched
+  pub tallies : Tallies (sector_count touched) old new tally
+  pub done : old.honest ≡ true → CanProgramAll touched raised wanted old.chip → HasChanged touched wanted none old new
+  pub counted : old.honest ≡ true → CanProgramAll touched raised wanted old.chip
+    → tally.count ≡ count_below 65536 (is_programmed touched old.chip.bytes wanted)

@@ -1,0 +1,26 @@
+-- How many transactions a part of a session or restore sends, and how it halts.
+use Rattle.std.specs.Prelude.{◌≡◌, ◌≤◌, ◌+◌, ◌*◌, ℕ, true}
+use Rattle.nor_chip.specs.Bus.{BusState}
+use Rattle.nor_driver.specs.declared.waits.Halt.{Halt}
+use Rattle.nor_driver.specs.declared.waits.Halt.TheVariants.{Stopped}
+use Rattle.nor_driver.specs.Looks.{RanOut}
+use Rattle.nor_driver.specs.Operations.{Falls}
+use Rattle.nor_apply.specs.declared.tally.Tally.{Tally}
+
+-- At every exit: the bus keeps its honesty and its steadiness; an honest one sent at most so many transactions.
+pub record Spends (most : ℕ) (old new : BusState) : Type 0 where
+  pub honest : new.honest ≡ old.honest
+  pub steady : new.steady ≡ old.steady
+  pub falls : old.honest ≡ true → Falls most old new
+
+-- A part halted. On an honest bus that is a stop, and there were fewer transactions than this.
+pub record HaltsBelow (needed : ℕ) (old new : BusState) (halt : Halt) : Type 0 where
+  pub stopped : old.honest ≡ true → halt ≡ Stopped
+  pub ran_out : old.honest ≡ true → RanOut needed old new
+
+-- A part succeeded, after so many operations and beside at most so many readings. On an honest bus so many
+-- transactions fewer are left.
+pub record Tallies (readings : ℕ) (old new : BusState) (tally : Tally) : Type 0 where
+  pub least : 3 * tally.count ≤ tally.transactions
+  pub few : tally.transactions ≤ readings + 65538 * tally.count
+  pub sent : old.honest ≡ true → old.left ≡ new.left + tally.transactions

@@ -1,0 +1,79 @@
+//! The check at the end of a session or restore.
+ghost use Rattle.std.specs.Prelude.{◌≡◌, ◌<◌, ℕ, true, length, IfOk, IfErr, OnOk};
+ghost use Rattle.nor_driver.specs.Looks.{Looks};
+ghost use Rattle.nor_plan.specs.SectorSet.{has};
+ghost use Rattle.nor_apply.specs.declared.checks.CheckFault.TheVariants as Faults;
+ghost use Rattle.nor_apply.specs.Counts.{sector_count};
+ghost use Rattle.nor_apply.specs.Checking.{DoesChecks, CheckTells};
+ghost use Rattle.nor_apply.specs.Change.{only, byte_of};
+
+use crate::Source;
+use nor_chip::{Bus, Stopped};
+use nor_driver::read_sector;
+use nor_plan::{SectorSet, bounds};
+
+/// One more than the number of the last sector that a chip can have.
+const SECTORS: u32 = 4096;
+
+/// Why a check wasn't passed.
+#[derive(Clone, Copy, Debug, PartialEq, Eq)]
+pub enum CheckFault {
+    /// The bus stopped.
+    Stopped,
+    /// A byte that was read back isn't the wanted one, first at this address.
+    Mismatch { address: u32 },
+}
+
+impl From<Stopped> for CheckFault {
+    ghost from_gives = { λ _ fault. fault ≡ Faults.Stopped };
+
+    fn from(_: Stopped) -> CheckFault {
+        CheckFault::Stopped
+    }
+}
+
+/// Reads the touched sectors, rising, and compares them with what is wanted of them. Answers the number of
+/// transactions.
+pub fn check_all<B: Bus, S: Source>(
+    bus: &mut B,
+    source: &S,
+    touched: &SectorSet,
+) -> Result<u64, CheckFault>
+    requires sourced { (s : ℕ) → has touched.now s ≡ true → S.has source.now s ≡ true }
+    ensures leaves { Looks (sector_count (has touched.now)) (B.state bus.old) (B.state bus.new) }
+    ensures does { IfOk result (DoesChecks (has touched.now) (S.wanted source.now) (B.state bus.old) (B.state bus.new)) }
+    ensures tells { IfErr result (CheckTells (has touched.now) (S.wanted source.now) (B.state bus.old) (B.state bus.new)) }
+{
+    let mut sent = 0;
+    let mut bytes = [0; 4096];
+    for sector in 0..SECTORS {
+        if touched.contains(sector) {
+            check_sector(bus, sector, source.sector(sector), &mut bytes)?;
+            sent += 1;
+        }
+    }
+    Ok(sent)
+}
+
+// Reads a sector and compares it with what is wanted of it.
+fn check_sector<B: Bus>(
+    bus: &mut B,
+    sector: u32,
+    wanted: &[u8],
+    bytes: &mut [u8; 4096],
+) -> Result<(), CheckFault>
+    requires reachable { sector < 4096 }
+    requires whole { length wanted.now ≡ 4096 }
+    ensures leaves { Looks 1 (B.state bus.old) (B.state bus.new) }
+    ensures does { OnOk result (DoesChecks (only sector) (byte_of sector wanted.now) (B.state bus.old) (B.state bus.new) 1) }
+    ensures tells { IfErr result (CheckTells (only sector) (byte_of sector wanted.now) (B.state bus.old) (B.state bus.new)) }
+{
+    read_sector(bus, sector, &mut *bytes)?;
+    match bounds(&*bytes, wanted) {
+        None => Ok(()),
+        Some((first, _)) => {
+            let address = 4096 * sector + first as u32;
+            Err(CheckFault::Mismatch { address })
+        }
+    }
+}

@@ -1,0 +1,34 @@
+//! The erases of a session or restore.
+ghost use Rattle.std.specs.Prelude.{◌≡◌, ◌≤◌, ◌*◌, ◌/◌, IfOk, IfErr};
+ghost use Rattle.nor_plan.specs.SectorSet.{has, LiesBelow};
+ghost use Rattle.nor_apply.specs.Counts.{sector_count};
+ghost use Rattle.nor_apply.specs.Spending.{HaltsBelow};
+ghost use Rattle.nor_apply.specs.Erasing.{LeavesErases, DoesErases};
+
+use crate::Tally;
+use nor_chip::Bus;
+use nor_driver::{Halt, erase};
+use nor_plan::{SectorSet, erases};
+use nor_probe::Kinds;
+
+/// Erases the sectors of a set, on a chip of `size` bytes with these erase kinds, by the fewest erases.
+pub fn erase_all<B: Bus>(
+    bus: &mut B,
+    raised: &SectorSet,
+    kinds: Kinds,
+    size: u32,
+) -> Result<Tally, Halt>
+    requires inside { LiesBelow raised.now (size / 4096) }
+    requires small { size ≤ 16777216 }
+    ensures leaves { LeavesErases (has raised.now) kinds size (B.state bus.old) (B.state bus.new) }
+    ensures does { IfOk result (DoesErases (has raised.now) kinds size (B.state bus.old) (B.state bus.new)) }
+    ensures halts { IfErr result (HaltsBelow (65538 * sector_count (has raised.now)) (B.state bus.old) (B.state bus.new)) }
+{
+    let mut tally = Tally::NONE;
+    for unit in erases(raised, kinds, size) {
+        let sent = erase(bus, unit)?;
+        tally.count += 1;
+        tally.transactions += u64::from(sent);
+    }
+    Ok(tally)
+}

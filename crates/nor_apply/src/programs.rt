@@ -1,0 +1,102 @@
+//! The page programs of a session or restore.
+ghost use Rattle.std.specs.Prelude.{◌≡◌, ◌≤◌, ◌<◌, ◌*◌, ℕ, true, length, IfOk, IfErr, if◌then◌else◌};
+ghost use Rattle.nor_plan.specs.SectorSet.{has};
+ghost use Rattle.nor_apply.specs.Counts.{sector_count};
+ghost use Rattle.nor_apply.specs.Spending.{HaltsBelow};
+ghost use Rattle.nor_apply.specs.Programming.{LeavesSpans, DoesSpans, LeavesSector, DoesSector, LeavesPrograms, DoesPrograms, Loads};
+
+use crate::{Source, Tally};
+use nor_chip::{Bus, Stopped};
+use nor_driver::{Halt, program_page, read_sector};
+use nor_plan::{SectorSet, spans};
+
+/// One more than the number of the last sector that a chip can have.
+const SECTORS: u32 = 4096;
+
+/// Programs the touched sectors, rising, with the bytes that are wanted of them. A raised sector was erased, and is
+/// not read again.
+pub fn program_all<B: Bus, S: Source>(
+    bus: &mut B,
+    source: &S,
+    touched: &SectorSet,
+    raised: &SectorSet,
+) -> Result<Tally, Halt>
+    requires sourced { (s : ℕ) → has touched.now s ≡ true → S.has source.now s ≡ true }
+    ensures leaves { LeavesPrograms (has touched.now) (has raised.now) (S.wanted source.now) (B.state bus.old) (B.state bus.new) }
+    ensures does { IfOk result (DoesPrograms (has touched.now) (has raised.now) (S.wanted source.now) (B.state bus.old) (B.state bus.new)) }
+    ensures halts { IfErr result (HaltsBelow (1048609 * sector_count (has touched.now)) (B.state bus.old) (B.state bus.new)) }
+{
+    let mut tally = Tally::NONE;
+    for sector in 0..SECTORS {
+        if touched.contains(sector) {
+            let more = program_sector(bus, sector, source.sector(sector), raised.contains(sector))?;
+            tally.count += more.count;
+            tally.transactions += more.transactions;
+        }
+    }
+    Ok(tally)
+}
+
+// Programs what differs from the wanted bytes of a sector, which is blank where it was erased.
+fn program_sector<B: Bus>(
+    bus: &mut B,
+    sector: u32,
+    wanted: &[u8],
+    erased: bool,
+) -> Result<Tally, Halt>
+    requires reachable { sector < 4096 }
+    requires whole { length wanted.now ≡ 4096 }
+    ensures leaves { LeavesSector sector wanted.now erased (B.state bus.old) (B.state bus.new) }
+    ensures does { IfOk result (DoesSector sector wanted.now erased (B.state bus.old) (B.state bus.new)) }
+    ensures halts { IfErr result (HaltsBelow 1048609 (B.state bus.old) (B.state bus.new)) }
+{
+    let mut old = [0xFF; 4096];
+    let reads = load(bus, sector, erased, &mut old)?;
+    let tally = program_spans(bus, sector, &old, wanted)?;
+    Ok(Tally {
+        count: tally.count,
+        transactions: tally.transactions + reads,
+    })
+}
+
+// Reads a sector, unless it was erased. Answers the number of transactions.
+fn load<B: Bus>(
+    bus: &mut B,
+    sector: u32,
+    erased: bool,
+    bytes: &mut [u8],
+) -> Result<u64, Stopped>
+    requires reachable { sector < 4096 }
+    requires whole { length bytes.old ≡ 4096 }
+    ensures { Loads sector erased bytes.old bytes.new result (B.state bus.old) (B.state bus.new) }
+{
+    if erased {
+        return Ok(0);
+    }
+    read_sector(bus, sector, bytes)?;
+    Ok(1)
+}
+
+// Programs the spans in which a sector's bytes differ from the wanted ones, page by page.
+fn program_spans<B: Bus>(
+    bus: &mut B,
+    sector: u32,
+    old: &[u8],
+    wanted: &[u8],
+) -> Result<Tally, Halt>
+    requires reachable { sector < 4096 }
+    requires whole { length old.now ≡ 4096 }
+    requires wanted_whole { length wanted.now ≡ 4096 }
+    ensures leaves { LeavesSpans sector old.now wanted.now (B.state bus.old) (B.state bus.new) }
+    ensures does { IfOk result (DoesSpans sector old.now wanted.now (B.state bus.old) (B.state bus.new)) }
+    ensures halts { IfErr result (HaltsBelow 1048608 (B.state bus.old) (B.state bus.new)) }
+{
+    let mut tally = Tally::NONE;
+    for span in spans(old, wanted) {
+        let address = 4096 * sector + span.first as u32;
+        let sent = program_page(bus, address, &wanted[span.first..span.last + 1])?;
+        tally.count += 1;
+        tally.transactions += u64::from(sent);
+    }
+    Ok(tally)
+}

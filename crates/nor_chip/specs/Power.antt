@@ -1,0 +1,72 @@
+-- Loss of power: what it leaves of a chip, and what a stop may leave.
+use Rattle.std.specs.Prelude.{◌≡◌, ◌<◌, ◌≤◌, ◌+◌, ◌*◌, ◌/◌, ◌%◌, ◌==◌, ◌&&◌, ◌⊎◌, ℕ, Bool, true, false, not, nat_lt, nat_le, if◌then◌else◌}
+use Rattle.nor_chip.specs.declared.running.Running.{Running}
+use Rattle.nor_chip.specs.declared.running.Running.TheVariants.{Program, Erase, StatusWrite, Unknown}
+use Rattle.nor_chip.specs.Chip.{Chip}
+
+-- the places that an operation aims at; where nothing is known of it, all
+abbrev pub is_in_work : Running → ℕ → Bool
+is_in_work (Program page) a = a / 256 == page
+is_in_work (Erase start len) a = nat_le start a && nat_lt a (start + len)
+is_in_work (StatusWrite one two) a = false
+is_in_work Unknown a = true
+
+-- something is known of what runs
+abbrev pub is_known : Running → Bool
+is_known Unknown = false
+is_known _ = true
+
+-- What runs is inside the chip, and the bits that it knows are kept bits.
+pub record RunsInside (size : ℕ) (running : Running) : Type 0 where
+  pub page : (p : ℕ) → running ≡ Program p → 256 * p + 256 ≤ size
+  pub unit : (start len : ℕ) → running ≡ Erase start len → start + len ≤ size
+  pub kept1 : (one two : ℕ) → running ≡ StatusWrite one two → one < 64
+  pub kept2 : (one two : ℕ) → running ≡ StatusWrite one two → two < 128
+
+-- the kept bits are as they were
+abbrev pub KeptStay : Chip → Chip → Type 0
+KeptStay old new = (new.kept1 ≡ old.kept1) × (new.kept2 ≡ old.kept2)
+
+-- The kept bits where an operation is cut off: as they were, or for a status write those of before it.
+abbrev pub KeptCut : Running → Chip → Chip → Type 0
+KeptCut (Program page) old new = KeptStay old new
+KeptCut (Erase start len) old new = KeptStay old new
+KeptCut (StatusWrite one two) old new = KeptStay old new ⊎ ((new.kept1 ≡ one) × (new.kept2 ≡ two))
+KeptCut Unknown old new = Unit {0}
+
+-- The power was lost: the latch is clear and nothing runs. An idle chip keeps its bytes and kept bits; of a busy
+-- one, what ran is cut off, and the rest stays.
+pub record PowerLost (old new : Chip) : Type 0 where
+  pub config : new.config ≡ old.config
+  pub latch : new.latch ≡ false
+  pub busy : new.busy ≡ 0
+  pub bytes : (a : ℕ) → is_in_work old.running a ≡ false → new.bytes a ≡ old.bytes a
+  pub kept : KeptCut old.running old new
+  pub idle_bytes : old.busy ≡ 0 → (a : ℕ) → new.bytes a ≡ old.bytes a
+  pub idle_kept1 : old.busy ≡ 0 → new.kept1 ≡ old.kept1
+  pub idle_kept2 : old.busy ≡ 0 → new.kept2 ≡ old.kept2
+
+-- the places that are known to be worked on
+abbrev pub is_cut : Chip → ℕ → Bool
+is_cut chip a = not (chip.busy == 0) && is_known chip.running && is_in_work chip.running a
+
+-- the kept bits of status 1 and of status 2 before a status write that runs, else the chip's
+abbrev pub kept1_before : Chip → ℕ
+kept1_before chip = elim chip.running [ StatusWrite one two ↦ one | _ ↦ chip.kept1 ]
+
+abbrev pub kept2_before : Chip → ℕ
+kept2_before chip = elim chip.running [ StatusWrite one two ↦ two | _ ↦ chip.kept2 ]
+
+-- The power was lost while each byte that was worked on became this fill: a status write that ran leaves the old
+-- bits where the fill is even and the new ones where it is odd, and where nothing is known of what ran, all stays.
+pub record CutBy (fill : ℕ) (old new : Chip) : Type 0 where
+  pub config : new.config ≡ old.config
+  pub latch : new.latch ≡ false
+  pub busy : new.busy ≡ 0
+  pub bytes : (a : ℕ) → new.bytes a ≡ (if is_cut old a then fill else old.bytes a)
+  pub kept1 : new.kept1 ≡ (if not (old.busy == 0) && fill % 2 == 0 then kept1_before old else old.kept1)
+  pub kept2 : new.kept2 ≡ (if not (old.busy == 0) && fill % 2 == 0 then kept2_before old else old.kept2)
+
+-- What a stop may leave of the chip: the same chip, or on a bus that isn't steady one that has lost its power.
+abbrev pub AtStop : Bool → Chip → Chip → Type 0
+AtStop steady old new = (new ≡ old) ⊎ ((steady ≡ false) × PowerLost old new)

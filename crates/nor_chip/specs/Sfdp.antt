@@ -1,0 +1,19 @@
+-- The SFDP bytes of the emulated chips. (JESD216; the bytes are this project's own, and not the vendor's.)
+use Rattle.std.specs.Prelude.{ℕ, List, [], ◌∷◌}
+
+-- The header, one parameter header and the double words 1 to 9 of the basic flash parameter table. The chips differ in
+-- the second double word, the size in bits less one, of which these are the bytes, the low one first.
+abbrev pub sfdp_of : ℕ → ℕ → ℕ → ℕ → List ℕ
+sfdp_of size0 size1 size2 size3 =
+    -- the signature, revision 1.0, one parameter header
+    0x53 ∷ 0x46 ∷ 0x44 ∷ 0x50 ∷ 0x00 ∷ 0x01 ∷ 0x00 ∷ 0xFF
+    -- the basic table of revision 1.0: nine double words, at 10h
+    ∷ 0x00 ∷ 0x00 ∷ 0x01 ∷ 0x09 ∷ 0x10 ∷ 0x00 ∷ 0x00 ∷ 0xFF
+    -- 1: an erase of 4 KiB by 20h, pages of 64 bytes or more, three address bytes
+    ∷ 0x05 ∷ 0x20 ∷ 0x00 ∷ 0x00
+    -- 2: the size; 3 to 7: nothing
+    ∷ size0 ∷ size1 ∷ size2 ∷ size3
+    ∷ 0x00 ∷ 0x00 ∷ 0x00 ∷ 0x00 ∷ 0x00 ∷ 0x00 ∷ 0x00 ∷ 0x00 ∷ 0x00 ∷ 0x00
+    ∷ 0x00 ∷ 0x00 ∷ 0x00 ∷ 0x00 ∷ 0x00 ∷ 0x00 ∷ 0x00 ∷ 0x00 ∷ 0x00 ∷ 0x00
+    -- 8 and 9: erases of 2 ^ 12 bytes by 20h, of 2 ^ 15 by 52h, of 2 ^ 16 by D8h
+    ∷ 0x0C ∷ 0x20 ∷ 0x0F ∷ 0x52 ∷ 0x10 ∷ 0xD8 ∷ 0x00 ∷ 0x00 ∷ []

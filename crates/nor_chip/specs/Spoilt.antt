@@ -1,0 +1,70 @@
+-- The bus that lies, as contracts see it.
+use Rattle.std.specs.Prelude.{◌≡◌, ◌<◌, ◌+◌, ◌-◌, ◌^◌, ◌==◌, ◌&&◌, ℕ, Bool, true, false, List, [], ◌∷◌, length, Option, None, Some, Result, Ok, Err, OnOk, OnErr, IsOk, IfSome, IfNone, replicate, min, nat_lt, nat_le, bit_and, bit_or, slice_index, if◌then◌else◌}
+use Rattle.nor_chip.specs.declared.spoilt.SpoiltBus.{SpoiltBus}
+use Rattle.nor_chip.specs.declared.spoilt.Spoil.{Spoil}
+use Rattle.nor_chip.specs.declared.spoilt.Spoil.TheVariants.{Fill, BusyFrom, Drop, Low}
+use Rattle.nor_chip.specs.declared.bus.Stopped.{Stopped}
+use Rattle.nor_chip.specs.Bus.{BusState, Stops, Carries}
+
+-- the bus inside, how it is spoilt, and how many transactions were carried out or answered
+abbrev pub inner_of : {B : Type 0} → SpoiltBus B → B
+inner_of bus = bus.bus
+
+abbrev pub spoil_of : {B : Type 0} → SpoiltBus B → Spoil
+spoil_of bus = bus.spoil
+
+abbrev pub sent_of : {B : Type 0} → SpoiltBus B → ℕ
+sent_of bus = bus.sent
+
+-- it isn't honest; all else is as the bus inside, and a changing opcode stirs it that doesn't get there
+abbrev pub spoilt_state : {B : Type 0} → (B → BusState) → SpoiltBus B → BusState
+spoilt_state state bus = record (state bus.bus) { honest = false; stirred = if bus.stirred then true else (state bus.bus).stirred }
+
+-- the one byte that a transaction replies which isn't carried out: every transaction, or the one behind so many
+abbrev pub kept_back : Spoil → ℕ → Option ℕ
+kept_back (Fill byte) sent = Some byte
+kept_back (BusyFrom first) sent = None
+kept_back (Drop number) sent = if sent + 1 == number then Some 255 else None
+kept_back (Low bit) sent = None
+
+abbrev pub kept_back_of : {B : Type 0} → SpoiltBus B → Option ℕ
+kept_back_of bus = kept_back (spoil_of bus) (sent_of bus)
+
+-- a poll goes out
+abbrev pub is_poll : List ℕ → Bool
+is_poll [] = false
+is_poll (opcode ∷ []) = opcode == 0x05
+is_poll (opcode ∷ next ∷ rest) = false
+
+-- the byte that is replied for one of the bus inside, by the transaction behind so many
+abbrev pub spoilt_byte : Spoil → ℕ → List ℕ → ℕ → ℕ
+spoilt_byte (Fill fill) sent out byte = byte
+spoilt_byte (BusyFrom first) sent out byte = if nat_le first (sent + 1) && is_poll out then bit_or byte 1 else byte
+spoilt_byte (Drop number) sent out byte = byte
+spoilt_byte (Low bit) sent out byte = if nat_lt bit 8 then bit_and byte (255 - 2 ^ bit) else byte
+
+-- Not carried out: the bus inside stays as it is, and each reply byte is this one.
+pub record IsKeptBack {B : Type 0} (byte : ℕ) (asked answer : List ℕ) (outcome : Result Unit Stopped) (old new : B) : Type 0 where
+  pub answered : IsOk outcome
+  pub inner : new ≡ old
+  pub replies : answer ≡ replicate (length asked) byte
+
+-- Passed on: the bus inside took the transaction, and each byte that it replied is spoilt.
+pub record IsPassedOn (byte_for : ℕ → ℕ) (out answer : List ℕ) (old new : BusState) : Type 0 where
+  pub replied : List ℕ
+  pub as_many : length answer ≡ length replied
+  pub replies : (i : ℕ) → i < length answer → slice_index answer i ≡ byte_for (slice_index replied i)
+  pub inner : old.honest ≡ true → Carries out replied old new
+
+-- The bus inside took the transaction, or stopped it, and then an honest one left the reply as it was.
+abbrev pub GoesThrough : (ℕ → ℕ) → List ℕ → List ℕ → List ℕ → Result Unit Stopped → BusState → BusState → Type 0
+GoesThrough byte_for out asked answer (Ok done) old new = IsPassedOn byte_for out answer old new
+GoesThrough byte_for out asked answer (Err stopped) old new = old.honest ≡ true → (answer ≡ asked) × Stops old new
+
+-- What a transaction of a spoilt bus does. One that the bus inside stops isn't counted.
+pub record Spoils {B : Type 0} (state : B → BusState) (out asked answer : List ℕ) (outcome : Result Unit Stopped) (old new : SpoiltBus B) : Type 0 where
+  pub spoil : spoil_of new ≡ spoil_of old
+  pub counted : OnOk outcome (sent_of new ≡ min (sent_of old + 1) (2 ^ 64 - 1))
+  pub uncounted : OnErr outcome (sent_of new ≡ sent_of old)
+  pub kept_back : IfSome (kept_back_of old) (λ byte. IsKeptBack byte asked answer outcome (inner_of old) (inner_of new))
+  pub passed_on : IfNone (kept_back_of old) (GoesThrough (spoilt_byte (spoil_of old) (sent_of old) out) out asked answer outcome (state (inner_of old)) (state (inner_of new)))

@@ -1,0 +1,136 @@
+//! A bus that lies.
+ghost use Rattle.std.specs.Prelude.{◌≡◌, true, false, OnOk, OnErr, EachIndex, slice_index};
+ghost use Rattle.nor_chip.specs.Bus.{Sends, Stops, Carries, Allows};
+ghost use Rattle.nor_chip.specs.Spoilt.{inner_of, spoil_of, sent_of, spoilt_state, kept_back, spoilt_byte, Spoils};
+
+use crate::{Bus, Meter, Stopped, is_changing};
+
+#[cfg(test)]
+mod tests;
+
+/// How a spoilt bus lies. Its transactions are counted from 1.
+#[derive(Clone, Copy, Debug, PartialEq, Eq)]
+pub enum Spoil {
+    /// Nothing is carried out, and each reply byte is this one.
+    Fill(u8),
+    /// From this transaction on, bit 0 of each byte that a poll replies is set.
+    BusyFrom(u64),
+    /// This transaction isn't carried out, and each reply byte is FFh.
+    Drop(u64),
+    /// This bit is clear in each reply byte. From 8 on there is none.
+    Low(u8),
+}
+
+/// A bus that isn't honest: it lies about the bus inside in one way, for tests of what callers do then.
+#[derive(Drop)]
+pub struct SpoiltBus<B> {
+    bus: B,
+    spoil: Spoil,
+    sent: u64,
+    stirred: bool,
+}
+
+impl<B: Bus> SpoiltBus<B> {
+    /// A bus that spoils this one.
+    pub fn new(inner: B, spoil: Spoil) -> SpoiltBus<B>
+        ensures inner { inner_of result ≡ inner }
+        ensures spoil { spoil_of result ≡ spoil }
+        ensures sent { sent_of result ≡ 0 }
+        ensures state { ⟦<SpoiltBus<B> as Bus>⟧.state result ≡ record (B.state inner) { honest = false } }
+    {
+        SpoiltBus {
+            bus: inner,
+            spoil,
+            sent: 0,
+            stirred: false,
+        }
+    }
+
+    /// How many transactions were carried out or answered so far, those that the bus inside stopped not counted. It
+    /// stays at the greatest u64.
+    pub fn sent(&self) -> u64
+        ensures { result ≡ sent_of self.now }
+    {
+        self.sent
+    }
+
+    /// Gives the bus inside back as it is.
+    pub fn into_inner(self) -> B
+        ensures { result ≡ inner_of self }
+    {
+        let SpoiltBus {
+            bus,
+            spoil: _,
+            sent: _,
+            stirred: _,
+        } = self;
+        bus
+    }
+}
+
+impl<B: Bus> Bus for SpoiltBus<B> {
+    ghost state = { spoilt_state B.state };
+
+    ghost reaches = { λ spoilt honest. absurd (cc) };
+
+    fn transfer(&mut self, out: &[u8], reply: &mut [u8]) -> Result<(), Stopped>
+        ensures sends { Sends out.now (spoilt_state B.state self.old) (spoilt_state B.state self.new) }
+        ensures stops { (spoilt_state B.state self.old).honest ≡ true → OnErr result (Stops (spoilt_state B.state self.old) (spoilt_state B.state self.new)) }
+        ensures unread { (spoilt_state B.state self.old).honest ≡ true → OnErr result (reply.new ≡ reply.old) }
+        ensures carries { (spoilt_state B.state self.old).honest ≡ true → OnOk result (Carries out.now reply.new (spoilt_state B.state self.old) (spoilt_state B.state self.new)) }
+        ensures spoils { Spoils B.state out.now reply.old reply.new result self.old self.new }
+    {
+        self.stirred = is_changing(out) || self.stirred;
+        match kept_back(self.spoil, self.sent) {
+            Some(byte) => reply.fill(byte),
+            None => {
+                self.bus.transfer(out, reply)?;
+                spoil_all(self.spoil, self.sent, out, reply);
+            }
+        }
+        self.sent = self.sent.saturating_add(1);
+        Ok(())
+    }
+}
+
+impl<B: Meter> Meter for SpoiltBus<B> {
+    fn allow(&mut self, n: u64)
+        ensures allows { Allows n (spoilt_state B.state self.old) (spoilt_state B.state self.new) }
+        ensures inner { Allows n (B.state (inner_of self.old)) (B.state (inner_of self.new)) }
+        ensures spoil { spoil_of self.new ≡ spoil_of self.old }
+        ensures sent { sent_of self.new ≡ sent_of self.old }
+    {
+        self.bus.allow(n);
+    }
+}
+
+// What each reply byte is, where the transaction behind so many isn't carried out.
+fn kept_back(spoil: Spoil, sent: u64) -> Option<u8>
+    ensures { result ≡ kept_back spoil sent }
+{
+    match spoil {
+        Spoil::Fill(byte) => Some(byte),
+        Spoil::Drop(number) if sent.checked_add(1) == Some(number) => Some(0xFF),
+        _ => None,
+    }
+}
+
+// The byte that comes in place of this one, as the transaction behind so many replies it.
+fn spoilt_byte(spoil: Spoil, sent: u64, out: &[u8], byte: u8) -> u8
+    ensures { result ≡ spoilt_byte spoil sent out.now byte }
+{
+    match spoil {
+        Spoil::BusyFrom(first) if first.saturating_sub(1) <= sent && matches!(out, [0x05]) => byte
+            | 0x01,
+        Spoil::Low(bit) if bit < 8 => byte & !(1 << bit),
+        _ => byte,
+    }
+}
+
+fn spoil_all(spoil: Spoil, sent: u64, out: &[u8], reply: &mut [u8])
+    ensures { EachIndex reply.new (λ i. slice_index reply.new i ≡ spoilt_byte spoil sent out.now (slice_index reply.old i)) }
+{
+    for byte in reply.iter_mut() {
+        *byte = spoilt_byte(spoil, sent, out, *byte);
+    }
+}

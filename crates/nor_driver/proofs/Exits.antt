@@ -1,0 +1,95 @@
+-- What an operation leaves wherever it ends: at its command, in its wait, or well.
+use Rattle.std.proofs.Common.{◌≡◌, ◌+◌, ◌||◌, ◌∙◌, ℕ, Bool, true, false, cond, List, [], ◌∷◌, length, drop, ap, sym, refl, subst, arith}
+use Rattle.nor_chip.specs.declared.command.Command.{Command}
+use Rattle.nor_chip.specs.Command.{begins_change}
+use Rattle.nor_chip.specs.Step.{Does, is_idle, is_operation, done_of, wears}
+use Rattle.nor_chip.specs.Bus.{BusState, Sends, Stops, Carries}
+use Rattle.nor_driver.specs.declared.waits.Waited.{Waited}
+use Rattle.nor_driver.specs.Looks.{Unchanged, Stays, Looks}
+use Rattle.nor_driver.specs.Waits.{Waits, HasWaited}
+use Rattle.nor_driver.specs.Reads.{HasRead}
+use Rattle.nor_driver.specs.Operations.{operation_of, IsOperation, Stirs, HasIgnored, LeavesOperation, Operates}
+use Rattle.nor_driver.proofs.Cuts.{stays_at_stop, stays_after, unchanged_then}
+use Rattle.nor_driver.proofs.Readings.{carried_ignored}
+use Rattle.nor_driver.proofs.Begun.{IsEnabled, enabled, then_done, operation-ignored, idle-takes, HasBegun, operation-begins, may-before, may-after, operated, latch-kept}
+
+either : (b : Bool) → cond b true true ≡ true
+either true = refl
+either false = refl
+
+module _ (out : List ℕ) (asks : IsOperation out) (old ready : BusState) (first : List ℕ) (none : length first ≡ 0) (sends : Sends (6 ∷ []) old ready) (carries : old.honest ≡ true → Carries (6 ∷ []) first old ready) where
+  enabling : old.honest ≡ true → IsEnabled old ready
+  enabling honest = enabled old ready first none (carries honest)
+
+  -- the command itself was the last thing sent
+  stirs-by : (new : BusState) → Sends out ready new → Stirs old new
+  stirs-by new sends' = record {
+    honest = sends'.honest ∙ sends.honest;
+    steady = sends'.steady ∙ sends.steady;
+    stirred = sends'.stirred ∙ ap (λ (b : Bool). cond (begins_change out) true b) sends.stirred ∙ either (begins_change out);
+  }
+
+  pub leaves-at_command : (new : BusState) → Sends out ready new → (ready.honest ≡ true → Stops ready new) → LeavesOperation out old new
+  leaves-at_command new sends' stops =
+      let stopped : old.honest ≡ true → Stops ready new = λ honest. stops (sends.honest ∙ honest) in
+      let stays : old.honest ≡ true → Stays old new = λ honest. stays_after old ready new sends.steady (enabling honest).unchanged (stays_at_stop ready new (stopped honest)) in
+      record {
+        stirs = stirs-by new sends';
+        falls = λ honest. let count = (enabling honest).count in let same = (stopped honest).left in record { fell = omega arith; bound = omega arith };
+        reached = λ honest is. may-before (operation_of old.chip out) (drop 4 out) old new (idle-takes old.chip out is) (stays honest);
+        ignored = λ honest _. stays honest;
+      }
+
+  module _ (begun : BusState) (second : List ℕ) (none' : length second ≡ 0) (sends' : Sends out ready begun) (carries' : ready.honest ≡ true → Carries out second ready begun) where
+    command : old.honest ≡ true → done_of ready.chip out (length second) ≡ operation_of old.chip out
+    command honest = ap (λ (n : ℕ). done_of ready.chip out n) none' ∙ then_done out old ready asks (enabling honest)
+
+    has-begun : old.honest ≡ true → is_operation (operation_of old.chip out) ≡ true → HasBegun (operation_of old.chip out) (drop 4 out) old begun
+    has-begun honest is =
+        let carried = carries' (sends.honest ∙ honest) in
+        operation-begins (operation_of old.chip out) (drop 4 out) second old ready begun is (enabling honest).unchanged
+        (subst (λ (k : Command). Does k (drop 4 out) ready.chip second begun.chip) (command honest) carried.step)
+        (subst (λ (k : Command). (s : ℕ) → begun.worn s ≡ (ready.worn s || wears k s)) (command honest) carried.worn)
+
+    was-read : old.honest ≡ true → is_operation (operation_of old.chip out) ≡ false → HasRead ready begun
+    was-read honest is = carried_ignored out second ready begun (command honest ∙ operation-ignored old.chip out asks is) (carries' (sends.honest ∙ honest))
+
+    unchanged : old.honest ≡ true → is_operation (operation_of old.chip out) ≡ false → Unchanged old begun
+    unchanged honest is = unchanged_then old ready begun (enabling honest).unchanged (was-read honest is).rested.unchanged
+
+    steady : begun.steady ≡ old.steady
+    steady = sends'.steady ∙ sends.steady
+
+    pub leaves-at_wait : (new : BusState) → Looks 65536 begun new → LeavesOperation out old new
+    leaves-at_wait new looks =
+        let stirs = stirs-by begun sends' in
+        record {
+          stirs = record { honest = looks.honest ∙ stirs.honest; steady = looks.steady ∙ stirs.steady; stirred = looks.stirred ∙ stirs.stirred };
+          falls = λ honest.
+              let looked = looks.looked (stirs.honest ∙ honest) in
+              let fell = looked.fell in let bound = looked.bound in
+              let count = (enabling honest).count in let count' = (carries' (sends.honest ∙ honest)).left in
+              record { fell = omega arith; bound = omega arith };
+          reached = λ honest is. may-after (operation_of old.chip out) (drop 4 out) old begun new is steady (has-begun honest is) (looks.looked (stirs.honest ∙ honest)).stays;
+          ignored = λ honest is. stays_after old begun new steady (unchanged honest is) (looks.looked (stirs.honest ∙ honest)).stays;
+        }
+
+    pub operates-with : (new : BusState) (waited : Waited) → Waits begun new waited → Operates out old new (waited.polls + 2)
+    operates-with new waited waits =
+        let some = waits.some in let few = waits.few in
+        let stirs = stirs-by begun sends' in
+        let waiting : old.honest ≡ true → HasWaited begun new waited = λ honest. waits.done (stirs.honest ∙ honest) in
+        record {
+          ends = record {
+            least = omega arith;
+            few = omega arith;
+            count = λ honest. let count = (enabling honest).count in let count' = (carries' (sends.honest ∙ honest)).left in let count'' = (waiting honest).count in omega arith;
+            idle = λ honest. (waiting honest).idle;
+          };
+          done = λ honest is. operated (operation_of old.chip out) (drop 4 out) old begun new waited (has-begun honest is) (waiting honest);
+          ignored = λ honest is.
+              let wait = waiting honest in
+              let same = unchanged_then old begun new (unchanged honest is) wait.rested.unchanged in
+              let read = was-read honest is in
+              record { same = same.same; worn = same.worn; latch = wait.latch ∙ latch-kept old ready begun (enabling honest) read.latch read.busy };
+        }

@@ -1,0 +1,18 @@
+use Rattle.std.proofs.Common.{◌≡◌, ◌<◌, ◌+◌, true}
+use Rattle.nor_driver.specs.Looks.{Rested}
+use Rattle.nor_driver.specs.Waits.{latch_when_idle}
+use Rattle.nor_driver.proofs.waits.wait.Given as goal
+
+abbrev pub invariant-loop-polls : goal.invariant-loop-polls
+invariant-loop-polls g l =
+    let old = g.B.Bus.state l.fn.bus in let now = g.B.Bus.state l.bus in
+    record {
+      honest : now.honest ≡ old.honest;
+      steady : now.steady ≡ old.steady;
+      stirred : now.stirred ≡ old.stirred;
+      rested : old.honest ≡ true → Rested old now;
+      busy : old.honest ≡ true → now.chip.busy + l.polls ≡ old.chip.busy;
+      running : old.honest ≡ true → 0 < now.chip.busy → now.chip.latch ≡ old.chip.latch;
+      ended : old.honest ≡ true → now.chip.busy ≡ 0 → now.chip.latch ≡ latch_when_idle old.chip;
+      count : old.honest ≡ true → old.left ≡ now.left + l.polls;
+    }

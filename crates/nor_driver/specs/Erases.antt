@@ -1,0 +1,74 @@
+-- What the erase of a unit leaves.
+use Rattle.std.specs.Prelude.{◌≡◌, ◌≢◌, ◌≤◌, ◌+◌, ◌*◌, ◌/◌, ◌&&◌, ◌||◌, ℕ, Bool, true, false, not, if◌then◌else◌}
+use Rattle.nor_chip.specs.declared.running.Running.TheVariants as Runs
+use Rattle.nor_chip.specs.Chip.{Chip}
+use Rattle.nor_chip.specs.Power.{KeptStay}
+use Rattle.nor_chip.specs.Guard.{is_unit_guarded}
+use Rattle.nor_chip.specs.Step.{is_idle}
+use Rattle.nor_chip.specs.Bus.{BusState}
+use Rattle.nor_driver.specs.declared.units.Erase.{Erase}
+use Rattle.nor_driver.specs.Units.{sectors_in, has_unit, is_aligned, erases_sector}
+use Rattle.nor_driver.specs.Looks.{Stays}
+use Rattle.nor_driver.specs.Operations.{ChangesOnly, Stirs, Falls, Ends, HasIgnored}
+
+-- how many sectors the chip has
+abbrev pub sectors_of : Chip → ℕ
+sectors_of chip = chip.config.size / 4096
+
+-- how many bytes the unit has
+abbrev pub unit_length : Chip → Erase → ℕ
+unit_length chip erase = 4096 * sectors_in (sectors_of chip) erase.unit
+
+-- An aligned unit that lies on the chip.
+pub record IsOnChip (erase : Erase) (chip : Chip) : Type 0 where
+  pub aligned : is_aligned erase.unit erase.sector ≡ true
+  pub within : erase.sector + sectors_in (sectors_of chip) erase.unit ≤ sectors_of chip
+
+-- The chip is idle and has this unit, and no place of it is guarded.
+pub record CanErase (erase : Erase) (chip : Chip) : Type 0 where
+  pub on_chip : IsOnChip erase chip
+  pub idle : chip.busy ≡ 0
+  pub offered : has_unit chip.config erase.unit ≡ true
+  pub free : is_unit_guarded chip (4096 * erase.sector) (unit_length chip erase) ≡ false
+
+-- the chip carries this erase out
+abbrev pub takes_erase : Chip → Erase → Bool
+takes_erase chip erase =
+    is_idle chip && has_unit chip.config erase.unit && not (is_unit_guarded chip (4096 * erase.sector) (unit_length chip erase))
+
+-- a sector of the unit, and a place of it
+abbrev pub is_sector_of : Erase → Chip → ℕ → Bool
+is_sector_of erase chip s = erases_sector (sectors_of chip) s erase
+
+abbrev pub is_place_of : Erase → Chip → ℕ → Bool
+is_place_of erase chip a = is_sector_of erase chip (a / 4096)
+
+-- On an honest bus, at every exit: bytes and worn sectors outside the unit are as they were, and all kept bits. In
+-- the unit a byte is as it was or FFh, or if the power went any.
+pub record MayErase (erase : Erase) (old new : BusState) : Type 0 where
+  pub config : new.chip.config ≡ old.chip.config
+  pub bytes : ChangesOnly old.steady (is_place_of erase old.chip) (λ _. 255) old.chip.bytes new.chip.bytes
+  pub kept : KeptStay old.chip new.chip
+  pub runs : new.chip.busy ≢ 0 → new.chip.running ≡ Runs.Erase (4096 * erase.sector) (unit_length old.chip erase)
+  pub worn : (s : ℕ) → is_sector_of erase old.chip s ≡ false → new.worn s ≡ old.worn s
+
+-- On an honest bus, the unit was erased, and nothing else changed.
+pub record HasErased (erase : Erase) (old new : BusState) : Type 0 where
+  pub config : new.chip.config ≡ old.chip.config
+  pub bytes : (a : ℕ) → new.chip.bytes a ≡ (if is_place_of erase old.chip a then 255 else old.chip.bytes a)
+  pub kept : KeptStay old.chip new.chip
+  pub worn : (s : ℕ) → new.worn s ≡ (old.worn s || is_sector_of erase old.chip s)
+  pub latch : new.chip.latch ≡ false
+
+-- What an erase leaves at every exit, by whether the chip can carry it out or ignores it.
+pub record LeavesErase (erase : Erase) (old new : BusState) : Type 0 where
+  pub stirs : Stirs old new
+  pub falls : old.honest ≡ true → Falls 65538 old new
+  pub reached : old.honest ≡ true → CanErase erase old.chip → MayErase erase old new
+  pub ignored : old.honest ≡ true → IsOnChip erase old.chip → takes_erase old.chip erase ≡ false → Stays old new
+
+-- What an erase that succeeded leaves, likewise.
+pub record Erases (erase : Erase) (old new : BusState) (sent : ℕ) : Type 0 where
+  pub ends : Ends old new sent
+  pub done : old.honest ≡ true → CanErase erase old.chip → HasErased erase old new
+  pub ignored : old.honest ≡ true → IsOnChip erase old.chip → takes_erase old.chip erase ≡ false → HasIgnored old new

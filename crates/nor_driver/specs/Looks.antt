@@ -1,0 +1,58 @@
+-- What functions that only read leave of a bus.
+use Rattle.std.specs.Prelude.{◌≡◌, ◌≢◌, ◌≤◌, ◌<◌, ◌+◌, ◌⊎◌, ℕ, true, false}
+use Rattle.nor_chip.specs.Chip.{Chip, IsSame}
+use Rattle.nor_chip.specs.Power.{is_in_work, KeptCut}
+use Rattle.nor_chip.specs.Bus.{BusState}
+
+-- A stop leaves bytes and kept bits as they were: the bus is steady, or nothing runs.
+abbrev pub IsCalm : BusState → Type 0
+IsCalm state = (state.steady ≡ true) ⊎ (state.chip.busy ≡ 0)
+
+-- On an honest bus, where nothing was cut off: bytes, kept bits and worn sectors are as they were, and so is what
+-- runs, for no longer than before.
+pub record Unchanged (old new : BusState) : Type 0 where
+  pub same : IsSame old.chip new.chip
+  pub running : new.chip.running ≡ old.chip.running
+  pub busy : new.chip.busy ≤ old.chip.busy
+  pub worn : (s : ℕ) → new.worn s ≡ old.worn s
+
+-- On an honest bus, at every exit where nothing new was begun: only what ran before may have been cut off.
+pub record Stays (old new : BusState) : Type 0 where
+  pub config : new.chip.config ≡ old.chip.config
+  pub calm : IsCalm old → IsSame old.chip new.chip
+  pub bytes : (a : ℕ) → is_in_work old.chip.running a ≡ false → new.chip.bytes a ≡ old.chip.bytes a
+  pub kept : KeptCut old.chip.running old.chip new.chip
+  pub running : new.chip.busy ≢ 0 → new.chip.running ≡ old.chip.running
+  pub busy : new.chip.busy ≤ old.chip.busy
+  pub worn : (s : ℕ) → new.worn s ≡ old.worn s
+
+-- On an honest bus, after readings that succeeded: nothing changed, and the latch is set only where it was, on an
+-- idle chip as it was.
+pub record Rested (old new : BusState) : Type 0 where
+  pub unchanged : Unchanged old new
+  pub latch : new.chip.latch ≡ true → old.chip.latch ≡ true
+  pub idle_latch : old.chip.busy ≡ 0 → new.chip.latch ≡ old.chip.latch
+
+-- On an honest bus, at every exit, after at most so many transactions.
+pub record Looked (most : ℕ) (old new : BusState) : Type 0 where
+  pub stays : Stays old new
+  pub latch : new.chip.latch ≡ true → old.chip.latch ≡ true
+  pub idle_latch : old.steady ≡ true → old.chip.busy ≡ 0 → new.chip.latch ≡ old.chip.latch
+  pub fell : new.left ≤ old.left
+  pub bound : old.left ≤ new.left + most
+
+-- On every bus, at every exit: no changing opcode was sent; on an honest one, at most so many transactions were.
+pub record Looks (most : ℕ) (old new : BusState) : Type 0 where
+  pub honest : new.honest ≡ old.honest
+  pub steady : new.steady ≡ old.steady
+  pub stirred : new.stirred ≡ old.stirred
+  pub looked : old.honest ≡ true → Looked most old new
+
+-- On an honest bus, a call that needs so many transactions stopped: there were fewer, and they were used up.
+pub record RanOut (needed : ℕ) (old new : BusState) : Type 0 where
+  pub none_left : new.left ≡ 0
+  pub below : old.left < needed
+
+-- the same of any bus
+abbrev pub RunsOut : ℕ → BusState → BusState → Type 0
+RunsOut needed old new = old.honest ≡ true → RanOut needed old new

@@ -1,0 +1,97 @@
+-- What operations leave, whatever they are: write enable, a command, a wait.
+use Rattle.std.specs.Prelude.{◌≡◌, ◌≢◌, ◌≤◌, ◌<◌, ◌+◌, ◌*◌, ◌⊎◌, ◌||◌, ℕ, Bool, true, false, List, [], ◌∷◌, drop, slice_index}
+use Rattle.nor_chip.specs.declared.config.Config.{Config}
+use Rattle.nor_chip.specs.declared.command.Command.{Command}
+use Rattle.nor_chip.specs.declared.command.Command.TheVariants.{WriteStatus, Program, Erase, Ignored}
+use Rattle.nor_chip.specs.Chip.{Chip, IsSame}
+use Rattle.nor_chip.specs.Power.{is_in_work, KeptStay}
+use Rattle.nor_chip.specs.Command.{command_of}
+use Rattle.nor_chip.specs.Step.{is_idle, is_operation, done_of, byte_after, kept1_after, kept2_after, running_after, wears}
+use Rattle.nor_chip.specs.Bus.{BusState}
+use Rattle.nor_driver.specs.Looks.{Stays}
+
+-- three bytes name an address, high byte first
+abbrev pub NamesAddress : ℕ → List ℕ → Type 0
+NamesAddress at bytes = 65536 * slice_index bytes 0 + 256 * slice_index bytes 1 + slice_index bytes 2 ≡ at
+
+-- a command is an opcode, three bytes that name an address and then data
+abbrev pub IsCommandAt : ℕ → ℕ → List ℕ → List ℕ → Type 0
+IsCommandAt opcode at sent command =
+    (x : ℕ) × (y : ℕ) × (z : ℕ) × (65536 * x + 256 * y + z ≡ at) × (command ≡ opcode ∷ x ∷ y ∷ z ∷ sent)
+
+-- a command that is an operation, or none
+abbrev pub is_change : Command → Bool
+is_change (WriteStatus one two) = true
+is_change (Program at) = true
+is_change (Erase start len) = true
+is_change Ignored = true
+is_change _ = false
+
+-- these bytes ask no chip for anything but an operation
+abbrev pub IsOperation : List ℕ → Type 0
+IsOperation out = (config : Config) → is_change (command_of config out 0) ≡ true
+
+-- Each byte is as it was, or at these places, where the power stays, as wanted.
+abbrev pub ChangesOnly : Bool → (ℕ → Bool) → (ℕ → ℕ) → (ℕ → ℕ) → (ℕ → ℕ) → Type 0
+ChangesOnly steady places wanted old new =
+    (a : ℕ) → (new a ≡ old a) ⊎ ((places a ≡ true) × (steady ≡ true → new a ≡ wanted a))
+
+-- On every bus, at every exit of an operation: it is stirred, and keeps its honesty and its steadiness.
+pub record Stirs (old new : BusState) : Type 0 where
+  pub honest : new.honest ≡ old.honest
+  pub steady : new.steady ≡ old.steady
+  pub stirred : new.stirred ≡ true
+
+-- On an honest bus, at every exit of a call that sends at most so many transactions.
+pub record Falls (most : ℕ) (old new : BusState) : Type 0 where
+  pub fell : new.left ≤ old.left
+  pub bound : old.left ≤ new.left + most
+
+-- On an honest bus, an operation that was ignored has ended: nothing changed but the latch, which is set now, unless
+-- the chip was busy with something else that has ended too.
+pub record HasIgnored (old new : BusState) : Type 0 where
+  pub same : IsSame old.chip new.chip
+  pub worn : (s : ℕ) → new.worn s ≡ old.worn s
+  pub latch : new.chip.latch ≡ is_idle old.chip
+
+-- An operation succeeded, with so many transactions: whatever the bus, from 3 to 65,538; on an honest one so many
+-- fewer are left, and the chip is idle.
+pub record Ends (old new : BusState) (sent : ℕ) : Type 0 where
+  pub least : 3 ≤ sent
+  pub few : sent ≤ 65538
+  pub count : old.honest ≡ true → old.left ≡ new.left + sent
+  pub idle : old.honest ≡ true → new.chip.busy ≡ 0
+
+-- what a command does on this chip after write enable, which sets the latch of an idle chip
+abbrev pub operation_of : Chip → List ℕ → Command
+operation_of chip out = done_of (record chip { latch = true }) out 0
+
+-- On an honest bus, at every exit of an operation of an idle chip: it has had its effect, has had none, or was cut off.
+pub record MayOperate (command : Command) (sent : List ℕ) (old new : BusState) : Type 0 where
+  pub config : new.chip.config ≡ old.chip.config
+  pub bytes : ChangesOnly old.steady (is_in_work (running_after old.chip command)) (byte_after old.chip command sent) old.chip.bytes new.chip.bytes
+  pub kept : KeptStay old.chip new.chip ⊎ ((new.chip.kept1 ≡ kept1_after old.chip command) × (new.chip.kept2 ≡ kept2_after old.chip command))
+  pub runs : new.chip.busy ≢ 0 → new.chip.running ≡ running_after old.chip command
+  pub worn : (s : ℕ) → wears command s ≡ false → new.worn s ≡ old.worn s
+
+-- On an honest bus, an operation of an idle chip has ended.
+pub record HasOperated (command : Command) (sent : List ℕ) (old new : BusState) : Type 0 where
+  pub config : new.chip.config ≡ old.chip.config
+  pub bytes : (a : ℕ) → new.chip.bytes a ≡ byte_after old.chip command sent a
+  pub kept1 : new.chip.kept1 ≡ kept1_after old.chip command
+  pub kept2 : new.chip.kept2 ≡ kept2_after old.chip command
+  pub worn : (s : ℕ) → new.worn s ≡ (old.worn s || wears command s)
+  pub latch : new.chip.latch ≡ false
+
+-- What an operation leaves at every exit.
+pub record LeavesOperation (out : List ℕ) (old new : BusState) : Type 0 where
+  pub stirs : Stirs old new
+  pub falls : old.honest ≡ true → Falls 65538 old new
+  pub reached : old.honest ≡ true → is_operation (operation_of old.chip out) ≡ true → MayOperate (operation_of old.chip out) (drop 4 out) old new
+  pub ignored : old.honest ≡ true → is_operation (operation_of old.chip out) ≡ false → Stays old new
+
+-- What an operation that succeeded leaves.
+pub record Operates (out : List ℕ) (old new : BusState) (sent : ℕ) : Type 0 where
+  pub ends : Ends old new sent
+  pub done : old.honest ≡ true → is_operation (operation_of old.chip out) ≡ true → HasOperated (operation_of old.chip out) (drop 4 out) old new
+  pub ignored : old.honest ≡ true → is_operation (operation_of old.chip out) ≡ false → HasIgnored old new

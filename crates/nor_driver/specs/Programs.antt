@@ -1,0 +1,58 @@
+-- What the program of a part of a page leaves.
+use Rattle.std.specs.Prelude.{◌≡◌, ◌≢◌, ◌≤◌, ◌<◌, ◌+◌, ◌-◌, ◌/◌, ◌==◌, ◌&&◌, ℕ, Bool, true, false, not, nat_le, nat_lt, List, length, slice_index, bit_and, if◌then◌else◌}
+use Rattle.nor_chip.specs.declared.running.Running.TheVariants as Runs
+use Rattle.nor_chip.specs.Chip.{Chip}
+use Rattle.nor_chip.specs.Power.{KeptStay}
+use Rattle.nor_chip.specs.Guard.{is_guarded}
+use Rattle.nor_chip.specs.Step.{is_idle}
+use Rattle.nor_chip.specs.Bus.{BusState}
+use Rattle.nor_driver.specs.Looks.{Stays}
+use Rattle.nor_driver.specs.Operations.{ChangesOnly, Stirs, Falls, Ends, HasIgnored}
+
+-- The chip is idle, and a part of a page of it free to program.
+pub record CanProgram (at len : ℕ) (chip : Chip) : Type 0 where
+  pub idle : chip.busy ≡ 0
+  pub inside : at + len ≤ chip.config.size
+  pub free : is_guarded chip at ≡ false
+
+-- the chip carries a program at this address out
+abbrev pub takes_program : Chip → ℕ → Bool
+takes_program chip at = is_idle chip && not (is_guarded chip at)
+
+-- the byte at a place once bytes were programmed from an address on: bits that are clear in them are clear in it
+abbrev pub programmed : ℕ → List ℕ → (ℕ → ℕ) → ℕ → ℕ
+programmed at sent old a = if nat_le at a && nat_lt a (at + length sent) then bit_and (old a) (slice_index sent (a - at)) else old a
+
+-- a place of the page that holds an address
+abbrev pub is_in_page : ℕ → ℕ → Bool
+is_in_page at a = a / 256 == at / 256
+
+-- On an honest bus, at every exit: bytes outside the page are as they were, and all kept bits and worn sectors. In
+-- the page a byte is as it was or as programmed, or if the power went any.
+pub record MayProgram (at : ℕ) (sent : List ℕ) (old new : BusState) : Type 0 where
+  pub config : new.chip.config ≡ old.chip.config
+  pub bytes : ChangesOnly old.steady (is_in_page at) (programmed at sent old.chip.bytes) old.chip.bytes new.chip.bytes
+  pub kept : KeptStay old.chip new.chip
+  pub runs : new.chip.busy ≢ 0 → new.chip.running ≡ Runs.Program (at / 256)
+  pub worn : (s : ℕ) → new.worn s ≡ old.worn s
+
+-- On an honest bus, bytes were programmed from an address on, and nothing else changed.
+pub record HasProgrammed (at : ℕ) (sent : List ℕ) (old new : BusState) : Type 0 where
+  pub config : new.chip.config ≡ old.chip.config
+  pub bytes : (a : ℕ) → new.chip.bytes a ≡ programmed at sent old.chip.bytes a
+  pub kept : KeptStay old.chip new.chip
+  pub worn : (s : ℕ) → new.worn s ≡ old.worn s
+  pub latch : new.chip.latch ≡ false
+
+-- What a program leaves at every exit, by whether the chip can carry it out or ignores it.
+pub record LeavesProgram (at : ℕ) (sent : List ℕ) (old new : BusState) : Type 0 where
+  pub stirs : Stirs old new
+  pub falls : old.honest ≡ true → Falls 65538 old new
+  pub reached : old.honest ≡ true → CanProgram at (length sent) old.chip → MayProgram at sent old new
+  pub ignored : old.honest ≡ true → at < old.chip.config.size → takes_program old.chip at ≡ false → Stays old new
+
+-- What a program that succeeded leaves, likewise.
+pub record Programs (at : ℕ) (bytes : List ℕ) (old new : BusState) (sent : ℕ) : Type 0 where
+  pub ends : Ends old new sent
+  pub done : old.honest ≡ true → CanProgram at (length bytes) old.chip → HasProgrammed at bytes old new
+  pub ignored : old.honest ≡ true → at < old.chip.config.size → takes_program old.chip at ≡ false → HasIgnored old new

@@ -1,0 +1,77 @@
+-- What readings tell.
+use Rattle.std.specs.Prelude.{◌≡◌, ◌≤◌, ◌<◌, ◌+◌, ◌*◌, ◌%◌, ℕ, Bool, true, false, List, [], ◌∷◌, length, map, slice_index, slice_index_or}
+use Rattle.std.specs.List.{range_with_len}
+use Rattle.nor_chip.specs.declared.config.Config.{Config}
+use Rattle.nor_chip.specs.declared.command.Command.{Command}
+use Rattle.nor_chip.specs.declared.command.Command.TheVariants.{ReadStatus2, ReadData, ReadId, ReadSfdp, ReadUnique, Ignored}
+use Rattle.nor_chip.specs.Chip.{Chip, sfdp_byte}
+use Rattle.nor_chip.specs.Command.{command_of, begins_change}
+use Rattle.nor_chip.specs.Step.{done_of, reply_byte}
+use Rattle.nor_chip.specs.Bus.{BusState}
+use Rattle.nor_driver.specs.Looks.{Rested}
+
+-- a command that changes nothing at all
+abbrev pub is_reading : Command → Bool
+is_reading ReadStatus2 = true
+is_reading (ReadData at) = true
+is_reading ReadId = true
+is_reading (ReadSfdp at) = true
+is_reading ReadUnique = true
+is_reading Ignored = true
+is_reading _ = false
+
+-- These bytes ask no chip for anything but a reading.
+pub record IsReading (out : List ℕ) : Type 0 where
+  pub quiet : begins_change out ≡ false
+  pub reading : (config : Config) (replies : ℕ) → is_reading (command_of config out replies) ≡ true
+
+-- On an honest bus, one transaction read: nothing changed, neither latch nor `busy`.
+pub record HasRead (old new : BusState) : Type 0 where
+  pub rested : Rested old new
+  pub busy : new.chip.busy ≡ old.chip.busy
+  pub latch : new.chip.latch ≡ old.chip.latch
+  pub count : old.left ≡ new.left + 1
+
+-- A transaction that reads succeeded.
+pub record Replies (out : List ℕ) (old new : BusState) (reply : List ℕ) : Type 0 where
+  pub read : old.honest ≡ true → HasRead old new
+  pub told : old.honest ≡ true → (i : ℕ) → i < length reply → slice_index reply i ≡ reply_byte old.chip (done_of old.chip out (length reply)) i
+
+-- the ID: the three bytes that 9Fh replies first (W25Q64FV datasheet, Read JEDEC ID)
+abbrev pub id_of : Config → List ℕ
+id_of config = slice_index_or config.id 0 255 ∷ slice_index_or config.id 1 255 ∷ slice_index_or config.id 2 255 ∷ []
+
+-- the chip's own number: the eight bytes that 4Bh replies first (W25Q64FV datasheet, Read Unique ID Number)
+abbrev pub unique_of : Config → List ℕ
+unique_of config = map (λ (i : ℕ). slice_index_or config.unique i 255) (0 ∷ 1 ∷ 2 ∷ 3 ∷ 4 ∷ 5 ∷ 6 ∷ 7 ∷ [])
+
+-- so many SFDP bytes as 5Ah shows them, from an address on that is taken modulo the chip's size
+unfoldable pub shown : Config → ℕ → ℕ → List ℕ
+shown config at len = map (sfdp_byte config) (range_with_len (at % config.size) len)
+
+-- these are the bytes of a sector
+pub record IsSectorOf (content : ℕ → ℕ) (sector : ℕ) (bytes : List ℕ) : Type 0 where
+  pub byte : (i : ℕ) → i < 4096 → slice_index bytes i ≡ content (4096 * sector + i)
+
+-- The readings: what each leaves on an honest bus, and what it tells of an idle chip. (Status 2 is told by a busy
+-- chip too.)
+pub record ReadsId (old new : BusState) (id : List ℕ) : Type 0 where
+  pub read : old.honest ≡ true → HasRead old new
+  pub told : old.honest ≡ true → old.chip.busy ≡ 0 → id ≡ id_of old.chip.config
+
+pub record ReadsStatus2 (old new : BusState) (status2 : ℕ) : Type 0 where
+  pub read : old.honest ≡ true → HasRead old new
+  pub told : old.honest ≡ true → status2 ≡ old.chip.kept2
+
+pub record ReadsUnique (old new : BusState) (unique : List ℕ) : Type 0 where
+  pub read : old.honest ≡ true → HasRead old new
+  pub told : old.honest ≡ true → old.chip.busy ≡ 0 → unique ≡ unique_of old.chip.config
+
+pub record ReadsSfdp (at len : ℕ) (old new : BusState) (bytes : List ℕ) : Type 0 where
+  pub read : old.honest ≡ true → HasRead old new
+  pub told : old.honest ≡ true → old.chip.busy ≡ 0 → bytes ≡ shown old.chip.config at len
+
+-- a sector that lies on the chip
+pub record ReadsSector (sector : ℕ) (old new : BusState) (bytes : List ℕ) : Type 0 where
+  pub read : old.honest ≡ true → HasRead old new
+  pub told : old.honest ≡ true → old.chip.busy ≡ 0 → 4096 * (sector + 1) ≤ old.chip.config.size → IsSectorOf old.chip.bytes sector bytes

@@ -1,0 +1,56 @@
+-- What polls and waits tell, and how they end.
+use Rattle.std.specs.Prelude.{◌≡◌, ◌≤◌, ◌<◌, ◌+◌, ◌-◌, ◌%◌, ◌==◌, ℕ, Bool, true, false, if◌then◌else◌}
+use Rattle.nor_chip.specs.Chip.{Chip, status1_of}
+use Rattle.nor_chip.specs.Bus.{BusState}
+use Rattle.nor_driver.specs.declared.waits.Halt.{Halt}
+use Rattle.nor_driver.specs.declared.waits.Halt.TheVariants.{Stopped, Timeout}
+use Rattle.nor_driver.specs.declared.waits.Waited.{Waited}
+use Rattle.nor_driver.specs.Looks.{Rested, RanOut}
+
+-- On an honest bus, one poll replied the status, and the chip is busy for one poll less; the last one clears the latch.
+pub record HasPolled (old new : BusState) (status : ℕ) : Type 0 where
+  pub rested : Rested old new
+  pub status1 : status ≡ status1_of old.chip
+  pub busy : new.chip.busy ≡ old.chip.busy - 1
+  pub latch : new.chip.latch ≡ (if old.chip.busy == 1 then false else old.chip.latch)
+  pub count : old.left ≡ new.left + 1
+
+-- a poll succeeded
+abbrev pub Polls : BusState → BusState → ℕ → Type 0
+Polls old new status = old.honest ≡ true → HasPolled old new status
+
+-- the latch of a chip once it is idle: an operation that was running has ended and cleared it
+abbrev pub latch_when_idle : Chip → Bool
+latch_when_idle chip = if chip.busy == 0 then chip.latch else false
+
+-- On an honest bus, a wait polled until the chip was idle: once for each BUSY, and once more.
+pub record HasWaited (old new : BusState) (waited : Waited) : Type 0 where
+  pub rested : Rested old new
+  pub idle : new.chip.busy ≡ 0
+  pub latch : new.chip.latch ≡ latch_when_idle old.chip
+  pub status1 : waited.status1 ≡ status1_of new.chip
+  pub polls : waited.polls ≡ old.chip.busy + 1
+  pub count : old.left ≡ new.left + waited.polls
+
+-- A wait succeeded: whatever the bus, its last poll showed no BUSY.
+pub record Waits (old new : BusState) (waited : Waited) : Type 0 where
+  pub some : 1 ≤ waited.polls
+  pub few : waited.polls ≤ 65536
+  pub clear : waited.status1 % 2 ≡ 0
+  pub done : old.honest ≡ true → HasWaited old new waited
+
+-- whatever the bus, a timeout names this address
+abbrev pub NamesTimeout : ℕ → Halt → Type 0
+NamesTimeout at Stopped = Unit {0}
+NamesTimeout at (Timeout address) = address ≡ at
+
+-- A call that waits halted. On an honest bus that is a stop, and there were fewer transactions than this.
+pub record Halts (at needed : ℕ) (old new : BusState) (halt : Halt) : Type 0 where
+  pub told : NamesTimeout at halt
+  pub stopped : old.honest ≡ true → halt ≡ Stopped
+  pub ran_out : old.honest ≡ true → RanOut needed old new
+
+-- A wait halted: there were fewer transactions than it needed, which are never more than 65,536.
+pub record WaitHalts (at : ℕ) (old new : BusState) (halt : Halt) : Type 0 where
+  pub halts : Halts at 65536 old new halt
+  pub needed : old.honest ≡ true → old.left < old.chip.busy + 1

@@ -1,0 +1,106 @@
+//! Operations: write enable, a command that changes the chip, and a wait.
+
+ghost use Rattle.std.specs.Prelude.{◌≡◌, ◌<◌, ◌≤◌, ◌+◌, ◌*◌, ◌%◌, ◌^◌, length, IfOk, IfErr};
+ghost use Rattle.nor_driver.specs.Waits.{Halts};
+ghost use Rattle.nor_driver.specs.Operations.{NamesAddress, IsCommandAt, IsOperation, LeavesOperation, Operates};
+ghost use Rattle.nor_driver.specs.Programs.{LeavesProgram, Programs};
+ghost use Rattle.nor_driver.specs.Erases.{LeavesErase, Erases};
+ghost use Rattle.nor_driver.specs.StatusWrites.{status_to_send, LeavesStatusWrite, WritesStatus};
+
+use crate::{Erase, EraseUnit, Halt, wait};
+use arrayvec::ArrayVec;
+use nor_chip::{Bus, Status};
+
+/// Programs a part of a page, from an address on (02h). Answers the number of transactions.
+pub fn program_page<B: Bus>(bus: &mut B, address: u32, bytes: &[u8]) -> Result<u32, Halt>
+    requires reachable { address < 2 ^ 24 }
+    requires some { 0 < length bytes.now }
+    requires in_page { address % 256 + length bytes.now ≤ 256 }
+    ensures leaves { LeavesProgram address bytes.now (B.state bus.old) (B.state bus.new) }
+    ensures does { IfOk result (Programs address bytes.now (B.state bus.old) (B.state bus.new)) }
+    ensures halts { IfErr result (Halts address 65538 (B.state bus.old) (B.state bus.new)) }
+{
+    let command = program_command(address, bytes);
+    operation(bus, &command, address)
+}
+
+/// Erases a unit (20h, 52h, D8h or C7h). Answers the number of transactions.
+pub fn erase<B: Bus>(bus: &mut B, erase: Erase) -> Result<u32, Halt>
+    requires { erase.sector < 4096 }
+    ensures leaves { LeavesErase erase (B.state bus.old) (B.state bus.new) }
+    ensures does { IfOk result (Erases erase (B.state bus.old) (B.state bus.new)) }
+    ensures halts { IfErr result (Halts (4096 * erase.sector) 65538 (B.state bus.old) (B.state bus.new)) }
+{
+    let address = erase.address();
+    let opcode = erase.unit.opcode();
+    let [high, middle, low] = address_bytes(address);
+    match erase.unit {
+        EraseUnit::Chip => operation(bus, &[opcode], address),
+        _ => operation(bus, &[opcode, high, middle, low], address),
+    }
+}
+
+/// Writes the status (01h): another protection code, below 64, and the fixed bits of `status` as they were read.
+/// BUSY, WEL and SUS are sent clear. Answers the number of transactions.
+pub fn write_status<B: Bus>(bus: &mut B, status: Status, code: u8) -> Result<u32, Halt>
+    requires { code < 64 }
+    ensures leaves { LeavesStatusWrite status code (B.state bus.old) (B.state bus.new) }
+    ensures does { IfOk result (WritesStatus status code (B.state bus.old) (B.state bus.new)) }
+    ensures halts { IfErr result (Halts 0 65538 (B.state bus.old) (B.state bus.new)) }
+{
+    let [one, two] = with_code(status, code);
+    operation(bus, &[0x01, one, two], 0)
+}
+
+// The bytes of a status write: SRP0 is the highest bit of the first, CMP and SUS are the highest two of the second.
+fn with_code(status: Status, code: u8) -> [u8; 2]
+    requires { code < 64 }
+    ensures { result ≡ status_to_send status code }
+{
+    let [one, two] = status.bytes();
+    [
+        128 * (one / 128) + 4 * (code % 32),
+        two % 64 + 64 * (code / 32),
+    ]
+}
+
+// One operation: write enable, the command, a wait. Answers the number of transactions.
+fn operation<B: Bus>(bus: &mut B, command: &[u8], address: u32) -> Result<u32, Halt>
+    requires { IsOperation command.now }
+    ensures leaves { LeavesOperation command.now (B.state bus.old) (B.state bus.new) }
+    ensures does { IfOk result (Operates command.now (B.state bus.old) (B.state bus.new)) }
+    ensures halts { IfErr result (Halts address 65538 (B.state bus.old) (B.state bus.new)) }
+{
+    bus.transfer(&[0x06], &mut [])?;
+    bus.transfer(command, &mut [])?;
+    let waited = wait(bus, address)?;
+    Ok(waited.polls + 2)
+}
+
+/// The three bytes of an address, high byte first.
+pub(crate) fn address_bytes(address: u32) -> [u8; 3]
+    requires { address < 2 ^ 24 }
+    ensures { NamesAddress address result }
+{
+    [
+        (address / 65536) as u8,
+        (address / 256 % 256) as u8,
+        (address % 256) as u8,
+    ]
+}
+
+// The bytes of a page program: the opcode, three address bytes and the data.
+fn program_command(address: u32, bytes: &[u8]) -> ArrayVec<u8, 260>
+    requires reachable { address < 2 ^ 24 }
+    requires short { length bytes.now ≤ 256 }
+    ensures { IsCommandAt 0x02 address bytes.now result.items }
+{
+    let [high, middle, low] = address_bytes(address);
+    let mut command = ArrayVec::new();
+    command.push(0x02);
+    command.push(high);
+    command.push(middle);
+    command.push(low);
+    let _ = command.try_extend_from_slice(bytes);
+    command
+}

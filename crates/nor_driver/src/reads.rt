@@ -1,0 +1,74 @@
+//! What a chip tells of itself and its bytes.
+
+ghost use Rattle.std.specs.Prelude.{◌≡◌, ◌<◌, ◌^◌, length, IfOk, OnOk, OnErr};
+ghost use Rattle.nor_driver.specs.Looks.{Looks, RunsOut};
+ghost use Rattle.nor_driver.specs.Reads.{IsReading, Replies, ReadsId, ReadsStatus2, ReadsUnique, ReadsSfdp, ReadsSector};
+
+use crate::operations::address_bytes;
+use nor_chip::{Bus, Stopped};
+
+/// The ID: three bytes (9Fh; W25Q64FV datasheet, Read JEDEC ID).
+pub fn read_id<B: Bus>(bus: &mut B) -> Result<[u8; 3], Stopped>
+    ensures leaves { Looks 1 (B.state bus.old) (B.state bus.new) }
+    ensures does { IfOk result (ReadsId (B.state bus.old) (B.state bus.new)) }
+    ensures halts { OnErr result (RunsOut 1 (B.state bus.old) (B.state bus.new)) }
+{
+    let mut id = [0; 3];
+    read(bus, &[0x9F], &mut id)?;
+    Ok(id)
+}
+
+/// Status 2 (35h), which a busy chip replies too.
+pub fn read_status2<B: Bus>(bus: &mut B) -> Result<u8, Stopped>
+    ensures leaves { Looks 1 (B.state bus.old) (B.state bus.new) }
+    ensures does { IfOk result (ReadsStatus2 (B.state bus.old) (B.state bus.new)) }
+    ensures halts { OnErr result (RunsOut 1 (B.state bus.old) (B.state bus.new)) }
+{
+    let mut reply = [0];
+    read(bus, &[0x35], &mut reply)?;
+    Ok(reply[0])
+}
+
+/// The chip's own number: eight bytes (4Bh; W25Q64FV datasheet, Read Unique ID Number).
+pub fn read_unique<B: Bus>(bus: &mut B) -> Result<[u8; 8], Stopped>
+    ensures leaves { Looks 1 (B.state bus.old) (B.state bus.new) }
+    ensures does { IfOk result (ReadsUnique (B.state bus.old) (B.state bus.new)) }
+    ensures halts { OnErr result (RunsOut 1 (B.state bus.old) (B.state bus.new)) }
+{
+    let mut unique = [0; 8];
+    read(bus, &[0x4B, 0, 0, 0, 0], &mut unique)?;
+    Ok(unique)
+}
+
+/// SFDP bytes from an address on, as many as `bytes` takes (5Ah; JESD216).
+pub fn read_sfdp<B: Bus>(bus: &mut B, address: u32, bytes: &mut [u8]) -> Result<(), Stopped>
+    requires { address < 2 ^ 24 }
+    ensures leaves { Looks 1 (B.state bus.old) (B.state bus.new) }
+    ensures does { OnOk result (ReadsSfdp address (length bytes.old) (B.state bus.old) (B.state bus.new) bytes.new) }
+    ensures halts { OnErr result (RunsOut 1 (B.state bus.old) (B.state bus.new)) }
+{
+    let [high, middle, low] = address_bytes(address);
+    read(bus, &[0x5A, high, middle, low, 0], bytes)
+}
+
+/// The 4,096 bytes of a sector (03h).
+pub fn read_sector<B: Bus>(bus: &mut B, sector: u32, bytes: &mut [u8]) -> Result<(), Stopped>
+    requires reachable { sector < 4096 }
+    requires whole { length bytes.old ≡ 4096 }
+    ensures leaves { Looks 1 (B.state bus.old) (B.state bus.new) }
+    ensures does { OnOk result (ReadsSector sector (B.state bus.old) (B.state bus.new) bytes.new) }
+    ensures halts { OnErr result (RunsOut 1 (B.state bus.old) (B.state bus.new)) }
+{
+    let [high, middle, low] = address_bytes(4096 * sector);
+    read(bus, &[0x03, high, middle, low], bytes)
+}
+
+// One transaction that changes nothing.
+fn read<B: Bus>(bus: &mut B, out: &[u8], reply: &mut [u8]) -> Result<(), Stopped>
+    requires { IsReading out.now }
+    ensures leaves { Looks 1 (B.state bus.old) (B.state bus.new) }
+    ensures does { OnOk result (Replies out.now (B.state bus.old) (B.state bus.new) reply.new) }
+    ensures halts { OnErr result (RunsOut 1 (B.state bus.old) (B.state bus.new)) }
+{
+    bus.transfer(out, reply)
+}

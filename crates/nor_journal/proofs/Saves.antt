@@ -1,0 +1,93 @@
+-- Which sectors a journal saves, as it is written and as it is read.
+use Rattle.std.proofs.Common.{◌≡◌, ◌≢◌, ℕ, ◌+◌, ◌/◌, ◌<◌, ◌≤◌, cond, eqb, Bool, true, false, List, length, refl, sym, ap, subst, ◌∙◌, arith, Option, Some, None, inl, inr}
+use Rattle.std.specs.Prelude.{IsSomeAnd}
+use Rattle.std.proofs.lemmas.Bool.{eq-eqb, ne_eqb}
+use Rattle.std.proofs.lemmas.Bool.Decides.{eqb_tells}
+use Rattle.nor_journal.specs.declared.writer.Writer.{Writer}
+use Rattle.nor_journal.specs.Vault.{VaultState}
+use Rattle.nor_journal.specs.Text.{Content, IsContent, SameHead, MayFollow, next_number, empty_content, with_sector, text}
+use Rattle.nor_journal.specs.Saved.{IsSector, Saves, HasOneMore, JournalSaves, saved_in}
+use Rattle.nor_journal.specs.Writer.{HasWritten, HasKept}
+use Rattle.nor_journal.proofs.Saved.{saved_in-with_sector, saved_in-empty_content, next_number-empty_content, next_number-with_sector}
+use Rattle.nor_journal.proofs.Writes.{IsContent-with_sector}
+
+-- ---- of a content
+
+-- the same set by another test
+pub Saves-same : (chip : ℕ → ℕ) (saved other : ℕ → Bool) (c : Content) → ((s : ℕ) → other s ≡ saved s) → Saves chip saved c → Saves chip other c
+Saves-same chip saved other c same saves = record {
+  is = saves.is;
+  sectors = λ s is. saves.sectors s (sym (same s) ∙ is);
+  others = λ s is. saves.others s (sym (same s) ∙ is);
+}
+
+-- one sector more
+pub Saves-more : (chip : ℕ → ℕ) (saved more : ℕ → Bool) (c : Content) (number : ℕ) (bytes : List ℕ) → Saves chip saved c → MayFollow c number → IsSector chip number bytes → HasOneMore saved number more → Saves chip more (with_sector c number bytes)
+Saves-more chip saved more c number bytes saves follows sector one = record {
+  is = IsContent-with_sector c number bytes saves.is follows sector.whole;
+  sectors = λ s is. subst (λ (o : Option (List ℕ)). IsSomeAnd o (IsSector chip s)) (sym (saved_in-with_sector c number bytes s saves.is follows)) (of_sector s is);
+  others = λ s is. saved_in-with_sector c number bytes s saves.is follows ∙ of_other s is;
+}
+  where
+    of_sector : (s : ℕ) → more s ≡ true → IsSomeAnd (cond (eqb number s) (Some bytes) (saved_in c.saved s)) (IsSector chip s)
+    of_sector s is =
+        elim (eqb_tells number s) [
+          | inl hit ↦ rw (eq-eqb number s hit.1) (subst (λ (n : ℕ). IsSector chip n bytes) hit.1 sector)
+          | inr miss ↦ rw (ne_eqb number s miss.1) (saves.sectors s (sym (one.others s (λ e. miss.1 (sym e))) ∙ is))
+        ]
+
+    of_other : (s : ℕ) → more s ≡ false → cond (eqb number s) (Some bytes) (saved_in c.saved s) ≡ None
+    of_other s is =
+        elim (eqb_tells number s) [
+          | inl hit ↦ (let both : true ≡ false = sym one.here ∙ ap more hit.1 ∙ is in absurd cc)
+          | inr miss ↦ rw (ne_eqb number s miss.1) (saves.others s (sym (one.others s (λ e. miss.1 (sym e))) ∙ is))
+        ]
+
+-- ---- of a writer
+
+-- nothing is saved behind the head
+pub HasKept-none : {V : Type 0} (state : V → VaultState) (w : Writer V) (id : List ℕ) (unique : Option (List ℕ)) (status : List ℕ) (size : ℕ) (chip : ℕ → ℕ) (saved : ℕ → Bool) (n : ℕ)
+    → HasWritten state w (empty_content id unique status size) → ((s : ℕ) → saved s ≡ false) → HasKept state w (empty_content id unique status size) chip saved n
+HasKept-none state w id unique status size chip saved n written none = record {
+  content = empty_content id unique status size;
+  written = written;
+  same = record { id = refl; unique = refl; status = refl; size = refl };
+  saves = record {
+    is = written.is;
+    sectors = λ s is. (let both : true ≡ false = sym is ∙ none s in absurd cc);
+    others = λ s is. saved_in-empty_content id unique status size s;
+  };
+  next = omega (arith, next_number-empty_content id unique status size);
+}
+
+-- the same set by another test, or a bound that is higher
+pub HasKept-same : {V : Type 0} (state : V → VaultState) (w : Writer V) (head : Content) (chip : ℕ → ℕ) (saved other : ℕ → Bool) (n m : ℕ) → ((s : ℕ) → other s ≡ saved s) → n ≤ m → HasKept state w head chip saved n → HasKept state w head chip other m
+HasKept-same state w head chip saved other n m same above kept = record {
+  content = kept.content;
+  written = kept.written;
+  same = kept.same;
+  saves = Saves-same chip saved other kept.content same kept.saves;
+  next = omega (arith, kept.next);
+}
+
+-- a sector that isn't below the bound may follow
+pub may_follow : {V : Type 0} (state : V → VaultState) (w : Writer V) (head : Content) (chip : ℕ → ℕ) (saved : ℕ → Bool) (n number : ℕ) (kept : HasKept state w head chip saved n) → n ≤ number → number < head.size / 4096 → MayFollow kept.content number
+may_follow state w head chip saved n number kept above place = record {
+  rises = omega (arith, kept.next);
+  place = subst (λ (size : ℕ). number < size / 4096) kept.same.size place;
+}
+
+-- one sector more
+pub HasKept-more : {V : Type 0} (state : V → VaultState) (old new : Writer V) (head : Content) (chip : ℕ → ℕ) (saved more : ℕ → Bool) (n number : ℕ) (bytes : List ℕ) (kept : HasKept state old head chip saved n)
+    → MayFollow kept.content number → IsSector chip number bytes → HasOneMore saved number more → HasWritten state new (with_sector kept.content number bytes) → HasKept state new head chip more (number + 1)
+HasKept-more state old new head chip saved more n number bytes kept follows sector one written = record {
+  content = with_sector kept.content number bytes;
+  written = written;
+  same = record { id = kept.same.id; unique = kept.same.unique; status = kept.same.status; size = kept.same.size };
+  saves = Saves-more chip saved more kept.content number bytes kept.saves follows sector one;
+  next = omega (arith, next_number-with_sector kept.content number bytes);
+}
+
+-- what was kept is what the journal saves
+pub HasKept-ends : {V : Type 0} (state : V → VaultState) (w : Writer V) (head : Content) (chip : ℕ → ℕ) (saved : ℕ → Bool) (n : ℕ) (bytes : List ℕ) (kept : HasKept state w head chip saved n) → bytes ≡ text kept.content → JournalSaves head chip saved bytes
+HasKept-ends state w head chip saved n bytes kept is = record { content = kept.content; same = kept.same; saves = kept.saves; is = is }

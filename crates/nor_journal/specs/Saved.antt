@@ -1,0 +1,31 @@
+-- Which sectors a content saves, and with which bytes.
+use Rattle.std.specs.Prelude.{◌≡◌, ◌≢◌, ℕ, ◌+◌, ◌*◌, ◌<◌, Bool, true, false, List, [], ◌∷◌, length, slice_index, Option, Some, None, IsSomeAnd, ◌==◌, if◌then◌else◌}
+use Rattle.nor_journal.specs.Text.{SavedSector, Content, IsContent, SameHead, text}
+
+-- the bytes that are saved for a sector, if it is saved
+unfoldable pub saved_in : List SavedSector → ℕ → Option (List ℕ)
+saved_in [] number = None
+saved_in (s ∷ rest) number = if s.number == number then Some s.bytes else saved_in rest number
+
+-- The bytes are those of sector s, where each address of a chip has its byte.
+pub record IsSector (chip : ℕ → ℕ) (s : ℕ) (bytes : List ℕ) : Type 0 where
+  pub whole : length bytes ≡ 4096
+  pub same : (i : ℕ) → i < 4096 → slice_index bytes i ≡ chip (4096 * s + i)
+
+-- A content saves just these sectors, with the bytes that the chip has in them.
+pub record Saves (chip : ℕ → ℕ) (saved : ℕ → Bool) (content : Content) : Type 0 where
+  pub is : IsContent content
+  pub sectors : (s : ℕ) → saved s ≡ true → IsSomeAnd (saved_in content.saved s) (IsSector chip s)
+  pub others : (s : ℕ) → saved s ≡ false → saved_in content.saved s ≡ None
+
+-- The second set is the first with this sector.
+pub record HasOneMore (saved : ℕ → Bool) (sector : ℕ) (more : ℕ → Bool) : Type 0 where
+  pub here : more sector ≡ true
+  pub others : (s : ℕ) → s ≢ sector → more s ≡ saved s
+
+-- The bytes are a journal with this head, and it saves just these sectors.
+pub record JournalSaves (head : Content) (chip : ℕ → ℕ) (saved : ℕ → Bool) (bytes : List ℕ) : Type 0 where
+  pub content : Content
+  pub same : SameHead head content
+  pub saves : Saves chip saved content
+  pub is : bytes ≡ text content

@@ -1,0 +1,125 @@
+//! A vault that refuses one call, for tests of what a session leaves behind.
+ghost use Rattle.std.specs.Prelude.{◌≡◌, ◌≢◌, ◌↔◌, ◌-◌, IsTrue, false, IsErr, IsErrAnd};
+ghost use Rattle.nor_journal.specs.Vault.{Puts, Seals, one_more};
+ghost use Rattle.nor_journal.specs.BrokenVault.{inner_of, calls_left, kept_of, Broke};
+
+use crate::vault::{Vault, VaultFault};
+
+/// A vault over another one, which refuses one of its calls.
+///
+/// Its `nth` call of `put` or `seal`, counted from 1, is refused, after the first `kept` bytes of the piece, or all of
+/// a shorter one, went into the vault below. It passes on every other call. It counts all refusals, its own and those
+/// of the vault below. An `nth` of 0 refuses no call.
+#[derive(Drop)]
+pub struct BrokenVault<V: Vault> {
+    inner: V,
+    // the calls up to the one that is refused, with it, or 0 behind it
+    calls_left: u64,
+    kept: usize,
+    failures: u64,
+}
+
+impl<V: Vault> BrokenVault<V> {
+    /// A vault over `inner` that refuses the `nth` of its calls behind the first `kept` bytes of the piece.
+    pub fn new(inner: V, nth: u64, kept: usize) -> BrokenVault<V>
+        ensures state { ⟦<BrokenVault<V> as Vault>⟧.state result ≡ record (V.state inner) { failures = 0 } }
+        ensures inner { inner_of result ≡ inner }
+        ensures nth { calls_left result ≡ nth }
+        ensures kept { kept_of result ≡ kept }
+    {
+        BrokenVault {
+            inner,
+            calls_left: nth,
+            kept,
+            failures: 0,
+        }
+    }
+
+    /// The vault below.
+    pub fn inner(&self) -> &V
+        ensures { result.now ≡ inner_of self.now }
+    {
+        &self.inner
+    }
+
+    /// The vault below, taken out.
+    pub fn into_inner(self) -> V
+        ensures { result ≡ inner_of self }
+    {
+        let BrokenVault { inner, .. } = self;
+        inner
+    }
+
+    // Counts a call, and says whether it is the one that is refused.
+    fn breaks(&mut self) -> bool
+        ensures now { IsTrue result ↔ calls_left self.old ≡ 1 }
+        ensures counted { self.new ≡ record self.old { calls_left = calls_left self.old - 1 } }
+    {
+        let breaks = self.calls_left == 1;
+        self.calls_left = self.calls_left.saturating_sub(1);
+        breaks
+    }
+
+    // Counts a refusal.
+    fn refusal(&mut self, kept: usize) -> VaultFault
+        ensures told { result.kept ≡ kept }
+        ensures counted { self.new ≡ record self.old { failures = one_more self.old.failures } }
+    {
+        self.failures = self.failures.wrapping_add(1);
+        VaultFault { kept }
+    }
+
+    // Puts a piece into the vault below.
+    fn pass_on(&mut self, piece: &[u8]) -> Result<(), VaultFault>
+        requires { (V.state (inner_of self.old)).sealed ≡ false }
+        ensures law { Puts (⟦<BrokenVault<V> as Vault>⟧.state self.old) piece.now result (⟦<BrokenVault<V> as Vault>⟧.state self.new) }
+        ensures inner { Puts (V.state (inner_of self.old)) piece.now result (V.state (inner_of self.new)) }
+        ensures calls { calls_left self.new ≡ calls_left self.old }
+        ensures kept { kept_of self.new ≡ kept_of self.old }
+    {
+        if let Err(fault) = self.inner.put(piece) {
+            return Err(self.refusal(fault.kept));
+        }
+        Ok(())
+    }
+}
+
+impl<V: Vault> Vault for BrokenVault<V> {
+    ghost state = { λ v. record (V.state v.inner) { failures = v.failures } };
+
+    fn put(&mut self, piece: &[u8]) -> Result<(), VaultFault>
+        requires { (⟦<BrokenVault<V> as Vault>⟧.state self.old).sealed ≡ false }
+        ensures law { Puts (⟦<BrokenVault<V> as Vault>⟧.state self.old) piece.now result (⟦<BrokenVault<V> as Vault>⟧.state self.new) }
+        // The call that is refused.
+        ensures breaks { calls_left self.old ≡ 1
+            → IsErrAnd result (Broke (kept_of self.old) (V.state (inner_of self.old)) piece.now (V.state (inner_of self.new))) }
+        // Any other.
+        ensures passes { calls_left self.old ≢ 1 → Puts (V.state (inner_of self.old)) piece.now result (V.state (inner_of self.new)) }
+        ensures calls { calls_left self.new ≡ calls_left self.old - 1 }
+        ensures kept { kept_of self.new ≡ kept_of self.old }
+    {
+        if !self.breaks() {
+            return self.pass_on(piece);
+        }
+        let kept = self.kept.min(piece.len());
+        self.pass_on(&piece[..kept])?;
+        Err(self.refusal(kept))
+    }
+
+    fn seal(&mut self) -> Result<(), VaultFault>
+        requires { (⟦<BrokenVault<V> as Vault>⟧.state self.old).sealed ≡ false }
+        ensures law { Seals (⟦<BrokenVault<V> as Vault>⟧.state self.old) result (⟦<BrokenVault<V> as Vault>⟧.state self.new) }
+        ensures breaks { calls_left self.old ≡ 1 → IsErr result × (inner_of self.new ≡ inner_of self.old) }
+        ensures passes { calls_left self.old ≢ 1 → Seals (V.state (inner_of self.old)) result (V.state (inner_of self.new)) }
+        ensures calls { calls_left self.new ≡ calls_left self.old - 1 }
+        ensures kept { kept_of self.new ≡ kept_of self.old }
+    {
+        if self.breaks() {
+            return Err(self.refusal(0));
+        }
+        if self.inner.seal().is_err() {
+            return Err(self.refusal(0));
+        }
+        Ok(())
+    }
+}
