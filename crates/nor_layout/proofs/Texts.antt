@@ -1,9 +1,9 @@
 -- What the lines of a text say, line by line.
-use Rattle.std.proofs.Common.{◌≡◌, ℕ, ◌+◌, ◌<◌, ◌≤◌, ◌||◌, false, ltb, eqb, List, [], ◌∷◌, ◌++◌, length, get_or, drop, Option, Some, None, Result, Ok, Err, refl, sym, ap, ◌∙◌, inl, inr, arith}
+use Rattle.std.proofs.Common.{◌≡◌, ℕ, ◌+◌, ◌<◌, ◌≤◌, ◌||◌, false, ltb, eqb, List, [], ◌∷◌, ◌++◌, length, get_or, take, drop, append_assoc, Option, Some, None, Result, Ok, Err, refl, sym, ap, ◌∙◌, inl, inr, arith}
 use Rattle.std.specs.Str.{bytes_eq}
 use Rattle.std.specs.List.{AllByRecursion}
 use Rattle.std.proofs.lemmas.Bool.{cases_Bool, ltb-true, ltb-false, both_ways, false_from_ne_true, or_parts, or_from}
-use Rattle.std.proofs.lemmas.List.{drop_more, at_drop_all, length-append}
+use Rattle.std.proofs.lemmas.List.{take_more, drop_more, at_drop_all, take-append-drop, length-take-le, length-append, append-nil}
 use Rattle.std.proofs.lemmas.List.Folds.{list_any-append}
 use Rattle.std.proofs.lemmas.List.Sums.{count_by-le-length}
 use Rattle.std.proofs.lemmas.List.Splits.{length-slice_split}
@@ -11,9 +11,11 @@ use Rattle.std.proofs.lemmas.Slice.Eq.{bytes_eq-Decides}
 use Rattle.nor_layout.specs.declared.region.Region.{Region}
 use Rattle.nor_layout.specs.declared.fault.LineFault.{LineFault}
 use Rattle.nor_layout.specs.declared.fault.LayoutFault.{LayoutFault}
+use Rattle.nor_layout.specs.declared.fault.LayoutFault.TheVariants.{InLine, TooMany, Memory, NoRegion}
 use Rattle.nor_layout.specs.Address.{address_of}
 use Rattle.nor_layout.specs.Line.{Parts, parts_of, is_name, region_of, parts_say, line_says}
-use Rattle.nor_layout.specs.Text.{◌>>=◌, lines_of, is_named, joins, joins_or_fault, with_line, lines_say, layout_says, AreNamedApart, AreRegions}
+use Rattle.nor_layout.specs.Text.{◌>>=◌, lines_of, is_named, joins, joins_or_fault, with_line, lines_say, layout_says, AreNamedApart, AreRegions, AsksMemory}
+use Rattle.nor_layout.specs.Steps.{Adds}
 
 -- ---- what a line adds
 
@@ -128,3 +130,44 @@ no_lines text = refl
 
 pub no_regions : AreRegions []
 no_regions = record { few = omega arith; forward = tt; named_apart = tt }
+
+-- ---- the lines that were read
+
+-- the first n lines give these regions, whatever follows them
+abbrev pub Gives : List (List ℕ) → ℕ → List Region → Type 0
+Gives lines n regions = (after : List (List ℕ)) → lines_say [] 1 (take n lines ++ after) ≡ lines_say regions (n + 1) after
+
+pub gives_none : (lines : List (List ℕ)) → Gives lines 0 []
+gives_none lines after = refl
+
+pub gives_more : (lines : List (List ℕ)) (n : ℕ) (d : List ℕ) (regions more : List Region) → n < length lines → with_line regions (n + 1) (get_or lines n d) ≡ Ok more → Gives lines n regions → Gives lines (n + 1) more
+unfolding lines_say
+gives_more lines n d regions more lt e gives after =
+    ap (λ (xs : List (List ℕ)). lines_say [] 1 (xs ++ after)) (take_more lines n d lt)
+    ∙ ap (lines_say [] 1) (append_assoc (take n lines) (get_or lines n d ∷ []) after)
+    ∙ gives (get_or lines n d ∷ after)
+    ∙ ap (λ (r : Result (List Region) LayoutFault). r >>= λ (all : List Region). lines_say all (n + 1 + 1) after) e
+
+given_whole : (lines : List (List ℕ)) (n : ℕ) (regions : List Region) → Gives lines n regions → lines_say [] 1 (take n lines) ≡ Ok regions
+unfolding lines_say
+given_whole lines n regions gives = ap (lines_say [] 1) (sym (append-nil (take n lines))) ∙ gives []
+
+-- a line that is refused memory gives one more region
+pub asks_memory : (text : List ℕ) (n : ℕ) (d : List ℕ) (regions new : List Region) (fault : LayoutFault) → n < length (lines_of text) → Gives (lines_of text) n regions
+    → Adds regions new (Err fault) (with_line regions (n + 1) (get_or (lines_of text) n d)) → fault ≡ Memory → AsksMemory text
+asks_memory text n d regions new Memory lt gives e memory =
+    let lines = lines_of text in
+    let long : length (take n (lines_of text)) ≡ n = length-take-le n (lines_of text) (omega arith) in
+    record {
+      before = take n lines;
+      line = get_or lines n d;
+      after = drop (n + 1) lines;
+      lines_are = sym (take-append-drop n lines) ∙ ap (λ (xs : List (List ℕ)). take n lines ++ xs) (drop_more lines n d lt);
+      regions = regions;
+      whole = given_whole lines n regions gives;
+      region = e.0;
+      more = rw long e.1;
+    }
+asks_memory text n d regions new (InLine line fault) lt gives e memory = absurd cc
+asks_memory text n d regions new TooMany lt gives e memory = absurd cc
+asks_memory text n d regions new NoRegion lt gives e memory = absurd cc

@@ -62,3 +62,14 @@ abbrev pub Reads : Result (List Region) LayoutFault → Result (List Region) Lay
 Reads (Ok regions) said = said ≡ Ok regions
 Reads (Err Memory) said = said ≢ Ok []
 Reads (Err fault) said = said ≡ Err fault
+
+-- Memory is asked for: some lines give regions without a fault, and the next one gives one more.
+pub record AsksMemory (text : List ℕ) : Type 0 where
+  pub before : List (List ℕ)
+  pub line : List ℕ
+  pub after : List (List ℕ)
+  pub lines_are : lines_of text ≡ before ++ line ∷ after
+  pub regions : List Region
+  pub whole : lines_say [] 1 before ≡ Ok regions
+  pub region : Region
+  pub more : with_line regions (length before + 1) line ≡ Ok (regions ++ region ∷ [])

@@ -1,7 +1,7 @@
 //! Layout texts, and the addresses that names of their regions include.
 
 ghost use Rattle.std.specs.Prelude.{◌≡◌, ◌↔◌, ℕ, List, IsTrue, IsOk, IfOk, IfErr};
-ghost use Rattle.nor_layout.specs.Text.{is_named, with_line, layout_says, AreRegions, Reads};
+ghost use Rattle.nor_layout.specs.Text.{is_named, with_line, layout_says, AreRegions, Reads, AsksMemory};
 ghost use Rattle.nor_layout.specs.Grammar.{IsLayout};
 ghost use Rattle.nor_layout.specs.Included.{are_known, is_included};
 ghost use Rattle.nor_layout.specs.Ranges.{AreRanges, contains};
@@ -93,8 +93,9 @@ impl Layout {
     /// that has one is told. `Memory` comes only where an allocation was refused.
     pub fn read(alloc: Global, text: &[u8]) -> Result<Layout, LayoutFault>
         // The regions of the lines, in order, or the first fault of the first line that has one. Else
-        // memory was refused, for which no text without a region asks.
+        // memory was refused to one more region, behind lines that have no fault.
         ensures exact { Reads result (layout_says text.now) }
+        ensures asks { IfErr result (λ fault. fault ≡ LayoutFault.Memory → AsksMemory text.now) }
 
         // What is read is in the grammar, and what is in the grammar is read.
         ensures found { IfOk result (λ layout. IsLayout text.now layout) }

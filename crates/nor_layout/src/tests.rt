@@ -110,6 +110,17 @@ fn a_line_is_read(rt: HostRuntime) -> Result<(), Fail> {
 }
 
 #[test]
+fn a_name_has_up_to_32_bytes(rt: HostRuntime) -> Result<(), Fail> {
+    let text = b"0:fff abcdefghijklmnopqrstuvwxyz012345";
+    for length in 1..=32 {
+        let layout = Layout::read(rt.alloc(), &text[..6 + length])?;
+        assert_eq!(rt; layout.regions().len(), 1);
+        assert_eq!(rt; layout.regions()[0].name.len(), length);
+    }
+    Ok(())
+}
+
+#[test]
 fn a_line_has_its_first_fault(rt: HostRuntime) {
     let rows: [(&[u8], LineFault); 14] = [
         (b": x", LineFault::Address),

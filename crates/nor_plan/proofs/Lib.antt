@@ -1,5 +1,7 @@
 pub mod Agreement
 pub mod Blocks
+pub mod Changed
+pub mod Counting
 pub mod Coverage
 pub mod Ends
 pub mod Fewest

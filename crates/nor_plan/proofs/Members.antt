@@ -1,11 +1,13 @@
 -- The members of a set, one after the other.
-use Rattle.std.proofs.Common.{ℕ, ◌≡◌, ◌<◌, ◌≤◌, ◌+◌, ◌-◌, true, [], ◌∷◌, length, ap, ◌∙◌, inl, inr, arith}
+use Rattle.std.proofs.Common.{ℕ, ◌≡◌, ◌<◌, ◌≤◌, ◌+◌, ◌-◌, true, [], ◌∷◌, length, refl, ap, ◌∙◌, inl, inr, arith}
 use Rattle.std.specs.Prelude.{count_by}
 use Rattle.std.specs.List.{range_with_len}
 use Rattle.std.proofs.lemmas.Bool.{cases_lt, both_ways}
 use Rattle.std.proofs.lemmas.List.Sums.{length-filter}
 use Rattle.nor_plan.specs.declared.set.SectorSet.{SectorSet}
-use Rattle.nor_plan.specs.SectorSet.{has, members_from, LiesBelow, NoneFrom, IsLeastFrom}
+use Rattle.nor_plan.specs.SectorSet.{has, members_from, sector_count, LiesBelow, NoneFrom, IsLeastFrom}
+use Rattle.nor_plan.specs.Counts.{IsCount}
+use Rattle.nor_plan.proofs.Counting.{count_by-range}
 use Rattle.nor_plan.proofs.Places.{passing, passing-none, passing-first, passing-same, length-passing}
 use Rattle.nor_plan.proofs.Words.{none_past}
 
@@ -37,10 +39,13 @@ has-small set long s member = elim (cases_lt s 4096) [
 ]
 
 -- they are as many as are counted below any number that none of them reaches
-pub length-members-below : (set : SectorSet) → length set.words ≡ 64 → (from end : ℕ) → from ≡ 0 → LiesBelow set end → length (members_from set from) ≡ count_by (has set) (range_with_len from end)
+length-members-range : (set : SectorSet) → length set.words ≡ 64 → (from end : ℕ) → from ≡ 0 → LiesBelow set end → length (members_from set from) ≡ count_by (has set) (range_with_len from end)
 unfolding members_from
-length-members-below set long from end start below =
+length-members-range set long from end start below =
     ap length (passing-same (has set) from (4096 - from) end
     (λ s member. let small : s < 4096 = has-small set long s member in omega arith)
     (λ s member. let under : s < end = below s member in omega arith))
     ∙ length-filter (has set) (range_with_len from end)
+
+pub sector_count-is : (set : SectorSet) → length set.words ≡ 64 → (count : ℕ → ℕ) (end : ℕ) → IsCount (has set) count → LiesBelow set end → sector_count set ≡ count end
+sector_count-is set long count end is below = length-members-range set long 0 end refl below ∙ count_by-range (has set) count is end

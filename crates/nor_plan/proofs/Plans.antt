@@ -2,10 +2,10 @@
 use Rattle.std.proofs.Common.{ℕ, ◌≡◌, ◌<◌, Bool, true, false, List, length, get_or, bit_and, sym, ap, ◌∙◌, arith}
 use Rattle.std.specs.Prelude.{MatchBool}
 use Rattle.nor_plan.specs.declared.plan.SectorPlan.{SectorPlan}
-use Rattle.nor_plan.specs.Bytes.{AllAgree, SomeDiffer, NoneRises, SomeRise, IsWithinBits}
+use Rattle.nor_plan.specs.Bytes.{AllAgree, SomeDiffer, NoneRises, SomeRise}
 use Rattle.nor_plan.specs.Plan.{AreBytesOf, IsPlan}
 
-MatchBool-map : (b : Bool) {P Q R S : Type 0} → (P → R) → (Q → S) → MatchBool b P Q → MatchBool b R S
+pub MatchBool-map : (b : Bool) {P Q R S : Type 0} → (P → R) → (Q → S) → MatchBool b P Q → MatchBool b R S
 MatchBool-map true f g h = f h
 MatchBool-map false f g h = g h
 

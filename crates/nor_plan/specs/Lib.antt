@@ -1,4 +1,5 @@
 pub mod Bytes
+pub mod Counts
 pub mod Erase
 pub mod Erases
 pub mod Mask

@@ -1,7 +1,8 @@
 //! The fewest erases for a set of sectors.
 
-ghost use Rattle.std.specs.Prelude.{◌≡◌, ◌+◌, ◌*◌, ◌/◌, ◌^◌, ◌<◌, ◌≤◌, List, length};
+ghost use Rattle.std.specs.Prelude.{◌≡◌, ◌+◌, ◌*◌, ◌/◌, ◌^◌, ◌<◌, ◌≤◌, ℕ, List, length};
 ghost use Rattle.nor_driver.specs.Units.{is_aligned};
+ghost use Rattle.nor_plan.specs.Counts.{IsCount};
 ghost use Rattle.nor_plan.specs.Erase.{Covers};
 ghost use Rattle.nor_plan.specs.Planned.{holds_block, holds_run, unit_at, planned, HeadsPlanned};
 ghost use Rattle.nor_plan.specs.Erases.{erases_left};
@@ -27,6 +28,8 @@ pub fn erases(set: &SectorSet, kinds: Kinds, size: u32) -> Erases
     ensures covers { Covers kinds (size / 4096) (erases_left result) (has set.now) }
     ensures fewest { (others : List Erase) → Covers kinds (size / 4096) others (has set.now) → length (erases_left result) ≤ length others }
     ensures few { length (erases_left result) ≤ sector_count set.now }
+    ensures counted { (count : ℕ → ℕ) (end : ℕ) → IsCount (has set.now) count
+        → LiesBelow set.now end → length (erases_left result) ≤ count end }
     ensures planned { erases_left result ≡ planned kinds (size / 4096) (has set.now) }
 {
     let whole = is_run(set, 0, size / SECTOR);

@@ -10,9 +10,9 @@ pub struct SectorSet {
 }
 
 impl SectorSet {
-    ghost use Rattle.std.specs.Prelude.{◌≡◌, ◌<◌, ℕ, MatchBool, MatchOption, count_by};
+    ghost use Rattle.std.specs.Prelude.{◌≡◌, ◌<◌, ℕ, MatchBool, MatchOption};
     ghost use Rattle.nor_plan.specs.SectorSet.{has, IsEmpty, HasSome, Inserts, NoneFrom, IsLeastFrom, LiesBelow, members, sector_count};
-    ghost use Rattle.std.specs.List.{range_with_len};
+    ghost use Rattle.nor_plan.specs.Counts.{IsCount};
     ghost use Rattle.nor_plan.specs.Sectors.{sectors_left};
 
     /// The empty set.
@@ -51,8 +51,8 @@ impl SectorSet {
     /// How many sectors are in the set.
     pub fn len(&self) -> usize
         ensures count { result ≡ sector_count self.now }
-        ensures below { (end : ℕ) → LiesBelow self.now end
-            → result ≡ count_by (has self.now) (range_with_len 0 end) }
+        ensures below { (count : ℕ → ℕ) (end : ℕ) → IsCount (has self.now) count
+            → LiesBelow self.now end → result ≡ count end }
     {
         self.iter().count()
     }
