@@ -1,21 +1,24 @@
 //! Sessions that change a flash chip and can be undone, the restores that undo them, and rehearsals of both.
 #![tactic(auto)]
 
-mod carrying;
-mod judging;
-mod opening;
+mod apply;
+mod command;
+mod compare;
+mod journal;
+mod keep;
+mod probe;
 mod refusal;
 mod rehearsals;
 mod report;
 mod restores;
-mod saving;
-mod scanning;
+mod scan;
 mod sessions;
-mod sources;
 
-pub use refusal::Refusal;
-pub use rehearsals::{Rehearsal, rehearse};
-pub use report::{Report, Request, What};
+pub use journal::Journal;
+pub use probe::Found;
+pub use refusal::{Halt, Refusal, SfdpFault};
+pub use rehearsals::{Rehearsal, SESSION_BOUND, rehearse};
+pub use report::{Job, Report, Request};
 pub use restores::restore;
 pub use sessions::session;
 

@@ -1,59 +1,53 @@
 //! Why a call gave up.
 ghost use Rattle.std.specs.Prelude.{◌≡◌, ◌↔◌, IsTrue};
+ghost use Rattle.nor_session.specs.declared.refusal.Halt.{Halt};
+ghost use Rattle.nor_session.specs.Refusal.{refusal_of, halt_of};
 ghost use Rattle.nor_session.specs.declared.refusal.Refusal.TheVariants as Refusals;
-ghost use Rattle.nor_session.specs.Refusal.{of_probe, of_halt, of_check};
 
-use nor_apply::CheckFault;
 use nor_chip::Stopped;
-use nor_driver::Halt;
-use nor_journal::{JournalFault, VaultFault};
-use nor_probe::{ProbeFault, SfdpFault};
+use nor_journal::VaultFault;
 
-/// Why a call gave up. Each refusal has a number of its own, `number`. Those from 1 to 10 are judged in this order,
-/// and the first that holds is the answer.
+/// Why SFDP bytes were refused. (JESD216; until the probe has its crate, the one fault that is told.)
+#[derive(Clone, Copy, Debug, PartialEq, Eq)]
+pub enum SfdpFault {
+    /// 1: the signature is another, or the chip isn't one that is known.
+    Signature,
+}
+
+/// What may end the part of a session or restore that changes the chip.
+#[derive(Clone, Copy, Debug, PartialEq, Eq)]
+pub enum Halt {
+    /// The bus stopped.
+    Stopped,
+    /// 65,536 polls in a row showed BUSY, after the command for this address.
+    Timeout { address: u32 },
+    /// Bytes that were read back differ, first at this address.
+    Mismatch { address: u32 },
+}
+
+/// Why a session, a restore or a rehearsal gave up. Each refusal has a number of its own, `number`.
 #[derive(Clone, Copy, Debug, PartialEq, Eq)]
 pub enum Refusal {
     /// 1: nothing drives the bus: the ID is `FF FF FF` or `00 00 00`.
     NoChip,
-    /// 2: the chip isn't in the table, and its SFDP is refused.
+    /// 2: the chip isn't known, and its SFDP bytes are refused.
     UnknownChip(SfdpFault),
-    /// 3: the chip has another name than the one given.
-    OtherName,
     /// 4: image and chip have other lengths, in bytes.
     ImageSize { chip: u32, image: usize },
-    /// 5: an included address isn't on the chip.
-    RegionOutside,
-    /// 6: the chip has no block protection.
-    NoProtection,
-    /// 7: the datasheets don't define the chip's protection code.
-    UndefinedProtection,
-    /// 8: no protection code guards exactly the range.
-    RangeNotOffered,
-    /// 9: a status write is needed, and the status is locked.
-    StatusLocked,
-    /// 10: a sector that would change is guarded, the least of them at this address.
-    Protected { address: u32 },
     /// 11: the vault refused a piece of the journal, or its seal.
     Vault,
     /// 12: the bus stopped.
     Stopped,
-    /// 13: 65,536 polls in a row showed BUSY. The address is that of the command waited for; 0 in the opening, for the
-    /// erase of the chip and for a status write.
+    /// 13: 65,536 polls in a row showed BUSY; the address is that of the command waited for, 0 in the opening.
     Timeout { address: u32 },
     /// 14: bytes that were read back differ, first at this address.
     Mismatch { address: u32 },
     /// 15: the bytes are no journal.
-    BadJournal(JournalFault),
+    BadJournal,
     /// 16: ID or size differ from the journal's.
     OtherChip,
     /// 17: a status bit that no restore may set differs from the journal's.
     StatusDiffers,
-    /// 18: memory was refused.
-    Memory,
-    /// 19: the output was refused, after so many bytes.
-    Output { written: u64 },
-    /// 20: the chip is another unit than the journal's: its unique ID is another.
-    OtherUnit,
 }
 
 impl Refusal {
@@ -66,27 +60,19 @@ impl Refusal {
         match self {
             Refusal::NoChip => 1,
             Refusal::UnknownChip(_) => 2,
-            Refusal::OtherName => 3,
             Refusal::ImageSize { .. } => 4,
-            Refusal::RegionOutside => 5,
-            Refusal::NoProtection => 6,
-            Refusal::UndefinedProtection => 7,
-            Refusal::RangeNotOffered => 8,
-            Refusal::StatusLocked => 9,
-            Refusal::Protected { .. } => 10,
             Refusal::Vault => 11,
             Refusal::Stopped => 12,
             Refusal::Timeout { .. } => 13,
             Refusal::Mismatch { .. } => 14,
-            Refusal::BadJournal(_) => 15,
+            Refusal::BadJournal => 15,
             Refusal::OtherChip => 16,
             Refusal::StatusDiffers => 17,
-            Refusal::Memory => 18,
-            Refusal::Output { .. } => 19,
-            Refusal::OtherUnit => 20,
         }
     }
+}
 
+impl Refusal {
     /// The bus stopped.
     pub fn is_stopped(self) -> bool
         ensures { IsTrue result ↔ (self ≡ Refusals.Stopped) }
@@ -95,38 +81,14 @@ impl Refusal {
     }
 }
 
-impl From<ProbeFault> for Refusal {
-    ghost from_gives = { λ fault refusal. refusal ≡ of_probe fault };
-
-    fn from(fault: ProbeFault) -> Refusal {
-        match fault {
-            ProbeFault::NoChip => Refusal::NoChip,
-            ProbeFault::UnknownChip(fault) => Refusal::UnknownChip(fault),
-            ProbeFault::OtherName => Refusal::OtherName,
-            ProbeFault::Stopped => Refusal::Stopped,
-            ProbeFault::Timeout => Refusal::Timeout { address: 0 },
-        }
-    }
-}
-
 impl From<Halt> for Refusal {
-    ghost from_gives = { λ halt refusal. refusal ≡ of_halt halt };
+    ghost from_gives = { λ halt refusal. refusal ≡ refusal_of halt };
 
     fn from(halt: Halt) -> Refusal {
         match halt {
             Halt::Stopped => Refusal::Stopped,
             Halt::Timeout { address } => Refusal::Timeout { address },
-        }
-    }
-}
-
-impl From<CheckFault> for Refusal {
-    ghost from_gives = { λ fault refusal. refusal ≡ of_check fault };
-
-    fn from(fault: CheckFault) -> Refusal {
-        match fault {
-            CheckFault::Stopped => Refusal::Stopped,
-            CheckFault::Mismatch { address } => Refusal::Mismatch { address },
+            Halt::Mismatch { address } => Refusal::Mismatch { address },
         }
     }
 }
@@ -144,5 +106,24 @@ impl From<VaultFault> for Refusal {
 
     fn from(_: VaultFault) -> Refusal {
         Refusal::Vault
+    }
+}
+
+impl From<nor_driver::Halt> for Halt {
+    ghost from_gives = { λ halt told. told ≡ halt_of halt };
+
+    fn from(halt: nor_driver::Halt) -> Halt {
+        match halt {
+            nor_driver::Halt::Stopped => Halt::Stopped,
+            nor_driver::Halt::Timeout { address } => Halt::Timeout { address },
+        }
+    }
+}
+
+impl From<Stopped> for Halt {
+    ghost from_gives = { λ _ halt. halt ≡ Halt.Stopped };
+
+    fn from(_: Stopped) -> Halt {
+        Halt::Stopped
     }
 }

@@ -1,0 +1,121 @@
+use Rattle.std.proofs.Common.{◌∙◌, ◌<◌, ℕ, ap, sym, subst, arith}
+use Rattle.std.proofs.lemmas.Grind.{common_steps}
+use Rattle.std.proofs.lemmas.Bool.{true≢false}
+use Rattle.nor_chip.specs.declared.config.Config.{Config}
+use Rattle.nor_session.specs.Content.{wanted_of}
+use Rattle.nor_session.specs.Changes.{mark_at}
+use Rattle.nor_session.specs.Known.{IsId, IsKnown}
+use Rattle.nor_session.proofs.Below.{count_below-most}
+use Rattle.nor_session.proofs.Calls.{journal_from, size_of_tiny, prepared, same_content, between_from, within_between, work_from, touched_from}
+use Rattle.nor_session.proofs.sessions.session.Goals as goal
+
+pub returns-clause-bounded : goal.returns-clause-bounded
+returns-clause-bounded g c =
+    let opening = c.in_ok-opening.ensures.few in let counted = c.in_ok-marks.ensures.counted in let work = c.in_ok-work.ensures.few in let sixteen = c.from.ensures in
+    let most = count_below-most 16 (mark_at c.in_ok-marks.marks.touched) in
+    let opening' = c.in_ok-opening.ensures.least in
+    record {
+      touched = omega (arith, counted, most);
+      erases = work.erases;
+      programs = work.programs;
+      least = omega (arith, opening', counted, work.least, sixteen);
+      transactions = omega (arith, opening, counted, work.transactions, sixteen);
+    }
+
+pub returns-clause-between : goal.returns-clause-between
+returns-clause-between g c honest genuine =
+    let at_open = c.in_ok-opening.ensures in
+    let opened = at_open.looked honest in let is = at_open.opened honest in
+    let still = c.open.ensures.quiet.honest ∙ honest in
+    let scanned = c.in_ok-marks.ensures.looked still in
+    let ready = prepared c.args.image.now c.in_ok-opening.opening c.in_ok-marks.marks _ _ _ genuine opened is (c.if-image-opening.false ∙ at_open.size) scanned (λ size. c.in_ok-marks.ensures.marks still is.idle size) in
+    let still' = c.keep.ensures.quiet.honest ∙ still in
+    between_from c.args.image.now 65557 _ _ _ ready.looked (c.in_ok-work.ensures.reached still' ready.marked)
+
+pub returns-in_err-work-clause-between : goal.returns-in_err-work-clause-between
+returns-in_err-work-clause-between g c honest genuine =
+    let at_open = c.in_ok-opening.ensures in
+    let opened = at_open.looked honest in let is = at_open.opened honest in
+    let still = c.open.ensures.quiet.honest ∙ honest in
+    let scanned = c.in_ok-marks.ensures.looked still in
+    let ready = prepared c.args.image.now c.in_ok-opening.opening c.in_ok-marks.marks _ _ _ genuine opened is (c.if-image-opening.false ∙ at_open.size) scanned (λ size. c.in_ok-marks.ensures.marks still is.idle size) in
+    let still' = c.keep.ensures.quiet.honest ∙ still in
+    between_from c.args.image.now 65557 _ _ _ ready.looked (c.in_err-work.ensures.reached still' ready.marked)
+
+pub returns-clause-undone : goal.returns-clause-undone
+returns-clause-undone g c honest genuine =
+    let at_open = c.in_ok-opening.ensures in
+    let opened = at_open.looked honest in let is = at_open.opened honest in
+    let still = c.open.ensures.quiet.honest ∙ honest in
+    let scanned = c.in_ok-marks.ensures.looked still in
+    let ready = prepared c.args.image.now c.in_ok-opening.opening c.in_ok-marks.marks _ _ _ genuine opened is (c.if-image-opening.false ∙ at_open.size) scanned (λ size. c.in_ok-marks.ensures.marks still is.idle size) in
+    let still' = c.keep.ensures.quiet.honest ∙ still in
+    let between = between_from c.args.image.now 65557 _ _ _ ready.looked (c.in_ok-work.ensures.reached still' ready.marked) in
+    let within = within_between c.args.image.now _ _ ready.long ready.tiny between in
+    let sealed = c.in_ok-marks.ensures.sealed in
+    record {
+      same = λ unsealed. absurd (true≢false (sym sealed ∙ unsealed));
+      saves = λ _ telling. journal_from 65541 _ _ _ opened (c.in_ok-marks.ensures.saved still is (at_open.size ∙ sym (size_of_tiny genuine opened is)) (size_of_tiny genuine opened is) telling);
+      within = λ _. within;
+      known = λ _. subst IsKnown opened.config is.known;
+    }
+
+pub returns-in_err-work-clause-undone : goal.returns-in_err-work-clause-undone
+returns-in_err-work-clause-undone g c honest genuine =
+    let at_open = c.in_ok-opening.ensures in
+    let opened = at_open.looked honest in let is = at_open.opened honest in
+    let still = c.open.ensures.quiet.honest ∙ honest in
+    let scanned = c.in_ok-marks.ensures.looked still in
+    let ready = prepared c.args.image.now c.in_ok-opening.opening c.in_ok-marks.marks _ _ _ genuine opened is (c.if-image-opening.false ∙ at_open.size) scanned (λ size. c.in_ok-marks.ensures.marks still is.idle size) in
+    let still' = c.keep.ensures.quiet.honest ∙ still in
+    let between = between_from c.args.image.now 65557 _ _ _ ready.looked (c.in_err-work.ensures.reached still' ready.marked) in
+    let within = within_between c.args.image.now _ _ ready.long ready.tiny between in
+    let sealed = c.in_ok-marks.ensures.sealed in
+    record {
+      same = λ unsealed. absurd (true≢false (sym sealed ∙ unsealed));
+      saves = λ _ telling. journal_from 65541 _ _ _ opened (c.in_ok-marks.ensures.saved still is (at_open.size ∙ sym (size_of_tiny genuine opened is)) (size_of_tiny genuine opened is) telling);
+      within = λ _. within;
+      known = λ _. subst IsKnown opened.config is.known;
+    }
+
+pub returns-clause-done : goal.returns-clause-done
+returns-clause-done g c honest genuine =
+    let at_open = c.in_ok-opening.ensures in
+    let opened = at_open.looked honest in let is = at_open.opened honest in
+    let still = c.open.ensures.quiet.honest ∙ honest in
+    let scanned = c.in_ok-marks.ensures.looked still in
+    let ready = prepared c.args.image.now c.in_ok-opening.opening c.in_ok-marks.marks _ _ _ genuine opened is (c.if-image-opening.false ∙ at_open.size) scanned (λ size. c.in_ok-marks.ensures.marks still is.idle size) in
+    let still' = c.keep.ensures.quiet.honest ∙ still in
+    let done = c.in_ok-work.ensures in
+    let between = between_from c.args.image.now 65557 _ _ _ ready.looked (done.reached still' ready.marked) in
+    let work = work_from c.args.image.now 65557 _ _ c.in_ok-work.work ready.looked (done.counted still' ready.marked) in
+    let first = at_open.count honest in let second = c.in_ok-marks.ensures.count still in let third = done.count still' in
+    let sixteen = c.from.ensures in
+    record {
+      config = between.config;
+      bytes = λ a. done.done still' ready.marked a ∙ ap (λ (content : ℕ → ℕ). wanted_of c.args.image.now content a) (same_content 65557 _ _ ready.looked);
+      kept1 = between.kept1;
+      kept2 = between.kept2;
+      idle = done.idle still' ready.marked;
+      found_id = subst (λ (config : Config). IsId config c.in_ok-opening.opening.found.id) opened.config is.id;
+      found_size = at_open.size ∙ sym ready.tiny.size;
+      found_status = is.kept1 ∙ opened.kept1;
+      touched = touched_from c.args.image.now 65557 _ _ c.in_ok-marks.marks ready.looked ready.marked.are_right;
+      erases = work.erases;
+      programs = work.programs;
+      transactions = omega (arith, first, second, third, sixteen);
+    }
+
+pub returns-in_err-work-clause-tells : goal.returns-in_err-work-clause-tells
+returns-in_err-work-clause-tells g c honest genuine =
+    let at_open = c.in_ok-opening.ensures in
+    let opened = at_open.looked honest in let is = at_open.opened honest in
+    let still = c.open.ensures.quiet.honest ∙ honest in
+    let scanned = c.in_ok-marks.ensures.looked still in
+    let ready = prepared c.args.image.now c.in_ok-opening.opening c.in_ok-marks.marks _ _ _ genuine opened is (c.if-image-opening.false ∙ at_open.size) scanned (λ size. c.in_ok-marks.ensures.marks still is.idle size) in
+    let still' = c.keep.ensures.quiet.honest ∙ still in
+    let halts = c.in_err-work.ensures.stops still' ready.marked in
+    let looked = ready.looked in
+    let below : (g.B.Bus.state c.args.bus.now).left < 17891925 = omega (arith, halts.below, looked.bound) in
+    let left = halts.none_left in let stopped = halts.stopped in
+    grind (arith, common_steps, below, left, stopped)

@@ -1,0 +1,15 @@
+pub mod Fair
+pub mod Refusal
+pub mod Looks
+pub mod Operates
+pub mod Content
+pub mod Changes
+pub mod Marks
+pub mod Work
+pub mod Known
+pub mod Journal
+pub mod Reading
+pub mod Keeping
+pub mod Session
+pub mod Restore
+pub mod Rehearsal
