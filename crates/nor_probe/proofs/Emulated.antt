@@ -17,7 +17,8 @@ use Rattle.nor_probe.specs.declared.table.Part.{Part}
 use Rattle.nor_probe.specs.declared.probes.ProbeFault.{ProbeFault}
 use Rattle.nor_probe.specs.declared.probes.ProbeFault.TheVariants.{NoChip}
 use Rattle.nor_probe.specs.Table.{w25q64fv, w25q128fv, part_of}
-use Rattle.nor_probe.specs.Known.{id_of, is_no_chip, shown, pointer_in, chip_says, part_by_sfdp, listed_or, HasGeometry, IsKnown}
+use Rattle.nor_driver.specs.Reads.{id_of, shown}
+use Rattle.nor_probe.specs.Known.{is_no_chip, pointer_in, chip_says, part_by_sfdp, listed_or, HasGeometry, IsKnown}
 
 -- 64 KiB in bits has a single one
 one_one : ones 1 ≡ 1

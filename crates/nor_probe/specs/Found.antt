@@ -8,10 +8,12 @@ use Rattle.nor_probe.specs.declared.table.ChipName.{ChipName}
 use Rattle.nor_probe.specs.declared.table.ChipName.TheVariants.{Sfdp}
 use Rattle.nor_probe.specs.declared.table.Part.{Part}
 use Rattle.nor_probe.specs.declared.probes.Found.{Found}
+use Rattle.nor_probe.specs.declared.probes.Probed.{Probed}
 use Rattle.nor_probe.specs.declared.probes.ProbeFault.{ProbeFault}
 use Rattle.nor_probe.specs.declared.probes.ProbeFault.TheVariants.{NoChip, UnknownChip, OtherName, Stopped, Timeout}
 use Rattle.nor_probe.specs.Table.{part_of}
-use Rattle.nor_probe.specs.Looks.{RanOut, latch_when_idle}
+use Rattle.nor_driver.specs.Looks.{Rested, RanOut}
+use Rattle.nor_driver.specs.Waits.{latch_when_idle}
 use Rattle.nor_probe.specs.Known.{id_of, is_no_chip, shown_as, IsKnown}
 
 -- the part that was found
@@ -43,18 +45,21 @@ pub record IsPart (found : Found) : Type 0 where
   pub at_least : 65536 ≤ found.size
   pub at_most : found.size ≤ 16777216
   pub in_blocks : found.size % 65536 ≡ 0
-  pub least : 1 + reads_of found.id ≤ found.transactions
-  pub most : found.transactions ≤ 65540
+
+-- Whatever the bus: so many transactions a probe takes.
+pub record IsCounted (probed : Probed) : Type 0 where
+  pub least : 1 + reads_of probed.found.id ≤ probed.transactions
+  pub most : probed.transactions ≤ 65540
 
 -- On an honest bus: the part is what the chip shows itself as, the chip is idle, and the status is the chip's. The
 -- chip's bytes, kept bits and worn sectors are as they were, since it was only looked at.
 pub record Finds (old new : BusState) (found : Found) : Type 0 where
+  pub rested : Rested old new
   pub part : shown_as old.chip.config ≡ Ok (part_in found)
   pub idle : new.chip.busy ≡ 0
   pub latch : new.chip.latch ≡ latch_when_idle old.chip
   pub status1 : found.status1 ≡ status1_of new.chip
-  pub transactions : found.transactions ≡ needed old.chip
-  pub count : old.left ≡ new.left + found.transactions
+  pub count : old.left ≡ new.left + needed old.chip
 
 -- What was found is the configuration of a known chip.
 pub record IsConfigOf (config : Config) (found : Found) : Type 0 where
@@ -71,10 +76,15 @@ pub record HasOtherName (named : Option ChipName) (config : Config) : Type 0 whe
   pub shown : shown_as config ≡ Ok part
   pub other : ¬ IsWanted named part.name
 
+-- On an honest bus, a probe that told of the chip what it is had all the transactions that it takes.
+pub record HasProbed (old new : BusState) : Type 0 where
+  pub rested : Rested old new
+  pub count : old.left ≡ new.left + needed old.chip
+
 -- what a fault tells, on an honest bus: 65,540 transactions are always enough
 abbrev pub Tells : Option ChipName → BusState → BusState → ProbeFault → Type 0
-Tells named old new NoChip = (shown_as old.chip.config ≡ Err NoChip) × (old.left ≡ new.left + needed old.chip)
-Tells named old new (UnknownChip fault) = (shown_as old.chip.config ≡ Err (UnknownChip fault)) × (old.left ≡ new.left + needed old.chip)
-Tells named old new OtherName = HasOtherName named old.chip.config × (old.left ≡ new.left + needed old.chip)
+Tells named old new NoChip = (shown_as old.chip.config ≡ Err NoChip) × HasProbed old new
+Tells named old new (UnknownChip fault) = (shown_as old.chip.config ≡ Err (UnknownChip fault)) × HasProbed old new
+Tells named old new OtherName = HasOtherName named old.chip.config × HasProbed old new
 Tells named old new Stopped = RanOut (needed old.chip) old new × (old.left < 65540)
 Tells named old new Timeout = ⊥

@@ -1,8 +1,7 @@
 -- What a chip shows of itself, and which chips are genuine and known.
-use Rattle.std.specs.Prelude.{◌≡◌, ◌+◌, ◌*◌, ◌%◌, ◌||◌, ℕ, Bool, false, Option, None, Some, Result, Ok, Err, List, [], ◌∷◌, map, bytes_eq, slice_index, slice_index_or, IsOk, if◌then◌else◌}
-use Rattle.std.specs.List.{range_with_len}
+use Rattle.std.specs.Prelude.{◌≡◌, ◌+◌, ◌*◌, ◌||◌, ℕ, Bool, false, Option, None, Some, Result, Ok, Err, List, [], ◌∷◌, bytes_eq, slice_index, IsOk, if◌then◌else◌}
 use Rattle.nor_chip.specs.declared.config.Config.{Config}
-use Rattle.nor_chip.specs.Chip.{sfdp_byte}
+pub use Rattle.nor_driver.specs.Reads.{id_of, shown}
 use Rattle.nor_probe.specs.declared.sfdp.Geometry.{Geometry}
 use Rattle.nor_probe.specs.declared.sfdp.SfdpFault.{SfdpFault}
 use Rattle.nor_probe.specs.declared.table.ChipName.TheVariants.{Sfdp}
@@ -12,17 +11,9 @@ use Rattle.nor_probe.specs.declared.probes.ProbeFault.TheVariants.{NoChip, Unkno
 use Rattle.nor_probe.specs.Sfdp.{sfdp_says}
 use Rattle.nor_probe.specs.Table.{part_of}
 
--- the ID: the three bytes that 9Fh replies first (W25Q64FV datasheet, Read JEDEC ID)
-abbrev pub id_of : Config → List ℕ
-id_of config = slice_index_or config.id 0 255 ∷ slice_index_or config.id 1 255 ∷ slice_index_or config.id 2 255 ∷ []
-
 -- nothing drives the bus: its lines rest high, or low
 abbrev pub is_no_chip : List ℕ → Bool
 is_no_chip of_id = bytes_eq of_id (0xFF ∷ 0xFF ∷ 0xFF ∷ []) || bytes_eq of_id (0 ∷ 0 ∷ 0 ∷ [])
-
--- so many SFDP bytes as 5Ah shows them, from an address on that is taken modulo the chip's size
-unfoldable pub shown : Config → ℕ → ℕ → List ℕ
-shown config at len = map (sfdp_byte config) (range_with_len (at % config.size) len)
 
 -- the address of the table that a parameter header points to: three bytes, low byte first (JESD216)
 abbrev pub pointer_in : List ℕ → ℕ

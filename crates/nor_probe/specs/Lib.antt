@@ -1,6 +1,5 @@
 pub mod Sfdp
 pub mod Table
-pub mod Looks
 pub mod Known
 pub mod Found
 pub mod Steps

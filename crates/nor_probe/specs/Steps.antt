@@ -9,17 +9,17 @@ use Rattle.nor_probe.specs.declared.table.Part.{Part}
 use Rattle.nor_probe.specs.declared.probes.Parameters.{Parameters}
 use Rattle.nor_probe.specs.declared.probes.ProbeFault.{ProbeFault}
 use Rattle.nor_probe.specs.declared.probes.ProbeFault.TheVariants.{NoChip, UnknownChip, OtherName, Stopped, Timeout}
-use Rattle.nor_probe.specs.declared.waits.WaitFault.{WaitFault}
-use Rattle.nor_probe.specs.declared.waits.WaitFault.TheVariants as Waits
+use Rattle.nor_driver.specs.declared.waits.Halt.{Halt}
+use Rattle.nor_driver.specs.declared.waits.Halt.TheVariants as Halts
 use Rattle.nor_probe.specs.Table.{part_of}
-use Rattle.nor_probe.specs.Looks.{RanOut}
+use Rattle.nor_driver.specs.Looks.{Rested, RanOut}
 use Rattle.nor_probe.specs.Known.{id_of, is_no_chip, shown, pointer_in, chip_says, shown_as}
 use Rattle.nor_probe.specs.Found.{reads_of}
 
 -- the fault that a wait's is told as
-abbrev pub fault_of : WaitFault → ProbeFault
-fault_of Waits.Stopped = Stopped
-fault_of Waits.Timeout = Timeout
+abbrev pub fault_of : Halt → ProbeFault
+fault_of Halts.Stopped = Stopped
+fault_of (Halts.Timeout address) = Timeout
 
 -- how many transactions tell a part of this name
 abbrev pub reads_under : ChipName → ℕ
@@ -42,7 +42,7 @@ pub record IsIdentified (of_id : List ℕ) (part : Part) : Type 0 where
 
 -- what a fault tells of an idle chip, of which the SFDP alone was read
 abbrev pub GeometryTells : BusState → BusState → ProbeFault → Type 0
-GeometryTells old new (UnknownChip fault) = (chip_says old.chip.config ≡ Err fault) × (old.left ≡ new.left + 3)
+GeometryTells old new (UnknownChip fault) = (chip_says old.chip.config ≡ Err fault) × (old.left ≡ new.left + 3) × Rested old new
 GeometryTells old new Stopped = RanOut 3 old new
 GeometryTells old new _ = ⊥
 
@@ -56,10 +56,11 @@ IsIdentityFault Timeout = ⊥
 
 -- The part of an idle chip whose ID was read, and that so many transactions were sent for it.
 pub record Identifies (old new : BusState) (part : Part) : Type 0 where
+  pub rested : Rested old new
   pub shows : shown_as old.chip.config ≡ Ok part
   pub count : old.left + 1 ≡ new.left + reads_of (id_of old.chip.config)
 
 -- what a fault tells of such a chip
 abbrev pub IdentityTells : BusState → BusState → ProbeFault → Type 0
 IdentityTells old new Stopped = (new.left ≡ 0) × (old.left + 1 < reads_of (id_of old.chip.config))
-IdentityTells old new fault = (shown_as old.chip.config ≡ Err fault) × (old.left + 1 ≡ new.left + reads_of (id_of old.chip.config))
+IdentityTells old new fault = (shown_as old.chip.config ≡ Err fault) × (old.left + 1 ≡ new.left + reads_of (id_of old.chip.config)) × Rested old new

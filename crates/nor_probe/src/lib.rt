@@ -4,9 +4,7 @@
 mod probes;
 pub mod sfdp;
 mod table;
-mod waits;
 
-pub use probes::{Found, ProbeFault, probe};
+pub use probes::{Found, ProbeFault, Probed, probe, probe_counted};
 pub use sfdp::{Geometry, Kinds, SfdpFault, read_sfdp};
 pub use table::{ChipName, Part, chips, part_of};
-pub use waits::{MOST_POLLS, WaitFault, Waited, poll, wait};

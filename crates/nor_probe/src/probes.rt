@@ -1,15 +1,16 @@
 //! Which chip is on the bus.
 
-ghost use Rattle.std.specs.Prelude.{◌≡◌, ◌≢◌, ◌≤◌, ◌<◌, ◌+◌, ◌*◌, ◌↔◌, true, Ok, length, slice_index, IsTrue, IfOk, IfErr, OnOk, OnErr};
+ghost use Rattle.std.specs.Prelude.{◌≡◌, ◌<◌, ◌+◌, ◌^◌, ◌↔◌, true, Ok, IsTrue, IfOk, IfErr, OnOk, OnErr};
 ghost use Rattle.nor_chip.specs.Size.{is_chip_size};
 ghost use Rattle.nor_probe.specs.declared.probes.ProbeFault.TheVariants as Faults;
-ghost use Rattle.nor_probe.specs.Looks.{Quiet, Looked, RanOut};
-ghost use Rattle.nor_probe.specs.Known.{id_of, shown, chip_says, is_no_chip, IsGenuine};
-ghost use Rattle.nor_probe.specs.Found.{Finds, IsConfigOf, IsPart, IsWanted, Tells};
+ghost use Rattle.nor_driver.specs.Looks.{Looks, Rested, RunsOut};
+ghost use Rattle.nor_probe.specs.Known.{id_of, pointer_in, chip_says, is_no_chip, IsGenuine};
+ghost use Rattle.nor_probe.specs.Found.{needed, Finds, IsConfigOf, IsCounted, IsPart, IsWanted, Tells};
 ghost use Rattle.nor_probe.specs.Steps.{AreParameters, Identifies, GeometryTells, IdentityTells, IsIdentified, IsIdentityFault, reads_under, fault_of};
 
-use crate::{ChipName, Geometry, Kinds, Part, SfdpFault, WaitFault, part_of, read_sfdp, wait};
+use crate::{ChipName, Geometry, Kinds, Part, SfdpFault, part_of, read_sfdp};
 use nor_chip::{Bus, Stopped};
+use nor_driver::{Halt, read_id, wait};
 
 #[cfg(test)]
 mod tests;
@@ -43,24 +44,44 @@ pub struct Found {
     pub scheme: bool,
     /// Status 1, as the last poll replied it.
     pub status1: u8,
-    /// How many transactions the probe sent.
+}
+
+/// The chip that was found, and how many transactions the probe sent.
+#[derive(Clone, Copy, Debug, PartialEq, Eq)]
+pub struct Probed {
+    pub found: Found,
     pub transactions: u64,
 }
 
 /// Tells which chip is on the bus: waits until it is idle, reads its ID, and where that isn't in the table also
 /// its SFDP. Where a name is given the chip must have it.
-#[tactic(auto, using(crate::proofs::Sizes::size_at_least, crate::proofs::Sizes::size_at_most, crate::proofs::Sizes::size_in_blocks))]
 pub fn probe<B: Bus>(bus: &mut B, named: Option<ChipName>) -> Result<Found, ProbeFault>
-    ensures quiet { Quiet (B.state bus.old) (B.state bus.new) }
+    ensures leaves { Looks 65540 (B.state bus.old) (B.state bus.new) }
     ensures part { IfOk result IsPart }
     ensures wanted { IfOk result (λ found. IsWanted named found.name) }
 
-    ensures looked { (B.state bus.old).honest ≡ true → Looked 65540 (B.state bus.old) (B.state bus.new) }
     ensures finds { (B.state bus.old).honest ≡ true → IfOk result (Finds (B.state bus.old) (B.state bus.new)) }
     ensures genuine { (B.state bus.old).honest ≡ true → IsGenuine (B.state bus.old).chip.config → IfOk result (IsConfigOf (B.state bus.old).chip.config) }
     ensures tells { (B.state bus.old).honest ≡ true → IfErr result (Tells named (B.state bus.old) (B.state bus.new)) }
 {
-    let waited = wait(bus)?;
+    let probed = probe_counted(bus, named)?;
+    Ok(probed.found)
+}
+
+/// The same, for a caller that goes on: it tells how many transactions were sent, too.
+#[tactic(auto, using(crate::proofs::Sizes::size_at_least, crate::proofs::Sizes::size_at_most, crate::proofs::Sizes::size_in_blocks))]
+pub fn probe_counted<B: Bus>(bus: &mut B, named: Option<ChipName>) -> Result<Probed, ProbeFault>
+    ensures leaves { Looks 65540 (B.state bus.old) (B.state bus.new) }
+    ensures part { IfOk result (λ probed. IsPart probed.found) }
+    ensures counted { IfOk result IsCounted }
+    ensures wanted { IfOk result (λ probed. IsWanted named probed.found.name) }
+
+    ensures finds { (B.state bus.old).honest ≡ true → IfOk result (λ probed. Finds (B.state bus.old) (B.state bus.new) probed.found) }
+    ensures sent { (B.state bus.old).honest ≡ true → IfOk result (λ probed. probed.transactions ≡ needed (B.state bus.old).chip) }
+    ensures genuine { (B.state bus.old).honest ≡ true → IsGenuine (B.state bus.old).chip.config → IfOk result (λ probed. IsConfigOf (B.state bus.old).chip.config probed.found) }
+    ensures tells { (B.state bus.old).honest ≡ true → IfErr result (Tells named (B.state bus.old) (B.state bus.new)) }
+{
+    let waited = wait(bus, 0)?;
     let id = read_id(bus)?;
     let part = identify(bus, id)?;
     if !is_wanted(named, part.name) {
@@ -73,37 +94,27 @@ pub fn probe<B: Bus>(bus: &mut B, named: Option<ChipName>) -> Result<Found, Prob
         kinds,
         scheme,
     } = part;
-    Ok(Found {
+    let found = Found {
         name,
         id,
         size,
         kinds,
         scheme,
         status1: waited.status1,
-        transactions: u64::from(waited.polls) + reads_of(name),
+    };
+    let transactions = u64::from(waited.polls) + reads_of(name);
+    Ok(Probed {
+        found,
+        transactions,
     })
-}
-
-// The three bytes of the ID.
-fn read_id<B: Bus>(bus: &mut B) -> Result<[u8; 3], Stopped>
-    ensures quiet { Quiet (B.state bus.old) (B.state bus.new) }
-    ensures looked { (B.state bus.old).honest ≡ true → Looked 1 (B.state bus.old) (B.state bus.new) }
-    ensures id { (B.state bus.old).honest ≡ true → (B.state bus.old).chip.busy ≡ 0 → IfOk result (λ id. id ≡ id_of (B.state bus.old).chip.config) }
-    ensures count { (B.state bus.old).honest ≡ true → OnOk result ((B.state bus.old).left ≡ (B.state bus.new).left + 1) }
-    ensures stops { (B.state bus.old).honest ≡ true → OnErr result (RanOut 1 (B.state bus.old) (B.state bus.new)) }
-{
-    let mut id = [0; 3];
-    bus.transfer(&[0x9F], &mut id)?;
-    Ok(id)
 }
 
 // The part that an idle chip with this ID is.
 fn identify<B: Bus>(bus: &mut B, id: [u8; 3]) -> Result<Part, ProbeFault>
-    ensures quiet { Quiet (B.state bus.old) (B.state bus.new) }
+    ensures leaves { Looks 3 (B.state bus.old) (B.state bus.new) }
     ensures part { IfOk result (IsIdentified id) }
     ensures faults { IfErr result IsIdentityFault }
 
-    ensures looked { (B.state bus.old).honest ≡ true → Looked 3 (B.state bus.old) (B.state bus.new) }
     ensures shown { (B.state bus.old).honest ≡ true → (B.state bus.old).chip.busy ≡ 0 → id ≡ id_of (B.state bus.old).chip.config
         → IfOk result (Identifies (B.state bus.old) (B.state bus.new)) }
     ensures tells { (B.state bus.old).honest ≡ true → (B.state bus.old).chip.busy ≡ 0 → id ≡ id_of (B.state bus.old).chip.config
@@ -134,13 +145,13 @@ fn is_no_chip(id: [u8; 3]) -> bool
 
 // What an idle chip says of itself.
 fn read_geometry<B: Bus>(bus: &mut B) -> Result<Geometry, ProbeFault>
-    ensures quiet { Quiet (B.state bus.old) (B.state bus.new) }
+    ensures leaves { Looks 3 (B.state bus.old) (B.state bus.new) }
     ensures sized { IfOk result (λ geometry. is_chip_size geometry.size ≡ true) }
     ensures faults { IfErr result IsIdentityFault }
 
-    ensures looked { (B.state bus.old).honest ≡ true → Looked 3 (B.state bus.old) (B.state bus.new) }
     ensures says { (B.state bus.old).honest ≡ true → (B.state bus.old).chip.busy ≡ 0
         → IfOk result (λ geometry. chip_says (B.state bus.old).chip.config ≡ Ok geometry) }
+    ensures rested { (B.state bus.old).honest ≡ true → OnOk result (Rested (B.state bus.old) (B.state bus.new)) }
     ensures count { (B.state bus.old).honest ≡ true → OnOk result ((B.state bus.old).left ≡ (B.state bus.new).left + 3) }
     ensures tells { (B.state bus.old).honest ≡ true → (B.state bus.old).chip.busy ≡ 0
         → IfErr result (GeometryTells (B.state bus.old) (B.state bus.new)) }
@@ -160,18 +171,18 @@ struct Parameters {
 
 // The header, the first parameter header and the table that it points to, of an idle chip.
 fn read_parameters<B: Bus>(bus: &mut B) -> Result<Parameters, Stopped>
-    ensures quiet { Quiet (B.state bus.old) (B.state bus.new) }
-    ensures looked { (B.state bus.old).honest ≡ true → Looked 3 (B.state bus.old) (B.state bus.new) }
+    ensures leaves { Looks 3 (B.state bus.old) (B.state bus.new) }
+    ensures rested { (B.state bus.old).honest ≡ true → OnOk result (Rested (B.state bus.old) (B.state bus.new)) }
     ensures shown { (B.state bus.old).honest ≡ true → (B.state bus.old).chip.busy ≡ 0 → IfOk result (AreParameters (B.state bus.old).chip.config) }
     ensures count { (B.state bus.old).honest ≡ true → OnOk result ((B.state bus.old).left ≡ (B.state bus.new).left + 3) }
-    ensures stops { (B.state bus.old).honest ≡ true → OnErr result (RanOut 3 (B.state bus.old) (B.state bus.new)) }
+    ensures halts { OnErr result (RunsOut 3 (B.state bus.old) (B.state bus.new)) }
 {
     let mut header = [0; 8];
     let mut first = [0; 8];
     let mut table = [0; 36];
-    read_parameter_bytes(bus, 0, 0, 0, &mut header)?;
-    read_parameter_bytes(bus, 0, 0, 8, &mut first)?;
-    read_parameter_bytes(bus, first[6], first[5], first[4], &mut table)?;
+    nor_driver::read_sfdp(bus, 0, &mut header)?;
+    nor_driver::read_sfdp(bus, 8, &mut first)?;
+    nor_driver::read_sfdp(bus, pointer_in(&first), &mut table)?;
     Ok(Parameters {
         header,
         first,
@@ -179,22 +190,12 @@ fn read_parameters<B: Bus>(bus: &mut B) -> Result<Parameters, Stopped>
     })
 }
 
-// SFDP bytes from an address on, whose three bytes are given, high byte first.
-fn read_parameter_bytes<B: Bus>(
-    bus: &mut B,
-    high: u8,
-    middle: u8,
-    low: u8,
-    bytes: &mut [u8],
-) -> Result<(), Stopped>
-    ensures quiet { Quiet (B.state bus.old) (B.state bus.new) }
-    ensures looked { (B.state bus.old).honest ≡ true → Looked 1 (B.state bus.old) (B.state bus.new) }
-    ensures bytes { (B.state bus.old).honest ≡ true → (B.state bus.old).chip.busy ≡ 0
-        → OnOk result (bytes.new ≡ shown (B.state bus.old).chip.config (65536 * high + 256 * middle + low) (length bytes.old)) }
-    ensures count { (B.state bus.old).honest ≡ true → OnOk result ((B.state bus.old).left ≡ (B.state bus.new).left + 1) }
-    ensures stops { (B.state bus.old).honest ≡ true → OnErr result (RanOut 1 (B.state bus.old) (B.state bus.new)) }
+// The address of the table that a parameter header points to.
+fn pointer_in(first: &[u8; 8]) -> u32
+    ensures pointer { result ≡ pointer_in first.now }
+    ensures reachable { result < 2 ^ 24 }
 {
-    bus.transfer(&[0x5A, high, middle, low, 0], bytes)
+    u32::from(first[4]) + 256 * u32::from(first[5]) + 65536 * u32::from(first[6])
 }
 
 // How many transactions tell which part a chip is: 9Fh, and where it has no name of its own three times 5Ah.
@@ -225,13 +226,13 @@ impl From<Stopped> for ProbeFault {
     }
 }
 
-impl From<WaitFault> for ProbeFault {
+impl From<Halt> for ProbeFault {
     ghost from_gives = { λ reason fault. fault ≡ fault_of reason };
 
-    fn from(fault: WaitFault) -> ProbeFault {
-        match fault {
-            WaitFault::Stopped => ProbeFault::Stopped,
-            WaitFault::Timeout => ProbeFault::Timeout,
+    fn from(halt: Halt) -> ProbeFault {
+        match halt {
+            Halt::Stopped => ProbeFault::Stopped,
+            Halt::Timeout { .. } => ProbeFault::Timeout,
         }
     }
 }

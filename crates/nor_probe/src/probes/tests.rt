@@ -3,7 +3,9 @@ ghost use Rattle.std.specs.Prelude.{false};
 ghost use Rattle.std.proofs.lemmas.Bool.{false≢true};
 ghost use Rattle.nor_probe.specs.Known.{IsKnown};
 
-use crate::{ChipName, Found, Geometry, Kinds, ProbeFault, SfdpFault, probe, read_sfdp};
+use crate::{
+    ChipName, Found, Geometry, Kinds, ProbeFault, Probed, SfdpFault, probe, probe_counted, read_sfdp,
+};
 use nor_chip::{Bus, Config, Delays, Meter, SimBus, Stopped, TINY64_SFDP, TraceBus};
 use std::alloc::Global;
 use std::test::Fail;
@@ -67,7 +69,6 @@ const TINY64: Found = Found {
     kinds: BOTH,
     scheme: false,
     status1: 0x04,
-    transactions: 5,
 };
 
 const TINY64_SENT: &str = "05 > 04\n9f > fe1010\n\
@@ -83,7 +84,6 @@ fn a_chip_of_the_table_is_found_by_its_id_alone(rt: HostRuntime) -> Result<(), F
         kinds: BOTH,
         scheme: true,
         status1: 0x04,
-        transactions: 2,
     };
     let answer = probed(&rt, rt.alloc(), w25q64fv(), None, sent)?;
     assert_eq!(rt; answer, Ok(found));
@@ -102,7 +102,6 @@ fn the_larger_chip_of_the_table(rt: HostRuntime) -> Result<(), Fail> {
         kinds: BOTH,
         scheme: true,
         status1: 0x04,
-        transactions: 2,
     };
     let named = Some(ChipName::of("W25Q128FV"));
     let answer = probed(&rt, rt.alloc(), w25q128fv(), named, sent)?;
@@ -219,14 +218,25 @@ fn a_bus_that_nothing_drives(rt: HostRuntime) -> Result<(), Fail> {
 }
 
 #[test]
+fn a_probe_tells_how_many_transactions_it_sent(rt: HostRuntime) -> Result<(), Fail> {
+    let mut bus = bus_to(rt.alloc(), tiny64(), IDLE, 100)?;
+    let by_sfdp = probe_counted(&mut bus, None);
+    assert_eq!(rt; by_sfdp.map(|probed| probed.transactions), Ok(5));
+    let mut bus = bus_to(rt.alloc(), w25q64fv(), IDLE, 100)?;
+    let by_table = probe_counted(&mut bus, None);
+    assert_eq!(rt; by_table.map(|probed| probed.transactions), Ok(2));
+    Ok(())
+}
+
+#[test]
 fn a_busy_chip_is_waited_for(rt: HostRuntime) -> Result<(), Fail> {
     let busy = Delays { now: 3, each: 0 };
     let mut bus = bus_to(rt.alloc(), tiny64(), busy, 8)?;
-    let waited = Found {
+    let waited = Probed {
+        found: TINY64,
         transactions: 8,
-        ..TINY64
     };
-    assert_eq!(rt; probe(&mut bus, None), Ok(waited));
+    assert_eq!(rt; probe_counted(&mut bus, None), Ok(waited));
     assert_eq!(rt; probe(&mut bus, None), Err(ProbeFault::Stopped));
     Ok(())
 }
@@ -238,11 +248,11 @@ fn the_longest_wait_and_one_transaction_too_few(rt: HostRuntime) -> Result<(), F
         each: 0,
     };
     let mut bus = bus_to(rt.alloc(), tiny64(), busy, 65_540)?;
-    let waited = Found {
+    let waited = Probed {
+        found: TINY64,
         transactions: 65_540,
-        ..TINY64
     };
-    assert_eq!(rt; probe(&mut bus, None), Ok(waited));
+    assert_eq!(rt; probe_counted(&mut bus, None), Ok(waited));
     let mut bus = bus_to(rt.alloc(), tiny64(), busy, 65_539)?;
     assert_eq!(rt; probe(&mut bus, None), Err(ProbeFault::Stopped));
     Ok(())
