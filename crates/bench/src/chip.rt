@@ -5,7 +5,7 @@ ghost use Rattle.bench.specs.Command.{IsCommandAt};
 use crate::fault::Fault;
 use crate::timing::{Aim, Work, compare, look_at};
 use nor_chip::{Bus, Config, Delays, Meter, SimBus};
-use nor_probe::wait;
+use nor_driver::wait;
 use std::alloc::{AllocError, Global};
 use std::rt::Clock;
 

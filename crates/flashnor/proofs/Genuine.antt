@@ -1,10 +1,11 @@
 -- The emulated chips are what they show themselves to be, and stay so when they are looked at.
-use Rattle.std.proofs.Common.{◌≡◌, ◌∙◌, ℕ, ap, arith, refl}
-use Rattle.std.specs.Prelude.{slice_index_or}
+use Rattle.std.proofs.Common.{◌≡◌, ◌∙◌, ℕ, true, inl, ap, arith, refl}
+use Rattle.std.specs.Prelude.{◌&&◌, slice_index_or}
 use Rattle.nor_chip.specs.declared.config.Config.{Config}
 use Rattle.nor_chip.specs.Bus.{BusState}
 use Rattle.nor_chip.specs.Chip.{Chip, IsSame}
-use Rattle.nor_probe.specs.Looks.{Looked}
+use Rattle.nor_driver.specs.Looks.{Looked}
+use Rattle.nor_session.specs.Fair.{fair}
 use Rattle.nor_session.specs.Known.{IsGenuine}
 use Rattle.flashnor.specs.Programmer.{IsConfigOf}
 use Rattle.flashnor.specs.declared.programmer.Emulated.{Emulated}
@@ -22,10 +23,16 @@ genuine-emulated W25q128fv config is = λ known.
     absurd (omega arith)
 
 -- a chip that is allowed to be looked at, and is
-pub same-looked : (most : ℕ) (old : Chip) (allowed new : BusState) → allowed.chip ≡ old → Looked most allowed new → IsSame old new.chip
-same-looked most old allowed new same looked = record {
-  config = looked.config ∙ ap (λ chip. chip.config) same;
-  bytes = λ a. looked.bytes a ∙ ap (λ chip. chip.bytes a) same;
-  kept1 = looked.kept1 ∙ ap (λ chip. chip.kept1) same;
-  kept2 = looked.kept2 ∙ ap (λ chip. chip.kept2) same;
-}
+pub same-looked : (most : ℕ) (old : Chip) (allowed new : BusState) → allowed.chip ≡ old → allowed.steady ≡ true → Looked most allowed new → IsSame old new.chip
+same-looked most old allowed new same steady looked =
+    let stays = looked.stays.calm (inl steady) in
+    record {
+      config = stays.config ∙ ap (λ chip. chip.config) same;
+      bytes = λ a. stays.bytes a ∙ ap (λ chip. chip.bytes a) same;
+      kept1 = stays.kept1 ∙ ap (λ chip. chip.kept1) same;
+      kept2 = stays.kept2 ∙ ap (λ chip. chip.kept2) same;
+    }
+
+-- a bus that is honest and steady is a fair one
+pub fair-both : (state : BusState) → state.honest ≡ true → state.steady ≡ true → fair state ≡ true
+fair-both state honest steady = ap (λ b. b && state.steady) honest ∙ steady

@@ -21,9 +21,9 @@ pub record Opens (programmer : Programmer) (bus : BusState) : Type 0 where
   pub steady : bus.steady ≡ true
   pub erased : programmer.image ≡ None → (a : ℕ) → a < bus.chip.config.size → bus.chip.bytes a ≡ 255
 
--- An honest bus stays honest, and its chip the same but for latch and `busy`.
+-- An honest and steady bus stays so, and its chip the same but for latch and `busy`.
 abbrev pub StaysOpen : BusState → BusState → Type 0
-StaysOpen old new = old.honest ≡ true → (new.honest ≡ true) × IsSame old.chip new.chip
+StaysOpen old new = old.honest ≡ true → old.steady ≡ true → (new.honest ≡ true) × (new.steady ≡ true) × IsSame old.chip new.chip
 
 -- how the reading of the file of this name may end a run
 abbrev pub IsReading : Text → Fault → Type 0

@@ -15,4 +15,7 @@ returns-clause-found c = λ programmer opens.
     c.probe.ensures.wanted (c.probe.ensures.finds opens.honest) (c.probe.ensures.tells opens.honest)
 
 pub returns-clause-stays : goal.returns-clause-stays
-returns-clause-stays c = λ honest. (honest, same-looked _ _ _ _ c.allow.ensures.chip (c.probe.ensures.looked honest))
+returns-clause-stays c = λ honest steady.
+    let leaves = c.probe.ensures.leaves in
+    let honest' = c.allow.ensures.honest ∙ honest in let steady' = c.allow.ensures.steady ∙ steady in
+    (leaves.honest ∙ honest', leaves.steady ∙ steady', same-looked _ _ _ _ c.allow.ensures.chip steady' (leaves.looked honest'))
