@@ -1,6 +1,6 @@
 -- Tests of the numbers below a bound.
-use Rattle.std.proofs.Common.{◌≡◌, ◌<◌, ◌≤◌, ℕ, zero, suc, Bool, true, false, refl, sym, ap, ◌∙◌, inl, inr, arith}
-use Rattle.std.specs.Prelude.{MatchBool}
+use Rattle.std.proofs.Common.{◌≡◌, ◌<◌, ◌≤◌, ◌+◌, ℕ, zero, suc, Bool, true, false, add-one, refl, sym, ap, ◌∙◌, inl, inr, arith}
+use Rattle.std.specs.Prelude.{MatchBool, if◌then◌else◌}
 use Rattle.std.proofs.lemmas.Bool.{cases_Bool, cases_eq, or_left, or_right, or_cases, both_ways}
 use Rattle.nor_layout.specs.Below.{any_below, count_below}
 
@@ -40,6 +40,15 @@ any_below-cases n test =
             | inr fails ↦ fails
           ])
     ]
+
+-- a count goes up number by number
+pub count_below-zero : (test : ℕ → Bool) → count_below 0 test ≡ 0
+unfolding count_below
+count_below-zero test = refl
+
+pub count_below-more : (n : ℕ) (test : ℕ → Bool) → count_below (n + 1) test ≡ count_below n test + (if test n then 1 else 0)
+unfolding count_below
+count_below-more n test = ap (λ (m : ℕ). count_below m test) (add-one n)
 
 -- all of them pass
 pub count_below-all : (n : ℕ) (test : ℕ → Bool) → ((k : ℕ) → k < n → test k ≡ true) → count_below n test ≡ n

@@ -5,7 +5,7 @@ use Rattle.std.specs.List.{range_with_len}
 use Rattle.std.proofs.lemmas.Bool.{cases_lt, both_ways}
 use Rattle.std.proofs.lemmas.List.Sums.{length-filter}
 use Rattle.nor_plan.specs.declared.set.SectorSet.{SectorSet}
-use Rattle.nor_plan.specs.SectorSet.{has, members_from, sector_count, LiesBelow, NoneFrom, IsLeastFrom}
+use Rattle.nor_plan.specs.SectorSet.{has, members_from, member_count, LiesBelow, NoneFrom, IsLeastFrom}
 use Rattle.nor_plan.specs.Counts.{IsCount}
 use Rattle.nor_plan.proofs.Counting.{count_by-range}
 use Rattle.nor_plan.proofs.Places.{passing, passing-none, passing-first, passing-same, length-passing}
@@ -47,5 +47,5 @@ length-members-range set long from end start below =
     (λ s member. let under : s < end = below s member in omega arith))
     ∙ length-filter (has set) (range_with_len from end)
 
-pub sector_count-is : (set : SectorSet) → length set.words ≡ 64 → (count : ℕ → ℕ) (end : ℕ) → IsCount (has set) count → LiesBelow set end → sector_count set ≡ count end
-sector_count-is set long count end is below = length-members-range set long 0 end refl below ∙ count_by-range (has set) count is end
+pub member_count-is : (set : SectorSet) → length set.words ≡ 64 → (count : ℕ → ℕ) (end : ℕ) → IsCount (has set) count → LiesBelow set end → member_count set ≡ count end
+member_count-is set long count end is below = length-members-range set long 0 end refl below ∙ count_by-range (has set) count is end

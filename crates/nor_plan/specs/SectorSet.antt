@@ -33,8 +33,8 @@ abbrev pub members : SectorSet → List ℕ
 members set = members_from set 0
 
 -- how many sectors are in the set
-abbrev pub sector_count : SectorSet → ℕ
-sector_count set = length (members set)
+abbrev pub member_count : SectorSet → ℕ
+member_count set = length (members set)
 
 -- no sector of the set is this one or above it
 abbrev pub NoneFrom : SectorSet → ℕ → Type 0

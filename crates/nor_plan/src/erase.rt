@@ -6,7 +6,7 @@ ghost use Rattle.nor_plan.specs.Counts.{IsCount};
 ghost use Rattle.nor_plan.specs.Erase.{Covers};
 ghost use Rattle.nor_plan.specs.Planned.{holds_block, holds_run, unit_at, planned, HeadsPlanned};
 ghost use Rattle.nor_plan.specs.Erases.{erases_left};
-ghost use Rattle.nor_plan.specs.SectorSet.{has, LiesBelow, sector_count};
+ghost use Rattle.nor_plan.specs.SectorSet.{has, LiesBelow, member_count};
 
 use crate::set::{SECTORS, SectorSet};
 use nor_driver::{Erase, EraseUnit};
@@ -27,7 +27,7 @@ pub fn erases(set: &SectorSet, kinds: Kinds, size: u32) -> Erases
     requires { LiesBelow set.now (size / 4096) }
     ensures covers { Covers kinds (size / 4096) (erases_left result) (has set.now) }
     ensures fewest { (others : List Erase) → Covers kinds (size / 4096) others (has set.now) → length (erases_left result) ≤ length others }
-    ensures few { length (erases_left result) ≤ sector_count set.now }
+    ensures few { length (erases_left result) ≤ member_count set.now }
     ensures counted { (count : ℕ → ℕ) (end : ℕ) → IsCount (has set.now) count
         → LiesBelow set.now end → length (erases_left result) ≤ count end }
     ensures planned { erases_left result ≡ planned kinds (size / 4096) (has set.now) }

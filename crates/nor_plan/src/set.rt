@@ -11,7 +11,7 @@ pub struct SectorSet {
 
 impl SectorSet {
     ghost use Rattle.std.specs.Prelude.{◌≡◌, ◌<◌, ℕ, MatchBool, MatchOption};
-    ghost use Rattle.nor_plan.specs.SectorSet.{has, IsEmpty, HasSome, Inserts, NoneFrom, IsLeastFrom, LiesBelow, members, sector_count};
+    ghost use Rattle.nor_plan.specs.SectorSet.{has, IsEmpty, HasSome, Inserts, NoneFrom, IsLeastFrom, LiesBelow, members, member_count};
     ghost use Rattle.nor_plan.specs.Counts.{IsCount};
     ghost use Rattle.nor_plan.specs.Sectors.{sectors_left};
 
@@ -50,7 +50,7 @@ impl SectorSet {
 
     /// How many sectors are in the set.
     pub fn len(&self) -> usize
-        ensures count { result ≡ sector_count self.now }
+        ensures count { result ≡ member_count self.now }
         ensures below { (count : ℕ → ℕ) (end : ℕ) → IsCount (has self.now) count
             → LiesBelow self.now end → result ≡ count end }
     {

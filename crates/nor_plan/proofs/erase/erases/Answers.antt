@@ -1,9 +1,9 @@
 use Rattle.std.proofs.Common.{◌≡◌, ◌≤◌, ◌/◌, List, length, rules, subst, refl, sym, arith}
 use Rattle.nor_driver.specs.declared.units.Erase.{Erase}
-use Rattle.nor_plan.specs.SectorSet.{has, sector_count}
+use Rattle.nor_plan.specs.SectorSet.{has, member_count}
 use Rattle.nor_plan.specs.Erase.{Covers}
 use Rattle.nor_plan.specs.Erases.{erases_left}
-use Rattle.nor_plan.proofs.Members.{has-small, sector_count-is}
+use Rattle.nor_plan.proofs.Members.{has-small, member_count-is}
 use Rattle.nor_plan.proofs.Coverage.{IsPlannable, planned_Covers}
 use Rattle.nor_plan.proofs.Fewest.{planned_fewest, planned_few}
 use Rattle.nor_plan.proofs.erase.erases.Goals as goal
@@ -36,13 +36,13 @@ returns-clause-fewest c others covers =
 
 pub returns-clause-few : goal.returns-clause-few
 returns-clause-few c =
-    let P : List Erase → Type 0 = λ list. length list ≤ sector_count c.args.set.now in
+    let P : List Erase → Type 0 = λ list. length list ≤ member_count c.args.set.now in
     subst P (sym c.new.ensures) (planned_few c.is_run-whole.result c.args.kinds c.args.set.now 0)
 
 pub returns-clause-counted : goal.returns-clause-counted
 returns-clause-counted c count end is below =
     let long : length c.args.set.now.words ≡ 64 = search rules in
-    let P : List Erase → Type 0 = λ list. length list ≤ sector_count c.args.set.now in
-    let few : length (erases_left c.new.result) ≤ sector_count c.args.set.now = subst P (sym c.new.ensures) (planned_few c.is_run-whole.result c.args.kinds c.args.set.now 0) in
-    let all : sector_count c.args.set.now ≡ count end = sector_count-is c.args.set.now long count end is below in
+    let P : List Erase → Type 0 = λ list. length list ≤ member_count c.args.set.now in
+    let few : length (erases_left c.new.result) ≤ member_count c.args.set.now = subst P (sym c.new.ensures) (planned_few c.is_run-whole.result c.args.kinds c.args.set.now 0) in
+    let all : member_count c.args.set.now ≡ count end = member_count-is c.args.set.now long count end is below in
     omega arith
