@@ -19,5 +19,5 @@ pub returns : goal.returns
 unfolding record_text
 returns c =
     let copied : c.copy_from_slice-2.new.self ≡ c.args.bytes.now = search rules in
-    behind _ _ _ c.copy_from_slice.ensures.len (search (rules, length-drop)) (ap length copied ∙ c.told-bytes)
+    behind _ _ _ c.copy_from_slice.ensures.len (search rules) (ap length copied ∙ c.told-bytes)
     ∙ rw (c.copy_from_slice.ensures.after, c.number_bytes.ensures, copied) refl
