@@ -1,12 +1,12 @@
 -- Which sectors a journal saves, as it is written and as it is read.
-use Rattle.std.proofs.Common.{◌≡◌, ◌≢◌, ℕ, ◌+◌, ◌*◌, ◌/◌, ◌%◌, ◌<◌, ◌≤◌, cond, eqb, Bool, true, false, List, [], length, refl, sym, ap, subst, ◌∙◌, arith, Option, Some, None, inl, inr}
+use Rattle.std.proofs.Common.{◌≡◌, ℕ, ◌+◌, ◌*◌, ◌/◌, ◌%◌, ◌<◌, ◌≤◌, cond, eqb, Bool, true, false, List, [], refl, sym, ap, subst, ◌∙◌, arith, Option, Some, None, inl, inr}
 use Rattle.std.specs.Prelude.{slice_index, IsSomeAnd, Result, Ok, Err, IsOkAnd}
 use Rattle.std.specs.Option.{is_some, unwrap_or}
 use Rattle.std.proofs.lemmas.Bool.{eq-eqb, ne_eqb}
 use Rattle.std.proofs.lemmas.Bool.Decides.{eqb_tells}
 use Rattle.nor_journal.specs.declared.writer.Writer.{Writer}
 use Rattle.nor_journal.specs.Vault.{VaultState}
-use Rattle.nor_journal.specs.Text.{Content, IsContent, SameHead, MayFollow, next_number, empty_content, with_sector, text}
+use Rattle.nor_journal.specs.Text.{Content, IsContent, SameHead, MayFollow, empty_content, with_sector, text}
 use Rattle.nor_journal.specs.Saved.{IsSector, Saves, HasOneMore, JournalSaves, saved_in, is_saved, saved_byte}
 use Rattle.nor_journal.specs.declared.fault.JournalFault.{JournalFault}
 use Rattle.nor_journal.specs.Writer.{HasWritten, HasKept}

@@ -1,5 +1,5 @@
 -- What a vault does that refuses one call, in the words of the vault below it.
-use Rattle.std.specs.Prelude.{◌≡◌, ℕ, ◌⊎◌, min, List, length, take, Result, Ok, Err, IsErrAnd}
+use Rattle.std.specs.Prelude.{◌≡◌, ℕ, ◌⊎◌, min, List, length, take}
 use Rattle.nor_journal.specs.declared.broken.BrokenVault.{BrokenVault}
 use Rattle.nor_journal.specs.declared.vault.VaultFault.{VaultFault}
 use Rattle.nor_journal.specs.Vault.{VaultState, Took, PutRefused}

@@ -1,6 +1,6 @@
 use Rattle.std.specs.Prelude.{IsTrue}
 use Rattle.nor_journal.specs.Number.{number_at}
-use Rattle.std.proofs.Common.{◌≡◌, ◌∙◌, ap, drop, refl, rules, arith, inl, inr}
+use Rattle.std.proofs.Common.{◌≡◌, ◌∙◌, ap, drop, refl, rules, arith, inl}
 use Rattle.std.proofs.lemmas.List.{take_rest}
 use Rattle.nor_journal.proofs.Heads.{first_splits}
 use Rattle.nor_journal.proofs.head.read_first.Goals as goal

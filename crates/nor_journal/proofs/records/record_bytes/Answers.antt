@@ -1,4 +1,4 @@
-use Rattle.std.proofs.Common.{◌≡◌, ℕ, List, ◌++◌, length, take, drop, sym, ap, ◌∙◌, arith, rules, refl}
+use Rattle.std.proofs.Common.{◌≡◌, ℕ, List, ◌++◌, length, drop, sym, ap, ◌∙◌, arith, rules, refl}
 use Rattle.std.proofs.lemmas.List.{take_all, take_at, length-append, length-drop, length-take}
 use Rattle.std.proofs.lemmas.Slice.{take-put_mid}
 use borrow.Rule.Slice.PartMut.{put_mid, mid_of, same_len_mid}
@@ -19,5 +19,5 @@ pub returns : goal.returns
 unfolding record_text
 returns c =
     let copied : c.copy_from_slice-2.new.self ≡ c.args.bytes.now = search rules in
-    behind _ _ _ c.copy_from_slice.ensures.len (search (rules, length-drop)) (ap length copied ∙ c.told-bytes)
+    behind _ _ _ c.copy_from_slice.ensures.len (search rules) (ap length copied ∙ c.told-bytes)
     ∙ rw (c.copy_from_slice.ensures.after, c.number_bytes.ensures, copied) refl
