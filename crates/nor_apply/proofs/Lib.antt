@@ -1,2 +1,14 @@
 pub mod Kept
 pub mod Changing
+pub mod Counting
+pub mod Alone
+pub mod ErasingUnits
+pub mod ErasingSteps
+pub mod ErasingExits
+pub mod ProgrammingPages
+pub mod ProgrammingSpans
+pub mod ProgrammingExits
+pub mod ProgrammingSectors
+pub mod ProgrammingWhole
+pub mod CheckingLooks
+pub mod CheckingSteps

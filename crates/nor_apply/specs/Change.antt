@@ -29,7 +29,7 @@ OnlyFalls sectors wanted content = (a : ℕ) → sectors (a / 4096) ≡ true →
 pub record MayChange (touched raised : ℕ → Bool) (wanted : ℕ → ℕ) (old new : BusState) : Type 0 where
   pub within : IsWithin (places_of touched) old.chip new
   pub gentle : old.steady ≡ true → (a : ℕ) → raised (a / 4096) ≡ false
-    → (new.chip.bytes a ≡ old.chip.bytes a) ⊎ (new.chip.bytes a ≡ wanted a)
+      → (new.chip.bytes a ≡ old.chip.bytes a) ⊎ (new.chip.bytes a ≡ wanted a)
   pub worn : (s : ℕ) → raised s ≡ false → new.worn s ≡ old.worn s
 
 -- At the end: the sectors have the wanted bytes, all else is as it was, and the chip is idle.

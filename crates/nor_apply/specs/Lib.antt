@@ -7,4 +7,3 @@ pub mod Erasing
 pub mod Programming
 pub mod Checking
 pub mod Protecting
-pub mod Applying

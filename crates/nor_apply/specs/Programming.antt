@@ -29,7 +29,7 @@ pub record DoesSpans (sector : ℕ) (bytes wanted : List ℕ) (old new : BusStat
   pub tallies : Tallies 0 old new tally
   pub done : old.honest ≡ true → CanProgramSpans sector bytes wanted old.chip → HasChanged (only sector) (byte_of sector wanted) none old new
   pub counted : old.honest ≡ true → CanProgramSpans sector bytes wanted old.chip
-    → tally.count ≡ count_below 16 (λ page. is_page_other old.chip.bytes (byte_of sector wanted) (16 * sector + page))
+      → tally.count ≡ count_below 16 (λ page. is_page_other old.chip.bytes (byte_of sector wanted) (16 * sector + page))
 
 -- ---- a sector
 
@@ -63,7 +63,7 @@ pub record DoesSector (sector : ℕ) (wanted : List ℕ) (erased : Bool) (old ne
   pub tallies : Tallies 1 old new tally
   pub done : old.honest ≡ true → CanProgramSector sector wanted erased old.chip → HasChanged (only sector) (byte_of sector wanted) none old new
   pub counted : old.honest ≡ true → CanProgramSector sector wanted erased old.chip
-    → tally.count ≡ count_below 16 (λ page. is_page_other old.chip.bytes (byte_of sector wanted) (16 * sector + page))
+      → tally.count ≡ count_below 16 (λ page. is_page_other old.chip.bytes (byte_of sector wanted) (16 * sector + page))
 
 -- ---- all touched sectors
 
@@ -84,4 +84,4 @@ pub record DoesPrograms (touched raised : ℕ → Bool) (wanted : ℕ → ℕ) (
   pub tallies : Tallies (sector_count touched) old new tally
   pub done : old.honest ≡ true → CanProgramAll touched raised wanted old.chip → HasChanged touched wanted none old new
   pub counted : old.honest ≡ true → CanProgramAll touched raised wanted old.chip
-    → tally.count ≡ count_below 65536 (is_programmed touched old.chip.bytes wanted)
+      → tally.count ≡ count_below 65536 (is_programmed touched old.chip.bytes wanted)

@@ -4,7 +4,6 @@
 //! at its end, stands in `specs/Change.antt` and `specs/Within.antt`.
 #![tactic(auto)]
 
-mod apply;
 mod checks;
 mod erases;
 mod programs;
@@ -12,10 +11,12 @@ mod protection;
 mod source;
 mod tally;
 
-pub use apply::{Changes, Work, apply};
 pub use checks::{CheckFault, check_all};
 pub use erases::erase_all;
 pub use programs::program_all;
 pub use protection::write_code;
 pub use source::Source;
 pub use tally::Tally;
+
+#[cfg(test)]
+mod tests;

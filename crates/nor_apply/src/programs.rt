@@ -28,11 +28,12 @@ pub fn program_all<B: Bus, S: Source>(
 {
     let mut tally = Tally::NONE;
     for sector in 0..SECTORS {
-        if touched.contains(sector) {
-            let more = program_sector(bus, sector, source.sector(sector), raised.contains(sector))?;
-            tally.count += more.count;
-            tally.transactions += more.transactions;
+        if !touched.contains(sector) {
+            continue;
         }
+        let more = program_sector(bus, sector, source.sector(sector), raised.contains(sector))?;
+        tally.count += more.count;
+        tally.transactions += more.transactions;
     }
     Ok(tally)
 }
@@ -60,12 +61,7 @@ fn program_sector<B: Bus>(
 }
 
 // Reads a sector, unless it was erased. Answers the number of transactions.
-fn load<B: Bus>(
-    bus: &mut B,
-    sector: u32,
-    erased: bool,
-    bytes: &mut [u8],
-) -> Result<u64, Stopped>
+fn load<B: Bus>(bus: &mut B, sector: u32, erased: bool, bytes: &mut [u8]) -> Result<u64, Stopped>
     requires reachable { sector < 4096 }
     requires whole { length bytes.old ≡ 4096 }
     ensures { Loads sector erased bytes.old bytes.new result (B.state bus.old) (B.state bus.new) }
@@ -78,12 +74,7 @@ fn load<B: Bus>(
 }
 
 // Programs the spans in which a sector's bytes differ from the wanted ones, page by page.
-fn program_spans<B: Bus>(
-    bus: &mut B,
-    sector: u32,
-    old: &[u8],
-    wanted: &[u8],
-) -> Result<Tally, Halt>
+fn program_spans<B: Bus>(bus: &mut B, sector: u32, old: &[u8], wanted: &[u8]) -> Result<Tally, Halt>
     requires reachable { sector < 4096 }
     requires whole { length old.now ≡ 4096 }
     requires wanted_whole { length wanted.now ≡ 4096 }

@@ -8,12 +8,7 @@ use nor_driver::{Halt, write_status};
 
 /// Writes the status with another protection code, below 64, and the fixed bits of `status` as they were read, where
 /// that is needed. Answers the number of transactions.
-pub fn write_code<B: Bus>(
-    bus: &mut B,
-    status: Status,
-    code: u8,
-    needed: bool,
-) -> Result<u64, Halt>
+pub fn write_code<B: Bus>(bus: &mut B, status: Status, code: u8, needed: bool) -> Result<u64, Halt>
     requires { code < 64 }
     ensures leaves { LeavesCode status code needed (B.state bus.old) (B.state bus.new) }
     ensures does { IfOk result (DoesCode status code needed (B.state bus.old) (B.state bus.new)) }

@@ -8,14 +8,14 @@ use Rattle.flashnor.proofs.run.find.Goals as goal
 pub returns-clause-found : goal.returns-clause-found
 returns-clause-found c = λ programmer opens.
     let asked : c.map.result ≡ wanted c.args.named = named-wanted c.args.named c.map.result c.map.ensures.cases in
-    let config = subst (IsConfigOf programmer.chip) (sym (ap (λ chip. chip.config) c.allow.ensures.chip)) opens.config in
-    let idle = ap (λ chip. chip.busy) c.allow.ensures.chip ∙ opens.idle in
-    let left = c.allow.ensures.left opens.honest in
+    let config = subst (IsConfigOf programmer.chip) (sym (ap (λ chip. chip.config) c.allow.ensures.allows.chip)) opens.config in
+    let idle = ap (λ chip. chip.busy) c.allow.ensures.allows.chip ∙ opens.idle in
+    let left = c.allow.ensures.allows.left opens.honest in
     found-emulated programmer.chip c.args.named c.map.result _ _ c.probe.result asked config idle (omega (arith, left))
     c.probe.ensures.wanted (c.probe.ensures.finds opens.honest) (c.probe.ensures.tells opens.honest)
 
 pub returns-clause-stays : goal.returns-clause-stays
 returns-clause-stays c = λ honest steady.
     let leaves = c.probe.ensures.leaves in
-    let honest' = c.allow.ensures.honest ∙ honest in let steady' = c.allow.ensures.steady ∙ steady in
-    (leaves.honest ∙ honest', leaves.steady ∙ steady', same-looked _ _ _ _ c.allow.ensures.chip steady' (leaves.looked honest'))
+    let honest' = c.allow.ensures.allows.honest ∙ honest in let steady' = c.allow.ensures.allows.steady ∙ steady in
+    (leaves.honest ∙ honest', leaves.steady ∙ steady', same-looked _ _ _ _ c.allow.ensures.allows.chip steady' (leaves.looked honest'))

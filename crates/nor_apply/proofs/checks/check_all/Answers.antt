@@ -1,0 +1,34 @@
+use Rattle.std.proofs.Common.{◌≡◌, ◌∙◌, true, arith, sym}
+use Rattle.std.proofs.lemmas.Result.{err_from_is_err_and}
+use Rattle.nor_plan.specs.SectorSet.{has}
+use Rattle.nor_apply.proofs.CheckingSteps.{checked_none, checked_with, checked_without, failed_looks, failed_tells}
+use Rattle.nor_apply.proofs.checks.check_all.Goals.{then-contains+in_ok-check_sector, else-contains}
+use Rattle.nor_apply.proofs.checks.check_all.Goals as goal
+
+pub loop-sector-init : goal.loop-sector-init
+loop-sector-init g c = checked_none (has c.args.touched.now) (g.S.Source.wanted c.args.source.now) (g.B.Bus.state c.args.bus.now)
+
+pub returns-in_err-check_sector-clause-leaves : goal.returns-in_err-check_sector-clause-leaves
+returns-in_err-check_sector-clause-leaves g c =
+    let is : has c.args.touched.now c.loop-sector.sector ≡ true = sym c.contains.ensures ∙ c.if-contains.true in
+    failed_looks (has c.args.touched.now) (g.S.Source.wanted c.args.source.now) c.loop-sector.sector c.loop-sector.sent _ (g.B.Bus.state c.loop-sector.bus) _
+    (omega arith) is c.loop-sector.invariant c.check_sector.ensures.leaves
+
+pub returns-in_err-check_sector-clause-tells : goal.returns-in_err-check_sector-clause-tells
+returns-in_err-check_sector-clause-tells g c =
+    let is : has c.args.touched.now c.loop-sector.sector ≡ true = sym c.contains.ensures ∙ c.if-contains.true in
+    let p = err_from_is_err_and c.from_residual.result c.from_residual.ensures.1 in
+    rw (p.1, p.2) (failed_tells (has c.args.touched.now) (g.S.Source.wanted c.args.source.now) c.loop-sector.sector c.loop-sector.sent c.sector.result.now
+    _ (g.B.Bus.state c.loop-sector.bus) _ c.in_err-check_sector.field-0.0 (omega arith) is
+    (record { byte = c.sector.ensures.bytes }) c.loop-sector.invariant c.in_err-check_sector.ensures.tells)
+
+pub loop-sector-preserved : goal.loop-sector-preserved
+loop-sector-preserved g c = elim c.if-contains.branch [
+  | then-contains+in_ok-check_sector w ↦
+      rw (w.bus-is, w.sent-is) (checked_with (has c.args.touched.now) (g.S.Source.wanted c.args.source.now) c.loop-sector.sector c.loop-sector.sent w.sector.result.now
+      _ (g.B.Bus.state c.loop-sector.bus) _ (sym c.contains.ensures ∙ w.if-contains.true) (record { byte = w.sector.ensures.bytes })
+      c.loop-sector.invariant w.check_sector.ensures.leaves w.in_ok-check_sector.ensures.does)
+  | else-contains w ↦
+      rw (w.bus-is, w.sent-is) (checked_without (has c.args.touched.now) (g.S.Source.wanted c.args.source.now) c.loop-sector.sector c.loop-sector.sent
+      _ (g.B.Bus.state c.loop-sector.bus) (sym c.contains.ensures ∙ w.if-contains.false) c.loop-sector.invariant)
+]

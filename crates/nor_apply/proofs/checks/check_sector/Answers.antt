@@ -1,0 +1,17 @@
+use Rattle.std.proofs.Common.{arith}
+use Rattle.std.proofs.lemmas.Result.{err_from_is_err_and}
+use Rattle.nor_apply.proofs.CheckingSteps.{agrees, differs, stops}
+use Rattle.nor_apply.proofs.checks.check_sector.Goals as goal
+
+pub returns-in_err-read_sector-clause-tells : goal.returns-in_err-read_sector-clause-tells
+returns-in_err-read_sector-clause-tells g c =
+    let p = err_from_is_err_and c.from_residual.result c.from_residual.ensures.1 in
+    rw (p.1, p.2) (stops c.args.sector c.args.wanted.now _ _ c.requires.reachable c.in_err-read_sector.ensures.halts)
+
+pub returns-in-None-clause-does : goal.returns-in-None-clause-does
+returns-in-None-clause-does g c =
+    agrees c.args.sector c.args.wanted.now c.read_sector.new.bytes _ _ c.requires.reachable (omega (arith, c.read_sector.auto.bytes)) c.in_ok-read_sector.ensures.does c.in-None.ensures.none
+
+pub returns-in-Some-clause-tells : goal.returns-in-Some-clause-tells
+returns-in-Some-clause-tells g c =
+    differs c.args.sector c.in-Some.first c.args.wanted.now c.read_sector.new.bytes _ _ (omega (arith, c.read_sector.auto.bytes)) c.in_ok-read_sector.ensures.does c.in-Some.ensures.first
