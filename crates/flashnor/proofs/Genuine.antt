@@ -1,11 +1,10 @@
 -- The emulated chips are what they show themselves to be, and stay so when they are looked at.
 use Rattle.std.proofs.Common.{◌≡◌, ◌∙◌, ℕ, true, inl, ap, arith, refl}
-use Rattle.std.specs.Prelude.{◌&&◌, slice_index_or}
+use Rattle.std.specs.Prelude.{◌&&◌, Bool, slice_index_or}
 use Rattle.nor_chip.specs.declared.config.Config.{Config}
 use Rattle.nor_chip.specs.Bus.{BusState}
 use Rattle.nor_chip.specs.Chip.{Chip, IsSame}
 use Rattle.nor_driver.specs.Looks.{Looked}
-use Rattle.nor_session.specs.Fair.{fair}
 use Rattle.nor_session.specs.Known.{IsGenuine}
 use Rattle.flashnor.specs.Programmer.{IsConfigOf}
 use Rattle.flashnor.specs.declared.programmer.Emulated.{Emulated}
@@ -34,5 +33,5 @@ same-looked most old allowed new same steady looked =
     }
 
 -- a bus that is honest and steady is a fair one
-pub fair-both : (state : BusState) → state.honest ≡ true → state.steady ≡ true → fair state ≡ true
-fair-both state honest steady = ap (λ b. b && state.steady) honest ∙ steady
+pub fair-both : (honest steady : Bool) → honest ≡ true → steady ≡ true → (honest && steady) ≡ true
+fair-both honest steady is_honest is_steady = ap (λ (b : Bool). b && steady) is_honest ∙ is_steady

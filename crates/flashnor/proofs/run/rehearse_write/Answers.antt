@@ -7,7 +7,7 @@ pub returns : goal.returns
 returns g c = λ programmer opens.
     let checked = c.in_ok-check_name.ensures in
     let stays = checked.stays opens.honest opens.steady in
-    let fairly = fair-both _ stays.0 stays.1 in
+    let fairly = fair-both _ _ stays.0 stays.1 in
     let genuine = genuine-emulated programmer.chip _ (subst (IsConfigOf programmer.chip) (sym stays.2.config) opens.config) in
     let rehearsed = c.in_ok-rehearsal.ensures in (
       record {
