@@ -1,8 +1,8 @@
 //! What ends a measurement.
 
 use nor_chip::{Stopped, WrongLength};
+use nor_driver::Halt;
 use nor_journal::{JournalFault, VaultFault};
-use nor_probe::WaitFault;
 use std::alloc::AllocError;
 use std::io;
 
@@ -45,8 +45,8 @@ impl From<Stopped> for Fault {
     }
 }
 
-impl From<WaitFault> for Fault {
-    fn from(_: WaitFault) -> Fault {
+impl From<Halt> for Fault {
+    fn from(_: Halt) -> Fault {
         Fault::Chip
     }
 }
