@@ -1,11 +1,10 @@
 //! Reads, erases and page programs of the simulated W25Q128FV, each over its whole 16 MiB.
-ghost use Rattle.std.specs.Prelude.{◌≡◌, ◌*◌, ◌<◌, ◌^◌, IfOk, vec_len};
-ghost use Rattle.bench.specs.Command.{IsCommandAt};
+ghost use Rattle.std.specs.Prelude.{◌≡◌, IfOk, vec_len};
 
 use crate::fault::Fault;
 use crate::timing::{Aim, Work, compare, look_at};
-use nor_chip::{Bus, Config, Delays, Meter, SimBus};
-use nor_driver::wait;
+use nor_chip::{Config, Delays, Meter, SimBus};
+use nor_driver::{Erase, EraseUnit, erase, program_page, read_sector};
 use std::alloc::{AllocError, Global};
 use std::rt::Clock;
 
@@ -13,7 +12,7 @@ use std::rt::Clock;
 const CHIP: usize = 16777216;
 
 /// How many sectors it has, and how many pages.
-const SECTORS: u32 = 4096;
+const SECTORS: u16 = 4096;
 
 const PAGES: u32 = 65536;
 
@@ -84,27 +83,6 @@ fn open_bus(alloc: Global) -> Result<SimBus, Fault> {
     Ok(bus)
 }
 
-// The bytes that begin a command: the opcode and an address, high byte first.
-fn command_at(opcode: u8, address: u32) -> [u8; 4]
-    requires { address < 2 ^ 24 }
-    ensures { IsCommandAt opcode address result }
-{
-    [
-        opcode,
-        (address / 65536) as u8,
-        (address / 256 % 256) as u8,
-        (address % 256) as u8,
-    ]
-}
-
-// A write enable, the command, and polls until the chip is idle.
-fn operate(bus: &mut SimBus, command: &[u8]) -> Result<(), Fault> {
-    bus.transfer(&[0x06], &mut [])?;
-    bus.transfer(command, &mut [])?;
-    wait(bus)?;
-    Ok(())
-}
-
 #[derive(Drop)]
 struct Reads<'a> {
     bus: &'a mut SimBus,
@@ -115,8 +93,7 @@ impl Work for Reads<'_> {
     fn run(&mut self) -> Result<u64, Fault> {
         let mut sum = 0u64;
         for sector in 0..SECTORS {
-            let command = command_at(0x03, 4096 * sector);
-            self.bus.transfer(&command, &mut self.sector)?;
+            read_sector(self.bus, u32::from(sector), &mut self.sector)?;
             sum = look_at(&self.sector, sum);
         }
         Ok(sum)
@@ -131,7 +108,8 @@ struct Erases<'a> {
 impl Work for Erases<'_> {
     fn run(&mut self) -> Result<u64, Fault> {
         for sector in 0..SECTORS {
-            operate(self.bus, &command_at(0x20, 4096 * sector))?;
+            let unit = EraseUnit::Sector;
+            erase(self.bus, Erase { unit, sector })?;
         }
         Ok(u64::from(self.bus.bytes()[0]))
     }
@@ -144,10 +122,8 @@ struct Programs<'a> {
 
 impl Work for Programs<'_> {
     fn run(&mut self) -> Result<u64, Fault> {
-        let mut command = [0x5A; 260];
         for page in 0..PAGES {
-            command[..4].copy_from_slice(&command_at(0x02, 256 * page));
-            operate(self.bus, &command)?;
+            program_page(self.bus, 256 * page, &[0x5A; 256])?;
         }
         Ok(u64::from(self.bus.bytes()[0]))
     }
