@@ -1,9 +1,10 @@
 -- One sector alone: which it is, and that it counts for one.
-use Rattle.std.proofs.Common.{◌≡◌, ◌<◌, ◌≤◌, ◌+◌, ◌∙◌, ℕ, zero, suc, Bool, true, false, refl, ap, sym, arith, inl, inr}
+use Rattle.std.proofs.Common.{◌≡◌, ◌<◌, ◌≤◌, ◌+◌, ◌∙◌, ℕ, zero, suc, Bool, true, false, ap, sym, arith, inl, inr}
 use Rattle.std.proofs.lemmas.Bool.{cases_eq}
 use Rattle.std.proofs.lemmas.Bool.Decides.{nat_tests}
 use Rattle.std.specs.Prelude.{if◌then◌else◌}
-use Rattle.nor_apply.specs.Counts.{count_below, sector_count}
+use Rattle.nor_layout.specs.Below.{count_below}
+use Rattle.nor_apply.specs.Counts.{sector_count}
 use Rattle.nor_apply.specs.Change.{only}
 use Rattle.nor_apply.proofs.Counting.{count_below-none}
 

@@ -1,16 +1,15 @@
 -- How the parts of a change follow one another: the relations of every exit and of the end compose.
-use Rattle.std.proofs.Common.{◌≡◌, ◌≢◌, ℕ, ◌+◌, ◌*◌, ◌/◌, ◌%◌, ◌<◌, ◌≤◌, ◌⊎◌, inl, inr, true, false, true≢false, arith, refl, ◌∙◌, sym, ap}
-use Rattle.std.specs.Prelude.{Bool, ◌||◌, ◌&&◌, ◌==◌, not, if◌then◌else◌}
-use Rattle.nor_chip.specs.declared.config.Config.{Config}
+use Rattle.std.proofs.Common.{◌≡◌, ℕ, ◌/◌, ◌%◌, ◌⊎◌, inl, inr, true, false, true≢false, arith, refl, ◌∙◌, sym, ap}
+use Rattle.std.specs.Prelude.{Bool, ◌||◌, if◌then◌else◌}
 use Rattle.nor_chip.specs.declared.running.Running.{Running}
 use Rattle.nor_chip.specs.declared.running.Running.TheVariants.{StatusWrite}
-use Rattle.nor_chip.specs.Chip.{Chip, is_locked, IsSame}
-use Rattle.nor_chip.specs.Power.{KeptStay, is_known, is_in_work}
+use Rattle.nor_chip.specs.Chip.{Chip, IsSame}
+use Rattle.nor_chip.specs.Power.{is_known, is_in_work}
 use Rattle.nor_chip.specs.Bus.{BusState}
-use Rattle.nor_driver.specs.Looks.{Looked, Rested, Stays, Unchanged}
-use Rattle.nor_driver.specs.StatusWrites.{KeepsFixed, MayWriteStatus, HasWrittenStatus}
+use Rattle.nor_driver.specs.Looks.{Looked}
+use Rattle.nor_driver.specs.StatusWrites.{KeepsFixed, MayWriteStatus}
 use Rattle.nor_apply.specs.Within.{is_writable, WorksIn, IsWithin, places_of}
-use Rattle.nor_apply.specs.Change.{MayChange, HasChanged, blank, none}
+use Rattle.nor_apply.specs.Change.{MayChange, HasChanged}
 use Rattle.nor_apply.proofs.Kept.{fixed_refl, fixed_then, kept_fixed, kept_then, writable_same}
 
 -- a status write's old kept bits

@@ -7,7 +7,8 @@ use Rattle.nor_chip.specs.Bus.{BusState}
 use Rattle.nor_driver.specs.Looks.{Rested, Looks, RanOut, RunsOut}
 use Rattle.nor_driver.specs.Reads.{IsSectorOf, ReadsSector}
 use Rattle.nor_plan.specs.Bytes.{AllAgree, IsFirstDifference}
-use Rattle.nor_apply.specs.Counts.{count_below, sector_count}
+use Rattle.nor_layout.specs.Below.{count_below}
+use Rattle.nor_apply.specs.Counts.{sector_count}
 use Rattle.nor_apply.specs.Change.{only, byte_of}
 use Rattle.nor_apply.specs.Checking.{CanCheck, DoesChecks, CheckTells}
 use Rattle.nor_apply.specs.declared.checks.CheckFault.{CheckFault}

@@ -2,7 +2,7 @@
 use Rattle.std.proofs.Common.{◌≡◌, ◌<◌, ◌≤◌, ◌+◌, ◌||◌, ◌∙◌, ℕ, zero, suc, Bool, true, false, refl, ap, sym, arith, inl, inr, add-one}
 use Rattle.std.proofs.lemmas.Bool.{cases_eq}
 use Rattle.std.specs.Prelude.{if◌then◌else◌}
-use Rattle.nor_apply.specs.Counts.{any_below, count_below}
+use Rattle.nor_layout.specs.Below.{any_below, count_below}
 
 or_true : (b : Bool) → (b || true) ≡ true
 or_true true = refl

@@ -12,7 +12,8 @@ use Rattle.nor_driver.specs.Erases.{sectors_of, LeavesErase, Erases}
 use Rattle.nor_plan.specs.Erase.{Covers}
 use Rattle.nor_plan.specs.Planned.{planned}
 use Rattle.nor_apply.specs.declared.tally.Tally.{Tally}
-use Rattle.nor_apply.specs.Counts.{count_below, sector_count}
+use Rattle.nor_layout.specs.Below.{count_below}
+use Rattle.nor_apply.specs.Counts.{sector_count}
 use Rattle.nor_apply.specs.Change.{MayChange, HasChanged, blank}
 use Rattle.nor_apply.specs.Spending.{HaltsBelow, Tallies}
 use Rattle.nor_apply.specs.Erasing.{CanEraseAll, LeavesErases, DoesErases}

@@ -14,7 +14,8 @@ use Rattle.nor_driver.specs.Units.{sectors_in, erases_sector}
 use Rattle.nor_plan.specs.Erase.{IsErase, Covers}
 use Rattle.nor_plan.specs.Planned.{begins_unit, erase_at, planned_from, planned, holds_run}
 use Rattle.nor_plan.proofs.Coverage.{begins_in}
-use Rattle.nor_apply.specs.Counts.{count_below, sector_count}
+use Rattle.nor_layout.specs.Below.{count_below}
+use Rattle.nor_apply.specs.Counts.{sector_count}
 
 -- the sectors that some erases of a list set to FFh
 abbrev pub union_of : ℕ → List Erase → ℕ → Bool

@@ -4,7 +4,7 @@ use Rattle.std.specs.Prelude.{◌==◌, ◌||◌, not, min, filter, if◌then◌
 use Rattle.std.specs.List.{filter_map, cons_option, range_with_len}
 use Rattle.nor_plan.specs.Span.{ends, page_span, spans_in, spans_of, pages_of}
 use Rattle.nor_driver.specs.Reads.{IsSectorOf}
-use Rattle.nor_apply.specs.Counts.{any_below, count_below}
+use Rattle.nor_layout.specs.Below.{any_below, count_below}
 use Rattle.nor_apply.specs.Content.{is_other, is_page_other}
 use Rattle.nor_apply.specs.Change.{byte_of}
 use Rattle.nor_apply.proofs.Counting.{count_below-most, any_below-same, count_below-same}

@@ -6,7 +6,8 @@ use Rattle.nor_chip.specs.declared.config.Config.{Config}
 use Rattle.nor_chip.specs.Bus.{BusState}
 use Rattle.nor_driver.specs.declared.waits.Halt.{Halt}
 use Rattle.nor_apply.specs.declared.tally.Tally.{Tally}
-use Rattle.nor_apply.specs.Counts.{count_below, sector_count}
+use Rattle.nor_layout.specs.Below.{count_below}
+use Rattle.nor_apply.specs.Counts.{sector_count}
 use Rattle.nor_apply.specs.Content.{is_page_other, is_programmed}
 use Rattle.nor_apply.specs.Within.{places_of}
 use Rattle.nor_apply.specs.Change.{MayChange, HasChanged, only, none, byte_of}

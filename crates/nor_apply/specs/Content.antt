@@ -1,6 +1,6 @@
 -- What it takes to make a content the wanted one: touched and raised sectors, pages to program.
 use Rattle.std.specs.Prelude.{ℕ, ◌+◌, ◌*◌, ◌/◌, ◌==◌, ◌&&◌, Bool, not, bit_and, if◌then◌else◌}
-use Rattle.nor_apply.specs.Counts.{any_below}
+use Rattle.nor_layout.specs.Below.{any_below}
 
 -- two bytes differ
 abbrev pub is_other : ℕ → ℕ → Bool

@@ -4,7 +4,8 @@ ghost use Rattle.std.proofs.lemmas.Bool.{false≢true};
 ghost use Rattle.nor_probe.specs.Known.{IsKnown};
 
 use crate::{
-    ChipName, Found, Geometry, Kinds, ProbeFault, Probed, SfdpFault, probe, probe_counted, read_sfdp,
+    ChipName, Found, Geometry, Kinds, ProbeFault, Probed, SfdpFault, probe, probe_counted,
+    read_sfdp,
 };
 use nor_chip::{Bus, Config, Delays, Meter, SimBus, Stopped, TINY64_SFDP, TraceBus};
 use std::alloc::Global;
