@@ -7,3 +7,4 @@ pub mod Round
 pub mod Sizes
 pub mod StatusBits
 pub mod Stretches
+pub mod Steps

@@ -12,6 +12,7 @@ use Rattle.nor_chip.specs.Power.{is_in_work, KeptStay, KeptCut}
 use Rattle.nor_chip.specs.Command.{command_of, begins_change}
 use Rattle.nor_chip.specs.Step.{Does, is_idle, is_operation, is_carried_out, done_of, byte_after, kept1_after, kept2_after, running_after, latch_after, wears}
 use Rattle.nor_chip.specs.Bus.{BusState, Sends, Stops, Carries}
+use Rattle.nor_chip.proofs.Steps.{Agrees, done-agrees}
 use Rattle.nor_driver.proofs.Bools.{or_false}
 use Rattle.nor_driver.specs.Looks.{IsCalm, Unchanged, Stays, Looked, Looks}
 use Rattle.nor_driver.specs.Waits.{HasWaited, latch_when_idle}
@@ -19,37 +20,6 @@ use Rattle.nor_driver.specs.Operations.{operation_of, is_change, IsOperation, Ch
 use Rattle.nor_driver.specs.Reads.{HasRead}
 use Rattle.nor_driver.proofs.Cuts.{stays_at_stop, stays_after, unchanged_then}
 use Rattle.nor_driver.proofs.Readings.{carried_ignored}
-
--- Two chips that agree in all but their bytes.
-record Agrees (x y : Chip) : Type 0 where
-  config : y.config ≡ x.config
-  kept1 : y.kept1 ≡ x.kept1
-  kept2 : y.kept2 ≡ x.kept2
-  latch : y.latch ≡ x.latch
-  busy : y.busy ≡ x.busy
-
--- whether a command is carried out doesn't depend on the bytes
-carried-agrees : (x y : Chip) (command : Command) → Agrees x y → is_carried_out y command ≡ is_carried_out x command
-carried-agrees x y Poll same = refl
-carried-agrees x y ReadStatus2 same = refl
-carried-agrees x y WriteEnable same = cc
-carried-agrees x y WriteDisable same = cc
-carried-agrees x y (ReadData at) same = cc
-carried-agrees x y ReadId same = cc
-carried-agrees x y (ReadSfdp at) same = cc
-carried-agrees x y ReadUnique same = cc
-carried-agrees x y (WriteStatus one two) same = cc
-carried-agrees x y (Program at) same = cc
-carried-agrees x y (Erase start len) same = cc
-carried-agrees x y Ignored same = refl
-
--- nor does what is done
-done-agrees : (x y : Chip) (out : List ℕ) → Agrees x y → done_of y out 0 ≡ done_of x out 0
-done-agrees x y out same =
-    let asked : command_of y.config out 0 ≡ command_of x.config out 0 = ap (λ (c : Config). command_of c out 0) same.config in
-    let carried : is_carried_out y (command_of y.config out 0) ≡ is_carried_out x (command_of x.config out 0)
-    = carried-agrees x y (command_of y.config out 0) same ∙ ap (λ (c : Command). is_carried_out x c) asked in
-    cc
 
 -- a busy chip carries no operation out
 busy-refuses : (chip : Chip) (command : Command) → is_change command ≡ true → (chip.busy == 0) ≡ false → cond (is_carried_out chip command) command Ignored ≡ Ignored
@@ -105,7 +75,7 @@ enabled old new answer none carries =
 pub then_done : (out : List ℕ) (old ready : BusState) → IsOperation out → IsEnabled old ready → done_of ready.chip out 0 ≡ operation_of old.chip out
 then_done out old ready asks enabling =
     elim (nat_eq old.chip.busy 0) as (λ b. nat_eq old.chip.busy 0 ≡ b → done_of ready.chip out 0 ≡ operation_of old.chip out) [
-      | true ↦ λ idle. done-agrees (record old.chip { latch = true }) ready.chip out (record {
+      | true ↦ λ idle. done-agrees (record old.chip { latch = true }) ready.chip out 0 (record {
         config = enabling.unchanged.same.config;
         kept1 = enabling.unchanged.same.kept1;
         kept2 = enabling.unchanged.same.kept2;

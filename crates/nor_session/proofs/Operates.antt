@@ -7,61 +7,9 @@ use Rattle.nor_chip.specs.Chip.{Chip}
 use Rattle.nor_chip.specs.Command.{command_of}
 use Rattle.nor_chip.specs.Step.{Does, is_carried_out, done_of, byte_after, kept1_after, kept2_after, wears}
 use Rattle.nor_chip.specs.Bus.{BusState, Carries}
+use Rattle.nor_chip.proofs.Steps.{Agrees, done-agrees, byte-agrees, kept1-agrees, kept2-agrees}
 use Rattle.nor_session.specs.Looks.{Looked}
 use Rattle.nor_session.specs.Operates.{operation_of, HasOperated}
-
--- Two chips that agree in all but their bytes.
-pub record Agrees (x y : Chip) : Type 0 where
-  pub config : y.config ≡ x.config
-  pub kept1 : y.kept1 ≡ x.kept1
-  pub kept2 : y.kept2 ≡ x.kept2
-  pub latch : y.latch ≡ x.latch
-  pub busy : y.busy ≡ x.busy
-
--- whether a command is carried out doesn't depend on the bytes
-pub carried-agrees : (x y : Chip) (command : Command) → Agrees x y → is_carried_out y command ≡ is_carried_out x command
-carried-agrees x y Poll same = refl
-carried-agrees x y ReadStatus2 same = refl
-carried-agrees x y WriteEnable same = cc
-carried-agrees x y WriteDisable same = cc
-carried-agrees x y (ReadData at) same = cc
-carried-agrees x y ReadId same = cc
-carried-agrees x y (ReadSfdp at) same = cc
-carried-agrees x y ReadUnique same = cc
-carried-agrees x y (WriteStatus one two) same = cc
-carried-agrees x y (Program at) same = cc
-carried-agrees x y (Erase start len) same = cc
-carried-agrees x y Ignored same = refl
-
--- nor does what is done
-pub done-agrees : (x y : Chip) (out : List ℕ) (replies : ℕ) → Agrees x y → done_of y out replies ≡ done_of x out replies
-done-agrees x y out replies same =
-    let asked : command_of y.config out replies ≡ command_of x.config out replies = ap (λ (c : Config). command_of c out replies) same.config in
-    let carried : is_carried_out y (command_of y.config out replies) ≡ is_carried_out x (command_of x.config out replies)
-    = carried-agrees x y (command_of y.config out replies) same ∙ ap (λ (c : Command). is_carried_out x c) asked in
-    cc
-
-pub byte-agrees : (x y : Chip) (command : Command) (sent : List ℕ) (a : ℕ) → y.bytes a ≡ x.bytes a → byte_after y command sent a ≡ byte_after x command sent a
-byte-agrees x y (Program at) sent a same = cc
-byte-agrees x y (Erase start len) sent a same = cc
-byte-agrees x y Poll sent a same = same
-byte-agrees x y ReadStatus2 sent a same = same
-byte-agrees x y (ReadData at) sent a same = same
-byte-agrees x y ReadId sent a same = same
-byte-agrees x y (ReadSfdp at) sent a same = same
-byte-agrees x y ReadUnique sent a same = same
-byte-agrees x y WriteEnable sent a same = same
-byte-agrees x y WriteDisable sent a same = same
-byte-agrees x y (WriteStatus one two) sent a same = same
-byte-agrees x y Ignored sent a same = same
-
-pub kept1-agrees : (x y : Chip) (command : Command) → Agrees x y → kept1_after y command ≡ kept1_after x command
-kept1-agrees x y (WriteStatus one two) same = refl
-kept1-agrees x y _ same = same.kept1
-
-pub kept2-agrees : (x y : Chip) (command : Command) → Agrees x y → kept2_after y command ≡ kept2_after x command
-kept2-agrees x y (WriteStatus one two) same = cc
-kept2-agrees x y _ same = same.kept2
 
 -- the latch of an idle chip is set, and all else stays
 record IsEnabled (old new : BusState) : Type 0 where
