@@ -1,0 +1,5 @@
+pub mod Below
+pub mod Planned
+pub mod Rests
+pub mod Scans
+pub mod Parts

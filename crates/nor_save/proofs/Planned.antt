@@ -1,0 +1,124 @@
+-- What is wanted at an address, and what a sector's plan says.
+use Rattle.std.proofs.Common.{◌≡◌, ◌<◌, ◌≤◌, ◌+◌, ◌*◌, ◌∙◌, ℕ, Bool, true, false, ◌&&◌, List, length, slice_index, Option, ap, sym, subst, arith, refl, bit_and}
+use Rattle.std.specs.Int.Bits.{and_self}
+use Rattle.std.specs.Prelude.{if◌then◌else◌, ◌==◌, nat_lt}
+use Rattle.std.proofs.lemmas.Bool.{ne_eqb, eq-eqb, lt-ltb, not_from_false, not_from_true}
+use Rattle.nor_chip.specs.Bus.{BusState}
+use Rattle.nor_driver.specs.Reads.{ReadsSector}
+use Rattle.nor_layout.specs.declared.ranges.Span.{Span}
+use Rattle.nor_layout.specs.Sectors.{includes}
+use Rattle.nor_plan.specs.Plan.{AreBytesOf, IsPlan}
+use Rattle.nor_plan.specs.declared.plan.SectorPlan.{SectorPlan}
+use Rattle.nor_apply.specs.Content.{is_other, must_rise, is_touched, is_raised}
+use Rattle.nor_save.specs.declared.report.Request.{Request}
+use Rattle.nor_save.specs.declared.report.What.{What}
+use Rattle.nor_save.specs.declared.report.What.TheVariants.{Write, Erase, WpRange}
+use Rattle.nor_save.specs.Request.{is_data, target, may_change, wanted}
+use Rattle.nor_save.specs.Scanning.{IsOpen, ScansSector}
+use Rattle.nor_save.proofs.Below.{any_below-none, any_below-same, any_below-decided}
+
+-- a request about bytes may change what it includes of the chip
+pub may_change-included : (request : Request) (size a : ℕ) → is_data request.what ≡ true → a < size → may_change request size a ≡ includes request.included a
+may_change-included request size a about_bytes below =
+    ap (λ (b : Bool). b && (nat_lt a size && includes request.included a)) about_bytes
+    ∙ ap (λ (b : Bool). b && includes request.included a) (lt-ltb a size below)
+
+-- where nothing may change, what is there is wanted
+pub wanted-kept : (request : Request) (image : List ℕ) (size : ℕ) (content : ℕ → ℕ) (a : ℕ) → may_change request size a ≡ false → wanted request image size content a ≡ content a
+wanted-kept request image size content a fixed = ap (λ (b : Bool). if b then target request.what image a else content a) fixed
+
+-- the same content has the same wanted bytes
+pub wanted-same : (request : Request) (image : List ℕ) (size : ℕ) (old new : ℕ → ℕ) (a : ℕ) → new a ≡ old a → wanted request image size new a ≡ wanted request image size old a
+wanted-same request image size old new a same = ap (λ (b : ℕ). if may_change request size a then target request.what image a else b) same
+
+other : (a b : ℕ) → (a ≡ b → ⊥) → is_other a b ≡ true
+other a b differ = not_from_false (a == b) (ne_eqb a b differ)
+
+as_wanted : (a b : ℕ) → a ≡ b → is_other a b ≡ false
+as_wanted a b same = not_from_true (a == b) (eq-eqb a b same)
+
+-- the test of each place in a plan
+pub planned : (content aim : ℕ → ℕ) (sector : ℕ) (plan : SectorPlan) → IsPlan (λ i. content (4096 * sector + i)) (λ i. aim (4096 * sector + i)) 4096 plan
+    → (plan.touched ≡ is_touched content aim sector) × (plan.raised ≡ is_raised content aim sector)
+unfolding is_touched is_raised
+planned content aim sector plan is = (
+  any_below-decided 4096 plan.touched (λ i. is_other (content (4096 * sector + i)) (aim (4096 * sector + i)))
+      (λ i. content (4096 * sector + i) ≡ aim (4096 * sector + i) → ⊥) (λ i. content (4096 * sector + i) ≡ aim (4096 * sector + i))
+      (λ i differ. other (content (4096 * sector + i)) (aim (4096 * sector + i)) differ)
+      (λ i same. as_wanted (content (4096 * sector + i)) (aim (4096 * sector + i)) same) is.touched,
+  any_below-decided 4096 plan.raised (λ i. must_rise (content (4096 * sector + i)) (aim (4096 * sector + i)))
+      (λ i. bit_and (aim (4096 * sector + i)) (content (4096 * sector + i)) ≡ aim (4096 * sector + i) → ⊥)
+      (λ i. bit_and (aim (4096 * sector + i)) (content (4096 * sector + i)) ≡ aim (4096 * sector + i))
+      (λ i rises. other (bit_and (aim (4096 * sector + i)) (content (4096 * sector + i))) (aim (4096 * sector + i)) rises)
+      (λ i stays. as_wanted (bit_and (aim (4096 * sector + i)) (content (4096 * sector + i))) (aim (4096 * sector + i)) stays) is.raised,
+)
+
+-- a sector in which all is as wanted has nothing to do
+pub untouched : (content aim : ℕ → ℕ) (sector : ℕ) → ((i : ℕ) → i < 4096 → aim (4096 * sector + i) ≡ content (4096 * sector + i)) → is_touched content aim sector ≡ false
+unfolding is_touched
+untouched content aim sector same =
+    any_below-none 4096 (λ i. is_other (content (4096 * sector + i)) (aim (4096 * sector + i)))
+    (λ i below. as_wanted (content (4096 * sector + i)) (aim (4096 * sector + i)) (sym (same i below)))
+
+pub unraised : (content aim : ℕ → ℕ) (sector : ℕ) → ((i : ℕ) → i < 4096 → aim (4096 * sector + i) ≡ content (4096 * sector + i)) → is_raised content aim sector ≡ false
+unfolding is_raised
+unraised content aim sector same =
+    any_below-none 4096 (λ i. must_rise (content (4096 * sector + i)) (aim (4096 * sector + i)))
+    (λ i below. as_wanted (bit_and (aim (4096 * sector + i)) (content (4096 * sector + i))) (aim (4096 * sector + i))
+    (ap (bit_and (aim (4096 * sector + i))) (sym (same i below)) ∙ and_self (aim (4096 * sector + i))))
+
+-- the content that a plan is made for may be read later, as long as it is the same
+pub touched-later : (request : Request) (image : List ℕ) (size : ℕ) (old new : ℕ → ℕ) (sector : ℕ) → ((a : ℕ) → new a ≡ old a)
+    → is_touched new (wanted request image size new) sector ≡ is_touched old (wanted request image size old) sector
+unfolding is_touched
+touched-later request image size old new sector same =
+    any_below-same 4096 (λ i. is_other (new (4096 * sector + i)) (wanted request image size new (4096 * sector + i)))
+    (λ i. is_other (old (4096 * sector + i)) (wanted request image size old (4096 * sector + i)))
+    (λ i below. ap (λ (b : ℕ). is_other b (wanted request image size new (4096 * sector + i))) (same (4096 * sector + i))
+    ∙ ap (λ (b : ℕ). is_other (old (4096 * sector + i)) b) (wanted-same request image size old new (4096 * sector + i) (same (4096 * sector + i))))
+
+pub raised-later : (request : Request) (image : List ℕ) (size : ℕ) (old new : ℕ → ℕ) (sector : ℕ) → ((a : ℕ) → new a ≡ old a)
+    → is_raised new (wanted request image size new) sector ≡ is_raised old (wanted request image size old) sector
+unfolding is_raised
+raised-later request image size old new sector same =
+    any_below-same 4096 (λ i. must_rise (new (4096 * sector + i)) (wanted request image size new (4096 * sector + i)))
+    (λ i. must_rise (old (4096 * sector + i)) (wanted request image size old (4096 * sector + i)))
+    (λ i below. ap (λ (b : ℕ). must_rise b (wanted request image size new (4096 * sector + i))) (same (4096 * sector + i))
+    ∙ ap (λ (b : ℕ). must_rise (old (4096 * sector + i)) b) (wanted-same request image size old new (4096 * sector + i) (same (4096 * sector + i))))
+
+-- the image's byte, or FFh, is the target
+pub target-write : (what : What) (image : List ℕ) (a : ℕ) → is_data what ≡ true → (what ≡ Erase → ⊥) → slice_index image a ≡ target what image a
+target-write Write image a about_bytes other = refl
+target-write Erase image a about_bytes other = absurd (other refl)
+target-write (WpRange start len) image a about_bytes other = absurd (let d = about_bytes in cc)
+
+-- A sector was read, its part of the image filled where it may not change, and the two compared.
+pub scans_sector : (request : Request) (size sector : ℕ) (included : Option (List Span)) (part filled part' bytes : List ℕ) (old new : BusState) (plan : SectorPlan)
+    → is_data request.what ≡ true → 4096 * sector + 4096 ≤ size → included ≡ request.included → length bytes ≡ 4096 → length part' ≡ 4096
+    → ((image : List ℕ) (a i : ℕ) → i < 4096 → slice_index part i ≡ slice_index image a → slice_index filled i ≡ target request.what image a)
+    → ((i : ℕ) → i < 4096 → slice_index part' i ≡ (if includes included (4096 * sector + i) then slice_index filled i else slice_index bytes i))
+    → ReadsSector sector old new bytes → (plan.raised ≡ true → plan.touched ≡ true)
+    → ((content aim : ℕ → ℕ) → AreBytesOf content bytes → AreBytesOf aim part' → IsPlan content aim (length bytes) plan)
+    → ScansSector request size sector part part' bytes old new plan
+scans_sector request size sector included part filled part' bytes old new plan about_bytes fits is_included long long' aims fills reads needed plans =
+    let shown = λ (is_open : IsOpen size old). reads.told is_open.honest is_open.idle (let s = is_open.same in omega arith) in
+    let merged : IsOpen size old → (image : List ℕ) → ((i : ℕ) → i < 4096 → slice_index part i ≡ slice_index image (4096 * sector + i))
+    → (i : ℕ) → i < 4096 → slice_index part' i ≡ wanted request image size old.chip.bytes (4096 * sector + i) =
+    λ is_open image same i below.
+    let a = 4096 * sector + i in
+    fills i below
+    ∙ ap (λ (o : Option (List Span)). if includes o a then slice_index filled i else slice_index bytes i) is_included
+    ∙ ap (λ (b : ℕ). if includes request.included a then b else slice_index bytes i) (aims image a i below (same i below))
+    ∙ ap (λ (b : ℕ). if includes request.included a then target request.what image a else b) ((shown is_open).byte i below)
+    ∙ ap (λ (b : Bool). if b then target request.what image a else old.chip.bytes a) (sym (may_change-included request size a about_bytes (omega arith))) in
+    record {
+      needed = needed;
+      read = reads.read;
+      shown = shown;
+      merged = merged;
+      planned = λ is_open image same.
+          planned old.chip.bytes (wanted request image size old.chip.bytes) sector plan
+          (subst (λ (n : ℕ). IsPlan (λ i. old.chip.bytes (4096 * sector + i)) (λ i. wanted request image size old.chip.bytes (4096 * sector + i)) n plan) long
+          (plans (λ i. old.chip.bytes (4096 * sector + i)) (λ i. wanted request image size old.chip.bytes (4096 * sector + i))
+          (λ i below. (shown is_open).byte i (omega arith)) (λ i below. merged is_open image same i (omega arith))));
+    }

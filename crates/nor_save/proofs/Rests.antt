@@ -1,0 +1,129 @@
+-- Readings that follow one another.
+use Rattle.std.proofs.Common.{◌≡◌, ◌<◌, ◌≤◌, ◌+◌, ◌∙◌, ℕ, true, refl, ap, sym, subst, arith, inl, inr}
+use Rattle.std.specs.Prelude.{Result, Ok, Err, IfErr, IsErrAnd}
+use Rattle.nor_chip.specs.declared.running.Running.{Running}
+use Rattle.nor_chip.specs.declared.running.Running.TheVariants.{Program, Erase, StatusWrite, Unknown}
+use Rattle.nor_chip.specs.Chip.{Chip, IsSame}
+use Rattle.nor_chip.specs.Power.{is_in_work, KeptCut}
+use Rattle.nor_chip.specs.Bus.{BusState}
+use Rattle.nor_driver.specs.Looks.{Rested, Looked, Looks, RunsOut}
+use Rattle.nor_driver.specs.Reads.{HasRead}
+use Rattle.nor_save.specs.declared.refusal.Refusal.{Refusal}
+use Rattle.nor_save.specs.declared.refusal.Refusal.TheVariants.{Stopped}
+use Rattle.nor_save.specs.Scanning.{ScanTells}
+
+same_then : (old mid new : Chip) → IsSame old mid → IsSame mid new → IsSame old new
+same_then old mid new one two = record {
+  config = two.config ∙ one.config;
+  bytes = λ a. two.bytes a ∙ one.bytes a;
+  kept1 = two.kept1 ∙ one.kept1;
+  kept2 = two.kept2 ∙ one.kept2;
+}
+
+pub rested_none : (state : BusState) → Rested state state
+rested_none state = record {
+  unchanged = record {
+    same = record { config = refl; bytes = λ a. refl; kept1 = refl; kept2 = refl };
+    running = refl;
+    busy = omega arith;
+    worn = λ s. refl;
+  };
+  latch = λ latch. latch;
+  idle_latch = λ idle. refl;
+}
+
+pub rested_then : (old mid new : BusState) → Rested old mid → Rested mid new → Rested old new
+rested_then old mid new one two =
+    let first = one.unchanged.busy in let second = two.unchanged.busy in
+    record {
+      unchanged = record {
+        same = same_then old.chip mid.chip new.chip one.unchanged.same two.unchanged.same;
+        running = two.unchanged.running ∙ one.unchanged.running;
+        busy = omega arith;
+        worn = λ s. two.unchanged.worn s ∙ one.unchanged.worn s;
+      };
+      latch = λ latch. one.latch (two.latch latch);
+      idle_latch = λ idle. two.idle_latch (omega arith) ∙ one.idle_latch idle;
+    }
+
+-- the kept bits of the same chip
+kept_from : (running : Running) (old mid new : Chip) → IsSame old mid → KeptCut running mid new → KeptCut running old new
+kept_from (Program page) old mid new same kept = (kept.0 ∙ same.kept1, kept.1 ∙ same.kept2)
+kept_from (Erase start len) old mid new same kept = (kept.0 ∙ same.kept1, kept.1 ∙ same.kept2)
+kept_from (StatusWrite one two) old mid new same kept =
+    elim kept [
+      | inl stay ↦ inl (stay.0 ∙ same.kept1, stay.1 ∙ same.kept2)
+      | inr before ↦ inr before
+    ]
+kept_from Unknown old mid new same kept = kept
+
+-- after readings that succeeded
+looked_then : (reads more most : ℕ) (old mid new : BusState) → reads + more ≤ most → mid.steady ≡ old.steady → Rested old mid → old.left ≡ mid.left + reads → Looked more mid new → Looked most old new
+looked_then reads more most old mid new few steady rested sent looked =
+    let was = rested.unchanged in let stays = looked.stays in
+    let first = was.busy in let second = stays.busy in let fell = looked.fell in let bound = looked.bound in
+    record {
+      stays = record {
+        config = stays.config ∙ was.same.config;
+        calm = λ calm. same_then old.chip mid.chip new.chip was.same (stays.calm (elim calm [
+          | inl is ↦ inl (steady ∙ is)
+          | inr idle ↦ inr (omega arith)
+        ]));
+        bytes = λ a outside. stays.bytes a (ap (λ (r : Running). is_in_work r a) was.running ∙ outside) ∙ was.same.bytes a;
+        kept = kept_from old.chip.running old.chip mid.chip new.chip was.same (subst (λ (r : Running). KeptCut r mid.chip new.chip) was.running stays.kept);
+        running = λ busy. stays.running busy ∙ was.running;
+        busy = omega arith;
+        worn = λ s. stays.worn s ∙ was.worn s;
+      };
+      latch = λ latch. rested.latch (looked.latch latch);
+      idle_latch = λ is idle. looked.idle_latch (steady ∙ is) (omega arith) ∙ rested.idle_latch idle;
+      fell = omega arith;
+      bound = omega arith;
+    }
+
+-- Readings succeeded, so many; whatever the bus, what nothing changes is as it was.
+pub record HasLooked (reads : ℕ) (old new : BusState) : Type 0 where
+  pub honest : new.honest ≡ old.honest
+  pub steady : new.steady ≡ old.steady
+  pub stirred : new.stirred ≡ old.stirred
+  pub rested : old.honest ≡ true → Rested old new
+  pub sent : old.honest ≡ true → old.left ≡ new.left + reads
+
+pub has_looked-none : (state : BusState) → HasLooked 0 state state
+has_looked-none state = record {
+  honest = refl;
+  steady = refl;
+  stirred = refl;
+  rested = λ honest. rested_none state;
+  sent = λ honest. omega arith;
+}
+
+-- a reading more, which may stop
+pub looks_then : (reads more most : ℕ) (old mid new : BusState) → reads + more ≤ most → HasLooked reads old mid → Looks more mid new → Looks most old new
+looks_then reads more most old mid new few has looks = record {
+  honest = looks.honest ∙ has.honest;
+  steady = looks.steady ∙ has.steady;
+  stirred = looks.stirred ∙ has.stirred;
+  looked = λ honest. looked_then reads more most old mid new few has.steady (has.rested honest) (has.sent honest) (looks.looked (has.honest ∙ honest));
+}
+
+-- the next one stopped
+pub runs_out : (reads most : ℕ) (old mid new : BusState) → reads < most → HasLooked reads old mid → RunsOut 1 mid new → RunsOut most old new
+runs_out reads most old mid new few has out honest =
+    let sent = has.sent honest in let none = out (has.honest ∙ honest) in let below = none.below in
+    record { none_left = none.none_left; below = omega arith }
+
+-- the next one succeeded too
+pub has_looked-more : (reads : ℕ) (old mid new : BusState) → HasLooked reads old mid → Looks 1 mid new → (mid.honest ≡ true → HasRead mid new) → HasLooked (reads + 1) old new
+has_looked-more reads old mid new has looks read = record {
+  honest = looks.honest ∙ has.honest;
+  steady = looks.steady ∙ has.steady;
+  stirred = looks.stirred ∙ has.stirred;
+  rested = λ honest. rested_then old mid new (has.rested honest) (read (has.honest ∙ honest)).rested;
+  sent = λ honest. let sent = has.sent honest in let count = (read (has.honest ∙ honest)).count in omega arith;
+}
+
+-- a refusal that is a stop tells that the transactions ran out
+pub tells_stop : {T : Type 0} (outcome : Result T Refusal) (most : ℕ) (old new : BusState) → IsErrAnd outcome (λ refusal. refusal ≡ Stopped) → RunsOut most old new → IfErr outcome (ScanTells most old new)
+tells_stop (Ok value) most old new stopped out = tt
+tells_stop (Err refusal) most old new stopped out = subst (λ (r : Refusal). ScanTells most old new r) (sym stopped) out

@@ -1,0 +1,81 @@
+-- What scans tell: which sectors are touched and raised.
+use Rattle.std.specs.Prelude.{◌≡◌, ◌<◌, ◌+◌, ◌*◌, ◌/◌, ◌==◌, ◌&&◌, ◌||◌, ℕ, Bool, true, false, nat_lt, Result, Err, List, slice_index, if◌then◌else◌}
+use Rattle.nor_chip.specs.Bus.{BusState}
+use Rattle.nor_driver.specs.Looks.{Rested, RunsOut}
+use Rattle.nor_journal.specs.Vault.{VaultState, Refused, Accepted}
+use Rattle.nor_driver.specs.Reads.{HasRead, IsSectorOf}
+use Rattle.nor_plan.specs.declared.plan.SectorPlan.{SectorPlan}
+use Rattle.nor_plan.specs.SectorSet.{has}
+use Rattle.nor_apply.specs.Counts.{sector_count}
+use Rattle.nor_apply.specs.Content.{is_touched, is_raised}
+use Rattle.nor_save.specs.declared.refusal.Refusal.{Refusal}
+use Rattle.nor_save.specs.declared.refusal.Refusal.TheVariants.{Vault, Stopped}
+use Rattle.nor_save.specs.declared.report.Request.{Request}
+use Rattle.nor_save.specs.declared.scanning.Scanned.{Scanned}
+use Rattle.nor_save.specs.Request.{wanted, scanned_sectors}
+
+-- A sector was marked as its plan says, after one more reading.
+pub record HasMarked (sector : ℕ) (plan : SectorPlan) (old new : Scanned) : Type 0 where
+  pub touched : (s : ℕ) → has new.touched s ≡ ((plan.touched && (s == sector)) || has old.touched s)
+  pub raised : (s : ℕ) → has new.raised s ≡ ((plan.raised && (s == sector)) || has old.raised s)
+  pub count : new.count ≡ old.count + (if plan.touched then 1 else 0)
+  pub reads : new.reads ≡ old.reads + 1
+
+-- no sector is marked
+pub record IsBlank (scanned : Scanned) : Type 0 where
+  pub touched : (s : ℕ) → has scanned.touched s ≡ false
+  pub raised : (s : ℕ) → has scanned.raised s ≡ false
+  pub count : scanned.count ≡ 0
+  pub reads : scanned.reads ≡ 0
+
+-- Whatever the bus: the marked sectors are below n, the raised ones are touched, and the touched ones were counted.
+pub record AreMarks (n : ℕ) (scanned : Scanned) : Type 0 where
+  pub below : (s : ℕ) → has scanned.touched s ≡ true → s < n
+  pub inside : (s : ℕ) → has scanned.raised s ≡ true → has scanned.touched s ≡ true
+  pub count : scanned.count ≡ sector_count (has scanned.touched)
+
+-- The marks of the sectors below n are right: touched where a byte isn't the wanted one, raised where a bit has to rise.
+pub record AreRight (wanted content : ℕ → ℕ) (n : ℕ) (scanned : Scanned) : Type 0 where
+  pub touched : (s : ℕ) → has scanned.touched s ≡ (nat_lt s n && is_touched content wanted s)
+  pub raised : (s : ℕ) → has scanned.raised s ≡ (nat_lt s n && is_raised content wanted s)
+
+-- An idle chip of this size, on an honest bus.
+pub record IsOpen (size : ℕ) (state : BusState) : Type 0 where
+  pub honest : state.honest ≡ true
+  pub idle : state.chip.busy ≡ 0
+  pub same : state.chip.config.size ≡ size
+
+-- What scanning one sector does: its bytes are read, and those of the image that aren't to change are taken from them.
+pub record ScansSector (request : Request) (size sector : ℕ) (part part' bytes : List ℕ) (old new : BusState) (plan : SectorPlan) : Type 0 where
+  pub needed : plan.raised ≡ true → plan.touched ≡ true
+  pub read : old.honest ≡ true → HasRead old new
+  pub shown : IsOpen size old → IsSectorOf old.chip.bytes sector bytes
+  pub merged : IsOpen size old → (image : List ℕ) → ((i : ℕ) → i < 4096 → slice_index part i ≡ slice_index image (4096 * sector + i))
+      → (i : ℕ) → i < 4096 → slice_index part' i ≡ wanted request image size old.chip.bytes (4096 * sector + i)
+  pub planned : IsOpen size old → (image : List ℕ) → ((i : ℕ) → i < 4096 → slice_index part i ≡ slice_index image (4096 * sector + i))
+      → (plan.touched ≡ is_touched old.chip.bytes (wanted request image size old.chip.bytes) sector)
+      × (plan.raised ≡ is_raised old.chip.bytes (wanted request image size old.chip.bytes) sector)
+
+-- What scanning all sectors does, apart from the journal.
+pub record Scans (request : Request) (size : ℕ) (image image' : List ℕ) (old new : BusState) (scanned : Scanned) : Type 0 where
+  pub marks : AreMarks (size / 4096) scanned
+  pub reads : scanned.reads ≡ scanned_sectors request size
+  pub rested : old.honest ≡ true → Rested old new
+  pub sent : old.honest ≡ true → old.left ≡ new.left + scanned.reads
+  pub right : IsOpen size old → AreRight (wanted request image size old.chip.bytes) old.chip.bytes (size / 4096) scanned
+  pub merged : IsOpen size old → (a : ℕ) → has scanned.touched (a / 4096) ≡ true → slice_index image' a ≡ wanted request image size old.chip.bytes a
+
+-- no sector
+abbrev pub never : ℕ → Bool
+never s = false
+
+-- What a scan may refuse: the bus stopped, with fewer transactions than sectors to read, or the vault refused.
+abbrev pub ScanTells : ℕ → BusState → BusState → Refusal → Type 0
+ScanTells most old new Stopped = RunsOut most old new
+ScanTells most old new Vault = Unit {0}
+ScanTells most old new _ = ⊥
+
+-- What a scan leaves of the vault: it took all pieces, unless the refusal is the vault's.
+abbrev pub ScanPuts : {T : Type 0} → Result T Refusal → VaultState → VaultState → Type 0
+ScanPuts (Err Vault) old new = Refused old new
+ScanPuts _ old new = Accepted old new

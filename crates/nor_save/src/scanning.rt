@@ -1,0 +1,129 @@
+//! What is read before anything is changed.
+ghost use Rattle.std.specs.Prelude.{◌≡◌, ◌<◌, ◌≤◌, ◌+◌, ◌*◌, ◌/◌, ℕ, Bool, true, false, length, slice_index, IfOk, IfErr, OnOk, OnErr, IsTrue};
+ghost use Rattle.nor_chip.specs.Size.{is_chip_size};
+ghost use Rattle.nor_chip.specs.Chip.{Chip};
+ghost use Rattle.nor_driver.specs.Looks.{Looks, RunsOut};
+ghost use Rattle.nor_journal.specs.Text.{Content};
+ghost use Rattle.nor_journal.specs.Writer.{vault_of, vault_state, HasKept};
+ghost use Rattle.nor_plan.specs.SectorSet.{has};
+ghost use Rattle.nor_save.specs.Request.{scanned_sectors, is_data};
+ghost use Rattle.nor_save.specs.Scanning.{HasMarked, IsBlank, IsOpen, ScansSector, Scans, ScanTells, ScanPuts, never};
+
+use crate::{Refusal, Request, What};
+use nor_chip::{Bus, Stopped};
+use nor_driver::read_sector;
+use nor_journal::{Vault, Writer};
+use nor_layout::{fill_excluded, includes_in_sector};
+use nor_plan::{Plan, SectorPlan, SectorSet};
+
+/// What a scan found: the sectors in which a byte isn't the wanted one, those of them that have to be erased, how many
+/// are touched, and how many were read.
+#[derive(Clone, Copy)]
+pub struct Scanned {
+    pub touched: SectorSet,
+    pub raised: SectorSet,
+    pub count: u32,
+    pub reads: u32,
+}
+
+impl Scanned {
+    /// No sector was read yet.
+    pub fn none() -> Scanned
+        ensures { IsBlank result }
+    {
+        Scanned {
+            touched: SectorSet::new(),
+            raised: SectorSet::new(),
+            count: 0,
+            reads: 0,
+        }
+    }
+
+    /// Takes in the plan of a sector that was read.
+    pub fn mark(&mut self, sector: u32, plan: SectorPlan)
+        requires reachable { sector < 4096 }
+        requires room { self.old.count ≤ self.old.reads }
+        requires few { self.old.reads < 4096 }
+        ensures { HasMarked sector plan self.old self.new }
+    {
+        if plan.touched {
+            self.touched.insert(sector);
+            self.count += 1;
+        }
+        if plan.raised {
+            self.raised.insert(sector);
+        }
+        self.reads += 1;
+    }
+}
+
+impl Request {
+    /// It is about bytes, not about protection.
+    pub fn is_data(&self) -> bool
+        ensures { result ≡ is_data self.now.what }
+    {
+        !matches!(self.what, What::WpRange { .. })
+    }
+}
+
+/// Reads a sector that holds an address which may change, takes what may not into the image's part, and plans it.
+fn scan_sector<B: Bus>(
+    bus: &mut B,
+    request: &Request,
+    sector: u32,
+    part: &mut [u8],
+    bytes: &mut [u8; 4096],
+    size: u32,
+) -> Result<SectorPlan, Stopped>
+    requires inside { 4096 * sector + 4096 ≤ size }
+    requires small { size ≤ 16777216 }
+    requires whole { length part.old ≡ 4096 }
+    requires data { is_data request.now.what ≡ true }
+    ensures leaves { Looks 1 (B.state bus.old) (B.state bus.new) }
+    ensures scans { IfOk result (ScansSector request.now size sector part.old part.new bytes.new (B.state bus.old) (B.state bus.new)) }
+    ensures stops { OnErr result (RunsOut 1 (B.state bus.old) (B.state bus.new)) }
+{
+    read_sector(bus, sector, &mut *bytes)?;
+    if let What::Erase = request.what {
+        part.fill(0xFF);
+    }
+    fill_excluded(request.included.as_ref(), sector, &mut *part, &*bytes);
+    Ok(Plan::of(&*bytes, &*part))
+}
+
+/// Reads each sector that holds an address which may change, rising, takes what may not change into the image, and puts
+/// the touched sectors into the journal.
+pub fn scan_all<B: Bus, V: Vault>(
+    bus: &mut B,
+    writer: &mut Writer<'_, V>,
+    image: &mut [u8],
+    request: &Request,
+    size: u32,
+) -> Result<Scanned, Refusal>
+    requires sized { IsTrue (is_chip_size size) }
+    requires whole { is_data request.now.what ≡ true → length image.old ≡ size }
+    requires unsealed { (vault_state V.state writer.old).sealed ≡ false }
+    ensures leaves { Looks (scanned_sectors request.now size) (B.state bus.old) (B.state bus.new) }
+    ensures scans { IfOk result (Scans request.now size image.old image.new (B.state bus.old) (B.state bus.new)) }
+    ensures same_vault { (vault_of writer.new).ghost_name ≡ (vault_of writer.old).ghost_name }
+    ensures puts { ScanPuts result (vault_state V.state writer.old) (vault_state V.state writer.new) }
+    ensures tells { IfErr result (ScanTells (scanned_sectors request.now size) (B.state bus.old) (B.state bus.new)) }
+    ensures keeps { IsOpen size (B.state bus.old) → (head : Content) → head.size ≡ size → HasKept V.state writer.old head (B.state bus.old).chip.bytes never 0
+        → IfOk result (λ scanned. HasKept V.state writer.new head (B.state bus.old).chip.bytes (has scanned.touched) (size / 4096)) }
+{
+    let mut scanned = Scanned::none();
+    let mut bytes = [0; 4096];
+    let sectors = if request.is_data() { size / 4096 } else { 0 };
+    for sector in 0..sectors {
+        if includes_in_sector(request.included.as_ref(), sector) {
+            let start = 4096 * sector as usize;
+            let part = &mut image[start..start + 4096];
+            let plan = scan_sector(bus, request, sector, part, &mut bytes, size)?;
+            if plan.touched {
+                writer.add(sector, &bytes)?;
+            }
+            scanned.mark(sector, plan);
+        }
+    }
+    Ok(scanned)
+}
