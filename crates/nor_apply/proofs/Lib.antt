@@ -12,3 +12,5 @@ pub mod ProgrammingSectors
 pub mod ProgrammingWhole
 pub mod CheckingLooks
 pub mod CheckingSteps
+pub mod ApplyingSteps
+pub mod ApplyingExits

@@ -7,3 +7,4 @@ pub mod Erasing
 pub mod Programming
 pub mod Checking
 pub mod Protecting
+pub mod Applying

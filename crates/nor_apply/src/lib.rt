@@ -4,6 +4,7 @@
 //! at its end, stands in `specs/Change.antt` and `specs/Within.antt`.
 #![tactic(auto)]
 
+mod changes;
 mod checks;
 mod erases;
 mod programs;
@@ -11,6 +12,7 @@ mod protection;
 mod source;
 mod tally;
 
+pub use changes::{Changes, Work, apply};
 pub use checks::{CheckFault, check_all};
 pub use erases::erase_all;
 pub use programs::program_all;

@@ -1,0 +1,87 @@
+-- What the whole of the changes of a session or restore leaves: unlock, erases, programs, the status.
+use Rattle.std.specs.Prelude.{◌≡◌, ◌≤◌, ◌<◌, ◌+◌, ◌*◌, ◌/◌, ◌%◌, ◌||◌, ◌==◌, ℕ, Bool, true, false, not, length, bit_and, if◌then◌else◌}
+use Rattle.nor_chip.specs.Chip.{Chip}
+use Rattle.nor_chip.specs.Guard.{is_guarded}
+use Rattle.nor_chip.specs.Bus.{BusState}
+use Rattle.nor_driver.specs.StatusWrites.{KeepsFixed, HasCode}
+use Rattle.nor_plan.specs.Planned.{planned}
+use Rattle.nor_plan.specs.SectorSet.{has}
+use Rattle.nor_apply.specs.declared.changes.Changes.{Changes}
+use Rattle.nor_apply.specs.declared.changes.Work.{Work}
+use Rattle.nor_layout.specs.Below.{count_below}
+use Rattle.nor_apply.specs.Counts.{sector_count}
+use Rattle.nor_apply.specs.Content.{once_erased, is_programmed}
+use Rattle.nor_apply.specs.Within.{is_writable}
+use Rattle.nor_apply.specs.Change.{IsSized, MayChange}
+use Rattle.nor_apply.specs.Spending.{Spends}
+
+-- the touched sectors, and the raised ones
+abbrev pub touched_in : Changes → ℕ → Bool
+touched_in changes = has changes.touched
+
+abbrev pub raised_in : Changes → ℕ → Bool
+raised_in changes = has changes.raised
+
+-- the protection code that the status has which was read
+abbrev pub code_read : Changes → ℕ
+code_read changes = 32 * (changes.status.two.0 / 64 % 2) + changes.status.one.0 / 4 % 32
+
+-- the status is written at the end: the code bits now, none where protection was lifted, aren't the wanted ones
+abbrev pub writes_code : Changes → Bool
+writes_code changes = not ((if changes.unlock then 0 else code_read changes) == changes.code)
+
+-- how many status writes there are
+abbrev pub status_writes : Changes → ℕ
+status_writes changes = (if changes.unlock then 1 else 0) + (if writes_code changes then 1 else 0)
+
+-- the status that was read has the kept bits of this chip
+pub record HasKeptBits (changes : Changes) (chip : Chip) : Type 0 where
+  pub one : changes.status.one.0 / 4 ≡ chip.kept1
+  pub two : changes.status.two.0 % 128 ≡ chip.kept2
+
+-- The changes can be made: the chip is idle, of this size and these erase kinds, and has the status that was read;
+-- the touched sectors lie inside it, and hold a guarded place only where protection is lifted first; the status is
+-- written only where it can be; what is wanted are bytes; in a touched
+-- sector that isn't raised no bit has to rise.
+pub record CanApply (changes : Changes) (wanted : ℕ → ℕ) (chip : Chip) : Type 0 where
+  pub idle : chip.busy ≡ 0
+  pub sized : IsSized changes.size changes.kinds chip
+  pub kept : HasKeptBits changes chip
+  pub inside : (s : ℕ) → touched_in changes s ≡ true → 4096 * s + 4096 ≤ chip.config.size
+  pub free : changes.unlock ≡ false → (a : ℕ) → touched_in changes (a / 4096) ≡ true → is_guarded chip a ≡ false
+  pub writable : (changes.unlock || writes_code changes) ≡ true → is_writable chip ≡ true
+  pub raised : (s : ℕ) → raised_in changes s ≡ true → touched_in changes s ≡ true
+  pub bytes : (a : ℕ) → touched_in changes (a / 4096) ≡ true → wanted a < 256
+  pub falls : (a : ℕ) → touched_in changes (a / 4096) ≡ true → raised_in changes (a / 4096) ≡ false → bit_and (wanted a) (chip.bytes a) ≡ wanted a
+
+-- At the end: the touched sectors have the wanted bytes, the code is the wanted one, the raised sectors are worn, all
+-- else is as it was, and the chip is idle.
+pub record HasApplied (changes : Changes) (wanted : ℕ → ℕ) (old new : BusState) : Type 0 where
+  pub config : new.chip.config ≡ old.chip.config
+  pub bytes : (a : ℕ) → new.chip.bytes a ≡ (if touched_in changes (a / 4096) then wanted a else old.chip.bytes a)
+  pub fixed : KeepsFixed old.chip new.chip
+  pub has_code : HasCode changes.code new.chip
+  pub worn : (s : ℕ) → new.worn s ≡ (old.worn s || raised_in changes s)
+  pub idle : new.chip.busy ≡ 0
+
+-- The most transactions: each touched sector is read once for its programs, it is erased once and has sixteen pages,
+-- and the status is written twice.
+abbrev pub most_applied : ℕ → ℕ
+most_applied touched = touched + 65538 * (17 * touched + 2)
+
+-- At every exit.
+pub record LeavesApply (changes : Changes) (wanted : ℕ → ℕ) (old new : BusState) : Type 0 where
+  pub spends : Spends (most_applied (sector_count (touched_in changes))) old new
+  pub reached : old.honest ≡ true → CanApply changes wanted old.chip → MayChange (touched_in changes) (raised_in changes) wanted old new
+
+-- At the end, with what the work came to.
+pub record DoesApply (changes : Changes) (wanted : ℕ → ℕ) (old new : BusState) (work : Work) : Type 0 where
+  pub erases : work.erases ≡ length (planned changes.kinds (changes.size / 4096) (raised_in changes))
+  pub fewer_erases : work.erases ≤ sector_count (raised_in changes)
+  pub fewer_programs : work.programs ≤ 16 * sector_count (touched_in changes)
+  pub few : work.transactions ≤ sector_count (touched_in changes) + 65538 * (work.erases + work.programs + status_writes changes)
+  pub least : 3 * (work.erases + work.programs + status_writes changes) ≤ work.transactions
+  pub sent : old.honest ≡ true → old.left ≡ new.left + work.transactions
+  pub done : old.honest ≡ true → CanApply changes wanted old.chip → HasApplied changes wanted old new
+  pub programs : old.honest ≡ true → CanApply changes wanted old.chip
+      → work.programs ≡ count_below 65536 (is_programmed (touched_in changes) (once_erased (raised_in changes) old.chip.bytes) wanted)
