@@ -1,20 +1,19 @@
 -- What the erase of a unit does, from what an operation does.
-use Rattle.std.proofs.Common.{◌≡◌, ◌<◌, ◌≤◌, ◌+◌, ◌*◌, ◌/◌, ◌%◌, ◌&&◌, ◌||◌, ◌⊎◌, ◌∙◌, ℕ, Bool, true, false, not, cond, nat_eq, nat_lt, nat_le, List, [], ◌∷◌, drop, ap, sym, refl, subst, arith, inl, inr}
-use Rattle.std.specs.Prelude.{◌==◌, if◌then◌else◌}
-use Rattle.std.proofs.lemmas.Bool.Decides.{eqb_tells, nat_tests}
+use Rattle.std.proofs.Common.{◌≡◌, ◌<◌, ◌+◌, ◌*◌, ◌/◌, ◌%◌, ◌&&◌, ◌||◌, ◌∙◌, ℕ, Bool, true, false, not, cond, nat_lt, nat_le, List, [], ◌∷◌, drop, ap, sym, refl, subst, arith, inl, inr}
+use Rattle.std.proofs.lemmas.Bool.Decides.{nat_tests}
 use Rattle.nor_chip.specs.declared.config.Config.{Config}
 use Rattle.nor_chip.specs.declared.command.Command.{Command}
 use Rattle.nor_chip.specs.declared.command.Command.TheVariants as Commands
 use Rattle.nor_chip.specs.Chip.{Chip}
 use Rattle.nor_chip.specs.Guard.{is_unit_guarded}
-use Rattle.nor_chip.specs.Command.{address_of, command_of}
+use Rattle.nor_chip.specs.Command.{address_of}
 use Rattle.nor_chip.specs.Step.{is_idle, is_operation, is_carried_out}
 use Rattle.nor_chip.specs.Bus.{BusState}
-use Rattle.nor_driver.proofs.Bools.{or_false, and_true, and_false, bool_same, tested}
+use Rattle.nor_driver.proofs.Bools.{and_false, bool_same, tested}
 use Rattle.nor_driver.specs.declared.units.Erase.{Erase}
 use Rattle.nor_driver.specs.declared.units.EraseUnit.{EraseUnit}
 use Rattle.nor_driver.specs.declared.units.EraseUnit.TheVariants as Units
-use Rattle.nor_driver.specs.Units.{opcode_of, sectors_in, has_unit, is_aligned, erases_sector}
+use Rattle.nor_driver.specs.Units.{opcode_of, sectors_in}
 use Rattle.nor_driver.specs.Operations.{operation_of, is_change, IsOperation, MayOperate, HasOperated, LeavesOperation, Operates}
 use Rattle.nor_driver.specs.Erases.{sectors_of, unit_length, IsOnChip, CanErase, takes_erase, is_sector_of, is_place_of, MayErase, HasErased, LeavesErase, Erases}
 use Rattle.nor_driver.proofs.Programming.{same_address}

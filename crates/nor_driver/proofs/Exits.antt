@@ -1,14 +1,14 @@
 -- What an operation leaves wherever it ends: at its command, in its wait, or well.
-use Rattle.std.proofs.Common.{◌≡◌, ◌+◌, ◌||◌, ◌∙◌, ℕ, Bool, true, false, cond, List, [], ◌∷◌, length, drop, ap, sym, refl, subst, arith}
+use Rattle.std.proofs.Common.{◌≡◌, ◌+◌, ◌||◌, ◌∙◌, ℕ, Bool, true, false, cond, List, [], ◌∷◌, length, drop, ap, refl, subst, arith}
 use Rattle.nor_chip.specs.declared.command.Command.{Command}
 use Rattle.nor_chip.specs.Command.{begins_change}
-use Rattle.nor_chip.specs.Step.{Does, is_idle, is_operation, done_of, wears}
+use Rattle.nor_chip.specs.Step.{Does, is_operation, done_of, wears}
 use Rattle.nor_chip.specs.Bus.{BusState, Sends, Stops, Carries}
 use Rattle.nor_driver.specs.declared.waits.Waited.{Waited}
 use Rattle.nor_driver.specs.Looks.{Unchanged, Stays, Looks}
 use Rattle.nor_driver.specs.Waits.{Waits, HasWaited}
 use Rattle.nor_driver.specs.Reads.{HasRead}
-use Rattle.nor_driver.specs.Operations.{operation_of, IsOperation, Stirs, HasIgnored, LeavesOperation, Operates}
+use Rattle.nor_driver.specs.Operations.{operation_of, IsOperation, Stirs, LeavesOperation, Operates}
 use Rattle.nor_driver.proofs.Cuts.{stays_at_stop, stays_after, unchanged_then}
 use Rattle.nor_driver.proofs.Readings.{carried_ignored}
 use Rattle.nor_driver.proofs.Begun.{IsEnabled, enabled, then_done, operation-ignored, idle-takes, HasBegun, operation-begins, may-before, may-after, operated, latch-kept}

@@ -1,6 +1,5 @@
 -- What the program of a part of a page does, from what an operation does.
-use Rattle.std.proofs.Common.{◌≡◌, ◌<◌, ◌≤◌, ◌+◌, ◌-◌, ◌*◌, ◌/◌, ◌%◌, ◌&&◌, ◌||◌, ◌⊎◌, ◌∙◌, ℕ, Bool, true, false, not, cond, nat_eq, nat_lt, nat_le, suc, List, [], ◌∷◌, length, slice_index, bit_and, ap, sym, refl, subst, arith, inl, inr}
-use Rattle.std.specs.Prelude.{◌==◌, if◌then◌else◌}
+use Rattle.std.proofs.Common.{◌≡◌, ◌<◌, ◌≤◌, ◌+◌, ◌-◌, ◌*◌, ◌%◌, ◌&&◌, ◌⊎◌, ◌∙◌, ℕ, Bool, true, false, not, cond, nat_lt, nat_le, suc, List, [], ◌∷◌, length, slice_index, bit_and, ap, sym, refl, subst, arith, inl, inr}
 use Rattle.std.proofs.Math.Nat.{mod-eq_of_lt}
 use Rattle.std.proofs.lemmas.Bool.Decides.{nat_tests}
 use Rattle.nor_chip.specs.declared.config.Config.{Config}
@@ -8,12 +7,12 @@ use Rattle.nor_chip.specs.declared.command.Command.{Command}
 use Rattle.nor_chip.specs.declared.command.Command.TheVariants.{Program, Ignored}
 use Rattle.nor_chip.specs.Chip.{Chip}
 use Rattle.nor_chip.specs.Guard.{is_guarded}
-use Rattle.nor_chip.specs.Command.{address_of, command_of}
+use Rattle.nor_chip.specs.Command.{address_of}
 use Rattle.nor_chip.specs.Step.{is_idle, is_operation, byte_after}
 use Rattle.nor_chip.specs.Bus.{BusState}
 use Rattle.nor_chip.proofs.Page.{byte_after-program, byte_after-program_other}
 use Rattle.nor_driver.proofs.Bools.{or_false, and_true}
-use Rattle.nor_driver.specs.Operations.{operation_of, is_change, IsOperation, IsCommandAt, MayOperate, HasOperated, LeavesOperation, Operates}
+use Rattle.nor_driver.specs.Operations.{operation_of, IsOperation, IsCommandAt, MayOperate, HasOperated, LeavesOperation, Operates}
 use Rattle.nor_driver.specs.Programs.{CanProgram, takes_program, programmed, MayProgram, HasProgrammed, LeavesProgram, Programs}
 
 -- an address below the chip's size is itself

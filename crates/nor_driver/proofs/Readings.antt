@@ -1,14 +1,14 @@
 -- What one transaction that reads leaves, and what it tells.
-use Rattle.std.proofs.Common.{◌≡◌, ◌≢◌, ◌≤◌, ◌<◌, ◌+◌, ◌-◌, ◌*◌, ◌%◌, ◌∙◌, ◌⊎◌, ◌||◌, ℕ, Bool, true, false, cond, List, [], ◌∷◌, length, slice_index, ap, sym, refl, subst, arith, inl, inr}
+use Rattle.std.proofs.Common.{◌≡◌, ◌≤◌, ◌<◌, ◌+◌, ◌∙◌, ◌||◌, ℕ, Bool, true, false, cond, List, [], ◌∷◌, length, slice_index, ap, sym, refl, arith, inl, inr}
 use Rattle.std.specs.Prelude.{◌==◌, Result, Ok, Err, OnOk, OnErr, if◌then◌else◌}
 use Rattle.nor_chip.specs.declared.command.Command.{Command}
 use Rattle.nor_chip.specs.declared.command.Command.TheVariants.{WriteEnable, WriteDisable, Poll, ReadStatus2, WriteStatus, Program, Erase, ReadData, ReadId, ReadSfdp, ReadUnique, Ignored}
-use Rattle.nor_chip.specs.Chip.{Chip, status1_of}
+use Rattle.nor_chip.specs.Chip.{Chip}
 use Rattle.nor_chip.specs.Command.{command_of, begins_change}
-use Rattle.nor_chip.specs.Step.{Does, is_carried_out, done_of, reply_byte, latch_after, wears}
+use Rattle.nor_chip.specs.Step.{Does, is_carried_out, done_of, wears}
 use Rattle.nor_chip.specs.Bus.{BusState, Sends, Stops, Carries}
 use Rattle.nor_driver.proofs.Bools.{or_false}
-use Rattle.nor_driver.specs.Looks.{Unchanged, Stays, Rested, Looked, Looks, RanOut, RunsOut}
+use Rattle.nor_driver.specs.Looks.{Rested, Looked, Looks, RanOut}
 use Rattle.nor_driver.specs.Waits.{HasPolled}
 use Rattle.nor_driver.specs.Reads.{is_reading, IsReading, HasRead, Replies}
 use Rattle.nor_driver.proofs.Cuts.{stays_at_stop, stays_after, unchanged_none, unchanged_then, unchanged_stays}

@@ -1,12 +1,11 @@
 -- What a status write does that sends the fixed bits as they are, from what an operation does.
-use Rattle.std.proofs.Common.{◌≡◌, ◌<◌, ◌≤◌, ◌+◌, ◌*◌, ◌/◌, ◌%◌, ◌&&◌, ◌||◌, ◌⊎◌, ◌∙◌, ℕ, zero, suc, Bool, true, false, not, cond, List, [], ◌∷◌, slice_index, ap, sym, refl, subst, arith, inl, inr}
+use Rattle.std.proofs.Common.{◌≡◌, ◌<◌, ◌+◌, ◌*◌, ◌/◌, ◌%◌, ◌&&◌, ◌∙◌, ℕ, zero, suc, Bool, true, false, not, cond, List, [], ◌∷◌, slice_index, ap, refl, subst, arith, inl, inr}
 use Rattle.std.specs.Prelude.{◌==◌, bit_and, bit_or}
 use Rattle.std.proofs.lemmas.Bool.Decides.{eqb_tells}
 use Rattle.nor_chip.specs.declared.command.Command.{Command}
 use Rattle.nor_chip.specs.declared.command.Command.TheVariants.{WriteStatus, Ignored}
 use Rattle.nor_chip.specs.declared.status.Status.{Status}
 use Rattle.nor_chip.specs.Chip.{Chip, is_locked}
-use Rattle.nor_chip.specs.Power.{KeptStay}
 use Rattle.nor_chip.specs.Step.{is_idle, is_operation}
 use Rattle.nor_chip.specs.Bus.{BusState}
 use Rattle.nor_driver.proofs.Bools.{or_false, and_true, left_of, right_of, tested}

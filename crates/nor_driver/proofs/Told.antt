@@ -1,5 +1,5 @@
 -- What the replies of an idle chip are: its ID, its number, its SFDP and the bytes of a sector.
-use Rattle.std.proofs.Common.{◌≡◌, ◌<◌, ◌≤◌, ◌+◌, ◌*◌, ◌%◌, ◌∙◌, ℕ, zero, suc, true, List, [], ◌∷◌, length, slice_index, refl, ap, sym, arith}
+use Rattle.std.proofs.Common.{◌≡◌, ◌<◌, ◌≤◌, ◌+◌, ◌*◌, ◌%◌, ◌∙◌, ℕ, zero, suc, List, [], ◌∷◌, length, slice_index, refl, ap, sym, arith}
 use Rattle.std.specs.Prelude.{map, slice_index_or, ◌==◌, if◌then◌else◌}
 use Rattle.std.specs.List.{range_with_len}
 use Rattle.std.proofs.Math.Nat.{mod-eq_of_lt}
@@ -7,11 +7,11 @@ use Rattle.std.proofs.lemmas.List.{ext_get_or}
 use Rattle.std.proofs.lemmas.List.FromFn.{get_or-map-range_with_len, length-map-range_with_len}
 use Rattle.nor_chip.specs.declared.config.Config.{Config}
 use Rattle.nor_chip.specs.declared.command.Command.TheVariants.{ReadData, ReadSfdp, ReadUnique, Ignored}
-use Rattle.nor_chip.specs.Chip.{Chip, sfdp_byte}
+use Rattle.nor_chip.specs.Chip.{sfdp_byte}
 use Rattle.nor_chip.specs.Command.{address_of}
 use Rattle.nor_chip.specs.Step.{reply_byte}
 use Rattle.nor_chip.specs.Bus.{BusState}
-use Rattle.nor_driver.specs.Reads.{Replies, unique_of, shown, IsSectorOf, ReadsUnique, ReadsSfdp, ReadsSector}
+use Rattle.nor_driver.specs.Reads.{Replies, unique_of, shown, ReadsUnique, ReadsSfdp, ReadsSector}
 
 -- bytes that are those of each address in turn are what is shown
 reply_shown : (config : Config) (at len : ℕ) (bytes : List ℕ) → length bytes ≡ len

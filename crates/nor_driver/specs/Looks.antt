@@ -1,6 +1,6 @@
 -- What functions that only read leave of a bus.
 use Rattle.std.specs.Prelude.{◌≡◌, ◌≢◌, ◌≤◌, ◌<◌, ◌+◌, ◌⊎◌, ℕ, true, false}
-use Rattle.nor_chip.specs.Chip.{Chip, IsSame}
+use Rattle.nor_chip.specs.Chip.{IsSame}
 use Rattle.nor_chip.specs.Power.{is_in_work, KeptCut}
 use Rattle.nor_chip.specs.Bus.{BusState}
 

@@ -1,5 +1,5 @@
 -- What operations leave, whatever they are: write enable, a command, a wait.
-use Rattle.std.specs.Prelude.{◌≡◌, ◌≢◌, ◌≤◌, ◌<◌, ◌+◌, ◌*◌, ◌⊎◌, ◌||◌, ℕ, Bool, true, false, List, [], ◌∷◌, drop, slice_index}
+use Rattle.std.specs.Prelude.{◌≡◌, ◌≢◌, ◌≤◌, ◌+◌, ◌*◌, ◌⊎◌, ◌||◌, ℕ, Bool, true, false, List, ◌∷◌, drop, slice_index}
 use Rattle.nor_chip.specs.declared.config.Config.{Config}
 use Rattle.nor_chip.specs.declared.command.Command.{Command}
 use Rattle.nor_chip.specs.declared.command.Command.TheVariants.{WriteStatus, Program, Erase, Ignored}

@@ -4,7 +4,7 @@ use Rattle.std.specs.List.{range_with_len}
 use Rattle.nor_chip.specs.declared.config.Config.{Config}
 use Rattle.nor_chip.specs.declared.command.Command.{Command}
 use Rattle.nor_chip.specs.declared.command.Command.TheVariants.{ReadStatus2, ReadData, ReadId, ReadSfdp, ReadUnique, Ignored}
-use Rattle.nor_chip.specs.Chip.{Chip, sfdp_byte}
+use Rattle.nor_chip.specs.Chip.{sfdp_byte}
 use Rattle.nor_chip.specs.Command.{command_of, begins_change}
 use Rattle.nor_chip.specs.Step.{done_of, reply_byte}
 use Rattle.nor_chip.specs.Bus.{BusState}

@@ -1,4 +1,4 @@
-use Rattle.std.proofs.Common.{◌≡◌, ◌+◌, ◌*◌, ◌∙◌, slice_index}
+use Rattle.std.proofs.Common.{◌∙◌}
 use Rattle.std.proofs.lemmas.Result.{IfOk-weaker}
 use Rattle.nor_driver.proofs.Erasing.{chip_bytes, other_bytes, leaves_erase, does_erase}
 use Rattle.nor_driver.proofs.operations.erase.Goals as goal
