@@ -1,0 +1,18 @@
+-- Which refusals are judged where, on every bus.
+use Rattle.nor_save.specs.declared.refusal.Refusal.{Refusal}
+use Rattle.nor_save.specs.declared.refusal.Refusal.TheVariants.{ImageSize, RegionOutside, NoProtection, UndefinedProtection, RangeNotOffered, StatusLocked, Protected}
+
+-- by the opening
+abbrev pub IsOpeningRefusal : Refusal → Type 0
+IsOpeningRefusal (ImageSize chip image) = Unit {0}
+IsOpeningRefusal RegionOutside = Unit {0}
+IsOpeningRefusal NoProtection = Unit {0}
+IsOpeningRefusal UndefinedProtection = Unit {0}
+IsOpeningRefusal RangeNotOffered = Unit {0}
+IsOpeningRefusal _ = ⊥
+
+-- by the scan
+abbrev pub IsScanRefusal : Refusal → Type 0
+IsScanRefusal StatusLocked = Unit {0}
+IsScanRefusal (Protected address) = Unit {0}
+IsScanRefusal _ = ⊥

@@ -1,0 +1,52 @@
+-- What the opening of a call tells of the chip.
+use Rattle.std.specs.Prelude.{◌≡◌, ◌≤◌, ◌+◌, ℕ, true, Option, Ok, List, [], ◌∷◌}
+use Rattle.nor_chip.specs.Chip.{status1_of}
+use Rattle.nor_chip.specs.Bus.{BusState}
+use Rattle.nor_driver.specs.Looks.{Rested, RunsOut}
+use Rattle.nor_driver.specs.Reads.{unique_of}
+use Rattle.nor_probe.specs.declared.table.ChipName.{ChipName}
+use Rattle.nor_probe.specs.declared.probes.Probed.{Probed}
+use Rattle.nor_probe.specs.declared.probes.ProbeFault.TheVariants as Probes
+use Rattle.nor_probe.specs.Known.{shown_as, IsGenuine}
+use Rattle.nor_probe.specs.Found.{part_in, IsPart, IsWanted, IsConfigOf, Tells}
+use Rattle.nor_save.specs.declared.opening.Opening.{Opening}
+use Rattle.nor_save.specs.declared.refusal.Refusal.{Refusal}
+use Rattle.nor_save.specs.declared.refusal.Refusal.TheVariants.{NoChip, UnknownChip, OtherName, Stopped, Timeout}
+
+-- the two status bytes that were read
+abbrev pub status_read : Opening → List ℕ
+status_read opening = opening.found.status1 ∷ opening.status2 ∷ []
+
+-- what is read after the probe
+pub record Reads (probed : Probed) (old new : BusState) (opening : Opening) : Type 0 where
+  pub found : opening.found ≡ probed.found
+  pub transactions : opening.transactions ≡ probed.transactions + 2
+  pub rested : old.honest ≡ true → Rested old new
+  pub count : old.honest ≡ true → old.left ≡ new.left + 2
+  pub status2 : old.honest ≡ true → opening.status2 ≡ old.chip.kept2
+  pub unique : old.honest ≡ true → old.chip.busy ≡ 0 → opening.unique ≡ unique_of old.chip.config
+
+-- The opening succeeded. Whatever the bus, the part is a row of the table or one by SFDP, with the name that is wanted.
+-- On an honest bus: nothing changed, the chip is idle, and what was read is its own.
+pub record Opens (named : Option ChipName) (old new : BusState) (opening : Opening) : Type 0 where
+  pub part : IsPart opening.found
+  pub wanted : IsWanted named opening.found.name
+  pub least : 4 ≤ opening.transactions
+  pub most : opening.transactions ≤ 65542
+  pub rested : old.honest ≡ true → Rested old new
+  pub idle : old.honest ≡ true → new.chip.busy ≡ 0
+  pub shown : old.honest ≡ true → shown_as old.chip.config ≡ Ok (part_in opening.found)
+  pub genuine : old.honest ≡ true → IsGenuine old.chip.config → IsConfigOf old.chip.config opening.found
+  pub status1 : old.honest ≡ true → opening.found.status1 ≡ status1_of new.chip
+  pub status2 : old.honest ≡ true → opening.status2 ≡ new.chip.kept2
+  pub unique : old.honest ≡ true → opening.unique ≡ unique_of new.chip.config
+  pub count : old.honest ≡ true → old.left ≡ new.left + opening.transactions
+
+-- What a refusal of the opening tells: the probe's, or a stop with fewer transactions than 65,542.
+abbrev pub OpeningTells : Option ChipName → BusState → BusState → Refusal → Type 0
+OpeningTells named old new NoChip = old.honest ≡ true → Tells named old new Probes.NoChip
+OpeningTells named old new (UnknownChip fault) = old.honest ≡ true → Tells named old new (Probes.UnknownChip fault)
+OpeningTells named old new OtherName = old.honest ≡ true → Tells named old new Probes.OtherName
+OpeningTells named old new Stopped = RunsOut 65542 old new
+OpeningTells named old new (Timeout address) = (address ≡ 0) × (old.honest ≡ true → ⊥)
+OpeningTells named old new _ = ⊥

@@ -1,0 +1,116 @@
+-- What a session saves, and what it may refuse until then.
+use Rattle.std.specs.Prelude.{◌≡◌, ◌≢◌, ◌<◌, ◌*◌, ◌/◌, ◌&&◌, ℕ, Bool, true, false, Some, [], ◌∷◌}
+use Rattle.nor_chip.specs.Chip.{Chip, is_locked}
+use Rattle.nor_chip.specs.Guard.{code_of, is_undefined, is_unit_guarded}
+use Rattle.nor_chip.specs.Offer.{IsNotOffered}
+use Rattle.nor_driver.specs.Reads.{unique_of, id_of}
+use Rattle.nor_journal.specs.Text.{Content, empty_content}
+use Rattle.nor_layout.specs.Sectors.{ReachesPast, FitsInto}
+use Rattle.nor_probe.specs.Found.{IsConfigOf}
+use Rattle.nor_save.specs.declared.opening.Opening.{Opening}
+use Rattle.nor_save.specs.declared.report.Request.{Request}
+use Rattle.nor_save.specs.declared.report.What.{What}
+use Rattle.nor_save.specs.declared.report.What.TheVariants.{Write, Erase, WpRange}
+use Rattle.nor_save.specs.declared.refusal.Refusal.{Refusal}
+use Rattle.nor_save.specs.declared.refusal.Refusal.TheVariants.{ImageSize, RegionOutside, NoProtection, UndefinedProtection, RangeNotOffered, StatusLocked, Protected}
+use Rattle.nor_save.specs.Request.{is_data, IsWantedCode}
+
+-- The opening has the configuration, the status and the own number of an idle chip.
+pub record IsOpening (chip : Chip) (opening : Opening) : Type 0 where
+  pub config : IsConfigOf chip.config opening.found
+  pub idle : chip.busy ≡ 0
+  pub one : opening.found.status1 / 4 ≡ chip.kept1
+  pub two : opening.status2 ≡ chip.kept2
+  pub unique : opening.unique ≡ unique_of chip.config
+
+-- ---- what the opening judges
+
+-- neither image nor ranges are refused
+pub record FitsChip (request : Request) (image : ℕ) (chip : Chip) : Type 0 where
+  pub image_size : is_data request.what ≡ true → image ≡ chip.config.size
+  pub regions : is_data request.what ≡ true → FitsInto request.included chip.config.size
+
+-- nor is protection
+pub record FitsProtection (request : Request) (chip : Chip) : Type 0 where
+  pub scheme : is_data request.what ≡ false → chip.config.scheme ≡ true
+  pub defined : chip.config.scheme ≡ true → is_undefined (code_of chip) ≡ false
+
+-- the range that is asked for is one that no code guards
+abbrev pub AsksForNone : What → Chip → Type 0
+AsksForNone Write chip = ⊥
+AsksForNone Erase chip = ⊥
+AsksForNone (WpRange start len) chip = IsNotOffered chip.config.size start len
+
+-- what such a refusal tells: those before it don't hold
+abbrev pub OpeningJudges : Request → ℕ → Chip → Refusal → Type 0
+OpeningJudges request image chip (ImageSize size len) =
+    (is_data request.what ≡ true) × (size ≡ chip.config.size) × (len ≡ image) × (image ≢ chip.config.size)
+OpeningJudges request image chip RegionOutside =
+    (is_data request.what ≡ true) × (image ≡ chip.config.size) × ReachesPast request.included chip.config.size
+OpeningJudges request image chip NoProtection = (is_data request.what ≡ false) × (chip.config.scheme ≡ false)
+OpeningJudges request image chip UndefinedProtection =
+    FitsChip request image chip × (chip.config.scheme ≡ true) × (is_undefined (code_of chip) ≡ true)
+OpeningJudges request image chip RangeNotOffered = FitsProtection request chip × AsksForNone request.what chip
+OpeningJudges request image chip _ = ⊥
+
+-- The opening refuses nothing, and the wanted code is this one.
+pub record OpeningAccepts (request : Request) (image : ℕ) (chip : Chip) (code : ℕ) : Type 0 where
+  pub fits : FitsChip request image chip
+  pub protection : FitsProtection request chip
+  pub is_wanted : IsWantedCode request.what chip code
+  pub six_bits : code < 64
+
+-- ---- what the scan judges
+
+-- a touched sector that is guarded
+abbrev pub is_held : (ℕ → Bool) → Chip → ℕ → Bool
+is_held touched chip s = touched s && is_unit_guarded chip (4096 * s) 4096
+
+-- the least of them
+pub record IsLeastHeld (touched : ℕ → Bool) (chip : Chip) (s : ℕ) : Type 0 where
+  pub is : is_held touched chip s ≡ true
+  pub least : (t : ℕ) → t < s → is_held touched chip t ≡ false
+
+-- none of them
+abbrev pub NoneHeld : (ℕ → Bool) → Chip → Type 0
+NoneHeld touched chip = (s : ℕ) → is_held touched chip s ≡ false
+
+-- some of them
+pub record SomeHeld (touched : ℕ → Bool) (chip : Chip) : Type 0 where
+  pub sector : ℕ
+  pub held : is_held touched chip sector ≡ true
+
+-- A status write is needed: a range wants another code, or protection of a touched sector is to be lifted.
+abbrev pub NeedsCode : What → Bool → ℕ → (ℕ → Bool) → Chip → Type 0
+NeedsCode (WpRange start len) unlock code touched chip = code ≢ code_of chip
+NeedsCode _ unlock code touched chip = (unlock ≡ true) × SomeHeld touched chip
+
+abbrev pub NeedsStatus : Request → ℕ → (ℕ → Bool) → Chip → Type 0
+NeedsStatus request code touched chip = NeedsCode request.what request.unlock code touched chip
+
+-- Protection isn't to be lifted, the address is the first of the least held sector, and a status that is locked isn't
+-- to be written.
+pub record IsHeldAt (request : Request) (code : ℕ) (touched : ℕ → Bool) (chip : Chip) (address : ℕ) : Type 0 where
+  pub shut : request.unlock ≡ false
+  pub sector : ℕ
+  pub first : address ≡ 4096 * sector
+  pub least : IsLeastHeld touched chip sector
+  pub not_locked : is_locked chip ≡ true → ¬ NeedsStatus request code touched chip
+
+-- what such a refusal tells
+abbrev pub ScanJudges : Request → ℕ → (ℕ → Bool) → Chip → Refusal → Type 0
+ScanJudges request code touched chip StatusLocked = (is_locked chip ≡ true) × NeedsStatus request code touched chip
+ScanJudges request code touched chip (Protected address) = IsHeldAt request code touched chip address
+ScanJudges request code touched chip _ = ⊥
+
+-- The scan refuses nothing: `unlock` tells whether protection is to be lifted, and a status that is locked isn't written.
+pub record ScanAccepts (request : Request) (code : ℕ) (touched : ℕ → Bool) (chip : Chip) (unlock : Bool) : Type 0 where
+  pub lifts : unlock ≡ true → (request.unlock ≡ true) × SomeHeld touched chip
+  pub free : unlock ≡ false → NoneHeld touched chip
+  pub not_locked : is_locked chip ≡ true → ¬ NeedsStatus request code touched chip
+
+-- ---- what is saved
+
+-- the head of the journal: ID, own number, kept bits, size
+abbrev pub head_of : Chip → Content
+head_of chip = empty_content (id_of chip.config) (Some (unique_of chip.config)) ((4 * chip.kept1) ∷ chip.kept2 ∷ []) chip.config.size

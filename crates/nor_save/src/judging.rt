@@ -1,0 +1,113 @@
+//! Which requests are refused, and why.
+ghost use Rattle.std.specs.Prelude.{◌≡◌, ◌<◌, ◌≤◌, ◌*◌, ◌/◌, ◌==◌, ℕ, Bool, true, false, length, IfOk, IfErr, IfSome, IfNone, MatchOption, MatchBool, IsTrue};
+ghost use Rattle.nor_chip.specs.Chip.{Chip};
+ghost use Rattle.nor_chip.specs.Guard.{is_undefined, guarded_by};
+ghost use Rattle.nor_chip.specs.Code.{code_in};
+ghost use Rattle.nor_chip.specs.Size.{is_chip_size};
+ghost use Rattle.nor_plan.specs.SectorSet.{has, LiesBelow};
+ghost use Rattle.nor_save.specs.Request.{is_data};
+ghost use Rattle.nor_save.specs.Opening.{status_read};
+ghost use Rattle.nor_save.specs.Saving.{IsOpening, OpeningJudges, OpeningAccepts, ScanJudges, ScanAccepts, IsLeastHeld, NoneHeld, SomeHeld, NeedsStatus};
+ghost use Rattle.nor_save.specs.Judging.{IsOpeningRefusal, IsScanRefusal};
+
+use crate::opening::Opening;
+use crate::{Refusal, Request, What};
+use nor_chip::{code_for, unit_protected};
+use nor_layout::reaches_past;
+use nor_plan::SectorSet;
+
+/// Judges a request by what the opening found, against an image of so many bytes. Answers the wanted protection code.
+pub fn judge_opening(request: &Request, opening: &Opening, image: usize) -> Result<u8, Refusal>
+    requires { IsTrue (is_chip_size opening.now.found.size) }
+    ensures six_bits { IfOk result (λ code. code < 64) }
+    ensures sized { IfOk result (λ code. is_data request.now.what ≡ true → image ≡ opening.now.found.size) }
+    ensures faults { IfErr result IsOpeningRefusal }
+    ensures accepts { (chip : Chip) → IsOpening chip opening.now → IfOk result (OpeningAccepts request.now image chip) }
+    ensures tells { (chip : Chip) → IsOpening chip opening.now → IfErr result (OpeningJudges request.now image chip) }
+{
+    let size = opening.found.size;
+    let code = opening.status().code();
+    let defined = !opening.found.scheme || !opening.status().is_undefined();
+    match request.what {
+        What::Write | What::Erase => {
+            if image != size as usize {
+                return Err(Refusal::ImageSize { chip: size, image });
+            }
+            if reaches_past(request.included.as_ref(), size) {
+                return Err(Refusal::RegionOutside);
+            }
+            if defined {
+                Ok(code)
+            } else {
+                Err(Refusal::UndefinedProtection)
+            }
+        }
+        What::WpRange { start, len } => {
+            if !opening.found.scheme {
+                return Err(Refusal::NoProtection);
+            }
+            if !defined {
+                return Err(Refusal::UndefinedProtection);
+            }
+            code_for(start, len, size).ok_or(Refusal::RangeNotOffered)
+        }
+    }
+}
+
+/// The least sector of a set that holds a guarded place.
+pub fn first_held(touched: &SectorSet, opening: &Opening) -> Option<u32>
+    requires sized { IsTrue (is_chip_size opening.now.found.size) }
+    requires below { LiesBelow touched.now (opening.now.found.size / 4096) }
+    ensures held { (chip : Chip) → IsOpening chip opening.now → MatchOption result (NoneHeld (has touched.now) chip) (IsLeastHeld (has touched.now) chip) }
+    ensures reachable { IfSome result (λ sector. sector < 4096) }
+{
+    if !opening.found.scheme {
+        return None;
+    }
+    let size = opening.found.size;
+    let status = [opening.found.status1, opening.status2];
+    for sector in 0..size / 4096 {
+        if touched.contains(sector) && unit_protected(status, size, 4096 * sector, 4096) {
+            return Some(sector);
+        }
+    }
+    None
+}
+
+// A status write is needed: a range wants another code, or protection of a held sector is to be lifted.
+fn needs_status(request: &Request, opening: &Opening, is_held: bool, code: u8) -> bool
+    ensures { (chip : Chip) (touched : ℕ → Bool) → IsOpening chip opening.now → MatchBool is_held (SomeHeld touched chip) (NoneHeld touched chip)
+        → MatchBool result (NeedsStatus request.now code touched chip) (¬ NeedsStatus request.now code touched chip) }
+{
+    match request.what {
+        What::WpRange { .. } => code != opening.status().code(),
+        _ => request.unlock && is_held,
+    }
+}
+
+/// Judges a request by the touched sectors. Answers whether protection is to be lifted.
+pub fn judge_scan(
+    request: &Request,
+    opening: &Opening,
+    touched: &SectorSet,
+    code: u8,
+) -> Result<bool, Refusal>
+    requires sized { IsTrue (is_chip_size opening.now.found.size) }
+    requires below { LiesBelow touched.now (opening.now.found.size / 4096) }
+    ensures faults { IfErr result IsScanRefusal }
+    ensures accepts { (chip : Chip) → IsOpening chip opening.now → IfOk result (ScanAccepts request.now code (has touched.now) chip) }
+    ensures tells { (chip : Chip) → IsOpening chip opening.now → IfErr result (ScanJudges request.now code (has touched.now) chip) }
+{
+    let held = first_held(touched, opening);
+    let writes = needs_status(request, opening, held.is_some(), code);
+    if writes && opening.status().is_locked() {
+        return Err(Refusal::StatusLocked);
+    }
+    match held {
+        None => Ok(false),
+        Some(_) if request.unlock => Ok(true),
+        Some(sector) => Err(Refusal::Protected {
+            address: 4096 * sector,
+        }),
+    }
+}

@@ -1,0 +1,57 @@
+//! How every session and restore begins: the chip is found, and its second status register and own number are read.
+ghost use Rattle.std.specs.Prelude.{◌≡◌, ◌≤◌, IfOk, IfErr, OnErr, true};
+ghost use Rattle.nor_chip.specs.Status.{bytes_of};
+ghost use Rattle.nor_driver.specs.Looks.{Looks, RunsOut};
+ghost use Rattle.nor_save.specs.Opening.{Opens, OpeningTells, status_read, Reads};
+
+use crate::Refusal;
+use nor_chip::{Bus, Status, Stopped};
+use nor_driver::{read_status2, read_unique};
+use nor_probe::{ChipName, Found, Probed, probe_counted};
+
+/// What the opening read.
+#[derive(Clone, Copy)]
+pub struct Opening {
+    pub found: Found,
+    pub status2: u8,
+    pub unique: [u8; 8],
+    /// How many transactions were sent.
+    pub transactions: u64,
+}
+
+impl Opening {
+    /// Both status registers.
+    pub fn status(&self) -> Status
+        ensures { bytes_of result ≡ status_read self.now }
+    {
+        Status::of([self.found.status1, self.status2])
+    }
+}
+
+/// Finds the chip, and reads status 2 and the unique ID.
+pub fn open<B: Bus>(bus: &mut B, named: Option<ChipName>) -> Result<Opening, Refusal>
+    ensures leaves { Looks 65542 (B.state bus.old) (B.state bus.new) }
+    ensures opens { IfOk result (Opens named (B.state bus.old) (B.state bus.new)) }
+    ensures tells { IfErr result (OpeningTells named (B.state bus.old) (B.state bus.new)) }
+{
+    let probed = probe_counted(bus, named)?;
+    let opening = read_on(bus, probed)?;
+    Ok(opening)
+}
+
+/// Reads status 2 and the unique ID of the chip that was found.
+pub fn read_on<B: Bus>(bus: &mut B, probed: Probed) -> Result<Opening, Stopped>
+    requires { probed.transactions ≤ 65540 }
+    ensures leaves { Looks 2 (B.state bus.old) (B.state bus.new) }
+    ensures reads { IfOk result (Reads probed (B.state bus.old) (B.state bus.new)) }
+    ensures stops { OnErr result (RunsOut 2 (B.state bus.old) (B.state bus.new)) }
+{
+    let status2 = read_status2(bus)?;
+    let unique = read_unique(bus)?;
+    Ok(Opening {
+        found: probed.found,
+        status2,
+        unique,
+        transactions: probed.transactions + 2,
+    })
+}

@@ -1,0 +1,54 @@
+//! What a session keeps before it changes anything: the sealed journal of the chip.
+ghost use Rattle.std.specs.Prelude.{◌≡◌, ◌≤◌, ◌/◌, ℕ, true, false, length, IfOk, IfErr, OnOk, IsTrue};
+ghost use Rattle.nor_chip.specs.Size.{is_chip_size};
+ghost use Rattle.nor_chip.specs.Chip.{Chip};
+ghost use Rattle.nor_driver.specs.Looks.{Looks};
+ghost use Rattle.nor_journal.specs.Vault.{IsFresh};
+ghost use Rattle.nor_save.specs.Request.{scanned_sectors, is_data};
+ghost use Rattle.nor_save.specs.Keeping.{Keeps, KeepTells, KeepPuts};
+
+use crate::judging::judge_scan;
+use crate::opening::Opening;
+use crate::scanning::{Scanned, scan_all};
+use crate::{Refusal, Request};
+use nor_chip::Bus;
+use nor_journal::{Vault, Writer};
+
+/// What was found and saved.
+#[derive(Clone, Copy)]
+pub struct Kept {
+    pub scanned: Scanned,
+    /// Protection is to be lifted.
+    pub unlock: bool,
+}
+
+/// Scans the chip, judges what would change, and saves the touched sectors into the vault, which is sealed then.
+pub fn keep<B: Bus, V: Vault>(
+    bus: &mut B,
+    vault: &mut V,
+    image: &mut [u8],
+    request: &Request,
+    opening: &Opening,
+    code: u8,
+) -> Result<Kept, Refusal>
+    requires sized { IsTrue (is_chip_size opening.now.found.size) }
+    requires whole { is_data request.now.what ≡ true → length image.old ≡ opening.now.found.size }
+    requires fresh { IsFresh (V.state vault.old) }
+    ensures leaves { Looks (scanned_sectors request.now opening.now.found.size) (B.state bus.old) (B.state bus.new) }
+    ensures puts { KeepPuts result (V.state vault.old) (V.state vault.new) }
+    ensures keeps { IfOk result (Keeps request.now opening.now code image.old image.new (B.state bus.old) (B.state bus.new) (V.state vault.new)) }
+    ensures tells { IfErr result (KeepTells request.now opening.now code image.old (B.state bus.old) (B.state bus.new)) }
+{
+    let size = opening.found.size;
+    let mut writer = Writer::on(vault);
+    writer.header(
+        opening.found.id,
+        opening.unique,
+        opening.status().kept().bytes(),
+        size,
+    )?;
+    let scanned = scan_all(bus, &mut writer, image, request, size)?;
+    let unlock = judge_scan(request, opening, &scanned.touched, code)?;
+    writer.end()?;
+    Ok(Kept { scanned, unlock })
+}
