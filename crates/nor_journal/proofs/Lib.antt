@@ -2,6 +2,7 @@ pub mod Numbers
 pub mod Heads
 pub mod SectorRecords
 pub mod Places
+pub mod Fronts
 pub mod OneForm
 pub mod Writes
 pub mod Saved

@@ -9,7 +9,8 @@ use Rattle.nor_journal.specs.declared.fault.JournalFault.TheVariants.{Short, Mag
 use Rattle.nor_journal.specs.Number.{number_at}
 use Rattle.nor_journal.specs.Text.{SavedSector, Content, IsContent, Format, First, Second, magic, SameHead, AreRising, next_number, records_text, front, end_mark}
 use Rattle.nor_journal.specs.Fault.{HasFault, HeadFault, IsCut, HasWrongSize, head_length, FaultBehindFront, NextFault, RecordFault, EndFault}
-use Rattle.nor_journal.proofs.OneForm.{same_format, least_head, same_fronts, same_content, few_sectors, number_at-marked, at_record, AreRising-behind, next_is, records_text-nil, length-end_mark, swapped, head_faultless, front_opened}
+use Rattle.nor_journal.proofs.Fronts.{same_format, same_fronts, same_content, few_sectors, number_at-marked, records_text-nil, length-end_mark, front_opened}
+use Rattle.nor_journal.proofs.OneForm.{least_head, at_record, AreRising-behind, next_is, swapped, head_faultless}
 
 -- the test of two lists, as it comes out
 same_tests : (xs ys : List ℕ) → xs ≡ ys → bytes_eq xs ys ≡ true

@@ -7,12 +7,11 @@ use Rattle.std.proofs.lemmas.Bool.{true≢false}
 use lib.Pointwise.{pointwise}
 use lib.Dec.{eqb}
 use Rattle.nor_chip.specs.declared.config.Config.{Config}
-use Rattle.nor_chip.specs.declared.config.TheConstants.{TINY64_SFDP}
 use Rattle.nor_chip.specs.Chip.{Chip, status1_of}
 use Rattle.nor_chip.specs.Bus.{BusState}
 use Rattle.nor_session.specs.declared.refusal.Refusal.{Refusal}
 use Rattle.nor_session.specs.declared.refusal.Refusal.TheVariants.{NoChip, UnknownChip, ImageSize, Vault, Stopped, Timeout, Mismatch, BadJournal, OtherChip, StatusDiffers}
-use Rattle.nor_session.specs.Known.{IsId, IsNoChip, IsKnown, ShowsAt, ShowsSfdp, AreSfdpParts, OpeningTells}
+use Rattle.nor_session.specs.Known.{tiny64_sfdp, IsId, IsNoChip, IsKnown, ShowsAt, ShowsSfdp, AreSfdpParts, OpeningTells}
 
 -- a chip has one ID
 pub one_id : (config : Config) (x y : List ℕ) → length x ≡ 3 → length y ≡ 3 → IsId config x → IsId config y → x ≡ y
@@ -45,7 +44,7 @@ module _ (config : Config) (header first table : List ℕ) (pointer : ℕ) (long
   first_at = subst (λ (at : ℕ). ShowsAt config at first) (same_address config 8 (omega arith)) first_shown
 
   -- a header that points to 16 has its table there
-  table_at : ((i : ℕ) → i < length first → slice_index first i ≡ slice_index (slice_range TINY64_SFDP 8 16) i) → ShowsAt config 16 table
+  table_at : ((i : ℕ) → i < length first → slice_index first i ≡ slice_index (slice_range tiny64_sfdp 8 16) i) → ShowsAt config 16 table
   table_at same =
       let low : slice_index first 4 ≡ 16 = same 4 (omega arith) in
       let middle : slice_index first 5 ≡ 0 = same 5 (omega arith) in
@@ -55,18 +54,18 @@ module _ (config : Config) (header first table : List ℕ) (pointer : ℕ) (long
 
   pub parts_shown : AreSfdpParts header first table → ShowsSfdp config
   parts_shown parts = record {
-    header = shown_same config 0 header (slice_range TINY64_SFDP 0 8) long_header header_at parts.header_same;
-    first = shown_same config 8 first (slice_range TINY64_SFDP 8 16) long_first first_at parts.first_same;
-    table = shown_same config 16 table (slice_range TINY64_SFDP 16 52) long_table (table_at parts.first_same) parts.table_same;
+    header = shown_same config 0 header (slice_range tiny64_sfdp 0 8) long_header header_at parts.header_same;
+    first = shown_same config 8 first (slice_range tiny64_sfdp 8 16) long_first first_at parts.first_same;
+    table = shown_same config 16 table (slice_range tiny64_sfdp 16 52) long_table (table_at parts.first_same) parts.table_same;
   }
 
   pub shown_parts : ShowsSfdp config → AreSfdpParts header first table
   shown_parts shows =
-      let first_same = same_shown config 8 first (slice_range TINY64_SFDP 8 16) long_first first_at shows.first in
+      let first_same = same_shown config 8 first (slice_range tiny64_sfdp 8 16) long_first first_at shows.first in
       record {
-        header_same = same_shown config 0 header (slice_range TINY64_SFDP 0 8) long_header header_at shows.header;
+        header_same = same_shown config 0 header (slice_range tiny64_sfdp 0 8) long_header header_at shows.header;
         first_same = first_same;
-        table_same = same_shown config 16 table (slice_range TINY64_SFDP 16 52) long_table (table_at first_same) shows.table;
+        table_same = same_shown config 16 table (slice_range tiny64_sfdp 16 52) long_table (table_at first_same) shows.table;
       }
 
 -- what a refusal tells later, it tells from the start

@@ -1,13 +1,17 @@
 -- Which chips are known, and what the opening of a call tells of a chip.
 use Rattle.std.specs.Prelude.{◌≡◌, ◌<◌, ◌+◌, ◌/◌, ◌%◌, ◌⊎◌, ℕ, List, [], ◌∷◌, length, slice_index, slice_index_or, slice_range}
 use Rattle.nor_chip.specs.declared.config.Config.{Config}
-use Rattle.nor_chip.specs.declared.config.TheConstants.{TINY64_SFDP}
+use Rattle.nor_chip.specs.Sfdp.{sfdp_of}
 use Rattle.nor_chip.specs.Chip.{Chip, IsTiny64, status1_of, sfdp_byte}
 use Rattle.nor_chip.specs.Bus.{BusState}
 use Rattle.nor_session.specs.Changes.{IsEqualTo}
 use Rattle.nor_session.specs.declared.probe.Opening.{Opening}
 use Rattle.nor_session.specs.declared.refusal.Refusal.{Refusal}
 use Rattle.nor_session.specs.declared.refusal.Refusal.TheVariants.{NoChip, UnknownChip, Stopped, Timeout}
+
+-- the SFDP bytes of TINY64, of 524,288 bits
+abbrev pub tiny64_sfdp : List ℕ
+tiny64_sfdp = sfdp_of 0xFF 0xFF 0x07 0x00
 
 -- these three bytes are what 9Fh replies first
 abbrev pub IsId : Config → List ℕ → Type 0
@@ -23,9 +27,9 @@ ShowsAt config at bytes = (i : ℕ) → i < length bytes → slice_index bytes i
 
 -- The SFDP bytes are those of TINY64: header, first parameter header, table.
 pub record ShowsSfdp (config : Config) : Type 0 where
-  pub header : ShowsAt config 0 (slice_range TINY64_SFDP 0 8)
-  pub first : ShowsAt config 8 (slice_range TINY64_SFDP 8 16)
-  pub table : ShowsAt config 16 (slice_range TINY64_SFDP 16 52)
+  pub header : ShowsAt config 0 (slice_range tiny64_sfdp 0 8)
+  pub first : ShowsAt config 8 (slice_range tiny64_sfdp 8 16)
+  pub table : ShowsAt config 16 (slice_range tiny64_sfdp 16 52)
 
 -- The chip is known: it has the ID and the SFDP bytes of TINY64.
 pub record IsKnown (config : Config) : Type 0 where
@@ -63,6 +67,6 @@ IsOpeningRefusal _ = ⊥
 
 -- these are the parts of the SFDP bytes of TINY64
 pub record AreSfdpParts (header first table : List ℕ) : Type 0 where
-  pub header_same : IsEqualTo header (slice_range TINY64_SFDP 0 8)
-  pub first_same : IsEqualTo first (slice_range TINY64_SFDP 8 16)
-  pub table_same : IsEqualTo table (slice_range TINY64_SFDP 16 52)
+  pub header_same : IsEqualTo header (slice_range tiny64_sfdp 0 8)
+  pub first_same : IsEqualTo first (slice_range tiny64_sfdp 8 16)
+  pub table_same : IsEqualTo table (slice_range tiny64_sfdp 16 52)

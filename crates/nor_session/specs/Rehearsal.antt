@@ -3,16 +3,15 @@ use Rattle.std.specs.Prelude.{◌≡◌, ◌≢◌, ◌≤◌, ◌<◌, ◌+◌,
 use Rattle.nor_chip.specs.Chip.{Chip}
 use Rattle.nor_journal.specs.Vault.{VaultState, Rose}
 use Rattle.nor_session.specs.declared.rehearsals.Rehearsal.{Rehearsal}
-use Rattle.nor_session.specs.declared.rehearsals.TheConstants.{SESSION_BOUND}
 use Rattle.nor_session.specs.declared.refusal.Refusal.{Refusal}
 use Rattle.nor_session.specs.declared.refusal.Refusal.TheVariants.{NoChip, UnknownChip, ImageSize, Vault}
 use Rattle.nor_session.specs.Content.{wanted_of, is_touched, is_raised, is_programmed, after_erases, count_below}
 use Rattle.nor_session.specs.Known.{IsNoChip, IsKnown}
 use Rattle.nor_session.specs.Session.{IsAccepted}
 
--- the transactions that the session is allowed
+-- the transactions that the session is allowed: without a stop the most that a session takes on a chip of 16 MiB
 abbrev pub first_allowance : List ℕ → ℕ
-first_allowance [] = SESSION_BOUND
+first_allowance [] = 4563750921
 first_allowance (first ∷ later) = first
 
 -- On every bus: what a rehearsal counts, under so many stops.
