@@ -48,8 +48,10 @@ pub(crate) fn erase_all<B: Bus>(
         → OnOk result (HasErasedAll (mark_at marked.now) sectors (B.state bus.old) (B.state bus.new)) }
     ensures idle { fair (B.state bus.old) ≡ true → IsReady (4096 * sectors) (B.state bus.old).chip
         → OnOk result ((B.state bus.new).chip.busy ≡ 0) }
-    ensures count { fair (B.state bus.old) ≡ true → IfOk result (λ tally. (B.state bus.old).left ≡ (B.state bus.new).left + tally.transactions) }
-    ensures stops { fair (B.state bus.old) ≡ true → IfErr result (λ halt. HaltsBelow (65538 * sectors) (B.state bus.old) halt (B.state bus.new)) }
+    ensures count { fair (B.state bus.old) ≡ true
+        → IfOk result (λ tally. (B.state bus.old).left ≡ (B.state bus.new).left + tally.transactions) }
+    ensures stops { fair (B.state bus.old) ≡ true
+        → IfErr result (λ halt. HaltsBelow (65538 * sectors) (B.state bus.old) halt (B.state bus.new)) }
 {
     let mut tally = Tally::NONE;
     for sector in 0..sectors {
@@ -75,7 +77,8 @@ fn erase_marked<B: Bus>(bus: &mut B, marked: &[bool; 4096], sector: u32) -> Resu
         → OnOk result (HasErasedAt (mark_at marked.now) sector (B.state bus.old) (B.state bus.new)) }
     ensures idle { fair (B.state bus.old) ≡ true → CanErase sector (B.state bus.old).chip
         → OnOk result ((B.state bus.new).chip.busy ≡ 0) }
-    ensures count { fair (B.state bus.old) ≡ true → IfOk result (λ tally. (B.state bus.old).left ≡ (B.state bus.new).left + tally.transactions) }
+    ensures count { fair (B.state bus.old) ≡ true
+        → IfOk result (λ tally. (B.state bus.old).left ≡ (B.state bus.new).left + tally.transactions) }
     ensures stops { fair (B.state bus.old) ≡ true → IfErr result (λ halt. HaltsBelow 65538 (B.state bus.old) halt (B.state bus.new)) }
 {
     if !marked[sector as usize] {
@@ -107,7 +110,8 @@ fn program_span<B: Bus>(bus: &mut B, old: &[u8], wanted: &[u8], address: u32) ->
     ensures done { fair (B.state bus.old) ≡ true → CanProgramPage old.now wanted.now address (B.state bus.old).chip
         → OnOk result (HasProgrammedAll (byte_from wanted.now address) address (address + 256) (B.state bus.old) (B.state bus.new)) }
     ensures idle { fair (B.state bus.old) ≡ true → (B.state bus.old).chip.busy ≡ 0 → OnOk result ((B.state bus.new).chip.busy ≡ 0) }
-    ensures count { fair (B.state bus.old) ≡ true → IfOk result (λ tally. (B.state bus.old).left ≡ (B.state bus.new).left + tally.transactions) }
+    ensures count { fair (B.state bus.old) ≡ true
+        → IfOk result (λ tally. (B.state bus.old).left ≡ (B.state bus.new).left + tally.transactions) }
     ensures stops { fair (B.state bus.old) ≡ true → IfErr result (λ halt. HaltsBelow 65538 (B.state bus.old) halt (B.state bus.new)) }
 {
     match bounds(old, wanted) {
@@ -139,7 +143,8 @@ fn program_pages<B: Bus>(bus: &mut B, old: &[u8], wanted: &[u8], sector: u32) ->
     ensures done { fair (B.state bus.old) ≡ true → CanProgramSector old.now wanted.now sector (B.state bus.old).chip
         → OnOk result (HasProgrammedAll (byte_from wanted.now (4096 * sector)) (4096 * sector) (4096 * sector + 4096) (B.state bus.old) (B.state bus.new)) }
     ensures idle { fair (B.state bus.old) ≡ true → (B.state bus.old).chip.busy ≡ 0 → OnOk result ((B.state bus.new).chip.busy ≡ 0) }
-    ensures count { fair (B.state bus.old) ≡ true → IfOk result (λ tally. (B.state bus.old).left ≡ (B.state bus.new).left + tally.transactions) }
+    ensures count { fair (B.state bus.old) ≡ true
+        → IfOk result (λ tally. (B.state bus.old).left ≡ (B.state bus.new).left + tally.transactions) }
     ensures stops { fair (B.state bus.old) ≡ true → IfErr result (λ halt. HaltsBelow 1048608 (B.state bus.old) halt (B.state bus.new)) }
 {
     let mut tally = Tally::NONE;
@@ -169,7 +174,8 @@ fn load<B: Bus>(
     ensures quiet { Quiet (B.state bus.old) (B.state bus.new) }
     ensures few { IfOk result (λ sent. sent ≡ (if erased then 0 else 1)) }
     ensures looked { fair (B.state bus.old) ≡ true → Looked 1 (B.state bus.old) (B.state bus.new) }
-    ensures bytes { fair (B.state bus.old) ≡ true → (B.state bus.old).chip.busy ≡ 0 → 4096 * (sector + 1) ≤ (B.state bus.old).chip.config.size
+    ensures bytes { fair (B.state bus.old) ≡ true → (B.state bus.old).chip.busy ≡ 0
+        → 4096 * (sector + 1) ≤ (B.state bus.old).chip.config.size
         → IsBlankWhere erased sector (B.state bus.old).chip.bytes → OnOk result (IsSectorOf (B.state bus.old).chip.bytes sector bytes.new) }
     ensures count { fair (B.state bus.old) ≡ true → IfOk result (λ sent. (B.state bus.old).left ≡ (B.state bus.new).left + sent) }
     ensures stops { fair (B.state bus.old) ≡ true → OnErr result (((B.state bus.old).left ≡ 0) × ((B.state bus.new).left ≡ 0)) }
@@ -204,7 +210,8 @@ fn program_sector<B: Bus>(
     ensures counted { fair (B.state bus.old) ≡ true → CanProgramMarked marks.now wanted.now sector (B.state bus.old).chip
         → IfOk result (λ tally. tally.count ≡ count_below 16 (λ page. is_programmed (B.state bus.old).chip.bytes (slice_index wanted.now) (16 * sector + page))) }
     ensures idle { fair (B.state bus.old) ≡ true → (B.state bus.old).chip.busy ≡ 0 → OnOk result ((B.state bus.new).chip.busy ≡ 0) }
-    ensures count { fair (B.state bus.old) ≡ true → IfOk result (λ tally. (B.state bus.old).left ≡ (B.state bus.new).left + tally.transactions) }
+    ensures count { fair (B.state bus.old) ≡ true
+        → IfOk result (λ tally. (B.state bus.old).left ≡ (B.state bus.new).left + tally.transactions) }
     ensures stops { fair (B.state bus.old) ≡ true → IfErr result (λ halt. HaltsBelow 1048609 (B.state bus.old) halt (B.state bus.new)) }
 {
     if !marks.touched[sector as usize] {
@@ -244,8 +251,10 @@ pub(crate) fn program_all<B: Bus>(
     ensures counted { fair (B.state bus.old) ≡ true → CanProgramAll marks.now wanted.now sectors (B.state bus.old).chip
         → IfOk result (λ tally. tally.count ≡ count_below (16 * sectors) (is_programmed (B.state bus.old).chip.bytes (slice_index wanted.now))) }
     ensures idle { fair (B.state bus.old) ≡ true → (B.state bus.old).chip.busy ≡ 0 → OnOk result ((B.state bus.new).chip.busy ≡ 0) }
-    ensures count { fair (B.state bus.old) ≡ true → IfOk result (λ tally. (B.state bus.old).left ≡ (B.state bus.new).left + tally.transactions) }
-    ensures stops { fair (B.state bus.old) ≡ true → IfErr result (λ halt. HaltsBelow (1048609 * sectors) (B.state bus.old) halt (B.state bus.new)) }
+    ensures count { fair (B.state bus.old) ≡ true
+        → IfOk result (λ tally. (B.state bus.old).left ≡ (B.state bus.new).left + tally.transactions) }
+    ensures stops { fair (B.state bus.old) ≡ true
+        → IfErr result (λ halt. HaltsBelow (1048609 * sectors) (B.state bus.old) halt (B.state bus.new)) }
 {
     let mut tally = Tally::NONE;
     for sector in 0..sectors {
@@ -272,7 +281,8 @@ pub(crate) fn verify_all<B: Bus>(
     ensures count { fair (B.state bus.old) ≡ true → IfOk result (λ sent. (B.state bus.old).left ≡ (B.state bus.new).left + sent) }
     ensures ends { fair (B.state bus.old) ≡ true → IfErr result (EndsBelow sectors (B.state bus.old) (B.state bus.new)) }
     ensures stops { fair (B.state bus.old) ≡ true → (B.state bus.old).chip.busy ≡ 0 → (B.state bus.old).chip.config.size ≡ length wanted.now
-        → Holds wanted.now (B.state bus.old).chip.bytes → IfErr result (λ halt. HaltsBelow sectors (B.state bus.old) halt (B.state bus.new)) }
+        → Holds wanted.now (B.state bus.old).chip.bytes
+        → IfErr result (λ halt. HaltsBelow sectors (B.state bus.old) halt (B.state bus.new)) }
 {
     let mut sent = 0;
     for sector in 0..sectors {
@@ -342,7 +352,8 @@ pub(crate) fn carry_out<B: Bus>(
         → IfOk result (IsWork (wanted_of wanted.now (B.state bus.old).chip.bytes) (B.state bus.old).chip.bytes sectors) }
     ensures idle { fair (B.state bus.old) ≡ true → IsMarked marks.now wanted.now sectors (B.state bus.old).chip
         → OnOk result ((B.state bus.new).chip.busy ≡ 0) }
-    ensures count { fair (B.state bus.old) ≡ true → IfOk result (λ work. (B.state bus.old).left ≡ (B.state bus.new).left + work.transactions) }
+    ensures count { fair (B.state bus.old) ≡ true
+        → IfOk result (λ work. (B.state bus.old).left ≡ (B.state bus.new).left + work.transactions) }
     ensures ends { fair (B.state bus.old) ≡ true → IfErr result (EndsBelow (1114148 * sectors) (B.state bus.old) (B.state bus.new)) }
     ensures stops { fair (B.state bus.old) ≡ true → IsMarked marks.now wanted.now sectors (B.state bus.old).chip
         → IfErr result (λ halt. HaltsBelow (1114148 * sectors) (B.state bus.old) halt (B.state bus.new)) }

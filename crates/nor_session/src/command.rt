@@ -50,7 +50,9 @@ pub(crate) fn read_sector<B: Bus>(
     requires { sector < 4096 }
     ensures quiet { Quiet (B.state bus.old) (B.state bus.new) }
     ensures looked { fair (B.state bus.old) ≡ true → Looked 1 (B.state bus.old) (B.state bus.new) }
-    ensures bytes { fair (B.state bus.old) ≡ true → (B.state bus.old).chip.busy ≡ 0 → 4096 * (sector + 1) ≤ (B.state bus.old).chip.config.size → OnOk result (IsSectorOf (B.state bus.old).chip.bytes sector bytes.new) }
+    ensures bytes { fair (B.state bus.old) ≡ true → (B.state bus.old).chip.busy ≡ 0
+        → 4096 * (sector + 1) ≤ (B.state bus.old).chip.config.size
+        → OnOk result (IsSectorOf (B.state bus.old).chip.bytes sector bytes.new) }
     ensures count { fair (B.state bus.old) ≡ true → OnOk result ((B.state bus.old).left ≡ (B.state bus.new).left + 1) }
     ensures stops { fair (B.state bus.old) ≡ true → OnErr result ((B.state bus.old).left ≡ 0) }
 {

@@ -39,7 +39,8 @@ pub(crate) fn save_all<B: Bus, V: Vault>(
         → (V.state vault.old).telling ≡ true → HasSaved 0 (B.state bus.old).chip (V.state vault.old).bytes
         → OnOk result (HasSaved (4096 * sectors) (B.state bus.old).chip (V.state vault.new).bytes) }
     ensures count { fair (B.state bus.old) ≡ true → OnOk result ((B.state bus.old).left ≡ (B.state bus.new).left + sectors) }
-    ensures stops { fair (B.state bus.old) ≡ true → IfErr result (λ refusal. refusal ≡ Refusal.Stopped → ((B.state bus.new).left ≡ 0) × ((B.state bus.old).left < sectors)) }
+    ensures stops { fair (B.state bus.old) ≡ true
+        → IfErr result (λ refusal. refusal ≡ Refusal.Stopped → ((B.state bus.new).left ≡ 0) × ((B.state bus.old).left < sectors)) }
 {
     let mut marks = Marks::none();
     let mut bytes = [0; 4096];
@@ -73,11 +74,13 @@ pub(crate) fn keep<B: Bus, V: Vault>(
     ensures looked { fair (B.state bus.old) ≡ true → Looked sectors (B.state bus.old) (B.state bus.new) }
     ensures marks { fair (B.state bus.old) ≡ true → (B.state bus.old).chip.busy ≡ 0 → (B.state bus.old).chip.config.size ≡ 4096 * sectors
         → IfOk result (AreMarks (wanted_of wanted.now (B.state bus.old).chip.bytes) (B.state bus.old).chip.bytes sectors) }
-    ensures saved { fair (B.state bus.old) ≡ true → IsOpening (B.state bus.old).chip opening.now → opening.now.found.size ≡ (B.state bus.old).chip.config.size
+    ensures saved { fair (B.state bus.old) ≡ true → IsOpening (B.state bus.old).chip opening.now
+        → opening.now.found.size ≡ (B.state bus.old).chip.config.size
         → (B.state bus.old).chip.config.size ≡ 4096 * sectors → (V.state vault.old).telling ≡ true
         → OnOk result (IsJournalOf (B.state bus.old).chip (V.state vault.new).bytes) }
     ensures count { fair (B.state bus.old) ≡ true → OnOk result ((B.state bus.old).left ≡ (B.state bus.new).left + sectors) }
-    ensures stops { fair (B.state bus.old) ≡ true → IfErr result (λ refusal. refusal ≡ Refusal.Stopped → ((B.state bus.new).left ≡ 0) × ((B.state bus.old).left < sectors)) }
+    ensures stops { fair (B.state bus.old) ≡ true
+        → IfErr result (λ refusal. refusal ≡ Refusal.Stopped → ((B.state bus.new).left ≡ 0) × ((B.state bus.old).left < sectors)) }
 {
     let found = &opening.found;
     vault.put(&head(found.id, [found.status1, opening.status2], found.size))?;

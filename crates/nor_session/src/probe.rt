@@ -43,7 +43,8 @@ pub(crate) fn open<B: Bus>(bus: &mut B) -> Result<Opening, Refusal>
 
     ensures looked { fair (B.state bus.old) ≡ true → Looked 65541 (B.state bus.old) (B.state bus.new) }
     ensures opened { fair (B.state bus.old) ≡ true → IfOk result (λ opening. IsOpening (B.state bus.new).chip opening) }
-    ensures count { fair (B.state bus.old) ≡ true → IfOk result (λ opening. (B.state bus.old).left ≡ (B.state bus.new).left + opening.transactions) }
+    ensures count { fair (B.state bus.old) ≡ true
+        → IfOk result (λ opening. (B.state bus.old).left ≡ (B.state bus.new).left + opening.transactions) }
     ensures tells { fair (B.state bus.old) ≡ true → IfErr result (OpeningTells 65541 (B.state bus.old) (B.state bus.new)) }
 {
     let waited = wait(bus, 0)?;
@@ -71,7 +72,8 @@ fn identify<B: Bus>(bus: &mut B) -> Result<[u8; 3], Refusal>
     ensures looked { fair (B.state bus.old) ≡ true → Looked 4 (B.state bus.old) (B.state bus.new) }
     ensures known { fair (B.state bus.old) ≡ true → (B.state bus.old).chip.busy ≡ 0 → OnOk result (IsKnown (B.state bus.old).chip.config) }
     ensures count { fair (B.state bus.old) ≡ true → OnOk result ((B.state bus.old).left ≡ (B.state bus.new).left + 4) }
-    ensures tells { fair (B.state bus.old) ≡ true → (B.state bus.old).chip.busy ≡ 0 → IfErr result (OpeningTells 4 (B.state bus.old) (B.state bus.new)) }
+    ensures tells { fair (B.state bus.old) ≡ true → (B.state bus.old).chip.busy ≡ 0
+        → IfErr result (OpeningTells 4 (B.state bus.old) (B.state bus.new)) }
 {
     let id = read_id(bus)?;
     if id == [0xFF; 3] || id == [0; 3] {

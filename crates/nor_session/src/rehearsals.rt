@@ -50,10 +50,12 @@ pub fn rehearse<B: Meter>(
 
     // On an honest bus.
     ensures sealed { fair (B.state bus.old) ≡ true → IfOk result (λ rehearsal. rehearsal.sealed ≡ true → 22 ≤ first_allowance stops.now) }
-    ensures unsealed { fair (B.state bus.old) ≡ true → IfOk result (λ rehearsal. rehearsal.sealed ≡ false → first_allowance stops.now < 65557) }
+    ensures unsealed { fair (B.state bus.old) ≡ true
+        → IfOk result (λ rehearsal. rehearsal.sealed ≡ false → first_allowance stops.now < 65557) }
 
     // On an honest bus whose chip is what it shows itself to be.
-    ensures gives_back { fair (B.state bus.old) ≡ true → IsGenuine (B.state bus.old).chip.config → IsSame (B.state bus.old).chip (B.state bus.new).chip }
+    ensures gives_back { fair (B.state bus.old) ≡ true → IsGenuine (B.state bus.old).chip.config
+        → IsSame (B.state bus.old).chip (B.state bus.new).chip }
     ensures saves { fair (B.state bus.old) ≡ true → IsGenuine (B.state bus.old).chip.config
         → IfOk result (λ rehearsal. rehearsal.sealed ≡ true → IsJournalOf (B.state bus.old).chip (⟦<MemVault as Vault>⟧.state vault.new).bytes) }
     ensures tells { fair (B.state bus.old) ≡ true → IsGenuine (B.state bus.old).chip.config
@@ -109,15 +111,18 @@ fn stopped_session<B: Meter>(
     ensures blames { IfErr result (BlamesVault (⟦<MemVault as Vault>⟧.state vault.old) (⟦<MemVault as Vault>⟧.state vault.new)) }
     ensures undone { fair (B.state bus.old) ≡ true → IsGenuine (B.state bus.old).chip.config
         → CanBeUndone (B.state bus.old).chip (B.state bus.new).chip (⟦<MemVault as Vault>⟧.state vault.old) (⟦<MemVault as Vault>⟧.state vault.new) }
-    ensures unchanged { fair (B.state bus.old) ≡ true → IsGenuine (B.state bus.old).chip.config → OnErr result (IsSame (B.state bus.old).chip (B.state bus.new).chip) }
+    ensures unchanged { fair (B.state bus.old) ≡ true → IsGenuine (B.state bus.old).chip.config
+        → OnErr result (IsSame (B.state bus.old).chip (B.state bus.new).chip) }
     ensures tells { fair (B.state bus.old) ≡ true → IsGenuine (B.state bus.old).chip.config
         → IfErr result (RehearsalTells (length image.old) (B.state bus.old).chip (⟦<MemVault as Vault>⟧.state vault.old) (⟦<MemVault as Vault>⟧.state vault.new)) }
     ensures ended { fair (B.state bus.old) ≡ true → IsGenuine (B.state bus.old).chip.config → 17891925 ≤ first_allowance stops.now
         → IfOk result (λ ended. ended ≡ true) }
     ensures stopped { fair (B.state bus.old) ≡ true → IsGenuine (B.state bus.old).chip.config
         → IfOk result (λ ended. ended ≡ true → CanEnd image.old (first_allowance stops.now) (B.state bus.old).chip) }
-    ensures scanned { fair (B.state bus.old) ≡ true → (⟦<MemVault as Vault>⟧.state vault.new).sealed ≡ true → 22 ≤ first_allowance stops.now }
-    ensures unsealed { fair (B.state bus.old) ≡ true → (⟦<MemVault as Vault>⟧.state vault.new).sealed ≡ false → OnOk result (first_allowance stops.now < 65557) }
+    ensures scanned { fair (B.state bus.old) ≡ true → (⟦<MemVault as Vault>⟧.state vault.new).sealed ≡ true
+        → 22 ≤ first_allowance stops.now }
+    ensures unsealed { fair (B.state bus.old) ≡ true → (⟦<MemVault as Vault>⟧.state vault.new).sealed ≡ false
+        → OnOk result (first_allowance stops.now < 65557) }
 {
     bus.allow(first_allowed(stops));
     match session(bus, vault, image, request) {
@@ -158,7 +163,8 @@ fn restore_in_turn<B: Meter>(
     ensures counts { fair (B.state bus.old) ≡ true → IsGenuine (B.state bus.old).chip.config → IfOk result (AreRestores stops.now) }
     ensures blames { IfErr result (λ refusal. refusal ≡ Refusal.Vault → ⊥) }
     ensures gives_back { fair (B.state bus.old) ≡ true → IsGenuine (B.state bus.old).chip.config → IsKnown (B.state bus.old).chip.config
-        → (first : Chip) → Saves journal.now first → IsWithin first (B.state bus.old).chip → OnOk result (IsSame first (B.state bus.new).chip) }
+        → (first : Chip) → Saves journal.now first → IsWithin first (B.state bus.old).chip
+        → OnOk result (IsSame first (B.state bus.new).chip) }
     ensures ends { fair (B.state bus.old) ≡ true → IsGenuine (B.state bus.old).chip.config → IsKnown (B.state bus.old).chip.config
         → (first : Chip) → Saves journal.now first → IsWithin first (B.state bus.old).chip → IsOk result }
 {
@@ -179,11 +185,13 @@ fn restore_in_turn<B: Meter>(
 fn ends<B: Bus>(bus: &mut B, journal: &Journal<'_>) -> Result<bool, Refusal>
     ensures honest { fair (B.state bus.new) ≡ fair (B.state bus.old) }
     ensures blames { IfErr result (λ refusal. refusal ≡ Refusal.Vault → ⊥) }
-    ensures config { fair (B.state bus.old) ≡ true → IsGenuine (B.state bus.old).chip.config → (B.state bus.new).chip.config ≡ (B.state bus.old).chip.config }
+    ensures config { fair (B.state bus.old) ≡ true → IsGenuine (B.state bus.old).chip.config
+        → (B.state bus.new).chip.config ≡ (B.state bus.old).chip.config }
     ensures keeps_within { fair (B.state bus.old) ≡ true → IsGenuine (B.state bus.old).chip.config
         → (first : Chip) → Saves journal.now first → IsWithin first (B.state bus.old).chip → IsWithin first (B.state bus.new).chip }
     ensures gives_back { fair (B.state bus.old) ≡ true → IsGenuine (B.state bus.old).chip.config
-        → (first : Chip) → Saves journal.now first → IsWithin first (B.state bus.old).chip → IfOk result (λ ended. ended ≡ true → IsSame first (B.state bus.new).chip) }
+        → (first : Chip) → Saves journal.now first → IsWithin first (B.state bus.old).chip
+        → IfOk result (λ ended. ended ≡ true → IsSame first (B.state bus.new).chip) }
     ensures answers { fair (B.state bus.old) ≡ true → IsGenuine (B.state bus.old).chip.config → IsKnown (B.state bus.old).chip.config
         → (first : Chip) → Saves journal.now first → IsWithin first (B.state bus.old).chip → IsOk result }
     ensures stopped { fair (B.state bus.old) ≡ true → IfOk result (λ ended. ended ≡ false → (B.state bus.old).left < 17891925) }

@@ -46,9 +46,11 @@ pub fn restore<B: Bus>(bus: &mut B, journal: &Journal<'_>) -> Result<Report, Ref
     ensures keeps_within { fair (B.state bus.old) ≡ true → IsGenuine (B.state bus.old).chip.config
         → (first : Chip) → Saves journal.now first → IsWithin first (B.state bus.old).chip → IsWithin first (B.state bus.new).chip }
     ensures gives_back { fair (B.state bus.old) ≡ true → IsGenuine (B.state bus.old).chip.config
-        → (first : Chip) → Saves journal.now first → IsWithin first (B.state bus.old).chip → OnOk result (IsSame first (B.state bus.new).chip) }
+        → (first : Chip) → Saves journal.now first → IsWithin first (B.state bus.old).chip
+        → OnOk result (IsSame first (B.state bus.new).chip) }
     ensures ends_or_stops { fair (B.state bus.old) ≡ true → IsGenuine (B.state bus.old).chip.config → IsKnown (B.state bus.old).chip.config
-        → (first : Chip) → Saves journal.now first → IsWithin first (B.state bus.old).chip → IfErr result (λ refusal. refusal ≡ Refusal.Stopped) }
+        → (first : Chip) → Saves journal.now first → IsWithin first (B.state bus.old).chip
+        → IfErr result (λ refusal. refusal ≡ Refusal.Stopped) }
 {
     let opening = open(bus)?;
     judge(&opening, journal)?;

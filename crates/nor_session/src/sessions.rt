@@ -42,7 +42,8 @@ pub fn session<B: Bus, V: Vault>(
     // On an honest bus. The vault is sealed after opening and scan, which take 22 transactions to 65,557.
     ensures falls { fair (B.state bus.old) ≡ true → Falls 17891925 (B.state bus.old) (B.state bus.new) }
     ensures ends { fair (B.state bus.old) ≡ true → IfErr result (EndsAtBound 17891925 (B.state bus.old) (B.state bus.new)) }
-    ensures scanned { fair (B.state bus.old) ≡ true → (V.state vault.new).sealed ≡ true → (B.state bus.new).left + 22 ≤ (B.state bus.old).left }
+    ensures scanned { fair (B.state bus.old) ≡ true → (V.state vault.new).sealed ≡ true
+        → (B.state bus.new).left + 22 ≤ (B.state bus.old).left }
     ensures unsealed { fair (B.state bus.old) ≡ true → (V.state vault.new).sealed ≡ false
         → IfErr result (λ refusal. refusal ≡ Refusal.Stopped → (B.state bus.old).left < 65557) }
 
