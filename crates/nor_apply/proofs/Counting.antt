@@ -3,6 +3,7 @@ use Rattle.std.proofs.Common.{◌≡◌, ◌<◌, ◌≤◌, ◌+◌, ◌||◌, 
 use Rattle.std.proofs.lemmas.Bool.{cases_eq}
 use Rattle.std.specs.Prelude.{if◌then◌else◌}
 use Rattle.nor_layout.specs.Below.{any_below, count_below}
+pub use Rattle.nor_layout.proofs.Below.{any_below-some, count_below-zero, count_below-more, count_below-most}
 
 or_true : (b : Bool) → (b || true) ≡ true
 or_true true = refl
@@ -20,15 +21,6 @@ any_below-none n test none not = any_below-more n test ∙ ap (λ (b : Bool). b 
 pub any_below-zero : (test : ℕ → Bool) → any_below 0 test ≡ false
 unfolding any_below
 any_below-zero test = refl
-
--- one is enough
-pub any_below-some : (n k : ℕ) (test : ℕ → Bool) → k < n → test k ≡ true → any_below n test ≡ true
-unfolding any_below
-any_below-some zero k test below passes = absurd (omega arith)
-any_below-some (suc n) k test below passes = elim (cases_eq k n) [
-  | inl same ↦ ap (λ (m : ℕ). any_below n test || test m) (sym same) ∙ ap (λ (b : Bool). any_below n test || b) passes ∙ or_true (any_below n test)
-  | inr other ↦ ap (λ (b : Bool). b || test n) (any_below-some n k test (omega arith) passes)
-]
 
 -- if there is none, each fails
 pub any_below-false : (n : ℕ) (test : ℕ → Bool) → any_below n test ≡ false → (k : ℕ) → k < n → test k ≡ false
@@ -54,14 +46,6 @@ any_below-same (suc n) p q same =
     let here : p n ≡ q n = same n (omega arith) in
     ap (λ (b : Bool). b || p n) rest ∙ ap (λ (b : Bool). any_below n q || b) here
 
-pub count_below-zero : (test : ℕ → Bool) → count_below 0 test ≡ 0
-unfolding count_below
-count_below-zero test = refl
-
-pub count_below-more : (n : ℕ) (test : ℕ → Bool) → count_below (n + 1) test ≡ count_below n test + (if test n then 1 else 0)
-unfolding count_below
-count_below-more n test = ap (λ (m : ℕ). count_below m test) (add-one n)
-
 pub count_below-same : (n : ℕ) (p q : ℕ → Bool) → ((k : ℕ) → k < n → p k ≡ q k) → count_below n p ≡ count_below n q
 unfolding count_below
 count_below-same zero p q same = refl
@@ -69,13 +53,6 @@ count_below-same (suc n) p q same =
     let rest : count_below n p ≡ count_below n q = count_below-same n p q (λ k below. same k (omega arith)) in
     let here : p n ≡ q n = same n (omega arith) in
     ap (λ (m : ℕ). m + (if p n then 1 else 0)) rest ∙ ap (λ (b : Bool). count_below n q + (if b then 1 else 0)) here
-
-pub count_below-most : (n : ℕ) (test : ℕ → Bool) → count_below n test ≤ n
-unfolding count_below
-count_below-most zero test = omega arith
-count_below-most (suc n) test =
-    let rest : count_below n test ≤ n = count_below-most n test in
-    elim (test n) as (λ b. count_below n test + (if b then 1 else 0) ≤ suc n) [ true ↦ omega arith | false ↦ omega arith ]
 
 pub ruleset differing = (any_below-zero, any_below-none, any_below-some)
 

@@ -15,7 +15,8 @@ use Rattle.nor_save.specs.declared.report.What.{What}
 use Rattle.nor_save.specs.declared.report.What.TheVariants.{Write, Erase, WpRange}
 use Rattle.nor_save.specs.Request.{is_data, target, may_change, wanted}
 use Rattle.nor_save.specs.Scanning.{IsOpen, ScansSector}
-use Rattle.nor_save.proofs.Below.{any_below-none, any_below-same, any_below-decided}
+use Rattle.nor_apply.proofs.Counting.{any_below-all, any_below-same}
+use Rattle.nor_save.proofs.Below.{any_below-decided}
 
 -- a request about bytes may change what it includes of the chip
 pub may_change-included : (request : Request) (size a : ℕ) → is_data request.what ≡ true → a < size → may_change request size a ≡ includes request.included a
@@ -57,13 +58,13 @@ planned content aim sector plan is = (
 pub untouched : (content aim : ℕ → ℕ) (sector : ℕ) → ((i : ℕ) → i < 4096 → aim (4096 * sector + i) ≡ content (4096 * sector + i)) → is_touched content aim sector ≡ false
 unfolding is_touched
 untouched content aim sector same =
-    any_below-none 4096 (λ i. is_other (content (4096 * sector + i)) (aim (4096 * sector + i)))
+    any_below-all 4096 (λ i. is_other (content (4096 * sector + i)) (aim (4096 * sector + i)))
     (λ i below. as_wanted (content (4096 * sector + i)) (aim (4096 * sector + i)) (sym (same i below)))
 
 pub unraised : (content aim : ℕ → ℕ) (sector : ℕ) → ((i : ℕ) → i < 4096 → aim (4096 * sector + i) ≡ content (4096 * sector + i)) → is_raised content aim sector ≡ false
 unfolding is_raised
 unraised content aim sector same =
-    any_below-none 4096 (λ i. must_rise (content (4096 * sector + i)) (aim (4096 * sector + i)))
+    any_below-all 4096 (λ i. must_rise (content (4096 * sector + i)) (aim (4096 * sector + i)))
     (λ i below. as_wanted (bit_and (aim (4096 * sector + i)) (content (4096 * sector + i))) (aim (4096 * sector + i))
     (ap (bit_and (aim (4096 * sector + i))) (sym (same i below)) ∙ and_self (aim (4096 * sector + i))))
 

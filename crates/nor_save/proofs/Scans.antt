@@ -18,7 +18,8 @@ use Rattle.nor_save.specs.declared.report.Request.{Request}
 use Rattle.nor_save.specs.declared.scanning.Scanned.{Scanned}
 use Rattle.nor_save.specs.Request.{is_data, wanted, may_change, scanned_sectors}
 use Rattle.nor_save.specs.Scanning.{AreMarks, AreRight, IsOpen, IsBlank, HasMarked, ScansSector, Scans}
-use Rattle.nor_save.proofs.Below.{count_below-none, count_below-insert, count_below-same}
+use Rattle.nor_apply.proofs.Counting.{count_below-none, count_below-same}
+use Rattle.nor_save.proofs.Below.{count_below-insert}
 use Rattle.nor_save.proofs.Planned.{may_change-included, wanted-kept, wanted-same, untouched, unraised, touched-later, raised-later}
 use Rattle.nor_save.proofs.Rests.{HasLooked, has_looked-none, has_looked-more, looks_then, runs_out}
 

@@ -3,7 +3,7 @@ use Rattle.std.specs.Prelude.{option_copied}
 use Rattle.nor_plan.specs.SectorSet.{has}
 use Rattle.nor_save.specs.Request.{scanned_sectors}
 use Rattle.nor_save.specs.Scanning.{never}
-use Rattle.nor_save.proofs.Below.{at_most_one}
+use Rattle.nor_apply.proofs.Counting.{at_most_one}
 use Rattle.nor_save.proofs.Rests.{tells_stop}
 use Rattle.nor_save.proofs.Scans.{nothing_scanned, skipped, scanned_more, IsAt, is_at, looks_on, runs_out_at, all_scanned, HasScanned, none_to_scan}
 use Rattle.nor_save.proofs.Parts.{cut_out, part_long, put_back, kept_later, kept_same, marked_more, marked_none, read_before}
