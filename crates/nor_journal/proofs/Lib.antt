@@ -6,6 +6,7 @@ pub mod Fronts
 pub mod OneForm
 pub mod Writes
 pub mod Saved
+pub mod Sought
 pub mod KnownBytes
 pub mod OneFault
 pub mod Saves

@@ -135,6 +135,32 @@ saved_in-take_more c i s n is e =
     let parts = take-rising (c.size / 4096) 0 c.saved i s is.saved e in
     ap (λ (ss : List SavedSector). saved_in ss n) (take-sector c.saved i s e) ∙ saved_in-push (c.size / 4096) 0 (take i c.saved) s n parts.0 parts.1
 
+-- the numbers go on from record to record
+pub take-next : (c : Content) (i : ℕ) (s : SavedSector) → IsContent c → slice_get c.saved i ≡ Some s → (least_after 0 (take i c.saved) ≤ s.number) × (least_after 0 (take (i + 1) c.saved) ≡ s.number + 1)
+take-next c i s is e = (
+  (take-rising (c.size / 4096) 0 c.saved i s is.saved e).1,
+  ap (λ (ss : List SavedSector). least_after 0 ss) (take-sector c.saved i s e) ∙ least_after-push 0 (take i c.saved) s,
+)
+
+-- they stay below the number of sectors, and so does how many there are
+after_within : (sectors least : ℕ) (ss : List SavedSector) → AreRising sectors least ss → least ≤ sectors → (least_after least ss ≤ sectors) × (least + length ss ≤ sectors)
+after_within sectors least [] rising within = (within, omega arith)
+after_within sectors least (s ∷ ss) rising within =
+    let place = rising.0.place in
+    let later = after_within sectors (s.number + 1) ss rising.2 (omega arith) in
+    let few = later.1 in let rises = rising.1 in
+    (later.0, omega arith)
+
+pub least_within : (c : Content) → IsContent c → least_after 0 c.saved ≤ c.size / 4096
+least_within c is = (after_within (c.size / 4096) 0 c.saved is.saved (omega arith)).0
+
+pub saved_few : (c : Content) → IsContent c → length c.saved ≤ c.size / 4096
+saved_few c is = let few = (after_within (c.size / 4096) 0 c.saved is.saved (omega arith)).1 in omega arith
+
+pub take-all_sectors : (ss : List SavedSector) → take (length ss) ss ≡ ss
+take-all_sectors [] = refl
+take-all_sectors (s ∷ ss) = ap (λ (rest : List SavedSector). s ∷ rest) (take-all_sectors ss)
+
 pub saved_in-nil : (n : ℕ) → saved_in [] n ≡ None
 unfolding saved_in
 saved_in-nil n = refl

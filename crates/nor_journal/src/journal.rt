@@ -1,5 +1,5 @@
 //! A journal that was read.
-ghost use Rattle.std.specs.Prelude.{◌≡◌, ◌↔◌, ℕ, ◌/◌, ◌<◌, ◌≤◌, Bool, List, ◌++◌, length, take, slice_get, Some, IfOk, IfErr, OnOk, IsOkAnd};
+ghost use Rattle.std.specs.Prelude.{◌≡◌, ◌↔◌, ℕ, ◌/◌, ◌<◌, ◌≤◌, Bool, List, ◌++◌, length, take, slice_get, Some, None, IfSome, MatchOption, IfOk, IfErr, OnOk, IsOkAnd};
 ghost use Rattle.nor_journal.specs.Text.{Content, IsContent, SameHead, text};
 ghost use Rattle.nor_journal.specs.Saved.{Saves, JournalSaves, HasRecord, saved_in};
 ghost use Rattle.nor_journal.specs.Fault.{HasFault};
@@ -118,6 +118,29 @@ impl<'a> Journal<'a> {
         ensures sound { IsContent self.now }
     {
         record_at(self.records, i)
+    }
+
+    /// The 4,096 bytes saved for a sector, or None where it isn't saved. Since the numbers rise, the search halves.
+    pub fn find(&self, sector: u32) -> Option<&'a [u8]>
+        ensures value { MatchOption result (saved_in self.now.saved sector ≡ None) (λ bytes. saved_in self.now.saved sector ≡ Some bytes.now) }
+        ensures whole { IfSome result (λ bytes. length bytes.now ≡ 4096) }
+        ensures sound { IsContent self.now }
+    {
+        let mut low = 0;
+        let mut high = self.count();
+        while low < high {
+            let middle = low + (high - low) / 2;
+            let (number, bytes) = self.sector(middle);
+            if number == sector {
+                return Some(bytes);
+            }
+            if number < sector {
+                low = middle + 1;
+            } else {
+                high = middle;
+            }
+        }
+        None
     }
 }
 

@@ -101,6 +101,24 @@ fn reads_what_was_written(rt: HostRuntime) -> Result<(), Fail> {
 }
 
 #[test]
+fn finds_what_was_saved(rt: HostRuntime) -> Result<(), Fail> {
+    let mut vault = MemVault::new(rt.alloc());
+    let writer = Writer::start(&mut vault, [0xEF, 0x40, 0x17], [0; 8], [0, 0], 0x80_0000)?;
+    let writer = writer.sector(3, &[0x03; 4096])?;
+    let writer = writer.sector(7, &[0x07; 4096])?;
+    let writer = writer.sector(2047, &[0xFF; 4096])?;
+    writer.end()?;
+    let journal = Journal::read(vault.bytes())?;
+    for (number, byte) in [(3, 0x03), (7, 0x07), (2047, 0xFF)] {
+        assert!(rt; journal.find(number) == Some([byte; 4096].as_slice()));
+    }
+    for number in [0, 2, 4, 6, 8, 2046, 2048, 0xFFFF_FFFF] {
+        assert!(rt; journal.find(number).is_none());
+    }
+    Ok(())
+}
+
+#[test]
 fn lengths_and_the_digest(rt: HostRuntime) -> Result<(), Fail> {
     let mut one = MemVault::new(rt.alloc());
     save(&mut one, &[0], &[0xFF; 4096])?;

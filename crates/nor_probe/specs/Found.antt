@@ -25,6 +25,11 @@ abbrev pub IsWanted : Option ChipName → ChipName → Type 0
 IsWanted None name = Unit {0}
 IsWanted (Some wanted) name = wanted ≡ name
 
+-- another name is told only where a name is wanted
+abbrev pub BlamesName : Option ChipName → ProbeFault → Type 0
+BlamesName None OtherName = ⊥
+BlamesName named fault = Unit {0}
+
 -- how many transactions tell which part has this ID: 9Fh, and where the table doesn't have it 5Ah three times
 abbrev pub reads_by : Option Part → ℕ
 reads_by (Some part) = 1

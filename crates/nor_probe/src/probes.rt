@@ -5,7 +5,7 @@ ghost use Rattle.nor_chip.specs.Size.{is_chip_size};
 ghost use Rattle.nor_probe.specs.declared.probes.ProbeFault.TheVariants as Faults;
 ghost use Rattle.nor_driver.specs.Looks.{Looks, Rested, RunsOut};
 ghost use Rattle.nor_probe.specs.Known.{id_of, pointer_in, chip_says, is_no_chip, IsGenuine};
-ghost use Rattle.nor_probe.specs.Found.{needed, Finds, IsConfigOf, IsCounted, IsPart, IsWanted, Tells};
+ghost use Rattle.nor_probe.specs.Found.{BlamesName, needed, Finds, IsConfigOf, IsCounted, IsPart, IsWanted, Tells};
 ghost use Rattle.nor_probe.specs.Steps.{AreParameters, Identifies, GeometryTells, IdentityTells, IsIdentified, IsIdentityFault, reads_under, fault_of};
 
 use crate::{ChipName, Geometry, Kinds, Part, SfdpFault, part_of, read_sfdp};
@@ -75,6 +75,7 @@ pub fn probe_counted<B: Bus>(bus: &mut B, named: Option<ChipName>) -> Result<Pro
     ensures part { IfOk result (λ probed. IsPart probed.found) }
     ensures counted { IfOk result IsCounted }
     ensures wanted { IfOk result (λ probed. IsWanted named probed.found.name) }
+    ensures blames { IfErr result (BlamesName named) }
 
     ensures finds { (B.state bus.old).honest ≡ true → IfOk result (λ probed. Finds (B.state bus.old) (B.state bus.new) probed.found) }
     ensures sent { (B.state bus.old).honest ≡ true → IfOk result (λ probed. probed.transactions ≡ needed (B.state bus.old).chip) }
