@@ -1,37 +1,85 @@
 -- What is kept of a chip, by what the opening and the scan tell.
-use Rattle.std.proofs.Common.{◌≡◌, ◌∙◌, ℕ, ◌*◌, ◌/◌, ◌%◌, ◌<◌, Bool, true, List, [], ◌∷◌, ap, arith}
+use Rattle.std.proofs.Common.{◌≡◌, ◌∙◌, ℕ, ◌*◌, ◌/◌, ◌%◌, ◌<◌, Bool, true, List, [], ◌∷◌, ap, sym, subst, arith}
+use mathlib.Core.Path.{fun_ext}
 use Rattle.std.specs.Prelude.{◌&&◌, nat_lt, Some}
+use Rattle.nor_chip.specs.declared.config.Config.{Config}
 use Rattle.nor_chip.specs.Chip.{Chip}
 use Rattle.nor_chip.specs.Bus.{BusState}
 use Rattle.nor_driver.specs.Reads.{id_of, unique_of}
-use Rattle.nor_journal.specs.Text.{empty_content}
+use Rattle.nor_journal.specs.Text.{Content, empty_content}
+use Rattle.nor_journal.specs.declared.writer.Writer.{Writer}
+use Rattle.nor_journal.specs.Vault.{VaultState}
+use Rattle.nor_journal.specs.Writer.{HasKept}
 use Rattle.nor_plan.specs.SectorSet.{has}
-use Rattle.nor_apply.specs.Content.{is_touched}
+use Rattle.nor_apply.specs.Content.{is_touched, is_raised}
 use Rattle.nor_save.specs.declared.opening.Opening.{Opening}
 use Rattle.nor_save.specs.declared.report.Request.{Request}
 use Rattle.nor_save.specs.declared.refusal.Refusal.{Refusal}
 use Rattle.nor_save.specs.declared.refusal.Refusal.TheVariants.{StatusLocked, Protected}
 use Rattle.nor_save.specs.declared.scanning.Scanned.{Scanned}
-use Rattle.nor_save.specs.Request.{wanted, is_touched_by}
-use Rattle.nor_save.specs.Scanning.{AreRight}
-use Rattle.nor_save.specs.Saving.{IsOpening, ScanJudges, head_of}
+use Rattle.nor_save.specs.Request.{wanted, is_touched_by, is_raised_by}
+use Rattle.nor_save.specs.Scanning.{AreRight, IsOpen}
+use Rattle.nor_save.specs.Saving.{IsOpening, Shows, ScanJudges, ScanAccepts, head_of}
 use Rattle.nor_save.specs.Judging.{IsScanRefusal}
 use Rattle.nor_save.specs.Keeping.{KeepTells}
 
+-- the bytes of a chip that the bus has
+pub same_bytes : (chip : Chip) (state : BusState) → Shows chip state → state.chip.bytes ≡ chip.bytes
+same_bytes chip state shows = fun_ext shows.same.bytes
+
+-- the bus's chip has the size that the opening told
+pub is_open : (chip : Chip) (opening : Opening) (state : BusState) → IsOpening chip opening → Shows chip state → IsOpen opening.found.size state
+is_open chip opening state is shows = record {
+  honest = shows.honest;
+  idle = shows.idle;
+  same = ap (λ (config : Config). config.size) shows.same.config ∙ sym is.config.size;
+}
+
 -- the marks are those of the request on this chip
-pub scanned_right : (request : Request) (image : List ℕ) (opening : Opening) (chip : Chip) (scanned : Scanned) → IsOpening chip opening
-    → AreRight (wanted request image opening.found.size chip.bytes) chip.bytes (opening.found.size / 4096) scanned
+pub touched_right : (request : Request) (image : List ℕ) (opening : Opening) (chip : Chip) (state : BusState) (scanned : Scanned) → IsOpening chip opening → Shows chip state
+    → AreRight (wanted request image opening.found.size state.chip.bytes) state.chip.bytes (opening.found.size / 4096) scanned
     → (s : ℕ) → has scanned.touched s ≡ is_touched_by request image chip s
-scanned_right request image opening chip scanned is right s =
-    right.touched s ∙ ap (λ (n : ℕ). nat_lt s (n / 4096) && is_touched chip.bytes (wanted request image n chip.bytes) s) is.config.size
+touched_right request image opening chip state scanned is shows right s =
+    right.touched s
+    ∙ ap (λ (content : ℕ → ℕ). nat_lt s (opening.found.size / 4096) && is_touched content (wanted request image opening.found.size content) s) (same_bytes chip state shows)
+    ∙ ap (λ (n : ℕ). nat_lt s (n / 4096) && is_touched chip.bytes (wanted request image n chip.bytes) s) is.config.size
+
+pub raised_right : (request : Request) (image : List ℕ) (opening : Opening) (chip : Chip) (state : BusState) (scanned : Scanned) → IsOpening chip opening → Shows chip state
+    → AreRight (wanted request image opening.found.size state.chip.bytes) state.chip.bytes (opening.found.size / 4096) scanned
+    → (s : ℕ) → has scanned.raised s ≡ is_raised_by request image chip s
+raised_right request image opening chip state scanned is shows right s =
+    right.raised s
+    ∙ ap (λ (content : ℕ → ℕ). nat_lt s (opening.found.size / 4096) && is_raised content (wanted request image opening.found.size content) s) (same_bytes chip state shows)
+    ∙ ap (λ (n : ℕ). nat_lt s (n / 4096) && is_raised chip.bytes (wanted request image n chip.bytes) s) is.config.size
+
+-- so is what the image has of the touched sectors
+pub merged_right : (request : Request) (image : List ℕ) (opening : Opening) (chip : Chip) (state : BusState) (a x : ℕ) → IsOpening chip opening → Shows chip state
+    → x ≡ wanted request image opening.found.size state.chip.bytes a → x ≡ wanted request image chip.config.size chip.bytes a
+merged_right request image opening chip state a x is shows merged =
+    merged
+    ∙ ap (λ (content : ℕ → ℕ). wanted request image opening.found.size content a) (same_bytes chip state shows)
+    ∙ ap (λ (n : ℕ). wanted request image n chip.bytes a) is.config.size
 
 -- a judgement of the scan tells of the touched sectors
 pub judged_tells : (request : Request) (opening : Opening) (code : ℕ) (image : List ℕ) (old new : BusState) (touched : ℕ → Bool) (refusal : Refusal) → IsScanRefusal refusal
-    → (old.honest ≡ true → IsOpening old.chip opening → (s : ℕ) → touched s ≡ is_touched_by request image old.chip s)
-    → (IsOpening old.chip opening → ScanJudges request code touched old.chip refusal) → KeepTells request opening code image old new refusal
-judged_tells request opening code image old new touched StatusLocked is right judges = λ honest opened. record { touched = touched; right = right honest opened; judges = judges opened }
-judged_tells request opening code image old new touched (Protected address) is right judges = λ honest opened. record { touched = touched; right = right honest opened; judges = judges opened }
+    → ((chip : Chip) → IsOpening chip opening → Shows chip old → (s : ℕ) → touched s ≡ is_touched_by request image chip s)
+    → ((chip : Chip) → IsOpening chip opening → ScanJudges request code touched chip refusal) → KeepTells request opening code image old new refusal
+judged_tells request opening code image old new touched StatusLocked is right judges =
+    λ chip opened shows. subst (λ (set : ℕ → Bool). ScanJudges request code set chip StatusLocked) (fun_ext (right chip opened shows)) (judges chip opened)
+judged_tells request opening code image old new touched (Protected address) is right judges =
+    λ chip opened shows. subst (λ (set : ℕ → Bool). ScanJudges request code set chip (Protected address)) (fun_ext (right chip opened shows)) (judges chip opened)
 judged_tells request opening code image old new touched _ is right judges = absurd is
+
+-- an acceptance too
+pub accepts_touched : (request : Request) (code : ℕ) (touched more : ℕ → Bool) (chip : Chip) (unlock : Bool) → ((s : ℕ) → touched s ≡ more s)
+    → ScanAccepts request code touched chip unlock → ScanAccepts request code more chip unlock
+accepts_touched request code touched more chip unlock same accepts = subst (λ (set : ℕ → Bool). ScanAccepts request code set chip unlock) (fun_ext same) accepts
+
+-- and what was written of the journal
+pub kept_touched : {V : Type 0} → (state : V → VaultState) (writer : Writer V) (head : Content) (old content : ℕ → ℕ) (touched more : ℕ → Bool) (n : ℕ) → old ≡ content → ((s : ℕ) → touched s ≡ more s)
+    → HasKept state writer head old touched n → HasKept state writer head content more n
+kept_touched state writer head old content touched more n shown same kept =
+    subst (λ (chip : ℕ → ℕ). HasKept state writer head chip more n) shown (subst (λ (set : ℕ → Bool). HasKept state writer head old set n) (fun_ext same) kept)
 
 -- the kept bits, as they were read
 kept_bytes : (one two k1 k2 : ℕ) → one / 4 ≡ k1 → two ≡ k2 → k2 < 128 → one / 4 * 4 ∷ two % 128 ∷ [] ≡ 4 * k1 ∷ k2 ∷ []

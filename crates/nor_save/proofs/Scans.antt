@@ -116,7 +116,7 @@ counted n plan old new false is below are marked =
     (λ s lower. sym (marked.touched s ∙ ap (λ (b : Bool). (b && (s == n)) || has old.touched s) is))
 
 -- a sector more was marked
-marks_more : (n : ℕ) (plan : SectorPlan) (old new : Scanned) → n < 4096 → (plan.raised ≡ true → plan.touched ≡ true) → AreMarks n old → HasMarked n plan old new → AreMarks (n + 1) new
+pub marks_more : (n : ℕ) (plan : SectorPlan) (old new : Scanned) → n < 4096 → (plan.raised ≡ true → plan.touched ≡ true) → AreMarks n old → HasMarked n plan old new → AreMarks (n + 1) new
 marks_more n plan old new below needed are marked = record {
   below = λ s is.
       elim (or_cases (plan.touched && (s == n)) (has old.touched s) (sym (marked.touched s) ∙ is)) [
@@ -287,12 +287,13 @@ runs_out_at request size n image image' old mid new scanned at was out =
 
 -- a request about bytes was carried to the last sector
 pub all_scanned : (request : Request) (size n : ℕ) (image image' : List ℕ) (old new : BusState) (scanned : Scanned)
-    → is_data request.what ≡ true → n ≡ size / 4096 → HasScanned request size n image image' old new scanned → Scans request size image image' old new scanned
-all_scanned request size n image image' old new scanned about_bytes end was =
+    → is_data request.what ≡ true → n ≡ size / 4096 → scanned.count ≤ scanned.reads → HasScanned request size n image image' old new scanned → Scans request size image image' old new scanned
+all_scanned request size n image image' old new scanned about_bytes end few was =
     let all = subst (λ (k : ℕ). HasScanned request size k image image' old new scanned) end was in
     record {
       marks = all.marks;
       reads = all.reads ∙ sym (ap (λ (b : Bool). if b then count_below (size / 4096) (has_in_sector (includes request.included)) else 0) about_bytes);
+      few = few;
       rested = all.looked.rested;
       sent = all.looked.sent;
       right = all.right;
@@ -301,8 +302,8 @@ all_scanned request size n image image' old new scanned about_bytes end was =
 
 -- a request about protection has nothing to scan
 pub none_to_scan : (request : Request) (size : ℕ) (image image' : List ℕ) (old new : BusState) (scanned : Scanned)
-    → is_data request.what ≡ false → HasScanned request size 0 image image' old new scanned → Scans request size image image' old new scanned
-none_to_scan request size image image' old new scanned other was =
+    → is_data request.what ≡ false → scanned.count ≤ scanned.reads → HasScanned request size 0 image image' old new scanned → Scans request size image image' old new scanned
+none_to_scan request size image image' old new scanned other few was =
     let content = old.chip.bytes in
     let aim = wanted request image size content in
     let kept : (a : ℕ) → aim a ≡ content a = λ a. wanted-kept request image size content a (and_left (is_data request.what) (nat_lt a size && includes request.included a) other) in
@@ -321,6 +322,7 @@ none_to_scan request size image image' old new scanned other was =
       reads =
           was.reads ∙ reads_zero (has_in_sector (includes request.included))
           ∙ sym (ap (λ (b : Bool). if b then count_below (size / 4096) (has_in_sector (includes request.included)) else 0) other);
+      few = few;
       rested = was.looked.rested;
       sent = was.looked.sent;
       right = λ is_open. record {

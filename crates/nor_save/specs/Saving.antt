@@ -1,6 +1,7 @@
 -- What a session saves, and what it may refuse until then.
 use Rattle.std.specs.Prelude.{◌≡◌, ◌≢◌, ◌<◌, ◌*◌, ◌/◌, ◌&&◌, ℕ, Bool, true, false, Some, [], ◌∷◌}
-use Rattle.nor_chip.specs.Chip.{Chip, is_locked}
+use Rattle.nor_chip.specs.Chip.{Chip, IsSame, is_locked}
+use Rattle.nor_chip.specs.Bus.{BusState}
 use Rattle.nor_chip.specs.Guard.{code_of, is_undefined, is_unit_guarded}
 use Rattle.nor_chip.specs.Offer.{IsNotOffered}
 use Rattle.nor_driver.specs.Reads.{unique_of, id_of}
@@ -15,13 +16,18 @@ use Rattle.nor_save.specs.declared.refusal.Refusal.{Refusal}
 use Rattle.nor_save.specs.declared.refusal.Refusal.TheVariants.{ImageSize, RegionOutside, NoProtection, UndefinedProtection, RangeNotOffered, StatusLocked, Protected}
 use Rattle.nor_save.specs.Request.{is_data, IsWantedCode}
 
--- The opening has the configuration, the status and the own number of an idle chip.
+-- The opening has the configuration, the kept bits and the own number of a chip.
 pub record IsOpening (chip : Chip) (opening : Opening) : Type 0 where
   pub config : IsConfigOf chip.config opening.found
-  pub idle : chip.busy ≡ 0
   pub one : opening.found.status1 / 4 ≡ chip.kept1
   pub two : opening.status2 ≡ chip.kept2
   pub unique : opening.unique ≡ unique_of chip.config
+
+-- The bus is honest, and has this chip, idle.
+pub record Shows (chip : Chip) (state : BusState) : Type 0 where
+  pub honest : state.honest ≡ true
+  pub idle : state.chip.busy ≡ 0
+  pub same : IsSame chip state.chip
 
 -- ---- what the opening judges
 

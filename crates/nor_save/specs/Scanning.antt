@@ -1,5 +1,5 @@
 -- What scans tell: which sectors are touched and raised.
-use Rattle.std.specs.Prelude.{◌≡◌, ◌<◌, ◌+◌, ◌*◌, ◌/◌, ◌==◌, ◌&&◌, ◌||◌, ℕ, Bool, true, false, nat_lt, Result, Err, List, slice_index, if◌then◌else◌}
+use Rattle.std.specs.Prelude.{◌≡◌, ◌<◌, ◌≤◌, ◌+◌, ◌*◌, ◌/◌, ◌==◌, ◌&&◌, ◌||◌, ℕ, Bool, true, false, nat_lt, Result, Err, List, slice_index, if◌then◌else◌}
 use Rattle.nor_chip.specs.Bus.{BusState}
 use Rattle.nor_driver.specs.Looks.{Rested, RunsOut}
 use Rattle.nor_journal.specs.Vault.{VaultState, Refused, Accepted}
@@ -60,6 +60,7 @@ pub record ScansSector (request : Request) (size sector : ℕ) (part part' bytes
 pub record Scans (request : Request) (size : ℕ) (image image' : List ℕ) (old new : BusState) (scanned : Scanned) : Type 0 where
   pub marks : AreMarks (size / 4096) scanned
   pub reads : scanned.reads ≡ scanned_sectors request size
+  pub few : scanned.count ≤ scanned.reads
   pub rested : old.honest ≡ true → Rested old new
   pub sent : old.honest ≡ true → old.left ≡ new.left + scanned.reads
   pub right : IsOpen size old → AreRight (wanted request image size old.chip.bytes) old.chip.bytes (size / 4096) scanned

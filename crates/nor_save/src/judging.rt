@@ -8,7 +8,7 @@ ghost use Rattle.nor_plan.specs.SectorSet.{has, LiesBelow};
 ghost use Rattle.nor_save.specs.Request.{is_data};
 ghost use Rattle.nor_save.specs.Opening.{status_read};
 ghost use Rattle.nor_save.specs.Saving.{IsOpening, OpeningJudges, OpeningAccepts, ScanJudges, ScanAccepts, IsLeastHeld, NoneHeld, SomeHeld, NeedsStatus};
-ghost use Rattle.nor_save.specs.Judging.{IsOpeningRefusal, IsScanRefusal};
+ghost use Rattle.nor_save.specs.Judging.{IsOpeningRefusal, IsScanRefusal, Lifts};
 
 use crate::opening::Opening;
 use crate::{Refusal, Request, What};
@@ -22,6 +22,7 @@ pub fn judge_opening(request: &Request, opening: &Opening, image: usize) -> Resu
     ensures six_bits { IfOk result (λ code. code < 64) }
     ensures sized { IfOk result (λ code. is_data request.now.what ≡ true → image ≡ opening.now.found.size) }
     ensures faults { IfErr result IsOpeningRefusal }
+    ensures same_code { IfOk result (λ code. is_data request.now.what ≡ true → code ≡ code_in (status_read opening.now)) }
     ensures accepts { (chip : Chip) → IsOpening chip opening.now → IfOk result (OpeningAccepts request.now image chip) }
     ensures tells { (chip : Chip) → IsOpening chip opening.now → IfErr result (OpeningJudges request.now image chip) }
 {
@@ -60,6 +61,7 @@ pub fn first_held(touched: &SectorSet, opening: &Opening) -> Option<u32>
     requires below { LiesBelow touched.now (opening.now.found.size / 4096) }
     ensures held { (chip : Chip) → IsOpening chip opening.now → MatchOption result (NoneHeld (has touched.now) chip) (IsLeastHeld (has touched.now) chip) }
     ensures reachable { IfSome result (λ sector. sector < 4096) }
+    ensures found { IfSome result (λ sector. has touched.now sector ≡ true) }
 {
     if !opening.found.scheme {
         return None;
@@ -95,6 +97,7 @@ pub fn judge_scan(
     requires sized { IsTrue (is_chip_size opening.now.found.size) }
     requires below { LiesBelow touched.now (opening.now.found.size / 4096) }
     ensures faults { IfErr result IsScanRefusal }
+    ensures lifts { IfOk result (Lifts request.now touched.now) }
     ensures accepts { (chip : Chip) → IsOpening chip opening.now → IfOk result (ScanAccepts request.now code (has touched.now) chip) }
     ensures tells { (chip : Chip) → IsOpening chip opening.now → IfErr result (ScanJudges request.now code (has touched.now) chip) }
 {

@@ -9,7 +9,7 @@ mod report;
 mod saving;
 mod scanning;
 
-pub use judging::{judge_opening, judge_scan};
+pub use judging::{first_held, judge_opening, judge_scan};
 pub use opening::{Opening, open, read_on};
 pub use refusal::Refusal;
 pub use report::{Report, Request, What};

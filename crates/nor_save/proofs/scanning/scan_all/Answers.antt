@@ -132,9 +132,9 @@ returns-clause-scans g c =
     elim c.if-is_data.branch [
       | then-is_data w ↦
           all_scanned c.args.request.now c.args.size c.loop-sector.sector c.args.image.now c.loop-sector.image old new c.loop-sector.scanned
-          (sym c.is_data.ensures ∙ w.if-is_data.true) (omega arith) here.scanned
+          (sym c.is_data.ensures ∙ w.if-is_data.true) (omega arith) here.few here.scanned
       | else-is_data w ↦
-          none_to_scan c.args.request.now c.args.size c.args.image.now c.loop-sector.image old new c.loop-sector.scanned (sym c.is_data.ensures ∙ w.if-is_data.false)
+          none_to_scan c.args.request.now c.args.size c.args.image.now c.loop-sector.image old new c.loop-sector.scanned (sym c.is_data.ensures ∙ w.if-is_data.false) here.few
           (let none : c.loop-sector.sector ≡ 0 = omega arith in
           subst (λ (k : ℕ). HasScanned c.args.request.now c.args.size k c.args.image.now c.loop-sector.image old new c.loop-sector.scanned) none here.scanned)
     ]
