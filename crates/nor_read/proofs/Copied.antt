@@ -1,0 +1,83 @@
+-- A copy grows by a sector after the other.
+use Rattle.std.proofs.Common.{◌≡◌, ◌≤◌, ◌<◌, ◌+◌, ◌-◌, ◌*◌, ◌++◌, ◌∙◌, ℕ, true, List, [], length, slice_index, Option, refl, ap, sym, subst, arith, inl, inr, append_assoc, append-nil, length-append}
+use Rattle.std.specs.Prelude.{◌/◌, if◌then◌else◌}
+use Rattle.std.proofs.lemmas.Bool.{cases_lt}
+use Rattle.std.proofs.lemmas.List.{get_or_append_left, get_or-append_right}
+use Rattle.nor_chip.specs.Bus.{BusState}
+use Rattle.nor_driver.specs.Looks.{Looks}
+use Rattle.nor_journal.specs.Vault.{VaultState, Accepted, Took}
+use Rattle.nor_layout.specs.declared.ranges.Span.{Span}
+use Rattle.nor_layout.specs.Below.{count_below}
+use Rattle.nor_layout.specs.Sectors.{includes, has_in_sector}
+use Rattle.nor_layout.proofs.Below.{count_below-zero}
+use Rattle.nor_save.specs.Scanning.{IsOpen}
+use Rattle.nor_save.proofs.Rests.{HasLooked, has_looked-none}
+use Rattle.nor_read.specs.Reading.{copied, Copies, ReadsPart}
+use Rattle.nor_read.proofs.Onward.{looked_on, counted_on, at_most, open_on}
+
+-- The sectors below n were copied.
+pub record HasCopied (included : Option (List Span)) (size n : ℕ) (old new : BusState) (vault vault' : VaultState) (reads : ℕ) : Type 0 where
+  pub few : reads ≤ n
+  pub counted : reads ≡ count_below n (has_in_sector (includes included))
+  pub looked : HasLooked reads old new
+  pub accepted : Accepted vault vault'
+  pub copy : vault.telling ≡ true → Copies (IsOpen size old) included old.chip.bytes (4096 * n) vault vault'
+
+pub copied_none : (included : Option (List Span)) (size : ℕ) (state : BusState) (vault : VaultState) → HasCopied included size 0 state state vault vault 0
+copied_none included size state vault = record {
+  few = omega arith;
+  counted = sym (count_below-zero (has_in_sector (includes included)));
+  looked = has_looked-none state;
+  accepted = record { telling = refl; sealed = refl; failures = refl };
+  copy = λ telling. record {
+    bytes = [];
+    long = refl;
+    grown = sym (append-nil vault.bytes);
+    right = λ known a below. absurd (omega arith);
+  };
+}
+
+-- so many bytes more
+pub copies_more : (known : Type 0) (included : Option (List Span)) (content : ℕ → ℕ) (m k : ℕ) (part : List ℕ) (vault mid new : VaultState)
+    → Copies known included content m vault mid → length part ≡ k → new.bytes ≡ mid.bytes ++ part
+    → (known → (i : ℕ) → i < k → slice_index part i ≡ copied included content (m + i)) → Copies known included content (m + k) vault new
+copies_more known included content m k part vault mid new has long grown right = record {
+  bytes = has.bytes ++ part;
+  long = let before = has.long in length-append has.bytes part ∙ (omega arith);
+  grown = grown ∙ ap (λ (xs : List ℕ). xs ++ part) has.grown ∙ append_assoc vault.bytes has.bytes part;
+  right = λ is a below. elim (cases_lt a m) [
+    | inl before ↦ get_or_append_left has.bytes part 0 a (let whole = has.long in omega arith) ∙ has.right is a before
+    | inr behind ↦
+        get_or-append_right has.bytes part m a 0 has.long behind
+        ∙ right is (a - m) (omega arith)
+        ∙ ap (copied included content) (let e : m + (a - m) ≡ a = omega arith in e)
+  ];
+}
+
+-- the bytes of a sector that was read are those of the copy
+pub part_right : (included : Option (List Span)) (size n reads more : ℕ) (bytes : List ℕ) (old mid new : BusState) → n < size / 4096 → HasLooked reads old mid → ReadsPart included n bytes mid new more
+    → IsOpen size old → (i : ℕ) → i < 4096 → slice_index bytes i ≡ copied included old.chip.bytes (4096 * n + i)
+part_right included size n reads more bytes old mid new below looked part is_open i small =
+    let now = open_on size reads old mid is_open looked in
+    part.right now.honest now.idle (let same = now.same in omega arith) i small
+    ∙ ap (λ (b : ℕ). if includes included (4096 * n + i) then b else 255) ((looked.rested is_open.honest).unchanged.same.bytes (4096 * n + i))
+
+-- a sector more
+pub copied_more : (included : Option (List Span)) (size n reads more : ℕ) (bytes : List ℕ) (old mid new : BusState) (vault now later : VaultState) → n < size / 4096 → length bytes ≡ 4096
+    → HasCopied included size n old mid vault now reads → Looks 1 mid new → ReadsPart included n bytes mid new more → Took now bytes later
+    → HasCopied included size (n + 1) old new vault later (reads + more)
+copied_more included size n reads more bytes old mid new vault now later below long has looks part took = record {
+  few = let few = has.few in let one = at_most more (has_in_sector (includes included) n) part.counted in omega arith;
+  counted = counted_on n reads more (has_in_sector (includes included)) has.counted part.counted;
+  looked = looked_on reads more old mid new has.looked looks part.rested part.fell;
+  accepted = record {
+    telling = took.telling ∙ has.accepted.telling;
+    sealed = took.sealed ∙ has.accepted.sealed;
+    failures = took.failures ∙ has.accepted.failures;
+  };
+  copy = λ telling.
+      let e : 4096 * n + 4096 ≡ 4096 * (n + 1) = omega arith in
+      subst (λ (k : ℕ). Copies (IsOpen size old) included old.chip.bytes k vault later) e
+      (copies_more (IsOpen size old) included old.chip.bytes (4096 * n) 4096 bytes vault now later (has.copy telling) long (took.bytes (has.accepted.telling ∙ telling))
+      (part_right included size n reads more bytes old mid new below has.looked part));
+}

@@ -1,0 +1,4 @@
+pub mod Finding
+pub mod Reading
+pub mod Verifying
+pub mod Protecting

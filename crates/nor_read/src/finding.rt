@@ -1,0 +1,37 @@
+//! How every reading begins and ends: the chip is found, and reported.
+ghost use Rattle.std.specs.Prelude.{◌≡◌, ◌≤◌, ◌+◌, IfOk, IfErr};
+ghost use Rattle.nor_driver.specs.Looks.{Looks};
+ghost use Rattle.nor_read.specs.Finding.{HasFound, ProbeTells, Rests};
+
+use nor_chip::Bus;
+use nor_probe::{ChipName, Probed, probe_counted};
+use nor_save::{Refusal, Report};
+
+/// Tells which chip is on the bus.
+pub fn find<B: Bus>(bus: &mut B, named: Option<ChipName>) -> Result<Probed, Refusal>
+    ensures leaves { Looks 65540 (B.state bus.old) (B.state bus.new) }
+    ensures rests { IfErr result (Rests (B.state bus.old) (B.state bus.new)) }
+    ensures finds { IfOk result (HasFound named (B.state bus.old) (B.state bus.new)) }
+    ensures tells { IfErr result (ProbeTells named (B.state bus.old) (B.state bus.new)) }
+{
+    let probed = probe_counted(bus, named)?;
+    Ok(probed)
+}
+
+/// The report of a reading that read so many sectors of the chip that was found.
+pub fn report(probed: Probed, reads: u32) -> Report
+    requires { probed.transactions ≤ 65540 }
+    ensures found { result.found ≡ probed.found }
+    ensures touched { result.touched ≡ 0 }
+    ensures erases { result.erases ≡ 0 }
+    ensures programs { result.programs ≡ 0 }
+    ensures transactions { result.transactions ≡ probed.transactions + reads }
+{
+    Report {
+        found: probed.found,
+        touched: 0,
+        erases: 0,
+        programs: 0,
+        transactions: probed.transactions + u64::from(reads),
+    }
+}

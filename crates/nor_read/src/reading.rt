@@ -1,0 +1,98 @@
+//! Reads a chip out into a vault.
+ghost use Rattle.std.specs.Prelude.{◌≡◌, ◌<◌, ◌≤◌, ◌/◌, false, IfOk, IfErr, OnOk, OnErr, IsTrue, option_copied};
+ghost use Rattle.nor_chip.specs.Size.{is_chip_size};
+ghost use Rattle.nor_driver.specs.Looks.{Looks, RunsOut};
+ghost use Rattle.nor_journal.specs.Vault.{Took};
+ghost use Rattle.nor_read.specs.Finding.{IsModelled, Rests, most_of};
+ghost use Rattle.nor_read.specs.Reading.{ReadsOut, ReadTells, ReadPuts, ReadsPart, ReadsAll, CopyTells, PutTells};
+
+use crate::finding::{find, report};
+use nor_chip::{Bus, Stopped};
+use nor_driver::read_sector;
+use nor_journal::Vault;
+use nor_layout::{Ranges, blank_excluded, includes_in_sector, reaches_past};
+use nor_probe::ChipName;
+use nor_save::{Refusal, Report};
+
+/// Puts as many bytes into a vault as the chip has: the included ones as they are, FFh for the others. No ranges
+/// include the whole chip. The vault isn't sealed. It reads each sector that holds an included address, rising.
+pub fn read_out<B: Bus, V: Vault>(
+    bus: &mut B,
+    included: Option<&Ranges>,
+    named: Option<ChipName>,
+    out: &mut V,
+) -> Result<Report, Refusal>
+    requires unsealed { (V.state out.old).sealed ≡ false }
+    ensures leaves { Looks (most_of 16777216) (B.state bus.old) (B.state bus.new) }
+    ensures bound { IsModelled (B.state bus.old) → Looks (most_of (B.state bus.old).chip.config.size) (B.state bus.old) (B.state bus.new) }
+    ensures rests { IfErr result (Rests (B.state bus.old) (B.state bus.new)) }
+    ensures puts { ReadPuts result (V.state out.old) (V.state out.new) }
+    ensures reads { IfOk result (ReadsOut named (option_copied included.entry) (B.state bus.old) (B.state bus.new) (V.state out.old) (V.state out.new)) }
+    ensures tells { IfErr result (ReadTells named (option_copied included.entry) (B.state bus.old) (B.state bus.new) (V.state out.old) (V.state out.new)) }
+{
+    let probed = find(bus, named)?;
+    if reaches_past(included, probed.found.size) {
+        return Err(Refusal::RegionOutside);
+    }
+    let reads = copy_all(bus, included, probed.found.size, out)?;
+    Ok(report(probed, reads))
+}
+
+// Puts the copy of a chip of this size into a vault. Answers how many sectors were read.
+fn copy_all<B: Bus, V: Vault>(
+    bus: &mut B,
+    included: Option<&Ranges>,
+    size: u32,
+    out: &mut V,
+) -> Result<u32, Refusal>
+    requires sized { IsTrue (is_chip_size size) }
+    requires unsealed { (V.state out.old).sealed ≡ false }
+    ensures leaves { Looks (size / 4096) (B.state bus.old) (B.state bus.new) }
+    ensures puts { ReadPuts result (V.state out.old) (V.state out.new) }
+    ensures reads { IfOk result (ReadsAll (option_copied included.entry) size (B.state bus.old) (B.state bus.new) (V.state out.old) (V.state out.new)) }
+    ensures tells { IfErr result (CopyTells (option_copied included.entry) size (B.state bus.old) (B.state bus.new) (V.state out.old) (V.state out.new)) }
+{
+    let mut reads = 0;
+    let mut bytes = [0; 4096];
+    for sector in 0..size / 4096 {
+        reads += read_part(bus, included, sector, &mut bytes)?;
+        put_part(out, sector, &bytes)?;
+    }
+    Ok(reads)
+}
+
+// Makes a sector of the copy. Answers how many transactions that took.
+fn read_part<B: Bus>(
+    bus: &mut B,
+    included: Option<&Ranges>,
+    sector: u32,
+    bytes: &mut [u8; 4096],
+) -> Result<u32, Stopped>
+    requires { sector < 4096 }
+    ensures leaves { Looks 1 (B.state bus.old) (B.state bus.new) }
+    ensures reads { IfOk result (ReadsPart (option_copied included.entry) sector bytes.new (B.state bus.old) (B.state bus.new)) }
+    ensures stops { OnErr result (RunsOut 1 (B.state bus.old) (B.state bus.new)) }
+{
+    if !includes_in_sector(included, sector) {
+        bytes.fill(0xFF);
+        return Ok(0);
+    }
+    read_sector(bus, sector, &mut *bytes)?;
+    blank_excluded(included, sector, &mut *bytes);
+    Ok(1)
+}
+
+// Puts a sector of the copy behind those before it. A refusal tells how many bytes went in with them.
+fn put_part<V: Vault>(out: &mut V, sector: u32, bytes: &[u8; 4096]) -> Result<(), Refusal>
+    requires reachable { sector < 4096 }
+    requires unsealed { (V.state out.old).sealed ≡ false }
+    ensures takes { OnOk result (Took (V.state out.old) bytes.now (V.state out.new)) }
+    ensures tells { IfErr result (PutTells sector bytes.now (V.state out.old) (V.state out.new)) }
+{
+    match out.put(bytes) {
+        Ok(()) => Ok(()),
+        Err(fault) => Err(Refusal::Output {
+            written: 4096 * u64::from(sector) + fault.kept as u64,
+        }),
+    }
+}

@@ -1,0 +1,125 @@
+//! Compares a chip with an image.
+ghost use Rattle.std.specs.Prelude.{◌≡◌, ◌<◌, ◌≤◌, ◌+◌, ◌*◌, ◌/◌, ℕ, length, IfOk, IfErr, OnErr, IsTrue, option_copied};
+ghost use Rattle.nor_chip.specs.Size.{is_chip_size};
+ghost use Rattle.nor_driver.specs.Looks.{Looks, RunsOut};
+ghost use Rattle.nor_layout.specs.Sectors.{AreOfSector};
+ghost use Rattle.nor_read.specs.Finding.{IsModelled, Rests, most_of};
+ghost use Rattle.nor_read.specs.Verifying.{Verifies, VerifyTells, ComparesPart, ComparesAll, TellsFirst};
+
+use crate::finding::{find, report};
+use nor_chip::{Bus, Stopped};
+use nor_driver::read_sector;
+use nor_layout::{Ranges, fill_excluded, includes_in_sector, reaches_past};
+use nor_plan::bounds;
+use nor_probe::ChipName;
+use nor_save::{Refusal, Report};
+
+// What a comparison told: the first address that differs, if one does, and how many sectors were read.
+#[derive(Clone, Copy)]
+struct Compared {
+    first: Option<u32>,
+    reads: u32,
+}
+
+/// Compares the chip's included bytes with those of an image, which has to be as long as the chip. No ranges include
+/// the whole chip. It reads each sector that holds an included address, rising, and then tells the first difference.
+pub fn verify<B: Bus>(
+    bus: &mut B,
+    image: &[u8],
+    included: Option<&Ranges>,
+    named: Option<ChipName>,
+) -> Result<Report, Refusal>
+    ensures leaves { Looks (most_of 16777216) (B.state bus.old) (B.state bus.new) }
+    ensures bound { IsModelled (B.state bus.old) → Looks (most_of (B.state bus.old).chip.config.size) (B.state bus.old) (B.state bus.new) }
+    ensures rests { IfErr result (Rests (B.state bus.old) (B.state bus.new)) }
+    ensures verifies { IfOk result (Verifies named (option_copied included.entry) image.now (B.state bus.old) (B.state bus.new)) }
+    ensures tells { IfErr result (VerifyTells named (option_copied included.entry) image.now (B.state bus.old) (B.state bus.new)) }
+{
+    let probed = find(bus, named)?;
+    let size = probed.found.size;
+    if image.len() != size as usize {
+        return Err(Refusal::ImageSize {
+            chip: size,
+            image: image.len(),
+        });
+    }
+    if reaches_past(included, size) {
+        return Err(Refusal::RegionOutside);
+    }
+    let compared = compare_all(bus, image, included, size)?;
+    match compared.first {
+        None => Ok(report(probed, compared.reads)),
+        Some(address) => Err(Refusal::Mismatch { address }),
+    }
+}
+
+// Compares all sectors of a chip of this size.
+fn compare_all<B: Bus>(
+    bus: &mut B,
+    image: &[u8],
+    included: Option<&Ranges>,
+    size: u32,
+) -> Result<Compared, Stopped>
+    requires sized { IsTrue (is_chip_size size) }
+    requires whole { length image.now ≡ size }
+    ensures leaves { Looks (size / 4096) (B.state bus.old) (B.state bus.new) }
+    ensures compares { IfOk result (ComparesAll (option_copied included.entry) image.now size (B.state bus.old) (B.state bus.new)) }
+    ensures stops { OnErr result (RunsOut (size / 4096) (B.state bus.old) (B.state bus.new)) }
+{
+    let mut first = None;
+    let mut reads = 0;
+    let mut bytes = [0; 4096];
+    for sector in 0..size / 4096 {
+        let part = compare_part(bus, image, included, sector, &mut bytes)?;
+        first = first.or(part.first);
+        reads += part.reads;
+    }
+    Ok(Compared { first, reads })
+}
+
+// Compares a sector, which is read where it holds an included address.
+fn compare_part<B: Bus>(
+    bus: &mut B,
+    image: &[u8],
+    included: Option<&Ranges>,
+    sector: u32,
+    bytes: &mut [u8; 4096],
+) -> Result<Compared, Stopped>
+    requires reachable { sector < 4096 }
+    requires inside { 4096 * sector + 4096 ≤ length image.now }
+    ensures leaves { Looks 1 (B.state bus.old) (B.state bus.new) }
+    ensures compares { IfOk result (ComparesPart (option_copied included.entry) image.now sector (B.state bus.old) (B.state bus.new)) }
+    ensures stops { OnErr result (RunsOut 1 (B.state bus.old) (B.state bus.new)) }
+{
+    if !includes_in_sector(included, sector) {
+        return Ok(Compared {
+            first: None,
+            reads: 0,
+        });
+    }
+    read_sector(bus, sector, &mut *bytes)?;
+    let first = first_other(image, included, sector, bytes);
+    Ok(Compared { first, reads: 1 })
+}
+
+// The first included address of a sector at which the byte that was read isn't the image's. The bytes that aren't
+// included are taken from the image.
+fn first_other(
+    image: &[u8],
+    included: Option<&Ranges>,
+    sector: u32,
+    bytes: &mut [u8; 4096],
+) -> Option<u32>
+    requires reachable { sector < 4096 }
+    requires inside { 4096 * sector + 4096 ≤ length image.now }
+    ensures { (content : ℕ → ℕ) → AreOfSector content sector bytes.old
+        → TellsFirst (option_copied included.entry) image.now content (4096 * sector) (4096 * (sector + 1)) result }
+{
+    let start = 4096 * sector as usize;
+    let part = &image[start..start + 4096];
+    fill_excluded(included, sector, &mut *bytes, part);
+    match bounds(&*bytes, part) {
+        None => None,
+        Some((first, _)) => Some(4096 * sector + first as u32),
+    }
+}
