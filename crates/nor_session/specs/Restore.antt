@@ -1,64 +1,162 @@
--- What a restore promises.
-use Rattle.std.specs.Prelude.{◌≡◌, ◌<◌, ◌/◌, ◌%◌, ℕ, slice_index}
-use Rattle.nor_chip.specs.Chip.{Chip}
+-- What a restore wants of a chip, and what it promises.
+use Rattle.std.specs.Prelude.{◌≡◌, ◌≢◌, ◌+◌, ◌*◌, ◌/◌, ◌%◌, ◌&&◌, ◌||◌, ◌⊎◌, ℕ, Bool, true, false, not, length, slice_index, None, IfSome, IsSomeAnd, Err, if◌then◌else◌}
+use Rattle.nor_chip.specs.declared.config.Config.{Config}
+use Rattle.nor_chip.specs.Chip.{Chip, is_locked}
+use Rattle.nor_chip.specs.Guard.{code_of, is_guarded}
 use Rattle.nor_chip.specs.Bus.{BusState}
-use Rattle.nor_session.specs.declared.journal.Journal.{Journal}
-use Rattle.nor_session.specs.declared.probe.Opening.{Opening}
-use Rattle.nor_session.specs.declared.refusal.Refusal.{Refusal}
-use Rattle.nor_session.specs.declared.refusal.Refusal.TheVariants.{NoChip, UnknownChip, Stopped, Timeout, Mismatch, OtherChip, StatusDiffers}
-use Rattle.nor_session.specs.Known.{IsId, IsNoChip, IsKnown}
+use Rattle.nor_driver.specs.Looks.{IsCalm, RanOut}
+use Rattle.nor_driver.specs.Reads.{id_of, unique_of}
+use Rattle.nor_driver.specs.StatusWrites.{KeepsFixed, HasCode}
+use Rattle.nor_journal.specs.Text.{Content}
+use Rattle.nor_journal.specs.Saved.{Saves, is_saved, saved_byte}
+use Rattle.nor_layout.specs.Below.{count_below}
+use Rattle.nor_plan.specs.Planned.{fewest_erases}
+use Rattle.nor_probe.specs.declared.probes.ProbeFault.TheVariants as Probes
+use Rattle.nor_probe.specs.Known.{shown_as, IsKnown}
+use Rattle.nor_probe.specs.Found.{IsConfigOf}
+use Rattle.nor_apply.specs.Counts.{sector_count}
+use Rattle.nor_apply.specs.Content.{is_touched, is_raised, once_erased, is_programmed}
+use Rattle.nor_apply.specs.Within.{IsWithin}
+use Rattle.nor_save.specs.declared.report.Report.{Report}
+use Rattle.nor_save.specs.declared.refusal.Refusal.{Refusal}
+use Rattle.nor_save.specs.declared.refusal.Refusal.TheVariants.{NoChip, UnknownChip, StatusLocked, Stopped, Timeout, Mismatch, OtherChip, OtherUnit, StatusDiffers}
+use Rattle.nor_save.specs.Saving.{SomeHeld}
+use Rattle.nor_session.specs.Modelled.{most_of, kinds_of}
+use Rattle.nor_session.specs.Verdict.{IsNamed}
 
--- The refusals that a restore gives, on every bus.
-abbrev pub RestoreAnswers : Refusal → Type 0
-RestoreAnswers NoChip = Unit {0}
-RestoreAnswers (UnknownChip fault) = Unit {0}
-RestoreAnswers Stopped = Unit {0}
-RestoreAnswers (Timeout address) = Unit {0}
-RestoreAnswers (Mismatch address) = Unit {0}
-RestoreAnswers OtherChip = Unit {0}
-RestoreAnswers StatusDiffers = Unit {0}
-RestoreAnswers _ = ⊥
+-- ---- what is wanted
 
--- a refusal that the opening gives, before anything is changed
-abbrev pub IsJudged : Refusal → Type 0
-IsJudged NoChip = Unit {0}
-IsJudged (UnknownChip fault) = Unit {0}
-IsJudged OtherChip = Unit {0}
-IsJudged StatusDiffers = Unit {0}
-IsJudged _ = ⊥
+-- the byte that a journal wants at an address: in a saved sector the saved one, else what is there
+abbrev pub restored : Content → (ℕ → ℕ) → ℕ → ℕ
+restored journal content a = if is_saved journal (a / 4096) then saved_byte journal a else content a
 
--- On every bus: after such a refusal no changing command was sent.
-abbrev pub RestoreLeaves : BusState → BusState → Refusal → Type 0
-RestoreLeaves old new refusal = IsJudged refusal → new.stirred ≡ old.stirred
+-- a sector of the chip has another byte than the journal
+abbrev pub is_touched_from : Content → Chip → ℕ → Bool
+is_touched_from journal chip = is_touched chip.bytes (restored journal chip.bytes)
 
--- The journal is of a chip with this ID and size, and with these kept bits.
-pub record IsFitting (journal : Journal) (chip : Chip) : Type 0 where
-  pub id : IsId chip.config journal.id
-  pub size : journal.size ≡ chip.config.size
-  pub kept1 : slice_index journal.status 0 / 4 ≡ chip.kept1
-  pub kept2 : slice_index journal.status 1 % 128 ≡ chip.kept2
+-- a bit of it has to rise
+abbrev pub is_raised_from : Content → Chip → ℕ → Bool
+is_raised_from journal chip = is_raised chip.bytes (restored journal chip.bytes)
 
--- the same of what the opening found
-pub record FitsOpening (journal : Journal) (opening : Opening) : Type 0 where
-  pub id : journal.id ≡ opening.found.id
-  pub size : journal.size ≡ opening.found.size
-  pub kept1 : slice_index journal.status 0 / 4 ≡ opening.found.status1 / 4
-  pub kept2 : slice_index journal.status 1 % 128 ≡ opening.status2 % 128
+-- the protection code that the journal tells
+abbrev pub code_told : Content → ℕ
+code_told journal = 32 * (slice_index journal.status 1 / 64 % 2) + slice_index journal.status 0 / 4 % 32
 
--- what a judgement tells
-abbrev pub JudgeTells : Journal → Opening → Refusal → Type 0
-JudgeTells journal opening OtherChip = journal.id ≡ opening.found.id → journal.size ≡ opening.found.size → ⊥
-JudgeTells journal opening StatusDiffers =
-    slice_index journal.status 0 / 4 ≡ opening.found.status1 / 4 → slice_index journal.status 1 % 128 ≡ opening.status2 % 128 → ⊥
-JudgeTells journal opening _ = ⊥
+-- ---- the verdict
 
--- The answer is the verdict, the first refusal whose condition holds; or the bus stopped where there were fewer
--- transactions than the bound.
-abbrev pub RestoreTells : ℕ → Journal → BusState → BusState → Refusal → Type 0
-RestoreTells most journal old new NoChip = IsNoChip old.chip.config
-RestoreTells most journal old new (UnknownChip fault) = (IsNoChip old.chip.config → ⊥) × (IsKnown old.chip.config → ⊥)
-RestoreTells most journal old new OtherChip = IsKnown old.chip.config × (IsId old.chip.config journal.id → journal.size ≡ old.chip.config.size → ⊥)
-RestoreTells most journal old new StatusDiffers =
-    IsKnown old.chip.config × (slice_index journal.status 0 / 4 ≡ old.chip.kept1 → slice_index journal.status 1 % 128 ≡ old.chip.kept2 → ⊥)
-RestoreTells most journal old new Stopped = (new.left ≡ 0) × (old.left < most)
-RestoreTells most journal old new _ = ⊥
+-- The journal has this ID and this size.
+pub record IsOfKind (journal : Content) (config : Config) : Type 0 where
+  pub id : journal.id ≡ id_of config
+  pub size : journal.size ≡ config.size
+
+-- it tells the number of another unit; a journal of format 1 tells none
+abbrev pub IsOfOtherUnit : Content → Config → Type 0
+IsOfOtherUnit journal config = IsSomeAnd journal.unique (λ unique. unique ≢ unique_of config)
+
+-- The chip has all kept bits that the journal tells.
+pub record HasBitsTold (journal : Content) (chip : Chip) : Type 0 where
+  pub one : slice_index journal.status 0 / 4 ≡ chip.kept1
+  pub two : slice_index journal.status 1 % 128 ≡ chip.kept2
+
+-- No bit differs that a restore may not set: the fixed ones agree, and where there is no block protection all do.
+pub record HasFixedTold (journal : Content) (chip : Chip) : Type 0 where
+  pub one : slice_index journal.status 0 / 128 ≡ chip.kept1 / 32
+  pub two : slice_index journal.status 1 % 64 ≡ chip.kept2 % 64
+  pub all : chip.config.scheme ≡ false → HasBitsTold journal chip
+
+-- The chip is known, and the journal is one of it.
+pub record Fits (journal : Content) (chip : Chip) : Type 0 where
+  pub named : IsNamed None chip
+  pub kind : IsOfKind journal chip.config
+  pub unit : ¬ IsOfOtherUnit journal chip.config
+  pub fixed : HasFixedTold journal chip
+
+-- a status write is needed: the code differs from the journal's, or a sector that must change is guarded
+abbrev pub NeedsStatusFrom : Content → Chip → Type 0
+NeedsStatusFrom journal chip = (code_of chip ≢ code_told journal) ⊎ SomeHeld (is_touched_from journal chip) chip
+
+-- The refusal is the verdict: the first of 1, 2, 16, 20, 17 and 9 that holds.
+abbrev pub IsRestoreVerdict : Content → Chip → Refusal → Type 0
+IsRestoreVerdict journal chip NoChip = shown_as chip.config ≡ Err Probes.NoChip
+IsRestoreVerdict journal chip (UnknownChip fault) = shown_as chip.config ≡ Err (Probes.UnknownChip fault)
+IsRestoreVerdict journal chip OtherChip = IsNamed None chip × (¬ IsOfKind journal chip.config)
+IsRestoreVerdict journal chip OtherUnit = IsNamed None chip × IsOfKind journal chip.config × IsOfOtherUnit journal chip.config
+IsRestoreVerdict journal chip StatusDiffers =
+    IsNamed None chip × IsOfKind journal chip.config × (¬ IsOfOtherUnit journal chip.config) × (¬ HasFixedTold journal chip)
+IsRestoreVerdict journal chip StatusLocked = Fits journal chip × (is_locked chip ≡ true) × NeedsStatusFrom journal chip
+IsRestoreVerdict journal chip _ = ⊥
+
+-- The verdict is "accepted".
+pub record IsRestorable (journal : Content) (chip : Chip) : Type 0 where
+  pub fits : Fits journal chip
+  pub not_locked : is_locked chip ≡ true → ¬ NeedsStatusFrom journal chip
+
+-- ---- on every bus
+
+-- the refusals that are judged before anything changing is sent
+abbrev pub IsJudgedFirst : Refusal → Type 0
+IsJudgedFirst NoChip = Unit {0}
+IsJudgedFirst (UnknownChip fault) = Unit {0}
+IsJudgedFirst OtherChip = Unit {0}
+IsJudgedFirst OtherUnit = Unit {0}
+IsJudgedFirst StatusDiffers = Unit {0}
+IsJudgedFirst StatusLocked = Unit {0}
+IsJudgedFirst _ = ⊥
+
+-- the refusals that a restore gives
+abbrev pub IsRestoreRefusal : Refusal → Type 0
+IsRestoreRefusal Stopped = Unit {0}
+IsRestoreRefusal (Timeout address) = Unit {0}
+IsRestoreRefusal (Mismatch address) = Unit {0}
+IsRestoreRefusal refusal = IsJudgedFirst refusal
+
+-- ---- on an honest bus whose chip is what it shows itself to be
+
+-- The answer is the verdict; or the bus stopped where fewer transactions were left than the bound.
+abbrev pub RestoreTells : Content → BusState → BusState → Refusal → Type 0
+RestoreTells journal old new Stopped = RanOut (most_of (length journal.saved)) old new
+RestoreTells journal old new refusal = IsRestoreVerdict journal old.chip refusal
+
+-- At every exit, whatever the journal: outside the saved sectors bytes are as they were, the fixed bits are, and only
+-- sectors with a bit that had to rise were erased.
+pub record LeavesRestore (journal : Content) (old new : BusState) : Type 0 where
+  pub config : new.chip.config ≡ old.chip.config
+  pub bytes : IsCalm old → (a : ℕ) → is_saved journal (a / 4096) ≡ false → new.chip.bytes a ≡ old.chip.bytes a
+  pub fixed : IsCalm old → KeepsFixed old.chip new.chip
+  pub worn : (s : ℕ) → is_raised_from journal old.chip s ≡ false → new.worn s ≡ old.worn s
+
+-- At the end the chip is what the journal wants, and idle, and the report counts what was done.
+pub record IsRestored (journal : Content) (old new : BusState) (report : Report) : Type 0 where
+  pub accepted : IsRestorable journal old.chip
+  pub config : new.chip.config ≡ old.chip.config
+  pub bytes : (a : ℕ) → new.chip.bytes a ≡ restored journal old.chip.bytes a
+  pub fixed : KeepsFixed old.chip new.chip
+  pub code : HasCode (code_told journal) new.chip
+  pub idle : new.chip.busy ≡ 0
+  pub worn : (s : ℕ) → new.worn s ≡ (old.worn s || is_raised_from journal old.chip s)
+  pub found : IsConfigOf old.chip.config report.found
+  pub status1 : report.found.status1 / 4 ≡ old.chip.kept1
+  pub touched : report.touched ≡ sector_count (is_touched_from journal old.chip)
+  pub erases : report.erases ≡ fewest_erases (kinds_of old.chip.config) (old.chip.config.size / 4096) (is_raised_from journal old.chip)
+  pub programs : report.programs
+      ≡ count_below 65536 (is_programmed (is_touched_from journal old.chip) (once_erased (is_raised_from journal old.chip) old.chip.bytes) (restored journal old.chip.bytes))
+
+-- ---- giving a chip back
+
+-- The journal saves this chip.
+pub record SavesChip (journal : Content) (first : Chip) : Type 0 where
+  pub kind : IsOfKind journal first.config
+  pub unit : IfSome journal.unique (λ unique. unique ≡ unique_of first.config)
+  pub bits : HasBitsTold journal first
+  pub sectors : Saves first.bytes (is_saved journal) journal
+
+-- the places at which a chip may differ from the first one: those of saved sectors, and where the first one's status is
+-- locked the ones that aren't guarded
+abbrev pub open_places : Content → Chip → ℕ → Bool
+open_places journal first a = is_saved journal (a / 4096) && not (is_locked first && is_guarded first a)
+
+-- The bus's chip can be made the first one again: that is known and saved by the journal, and the chip is within it.
+pub record CanGiveBack (journal : Content) (first : Chip) (state : BusState) : Type 0 where
+  pub known : IsKnown first.config
+  pub saves : SavesChip journal first
+  pub within : IsWithin (open_places journal first) first state

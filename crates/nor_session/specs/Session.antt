@@ -1,92 +1,126 @@
 -- What a session promises.
-use Rattle.std.specs.Prelude.{◌≡◌, ◌≢◌, ◌≤◌, ◌<◌, ◌+◌, ◌*◌, ◌/◌, ℕ, true, false}
-use Rattle.nor_chip.specs.Chip.{Chip, IsSame}
+use Rattle.std.specs.Prelude.{◌≡◌, ◌≤◌, ◌<◌, ◌+◌, ◌*◌, ◌/◌, ◌||◌, ℕ, Bool, true, false, List, if◌then◌else◌}
+use Rattle.nor_chip.specs.Chip.{Chip, IsSame, is_locked}
+use Rattle.nor_chip.specs.Guard.{is_unit_guarded}
 use Rattle.nor_chip.specs.Bus.{BusState}
+use Rattle.nor_driver.specs.Looks.{RanOut}
+use Rattle.nor_driver.specs.StatusWrites.{KeepsFixed, HasCode}
 use Rattle.nor_journal.specs.Vault.{VaultState, Rose}
-use Rattle.nor_session.specs.declared.report.Report.{Report}
-use Rattle.nor_session.specs.declared.refusal.Refusal.{Refusal}
-use Rattle.nor_session.specs.declared.refusal.Refusal.TheVariants.{NoChip, UnknownChip, ImageSize, Vault, Stopped, Timeout, Mismatch, BadJournal, OtherChip, StatusDiffers}
-use Rattle.nor_session.specs.Content.{is_touched, is_raised, is_programmed, after_erases, count_below}
-use Rattle.nor_session.specs.Known.{IsId, IsNoChip, IsKnown}
-use Rattle.nor_session.specs.Journal.{IsJournalOf}
-use Rattle.nor_session.specs.Reading.{IsWithin}
+use Rattle.nor_journal.specs.Saved.{JournalSaves}
+use Rattle.nor_layout.specs.Below.{count_below}
+use Rattle.nor_plan.specs.Planned.{fewest_erases}
+use Rattle.nor_probe.specs.Found.{IsConfigOf}
+use Rattle.nor_apply.specs.Counts.{sector_count}
+use Rattle.nor_apply.specs.Content.{once_erased, is_programmed}
+use Rattle.nor_apply.specs.Change.{MayChange}
+use Rattle.nor_save.specs.declared.report.Request.{Request}
+use Rattle.nor_save.specs.declared.report.Report.{Report}
+use Rattle.nor_save.specs.declared.report.What.{What}
+use Rattle.nor_save.specs.declared.report.What.TheVariants.{WpRange}
+use Rattle.nor_save.specs.declared.refusal.Refusal.{Refusal}
+use Rattle.nor_save.specs.declared.refusal.Refusal.TheVariants.{Vault, Stopped, Timeout, BadJournal, OtherChip, StatusDiffers, Memory, Output, OtherUnit}
+use Rattle.nor_save.specs.Refusal.{number_of}
+use Rattle.nor_save.specs.Request.{wanted, scanned_sectors, is_touched_by, is_raised_by, IsWantedCode}
+use Rattle.nor_save.specs.Saving.{head_of}
+use Rattle.nor_session.specs.Modelled.{most_of, kinds_of}
+use Rattle.nor_session.specs.Verdict.{IsVerdict, IsAccepted}
 
--- On every bus: the refusals that a session gives, and that it blames the vault only where the vault failed.
-abbrev pub AnswersOnly : VaultState → VaultState → Refusal → Type 0
-AnswersOnly old new NoChip = Unit {0}
-AnswersOnly old new (UnknownChip fault) = Unit {0}
-AnswersOnly old new (ImageSize chip image) = Unit {0}
-AnswersOnly old new Vault = Rose old new
-AnswersOnly old new Stopped = Unit {0}
-AnswersOnly old new (Timeout address) = Unit {0}
-AnswersOnly old new (Mismatch address) = Unit {0}
-AnswersOnly old new BadJournal = ⊥
-AnswersOnly old new OtherChip = ⊥
-AnswersOnly old new StatusDiffers = ⊥
+-- ---- on every bus
 
--- a refusal with a number up to 11: the session refused, or could not keep its journal
-abbrev pub IsEarly : Refusal → Type 0
-IsEarly NoChip = Unit {0}
-IsEarly (UnknownChip fault) = Unit {0}
-IsEarly (ImageSize chip image) = Unit {0}
-IsEarly Vault = Unit {0}
-IsEarly _ = ⊥
+-- The refusals that a session gives. It blames the vault only where that failed, and after a refusal from 1 to 11 the
+-- vault isn't sealed.
+abbrev pub IsOwnRefusal : VaultState → VaultState → Refusal → Type 0
+IsOwnRefusal old new Vault = Rose old new
+IsOwnRefusal old new (BadJournal fault) = ⊥
+IsOwnRefusal old new OtherChip = ⊥
+IsOwnRefusal old new StatusDiffers = ⊥
+IsOwnRefusal old new Memory = ⊥
+IsOwnRefusal old new (Output written) = ⊥
+IsOwnRefusal old new OtherUnit = ⊥
+IsOwnRefusal old new _ = Unit {0}
 
--- On every bus: after an early refusal no changing command was sent and the vault isn't sealed.
-abbrev pub EarlyLeaves : BusState → BusState → VaultState → Refusal → Type 0
-EarlyLeaves old new vault refusal = IsEarly refusal → (new.stirred ≡ old.stirred) × (vault.sealed ≡ false)
+pub record Answers (old new : VaultState) (refusal : Refusal) : Type 0 where
+  pub own : IsOwnRefusal old new refusal
+  pub unsealed : number_of refusal ≤ 11 → new.sealed ≡ false
 
--- On every bus: what a report may count, of so many sectors. The opening takes six transactions or more, each
--- sector is read once and a touched one twice more, each erase or program takes three or more (write enable, the
--- command, a poll), and an erase spares one reading.
-pub record IsWithinBound (sectors : ℕ) (report : Report) : Type 0 where
-  pub touched : report.touched ≤ sectors
-  pub erases : report.erases ≤ sectors
-  pub programs : report.programs ≤ 16 * sectors
-  pub least : 6 + sectors + 2 * report.touched + 2 * report.erases + 3 * report.programs ≤ report.transactions
-  pub transactions : report.transactions ≤ 65541 + sectors + 2 * report.touched + 65538 * (report.erases + report.programs)
+-- how often a request may write the status: for a range once, else where protection may be lifted once for that and
+-- once to give it back
+abbrev pub most_status_writes : What → Bool → ℕ
+most_status_writes (WpRange start len) unlock = 1
+most_status_writes _ unlock = if unlock then 2 else 0
 
--- On an honest bus: no timeout comes, and a stop only where no transaction is left of fewer than the bound.
-abbrev pub EndsAtBound : ℕ → BusState → BusState → Refusal → Type 0
-EndsAtBound most old new Stopped = (new.left ≡ 0) × (old.left < most)
-EndsAtBound most old new (Timeout address) = ⊥
-EndsAtBound most old new _ = Unit {0}
+-- What a report may count, where so many sectors are scanned and the status is written at most so often. The opening
+-- takes four transactions or more, an operation three or more (write enable, the command, a poll).
+pub record IsWithinBound (scanned writes : ℕ) (report : Report) : Type 0 where
+  pub touched : report.touched ≤ scanned
+  pub erases : report.erases ≤ scanned
+  pub programs : report.programs ≤ 16 * scanned
+  pub few : report.transactions ≤ 65542 + scanned + 2 * report.touched + 65538 * (report.erases + report.programs + writes)
+  pub least : 4 + scanned + 3 * (report.erases + report.programs) ≤ report.transactions
 
--- The verdict on a request with an image of so many bytes is "accepted".
-pub record IsAccepted (len : ℕ) (chip : Chip) : Type 0 where
-  pub known : IsKnown chip.config
-  pub size : len ≡ chip.config.size
+-- The session ended: the vault is sealed, and the report is within its bound.
+pub record Ends (request : Request) (vault : VaultState) (report : Report) : Type 0 where
+  pub sealed : vault.sealed ≡ true
+  pub bounded : IsWithinBound (scanned_sectors request report.found.size) (most_status_writes request.what request.unlock) report
 
--- The answer is the verdict, the first refusal whose condition holds; or the vault failed, or the bus stopped where
--- there were fewer transactions than the bound.
-abbrev pub SessionTells : ℕ → ℕ → BusState → BusState → VaultState → VaultState → Refusal → Type 0
-SessionTells most len old new vault vault' NoChip = IsNoChip old.chip.config
-SessionTells most len old new vault vault' (UnknownChip fault) = (IsNoChip old.chip.config → ⊥) × (IsKnown old.chip.config → ⊥)
-SessionTells most len old new vault vault' (ImageSize chip image) =
-    IsKnown old.chip.config × (chip ≡ old.chip.config.size) × (image ≡ len) × (len ≢ old.chip.config.size)
-SessionTells most len old new vault vault' Vault = IsAccepted len old.chip × Rose vault vault'
-SessionTells most len old new vault vault' Stopped = (new.left ≡ 0) × (old.left < most)
-SessionTells most len old new vault vault' _ = ⊥
+-- ---- on an honest bus
 
--- At the end the chip is as wanted and idle, its kept bits are as before, and the report counts what was needed.
-pub record IsDone (wanted : ℕ → ℕ) (old new : BusState) (report : Report) : Type 0 where
+-- A stop comes only where no transaction is left, and no timeout; after a refusal from 1 to 11 bytes and kept bits are
+-- as they were.
+abbrev pub HonestTells : BusState → BusState → Refusal → Type 0
+HonestTells old new Stopped = new.left ≡ 0
+HonestTells old new (Timeout address) = ⊥
+HonestTells old new refusal = number_of refusal ≤ 11 → IsSame old.chip new.chip
+
+-- ---- on an honest bus whose chip is what it shows itself to be
+
+-- The answer is the verdict; or the vault failed, or the bus stopped where fewer transactions were left than the bound.
+abbrev pub SessionTells : Request → List ℕ → BusState → BusState → VaultState → VaultState → Refusal → Type 0
+SessionTells request image old new vault vault' Vault = Rose vault vault'
+SessionTells request image old new vault vault' Stopped = RanOut (most_of (old.chip.config.size / 4096)) old new
+SessionTells request image old new vault vault' refusal = IsVerdict request image old.chip refusal
+
+-- a stop before the vault was sealed came in the opening or the scan
+abbrev pub StopsEarly : Request → BusState → Refusal → Type 0
+StopsEarly request old Stopped = old.left < 65542 + scanned_sectors request old.chip.config.size
+StopsEarly request old _ = Unit {0}
+
+-- The wanted kept bits: the fixed ones are as they were, and the code is the wanted one.
+pub record HasWantedBits (what : What) (old new : Chip) : Type 0 where
+  pub fixed : KeepsFixed old new
+  pub code : ℕ
+  pub is_wanted : IsWantedCode what old code
+  pub has_code : HasCode code new
+
+-- the byte that a request wants at an address of a chip
+abbrev pub wanted_of : Request → List ℕ → Chip → ℕ → ℕ
+wanted_of request image chip = wanted request image chip.config.size chip.bytes
+
+-- the chip once the raised sectors are erased
+abbrev pub erased_of : Request → List ℕ → Chip → ℕ → ℕ
+erased_of request image chip = once_erased (is_raised_by request image chip) chip.bytes
+
+-- At the end the chip is the wanted one, and idle; only raised sectors were erased, by the fewest erases; and the
+-- report tells the chip and counts what was done.
+pub record IsDone (request : Request) (image : List ℕ) (old new : BusState) (report : Report) : Type 0 where
   pub config : new.chip.config ≡ old.chip.config
-  pub bytes : (a : ℕ) → new.chip.bytes a ≡ wanted a
-  pub kept1 : new.chip.kept1 ≡ old.chip.kept1
-  pub kept2 : new.chip.kept2 ≡ old.chip.kept2
+  pub bytes : (a : ℕ) → new.chip.bytes a ≡ wanted_of request image old.chip a
+  pub bits : HasWantedBits request.what old.chip new.chip
   pub idle : new.chip.busy ≡ 0
-  pub found_id : IsId old.chip.config report.found.id
-  pub found_size : report.found.size ≡ old.chip.config.size
-  pub found_status : report.found.status1 / 4 ≡ old.chip.kept1
-  pub touched : report.touched ≡ count_below 16 (is_touched old.chip.bytes wanted)
-  pub erases : report.erases ≡ count_below 16 (is_raised old.chip.bytes wanted)
-  pub programs : report.programs ≡ count_below 256 (is_programmed (after_erases old.chip.bytes wanted) wanted)
-  pub transactions : old.left ≡ new.left + report.transactions
+  pub worn : (s : ℕ) → new.worn s ≡ (old.worn s || is_raised_by request image old.chip s)
+  pub found : IsConfigOf old.chip.config report.found
+  pub status1 : report.found.status1 / 4 ≡ old.chip.kept1
+  pub touched : report.touched ≡ sector_count (is_touched_by request image old.chip)
+  pub erases : report.erases ≡ fewest_erases (kinds_of old.chip.config) (old.chip.config.size / 4096) (is_raised_by request image old.chip)
+  pub programs : report.programs ≡ count_below 65536 (is_programmed (is_touched_by request image old.chip) (erased_of request image old.chip) (wanted_of request image old.chip))
 
--- The cut: the chip is the same, or the vault is sealed with the journal of the starting chip, which is known, and
--- the chip is within it.
-pub record CanBeUndone (first chip : Chip) (old new : VaultState) : Type 0 where
-  pub same : new.sealed ≡ false → IsSame first chip
-  pub saves : new.sealed ≡ true → old.telling ≡ true → IsJournalOf first new.bytes
-  pub within : new.sealed ≡ true → IsWithin first chip
-  pub known : new.sealed ≡ true → IsKnown first.config
+-- Once the vault is sealed the request is accepted; a telling vault has the journal of the starting chip, which saves
+-- just the touched sectors, none of them guarded where the status is locked; and the chip is on the way to the wanted
+-- one: within the saved sectors, only raised sectors worn, and where the power stays each byte of another sector either
+-- the old or the wanted one. At least the opening and the scan were sent.
+pub record CanBeUndone (request : Request) (image : List ℕ) (old new : BusState) (vault : VaultState) : Type 0 where
+  pub accepted : IsAccepted request image old.chip
+  pub journal : vault.telling ≡ true → JournalSaves (head_of old.chip) old.chip.bytes (is_touched_by request image old.chip) vault.bytes
+  pub free : is_locked old.chip ≡ true → (s : ℕ) → is_touched_by request image old.chip s ≡ true → is_unit_guarded old.chip (4096 * s) 4096 ≡ false
+  pub changes : MayChange (is_touched_by request image old.chip) (is_raised_by request image old.chip) (wanted_of request image old.chip) old new
+  pub spent : new.left + (4 + scanned_sectors request old.chip.config.size) ≤ old.left

@@ -1,26 +1,19 @@
 //! Sessions that change a flash chip and can be undone, the restores that undo them, and rehearsals of both.
+//!
+//! What each call promises stands in `specs/`: `Verdict.antt`, `Session.antt`, `Restore.antt`, `Rehearsal.antt`.
 #![tactic(auto)]
 
-mod apply;
-mod command;
-mod compare;
-mod journal;
-mod keep;
-mod probe;
-mod refusal;
+mod changing;
+mod preparing;
 mod rehearsals;
-mod report;
+mod reopening;
+mod rescanning;
 mod restores;
-mod scan;
 mod sessions;
+mod sources;
+mod states;
 
-pub use journal::Journal;
-pub use probe::Found;
-pub use refusal::{Halt, Refusal, SfdpFault};
-pub use rehearsals::{Rehearsal, SESSION_BOUND, rehearse};
-pub use report::{Job, Report, Request};
+pub use nor_save::{Refusal, Report, Request, What};
+pub use rehearsals::{Rehearsal, rehearse};
 pub use restores::restore;
-pub use sessions::session;
-
-#[cfg(test)]
-mod tests;
+pub use sessions::{accepted_alone, session};

@@ -1,25 +1,27 @@
 //! A rehearsal: a session that is stopped on purpose, and the restores from its journal.
-ghost use Rattle.nor_session.specs.Fair.{fair};
-ghost use Rattle.std.specs.Prelude.{◌≡◌, ◌<◌, ◌≤◌, ◌+◌, ℕ, Bool, true, false, [], length, drop, IfOk, IfErr, IsOk, OnOk, OnErr};
-ghost use Rattle.nor_chip.specs.Chip.{Chip, IsChip, IsSame};
-ghost use Rattle.nor_session.specs.declared.refusal.Refusal.{Refusal};
-ghost use Rattle.nor_session.specs.Known.{IsGenuine, IsKnown};
-ghost use Rattle.nor_session.specs.Journal.{IsJournalOf};
-ghost use Rattle.nor_session.specs.Reading.{Saves, IsWithin};
-ghost use Rattle.nor_session.specs.Session.{CanBeUndone};
-ghost use Rattle.nor_session.specs.Rehearsal.{RehearsalTells, IsRehearsal, first_allowance, CanEnd, AreRestores, BlamesVault};
+ghost use Rattle.std.specs.Prelude.{◌≡◌, ◌≤◌, ◌+◌, ◌*◌, ◌/◌, true, false, length, drop, IfOk, IfErr, OnErr};
+ghost use Rattle.nor_chip.specs.Chip.{IsSame};
+ghost use Rattle.nor_driver.specs.Looks.{IsCalm};
+ghost use Rattle.nor_journal.specs.Vault.{IsFresh};
+ghost use Rattle.nor_journal.specs.Saved.{JournalSaves};
+ghost use Rattle.nor_apply.specs.Counts.{sector_count};
+ghost use Rattle.nor_save.specs.Request.{is_touched_by};
+ghost use Rattle.nor_save.specs.Saving.{head_of};
+ghost use Rattle.nor_session.specs.Modelled.{IsModelled, most_of};
+ghost use Rattle.nor_session.specs.Rehearsing.{LeavesSession, ShowsSession, RefusesSession, LeavesRestores, ShowsRestore, ShowsRestores, RefusesRestore, Undoes, RefusesUndo};
+ghost use Rattle.nor_session.specs.Rehearsal.{RehearsalTells, IsRehearsal, KeepsNature, first_allowance, CanEnd, SealFits, AreRestores, LeavesRefused, BlamesVault};
 
 use crate::restores::restore;
 use crate::sessions::session;
-use crate::{Journal, Refusal, Request};
+use crate::{Refusal, Request};
 use nor_chip::{Bus, Meter};
-use nor_journal::{MemVault, Vault};
+use nor_journal::{Journal, MemVault, Vault};
 
-/// The transactions that a session on a chip of 16 MiB sends at most, which are more than any call needs.
-pub const SESSION_BOUND: u64 = 4_563_750_921;
+#[cfg(test)]
+mod tests;
 
-/// What a rehearsal showed: whether the session ended, whether its vault was sealed, and how many restores were
-/// run, stopped ones too, until one ended.
+/// What a rehearsal showed: whether the session ended, whether its vault was sealed, and how many restores were run,
+/// stopped ones too, until one ended.
 #[derive(Clone, Copy, Debug, PartialEq, Eq)]
 pub struct Rehearsal {
     pub ended: bool,
@@ -28,11 +30,9 @@ pub struct Rehearsal {
 }
 
 /// Runs a session under the first of the stops, that is with so many transactions allowed, and where its vault was
-/// sealed restores under the following ones, one each, until one ends. Where no stop is left as many transactions
-/// are allowed as any call needs. At most 64 stops; the vault is empty and unsealed.
+/// sealed restores under the following ones, one each, until one ends. Where no stop is left as many transactions are
+/// allowed as a session on a chip of 16 MiB takes at most. At most 64 stops; the vault is empty and unsealed.
 ///
-/// The session ends where it is allowed 17,891,925 transactions, and only where it is allowed what its readings,
-/// erases and programs take; its vault is sealed where it is allowed 65,557, and only where it is allowed 22.
 /// Afterwards the chip is as before, at every exit.
 pub fn rehearse<B: Meter>(
     bus: &mut B,
@@ -42,30 +42,27 @@ pub fn rehearse<B: Meter>(
     stops: &[u64],
 ) -> Result<Rehearsal, Refusal>
     requires few { length stops.now ≤ 64 }
-    requires empty { (⟦<MemVault as Vault>⟧.state vault.old).bytes ≡ [] }
-    requires unsealed { (⟦<MemVault as Vault>⟧.state vault.old).sealed ≡ false }
-    ensures honest { fair (B.state bus.new) ≡ fair (B.state bus.old) }
+    requires fresh { IsFresh (⟦<MemVault as Vault>⟧.state vault.old) }
+
+    // On every bus.
+    ensures nature { KeepsNature (B.state bus.old) (B.state bus.new) }
     ensures counts { IfOk result (IsRehearsal (length stops.now) (⟦<MemVault as Vault>⟧.state vault.new)) }
     ensures blames { IfErr result (BlamesVault (⟦<MemVault as Vault>⟧.state vault.old) (⟦<MemVault as Vault>⟧.state vault.new)) }
 
-    // On an honest bus.
-    ensures sealed { fair (B.state bus.old) ≡ true → IfOk result (λ rehearsal. rehearsal.sealed ≡ true → 22 ≤ first_allowance stops.now) }
-    ensures unsealed { fair (B.state bus.old) ≡ true
-        → IfOk result (λ rehearsal. rehearsal.sealed ≡ false → first_allowance stops.now < 65557) }
-
     // On an honest bus whose chip is what it shows itself to be.
-    ensures gives_back { fair (B.state bus.old) ≡ true → IsGenuine (B.state bus.old).chip.config
-        → IsSame (B.state bus.old).chip (B.state bus.new).chip }
-    ensures saves { fair (B.state bus.old) ≡ true → IsGenuine (B.state bus.old).chip.config
-        → IfOk result (λ rehearsal. rehearsal.sealed ≡ true → IsJournalOf (B.state bus.old).chip (⟦<MemVault as Vault>⟧.state vault.new).bytes) }
-    ensures tells { fair (B.state bus.old) ≡ true → IsGenuine (B.state bus.old).chip.config
-        → IfErr result (RehearsalTells (length image.old) (B.state bus.old).chip (⟦<MemVault as Vault>⟧.state vault.old) (⟦<MemVault as Vault>⟧.state vault.new)) }
-    ensures ended { fair (B.state bus.old) ≡ true → IsGenuine (B.state bus.old).chip.config → 17891925 ≤ first_allowance stops.now
+    ensures gives_back { IsModelled (B.state bus.old) → IsCalm (B.state bus.old) → IsSame (B.state bus.old).chip (B.state bus.new).chip }
+    ensures refuses { IsModelled (B.state bus.old) → OnErr result (LeavesRefused (B.state bus.old) (B.state bus.new) (⟦<MemVault as Vault>⟧.state vault.new)) }
+    ensures tells { IsModelled (B.state bus.old)
+        → IfErr result (RehearsalTells request.now image.old (B.state bus.old).chip (⟦<MemVault as Vault>⟧.state vault.old) (⟦<MemVault as Vault>⟧.state vault.new)) }
+    ensures saves { IsModelled (B.state bus.old) → (⟦<MemVault as Vault>⟧.state vault.new).sealed ≡ true
+        → JournalSaves (head_of (B.state bus.old).chip) (B.state bus.old).chip.bytes (is_touched_by request.now image.old (B.state bus.old).chip) (⟦<MemVault as Vault>⟧.state vault.new).bytes }
+    ensures ended { IsModelled (B.state bus.old) → most_of ((B.state bus.old).chip.config.size / 4096) ≤ first_allowance stops.now
         → IfOk result (λ rehearsal. rehearsal.ended ≡ true) }
-    ensures stopped { fair (B.state bus.old) ≡ true → IsGenuine (B.state bus.old).chip.config
-        → IfOk result (λ rehearsal. rehearsal.ended ≡ true → CanEnd image.old (first_allowance stops.now) (B.state bus.old).chip) }
-    ensures restores { fair (B.state bus.old) ≡ true → IsGenuine (B.state bus.old).chip.config
-        → IfOk result (λ rehearsal. rehearsal.sealed ≡ true → AreRestores (drop 1 stops.now) rehearsal.restores) }
+    ensures stopped { IsModelled (B.state bus.old)
+        → IfOk result (λ rehearsal. rehearsal.ended ≡ true → CanEnd request.now image.old (first_allowance stops.now) (B.state bus.old).chip) }
+    ensures seal { IsModelled (B.state bus.old) → IfOk result (λ rehearsal. SealFits request.now (first_allowance stops.now) (B.state bus.old).chip rehearsal.sealed) }
+    ensures restores { IsModelled (B.state bus.old) → IfOk result (λ rehearsal. rehearsal.sealed ≡ true
+        → AreRestores (sector_count (is_touched_by request.now image.old (B.state bus.old).chip)) (drop 1 stops.now) rehearsal.restores) }
 {
     let ended = stopped_session(bus, vault, image, request, stops)?;
     if !vault.is_sealed() {
@@ -75,14 +72,20 @@ pub fn rehearse<B: Meter>(
             restores: 0,
         });
     }
-    let journal = saved_by(vault.bytes())?;
-    let later = &stops[stops.len().min(1)..];
-    let restores = restore_in_turn(bus, &journal, later)?;
+    let restores = undo(bus, vault.bytes(), later(stops))?;
     Ok(Rehearsal {
         ended,
         sealed: true,
         restores,
     })
+}
+
+// The most transactions that a session sends on a chip of 16 MiB, which are more than any call needs.
+fn most_needed() -> u64
+    ensures { result ≡ most_of 4096 }
+{
+    let sectors = 4096;
+    65542 + 3 * sectors + 65538 * (17 * sectors + 2)
 }
 
 // The transactions that the session is allowed: the first of the stops, or where there is none as many as any call
@@ -91,8 +94,18 @@ fn first_allowed(stops: &[u64]) -> u64
     ensures { result ≡ first_allowance stops.now }
 {
     match stops {
-        [] => SESSION_BOUND,
+        [] => most_needed(),
         [first, ..] => *first,
+    }
+}
+
+// The stops behind the first.
+fn later(stops: &[u64]) -> &[u64]
+    ensures { result.now ≡ drop 1 stops.now }
+{
+    match stops {
+        [] => &[],
+        [_, later @ ..] => later,
     }
 }
 
@@ -104,50 +117,29 @@ fn stopped_session<B: Meter>(
     request: &Request,
     stops: &[u64],
 ) -> Result<bool, Refusal>
-    requires empty { (⟦<MemVault as Vault>⟧.state vault.old).bytes ≡ [] }
-    requires unsealed { (⟦<MemVault as Vault>⟧.state vault.old).sealed ≡ false }
-    ensures honest { fair (B.state bus.new) ≡ fair (B.state bus.old) }
-    ensures sealed { IfOk result (λ ended. ended ≡ true → (⟦<MemVault as Vault>⟧.state vault.new).sealed ≡ true) }
-    ensures blames { IfErr result (BlamesVault (⟦<MemVault as Vault>⟧.state vault.old) (⟦<MemVault as Vault>⟧.state vault.new)) }
-    ensures undone { fair (B.state bus.old) ≡ true → IsGenuine (B.state bus.old).chip.config
-        → CanBeUndone (B.state bus.old).chip (B.state bus.new).chip (⟦<MemVault as Vault>⟧.state vault.old) (⟦<MemVault as Vault>⟧.state vault.new) }
-    ensures unchanged { fair (B.state bus.old) ≡ true → IsGenuine (B.state bus.old).chip.config
-        → OnErr result (IsSame (B.state bus.old).chip (B.state bus.new).chip) }
-    ensures tells { fair (B.state bus.old) ≡ true → IsGenuine (B.state bus.old).chip.config
-        → IfErr result (RehearsalTells (length image.old) (B.state bus.old).chip (⟦<MemVault as Vault>⟧.state vault.old) (⟦<MemVault as Vault>⟧.state vault.new)) }
-    ensures ended { fair (B.state bus.old) ≡ true → IsGenuine (B.state bus.old).chip.config → 17891925 ≤ first_allowance stops.now
-        → IfOk result (λ ended. ended ≡ true) }
-    ensures stopped { fair (B.state bus.old) ≡ true → IsGenuine (B.state bus.old).chip.config
-        → IfOk result (λ ended. ended ≡ true → CanEnd image.old (first_allowance stops.now) (B.state bus.old).chip) }
-    ensures scanned { fair (B.state bus.old) ≡ true → (⟦<MemVault as Vault>⟧.state vault.new).sealed ≡ true
-        → 22 ≤ first_allowance stops.now }
-    ensures unsealed { fair (B.state bus.old) ≡ true → (⟦<MemVault as Vault>⟧.state vault.new).sealed ≡ false
-        → OnOk result (first_allowance stops.now < 65557) }
+    requires { IsFresh (⟦<MemVault as Vault>⟧.state vault.old) }
+    ensures leaves { LeavesSession request.now image.old (B.state bus.old) (B.state bus.new) (⟦<MemVault as Vault>⟧.state vault.new) }
+    ensures shows { IfOk result (ShowsSession request.now image.old (first_allowance stops.now) (B.state bus.old) (⟦<MemVault as Vault>⟧.state vault.new)) }
+    ensures refuses { IfErr result (RefusesSession request.now image.old (B.state bus.old) (B.state bus.new) (⟦<MemVault as Vault>⟧.state vault.old) (⟦<MemVault as Vault>⟧.state vault.new)) }
 {
     bus.allow(first_allowed(stops));
     match session(bus, vault, image, request) {
         Ok(_) => Ok(true),
-        Err(refusal) => {
-            if !refusal.is_stopped() {
-                return Err(refusal);
-            }
-            if stops.is_empty() {
-                return Err(refusal);
-            }
-            Ok(false)
-        }
+        Err(refusal) if refusal.is_stopped() && !stops.is_empty() => Ok(false),
+        Err(refusal) => Err(refusal),
     }
 }
 
-// The journal that a text is.
-fn saved_by(text: &[u8]) -> Result<Journal<'_>, Refusal>
-    ensures reads { (first : Chip) → IsJournalOf first text.now → IsOk result }
-    ensures saves { (first : Chip) → IsChip first → IsJournalOf first text.now → IfOk result (λ journal. Saves journal first) }
-    ensures blames { IfErr result (λ refusal. refusal ≡ Refusal.Vault → ⊥) }
+// Restores from the journal that the text is. Answers how many restores were run.
+fn undo<B: Meter>(bus: &mut B, text: &[u8], stops: &[u64]) -> Result<u32, Refusal>
+    requires few { length stops.now ≤ 64 }
+    ensures nature { KeepsNature (B.state bus.old) (B.state bus.new) }
+    ensures undoes { IfOk result (Undoes text.now stops.now (B.state bus.old) (B.state bus.new)) }
+    ensures refuses { IfErr result (RefusesUndo text.now (B.state bus.old)) }
 {
     match Journal::read(text) {
-        Some(journal) => Ok(journal),
-        None => Err(Refusal::BadJournal),
+        Ok(journal) => restore_in_turn(bus, &journal, stops),
+        Err(fault) => Err(Refusal::BadJournal(fault)),
     }
 }
 
@@ -158,46 +150,30 @@ fn restore_in_turn<B: Meter>(
     stops: &[u64],
 ) -> Result<u32, Refusal>
     requires few { length stops.now ≤ 64 }
-    ensures honest { fair (B.state bus.new) ≡ fair (B.state bus.old) }
-    ensures restores { IfOk result (λ restores. (1 ≤ restores) × (restores ≤ length stops.now + 1)) }
-    ensures counts { fair (B.state bus.old) ≡ true → IsGenuine (B.state bus.old).chip.config → IfOk result (AreRestores stops.now) }
-    ensures blames { IfErr result (λ refusal. refusal ≡ Refusal.Vault → ⊥) }
-    ensures gives_back { fair (B.state bus.old) ≡ true → IsGenuine (B.state bus.old).chip.config → IsKnown (B.state bus.old).chip.config
-        → (first : Chip) → Saves journal.now first → IsWithin first (B.state bus.old).chip
-        → OnOk result (IsSame first (B.state bus.new).chip) }
-    ensures ends { fair (B.state bus.old) ≡ true → IsGenuine (B.state bus.old).chip.config → IsKnown (B.state bus.old).chip.config
-        → (first : Chip) → Saves journal.now first → IsWithin first (B.state bus.old).chip → IsOk result }
+    ensures leaves { LeavesRestores journal.now (B.state bus.old) (B.state bus.new) }
+    ensures shows { IfOk result (ShowsRestores journal.now stops.now (B.state bus.old) (B.state bus.new)) }
+    ensures refuses { IfErr result (RefusesRestore journal.now (B.state bus.old)) }
 {
     let mut restores = 0;
     for stop in stops {
-        bus.allow(*stop);
         restores += 1;
-        if ends(bus, journal)? {
+        if ends_under(bus, journal, *stop)? {
             return Ok(restores);
         }
     }
-    bus.allow(SESSION_BOUND);
-    restore(bus, journal)?;
-    Ok(restores + 1)
+    if ends_under(bus, journal, most_needed())? {
+        return Ok(restores + 1);
+    }
+    Err(Refusal::Stopped)
 }
 
-// Restores, and tells whether that ended, or the bus stopped.
-fn ends<B: Bus>(bus: &mut B, journal: &Journal<'_>) -> Result<bool, Refusal>
-    ensures honest { fair (B.state bus.new) ≡ fair (B.state bus.old) }
-    ensures blames { IfErr result (λ refusal. refusal ≡ Refusal.Vault → ⊥) }
-    ensures config { fair (B.state bus.old) ≡ true → IsGenuine (B.state bus.old).chip.config
-        → (B.state bus.new).chip.config ≡ (B.state bus.old).chip.config }
-    ensures keeps_within { fair (B.state bus.old) ≡ true → IsGenuine (B.state bus.old).chip.config
-        → (first : Chip) → Saves journal.now first → IsWithin first (B.state bus.old).chip → IsWithin first (B.state bus.new).chip }
-    ensures gives_back { fair (B.state bus.old) ≡ true → IsGenuine (B.state bus.old).chip.config
-        → (first : Chip) → Saves journal.now first → IsWithin first (B.state bus.old).chip
-        → IfOk result (λ ended. ended ≡ true → IsSame first (B.state bus.new).chip) }
-    ensures answers { fair (B.state bus.old) ≡ true → IsGenuine (B.state bus.old).chip.config → IsKnown (B.state bus.old).chip.config
-        → (first : Chip) → Saves journal.now first → IsWithin first (B.state bus.old).chip → IsOk result }
-    ensures stopped { fair (B.state bus.old) ≡ true → IfOk result (λ ended. ended ≡ false → (B.state bus.old).left < 17891925) }
-    ensures ended { fair (B.state bus.old) ≡ true → IsGenuine (B.state bus.old).chip.config
-        → IfOk result (λ ended. ended ≡ true → 22 ≤ (B.state bus.old).left) }
+// Restores with so many transactions allowed, and tells whether that ended, or the bus stopped.
+fn ends_under<B: Meter>(bus: &mut B, journal: &Journal<'_>, allowance: u64) -> Result<bool, Refusal>
+    ensures leaves { LeavesRestores journal.now (B.state bus.old) (B.state bus.new) }
+    ensures shows { IfOk result (ShowsRestore journal.now allowance (B.state bus.old) (B.state bus.new)) }
+    ensures refuses { IfErr result (RefusesRestore journal.now (B.state bus.old)) }
 {
+    bus.allow(allowance);
     match restore(bus, journal) {
         Ok(_) => Ok(true),
         Err(refusal) if refusal.is_stopped() => Ok(false),

@@ -1,82 +1,61 @@
-//! A restore: the chip is made what a journal saves.
-ghost use Rattle.nor_session.specs.Fair.{fair};
-ghost use Rattle.std.specs.Prelude.{◌≡◌, ◌<◌, ◌≤◌, ◌+◌, ◌*◌, ◌/◌, ◌%◌, ℕ, true, false, length, slice_index, IfOk, IfErr, OnOk, OnErr};
+//! A restore: the chip is made again what a journal says.
+ghost use Rattle.std.specs.Prelude.{◌≡◌, ◌≤◌, ◌+◌, ◌/◌, ℕ, true, length, IfOk, IfErr, OnOk};
 ghost use Rattle.nor_chip.specs.Chip.{Chip, IsSame};
-ghost use Rattle.nor_session.specs.Operates.{Falls};
-ghost use Rattle.nor_session.specs.Content.{wanted_of};
-ghost use Rattle.nor_session.specs.Known.{IsGenuine, IsKnown};
-ghost use Rattle.nor_session.specs.Work.{IsBetween};
-ghost use Rattle.nor_session.specs.Reading.{Saves, IsWithin};
-ghost use Rattle.nor_session.specs.Session.{IsWithinBound, EndsAtBound, IsDone};
-ghost use Rattle.nor_session.specs.Restore.{RestoreAnswers, RestoreLeaves, RestoreTells, IsFitting, FitsOpening, JudgeTells};
+ghost use Rattle.nor_driver.specs.Looks.{Looks};
+ghost use Rattle.nor_apply.specs.Spending.{Spends};
+ghost use Rattle.nor_save.specs.declared.refusal.Refusal.TheVariants as Refusals;
+ghost use Rattle.nor_session.specs.Modelled.{IsModelled, most_of};
+ghost use Rattle.nor_session.specs.Session.{IsWithinBound, HonestTells};
+ghost use Rattle.nor_session.specs.Restore.{IsRestoreRefusal, IsJudgedFirst, RestoreTells, LeavesRestore, IsRestored, CanGiveBack};
 
-use crate::apply::carry_out;
-use crate::probe::{Opening, open};
-use crate::scan::scan;
-use crate::sessions::SECTORS;
-use crate::{Journal, Refusal, Report};
-use nor_chip::{Bus, Status};
+use crate::preparing::prepare;
+use crate::sources::Saved;
+use crate::states::{Kept, WayBack};
+use nor_chip::Bus;
+use nor_journal::Journal;
+use nor_save::{Refusal, Report};
 
-/// Makes the chip what the journal saves. It may be stopped and called again as often as it takes.
+/// Makes each sector that the journal saved what it was, and the protection code.
+///
+/// A journal of format 1 fits any chip of its ID and size; one of format 2 its own unit alone.
 pub fn restore<B: Bus>(bus: &mut B, journal: &Journal<'_>) -> Result<Report, Refusal>
     // On every bus.
-    ensures honest { fair (B.state bus.new) ≡ fair (B.state bus.old) }
-    ensures answers { IfErr result RestoreAnswers }
-    ensures early { IfErr result (RestoreLeaves (B.state bus.old) (B.state bus.new)) }
-    ensures bounded { IfOk result (IsWithinBound 16) }
+    ensures spends { Spends (most_of (length journal.now.saved)) (B.state bus.old) (B.state bus.new) }
+    ensures answers { IfErr result IsRestoreRefusal }
+    ensures looks { IfErr result (λ refusal. IsJudgedFirst refusal → Looks 69638 (B.state bus.old) (B.state bus.new)) }
+    ensures bounded { IfOk result (IsWithinBound (length journal.now.saved) 2) }
 
     // On an honest bus.
-    ensures falls { fair (B.state bus.old) ≡ true → Falls 17891925 (B.state bus.old) (B.state bus.new) }
-    ensures ends { fair (B.state bus.old) ≡ true → IfErr result (EndsAtBound 17891925 (B.state bus.old) (B.state bus.new)) }
+    ensures gives_up { (B.state bus.old).honest ≡ true → IfErr result (HonestTells (B.state bus.old) (B.state bus.new)) }
+    ensures counted { (B.state bus.old).honest ≡ true → IfOk result (λ report. (B.state bus.old).left ≡ (B.state bus.new).left + report.transactions) }
 
-    // On an honest bus whose chip is what it shows itself to be, for any journal.
-    ensures tells { fair (B.state bus.old) ≡ true → IsGenuine (B.state bus.old).chip.config
-        → IfErr result (RestoreTells 17891925 journal.now (B.state bus.old) (B.state bus.new)) }
-    ensures known { fair (B.state bus.old) ≡ true → IsGenuine (B.state bus.old).chip.config
-        → OnOk result (IsKnown (B.state bus.old).chip.config) }
-    ensures fitting { fair (B.state bus.old) ≡ true → IsGenuine (B.state bus.old).chip.config
-        → OnOk result (IsFitting journal.now (B.state bus.old).chip) }
-    ensures done { fair (B.state bus.old) ≡ true → IsGenuine (B.state bus.old).chip.config
-        → IfOk result (IsDone (wanted_of journal.now.bytes.now (B.state bus.old).chip.bytes) (B.state bus.old) (B.state bus.new)) }
-    ensures between { fair (B.state bus.old) ≡ true → IsGenuine (B.state bus.old).chip.config
-        → IsBetween (wanted_of journal.now.bytes.now (B.state bus.old).chip.bytes) (B.state bus.old) (B.state bus.new) }
+    // On an honest bus whose chip is what it shows itself to be.
+    ensures tells { IsModelled (B.state bus.old) → IfErr result (RestoreTells journal.now (B.state bus.old) (B.state bus.new)) }
+    ensures leaves { IsModelled (B.state bus.old) → LeavesRestore journal.now (B.state bus.old) (B.state bus.new) }
+    ensures done { IsModelled (B.state bus.old) → IfOk result (IsRestored journal.now (B.state bus.old) (B.state bus.new)) }
 
-    // For every chip that the journal saves, from every chip within: every exit leaves one within, a stop is the
-    // only way not to end, and the end is the first chip.
-    ensures keeps_within { fair (B.state bus.old) ≡ true → IsGenuine (B.state bus.old).chip.config
-        → (first : Chip) → Saves journal.now first → IsWithin first (B.state bus.old).chip → IsWithin first (B.state bus.new).chip }
-    ensures gives_back { fair (B.state bus.old) ≡ true → IsGenuine (B.state bus.old).chip.config
-        → (first : Chip) → Saves journal.now first → IsWithin first (B.state bus.old).chip
-        → OnOk result (IsSame first (B.state bus.new).chip) }
-    ensures ends_or_stops { fair (B.state bus.old) ≡ true → IsGenuine (B.state bus.old).chip.config → IsKnown (B.state bus.old).chip.config
-        → (first : Chip) → Saves journal.now first → IsWithin first (B.state bus.old).chip
-        → IfErr result (λ refusal. refusal ≡ Refusal.Stopped) }
+    // And for each chip that the journal saves and that the bus's chip is within.
+    ensures within { IsModelled (B.state bus.old) → (first : Chip) → CanGiveBack journal.now first (B.state bus.old) → CanGiveBack journal.now first (B.state bus.new) }
+    ensures back { IsModelled (B.state bus.old) → (first : Chip) → CanGiveBack journal.now first (B.state bus.old) → OnOk result (IsSame first (B.state bus.new).chip) }
+    ensures only_stops { IsModelled (B.state bus.old) → (first : Chip) → CanGiveBack journal.now first (B.state bus.old)
+        → IfErr result (λ refusal. refusal ≡ Refusals.Stopped) }
 {
-    let opening = open(bus)?;
-    judge(&opening, journal)?;
-    let marks = scan(bus, journal.bytes, SECTORS)?;
-    let work = carry_out(bus, journal.bytes, &marks, SECTORS)?;
+    let prepared = prepare(bus, journal)?;
+    let kept = Kept {
+        bus,
+        source: &Saved { journal },
+        changes: &prepared.changes,
+        way_back: WayBack::in_journal(journal),
+    };
+    let work = kept.finish(true)?;
     Ok(Report {
-        found: opening.found,
-        touched: marks.touched_count,
+        found: prepared.found,
+        touched: prepared.touched,
         erases: work.erases,
         programs: work.programs,
-        transactions: opening.transactions + u64::from(SECTORS) + work.transactions,
+        transactions: prepared.transactions + work.transactions,
     })
 }
 
-// The journal is one of the chip that was found.
-fn judge(opening: &Opening, journal: &Journal<'_>) -> Result<(), Refusal>
-    ensures ok { OnOk result (FitsOpening journal.now opening.now) }
-    ensures err { IfErr result (JudgeTells journal.now opening.now) }
-{
-    let found = opening.found;
-    if journal.id != found.id || journal.size != found.size {
-        return Err(Refusal::OtherChip);
-    }
-    let status = Status::of([found.status1, opening.status2]);
-    if Status::of(journal.status).kept() != status.kept() {
-        return Err(Refusal::StatusDiffers);
-    }
-    Ok(())
-}
+#[cfg(test)]
+mod tests;

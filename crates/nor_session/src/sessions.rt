@@ -1,82 +1,87 @@
 //! A session: the chip is saved, and then made what is wanted.
-ghost use Rattle.nor_session.specs.Fair.{fair};
-ghost use Rattle.std.specs.Prelude.{◌≡◌, ◌<◌, ◌≤◌, ◌+◌, ◌*◌, ℕ, true, false, [], length, IfOk, IfErr, OnOk, OnErr};
-ghost use Rattle.nor_session.specs.Operates.{Falls};
-ghost use Rattle.nor_session.specs.Content.{wanted_of};
-ghost use Rattle.nor_session.specs.Known.{IsGenuine};
-ghost use Rattle.nor_session.specs.Work.{IsBetween};
-ghost use Rattle.nor_session.specs.Session.{IsEarly, EarlyLeaves, AnswersOnly, IsWithinBound, EndsAtBound, SessionTells, IsAccepted, IsDone, CanBeUndone};
+ghost use Rattle.std.specs.Prelude.{◌≡◌, ◌≤◌, ◌+◌, ◌/◌, ℕ, List, true, false, length, IfOk, IfErr};
+ghost use Rattle.nor_chip.specs.Chip.{Chip};
+ghost use Rattle.nor_driver.specs.Looks.{Looks};
+ghost use Rattle.nor_driver.specs.Operations.{Falls};
+ghost use Rattle.nor_journal.specs.Vault.{IsFresh};
+ghost use Rattle.nor_apply.specs.Spending.{Spends};
+ghost use Rattle.nor_save.specs.declared.report.Request.{Request};
+ghost use Rattle.nor_save.specs.declared.refusal.Refusal.{Refusal};
+ghost use Rattle.nor_session.specs.Verdict.{IsVerdict, IsAccepted};
+ghost use Rattle.nor_session.specs.Modelled.{IsModelled, most_of};
+ghost use Rattle.nor_session.specs.Session.{Answers, Ends, HonestTells, SessionTells, StopsEarly, IsDone, CanBeUndone};
 
-use crate::apply::carry_out;
-use crate::keep::keep;
-use crate::probe::{Opening, open};
-use crate::report::{Report, Request};
-use crate::{Job, Refusal};
+use crate::sources::Image;
+use crate::states::{Kept, WayBack};
+use nor_apply::Changes;
 use nor_chip::Bus;
 use nor_journal::Vault;
+use nor_save::{Refusal, Report, Request, judge_opening, keep, open};
 
-/// The sectors of the one chip that is known so far.
-pub(crate) const SECTORS: u32 = 16;
+#[cfg(test)]
+mod tests;
 
-/// Makes the chip what the request says, having saved it first into the vault.
+/// Makes the chip what the request says, having saved each sector that it will touch into the vault.
 ///
-/// The vault is empty and unsealed. For a write the image has the whole chip's bytes; it is the session's one
-/// buffer beside fixed arrays. At every exit the chip is the same, or the vault is sealed and its journal leads
-/// back.
+/// The vault is empty and unsealed. `image` is the session's one buffer beside fixed arrays: for a write it has the
+/// whole chip's bytes, for an erase as many bytes of any value, for a protection range it isn't used; afterwards its
+/// content is open. Until the vault is sealed nothing changing is sent; from then on its journal leads back.
 pub fn session<B: Bus, V: Vault>(
     bus: &mut B,
     vault: &mut V,
     image: &mut [u8],
     request: &Request,
 ) -> Result<Report, Refusal>
-    requires empty { (V.state vault.old).bytes ≡ [] }
-    requires unsealed { (V.state vault.old).sealed ≡ false }
+    requires { IsFresh (V.state vault.old) }
 
     // On every bus and every vault.
-    ensures honest { fair (B.state bus.new) ≡ fair (B.state bus.old) }
-    ensures answers { IfErr result (AnswersOnly (V.state vault.old) (V.state vault.new)) }
-    ensures early { IfErr result (EarlyLeaves (B.state bus.old) (B.state bus.new) (V.state vault.new)) }
-    ensures stirs { (V.state vault.new).sealed ≡ false → (B.state bus.new).stirred ≡ (B.state bus.old).stirred }
-    ensures bounded { IfOk result (IsWithinBound 16) }
+    ensures looks { (V.state vault.new).sealed ≡ false → Looks 69638 (B.state bus.old) (B.state bus.new) }
+    ensures spends { Spends (most_of 4096) (B.state bus.old) (B.state bus.new) }
+    ensures answers { IfErr result (Answers (V.state vault.old) (V.state vault.new)) }
+    ensures ends { IfOk result (Ends request.now (V.state vault.new)) }
 
-    // On an honest bus. The vault is sealed after opening and scan, which take 22 transactions to 65,557.
-    ensures falls { fair (B.state bus.old) ≡ true → Falls 17891925 (B.state bus.old) (B.state bus.new) }
-    ensures ends { fair (B.state bus.old) ≡ true → IfErr result (EndsAtBound 17891925 (B.state bus.old) (B.state bus.new)) }
-    ensures scanned { fair (B.state bus.old) ≡ true → (V.state vault.new).sealed ≡ true
-        → (B.state bus.new).left + 22 ≤ (B.state bus.old).left }
-    ensures unsealed { fair (B.state bus.old) ≡ true → (V.state vault.new).sealed ≡ false
-        → IfErr result (λ refusal. refusal ≡ Refusal.Stopped → (B.state bus.old).left < 65557) }
+    // On an honest bus.
+    ensures gives_up { (B.state bus.old).honest ≡ true → IfErr result (HonestTells (B.state bus.old) (B.state bus.new)) }
+    ensures counted { (B.state bus.old).honest ≡ true → IfOk result (λ report. (B.state bus.old).left ≡ (B.state bus.new).left + report.transactions) }
 
     // On an honest bus whose chip is what it shows itself to be.
-    ensures tells { fair (B.state bus.old) ≡ true → IsGenuine (B.state bus.old).chip.config
-        → IfErr result (SessionTells 17891925 (length image.old) (B.state bus.old) (B.state bus.new) (V.state vault.old) (V.state vault.new)) }
-    ensures accepted { fair (B.state bus.old) ≡ true → IsGenuine (B.state bus.old).chip.config
-        → OnOk result (IsAccepted (length image.old) (B.state bus.old).chip) }
-    ensures done { fair (B.state bus.old) ≡ true → IsGenuine (B.state bus.old).chip.config
-        → IfOk result (IsDone (wanted_of image.old (B.state bus.old).chip.bytes) (B.state bus.old) (B.state bus.new)) }
-    ensures sealed { OnOk result ((V.state vault.new).sealed ≡ true) }
-
-    // Every cut, wherever the bus stops.
-    ensures undone { fair (B.state bus.old) ≡ true → IsGenuine (B.state bus.old).chip.config
-        → CanBeUndone (B.state bus.old).chip (B.state bus.new).chip (V.state vault.old) (V.state vault.new) }
-    ensures between { fair (B.state bus.old) ≡ true → IsGenuine (B.state bus.old).chip.config
-        → IsBetween (wanted_of image.old (B.state bus.old).chip.bytes) (B.state bus.old) (B.state bus.new) }
+    ensures falls { IsModelled (B.state bus.old) → Falls (most_of ((B.state bus.old).chip.config.size / 4096)) (B.state bus.old) (B.state bus.new) }
+    ensures tells { IsModelled (B.state bus.old) → IfErr result (SessionTells request.now image.old (B.state bus.old) (B.state bus.new) (V.state vault.old) (V.state vault.new)) }
+    ensures done { IsModelled (B.state bus.old) → IfOk result (IsDone request.now image.old (B.state bus.old) (B.state bus.new)) }
+    ensures early { IsModelled (B.state bus.old) → (V.state vault.new).sealed ≡ false → IfErr result (StopsEarly request.now (B.state bus.old)) }
+    ensures undo { IsModelled (B.state bus.old) → (V.state vault.new).sealed ≡ true
+        → CanBeUndone request.now image.old (B.state bus.old) (B.state bus.new) (V.state vault.new) }
 {
-    let Job::Write = request.what;
-    let opening = open(bus)?;
-    if image.len() != opening.found.size as usize {
-        return Err(Refusal::ImageSize {
-            chip: opening.found.size,
-            image: image.len(),
-        });
-    }
-    let marks = keep(bus, vault, image, &opening, SECTORS)?;
-    let work = carry_out(bus, image, &marks, SECTORS)?;
+    let opening = open(bus, request.named)?;
+    let code = judge_opening(request, &opening, image.len())?;
+    let kept = keep(bus, vault, image, request, &opening, code)?;
+    let changes = Changes {
+        touched: kept.scanned.touched,
+        raised: kept.scanned.raised,
+        kinds: opening.found.kinds,
+        size: opening.found.size,
+        status: opening.status(),
+        unlock: kept.unlock,
+        code,
+    };
+    let kept_chip = Kept {
+        bus,
+        source: &Image { bytes: image },
+        changes: &changes,
+        way_back: WayBack::in_vault(vault),
+    };
+    let work = kept_chip.finish(request.verify)?;
     Ok(Report {
         found: opening.found,
-        touched: marks.touched_count,
+        touched: kept.scanned.count,
         erases: work.erases,
         programs: work.programs,
-        transactions: opening.transactions + u64::from(SECTORS) + work.transactions,
+        transactions: opening.transactions + u64::from(kept.scanned.reads) + work.transactions,
     })
 }
+
+/// A request has one verdict: where it is accepted, no refusal from 1 to 10 is.
+#[tactic(auto, using(crate::proofs::OneVerdict::accepted_only))]
+pub fn accepted_alone()
+    ensures { (request : Request) (image : List ℕ) (chip : Chip) (refusal : Refusal) → IsAccepted request image chip → IsVerdict request image chip refusal → ⊥ }
+{}

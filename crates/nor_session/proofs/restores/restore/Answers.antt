@@ -1,146 +1,141 @@
-use Rattle.std.proofs.Common.{◌≡◌, ◌∙◌, ◌<◌, ℕ, ap, sym, subst, arith, length}
+use Rattle.std.proofs.Common.{◌+◌, length, rules, arith}
 use Rattle.std.proofs.lemmas.Grind.{common_steps}
-use Rattle.nor_chip.specs.declared.config.Config.{Config}
-use Rattle.nor_session.specs.Content.{wanted_of}
-use Rattle.nor_session.specs.Changes.{mark_at}
-use Rattle.nor_session.specs.Known.{IsId}
-use Rattle.nor_session.proofs.Below.{count_below-most}
-use Rattle.nor_session.proofs.Calls.{prepared, same_content, between_from, within_between, work_from, touched_from, within_then, given_back}
+use Rattle.nor_session.specs.Modelled.{most_of}
+use Rattle.nor_session.proofs.Restoring.{AreChanged, looks_most, looks_spend, prepare_answers, prepare_gives_up, prepare_tells, looks_leave, looks_back, changed_spends, changed_leaves, changed_back, change_answers, change_not_judged, change_gives_up, change_tells, sum_fits, restored_bounded, restored_counted, restored_done, restored_back}
+use Rattle.nor_session.proofs.GivenBack.{only_stopped}
 use Rattle.nor_session.proofs.restores.restore.Goals as goal
+
+pub returns-in_err-prepared-clause-spends : goal.returns-in_err-prepared-clause-spends
+returns-in_err-prepared-clause-spends g c =
+    looks_spend (65542 + length c.args.journal.now.saved) (most_of (length c.args.journal.now.saved)) (g.B.Bus.state c.args.bus.now) (g.B.Bus.state c.prepare.new.bus) (omega arith) c.prepare.ensures.leaves
+
+pub returns-in_err-prepared-clause-answers : goal.returns-in_err-prepared-clause-answers
+returns-in_err-prepared-clause-answers g c =
+    let told = prepare_answers c.args.journal.now (65542 + length c.args.journal.now.saved) (g.B.Bus.state c.args.bus.now) (g.B.Bus.state c.prepare.new.bus) c.in_err-prepared.field-0.0 c.in_err-prepared.ensures.tells in
+    grind (arith, common_steps, told)
+
+pub returns-in_err-prepared-clause-looks : goal.returns-in_err-prepared-clause-looks
+returns-in_err-prepared-clause-looks g c =
+    let room = c.prepare.ensures.room in
+    let looks = looks_most (65542 + length c.args.journal.now.saved) 69638 (g.B.Bus.state c.args.bus.now) (g.B.Bus.state c.prepare.new.bus) (omega arith) c.prepare.ensures.leaves in
+    search rules
+
+pub returns-in_err-prepared-clause-gives_up : goal.returns-in_err-prepared-clause-gives_up
+returns-in_err-prepared-clause-gives_up g c =
+    λ honest.
+    let told = prepare_gives_up c.args.journal.now (65542 + length c.args.journal.now.saved) (g.B.Bus.state c.args.bus.now) (g.B.Bus.state c.prepare.new.bus) c.in_err-prepared.field-0.0 honest c.in_err-prepared.ensures.tells in
+    grind (arith, common_steps, told)
+
+pub returns-in_err-prepared-clause-tells : goal.returns-in_err-prepared-clause-tells
+returns-in_err-prepared-clause-tells g c =
+    λ modelled.
+    let told = prepare_tells c.args.journal.now (65542 + length c.args.journal.now.saved) (g.B.Bus.state c.args.bus.now) (g.B.Bus.state c.prepare.new.bus) c.in_err-prepared.field-0.0 (omega arith) modelled c.in_err-prepared.ensures.tells in
+    grind (arith, common_steps, told)
+
+pub returns-in_err-prepared-clause-leaves : goal.returns-in_err-prepared-clause-leaves
+returns-in_err-prepared-clause-leaves g c =
+    λ modelled. looks_leave c.args.journal.now (65542 + length c.args.journal.now.saved) (g.B.Bus.state c.args.bus.now) (g.B.Bus.state c.prepare.new.bus) (c.prepare.ensures.leaves.looked modelled.honest)
+
+pub returns-in_err-prepared-clause-within : goal.returns-in_err-prepared-clause-within
+returns-in_err-prepared-clause-within g c =
+    λ modelled first can. looks_back c.args.journal.now first (65542 + length c.args.journal.now.saved) (g.B.Bus.state c.args.bus.now) (g.B.Bus.state c.prepare.new.bus) modelled.honest c.prepare.ensures.leaves can
+
+pub returns-in_err-prepared-clause-only_stops : goal.returns-in_err-prepared-clause-only_stops
+returns-in_err-prepared-clause-only_stops g c =
+    λ modelled first can.
+    let told = only_stopped c.args.journal.now first (g.B.Bus.state c.args.bus.now) (g.B.Bus.state c.prepare.new.bus) c.in_err-prepared.field-0.0 can (prepare_tells c.args.journal.now (65542 + length c.args.journal.now.saved) (g.B.Bus.state c.args.bus.now) (g.B.Bus.state c.prepare.new.bus) c.in_err-prepared.field-0.0 (omega arith) modelled c.in_err-prepared.ensures.tells) in
+    grind (arith, common_steps, told)
+
+pub returns-in_err-work-clause-spends : goal.returns-in_err-work-clause-spends
+returns-in_err-work-clause-spends g c =
+    let are : AreChanged c.args.journal.now c.in_ok-prepared.prepared (g.B.Bus.state c.args.bus.now) (g.B.Bus.state c.prepare.new.bus) (g.B.Bus.state c.finish.new.self.0) = record { room = c.prepare.ensures.room; looks = c.prepare.ensures.leaves; is = c.in_ok-prepared.ensures.prepares; leaves = c.finish.ensures.leaves } in
+    changed_spends c.args.journal.now c.in_ok-prepared.prepared (g.B.Bus.state c.args.bus.now) (g.B.Bus.state c.prepare.new.bus) (g.B.Bus.state c.finish.new.self.0) are
+
+pub returns-in_err-work-clause-answers : goal.returns-in_err-work-clause-answers
+returns-in_err-work-clause-answers g c =
+    let told = change_answers c.in_ok-prepared.prepared.changes _ (g.B.Bus.state c.prepare.new.bus) (g.B.Bus.state c.finish.new.self.0) c.in_err-work.field-0.0 c.in_err-work.ensures.tells in
+    grind (arith, common_steps, told)
+
+pub returns-in_err-work-clause-looks : goal.returns-in_err-work-clause-looks
+returns-in_err-work-clause-looks g c =
+    let told = change_not_judged c.in_ok-prepared.prepared.changes _ (g.B.Bus.state c.prepare.new.bus) (g.B.Bus.state c.finish.new.self.0) c.in_err-work.field-0.0 c.in_err-work.ensures.tells in
+    search rules
+
+pub returns-in_err-work-clause-gives_up : goal.returns-in_err-work-clause-gives_up
+returns-in_err-work-clause-gives_up g c =
+    λ honest.
+    let are : AreChanged c.args.journal.now c.in_ok-prepared.prepared (g.B.Bus.state c.args.bus.now) (g.B.Bus.state c.prepare.new.bus) (g.B.Bus.state c.finish.new.self.0) = record { room = c.prepare.ensures.room; looks = c.prepare.ensures.leaves; is = c.in_ok-prepared.ensures.prepares; leaves = c.finish.ensures.leaves } in
+    let told = change_gives_up c.args.journal.now c.in_ok-prepared.prepared (g.B.Bus.state c.args.bus.now) (g.B.Bus.state c.prepare.new.bus) (g.B.Bus.state c.finish.new.self.0) c.in_err-work.field-0.0 are honest c.in_err-work.ensures.tells in
+    grind (arith, common_steps, told)
+
+pub returns-in_err-work-clause-tells : goal.returns-in_err-work-clause-tells
+returns-in_err-work-clause-tells g c =
+    λ modelled.
+    let are : AreChanged c.args.journal.now c.in_ok-prepared.prepared (g.B.Bus.state c.args.bus.now) (g.B.Bus.state c.prepare.new.bus) (g.B.Bus.state c.finish.new.self.0) = record { room = c.prepare.ensures.room; looks = c.prepare.ensures.leaves; is = c.in_ok-prepared.ensures.prepares; leaves = c.finish.ensures.leaves } in
+    let told = change_tells c.args.journal.now c.in_ok-prepared.prepared (g.B.Bus.state c.args.bus.now) (g.B.Bus.state c.prepare.new.bus) (g.B.Bus.state c.finish.new.self.0) c.in_err-work.field-0.0 are modelled c.in_err-work.ensures.tells in
+    grind (arith, common_steps, told)
+
+pub returns-in_err-work-clause-leaves : goal.returns-in_err-work-clause-leaves
+returns-in_err-work-clause-leaves g c =
+    λ modelled.
+    let are : AreChanged c.args.journal.now c.in_ok-prepared.prepared (g.B.Bus.state c.args.bus.now) (g.B.Bus.state c.prepare.new.bus) (g.B.Bus.state c.finish.new.self.0) = record { room = c.prepare.ensures.room; looks = c.prepare.ensures.leaves; is = c.in_ok-prepared.ensures.prepares; leaves = c.finish.ensures.leaves } in
+    changed_leaves c.args.journal.now c.in_ok-prepared.prepared (g.B.Bus.state c.args.bus.now) (g.B.Bus.state c.prepare.new.bus) (g.B.Bus.state c.finish.new.self.0) are modelled
+
+pub returns-in_err-work-clause-within : goal.returns-in_err-work-clause-within
+returns-in_err-work-clause-within g c =
+    λ modelled first can.
+    let are : AreChanged c.args.journal.now c.in_ok-prepared.prepared (g.B.Bus.state c.args.bus.now) (g.B.Bus.state c.prepare.new.bus) (g.B.Bus.state c.finish.new.self.0) = record { room = c.prepare.ensures.room; looks = c.prepare.ensures.leaves; is = c.in_ok-prepared.ensures.prepares; leaves = c.finish.ensures.leaves } in
+    changed_back c.args.journal.now first c.in_ok-prepared.prepared (g.B.Bus.state c.args.bus.now) (g.B.Bus.state c.prepare.new.bus) (g.B.Bus.state c.finish.new.self.0) are modelled can
+
+pub returns-in_err-work-clause-only_stops : goal.returns-in_err-work-clause-only_stops
+returns-in_err-work-clause-only_stops g c =
+    λ modelled first can.
+    let are : AreChanged c.args.journal.now c.in_ok-prepared.prepared (g.B.Bus.state c.args.bus.now) (g.B.Bus.state c.prepare.new.bus) (g.B.Bus.state c.finish.new.self.0) = record { room = c.prepare.ensures.room; looks = c.prepare.ensures.leaves; is = c.in_ok-prepared.ensures.prepares; leaves = c.finish.ensures.leaves } in
+    let told = only_stopped c.args.journal.now first (g.B.Bus.state c.args.bus.now) (g.B.Bus.state c.finish.new.self.0) c.in_err-work.field-0.0 can (change_tells c.args.journal.now c.in_ok-prepared.prepared (g.B.Bus.state c.args.bus.now) (g.B.Bus.state c.prepare.new.bus) (g.B.Bus.state c.finish.new.self.0) c.in_err-work.field-0.0 are modelled c.in_err-work.ensures.tells) in
+    grind (arith, common_steps, told)
+
+pub overflow_add-result : goal.overflow_add-result
+overflow_add-result g c =
+    let are : AreChanged c.args.journal.now c.in_ok-prepared.prepared (g.B.Bus.state c.args.bus.now) (g.B.Bus.state c.prepare.new.bus) (g.B.Bus.state c.finish.new.self.0) = record { room = c.prepare.ensures.room; looks = c.prepare.ensures.leaves; is = c.in_ok-prepared.ensures.prepares; leaves = c.finish.ensures.leaves } in
+    let fits = sum_fits c.args.journal.now c.in_ok-prepared.prepared (g.B.Bus.state c.args.bus.now) (g.B.Bus.state c.prepare.new.bus) (g.B.Bus.state c.finish.new.self.0) c.in_ok-work.work are c.in_ok-work.ensures.does in
+    omega (arith, fits)
+
+pub returns-clause-spends : goal.returns-clause-spends
+returns-clause-spends g c =
+    let are : AreChanged c.args.journal.now c.in_ok-prepared.prepared (g.B.Bus.state c.args.bus.now) (g.B.Bus.state c.prepare.new.bus) (g.B.Bus.state c.finish.new.self.0) = record { room = c.prepare.ensures.room; looks = c.prepare.ensures.leaves; is = c.in_ok-prepared.ensures.prepares; leaves = c.finish.ensures.leaves } in
+    changed_spends c.args.journal.now c.in_ok-prepared.prepared (g.B.Bus.state c.args.bus.now) (g.B.Bus.state c.prepare.new.bus) (g.B.Bus.state c.finish.new.self.0) are
 
 pub returns-clause-bounded : goal.returns-clause-bounded
 returns-clause-bounded g c =
-    let opening = c.in_ok-opening.ensures.few in let counted = c.in_ok-marks.ensures.counted in let work = c.in_ok-work.ensures.few in let sixteen = c.from.ensures in
-    let most = count_below-most 16 (mark_at c.in_ok-marks.marks.touched) in
-    let opening' = c.in_ok-opening.ensures.least in
-    record {
-      touched = omega (arith, counted, most);
-      erases = work.erases;
-      programs = work.programs;
-      least = omega (arith, opening', counted, work.least, sixteen);
-      transactions = omega (arith, opening, counted, work.transactions, sixteen);
-    }
+    let are : AreChanged c.args.journal.now c.in_ok-prepared.prepared (g.B.Bus.state c.args.bus.now) (g.B.Bus.state c.prepare.new.bus) (g.B.Bus.state c.finish.new.self.0) = record { room = c.prepare.ensures.room; looks = c.prepare.ensures.leaves; is = c.in_ok-prepared.ensures.prepares; leaves = c.finish.ensures.leaves } in
+    restored_bounded c.args.journal.now c.in_ok-prepared.prepared (g.B.Bus.state c.args.bus.now) (g.B.Bus.state c.prepare.new.bus) (g.B.Bus.state c.finish.new.self.0) c.in_ok-work.work (c.in_ok-prepared.prepared.transactions + c.in_ok-work.work.transactions) are c.in_ok-work.ensures.does (omega arith)
 
-pub returns-clause-between : goal.returns-clause-between
-returns-clause-between g c honest genuine =
-    let at_open = c.in_ok-opening.ensures in
-    let opened = at_open.looked honest in let is = at_open.opened honest in
-    let still = c.open.ensures.quiet.honest ∙ honest in
-    let scanned = c.in_ok-marks.ensures.looked still in
-    let image = c.args.journal.now.bytes.now in
-    let long : length image ≡ 65536 = c.args.journal.now.sized ∙ c.in_ok-judge.ensures.ok.size ∙ at_open.size in
-    let ready = prepared image c.in_ok-opening.opening c.in_ok-marks.marks _ _ _ genuine opened is long scanned (λ size. c.in_ok-marks.ensures.marks still is.idle size) in
-    let still' = c.scan.ensures.quiet.honest ∙ still in
-    between_from image 65557 _ _ _ ready.looked (c.in_ok-work.ensures.reached still' ready.marked)
+pub returns-clause-counted : goal.returns-clause-counted
+returns-clause-counted g c =
+    λ honest.
+    let are : AreChanged c.args.journal.now c.in_ok-prepared.prepared (g.B.Bus.state c.args.bus.now) (g.B.Bus.state c.prepare.new.bus) (g.B.Bus.state c.finish.new.self.0) = record { room = c.prepare.ensures.room; looks = c.prepare.ensures.leaves; is = c.in_ok-prepared.ensures.prepares; leaves = c.finish.ensures.leaves } in
+    restored_counted c.args.journal.now c.in_ok-prepared.prepared (g.B.Bus.state c.args.bus.now) (g.B.Bus.state c.prepare.new.bus) (g.B.Bus.state c.finish.new.self.0) c.in_ok-work.work (c.in_ok-prepared.prepared.transactions + c.in_ok-work.work.transactions) are c.in_ok-work.ensures.does (omega arith) honest
 
-pub returns-in_err-work-clause-between : goal.returns-in_err-work-clause-between
-returns-in_err-work-clause-between g c honest genuine =
-    let at_open = c.in_ok-opening.ensures in
-    let opened = at_open.looked honest in let is = at_open.opened honest in
-    let still = c.open.ensures.quiet.honest ∙ honest in
-    let scanned = c.in_ok-marks.ensures.looked still in
-    let image = c.args.journal.now.bytes.now in
-    let long : length image ≡ 65536 = c.args.journal.now.sized ∙ c.in_ok-judge.ensures.ok.size ∙ at_open.size in
-    let ready = prepared image c.in_ok-opening.opening c.in_ok-marks.marks _ _ _ genuine opened is long scanned (λ size. c.in_ok-marks.ensures.marks still is.idle size) in
-    let still' = c.scan.ensures.quiet.honest ∙ still in
-    between_from image 65557 _ _ _ ready.looked (c.in_err-work.ensures.reached still' ready.marked)
-
-pub returns-clause-keeps_within : goal.returns-clause-keeps_within
-returns-clause-keeps_within g c honest genuine = λ first saves within.
-    let at_open = c.in_ok-opening.ensures in
-    let opened = at_open.looked honest in let is = at_open.opened honest in
-    let still = c.open.ensures.quiet.honest ∙ honest in
-    let scanned = c.in_ok-marks.ensures.looked still in
-    let image = c.args.journal.now.bytes.now in
-    let long : length image ≡ 65536 = c.args.journal.now.sized ∙ c.in_ok-judge.ensures.ok.size ∙ at_open.size in
-    let ready = prepared image c.in_ok-opening.opening c.in_ok-marks.marks _ _ _ genuine opened is long scanned (λ size. c.in_ok-marks.ensures.marks still is.idle size) in
-    let still' = c.scan.ensures.quiet.honest ∙ still in
-    let between = between_from image 65557 _ _ _ ready.looked (c.in_ok-work.ensures.reached still' ready.marked) in
-    within_then first _ _ within (within_between image _ _ long ready.tiny between)
-
-pub returns-in_err-work-clause-keeps_within : goal.returns-in_err-work-clause-keeps_within
-returns-in_err-work-clause-keeps_within g c honest genuine = λ first saves within.
-    let at_open = c.in_ok-opening.ensures in
-    let opened = at_open.looked honest in let is = at_open.opened honest in
-    let still = c.open.ensures.quiet.honest ∙ honest in
-    let scanned = c.in_ok-marks.ensures.looked still in
-    let image = c.args.journal.now.bytes.now in
-    let long : length image ≡ 65536 = c.args.journal.now.sized ∙ c.in_ok-judge.ensures.ok.size ∙ at_open.size in
-    let ready = prepared image c.in_ok-opening.opening c.in_ok-marks.marks _ _ _ genuine opened is long scanned (λ size. c.in_ok-marks.ensures.marks still is.idle size) in
-    let still' = c.scan.ensures.quiet.honest ∙ still in
-    let between = between_from image 65557 _ _ _ ready.looked (c.in_err-work.ensures.reached still' ready.marked) in
-    within_then first _ _ within (within_between image _ _ long ready.tiny between)
-
-pub returns-clause-gives_back : goal.returns-clause-gives_back
-returns-clause-gives_back g c honest genuine = λ first saves within.
-    let at_open = c.in_ok-opening.ensures in
-    let opened = at_open.looked honest in let is = at_open.opened honest in
-    let still = c.open.ensures.quiet.honest ∙ honest in
-    let scanned = c.in_ok-marks.ensures.looked still in
-    let image = c.args.journal.now.bytes.now in
-    let long : length image ≡ 65536 = c.args.journal.now.sized ∙ c.in_ok-judge.ensures.ok.size ∙ at_open.size in
-    let ready = prepared image c.in_ok-opening.opening c.in_ok-marks.marks _ _ _ genuine opened is long scanned (λ size. c.in_ok-marks.ensures.marks still is.idle size) in
-    let still' = c.scan.ensures.quiet.honest ∙ still in
-    let between = between_from image 65557 _ _ _ ready.looked (c.in_ok-work.ensures.reached still' ready.marked) in
-    given_back c.args.journal.now first (g.B.Bus.state c.args.bus.now).chip (g.B.Bus.state c.carry_out.new.bus).chip saves within between.config between.kept1 between.kept2 (long ∙ sym ready.tiny.size)
-    (λ a. c.in_ok-work.ensures.done still' ready.marked a ∙ ap (λ (content : ℕ → ℕ). wanted_of image content a) (same_content 65557 _ _ ready.looked))
+pub returns-clause-leaves : goal.returns-clause-leaves
+returns-clause-leaves g c =
+    λ modelled.
+    let are : AreChanged c.args.journal.now c.in_ok-prepared.prepared (g.B.Bus.state c.args.bus.now) (g.B.Bus.state c.prepare.new.bus) (g.B.Bus.state c.finish.new.self.0) = record { room = c.prepare.ensures.room; looks = c.prepare.ensures.leaves; is = c.in_ok-prepared.ensures.prepares; leaves = c.finish.ensures.leaves } in
+    changed_leaves c.args.journal.now c.in_ok-prepared.prepared (g.B.Bus.state c.args.bus.now) (g.B.Bus.state c.prepare.new.bus) (g.B.Bus.state c.finish.new.self.0) are modelled
 
 pub returns-clause-done : goal.returns-clause-done
-returns-clause-done g c honest genuine =
-    let at_open = c.in_ok-opening.ensures in
-    let opened = at_open.looked honest in let is = at_open.opened honest in
-    let still = c.open.ensures.quiet.honest ∙ honest in
-    let scanned = c.in_ok-marks.ensures.looked still in
-    let image = c.args.journal.now.bytes.now in
-    let long : length image ≡ 65536 = c.args.journal.now.sized ∙ c.in_ok-judge.ensures.ok.size ∙ at_open.size in
-    let ready = prepared image c.in_ok-opening.opening c.in_ok-marks.marks _ _ _ genuine opened is long scanned (λ size. c.in_ok-marks.ensures.marks still is.idle size) in
-    let still' = c.scan.ensures.quiet.honest ∙ still in
-    let done = c.in_ok-work.ensures in
-    let between = between_from image 65557 _ _ _ ready.looked (done.reached still' ready.marked) in
-    let work = work_from image 65557 _ _ c.in_ok-work.work ready.looked (done.counted still' ready.marked) in
-    let first = at_open.count honest in let second = c.in_ok-marks.ensures.count still in let third = done.count still' in
-    let sixteen = c.from.ensures in
-    record {
-      config = between.config;
-      bytes = λ a. done.done still' ready.marked a ∙ ap (λ (content : ℕ → ℕ). wanted_of image content a) (same_content 65557 _ _ ready.looked);
-      kept1 = between.kept1;
-      kept2 = between.kept2;
-      idle = done.idle still' ready.marked;
-      found_id = subst (λ (config : Config). IsId config c.in_ok-opening.opening.found.id) opened.config is.id;
-      found_size = at_open.size ∙ sym ready.tiny.size;
-      found_status = is.kept1 ∙ opened.kept1;
-      touched = touched_from image 65557 _ _ c.in_ok-marks.marks ready.looked ready.marked.are_right;
-      erases = work.erases;
-      programs = work.programs;
-      transactions = omega (arith, first, second, third, sixteen);
-    }
+returns-clause-done g c =
+    λ modelled.
+    let are : AreChanged c.args.journal.now c.in_ok-prepared.prepared (g.B.Bus.state c.args.bus.now) (g.B.Bus.state c.prepare.new.bus) (g.B.Bus.state c.finish.new.self.0) = record { room = c.prepare.ensures.room; looks = c.prepare.ensures.leaves; is = c.in_ok-prepared.ensures.prepares; leaves = c.finish.ensures.leaves } in
+    restored_done c.args.journal.now c.in_ok-prepared.prepared (g.B.Bus.state c.args.bus.now) (g.B.Bus.state c.prepare.new.bus) (g.B.Bus.state c.finish.new.self.0) c.in_ok-work.work (c.in_ok-prepared.prepared.transactions + c.in_ok-work.work.transactions) are c.in_ok-work.ensures.does modelled
 
-pub returns-in_err-work-clause-tells : goal.returns-in_err-work-clause-tells
-returns-in_err-work-clause-tells g c honest genuine =
-    let at_open = c.in_ok-opening.ensures in
-    let opened = at_open.looked honest in let is = at_open.opened honest in
-    let still = c.open.ensures.quiet.honest ∙ honest in
-    let scanned = c.in_ok-marks.ensures.looked still in
-    let image = c.args.journal.now.bytes.now in
-    let long : length image ≡ 65536 = c.args.journal.now.sized ∙ c.in_ok-judge.ensures.ok.size ∙ at_open.size in
-    let ready = prepared image c.in_ok-opening.opening c.in_ok-marks.marks _ _ _ genuine opened is long scanned (λ size. c.in_ok-marks.ensures.marks still is.idle size) in
-    let still' = c.scan.ensures.quiet.honest ∙ still in
-    let halts = c.in_err-work.ensures.stops still' ready.marked in
-    let looked = ready.looked in
-    let below : (g.B.Bus.state c.args.bus.now).left < 17891925 = omega (arith, halts.below, looked.bound) in
-    let left = halts.none_left in let stopped = halts.stopped in
-    grind (arith, common_steps, below, left, stopped)
+pub returns-clause-within : goal.returns-clause-within
+returns-clause-within g c =
+    λ modelled first can.
+    let are : AreChanged c.args.journal.now c.in_ok-prepared.prepared (g.B.Bus.state c.args.bus.now) (g.B.Bus.state c.prepare.new.bus) (g.B.Bus.state c.finish.new.self.0) = record { room = c.prepare.ensures.room; looks = c.prepare.ensures.leaves; is = c.in_ok-prepared.ensures.prepares; leaves = c.finish.ensures.leaves } in
+    changed_back c.args.journal.now first c.in_ok-prepared.prepared (g.B.Bus.state c.args.bus.now) (g.B.Bus.state c.prepare.new.bus) (g.B.Bus.state c.finish.new.self.0) are modelled can
 
-pub returns-in_err-work-clause-ends_or_stops : goal.returns-in_err-work-clause-ends_or_stops
-returns-in_err-work-clause-ends_or_stops g c honest genuine known = λ chip saves within.
-    let at_open = c.in_ok-opening.ensures in
-    let opened = at_open.looked honest in let is = at_open.opened honest in
-    let still = c.open.ensures.quiet.honest ∙ honest in
-    let scanned = c.in_ok-marks.ensures.looked still in
-    let image = c.args.journal.now.bytes.now in
-    let long : length image ≡ 65536 = c.args.journal.now.sized ∙ c.in_ok-judge.ensures.ok.size ∙ at_open.size in
-    let ready = prepared image c.in_ok-opening.opening c.in_ok-marks.marks _ _ _ genuine opened is long scanned (λ size. c.in_ok-marks.ensures.marks still is.idle size) in
-    let still' = c.scan.ensures.quiet.honest ∙ still in
-    let halts = c.in_err-work.ensures.stops still' ready.marked in
-    let stopped = halts.stopped in
-    grind (arith, common_steps, stopped)
+pub returns-clause-back : goal.returns-clause-back
+returns-clause-back g c =
+    λ modelled first can.
+    let are : AreChanged c.args.journal.now c.in_ok-prepared.prepared (g.B.Bus.state c.args.bus.now) (g.B.Bus.state c.prepare.new.bus) (g.B.Bus.state c.finish.new.self.0) = record { room = c.prepare.ensures.room; looks = c.prepare.ensures.leaves; is = c.in_ok-prepared.ensures.prepares; leaves = c.finish.ensures.leaves } in
+    restored_back c.args.journal.now first (g.B.Bus.state c.args.bus.now) (g.B.Bus.state c.finish.new.self.0) _ can (restored_done c.args.journal.now c.in_ok-prepared.prepared (g.B.Bus.state c.args.bus.now) (g.B.Bus.state c.prepare.new.bus) (g.B.Bus.state c.finish.new.self.0) c.in_ok-work.work (c.in_ok-prepared.prepared.transactions + c.in_ok-work.work.transactions) are c.in_ok-work.ensures.does modelled)

@@ -1,121 +1,135 @@
-use Rattle.std.proofs.Common.{◌∙◌, ◌<◌, ℕ, ap, sym, subst, arith}
-use Rattle.std.proofs.lemmas.Grind.{common_steps}
-use Rattle.std.proofs.lemmas.Bool.{true≢false}
-use Rattle.nor_chip.specs.declared.config.Config.{Config}
-use Rattle.nor_session.specs.Content.{wanted_of}
-use Rattle.nor_session.specs.Changes.{mark_at}
-use Rattle.nor_session.specs.Known.{IsId, IsKnown}
-use Rattle.nor_session.proofs.Below.{count_below-most}
-use Rattle.nor_session.proofs.Calls.{journal_from, size_of_tiny, prepared, same_content, between_from, within_between, work_from, touched_from}
+use Rattle.std.proofs.Common.{rules, arith, ◌+◌, ◌*◌, length}
+use Rattle.std.proofs.lemmas.Bool.{lt-ltb}
+use Rattle.nor_session.proofs.Ready.{has_opened, ready, scanned_few, spends_looks, spends_more, spends_ready, bounded, touched_data}
+use Rattle.nor_save.proofs.Rests.{looks_then}
+use Rattle.nor_save.specs.Request.{scanned_sectors}
+use Rattle.nor_driver.specs.Looks.{Looks}
+use Rattle.nor_session.specs.Modelled.{most_of}
+use Rattle.nor_session.proofs.ReadyChip.{is_opening, falls_sized, keep_tells}
+use Rattle.nor_session.proofs.SessionChanges.{change_tells}
+use Rattle.nor_session.proofs.SessionEnds.{ready_chip, can_be_undone, done}
 use Rattle.nor_session.proofs.sessions.session.Goals as goal
 
-pub returns-clause-bounded : goal.returns-clause-bounded
-returns-clause-bounded g c =
-    let opening = c.in_ok-opening.ensures.few in let counted = c.in_ok-marks.ensures.counted in let work = c.in_ok-work.ensures.few in let sixteen = c.from.ensures in
-    let most = count_below-most 16 (mark_at c.in_ok-marks.marks.touched) in
-    let opening' = c.in_ok-opening.ensures.least in
+pub returns-in_err-kept-clause-looks : goal.returns-in_err-kept-clause-looks
+returns-in_err-kept-clause-looks g c = λ unsealed.
+    let opens = c.in_ok-opening.ensures.opens in
+    let looked = has_opened c.args.request.now c.in_ok-opening.opening (g.B.Bus.state c.args.bus.now) (g.B.Bus.state c.open.new.bus) c.open.ensures.leaves opens in
+    let few = scanned_few c.args.request.now c.in_ok-opening.opening.found.size opens.part.at_most in
+    let most = opens.most in
+    looks_then c.in_ok-opening.opening.transactions (scanned_sectors c.args.request.now c.in_ok-opening.opening.found.size) 69638 (g.B.Bus.state c.args.bus.now) (g.B.Bus.state c.open.new.bus) (g.B.Bus.state c.keep.new.bus)
+    (omega arith) looked c.keep.ensures.leaves
+
+pub returns-in_err-kept-clause-spends : goal.returns-in_err-kept-clause-spends
+returns-in_err-kept-clause-spends g c =
+    let opens = c.in_ok-opening.ensures.opens in
+    let looked = has_opened c.args.request.now c.in_ok-opening.opening (g.B.Bus.state c.args.bus.now) (g.B.Bus.state c.open.new.bus) c.open.ensures.leaves opens in
+    let few = scanned_few c.args.request.now c.in_ok-opening.opening.found.size opens.part.at_most in
+    let most = opens.most in
+    let looks : Looks 69638 (g.B.Bus.state c.args.bus.now) (g.B.Bus.state c.keep.new.bus) = looks_then c.in_ok-opening.opening.transactions (scanned_sectors c.args.request.now c.in_ok-opening.opening.found.size) 69638 (g.B.Bus.state c.args.bus.now) (g.B.Bus.state c.open.new.bus) (g.B.Bus.state c.keep.new.bus)
+        (omega arith) looked c.keep.ensures.leaves in
+    spends_looks 69638 4563750922 (g.B.Bus.state c.args.bus.now) (g.B.Bus.state c.keep.new.bus) (omega arith) looks
+
+pub returns-clause-ends : goal.returns-clause-ends
+returns-clause-ends g c =
+    let is = ready c.args.request.now c.in_ok-opening.opening c.status.result c.in_ok-code.code _ c.args.image.now c.keep.new.image _ c.in_ok-kept.kept (g.B.Bus.state c.args.bus.now) (g.B.Bus.state c.open.new.bus) (g.B.Bus.state c.keep.new.bus)
+        c.open.ensures.leaves c.in_ok-opening.ensures.opens c.keep.ensures.leaves c.in_ok-kept.ensures.keeps c.status.ensures c.in_ok-code.ensures.same_code in
     record {
-      touched = omega (arith, counted, most);
-      erases = work.erases;
-      programs = work.programs;
-      least = omega (arith, opening', counted, work.least, sixteen);
-      transactions = omega (arith, opening, counted, work.transactions, sixteen);
+      sealed = search rules;
+      bounded = bounded c.args.request.now c.in_ok-opening.opening c.status.result c.in_ok-code.code c.in_ok-kept.kept (g.B.Bus.state c.args.bus.now) (g.B.Bus.state c.keep.new.bus) (g.B.Bus.state c.finish.new.self.0) _ c.args.request.now.verify c.in_ok-work.work
+          c.from.result c.from.ensures is c.in_ok-work.ensures.does;
     }
+pub returns-in_err-kept-clause-falls : goal.returns-in_err-kept-clause-falls
+returns-in_err-kept-clause-falls g c = λ modelled.
+    let opens = c.in_ok-opening.ensures.opens in
+    let looked = has_opened c.args.request.now c.in_ok-opening.opening (g.B.Bus.state c.args.bus.now) (g.B.Bus.state c.open.new.bus) c.open.ensures.leaves opens in
+    let few = opens.most in
+    let looks : Looks (most_of (scanned_sectors c.args.request.now c.in_ok-opening.opening.found.size)) (g.B.Bus.state c.args.bus.now) (g.B.Bus.state c.keep.new.bus) =
+        looks_then c.in_ok-opening.opening.transactions (scanned_sectors c.args.request.now c.in_ok-opening.opening.found.size) (most_of (scanned_sectors c.args.request.now c.in_ok-opening.opening.found.size)) (g.B.Bus.state c.args.bus.now) (g.B.Bus.state c.open.new.bus) (g.B.Bus.state c.keep.new.bus) (omega arith) looked c.keep.ensures.leaves in
+    falls_sized c.args.request.now c.in_ok-opening.opening (g.B.Bus.state c.args.bus.now) (g.B.Bus.state c.keep.new.bus) modelled.honest (opens.genuine modelled.honest modelled.genuine) (spends_looks (most_of (scanned_sectors c.args.request.now c.in_ok-opening.opening.found.size)) (most_of (scanned_sectors c.args.request.now c.in_ok-opening.opening.found.size)) (g.B.Bus.state c.args.bus.now) (g.B.Bus.state c.keep.new.bus) (omega arith) looks)
 
-pub returns-clause-between : goal.returns-clause-between
-returns-clause-between g c honest genuine =
-    let at_open = c.in_ok-opening.ensures in
-    let opened = at_open.looked honest in let is = at_open.opened honest in
-    let still = c.open.ensures.quiet.honest ∙ honest in
-    let scanned = c.in_ok-marks.ensures.looked still in
-    let ready = prepared c.args.image.now c.in_ok-opening.opening c.in_ok-marks.marks _ _ _ genuine opened is (c.if-image-opening.false ∙ at_open.size) scanned (λ size. c.in_ok-marks.ensures.marks still is.idle size) in
-    let still' = c.keep.ensures.quiet.honest ∙ still in
-    between_from c.args.image.now 65557 _ _ _ ready.looked (c.in_ok-work.ensures.reached still' ready.marked)
+pub returns-in_err-kept-clause-tells : goal.returns-in_err-kept-clause-tells
+returns-in_err-kept-clause-tells g c = λ modelled.
+    let opens = c.in_ok-opening.ensures.opens in
+    let opened = is_opening c.args.request.now c.in_ok-opening.opening (g.B.Bus.state c.args.bus.now) (g.B.Bus.state c.open.new.bus) modelled opens in
+    let tells = keep_tells c.args.request.now c.args.image.now c.in_ok-opening.opening c.in_ok-code.code (g.B.Bus.state c.args.bus.now) (g.B.Bus.state c.open.new.bus) (g.B.Bus.state c.keep.new.bus) (g.V.Vault.state c.args.vault.now) (g.V.Vault.state c.keep.new.vault) c.in_err-kept.field-0.0
+        modelled c.open.ensures.leaves opens (c.in_ok-code.ensures.accepts (g.B.Bus.state c.args.bus.now).chip opened) (search rules) c.in_err-kept.ensures.tells in
+    search rules
 
-pub returns-in_err-work-clause-between : goal.returns-in_err-work-clause-between
-returns-in_err-work-clause-between g c honest genuine =
-    let at_open = c.in_ok-opening.ensures in
-    let opened = at_open.looked honest in let is = at_open.opened honest in
-    let still = c.open.ensures.quiet.honest ∙ honest in
-    let scanned = c.in_ok-marks.ensures.looked still in
-    let ready = prepared c.args.image.now c.in_ok-opening.opening c.in_ok-marks.marks _ _ _ genuine opened is (c.if-image-opening.false ∙ at_open.size) scanned (λ size. c.in_ok-marks.ensures.marks still is.idle size) in
-    let still' = c.keep.ensures.quiet.honest ∙ still in
-    between_from c.args.image.now 65557 _ _ _ ready.looked (c.in_err-work.ensures.reached still' ready.marked)
+pub finish-requires-clause-sourced : goal.finish-requires-clause-sourced
+finish-requires-clause-sourced g c = λ s touched.
+    let scans = c.in_ok-kept.ensures.keeps.scans in
+    let about_bytes = touched_data c.args.request.now c.in_ok-opening.opening c.in_ok-kept.kept s c.in_ok-opening.ensures.opens.part.at_most scans.marks scans.few scans.reads touched in
+    let long = c.in_ok-code.ensures.sized about_bytes in
+    let same = c.keep.auto.image in
+    let below = scans.marks.below s touched in
+    lt-ltb (4096 * s + 4095) (length c.keep.new.image) (omega arith)
 
-pub returns-clause-undone : goal.returns-clause-undone
-returns-clause-undone g c honest genuine =
-    let at_open = c.in_ok-opening.ensures in
-    let opened = at_open.looked honest in let is = at_open.opened honest in
-    let still = c.open.ensures.quiet.honest ∙ honest in
-    let scanned = c.in_ok-marks.ensures.looked still in
-    let ready = prepared c.args.image.now c.in_ok-opening.opening c.in_ok-marks.marks _ _ _ genuine opened is (c.if-image-opening.false ∙ at_open.size) scanned (λ size. c.in_ok-marks.ensures.marks still is.idle size) in
-    let still' = c.keep.ensures.quiet.honest ∙ still in
-    let between = between_from c.args.image.now 65557 _ _ _ ready.looked (c.in_ok-work.ensures.reached still' ready.marked) in
-    let within = within_between c.args.image.now _ _ ready.long ready.tiny between in
-    let sealed = c.in_ok-marks.ensures.sealed in
-    record {
-      same = λ unsealed. absurd (true≢false (sym sealed ∙ unsealed));
-      saves = λ _ telling. journal_from 65541 _ _ _ opened (c.in_ok-marks.ensures.saved still is (at_open.size ∙ sym (size_of_tiny genuine opened is)) (size_of_tiny genuine opened is) telling);
-      within = λ _. within;
-      known = λ _. subst IsKnown opened.config is.known;
-    }
+pub returns-in_err-work-clause-spends : goal.returns-in_err-work-clause-spends
+returns-in_err-work-clause-spends g c =
+    let is = ready c.args.request.now c.in_ok-opening.opening c.status.result c.in_ok-code.code _ c.args.image.now c.keep.new.image _ c.in_ok-kept.kept (g.B.Bus.state c.args.bus.now) (g.B.Bus.state c.open.new.bus) (g.B.Bus.state c.keep.new.bus)
+        c.open.ensures.leaves c.in_ok-opening.ensures.opens c.keep.ensures.leaves c.in_ok-kept.ensures.keeps c.status.ensures c.in_ok-code.ensures.same_code in
+    let few = scanned_few c.args.request.now c.in_ok-opening.opening.found.size is.part.at_most in
+    let spends = spends_ready c.args.request.now c.in_ok-opening.opening c.status.result c.in_ok-code.code c.in_ok-kept.kept (g.B.Bus.state c.args.bus.now) (g.B.Bus.state c.keep.new.bus) (g.B.Bus.state c.finish.new.self.0) is c.finish.ensures.leaves.spends in
+    spends_more (most_of (scanned_sectors c.args.request.now c.in_ok-opening.opening.found.size)) 4563750922 (g.B.Bus.state c.args.bus.now) (g.B.Bus.state c.finish.new.self.0) (omega arith) spends
 
-pub returns-in_err-work-clause-undone : goal.returns-in_err-work-clause-undone
-returns-in_err-work-clause-undone g c honest genuine =
-    let at_open = c.in_ok-opening.ensures in
-    let opened = at_open.looked honest in let is = at_open.opened honest in
-    let still = c.open.ensures.quiet.honest ∙ honest in
-    let scanned = c.in_ok-marks.ensures.looked still in
-    let ready = prepared c.args.image.now c.in_ok-opening.opening c.in_ok-marks.marks _ _ _ genuine opened is (c.if-image-opening.false ∙ at_open.size) scanned (λ size. c.in_ok-marks.ensures.marks still is.idle size) in
-    let still' = c.keep.ensures.quiet.honest ∙ still in
-    let between = between_from c.args.image.now 65557 _ _ _ ready.looked (c.in_err-work.ensures.reached still' ready.marked) in
-    let within = within_between c.args.image.now _ _ ready.long ready.tiny between in
-    let sealed = c.in_ok-marks.ensures.sealed in
-    record {
-      same = λ unsealed. absurd (true≢false (sym sealed ∙ unsealed));
-      saves = λ _ telling. journal_from 65541 _ _ _ opened (c.in_ok-marks.ensures.saved still is (at_open.size ∙ sym (size_of_tiny genuine opened is)) (size_of_tiny genuine opened is) telling);
-      within = λ _. within;
-      known = λ _. subst IsKnown opened.config is.known;
-    }
-
-pub returns-clause-done : goal.returns-clause-done
-returns-clause-done g c honest genuine =
-    let at_open = c.in_ok-opening.ensures in
-    let opened = at_open.looked honest in let is = at_open.opened honest in
-    let still = c.open.ensures.quiet.honest ∙ honest in
-    let scanned = c.in_ok-marks.ensures.looked still in
-    let ready = prepared c.args.image.now c.in_ok-opening.opening c.in_ok-marks.marks _ _ _ genuine opened is (c.if-image-opening.false ∙ at_open.size) scanned (λ size. c.in_ok-marks.ensures.marks still is.idle size) in
-    let still' = c.keep.ensures.quiet.honest ∙ still in
-    let done = c.in_ok-work.ensures in
-    let between = between_from c.args.image.now 65557 _ _ _ ready.looked (done.reached still' ready.marked) in
-    let work = work_from c.args.image.now 65557 _ _ c.in_ok-work.work ready.looked (done.counted still' ready.marked) in
-    let first = at_open.count honest in let second = c.in_ok-marks.ensures.count still in let third = done.count still' in
-    let sixteen = c.from.ensures in
-    record {
-      config = between.config;
-      bytes = λ a. done.done still' ready.marked a ∙ ap (λ (content : ℕ → ℕ). wanted_of c.args.image.now content a) (same_content 65557 _ _ ready.looked);
-      kept1 = between.kept1;
-      kept2 = between.kept2;
-      idle = done.idle still' ready.marked;
-      found_id = subst (λ (config : Config). IsId config c.in_ok-opening.opening.found.id) opened.config is.id;
-      found_size = at_open.size ∙ sym ready.tiny.size;
-      found_status = is.kept1 ∙ opened.kept1;
-      touched = touched_from c.args.image.now 65557 _ _ c.in_ok-marks.marks ready.looked ready.marked.are_right;
-      erases = work.erases;
-      programs = work.programs;
-      transactions = omega (arith, first, second, third, sixteen);
-    }
+pub returns-in_err-work-clause-falls : goal.returns-in_err-work-clause-falls
+returns-in_err-work-clause-falls g c = λ modelled.
+    let is = ready c.args.request.now c.in_ok-opening.opening c.status.result c.in_ok-code.code _ c.args.image.now c.keep.new.image _ c.in_ok-kept.kept (g.B.Bus.state c.args.bus.now) (g.B.Bus.state c.open.new.bus) (g.B.Bus.state c.keep.new.bus)
+        c.open.ensures.leaves c.in_ok-opening.ensures.opens c.keep.ensures.leaves c.in_ok-kept.ensures.keeps c.status.ensures c.in_ok-code.ensures.same_code in
+    let few = scanned_few c.args.request.now c.in_ok-opening.opening.found.size is.part.at_most in
+    let spends = spends_ready c.args.request.now c.in_ok-opening.opening c.status.result c.in_ok-code.code c.in_ok-kept.kept (g.B.Bus.state c.args.bus.now) (g.B.Bus.state c.keep.new.bus) (g.B.Bus.state c.finish.new.self.0) is c.finish.ensures.leaves.spends in
+    falls_sized c.args.request.now c.in_ok-opening.opening (g.B.Bus.state c.args.bus.now) (g.B.Bus.state c.finish.new.self.0) modelled.honest (c.in_ok-opening.ensures.opens.genuine modelled.honest modelled.genuine) spends
 
 pub returns-in_err-work-clause-tells : goal.returns-in_err-work-clause-tells
-returns-in_err-work-clause-tells g c honest genuine =
-    let at_open = c.in_ok-opening.ensures in
-    let opened = at_open.looked honest in let is = at_open.opened honest in
-    let still = c.open.ensures.quiet.honest ∙ honest in
-    let scanned = c.in_ok-marks.ensures.looked still in
-    let ready = prepared c.args.image.now c.in_ok-opening.opening c.in_ok-marks.marks _ _ _ genuine opened is (c.if-image-opening.false ∙ at_open.size) scanned (λ size. c.in_ok-marks.ensures.marks still is.idle size) in
-    let still' = c.keep.ensures.quiet.honest ∙ still in
-    let halts = c.in_err-work.ensures.stops still' ready.marked in
-    let looked = ready.looked in
-    let below : (g.B.Bus.state c.args.bus.now).left < 17891925 = omega (arith, halts.below, looked.bound) in
-    let left = halts.none_left in let stopped = halts.stopped in
-    grind (arith, common_steps, below, left, stopped)
+returns-in_err-work-clause-tells g c = λ modelled.
+    let is = ready c.args.request.now c.in_ok-opening.opening c.status.result c.in_ok-code.code _ c.args.image.now c.keep.new.image _ c.in_ok-kept.kept (g.B.Bus.state c.args.bus.now) (g.B.Bus.state c.open.new.bus) (g.B.Bus.state c.keep.new.bus)
+        c.open.ensures.leaves c.in_ok-opening.ensures.opens c.keep.ensures.leaves c.in_ok-kept.ensures.keeps c.status.ensures c.in_ok-code.ensures.same_code in
+    let of = ready_chip c.args.request.now c.args.image.now c.keep.new.image c.in_ok-opening.opening c.status.result c.in_ok-code.code c.in_ok-kept.kept (g.B.Bus.state c.args.bus.now) (g.B.Bus.state c.open.new.bus) (g.B.Bus.state c.keep.new.bus) _ modelled c.open.ensures.leaves c.in_ok-opening.ensures.opens is
+        (c.in_ok-code.ensures.accepts (g.B.Bus.state c.args.bus.now).chip) c.in_ok-kept.ensures.keeps (λ a. let fits = c.keep.type_inv in search rules) (g.met.B.Bus.reaches c.args.bus.now modelled.honest).kept2 in
+    let tells = change_tells c.args.request.now c.args.image.now c.keep.new.image c.in_ok-opening.opening c.status.result c.in_ok-code.code c.in_ok-kept.kept (g.B.Bus.state c.args.bus.now) (g.B.Bus.state c.keep.new.bus) (g.B.Bus.state c.finish.new.self.0) (g.V.Vault.state c.args.vault.now) (g.V.Vault.state c.keep.new.vault) c.in_err-work.field-0.0
+        is of c.in_err-work.ensures.tells in
+    search rules
+
+pub returns-in_err-work-clause-undo : goal.returns-in_err-work-clause-undo
+returns-in_err-work-clause-undo g c = λ modelled sealed.
+    let is = ready c.args.request.now c.in_ok-opening.opening c.status.result c.in_ok-code.code _ c.args.image.now c.keep.new.image _ c.in_ok-kept.kept (g.B.Bus.state c.args.bus.now) (g.B.Bus.state c.open.new.bus) (g.B.Bus.state c.keep.new.bus)
+        c.open.ensures.leaves c.in_ok-opening.ensures.opens c.keep.ensures.leaves c.in_ok-kept.ensures.keeps c.status.ensures c.in_ok-code.ensures.same_code in
+    let of = ready_chip c.args.request.now c.args.image.now c.keep.new.image c.in_ok-opening.opening c.status.result c.in_ok-code.code c.in_ok-kept.kept (g.B.Bus.state c.args.bus.now) (g.B.Bus.state c.open.new.bus) (g.B.Bus.state c.keep.new.bus) _ modelled c.open.ensures.leaves c.in_ok-opening.ensures.opens is
+        (c.in_ok-code.ensures.accepts (g.B.Bus.state c.args.bus.now).chip) c.in_ok-kept.ensures.keeps (λ a. let fits = c.keep.type_inv in search rules) (g.met.B.Bus.reaches c.args.bus.now modelled.honest).kept2 in
+    can_be_undone c.args.request.now c.args.image.now c.keep.new.image c.in_ok-opening.opening c.status.result c.in_ok-code.code c.in_ok-kept.kept (g.B.Bus.state c.args.bus.now) (g.B.Bus.state c.open.new.bus) (g.B.Bus.state c.keep.new.bus) (g.B.Bus.state c.finish.new.self.0) (g.V.Vault.state c.keep.new.vault) modelled c.open.ensures.leaves
+    c.in_ok-opening.ensures.opens c.in_ok-kept.ensures.keeps is of c.finish.ensures.leaves
+
+pub returns-clause-spends : goal.returns-clause-spends
+returns-clause-spends g c =
+    let is = ready c.args.request.now c.in_ok-opening.opening c.status.result c.in_ok-code.code _ c.args.image.now c.keep.new.image _ c.in_ok-kept.kept (g.B.Bus.state c.args.bus.now) (g.B.Bus.state c.open.new.bus) (g.B.Bus.state c.keep.new.bus)
+        c.open.ensures.leaves c.in_ok-opening.ensures.opens c.keep.ensures.leaves c.in_ok-kept.ensures.keeps c.status.ensures c.in_ok-code.ensures.same_code in
+    let few = scanned_few c.args.request.now c.in_ok-opening.opening.found.size is.part.at_most in
+    let spends = spends_ready c.args.request.now c.in_ok-opening.opening c.status.result c.in_ok-code.code c.in_ok-kept.kept (g.B.Bus.state c.args.bus.now) (g.B.Bus.state c.keep.new.bus) (g.B.Bus.state c.finish.new.self.0) is c.finish.ensures.leaves.spends in
+    spends_more (most_of (scanned_sectors c.args.request.now c.in_ok-opening.opening.found.size)) 4563750922 (g.B.Bus.state c.args.bus.now) (g.B.Bus.state c.finish.new.self.0) (omega arith) spends
+
+pub returns-clause-falls : goal.returns-clause-falls
+returns-clause-falls g c = λ modelled.
+    let is = ready c.args.request.now c.in_ok-opening.opening c.status.result c.in_ok-code.code _ c.args.image.now c.keep.new.image _ c.in_ok-kept.kept (g.B.Bus.state c.args.bus.now) (g.B.Bus.state c.open.new.bus) (g.B.Bus.state c.keep.new.bus)
+        c.open.ensures.leaves c.in_ok-opening.ensures.opens c.keep.ensures.leaves c.in_ok-kept.ensures.keeps c.status.ensures c.in_ok-code.ensures.same_code in
+    let few = scanned_few c.args.request.now c.in_ok-opening.opening.found.size is.part.at_most in
+    let spends = spends_ready c.args.request.now c.in_ok-opening.opening c.status.result c.in_ok-code.code c.in_ok-kept.kept (g.B.Bus.state c.args.bus.now) (g.B.Bus.state c.keep.new.bus) (g.B.Bus.state c.finish.new.self.0) is c.finish.ensures.leaves.spends in
+    falls_sized c.args.request.now c.in_ok-opening.opening (g.B.Bus.state c.args.bus.now) (g.B.Bus.state c.finish.new.self.0) modelled.honest (c.in_ok-opening.ensures.opens.genuine modelled.honest modelled.genuine) spends
+
+pub returns-clause-done : goal.returns-clause-done
+returns-clause-done g c = λ modelled.
+    let is = ready c.args.request.now c.in_ok-opening.opening c.status.result c.in_ok-code.code _ c.args.image.now c.keep.new.image _ c.in_ok-kept.kept (g.B.Bus.state c.args.bus.now) (g.B.Bus.state c.open.new.bus) (g.B.Bus.state c.keep.new.bus)
+        c.open.ensures.leaves c.in_ok-opening.ensures.opens c.keep.ensures.leaves c.in_ok-kept.ensures.keeps c.status.ensures c.in_ok-code.ensures.same_code in
+    let of = ready_chip c.args.request.now c.args.image.now c.keep.new.image c.in_ok-opening.opening c.status.result c.in_ok-code.code c.in_ok-kept.kept (g.B.Bus.state c.args.bus.now) (g.B.Bus.state c.open.new.bus) (g.B.Bus.state c.keep.new.bus) _ modelled c.open.ensures.leaves c.in_ok-opening.ensures.opens is
+        (c.in_ok-code.ensures.accepts (g.B.Bus.state c.args.bus.now).chip) c.in_ok-kept.ensures.keeps (λ a. let fits = c.keep.type_inv in search rules) (g.met.B.Bus.reaches c.args.bus.now modelled.honest).kept2 in
+    done c.args.request.now c.args.image.now c.keep.new.image c.in_ok-opening.opening c.status.result c.in_ok-code.code c.in_ok-kept.kept (g.B.Bus.state c.args.bus.now) (g.B.Bus.state c.keep.new.bus) (g.B.Bus.state c.finish.new.self.0) c.args.request.now.verify c.in_ok-work.work c.from.result is of c.in_ok-work.ensures.does
+
+pub returns-clause-undo : goal.returns-clause-undo
+returns-clause-undo g c = λ modelled sealed.
+    let is = ready c.args.request.now c.in_ok-opening.opening c.status.result c.in_ok-code.code _ c.args.image.now c.keep.new.image _ c.in_ok-kept.kept (g.B.Bus.state c.args.bus.now) (g.B.Bus.state c.open.new.bus) (g.B.Bus.state c.keep.new.bus)
+        c.open.ensures.leaves c.in_ok-opening.ensures.opens c.keep.ensures.leaves c.in_ok-kept.ensures.keeps c.status.ensures c.in_ok-code.ensures.same_code in
+    let of = ready_chip c.args.request.now c.args.image.now c.keep.new.image c.in_ok-opening.opening c.status.result c.in_ok-code.code c.in_ok-kept.kept (g.B.Bus.state c.args.bus.now) (g.B.Bus.state c.open.new.bus) (g.B.Bus.state c.keep.new.bus) _ modelled c.open.ensures.leaves c.in_ok-opening.ensures.opens is
+        (c.in_ok-code.ensures.accepts (g.B.Bus.state c.args.bus.now).chip) c.in_ok-kept.ensures.keeps (λ a. let fits = c.keep.type_inv in search rules) (g.met.B.Bus.reaches c.args.bus.now modelled.honest).kept2 in
+    can_be_undone c.args.request.now c.args.image.now c.keep.new.image c.in_ok-opening.opening c.status.result c.in_ok-code.code c.in_ok-kept.kept (g.B.Bus.state c.args.bus.now) (g.B.Bus.state c.open.new.bus) (g.B.Bus.state c.keep.new.bus) (g.B.Bus.state c.finish.new.self.0) (g.V.Vault.state c.keep.new.vault) modelled c.open.ensures.leaves
+    c.in_ok-opening.ensures.opens c.in_ok-kept.ensures.keeps is of c.finish.ensures.leaves
+
+

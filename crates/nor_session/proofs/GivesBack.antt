@@ -1,0 +1,89 @@
+-- A journal that a session kept can give its chip back.
+use Rattle.std.proofs.Common.{◌≡◌, ◌<◌, ◌*◌, ◌/◌, ◌∙◌, ℕ, Bool, true, false, List, slice_index, refl, ap, sym, subst, arith, inl, inr}
+use Rattle.std.specs.Prelude.{◌&&◌, not, nat_lt, IfSome, Option, Result, IsOk}
+use Rattle.std.proofs.lemmas.Bool.{cases_Bool, and_parts, and_from, and_left, ltb-true}
+use Rattle.nor_chip.specs.Chip.{Chip, IsChip, is_locked}
+use Rattle.nor_chip.specs.Guard.{is_guarded}
+use Rattle.nor_chip.specs.Bus.{BusState}
+use Rattle.nor_chip.proofs.Guarded.{is_guarded-sector}
+use Rattle.nor_driver.specs.Reads.{unique_of}
+use Rattle.nor_journal.specs.Text.{Content, SameHead}
+use Rattle.nor_journal.specs.Vault.{VaultState}
+use Rattle.nor_journal.specs.Saved.{Saves, is_saved}
+use Rattle.nor_journal.proofs.Saves.{Saves-set, Saves-same}
+use Rattle.nor_probe.specs.declared.table.Part.{Part}
+use Rattle.nor_probe.specs.declared.probes.ProbeFault.{ProbeFault}
+use Rattle.nor_probe.specs.Known.{IsGenuine}
+use Rattle.nor_apply.specs.Content.{is_touched}
+use Rattle.nor_apply.specs.Within.{places_of}
+use Rattle.nor_apply.proofs.Changing.{within_wider}
+use Rattle.nor_save.specs.declared.report.Request.{Request}
+use Rattle.nor_save.specs.Request.{wanted, is_touched_by}
+use Rattle.nor_save.specs.Saving.{head_of}
+use Rattle.nor_session.specs.Restore.{HasBitsTold, SavesChip, open_places, CanGiveBack}
+use Rattle.nor_session.specs.Session.{CanBeUndone}
+use Rattle.nor_session.specs.Rehearsing.{LeadsBack}
+
+-- the status bytes of the head tell the kept bits
+bits_told : (first : Chip) (journal : Content) → first.kept2 < 128 → SameHead (head_of first) journal → HasBitsTold journal first
+bits_told first journal small same = record {
+  one =
+      let one : slice_index journal.status 0 ≡ 4 * first.kept1 = ap (λ (bytes : List ℕ). slice_index bytes 0) (sym same.status) in
+      omega arith;
+  two =
+      let two : slice_index journal.status 1 ≡ first.kept2 = ap (λ (bytes : List ℕ). slice_index bytes 1) (sym same.status) in
+      omega arith;
+}
+
+pub saves_chip : (first : Chip) (saved : ℕ → Bool) (journal : Content) → first.kept2 < 128 → SameHead (head_of first) journal → Saves first.bytes saved journal → SavesChip journal first
+saves_chip first saved journal small same saves = record {
+  kind = record { id = sym same.id; size = sym same.size };
+  unit = subst (λ (told : Option (List ℕ)). IfSome told (λ unique. unique ≡ unique_of first.config)) same.unique refl;
+  bits = bits_told first journal small same;
+  sectors = Saves-same first.bytes saved (is_saved journal) journal (λ s. sym (Saves-set first.bytes saved journal s saves)) saves;
+}
+
+-- a touched sector lies inside the chip
+touched_inside : (request : Request) (image : List ℕ) (chip : Chip) (s : ℕ) → is_touched_by request image chip s ≡ true → s < chip.config.size / 4096
+touched_inside request image chip s touched =
+    ltb-true s (chip.config.size / 4096)
+    (and_parts (nat_lt s (chip.config.size / 4096)) (is_touched chip.bytes (wanted request image chip.config.size chip.bytes) s) touched).0
+
+-- where the status is locked none of the saved places is guarded
+saved_free : (saved : ℕ → Bool) (first : Chip) (text : List ℕ) (state : BusState) (a : ℕ) → LeadsBack saved first text state → saved (a / 4096) ≡ true → (is_locked first && is_guarded first a) ≡ false
+saved_free saved first text state a leads is =
+    elim (cases_Bool (is_locked first)) [
+      | inl locked ↦
+          let inside = leads.inside (a / 4096) is in
+          let blocks = first.config.in_blocks in
+          rw locked (is_guarded-sector first a (omega arith) (leads.free locked (a / 4096) is))
+      | inr writable ↦ and_left (is_locked first) (is_guarded first a) writable
+    ]
+
+-- The journal that was read gives the first chip back.
+pub can_give_back : (saved : ℕ → Bool) (first : Chip) (text : List ℕ) (state : BusState) (journal : Content) → LeadsBack saved first text state
+    → SameHead (head_of first) journal × Saves first.bytes saved journal → CanGiveBack journal first state
+can_give_back saved first text state journal leads read = record {
+  known = leads.known;
+  saves = saves_chip first saved journal leads.is.kept2 read.0 read.1;
+  within = within_wider (places_of saved) (open_places journal first) first state
+      (λ a is. and_from (is_saved journal (a / 4096)) (not (is_locked first && is_guarded first a))
+      (sym (Saves-set first.bytes saved journal (a / 4096) read.1) ∙ is)
+      (ap not (saved_free saved first text state a leads is)))
+      leads.within;
+}
+
+-- What a session leaves where its vault is sealed leads back.
+pub leads_back : (request : Request) (image : List ℕ) (old new : BusState) (vault : VaultState) → IsChip old.chip → IsGenuine old.chip.config → vault.telling ≡ true
+    → CanBeUndone request image old new vault → LeadsBack (is_touched_by request image old.chip) old.chip vault.bytes new
+leads_back request image old new vault is genuine telling undone = record {
+  is = is;
+  known = record {
+    genuine = genuine;
+    shown = subst (λ (shown : Result Part ProbeFault). IsOk shown) (sym undone.accepted.named.shown) refl;
+  };
+  journal = undone.journal telling;
+  inside = touched_inside request image old.chip;
+  free = undone.free;
+  within = undone.changes.within;
+}

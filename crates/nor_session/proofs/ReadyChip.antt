@@ -1,0 +1,99 @@
+-- What holds of a chip that is what it shows itself to be, once its touched sectors are saved.
+use Rattle.std.proofs.Common.{◌≡◌, ◌<◌, ◌+◌, ◌*◌, ◌/◌, ◌∙◌, ℕ, Bool, true, false, List, length, ap, refl, arith}
+use Rattle.std.specs.Prelude.{if◌then◌else◌, ◌==◌}
+use Rattle.nor_chip.specs.Chip.{Chip, status1_of}
+use Rattle.nor_chip.specs.Bus.{BusState}
+use Rattle.nor_driver.specs.Reads.{unique_of}
+use Rattle.nor_driver.specs.Looks.{Looks, RanOut}
+use Rattle.nor_driver.specs.Operations.{Falls}
+use Rattle.nor_journal.specs.Vault.{VaultState, Rose}
+use Rattle.nor_probe.specs.Found.{IsConfigOf, part_in}
+use Rattle.nor_apply.specs.Spending.{Spends}
+use Rattle.nor_save.specs.declared.opening.Opening.{Opening}
+use Rattle.nor_save.specs.declared.report.Request.{Request}
+use Rattle.nor_save.specs.declared.refusal.Refusal.{Refusal}
+use Rattle.nor_save.specs.declared.refusal.Refusal.TheVariants.{Vault, Stopped, StatusLocked, Protected}
+use Rattle.nor_save.specs.Request.{scanned_sectors}
+use Rattle.nor_save.specs.Opening.{Opens}
+use Rattle.nor_save.specs.Saving.{IsOpening, Shows, OpeningAccepts}
+use Rattle.nor_save.specs.Keeping.{KeepTells}
+use Rattle.nor_session.specs.Modelled.{IsModelled, most_of}
+use Rattle.nor_session.specs.Verdict.{IsNamed}
+use Rattle.nor_session.specs.Session.{SessionTells}
+use Rattle.nor_session.proofs.Ready.{scanned_most}
+
+-- ---- the opening tells the starting chip
+
+two_bits : (latch idle : Bool) → (if latch then 2 else 0) + (if idle then 0 else 1) < 4
+two_bits true true = omega arith
+two_bits true false = omega arith
+two_bits false true = omega arith
+two_bits false false = omega arith
+
+pub kept1_of : (chip : Chip) (status : ℕ) → status ≡ status1_of chip → status / 4 ≡ chip.kept1
+kept1_of chip status is =
+    let low : ℕ = (if chip.latch then 2 else 0) + (if chip.busy == 0 then 0 else 1) in
+    let small : low < 4 = two_bits chip.latch (chip.busy == 0) in
+    let whole : status ≡ 4 * chip.kept1 + low = is ∙ (let e : 4 * chip.kept1 + (if chip.latch then 2 else 0) + (if chip.busy == 0 then 0 else 1) ≡ 4 * chip.kept1 + low = omega arith in e) in
+    omega (arith, small, whole)
+
+pub is_opening : (request : Request) (opening : Opening) (old mid : BusState) → IsModelled old → Opens request.named old mid opening → IsOpening old.chip opening
+is_opening request opening old mid is opens =
+    let same = (opens.rested is.honest).unchanged.same in
+    record {
+      config = opens.genuine is.honest is.genuine;
+      one = kept1_of mid.chip opening.found.status1 (opens.status1 is.honest) ∙ same.kept1;
+      two = opens.status2 is.honest ∙ same.kept2;
+      unique = opens.unique is.honest ∙ ap unique_of same.config;
+    }
+
+pub shows : (request : Request) (opening : Opening) (old mid : BusState) → IsModelled old → Looks 65542 old mid → Opens request.named old mid opening → Shows old.chip mid
+shows request opening old mid is looks opens = record {
+  honest = looks.honest ∙ is.honest;
+  idle = opens.idle is.honest;
+  same = (opens.rested is.honest).unchanged.same;
+}
+
+pub named : (request : Request) (opening : Opening) (old mid : BusState) → IsModelled old → Opens request.named old mid opening → IsNamed request.named old.chip
+named request opening old mid is opens = record { part = part_in opening.found; shown = opens.shown is.honest; wanted = opens.wanted }
+
+-- ---- how much was spent, by the chip's size
+
+pub falls_sized : (request : Request) (opening : Opening) (old new : BusState) → old.honest ≡ true → IsConfigOf old.chip.config opening.found
+    → Spends (most_of (scanned_sectors request opening.found.size)) old new → Falls (most_of (old.chip.config.size / 4096)) old new
+falls_sized request opening old new honest config spends =
+    let falls = spends.falls honest in let bound = falls.bound in
+    let most = scanned_most request opening.found.size in let size = config.size in
+    record { fell = falls.fell; bound = omega arith }
+
+pub ran_out_sized : (request : Request) (opening : Opening) (old new : BusState) → IsConfigOf old.chip.config opening.found
+    → RanOut (most_of (scanned_sectors request opening.found.size)) old new → RanOut (most_of (old.chip.config.size / 4096)) old new
+ran_out_sized request opening old new config ran =
+    let below = ran.below in
+    let most = scanned_most request opening.found.size in let size = config.size in
+    record { none_left = ran.none_left; below = omega arith }
+
+-- ---- what a refusal of the scan tells
+
+pub keep_tells : (request : Request) (image : List ℕ) (opening : Opening) (code : ℕ) (old mid new : BusState) (vault vault' : VaultState) (refusal : Refusal)
+    → IsModelled old → Looks 65542 old mid → Opens request.named old mid opening → OpeningAccepts request (length image) old.chip code
+    → (refusal ≡ Vault → Rose vault vault') → KeepTells request opening code image mid new refusal → SessionTells request image old new vault vault' refusal
+keep_tells request image opening code old mid new vault vault' Vault is looks opens accepts rose tells = rose refl
+keep_tells request image opening code old mid new vault vault' Stopped is looks opens accepts rose tells =
+    let ran = tells (looks.honest ∙ is.honest) in
+    let below = ran.below in let count = opens.count is.honest in let few = opens.most in
+    let most = scanned_most request opening.found.size in let size = (opens.genuine is.honest is.genuine).size in
+    record { none_left = ran.none_left; below = omega arith }
+keep_tells request image opening code old mid new vault vault' StatusLocked is looks opens accepts rose tells = record {
+  named = named request opening old mid is opens;
+  code = code;
+  opening = accepts;
+  judges = tells old.chip (is_opening request opening old mid is opens) (shows request opening old mid is looks opens);
+}
+keep_tells request image opening code old mid new vault vault' (Protected address) is looks opens accepts rose tells = record {
+  named = named request opening old mid is opens;
+  code = code;
+  opening = accepts;
+  judges = tells old.chip (is_opening request opening old mid is opens) (shows request opening old mid is looks opens);
+}
+keep_tells request image opening code old mid new vault vault' _ is looks opens accepts rose tells = absurd tells

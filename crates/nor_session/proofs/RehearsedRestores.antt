@@ -1,0 +1,215 @@
+-- What one restore under a stop comes to, restores in turn, and restores from a text.
+use Rattle.std.proofs.Common.{◌≡◌, ◌<◌, ◌≤◌, ◌+◌, ◌-◌, ◌∙◌, ℕ, Bool, List, length, slice_index, true, false, refl, ap, sym, subst, arith, inl, inr}
+use Rattle.std.proofs.lemmas.Bool.{true≢false, cases_eq}
+use Rattle.nor_chip.specs.Chip.{Chip, IsSame}
+use Rattle.nor_chip.specs.Bus.{BusState, Allows}
+use Rattle.nor_journal.specs.Text.{Content, SameHead}
+use Rattle.nor_journal.specs.declared.fault.JournalFault.{JournalFault}
+use Rattle.nor_journal.specs.Saved.{Saves, JournalSaves, is_saved}
+use Rattle.nor_probe.specs.Known.{IsGenuine}
+use Rattle.nor_apply.specs.Spending.{Spends}
+use Rattle.nor_save.specs.declared.report.Report.{Report}
+use Rattle.nor_save.specs.declared.refusal.Refusal.{Refusal}
+use Rattle.nor_save.specs.declared.refusal.Refusal.TheVariants.{Vault, Stopped, BadJournal}
+use Rattle.nor_save.specs.Saving.{head_of}
+use Rattle.nor_session.specs.Modelled.{IsModelled, most_of}
+use Rattle.nor_session.specs.Restore.{CanGiveBack, LeavesRestore, RestoreTells, IsRestoreRefusal}
+use Rattle.nor_session.specs.Session.{IsWithinBound}
+use Rattle.nor_session.specs.Rehearsal.{AreRestores}
+use Rattle.nor_session.specs.Rehearsing.{LeavesRestores, ShowsRestore, ShowsRestores, RefusesRestore, Undoes, RefusesUndo}
+use Rattle.nor_session.proofs.GivesBack.{can_give_back}
+use Rattle.nor_session.proofs.SavedCounts.{saved_count, saved_few}
+
+-- ---- one restore
+
+stopped_isnt_vault : Stopped ≡ Vault → ⊥
+stopped_isnt_vault same = cc
+
+-- another bus with the same chip
+pub modelled_at : (old new : BusState) → new.honest ≡ old.honest → new.chip.config ≡ old.chip.config → IsModelled old → IsModelled new
+modelled_at old new honest config modelled = record {
+  honest = honest ∙ modelled.honest;
+  genuine = subst IsGenuine (sym config) modelled.genuine;
+}
+
+-- an allowance leaves what can be given back
+pub allow_leaves : (n : ℕ) (journal : Content) (old new : BusState) → Allows n old new → LeavesRestores journal old new
+allow_leaves n journal old new allows = record {
+  nature = record { honest = allows.honest; steady = allows.steady };
+  modelled = modelled_at old new allows.honest (ap (λ (chip : Chip). chip.config) allows.chip);
+  can = λ modelled first can. record {
+    known = can.known;
+    saves = can.saves;
+    within = (let within = can.within in record {
+      config = rw allows.chip within.config;
+      bytes = rw allows.chip within.bytes;
+      fixed = rw allows.chip within.fixed;
+      kept = rw allows.chip within.kept;
+      runs = rw (allows.chip, allows.steady) within.runs;
+    });
+  };
+}
+
+pub restores_then : (journal : Content) (old mid new : BusState) → LeavesRestores journal old mid → LeavesRestores journal mid new → LeavesRestores journal old new
+restores_then journal old mid new before after = record {
+  nature = record { honest = after.nature.honest ∙ before.nature.honest; steady = after.nature.steady ∙ before.nature.steady };
+  modelled = λ modelled. after.modelled (before.modelled modelled);
+  can = λ modelled first can. after.can (before.modelled modelled) first (before.can modelled first can);
+}
+
+-- what one restore leaves that is allowed so many transactions
+pub under_leaves : (n most : ℕ) (journal : Content) (old mid new : BusState) → Allows n old mid → Spends most mid new → (IsModelled mid → LeavesRestore journal mid new)
+    → (IsModelled mid → (first : Chip) → CanGiveBack journal first mid → CanGiveBack journal first new) → LeavesRestores journal old new
+under_leaves n most journal old mid new allows spends leaves within =
+    restores_then journal old mid new (allow_leaves n journal old mid allows) record {
+      nature = record { honest = spends.honest; steady = spends.steady };
+      modelled = λ modelled. modelled_at mid new spends.honest (leaves modelled).config modelled;
+      can = within;
+    }
+
+-- it ended
+pub under_ends : (n : ℕ) (journal : Content) (old mid new : BusState) (report : Report) → Allows n old mid → IsWithinBound (length journal.saved) 2 report
+    → (mid.honest ≡ true → mid.left ≡ new.left + report.transactions) → (IsModelled mid → (first : Chip) → CanGiveBack journal first mid → IsSame first new.chip)
+    → ShowsRestore journal n old new true
+under_ends n journal old mid new report allows bounded counted back =
+    let leaves = allow_leaves n journal old mid allows in
+    record {
+      back = λ modelled ended first can. back (leaves.modelled modelled) first (leaves.can modelled first can);
+      enough = λ modelled ended.
+          let left = allows.left modelled.honest in
+          let sent = counted (leaves.modelled modelled).honest in
+          let least = bounded.least in
+          omega arith;
+      below = λ modelled never. absurd (true≢false never);
+    }
+
+-- it was stopped
+pub under_stops : (n : ℕ) (journal : Content) (old mid new : BusState) (refusal : Refusal) → Allows n old mid → refusal ≡ Stopped
+    → (IsModelled mid → RestoreTells journal mid new refusal) → ShowsRestore journal n old new false
+under_stops n journal old mid new refusal allows stopped tells =
+    let leaves = allow_leaves n journal old mid allows in
+    record {
+      back = λ modelled ended first can. absurd (true≢false (sym ended));
+      enough = λ modelled ended. absurd (true≢false (sym ended));
+      below = λ modelled fails.
+          let left = allows.left modelled.honest in
+          let ran = subst (RestoreTells journal mid new) stopped (tells (leaves.modelled modelled)) in
+          let below = ran.below in
+          omega arith;
+    }
+
+-- it was refused
+pub under_refuses : (n : ℕ) (journal : Content) (old mid : BusState) (refusal : Refusal) → Allows n old mid → IsRestoreRefusal refusal → (refusal ≡ Stopped → ⊥)
+    → (IsModelled mid → (first : Chip) → CanGiveBack journal first mid → refusal ≡ Stopped) → RefusesRestore journal old refusal
+under_refuses n journal old mid refusal allows answers never stops =
+    let leaves = allow_leaves n journal old mid allows in
+    record {
+      blameless = λ vault. subst IsRestoreRefusal vault answers;
+      never = λ modelled first can. never (stops (leaves.modelled modelled) first (leaves.can modelled first can));
+    }
+
+-- ---- restores in turn
+
+-- So many restores were stopped.
+pub record AreStopped (journal : Content) (stops : List ℕ) (old now : BusState) (n : ℕ) : Type 0 where
+  pub leaves : LeavesRestores journal old now
+  pub stopped : IsModelled old → (i : ℕ) → i < n → slice_index stops i < most_of (length journal.saved)
+
+pub none_stopped : (journal : Content) (stops : List ℕ) (state : BusState) → AreStopped journal stops state state 0
+none_stopped journal stops state = record {
+  leaves = record {
+    nature = record { honest = refl; steady = refl };
+    modelled = λ modelled. modelled;
+    can = λ modelled first can. can;
+  };
+  stopped = λ modelled i below. absurd (omega arith);
+}
+
+-- one more
+pub stopped_more : (journal : Content) (stops : List ℕ) (old now new : BusState) (n : ℕ) → AreStopped journal stops old now n
+    → LeavesRestores journal now new → ShowsRestore journal (slice_index stops n) now new false → AreStopped journal stops old new (n + 1)
+stopped_more journal stops old now new n before leaves shows = record {
+  leaves = restores_then journal old now new before.leaves leaves;
+  stopped = λ modelled i below. elim (cases_eq i n) [
+    | inl here ↦ subst (λ (k : ℕ). slice_index stops k < most_of (length journal.saved)) (sym here) (shows.below (before.leaves.modelled modelled) refl)
+    | inr other ↦ before.stopped modelled i (omega arith)
+  ];
+}
+
+-- the next one ended
+pub ended_at : (journal : Content) (stops : List ℕ) (old now new : BusState) (n restores : ℕ) → AreStopped journal stops old now n → restores ≡ n → n < length stops
+    → ShowsRestore journal (slice_index stops n) now new true → ShowsRestores journal stops old new (restores + 1)
+ended_at journal stops old now new n restores before is inside shows = record {
+  some = omega arith;
+  most = omega arith;
+  are = λ modelled. record {
+    stopped = λ i below. before.stopped modelled i (omega arith);
+    ended = λ under.
+        let last : n ≡ restores + 1 - 1 = omega arith in
+        subst (λ (k : ℕ). 4 + length journal.saved ≤ slice_index stops k) last (shows.enough (before.leaves.modelled modelled) refl);
+  };
+  back = λ modelled first can. shows.back (before.leaves.modelled modelled) refl first (before.leaves.can modelled first can);
+}
+
+-- the last one, under no stop, ended
+pub ended_last : (journal : Content) (stops : List ℕ) (old now new : BusState) (n restores most : ℕ) → AreStopped journal stops old now n → restores ≡ n → n ≡ length stops
+    → ShowsRestore journal most now new true → ShowsRestores journal stops old new (restores + 1)
+ended_last journal stops old now new n restores most before is past shows = record {
+  some = omega arith;
+  most = omega arith;
+  are = λ modelled. record {
+    stopped = λ i below. before.stopped modelled i (omega arith);
+    ended = λ under. absurd (omega arith);
+  };
+  back = λ modelled first can. shows.back (before.leaves.modelled modelled) refl first (before.leaves.can modelled first can);
+}
+
+-- what is never refused later on isn't refused
+pub refuses_before : (journal : Content) (old mid : BusState) (refusal : Refusal) → LeavesRestores journal old mid → RefusesRestore journal mid refusal → RefusesRestore journal old refusal
+refuses_before journal old mid refusal leaves refuses = record {
+  blameless = refuses.blameless;
+  never = λ modelled first can. refuses.never (leaves.modelled modelled) first (leaves.can modelled first can);
+}
+
+-- under no stop no restore is stopped
+pub last_ends : (journal : Content) (now new : BusState) (most : ℕ) → most ≡ most_of 4096 → ShowsRestore journal most now new false → RefusesRestore journal now Stopped
+last_ends journal now new most is shows = record {
+  blameless = λ vault. absurd (stopped_isnt_vault vault);
+  never = λ modelled first can.
+      let few = saved_few first.bytes (is_saved journal) journal can.saves.sectors in
+      let below = shows.below modelled refl in
+      omega arith;
+}
+
+-- ---- restores from a text
+
+-- what was read of a text that leads back can give back
+pub undoes : (text : List ℕ) (stops : List ℕ) (old new : BusState) (journal : Content) (restores : ℕ)
+    → ((head : Content) (chip : ℕ → ℕ) (saved : ℕ → Bool) → JournalSaves head chip saved text → SameHead head journal × Saves chip saved journal)
+    → ShowsRestores journal stops old new restores → Undoes text stops old new restores
+undoes text stops old new journal restores reads shows = record {
+  some = shows.some;
+  most = shows.most;
+  same = λ modelled saved first leads.
+      shows.back modelled first (can_give_back saved first text old journal leads (reads (head_of first) first.bytes saved leads.journal));
+  are = λ modelled saved first leads.
+      subst (λ (n : ℕ). AreRestores n stops restores)
+      (saved_count first.bytes saved journal (reads (head_of first) first.bytes saved leads.journal).1) (shows.are modelled);
+}
+
+pub undo_refuses : (text : List ℕ) (old : BusState) (journal : Content) (refusal : Refusal)
+    → ((head : Content) (chip : ℕ → ℕ) (saved : ℕ → Bool) → JournalSaves head chip saved text → SameHead head journal × Saves chip saved journal)
+    → RefusesRestore journal old refusal → RefusesUndo text old refusal
+undo_refuses text old journal refusal reads refuses = record {
+  blameless = refuses.blameless;
+  never = λ modelled saved first leads.
+      refuses.never modelled first (can_give_back saved first text old journal leads (reads (head_of first) first.bytes saved leads.journal));
+}
+
+-- a text that leads back is a journal
+pub unread : (text : List ℕ) (old : BusState) (fault : JournalFault) → ((head : Content) (chip : ℕ → ℕ) (saved : ℕ → Bool) → JournalSaves head chip saved text → ⊥)
+    → RefusesUndo text old (BadJournal fault)
+unread text old fault never = record {
+  blameless = λ vault. cc;
+  never = λ modelled saved first leads. never (head_of first) first.bytes saved leads.journal;
+}

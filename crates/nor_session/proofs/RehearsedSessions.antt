@@ -1,0 +1,228 @@
+-- What a session under a stop comes to, and the restores after it.
+use Rattle.std.proofs.Common.{◌≡◌, ◌<◌, ◌≤◌, ◌+◌, ◌∙◌, ℕ, Bool, List, [], ◌∷◌, length, drop, true, false, refl, ap, sym, subst, arith, inl, inr}
+use Rattle.std.proofs.lemmas.Bool.{true≢false}
+use Rattle.nor_chip.specs.Chip.{Chip, IsChip, IsSame}
+use Rattle.nor_chip.specs.Bus.{BusState, Allows}
+use Rattle.nor_driver.specs.Looks.{Looks, IsCalm}
+use Rattle.nor_journal.specs.Vault.{VaultState}
+use Rattle.nor_apply.specs.Spending.{Spends}
+use Rattle.nor_apply.specs.Counts.{sector_count}
+use Rattle.nor_save.specs.declared.report.Request.{Request}
+use Rattle.nor_save.specs.declared.report.Report.{Report}
+use Rattle.nor_save.specs.declared.refusal.Refusal.{Refusal}
+use Rattle.nor_save.specs.declared.refusal.Refusal.TheVariants.{NoChip, UnknownChip, OtherName, ImageSize, RegionOutside, NoProtection, UndefinedProtection, RangeNotOffered, StatusLocked, Protected, Vault, Stopped, Timeout, Mismatch, BadJournal, OtherChip, StatusDiffers, Memory, Output, OtherUnit}
+use Rattle.nor_save.specs.Refusal.{number_of}
+use Rattle.nor_save.specs.Request.{scanned_sectors, is_touched_by}
+use Rattle.nor_session.specs.Modelled.{IsModelled, most_of}
+use Rattle.nor_session.specs.Verdict.{IsAccepted}
+use Rattle.nor_session.specs.Session.{SessionTells, StopsEarly, CanBeUndone, HonestTells, Answers, IsOwnRefusal, Ends, IsDone}
+use Rattle.nor_session.specs.Rehearsal.{KeepsNature, RehearsalTells, first_allowance, least_needed, AreRestores}
+use Rattle.nor_session.specs.Rehearsing.{LeadsBack, LeavesSession, ShowsSession, RefusesSession, Undoes, RefusesUndo}
+use Rattle.nor_session.proofs.GivesBack.{leads_back}
+use Rattle.nor_session.proofs.RehearsedRestores.{modelled_at}
+
+-- ---- the session
+
+same_at : (first first' chip : Chip) → first' ≡ first → IsSame first' chip → IsSame first chip
+same_at first first' chip is same = subst (λ (c : Chip). IsSame c chip) is same
+
+calm_at : (n : ℕ) (old mid : BusState) → Allows n old mid → IsCalm old → IsCalm mid
+calm_at n old mid allows (inl steady) = inl (allows.steady ∙ steady)
+calm_at n old mid allows (inr idle) = inr (ap (λ (chip : Chip). chip.busy) allows.chip ∙ idle)
+
+allow_modelled : (n : ℕ) (old mid : BusState) → Allows n old mid → IsModelled old → IsModelled mid
+allow_modelled n old mid allows = modelled_at old mid allows.honest (ap (λ (chip : Chip). chip.config) allows.chip)
+
+-- what a session leaves that is allowed so many transactions
+pub session_leaves : (n most few : ℕ) (request : Request) (image : List ℕ) (old mid new : BusState) (vault : VaultState) → Allows n old mid → vault.telling ≡ true
+    → (mid.honest ≡ true → IsChip mid.chip) → Spends most mid new → (vault.sealed ≡ false → Looks few mid new)
+    → (IsModelled mid → vault.sealed ≡ true → CanBeUndone request image mid new vault) → LeavesSession request image old new vault
+session_leaves n most few request image old mid new vault allows telling reaches spends looks undo = record {
+  nature = record { honest = spends.honest ∙ allows.honest; steady = spends.steady ∙ allows.steady };
+  same = λ modelled calm unsealed.
+      same_at old.chip mid.chip new.chip allows.chip (((looks unsealed).looked (allows.honest ∙ modelled.honest)).stays.calm (calm_at n old mid allows calm));
+  back = λ modelled sealed.
+      let mid_modelled = allow_modelled n old mid allows modelled in
+      subst (λ (chip : Chip). LeadsBack (is_touched_by request image chip) chip vault.bytes new) allows.chip
+      (leads_back request image mid new vault (reaches mid_modelled.honest) mid_modelled.genuine telling (undo mid_modelled sealed));
+}
+
+-- it took what it counts
+took : (n : ℕ) (request : Request) (image : List ℕ) (mid new : BusState) (vault : VaultState) (report : Report) → mid.left ≡ n → Ends request vault report
+    → mid.left ≡ new.left + report.transactions → IsDone request image mid new report → least_needed request image mid.chip ≤ n
+took n request image mid new vault report left ends sent done =
+    let least = ends.bounded.least in
+    let scanned : scanned_sectors request report.found.size ≡ scanned_sectors request mid.chip.config.size = ap (scanned_sectors request) done.found.size in
+    let erases = done.erases in
+    let programs = done.programs in
+    omega arith
+
+-- with a sealed vault it went past the scan
+seals_enough : (n : ℕ) (request : Request) (image : List ℕ) (mid new : BusState) (vault : VaultState) → mid.left ≡ n → CanBeUndone request image mid new vault
+    → 4 + scanned_sectors request mid.chip.config.size ≤ n
+seals_enough n request image mid new vault left undone = let spent = undone.spent in omega arith
+
+-- it ended
+pub session_ends : (n : ℕ) (request : Request) (image : List ℕ) (old mid new : BusState) (vault : VaultState) (report : Report) → Allows n old mid → Ends request vault report
+    → (mid.honest ≡ true → mid.left ≡ new.left + report.transactions) → (IsModelled mid → IsDone request image mid new report)
+    → (IsModelled mid → vault.sealed ≡ true → CanBeUndone request image mid new vault) → ShowsSession request image n old vault true
+session_ends n request image old mid new vault report allows ends sent done undo = record {
+  seals = λ ended. ends.sealed;
+  can = λ modelled ended.
+      let mid_modelled = allow_modelled n old mid allows modelled in
+      record {
+        accepted = subst (IsAccepted request image) allows.chip (undo mid_modelled ends.sealed).accepted;
+        enough = subst (λ (chip : Chip). least_needed request image chip ≤ n) allows.chip
+            (took n request image mid new vault report (allows.left modelled.honest) ends (sent mid_modelled.honest) (done mid_modelled));
+      };
+  below = λ modelled never. absurd (true≢false never);
+  seal = λ modelled. record {
+    enough = λ sealed.
+        subst (λ (chip : Chip). 4 + scanned_sectors request chip.config.size ≤ n) allows.chip
+        (seals_enough n request image mid new vault (allows.left modelled.honest) (undo (allow_modelled n old mid allows modelled) sealed));
+    below = λ unsealed. absurd (true≢false (sym ends.sealed ∙ unsealed));
+  };
+}
+
+-- it was stopped
+pub session_stops : (n : ℕ) (request : Request) (image : List ℕ) (old mid new : BusState) (before after : VaultState) (refusal : Refusal) → Allows n old mid → refusal ≡ Stopped
+    → (IsModelled mid → SessionTells request image mid new before after refusal) → (IsModelled mid → after.sealed ≡ false → StopsEarly request mid refusal)
+    → (IsModelled mid → after.sealed ≡ true → CanBeUndone request image mid new after) → ShowsSession request image n old after false
+session_stops n request image old mid new before after refusal allows stopped tells early undo = record {
+  seals = λ ended. absurd (true≢false (sym ended));
+  can = λ modelled ended. absurd (true≢false (sym ended));
+  below = λ modelled fails.
+      let left = allows.left modelled.honest in
+      let ran = subst (SessionTells request image mid new before after) stopped (tells (allow_modelled n old mid allows modelled)) in
+      let below = ran.below in
+      let size : mid.chip.config.size ≡ old.chip.config.size = ap (λ (chip : Chip). chip.config.size) allows.chip in
+      omega arith;
+  seal = λ modelled.
+      let mid_modelled = allow_modelled n old mid allows modelled in
+      let left = allows.left modelled.honest in
+      record {
+        enough = λ sealed.
+            subst (λ (chip : Chip). 4 + scanned_sectors request chip.config.size ≤ n) allows.chip
+            (seals_enough n request image mid new after left (undo mid_modelled sealed));
+        below = λ unsealed.
+            let few = subst (StopsEarly request mid) stopped (early mid_modelled unsealed) in
+            subst (λ (chip : Chip). n < 65542 + scanned_sectors request chip.config.size) allows.chip
+            (subst (λ (k : ℕ). k < 65542 + scanned_sectors request mid.chip.config.size) left few);
+      };
+}
+
+-- with so many transactions as any call needs it isn't stopped
+never_stops : (n : ℕ) (request : Request) (image : List ℕ) (old mid new : BusState) (before after : VaultState) (refusal : Refusal) → Allows n old mid → n ≡ most_of 4096
+    → (IsModelled mid → SessionTells request image mid new before after refusal) → IsModelled old → refusal ≡ Stopped → ⊥
+never_stops n request image old mid new before after refusal allows all tells modelled stopped =
+    let left = allows.left modelled.honest in
+    let ran = subst (SessionTells request image mid new before after) stopped (tells (allow_modelled n old mid allows modelled)) in
+    let below = ran.below in
+    let most = mid.chip.config.at_most in
+    omega arith
+
+-- an answer of the session that isn't a stop is that of the rehearsal
+told : (request : Request) (image : List ℕ) (old new : BusState) (before after : VaultState) (refusal : Refusal) → (refusal ≡ Stopped → ⊥)
+    → SessionTells request image old new before after refusal → RehearsalTells request image old.chip before after refusal
+told request image old new before after NoChip never tells = tells
+told request image old new before after (UnknownChip fault) never tells = tells
+told request image old new before after OtherName never tells = tells
+told request image old new before after (ImageSize chip len) never tells = tells
+told request image old new before after RegionOutside never tells = tells
+told request image old new before after NoProtection never tells = tells
+told request image old new before after UndefinedProtection never tells = tells
+told request image old new before after RangeNotOffered never tells = tells
+told request image old new before after StatusLocked never tells = tells
+told request image old new before after (Protected address) never tells = tells
+told request image old new before after Vault never tells = tells
+told request image old new before after Stopped never tells = absurd (never refl)
+told request image old new before after (Timeout address) never tells = tells
+told request image old new before after (Mismatch address) never tells = tells
+told request image old new before after (BadJournal fault) never tells = tells
+told request image old new before after OtherChip never tells = tells
+told request image old new before after StatusDiffers never tells = tells
+told request image old new before after Memory never tells = tells
+told request image old new before after (Output written) never tells = tells
+told request image old new before after OtherUnit never tells = tells
+
+-- and one of those that leave the chip as it was, and the vault unsealed
+early : (request : Request) (image : List ℕ) (old new : BusState) (before after : VaultState) (refusal : Refusal) → RehearsalTells request image old.chip before after refusal
+    → (number_of refusal ≤ 11) × (HonestTells old new refusal → IsSame old.chip new.chip)
+early request image old new before after NoChip tells = (omega arith, λ same. same (omega arith))
+early request image old new before after (UnknownChip fault) tells = (omega arith, λ same. same (omega arith))
+early request image old new before after OtherName tells = (omega arith, λ same. same (omega arith))
+early request image old new before after (ImageSize size len) tells = (omega arith, λ same. same (omega arith))
+early request image old new before after RegionOutside tells = (omega arith, λ same. same (omega arith))
+early request image old new before after NoProtection tells = (omega arith, λ same. same (omega arith))
+early request image old new before after UndefinedProtection tells = (omega arith, λ same. same (omega arith))
+early request image old new before after RangeNotOffered tells = (omega arith, λ same. same (omega arith))
+early request image old new before after StatusLocked tells = (omega arith, λ same. same (omega arith))
+early request image old new before after (Protected address) tells = (omega arith, λ same. same (omega arith))
+early request image old new before after Vault tells = (omega arith, λ same. same (omega arith))
+early request image old new before after Stopped tells = absurd tells
+early request image old new before after (Timeout address) tells = absurd tells
+early request image old new before after (Mismatch address) tells = absurd tells
+early request image old new before after (BadJournal fault) tells = absurd tells
+early request image old new before after OtherChip tells = absurd tells
+early request image old new before after StatusDiffers tells = absurd tells
+early request image old new before after Memory tells = absurd tells
+early request image old new before after (Output written) tells = absurd tells
+early request image old new before after OtherUnit tells = absurd tells
+
+-- it was refused, and not by a stop, unless as many transactions were allowed as any call needs
+pub session_refuses : (n few : ℕ) (request : Request) (image : List ℕ) (old mid new : BusState) (before after : VaultState) (refusal : Refusal) → Allows n old mid → Answers before after refusal
+    → (after.sealed ≡ false → Looks few mid new) → (mid.honest ≡ true → HonestTells mid new refusal)
+    → (IsModelled mid → SessionTells request image mid new before after refusal) → (refusal ≡ Stopped → n ≡ most_of 4096) → RefusesSession request image old new before after refusal
+session_refuses n few request image old mid new before after refusal allows answers looks gives_up tells all =
+    let tells' : IsModelled old → RehearsalTells request image mid.chip before after refusal
+    = λ modelled. told request image mid new before after refusal
+    (λ stopped. never_stops n request image old mid new before after refusal allows (all stopped) tells modelled stopped)
+    (tells (allow_modelled n old mid allows modelled)) in
+    record {
+      blames = λ vault. subst (IsOwnRefusal before after) vault answers.own;
+      tells = λ modelled. subst (λ (chip : Chip). RehearsalTells request image chip before after refusal) allows.chip (tells' modelled);
+      leaves = λ modelled.
+          let mid_modelled = allow_modelled n old mid allows modelled in
+          let is_early = early request image mid new before after refusal (tells' modelled) in
+          let unsealed = answers.unsealed is_early.0 in
+          let looked = (looks unsealed).looked mid_modelled.honest in
+          record {
+            same = same_at old.chip mid.chip new.chip allows.chip (is_early.1 (gives_up mid_modelled.honest));
+            latch = λ set. sym (ap (λ (chip : Chip). chip.latch) allows.chip) ∙ looked.latch set;
+            still = (looks unsealed).stirred ∙ allows.stirred;
+            unsealed = unsealed;
+          };
+    }
+
+-- where there are no stops as many transactions are allowed as any call needs
+pub unlimited : (stops : List ℕ) → length stops ≡ 0 → first_allowance stops ≡ most_of 4096
+unlimited [] none = refl
+unlimited (first ∷ later) none = absurd (omega arith)
+
+-- ---- both
+
+-- where the session's vault leads back, the bus is modelled still
+still_modelled : (saved : ℕ → Bool) (bytes : List ℕ) (old mid : BusState) → KeepsNature old mid → LeadsBack saved old.chip bytes mid → IsModelled old → IsModelled mid
+still_modelled saved bytes old mid nature leads = modelled_at old mid nature.honest leads.within.config
+
+-- so restores from its text aren't refused
+pub never_refused : (saved : ℕ → Bool) (bytes text : List ℕ) (old mid : BusState) (refusal : Refusal) → KeepsNature old mid → (IsModelled old → LeadsBack saved old.chip bytes mid)
+    → text ≡ bytes → RefusesUndo text mid refusal → IsModelled old → ⊥
+never_refused saved bytes text old mid refusal nature back is refuses modelled =
+    refuses.never (still_modelled saved bytes old mid nature (back modelled) modelled) saved old.chip
+    (subst (λ (t : List ℕ). LeadsBack saved old.chip t mid) (sym is) (back modelled))
+
+-- and they give the chip back
+pub same_again : (saved : ℕ → Bool) (bytes text : List ℕ) (stops : List ℕ) (old mid new : BusState) (restores : ℕ) → KeepsNature old mid → (IsModelled old → LeadsBack saved old.chip bytes mid)
+    → text ≡ bytes → Undoes text stops mid new restores → IsModelled old → IsSame old.chip new.chip
+same_again saved bytes text stops old mid new restores nature back is undoes modelled =
+    undoes.same (still_modelled saved bytes old mid nature (back modelled) modelled) saved old.chip
+    (subst (λ (t : List ℕ). LeadsBack saved old.chip t mid) (sym is) (back modelled))
+
+-- under the stops behind the first
+pub are_restores : (saved : ℕ → Bool) (bytes text : List ℕ) (stops later : List ℕ) (old mid new : BusState) (restores : ℕ) → KeepsNature old mid → (IsModelled old → LeadsBack saved old.chip bytes mid)
+    → text ≡ bytes → later ≡ drop 1 stops → Undoes text later mid new restores → IsModelled old → AreRestores (sector_count saved) (drop 1 stops) restores
+are_restores saved bytes text stops later old mid new restores nature back is behind undoes modelled =
+    subst (λ (l : List ℕ). AreRestores (sector_count saved) l restores) behind
+    (undoes.are (still_modelled saved bytes old mid nature (back modelled) modelled) saved old.chip
+    (subst (λ (t : List ℕ). LeadsBack saved old.chip t mid) (sym is) (back modelled)))

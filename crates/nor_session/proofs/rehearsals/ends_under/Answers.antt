@@ -1,0 +1,21 @@
+use Rattle.std.proofs.Common.{◌∙◌, sym}
+use Rattle.std.proofs.lemmas.Bool.{true≢false}
+use Rattle.nor_session.proofs.RehearsedRestores.{under_leaves, under_ends, under_refuses}
+use Rattle.nor_session.proofs.rehearsals.ends_under.Goals as goal
+
+pub returns-in-Ok-clause-leaves : goal.returns-in-Ok-clause-leaves
+returns-in-Ok-clause-leaves g c = under_leaves _ _ _ _ _ _ c.allow.ensures c.restore.ensures.spends c.restore.ensures.leaves c.restore.ensures.within
+
+pub returns-in-Ok-clause-shows : goal.returns-in-Ok-clause-shows
+returns-in-Ok-clause-shows g c = under_ends _ _ _ _ _ c.in-Ok.field-0 c.allow.ensures c.in-Ok.ensures.bounded c.in-Ok.ensures.counted c.in-Ok.ensures.back
+
+pub returns-in-Err-clause-leaves : goal.returns-in-Err-clause-leaves
+returns-in-Err-clause-leaves g c = under_leaves _ _ _ _ _ _ c.allow.ensures c.restore.ensures.spends c.restore.ensures.leaves c.restore.ensures.within
+
+pub returns-in-Err-2-clause-leaves : goal.returns-in-Err-2-clause-leaves
+returns-in-Err-2-clause-leaves g c = under_leaves _ _ _ _ _ _ c.allow.ensures c.restore.ensures.spends c.restore.ensures.leaves c.restore.ensures.within
+
+pub returns-in-Err-2-clause-refuses : goal.returns-in-Err-2-clause-refuses
+returns-in-Err-2-clause-refuses g c =
+    under_refuses _ _ _ _ c.in-Err.refusal c.allow.ensures c.in-Err.ensures.answers
+    (λ stopped. true≢false (sym (c.is_stopped.ensures.1 stopped) ∙ c.if-is_stopped.false)) c.in-Err.ensures.only_stops

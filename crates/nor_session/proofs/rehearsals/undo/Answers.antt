@@ -1,0 +1,11 @@
+use Rattle.std.proofs.lemmas.Result.{IfOk-weaker, IfErr-weaker}
+use Rattle.nor_session.proofs.RehearsedRestores.{undoes, undo_refuses}
+use Rattle.nor_session.proofs.rehearsals.undo.Goals as goal
+
+pub returns-in-Ok-clause-undoes : goal.returns-in-Ok-clause-undoes
+returns-in-Ok-clause-undoes g c =
+    IfOk-weaker c.restore_in_turn.result _ _ (λ restores shows. undoes _ _ _ _ c.in-Ok.journal restores c.in-Ok.ensures.kept shows) c.restore_in_turn.ensures.shows
+
+pub returns-in-Ok-clause-refuses : goal.returns-in-Ok-clause-refuses
+returns-in-Ok-clause-refuses g c =
+    IfErr-weaker c.restore_in_turn.result _ _ (λ refusal refuses. undo_refuses _ _ c.in-Ok.journal refusal c.in-Ok.ensures.kept refuses) c.restore_in_turn.ensures.refuses

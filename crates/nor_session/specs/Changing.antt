@@ -1,0 +1,48 @@
+-- What the changes of a session or restore leave, with the check of what they came to.
+use Rattle.std.specs.Prelude.{◌≡◌, ◌≤◌, ◌+◌, ◌*◌, ◌/◌, ℕ, Bool, true, if◌then◌else◌}
+use Rattle.nor_chip.specs.Bus.{BusState}
+use Rattle.nor_driver.specs.Looks.{RanOut}
+use Rattle.nor_layout.specs.Below.{count_below}
+use Rattle.nor_plan.specs.Planned.{fewest_erases}
+use Rattle.nor_apply.specs.declared.changes.Changes.{Changes}
+use Rattle.nor_apply.specs.declared.changes.Work.{Work}
+use Rattle.nor_apply.specs.Counts.{sector_count}
+use Rattle.nor_apply.specs.Content.{once_erased, is_programmed}
+use Rattle.nor_apply.specs.Change.{MayChange}
+use Rattle.nor_apply.specs.Spending.{Spends}
+use Rattle.nor_apply.specs.Applying.{touched_in, raised_in, status_writes, most_applied, CanApply, HasApplied}
+use Rattle.nor_save.specs.declared.refusal.Refusal.{Refusal}
+use Rattle.nor_save.specs.declared.refusal.Refusal.TheVariants.{Stopped, Timeout, Mismatch}
+
+-- how many sectors are touched
+abbrev pub touched_count : Changes → ℕ
+touched_count changes = sector_count (touched_in changes)
+
+-- The most transactions: those of the changes, and each touched sector is read once more.
+abbrev pub most_changed : Changes → ℕ
+most_changed changes = most_applied (touched_count changes) + touched_count changes
+
+-- At every exit.
+pub record LeavesChange (changes : Changes) (wanted : ℕ → ℕ) (old new : BusState) : Type 0 where
+  pub spends : Spends (most_changed changes) old new
+  pub reached : old.honest ≡ true → CanApply changes wanted old.chip → MayChange (touched_in changes) (raised_in changes) wanted old new
+
+-- At the end, with what the work came to.
+pub record DoesChange (changes : Changes) (wanted : ℕ → ℕ) (verify : Bool) (old new : BusState) (work : Work) : Type 0 where
+  pub erases : work.erases ≡ fewest_erases changes.kinds (changes.size / 4096) (raised_in changes)
+  pub fewer_erases : work.erases ≤ touched_count changes
+  pub fewer_programs : work.programs ≤ 16 * touched_count changes
+  pub few : work.transactions ≤ 2 * touched_count changes + 65538 * (work.erases + work.programs + status_writes changes)
+  pub least : 3 * (work.erases + work.programs + status_writes changes) + (if verify then touched_count changes else 0) ≤ work.transactions
+  pub sent : old.honest ≡ true → old.left ≡ new.left + work.transactions
+  pub done : old.honest ≡ true → CanApply changes wanted old.chip → HasApplied changes wanted old new
+  pub programs : old.honest ≡ true → CanApply changes wanted old.chip
+      → work.programs ≡ count_below 65536 (is_programmed (touched_in changes) (once_erased (raised_in changes) old.chip.bytes) wanted)
+
+-- Why they weren't finished: the bus stopped, with fewer transactions left than they may take; another bus than an
+-- honest one kept the chip busy, or showed other bytes than were written.
+abbrev pub ChangeTells : Changes → (ℕ → ℕ) → BusState → BusState → Refusal → Type 0
+ChangeTells changes wanted old new Stopped = old.honest ≡ true → RanOut (most_changed changes) old new
+ChangeTells changes wanted old new (Timeout address) = old.honest ≡ true → ⊥
+ChangeTells changes wanted old new (Mismatch address) = old.honest ≡ true → CanApply changes wanted old.chip → ⊥
+ChangeTells changes wanted old new _ = ⊥

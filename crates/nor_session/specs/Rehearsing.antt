@@ -1,0 +1,94 @@
+-- What the parts of a rehearsal come to: its session, and the restores in turn.
+use Rattle.std.specs.Prelude.{◌≡◌, ◌≤◌, ◌<◌, ◌+◌, ◌*◌, ◌/◌, ℕ, Bool, true, false, List, length}
+use Rattle.nor_chip.specs.Chip.{Chip, IsChip, IsSame, is_locked}
+use Rattle.nor_chip.specs.Guard.{is_unit_guarded}
+use Rattle.nor_chip.specs.Bus.{BusState}
+use Rattle.nor_driver.specs.Looks.{IsCalm}
+use Rattle.nor_journal.specs.Text.{Content}
+use Rattle.nor_journal.specs.Vault.{VaultState}
+use Rattle.nor_journal.specs.Saved.{JournalSaves}
+use Rattle.nor_probe.specs.Known.{IsKnown}
+use Rattle.nor_apply.specs.Counts.{sector_count}
+use Rattle.nor_apply.specs.Within.{IsWithin, places_of}
+use Rattle.nor_save.specs.declared.report.Request.{Request}
+use Rattle.nor_save.specs.declared.refusal.Refusal.{Refusal}
+use Rattle.nor_save.specs.declared.refusal.Refusal.TheVariants.{Vault}
+use Rattle.nor_save.specs.Request.{is_touched_by}
+use Rattle.nor_save.specs.Saving.{head_of}
+use Rattle.nor_session.specs.Modelled.{IsModelled, most_of}
+use Rattle.nor_session.specs.Restore.{CanGiveBack}
+use Rattle.nor_session.specs.Rehearsal.{KeepsNature, CanEnd, SealFits, AreRestores, LeavesRefused, BlamesVault, RehearsalTells}
+
+-- ---- the session
+
+-- These bytes lead the bus's chip back to the first one: that is known, they are its journal, which saves just these
+-- sectors, all of them inside the chip, and none of them guarded where the status is locked; and the bus's chip is
+-- within them.
+pub record LeadsBack (saved : ℕ → Bool) (first : Chip) (text : List ℕ) (state : BusState) : Type 0 where
+  pub is : IsChip first
+  pub known : IsKnown first.config
+  pub journal : JournalSaves (head_of first) first.bytes saved text
+  pub inside : (s : ℕ) → saved s ≡ true → s < first.config.size / 4096
+  pub free : is_locked first ≡ true → (s : ℕ) → saved s ≡ true → is_unit_guarded first (4096 * s) 4096 ≡ false
+  pub within : IsWithin (places_of saved) first state
+
+-- At every exit of the session: where its vault isn't sealed the chip is as it was, and else that leads back.
+pub record LeavesSession (request : Request) (image : List ℕ) (old new : BusState) (vault : VaultState) : Type 0 where
+  pub nature : KeepsNature old new
+  pub same : IsModelled old → IsCalm old → vault.sealed ≡ false → IsSame old.chip new.chip
+  pub back : IsModelled old → vault.sealed ≡ true → LeadsBack (is_touched_by request image old.chip) old.chip vault.bytes new
+
+-- It was allowed so many transactions, and ended, or was stopped since they were too few.
+pub record ShowsSession (request : Request) (image : List ℕ) (allowance : ℕ) (old : BusState) (vault : VaultState) (ended : Bool) : Type 0 where
+  pub seals : ended ≡ true → vault.sealed ≡ true
+  pub can : IsModelled old → ended ≡ true → CanEnd request image allowance old.chip
+  pub below : IsModelled old → ended ≡ false → allowance < most_of (old.chip.config.size / 4096)
+  pub seal : IsModelled old → SealFits request allowance old.chip vault.sealed
+
+-- It was refused: by the verdict, or by a vault that failed.
+pub record RefusesSession (request : Request) (image : List ℕ) (old new : BusState) (before after : VaultState) (refusal : Refusal) : Type 0 where
+  pub blames : BlamesVault before after refusal
+  pub tells : IsModelled old → RehearsalTells request image old.chip before after refusal
+  pub leaves : IsModelled old → LeavesRefused old new after
+
+-- ---- the restores
+
+-- At every exit of some restores: the bus is modelled as before, and each chip that the journal could give back it
+-- still can.
+pub record LeavesRestores (journal : Content) (old new : BusState) : Type 0 where
+  pub nature : KeepsNature old new
+  pub modelled : IsModelled old → IsModelled new
+  pub can : IsModelled old → (first : Chip) → CanGiveBack journal first old → CanGiveBack journal first new
+
+-- One restore was allowed so many transactions, and ended, and gave each such chip back; or it was stopped, since they
+-- were too few.
+pub record ShowsRestore (journal : Content) (allowance : ℕ) (old new : BusState) (ended : Bool) : Type 0 where
+  pub back : IsModelled old → ended ≡ true → (first : Chip) → CanGiveBack journal first old → IsSame first new.chip
+  pub enough : IsModelled old → ended ≡ true → 4 + length journal.saved ≤ allowance
+  pub below : IsModelled old → ended ≡ false → allowance < most_of (length journal.saved)
+
+-- Restores in turn ended, and gave each such chip back.
+pub record ShowsRestores (journal : Content) (stops : List ℕ) (old new : BusState) (restores : ℕ) : Type 0 where
+  pub some : 1 ≤ restores
+  pub most : restores ≤ length stops + 1
+  pub are : IsModelled old → AreRestores (length journal.saved) stops restores
+  pub back : IsModelled old → (first : Chip) → CanGiveBack journal first old → IsSame first new.chip
+
+-- A restore was refused: never one of a chip that the journal can give back, and never by the vault.
+pub record RefusesRestore (journal : Content) (old : BusState) (refusal : Refusal) : Type 0 where
+  pub blameless : refusal ≡ Vault → ⊥
+  pub never : IsModelled old → (first : Chip) → CanGiveBack journal first old → ⊥
+
+-- ---- restores from a text
+
+-- They ended, and the bus has the chip again that the text leads back to.
+pub record Undoes (text : List ℕ) (stops : List ℕ) (old new : BusState) (restores : ℕ) : Type 0 where
+  pub some : 1 ≤ restores
+  pub most : restores ≤ length stops + 1
+  pub same : IsModelled old → (saved : ℕ → Bool) (first : Chip) → LeadsBack saved first text old → IsSame first new.chip
+  pub are : IsModelled old → (saved : ℕ → Bool) (first : Chip) → LeadsBack saved first text old → AreRestores (sector_count saved) stops restores
+
+-- They were refused: never by a vault, and never where the text leads back.
+pub record RefusesUndo (text : List ℕ) (old : BusState) (refusal : Refusal) : Type 0 where
+  pub blameless : refusal ≡ Vault → ⊥
+  pub never : IsModelled old → (saved : ℕ → Bool) (first : Chip) → LeadsBack saved first text old → ⊥

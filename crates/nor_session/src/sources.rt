@@ -1,0 +1,40 @@
+//! Where the wanted bytes come from: the merged image of a session, or the records of a journal.
+ghost use Rattle.std.specs.Prelude.{◌≡◌, ◌<◌, ◌+◌, ◌*◌, nat_lt, length, slice_index};
+ghost use Rattle.std.proofs.lemmas.Bool.Decides.{nat_tests};
+ghost use Rattle.nor_journal.specs.Saved.{is_saved, saved_byte};
+
+use nor_apply::Source;
+use nor_journal::Journal;
+
+/// An image of the whole chip.
+#[derive(Drop)]
+pub struct Image<'a> {
+    pub bytes: &'a [u8],
+}
+
+impl Source for Image<'_> {
+    ghost has = { λ image sector. nat_lt (4096 * sector + 4095) (length image.bytes.now) };
+
+    ghost wanted = { λ image a. slice_index image.bytes.now a };
+
+    fn sector(&self, sector: u32) -> &[u8] {
+        let start = 4096 * sector as usize;
+        &self.bytes[start..start + 4096]
+    }
+}
+
+/// The sectors that a journal saved.
+#[derive(Drop)]
+pub struct Saved<'a> {
+    pub journal: &'a Journal<'a>,
+}
+
+impl Source for Saved<'_> {
+    ghost has = { λ saved sector. is_saved saved.journal.now sector };
+
+    ghost wanted = { λ saved a. saved_byte saved.journal.now a };
+
+    fn sector(&self, sector: u32) -> &[u8] {
+        self.journal.find(sector).unwrap()
+    }
+}

@@ -1,0 +1,59 @@
+//! The states of a session or restore: what is saved, what may be changed, what is left to check.
+//!
+//! A chip is changed by `Kept` alone, and that is made only where a sealed vault or a journal leads back.
+ghost use Rattle.std.specs.Prelude.{◌≡◌, ◌<◌, ◌≤◌, ◌/◌, ℕ, Bool, true, IfOk, IfErr};
+ghost use Rattle.nor_plan.specs.SectorSet.{has, LiesBelow};
+ghost use Rattle.nor_session.specs.Changing.{LeavesChange, DoesChange, ChangeTells};
+
+use crate::changing::change;
+use nor_apply::{Changes, Source, Work};
+use nor_chip::Bus;
+use nor_journal::{Journal, Vault};
+use nor_save::Refusal;
+
+/// Evidence that a chip can be given back.
+pub(crate) struct WayBack(());
+
+impl WayBack {
+    /// A sealed vault has the journal.
+    pub(crate) fn in_vault<V: Vault>(_vault: &V) -> WayBack
+        requires { (V.state _vault.now).sealed ≡ true }
+    {
+        WayBack(())
+    }
+
+    /// A journal was read.
+    pub(crate) fn in_journal(_journal: &Journal<'_>) -> WayBack {
+        WayBack(())
+    }
+}
+
+/// What may be changed is saved: only this state changes the chip. It can't be dropped, so it must be spent.
+pub(crate) struct Kept<'a, B: Bus, S: Source> {
+    pub(crate) bus: &'a mut B,
+    pub(crate) source: &'a S,
+    pub(crate) changes: &'a Changes,
+    pub(crate) way_back: WayBack,
+}
+
+impl<'a, B: Bus, S: Source> Kept<'a, B, S> {
+    /// Makes the changes, and where asked reads back what they came to.
+    pub(crate) fn finish(self, verify: bool) -> Result<Work, Refusal>
+        requires inside { LiesBelow self.changes.now.touched (self.changes.now.size / 4096) }
+        requires raised { (s : ℕ) → has self.changes.now.raised s ≡ true → has self.changes.now.touched s ≡ true }
+        requires small { self.changes.now.size ≤ 16777216 }
+        requires code { self.changes.now.code < 64 }
+        requires sourced { (s : ℕ) → has self.changes.now.touched s ≡ true → S.has self.source.now s ≡ true }
+        ensures leaves { LeavesChange self.entry.changes.now (S.wanted self.entry.source.now) (B.state self.entry.bus.now) (B.state self.exit.0.now) }
+        ensures does { IfOk result (DoesChange self.entry.changes.now (S.wanted self.entry.source.now) verify (B.state self.entry.bus.now) (B.state self.exit.0.now)) }
+        ensures tells { IfErr result (ChangeTells self.entry.changes.now (S.wanted self.entry.source.now) (B.state self.entry.bus.now) (B.state self.exit.0.now)) }
+    {
+        let Kept {
+            bus,
+            source,
+            changes,
+            way_back: WayBack(()),
+        } = self;
+        change(bus, source, changes, verify)
+    }
+}
