@@ -5,3 +5,5 @@ pub mod Taken
 pub mod Asked
 pub mod Shown
 pub mod Genuine
+pub mod Refused
+pub mod Writes

@@ -1,14 +1,13 @@
 -- What the emulated chips show themselves as.
-use Rattle.std.proofs.Common.{◌≡◌, ◌∙◌, ◌≤◌, true, List, ℕ, [], ◌∷◌, Option, None, Some, Result, Ok, Err, ap, refl, subst, sym, arith}
+use Rattle.std.proofs.Common.{◌≡◌, ◌∙◌, ◌≤◌, true, List, ℕ, [], ◌∷◌, Option, None, Result, Ok, Err, ap, refl, subst, sym, arith}
 use Rattle.std.specs.Prelude.{IfOk, IfErr, IsOk, MatchResult, if◌then◌else◌}
 use Rattle.std.specs.Borrow.{Bor}
-use Rattle.std.specs.Option.{MatchOption, IsSomeAnd}
 use Rattle.nor_chip.specs.declared.config.Config.{Config}
 use Rattle.nor_chip.specs.Bus.{BusState}
 use Rattle.nor_chip.specs.Chip.{IsTiny64}
 use Rattle.nor_probe.specs.Found.{Finds, IsWanted, Tells, part_in}
 use Rattle.nor_probe.specs.Known.{HasGeometry, chip_says, id_of, is_no_chip, listed_or, part_by_sfdp, shown_as}
-use Rattle.nor_probe.specs.Table.{name_of, part_of as row_of}
+use Rattle.nor_probe.specs.Table.{part_of as row_of}
 use Rattle.nor_probe.proofs.Emulated.{tiny64_known}
 use Rattle.nor_probe.specs.declared.probes.Found.{Found}
 use Rattle.nor_probe.specs.declared.probes.ProbeFault.{ProbeFault}
@@ -42,7 +41,7 @@ shown-by : (config : Config) (id : List ℕ) → id ≡ 254 ∷ 16 ∷ 16 ∷ []
 shown-by config id same = rw same refl
 
 -- each is found as what it is
-shown-emulated : (chip : Emulated) (config : Config) → IsConfigOf chip config → shown_as config ≡ Ok (part_of chip)
+pub shown-emulated : (chip : Emulated) (config : Config) → IsConfigOf chip config → shown_as config ≡ Ok (part_of chip)
 shown-emulated Tiny64 config is =
     let known = tiny64_known config is in
     let id : id_of config ≡ 254 ∷ 16 ∷ 16 ∷ [] = rw is.id refl in
@@ -52,14 +51,7 @@ shown-emulated Tiny64 config is =
 shown-emulated W25q64fv config is = rw is.id refl
 shown-emulated W25q128fv config is = rw is.id refl
 
--- the names that are asked for, as they are read one by one
-pub named-wanted : (named : Option (Bor Text)) (r : Option ChipName)
-    → MatchOption named (r ≡ None) (λ name. IsSomeAnd r (λ asked. asked ≡ name_of name.now)) → r ≡ wanted named
-named-wanted None r h = h
-named-wanted (Some name) None h = absurd h
-named-wanted (Some name) (Some asked) h = ap (λ (n : ChipName). Some n) h
-
-ok-same : (x y : Part) (r : Result Part ProbeFault) → r ≡ Ok x → r ≡ Ok y → x ≡ y
+pub ok-same : (x y : Part) (r : Result Part ProbeFault) → r ≡ Ok x → r ≡ Ok y → x ≡ y
 ok-same x y r to_x to_y =
     let same = sym to_x ∙ to_y in
     cc

@@ -1,7 +1,8 @@
 -- What a run opens.
-use Rattle.std.specs.Prelude.{◌≡◌, ◌<◌, ℕ, true, false, Option, Some, None, ⊤}
+use Rattle.std.specs.Prelude.{◌≡◌, ◌<◌, ℕ, true, false, Option, Some, None}
 use Rattle.nor_chip.specs.Bus.{BusState}
 use Rattle.nor_chip.specs.Chip.{IsSame}
+use Rattle.nor_save.specs.declared.refusal.Refusal.TheVariants.{Memory}
 use Rattle.flashnor.specs.declared.messages.Fault.{Fault}
 use Rattle.flashnor.specs.declared.messages.Fault.TheVariants as end
 use Rattle.flashnor.specs.declared.messages.FileFault.TheVariants as file
@@ -27,12 +28,12 @@ StaysOpen old new = old.honest ≡ true → old.steady ≡ true → (new.honest 
 
 -- how the reading of the file of this name may end a run
 abbrev pub IsReading : Text → Fault → Type 0
-IsReading name end.Memory = ⊤
+IsReading name (end.Refused refusal) = refusal ≡ Memory
 IsReading name (end.File fault of) = (fault ≡ file.Read) × (of.now ≡ name)
 IsReading name _ = ⊥
 
 -- how the opening of a chip may end a run, whose bytes are in a file of this name or in none
 abbrev pub IsOpening : Option Text → Fault → Type 0
-IsOpening name end.Memory = ⊤
+IsOpening name (end.Refused refusal) = refusal ≡ Memory
 IsOpening name (end.File fault of) = name ≡ Some of.now
 IsOpening name _ = ⊥

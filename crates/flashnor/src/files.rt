@@ -4,10 +4,12 @@ ghost use Rattle.std.specs.IoError.{error_kind};
 ghost use Rattle.std.specs.declared.io.ErrorKind.TheVariants as Kinds;
 ghost use Rattle.flashnor.specs.Files.{Opens, IsReading, IsOpening};
 ghost use Rattle.flashnor.specs.declared.messages.Fault.TheVariants as Faults;
+ghost use Rattle.nor_save.specs.declared.refusal.Refusal.TheVariants as Refusals;
 
 use crate::messages::{Fault, FileFault};
 use crate::programmer::Programmer;
 use nor_chip::{Bus, Delays, SimBus};
+use nor_session::Refusal;
 use std::alloc::{AllocError, Global};
 use std::io::{ErrorKind, Read};
 use std::rt::Files;
@@ -94,10 +96,10 @@ where
 // The fault of a file that can't be opened or read.
 fn reading(error: io::Error, name: &str) -> Fault<'_>
     ensures file { IsReading name.now result }
-    ensures memory { result ≡ Faults.Memory ↔ error_kind error ≡ Kinds.OutOfMemory }
+    ensures memory { result ≡ Faults.Refused Refusals.Memory ↔ error_kind error ≡ Kinds.OutOfMemory }
 {
     match error.kind() {
-        ErrorKind::OutOfMemory => Fault::Memory,
+        ErrorKind::OutOfMemory => Fault::Refused(Refusal::Memory),
         _ => {
             let fault = FileFault::Read;
             Fault::File { fault, name }

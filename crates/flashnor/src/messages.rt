@@ -1,10 +1,9 @@
 //! What the program prints: each message is one line.
 ghost use Rattle.std.specs.Prelude.{◌≡◌};
-ghost use Rattle.flashnor.specs.Messages.{probe_number};
 
 use crate::answers::Answer;
 use crate::words::UsageFault;
-use nor_probe::{ChipName, Found, ProbeFault, SfdpFault, chips};
+use nor_probe::{ChipName, Found, ProbeFault, chips};
 use nor_session::{Refusal, Rehearsal};
 use std::alloc::AllocError;
 use std::io::Write;
@@ -42,14 +41,9 @@ pub enum Fault<'a> {
     /// The file has this name.
     #[error("File fault {}: {name}.", .fault.number())]
     File { fault: FileFault, name: &'a str },
-    /// No chip was found, or another than the one that was named.
-    #[error("Error {}: {}.", probe_number(*.0), ProbeReason(*.0))]
-    Probe(ProbeFault),
+    /// A call refused; or memory ran out while files were read, which is told the same way.
     #[error("Error {}: {}.", .0.number(), Reason(*.0))]
     Refused(Refusal),
-    /// Memory ran out while files were read.
-    #[error("Error 18: out of memory.")]
-    Memory,
 }
 
 impl From<UsageFault> for Fault<'_> {
@@ -63,22 +57,24 @@ impl From<UsageFault> for Fault<'_> {
 }
 
 impl From<AllocError> for Fault<'_> {
-    ghost use Rattle.flashnor.specs.declared.messages.Fault.TheVariants.{Memory};
+    ghost use Rattle.flashnor.specs.declared.messages.Fault.TheVariants.{Refused};
+    ghost use Rattle.nor_save.specs.declared.refusal.Refusal.TheVariants.{Memory};
 
-    ghost from_gives = { λ _ fault. fault ≡ Memory };
+    ghost from_gives = { λ _ fault. fault ≡ Refused Memory };
 
     fn from(_: AllocError) -> Self {
-        Fault::Memory
+        Fault::Refused(Refusal::Memory)
     }
 }
 
 impl From<ProbeFault> for Fault<'_> {
-    ghost use Rattle.flashnor.specs.declared.messages.Fault.TheVariants.{Probe};
+    ghost use Rattle.flashnor.specs.declared.messages.Fault.TheVariants.{Refused};
+    ghost use Rattle.nor_save.specs.Refusal.{of_probe};
 
-    ghost from_gives = { λ found fault. fault ≡ Probe found };
+    ghost from_gives = { λ found fault. fault ≡ Refused (of_probe found) };
 
     fn from(fault: ProbeFault) -> Self {
-        Fault::Probe(fault)
+        Fault::Refused(Refusal::from(fault))
     }
 }
 
@@ -92,66 +88,38 @@ impl From<Refusal> for Fault<'_> {
     }
 }
 
-// Why no chip was found, in words.
-#[derive(Drop)]
-struct ProbeReason(ProbeFault);
-
-impl fmt::Display for ProbeReason {
-    fn fmt<W: fmt::Write>(&self, f: &mut fmt::Formatter<W>) -> fmt::Result {
-        match self.0 {
-            ProbeFault::NoChip => f.write_str("no chip"),
-            ProbeFault::UnknownChip(fault) => write!(
-                f,
-                "unknown chip, SFDP fault {}",
-                fault.number()
-            ),
-            ProbeFault::OtherName => f.write_str("another chip than named"),
-            ProbeFault::Stopped => f.write_str("stopped"),
-            ProbeFault::Timeout => write_timeout(f, 0),
-        }
-    }
-}
-
-// Why a session or restore refused, in words.
+// Why a call refused, in words.
 #[derive(Drop)]
 struct Reason(Refusal);
 
 impl fmt::Display for Reason {
     fn fmt<W: fmt::Write>(&self, f: &mut fmt::Formatter<W>) -> fmt::Result {
         match self.0 {
-            Refusal::NoChip => ProbeReason(ProbeFault::NoChip).fmt(f),
-            Refusal::UnknownChip(nor_session::SfdpFault::Signature) => ProbeReason(
-                ProbeFault::UnknownChip(SfdpFault::Signature),
-            ).fmt(f),
-            Refusal::ImageSize { chip, image } => write!(
-                f,
-                "image of {image} bytes, chip of {chip} bytes"
-            ),
+            Refusal::NoChip => f.write_str("no chip"),
+            Refusal::UnknownChip(fault) => {
+                write!(f, "unknown chip, SFDP fault {}", fault.number())
+            }
+            Refusal::OtherName => f.write_str("another chip than named"),
+            Refusal::ImageSize { chip, image } => {
+                write!(f, "image of {image} bytes, chip of {chip} bytes")
+            }
+            Refusal::RegionOutside => f.write_str("region outside the chip"),
+            Refusal::NoProtection => f.write_str("no protection on this chip"),
+            Refusal::UndefinedProtection => f.write_str("undefined protection"),
+            Refusal::RangeNotOffered => f.write_str("range not offered"),
+            Refusal::StatusLocked => f.write_str("status locked"),
+            Refusal::Protected { address } => write!(f, "protected at {address:#08x}"),
             Refusal::Vault => f.write_str("journal not written"),
-            Refusal::Stopped => ProbeReason(ProbeFault::Stopped).fmt(f),
-            Refusal::Timeout { address } => write_timeout(f, address),
+            Refusal::Stopped => f.write_str("stopped"),
+            Refusal::Timeout { address } => write!(f, "timeout at {address:#08x}"),
             Refusal::Mismatch { address } => write!(f, "bytes differ at {address:#08x}"),
-            Refusal::BadJournal => f.write_str("journal fault 1"),
+            Refusal::BadJournal(fault) => write!(f, "journal fault {}", fault.number()),
             Refusal::OtherChip => f.write_str("another chip than the journal's"),
             Refusal::StatusDiffers => f.write_str("status differs from the journal's"),
+            Refusal::Memory => f.write_str("out of memory"),
+            Refusal::Output { written } => write!(f, "output failed after {written} bytes"),
+            Refusal::OtherUnit => f.write_str("another unit than the journal's"),
         }
-    }
-}
-
-fn write_timeout<W: fmt::Write>(f: &mut fmt::Formatter<W>, address: u32) -> fmt::Result {
-    write!(f, "timeout at {address:#08x}")
-}
-
-// The number of a refusal to find a chip.
-fn probe_number(fault: ProbeFault) -> u8
-    ensures { result ≡ probe_number fault }
-{
-    match fault {
-        ProbeFault::NoChip => 1,
-        ProbeFault::UnknownChip(_) => 2,
-        ProbeFault::OtherName => 3,
-        ProbeFault::Stopped => 12,
-        ProbeFault::Timeout => 13,
     }
 }
 

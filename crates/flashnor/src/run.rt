@@ -1,10 +1,11 @@
 //! A run of the program.
 ghost use Rattle.std.specs.Prelude.{◌≡◌, ◌≤◌, length, map, string_bytes, MatchResult};
+ghost use Rattle.nor_chip.specs.Chip.{IsSame};
 ghost use Rattle.flashnor.specs.Words.{IsRefused};
 ghost use Rattle.flashnor.specs.declared.programmer.Programmer.{Programmer};
 ghost use Rattle.flashnor.specs.Files.{Opens, StaysOpen};
-ghost use Rattle.flashnor.specs.Found.{HasName, IsFound, IsOther};
-ghost use Rattle.flashnor.specs.Run.{IsAnswer, IsAnswerOf, IsEndOf, IsRehearsed, IsWriteEnd};
+ghost use Rattle.flashnor.specs.Found.{IsFound, IsOther, wanted};
+ghost use Rattle.flashnor.specs.Run.{IsAnswer, IsAnswerOf, IsEndOf, IsRehearsed, IsWriteEnd, writing};
 
 use crate::answers::Answer;
 use crate::files::{open_chip, read_image};
@@ -14,7 +15,7 @@ use clap::error::ErrorKind;
 use nor_chip::{Bus, Meter, SimBus};
 use nor_journal::MemVault;
 use nor_probe::{ChipName, Found, ProbeFault, probe};
-use nor_session::{Rehearsal, Request, rehearse};
+use nor_session::{Rehearsal, Request, What, rehearse};
 use std::io::Write;
 use std::rt::Files;
 
@@ -72,31 +73,29 @@ fn rehearse_write<'a, R: Files + AllocGlobal>(
     stops: &[u64],
 ) -> Result<Rehearsal, Fault<'a>>
     requires { length stops.now ≤ 64 }
-    ensures { (programmer : Programmer) → Opens programmer (⟦<SimBus as Bus>⟧.state bus.old)
-        → MatchResult result
-        (λ rehearsal. IsRehearsed stops.now rehearsal × HasName named.entry programmer.chip)
-        (IsWriteEnd named.entry programmer.chip image.entry.now) }
+    ensures back { (programmer : Programmer) → Opens programmer (⟦<SimBus as Bus>⟧.state bus.old)
+        → IsSame (⟦<SimBus as Bus>⟧.state bus.old).chip (⟦<SimBus as Bus>⟧.state bus.new).chip }
+    ensures ends { (programmer : Programmer) → Opens programmer (⟦<SimBus as Bus>⟧.state bus.old)
+        → MatchResult result (IsRehearsed programmer named.entry stops.now) (IsWriteEnd named.entry programmer.chip image.entry.now) }
 {
     let mut image = read_image(rt, image)?;
-    check_name(bus, named)?;
     let mut vault = MemVault::new(rt.alloc());
-    let request = Request {
-        what: nor_session::Job::Write,
-    };
+    let request = request_to_write(named);
     let rehearsal = rehearse(bus, &mut vault, &mut image, &request, stops)?;
     Ok(rehearsal)
 }
 
-// The chip has the name that is given. Where none is given it isn't looked at.
-fn check_name(bus: &mut SimBus, named: Option<&str>) -> Result<(), ProbeFault>
-    ensures stays { StaysOpen (⟦<SimBus as Bus>⟧.state bus.old) (⟦<SimBus as Bus>⟧.state bus.new) }
-    ensures name { (programmer : Programmer) → Opens programmer (⟦<SimBus as Bus>⟧.state bus.old)
-        → MatchResult result (λ _. HasName named.entry programmer.chip) (IsOther named.entry programmer.chip) }
+// The request to write a whole image to a chip of this name, if one is given, and to check it.
+fn request_to_write(named: Option<&str>) -> Request
+    ensures { result ≡ writing named.entry }
 {
-    if named.is_some() {
-        find(bus, named)?;
+    Request {
+        what: What::Write,
+        named: read_name(named),
+        included: None,
+        unlock: false,
+        verify: true,
     }
-    Ok(())
 }
 
 // Finds the chip on the bus, which nothing stops. The chip must have the name that is given, if one is.
@@ -106,5 +105,12 @@ fn find(bus: &mut SimBus, named: Option<&str>) -> Result<Found, ProbeFault>
         → MatchResult result (IsFound named.entry programmer.chip) (IsOther named.entry programmer.chip) }
 {
     bus.allow(u64::MAX);
-    probe(bus, named.map(ChipName::of))
+    probe(bus, read_name(named))
+}
+
+// The chip's name that the text says, if there is one.
+fn read_name(named: Option<&str>) -> Option<ChipName>
+    ensures { result ≡ wanted named.entry }
+{
+    named.map(ChipName::of)
 }

@@ -2,8 +2,11 @@
 
 use super::shelf::Shelf;
 use super::{all_fail, run};
-use crate::messages::Fault;
+use crate::messages::{Fault, print_fault};
+use nor_journal::JournalFault;
 use nor_probe::{ProbeFault, SfdpFault};
+use nor_session::Refusal;
+use std::alloc::AllocError;
 use std::test::Fail;
 
 // What ails the image's file, the chip's file and the image, in this order.
@@ -19,15 +22,15 @@ fn tells_faults(rt: HostRuntime) -> Result<(), Fail> {
         &shelf,
         &[
             (
-                "-p dummy:emulate=TINY64 -w short --rehearse 24",
+                "-p dummy:emulate=TINY64 -w short --rehearse 25",
                 "Error 4: image of 65535 bytes, chip of 65536 bytes.",
             ),
             (
-                "-p dummy:emulate=TINY64 -w long --rehearse 24",
+                "-p dummy:emulate=TINY64 -w long --rehearse 25",
                 "Error 4: image of 65537 bytes, chip of 65536 bytes.",
             ),
             (
-                "-p dummy:emulate=TINY64 -w huge --rehearse 24",
+                "-p dummy:emulate=TINY64 -w huge --rehearse 25",
                 "Error 4: image of 16777217 bytes, chip of 65536 bytes.",
             ),
             (
@@ -127,7 +130,86 @@ fn tells_the_first_usage_fault(rt: HostRuntime) -> Result<(), Fail> {
     )
 }
 
-// Emulated chips are refused for their name alone. What others would be told:
+// Few of the refusals come from emulated chips. What each of them is told as:
+const REFUSALS: [(Refusal, &str); 20] = [
+    (Refusal::NoChip, "Error 1: no chip.\n"),
+    (
+        Refusal::UnknownChip(SfdpFault::NoSector),
+        "Error 2: unknown chip, SFDP fault 8.\n",
+    ),
+    (Refusal::OtherName, "Error 3: another chip than named.\n"),
+    (
+        Refusal::ImageSize {
+            chip: 65536,
+            image: 65535,
+        },
+        "Error 4: image of 65535 bytes, chip of 65536 bytes.\n",
+    ),
+    (
+        Refusal::RegionOutside,
+        "Error 5: region outside the chip.\n",
+    ),
+    (
+        Refusal::NoProtection,
+        "Error 6: no protection on this chip.\n",
+    ),
+    (
+        Refusal::UndefinedProtection,
+        "Error 7: undefined protection.\n",
+    ),
+    (Refusal::RangeNotOffered, "Error 8: range not offered.\n"),
+    (Refusal::StatusLocked, "Error 9: status locked.\n"),
+    (
+        Refusal::Protected { address: 0x7E0000 },
+        "Error 10: protected at 0x7e0000.\n",
+    ),
+    (Refusal::Vault, "Error 11: journal not written.\n"),
+    (Refusal::Stopped, "Error 12: stopped.\n"),
+    (
+        Refusal::Timeout { address: 0x00F000 },
+        "Error 13: timeout at 0x00f000.\n",
+    ),
+    (
+        Refusal::Mismatch { address: 0x001234 },
+        "Error 14: bytes differ at 0x001234.\n",
+    ),
+    (
+        Refusal::BadJournal(JournalFault::Digest),
+        "Error 15: journal fault 7.\n",
+    ),
+    (
+        Refusal::OtherChip,
+        "Error 16: another chip than the journal's.\n",
+    ),
+    (
+        Refusal::StatusDiffers,
+        "Error 17: status differs from the journal's.\n",
+    ),
+    (Refusal::Memory, "Error 18: out of memory.\n"),
+    (
+        Refusal::Output {
+            written: 16_777_216,
+        },
+        "Error 19: output failed after 16777216 bytes.\n",
+    ),
+    (
+        Refusal::OtherUnit,
+        "Error 20: another unit than the journal's.\n",
+    ),
+];
+
+#[test]
+fn shows_each_refusal(rt: HostRuntime) -> Result<(), Fail> {
+    for (refusal, told) in REFUSALS {
+        let mut errors = Vec::new(rt.alloc());
+        let status = print_fault(&mut errors, Fault::from(refusal));
+        assert_eq!(rt; errors.as_slice(), told.as_bytes(), "at {told}");
+        assert_eq!(rt; status, 1, "at {told}");
+    }
+    Ok(())
+}
+
+// What a probe refuses is told as what a session does, and so is a want of memory.
 #[test]
 fn shows_what_probes_refuse(rt: HostRuntime) -> Result<(), Fail> {
     for (fault, told) in [
@@ -136,18 +218,17 @@ fn shows_what_probes_refuse(rt: HostRuntime) -> Result<(), Fail> {
             ProbeFault::UnknownChip(SfdpFault::Signature),
             "Error 2: unknown chip, SFDP fault 1.",
         ),
-        (
-            ProbeFault::UnknownChip(SfdpFault::NoSector),
-            "Error 2: unknown chip, SFDP fault 8.",
-        ),
         (ProbeFault::OtherName, "Error 3: another chip than named."),
         (ProbeFault::Stopped, "Error 12: stopped."),
         (ProbeFault::Timeout, "Error 13: timeout at 0x000000."),
     ] {
-        let shown = Fault::Probe(fault);
+        let shown = Fault::from(fault);
         let text = format!(in rt.alloc(); "{shown}")?;
         assert_eq!(rt; text.as_str(), told);
     }
+    let shown = Fault::from(AllocError);
+    let text = format!(in rt.alloc(); "{shown}")?;
+    assert_eq!(rt; text.as_str(), "Error 18: out of memory.");
     Ok(())
 }
 

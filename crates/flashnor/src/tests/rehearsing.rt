@@ -4,7 +4,8 @@ use super::shelf::Shelf;
 use super::{all_fail, all_print, run};
 use std::test::Fail;
 
-// Byte 0 of the chip is 00h and that of the image 01h, so the sector is erased and then programmed. Each of the
+// Byte 0 of the chip is 00h and that of the image 01h, so the sector is erased and then programmed. Opening and scan
+// take 7 and 16 transactions, the session 30, and a restore 13 where nothing has to be undone by an erase. Each of the
 // rehearsals gives the chip back.
 #[test]
 fn rehearses(rt: HostRuntime) -> Result<(), Fail> {
@@ -12,11 +13,13 @@ fn rehearses(rt: HostRuntime) -> Result<(), Fail> {
         .with("chip.bin", 0x00, 65536)?
         .with("new.bin", 0x01, 65536)?;
     for (stops, how, restores) in [
-        ("24", "stopped", 1),
-        ("26,24", "stopped", 2),
-        ("21", "stopped", 0),
-        ("22", "stopped", 1),
-        ("29", "ended", 1),
+        ("25", "stopped", 1),
+        ("27,10", "stopped", 2),
+        ("0", "stopped", 0),
+        ("22", "stopped", 0),
+        ("23", "stopped", 1),
+        ("29", "stopped", 1),
+        ("30", "ended", 1),
     ] {
         let line = format!(in rt.alloc();
             "-p dummy:emulate=TINY64,image=chip.bin -w new.bin --rehearse {stops}"
@@ -42,21 +45,55 @@ fn starts_erased(rt: HostRuntime) -> Result<(), Fail> {
         &rt,
         &shelf,
         &[
-            ("-p dummy:emulate=TINY64 -w new.bin --rehearse 22", told),
+            ("-p dummy:emulate=TINY64 -w new.bin --rehearse 23", told),
             (
-                "-p dummy:image=none,emulate=TINY64 -w new.bin --rehearse 22",
+                "-p dummy:image=none,emulate=TINY64 -w new.bin --rehearse 23",
                 told,
             ),
             (
-                "-p dummy:emulate=TINY64 -c SFDP -w new.bin --rehearse 22",
+                "-p dummy:emulate=TINY64 -c SFDP -w new.bin --rehearse 23",
                 told,
             ),
         ],
     )
 }
 
-// A chip with another name than the one given isn't written, and sessions know one chip alone so far. An image that
-// can't be read is told before either.
+// The chips of the table are told by two transactions; a scan takes one for each sector. Byte 0 is programmed without
+// an erase.
+#[test]
+fn rehearses_64_megabits(rt: HostRuntime) -> Result<(), Fail> {
+    let shelf = Shelf::new(rt.alloc()).with("new.bin", 0x01, 8_388_608)?;
+    all_print(
+        &rt,
+        &shelf,
+        &[
+            (
+                "-p dummy:emulate=W25Q64FV -c W25Q64FV -w new.bin --rehearse 2055",
+                "Rehearsal: session stopped.\nRestores: 1.\nChip as before.\n",
+            ),
+            (
+                "-p dummy:emulate=W25Q64FV -w new.bin --rehearse 2051",
+                "Rehearsal: session stopped.\nRestores: 0.\nChip as before.\n",
+            ),
+        ],
+    )
+}
+
+#[test]
+fn rehearses_128_megabits(rt: HostRuntime) -> Result<(), Fail> {
+    let shelf = Shelf::new(rt.alloc()).with("new.bin", 0x01, 16_777_216)?;
+    all_print(
+        &rt,
+        &shelf,
+        &[(
+            "-p dummy:emulate=W25Q128FV -w new.bin --rehearse 4105",
+            "Rehearsal: session ended.\nRestores: 1.\nChip as before.\n",
+        )],
+    )
+}
+
+// A chip with another name than the one given isn't written, and one of another length isn't either. An image that
+// can't be read is told before.
 #[test]
 fn refuses_other_chips(rt: HostRuntime) -> Result<(), Fail> {
     let shelf = Shelf::new(rt.alloc()).with("new.bin", 0x01, 65536)?;
@@ -65,17 +102,35 @@ fn refuses_other_chips(rt: HostRuntime) -> Result<(), Fail> {
         &shelf,
         &[
             (
-                "-p dummy:emulate=TINY64 -c W25Q64FV -w new.bin --rehearse 24",
+                "-p dummy:emulate=TINY64 -c W25Q64FV -w new.bin --rehearse 25",
                 "Error 3: another chip than named.",
             ),
             (
-                "-p dummy:emulate=W25Q64FV -w new.bin --rehearse 24",
-                "Error 2: unknown chip, SFDP fault 1.",
+                "-p dummy:emulate=W25Q64FV -c W25Q128FV -w new.bin --rehearse 25",
+                "Error 3: another chip than named.",
             ),
             (
-                "-p dummy:emulate=TINY64 -c W25Q64FV -w none --rehearse 24",
+                "-p dummy:emulate=W25Q64FV -w new.bin --rehearse 25",
+                "Error 4: image of 65536 bytes, chip of 8388608 bytes.",
+            ),
+            (
+                "-p dummy:emulate=TINY64 -c W25Q64FV -w none --rehearse 25",
                 "File fault 1: none.",
             ),
         ],
+    )
+}
+
+// The session judges the name, so one that is stopped before it has the chip's ID doesn't.
+#[test]
+fn stops_before_the_name(rt: HostRuntime) -> Result<(), Fail> {
+    let shelf = Shelf::new(rt.alloc()).with("new.bin", 0x01, 65536)?;
+    all_print(
+        &rt,
+        &shelf,
+        &[(
+            "-p dummy:emulate=TINY64 -c W25Q64FV -w new.bin --rehearse 1",
+            "Rehearsal: session stopped.\nRestores: 0.\nChip as before.\n",
+        )],
     )
 }

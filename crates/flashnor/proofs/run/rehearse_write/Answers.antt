@@ -1,22 +1,25 @@
-use Rattle.std.proofs.Common.{subst, sym}
-use Rattle.flashnor.specs.Programmer.{IsConfigOf}
-use Rattle.flashnor.proofs.Genuine.{genuine-emulated, fair-both}
+use Rattle.std.proofs.lemmas.Result.{err_from_is_err_and}
+use Rattle.flashnor.proofs.Writes.{back-emulated, comes-emulated, ends-emulated}
 use Rattle.flashnor.proofs.run.rehearse_write.Goals as goal
 
-pub returns : goal.returns
-returns g c = λ programmer opens.
-    let checked = c.in_ok-check_name.ensures in
-    let stays = checked.stays opens.honest opens.steady in
-    let fairly = fair-both _ _ stays.0 stays.1 in
-    let genuine = genuine-emulated programmer.chip _ (subst (IsConfigOf programmer.chip) (sym stays.2.config) opens.config) in
-    let rehearsed = c.in_ok-rehearsal.ensures in (
-      record {
-        vault = _;
-        counts = rehearsed.counts;
-        ended = rehearsed.ended fairly genuine;
-        sealed = rehearsed.sealed fairly;
-        unsealed = rehearsed.unsealed fairly;
-        restores = rehearsed.restores fairly genuine;
-      },
-      checked.name programmer opens,
-    )
+pub returns-in_err-rehearsal-clause-back : goal.returns-in_err-rehearsal-clause-back
+returns-in_err-rehearsal-clause-back g c = λ programmer opens. back-emulated programmer _ _ c.in_err-rehearsal.ensures.gives_back opens
+
+pub returns-in_err-rehearsal-clause-ends : goal.returns-in_err-rehearsal-clause-ends
+returns-in_err-rehearsal-clause-ends g c = λ programmer opens.
+    let p = err_from_is_err_and c.from_residual-in_err-rehearsal.result c.from_residual-in_err-rehearsal.ensures.1 in
+    rw (p.1, p.2) (ends-emulated programmer c.args.named _ _ _ c.new-vault.result c.rehearse.new.vault c.in_err-rehearsal.field-0.0 c.request_to_write-request.ensures c.in_err-rehearsal.ensures.tells opens)
+
+pub returns-clause-back : goal.returns-clause-back
+returns-clause-back g c = λ programmer opens. back-emulated programmer _ _ c.in_ok-rehearsal.ensures.gives_back opens
+
+pub returns-clause-ends : goal.returns-clause-ends
+returns-clause-ends g c = λ programmer opens.
+    let told = c.in_ok-rehearsal.ensures in
+    comes-emulated programmer c.args.named _ _ _ c.args.stops.now _ c.in_ok-rehearsal.rehearsal c.request_to_write-request.ensures told.counts
+    (λ modelled. record {
+      ended = told.ended modelled;
+      stopped = told.stopped modelled;
+      fits = told.seal modelled;
+      restores = told.restores modelled;
+    }) opens
