@@ -3,13 +3,13 @@
 PROGRAM := crates/flashnor/out/flashnor
 BENCH := crates/bench/out/bench
 SCRATCH := $(CURDIR)/out/demo
-WORDS := -p dummy:emulate=TINY64,image=chip.bin -w new.bin --rehearse 24
+WORDS := -p dummy:emulate=TINY64,image=chip.bin -w new.bin --rehearse 25
 
 .PHONY: build demo files bench check clean
 
 # Proves the program and everything below it, builds it, and runs it once.
 build: files
-	cd crates/flashnor && rt run -- -p dummy:emulate=TINY64,image=$(SCRATCH)/chip.bin -w $(SCRATCH)/new.bin --rehearse 24
+	cd crates/flashnor && rt run -- -p dummy:emulate=TINY64,image=$(SCRATCH)/chip.bin -w $(SCRATCH)/new.bin --rehearse 25
 	@test -x $(PROGRAM)
 
 # A chip file whose byte 0 is 00h, an image whose byte 0 is 01h, and FFh in all other bytes of both.
@@ -19,7 +19,7 @@ files:
 	@{ printf '\000'; cat $(SCRATCH)/rest; } > $(SCRATCH)/chip.bin
 	@{ printf '\001'; cat $(SCRATCH)/rest; } > $(SCRATCH)/new.bin
 
-# The first run, on these files: a session that is stopped after 24 transactions and given back.
+# The first run, on these files: a session that is stopped after 25 transactions and given back.
 demo: files
 	@if [ -x $(PROGRAM) ]; then \
 	  cd $(SCRATCH) && $(CURDIR)/$(PROGRAM) $(WORDS); \
@@ -35,6 +35,8 @@ bench:
 	@$(BENCH) chip
 	@$(BENCH) plan
 	@$(BENCH) journal
+	@$(BENCH) session
+	@$(BENCH) read
 
 # The merge gate.
 check:

@@ -2,7 +2,7 @@
 use Rattle.std.specs.Prelude.{ℕ, List, [], ◌∷◌, codes, if◌then◌else◌}
 use Rattle.std.specs.Str.{bytes_eq}
 use Rattle.bench.specs.declared.words.Request.{Request}
-use Rattle.bench.specs.declared.words.Request.TheVariants.{Usage, Chip, Plan, Journal, Unknown}
+use Rattle.bench.specs.declared.words.Request.TheVariants.{Usage, Chip, Plan, Journal, Session, Read, Unknown}
 
 -- the measurement of this name
 abbrev pub named : List ℕ → Request
@@ -10,6 +10,8 @@ named word =
     if bytes_eq word (codes "chip") then Chip
     else if bytes_eq word (codes "plan") then Plan
     else if bytes_eq word (codes "journal") then Journal
+    else if bytes_eq word (codes "session") then Session
+    else if bytes_eq word (codes "read") then Read
     else Unknown
 
 -- no word asks for the usage, and one for the measurement of its name

@@ -3,6 +3,7 @@
 use nor_chip::{Stopped, WrongLength};
 use nor_driver::Halt;
 use nor_journal::{JournalFault, VaultFault};
+use nor_session::Refusal;
 use std::alloc::AllocError;
 use std::io;
 
@@ -19,6 +20,8 @@ pub enum Fault {
     Vault(VaultFault),
     /// What was written is no journal.
     Journal(JournalFault),
+    /// A session, a restore or a reading gave up.
+    Refused(Refusal),
 }
 
 impl From<io::Error> for Fault {
@@ -60,5 +63,11 @@ impl From<VaultFault> for Fault {
 impl From<JournalFault> for Fault {
     fn from(fault: JournalFault) -> Fault {
         Fault::Journal(fault)
+    }
+}
+
+impl From<Refusal> for Fault {
+    fn from(refusal: Refusal) -> Fault {
+        Fault::Refused(refusal)
     }
 }

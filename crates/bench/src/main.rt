@@ -6,6 +6,8 @@ mod chip;
 mod fault;
 mod journal;
 mod plan;
+mod read;
+mod session;
 mod timing;
 mod words;
 
@@ -15,10 +17,12 @@ use std::process::ExitCode;
 use words::{Request, request_of};
 
 const USAGE: &str = "\
-usage: bench chip | plan | journal
+usage: bench chip | plan | journal | session | read
   chip     reads, erases and page programs of a simulated chip, beside copies
   plan     comparisons of two sectors, beside copies
   journal  a journal of 4,096 sectors, written and read, beside SHA-256
+  session  sessions and a restore on a chip of 16 MiB, beside SHA-256 and copies
+  read     a chip of 16 MiB, read out and verified, beside copies
 ";
 
 fn main(rt: HostRuntime) -> Result<ExitCode, Fault> {
@@ -31,6 +35,8 @@ fn main(rt: HostRuntime) -> Result<ExitCode, Fault> {
         Request::Chip => chip::measure(&rt)?,
         Request::Journal => journal::measure(&rt)?,
         Request::Plan => plan::measure(&rt)?,
+        Request::Session => session::measure(&rt)?,
+        Request::Read => read::measure(&rt)?,
         Request::Unknown => {
             rt.eprint(USAGE)?;
             return Ok(ExitCode::FAILURE);

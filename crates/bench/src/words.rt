@@ -13,6 +13,10 @@ pub enum Request {
     Plan,
     /// `journal`: measure the writing and the reading of a journal.
     Journal,
+    /// `session`: measure sessions and a restore.
+    Session,
+    /// `read`: measure the reading of a whole chip.
+    Read,
     /// Anything else.
     Unknown,
 }
@@ -38,6 +42,10 @@ fn named(word: &str) -> Request
         Request::Plan
     } else if word == "journal" {
         Request::Journal
+    } else if word == "session" {
+        Request::Session
+    } else if word == "read" {
+        Request::Read
     } else {
         Request::Unknown
     }

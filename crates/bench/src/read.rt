@@ -1,0 +1,124 @@
+//! The whole W25Q128FV, read out into memory and compared with an image.
+
+use crate::fault::Fault;
+use crate::timing::{Aim, Work, compare};
+use nor_chip::{Config, Delays, Meter, SimBus};
+use nor_journal::MemVault;
+use nor_read::{read_out, verify};
+use std::alloc::{AllocError, Global};
+use std::rt::Clock;
+
+/// The bytes of the chip.
+const CHIP: usize = 16777216;
+
+const READING: Aim = Aim {
+    what: "a chip read out",
+    beside: "a copy",
+    at_most: 3.0,
+    rounds: 31,
+};
+
+const VERIFYING: Aim = Aim {
+    what: "a chip verified",
+    beside: "a copy",
+    at_most: 3.0,
+    rounds: 31,
+};
+
+/// Prints how long the two take. The plain work copies as many bytes into memory that it takes anew, as the reading
+/// does.
+pub fn measure<R: Clock + Print + AllocGlobal>(rt: &R) -> Result<u64, Fault> {
+    let alloc = rt.alloc();
+    let image = bytes(alloc)?;
+    let image = image.as_slice();
+    let mut bus = open_bus(alloc)?;
+    let mut copies = Copies { alloc, image };
+    let mut reading = Reading {
+        alloc,
+        bus: &mut bus,
+    };
+    let sum = compare(rt, READING, &mut reading, &mut copies)?;
+    let mut verifying = Verifying {
+        image,
+        bus: &mut bus,
+    };
+    Ok(sum ^ compare(rt, VERIFYING, &mut verifying, &mut copies)?)
+}
+
+// The bytes of the chip, which are all alike.
+fn bytes(alloc: Global) -> Result<Vec<u8>, AllocError> {
+    vec![in alloc; 0x5A; CHIP]
+}
+
+// The bus to an idle chip. It lets more transactions through than any measurement sends.
+fn open_bus(alloc: Global) -> Result<SimBus, Fault> {
+    let delays = Delays { now: 0, each: 0 };
+    let mut bus = SimBus::new(Config::w25q128fv(), bytes(alloc)?, [0, 0], delays)?;
+    bus.allow(u64::MAX);
+    Ok(bus)
+}
+
+#[derive(Drop)]
+struct Reading<'a> {
+    alloc: Global,
+    bus: &'a mut SimBus,
+}
+
+impl Work for Reading<'_> {
+    fn run(&mut self) -> Result<u64, Fault> {
+        let mut out = MemVault::new(self.alloc);
+        read_out(self.bus, None, None, &mut out)?;
+        Ok(u64::from(out.bytes().last().copied().unwrap_or(0)))
+    }
+}
+
+#[derive(Drop)]
+struct Verifying<'a> {
+    image: &'a [u8],
+    bus: &'a mut SimBus,
+}
+
+impl Work for Verifying<'_> {
+    fn run(&mut self) -> Result<u64, Fault> {
+        Ok(verify(self.bus, self.image, None, None)?.transactions)
+    }
+}
+
+/// The plain work: a copy of an image into new memory.
+#[derive(Drop)]
+pub struct Copies<'a> {
+    pub alloc: Global,
+    pub image: &'a [u8],
+}
+
+impl Work for Copies<'_> {
+    fn run(&mut self) -> Result<u64, Fault> {
+        let mut copy = Vec::new(self.alloc);
+        copy.extend_from_slice(self.image)?;
+        Ok(u64::from(copy.as_slice().last().copied().unwrap_or(0)))
+    }
+}
+
+#[cfg(test)]
+mod tests {
+    use super::*;
+    use std::test::Fail;
+
+    #[test]
+    fn a_whole_chip_is_read(rt: HostRuntime) -> Result<(), Fail> {
+        let image = bytes(rt.alloc())?;
+        let image = image.as_slice();
+        let mut bus = open_bus(rt.alloc())?;
+        let mut reading = Reading {
+            alloc: rt.alloc(),
+            bus: &mut bus,
+        };
+        assert_eq!(rt; reading.run()?, 0x5A);
+        let mut verifying = Verifying {
+            image,
+            bus: &mut bus,
+        };
+        assert_eq!(rt; verifying.run()?, 4098);
+        Ok(())
+    }
+}
