@@ -12,6 +12,7 @@ use Rattle.nor_save.specs.declared.refusal.Refusal.{Refusal}
 use Rattle.nor_save.specs.declared.refusal.Refusal.TheVariants.{Memory}
 use Rattle.nor_save.specs.declared.report.Request.{Request}
 use Rattle.nor_session.specs.Modelled.{IsModelled, most_of}
+use Rattle.nor_session.specs.Verdict.{IsAccepted}
 use Rattle.nor_session.specs.Rehearsal.{AreRestores, CanEnd, IsRehearsal, RehearsalTells, SealFits, first_allowance}
 use Rattle.nor_session.specs.declared.rehearsals.Rehearsal.{Rehearsal}
 use Rattle.flashnor.specs.Files.{Opens}
@@ -48,6 +49,7 @@ ends-emulated programmer named request bus image old new refusal same tells open
 -- what a call promises of a rehearsal that came to an end
 pub record Comes (request : Request) (image : List ℕ) (bus : BusState) (stops : List ℕ) (rehearsal : Rehearsal) : Type 0 where
   pub ended : most_of (bus.chip.config.size / 4096) ≤ first_allowance stops → rehearsal.ended ≡ true
+  pub accepted : rehearsal.sealed ≡ true → IsAccepted request image bus.chip
   pub stopped : rehearsal.ended ≡ true → CanEnd request image (first_allowance stops) bus.chip
   pub fits : SealFits request (first_allowance stops) bus.chip rehearsal.sealed
   pub restores : rehearsal.sealed ≡ true → AreRestores (sector_count (is_touched_by request image bus.chip)) (drop 1 stops) rehearsal.restores
@@ -67,8 +69,8 @@ comes-emulated programmer named request bus image stops vault rehearsal same cou
       counts = counts;
       ended = λ enough. facts.ended (subst (λ (n : ℕ). most_of (n / 4096) ≤ first_allowance stops) (sym size) enough);
       enough = facts.stopped;
-      name = λ is. named-emulated programmer named bus opens (facts.stopped is).accepted.named;
-      size = λ is. (facts.stopped is).accepted.opening.fits.image_size refl ∙ size;
+      name = λ is. named-emulated programmer named bus opens (facts.accepted is).named;
+      size = λ is. (facts.accepted is).opening.fits.image_size refl ∙ size;
       unsealed = λ is. subst (λ (n : ℕ). first_allowance stops < 65542 + scanned_sectors (writing named) n) size (facts.fits.below is);
       sealed = λ is. subst (λ (n : ℕ). 4 + scanned_sectors (writing named) n ≤ first_allowance stops) size (facts.fits.enough is);
       restores = facts.restores;

@@ -43,11 +43,12 @@ pub record IsRehearsed (programmer : Programmer) (named : Option (Bor Text)) (st
   pub counts : IsRehearsal (length stops) vault rehearsal
   -- The session was allowed the first of the stops. It ended if that was as much as any session on such a chip needs,
   pub ended : most_of ((part_of programmer.chip).size / 4096) ≤ first_allowance stops → rehearsal.ended ≡ true
-  -- and only if it was as much as this one needs at least, on a chip of the name and the size that are wanted;
+  -- and only if it was as much as this one needs at least;
   pub enough : rehearsal.ended ≡ true → CanEnd (writing named) image (first_allowance stops) bus.chip
-  pub name : rehearsal.ended ≡ true → HasName named programmer.chip
-  pub size : rehearsal.ended ≡ true → length image ≡ (part_of programmer.chip).size
-  -- its journal was sealed if that was as much as opening and scan may take, and only if it was as much as they take.
+  -- its journal was sealed if that was as much as opening and scan may take, and only if it was as much as they take,
+  -- on a chip of the name and the size that are wanted.
+  pub name : rehearsal.sealed ≡ true → HasName named programmer.chip
+  pub size : rehearsal.sealed ≡ true → length image ≡ (part_of programmer.chip).size
   pub unsealed : rehearsal.sealed ≡ false → first_allowance stops < 65542 + scanned_sectors (writing named) (part_of programmer.chip).size
   pub sealed : rehearsal.sealed ≡ true → 4 + scanned_sectors (writing named) (part_of programmer.chip).size ≤ first_allowance stops
   -- The restores were run under the other stops in turn, from a journal of the touched sectors.

@@ -45,6 +45,7 @@ session_leaves n most few request image old mid new vault allows telling reaches
       let mid_modelled = allow_modelled n old mid allows modelled in
       subst (λ (chip : Chip). LeadsBack (is_touched_by request image chip) chip vault.bytes new) allows.chip
       (leads_back request image mid new vault (reaches mid_modelled.honest) mid_modelled.genuine telling (undo mid_modelled sealed));
+  accepted = λ modelled sealed. subst (IsAccepted request image) allows.chip (undo (allow_modelled n old mid allows modelled) sealed).accepted;
 }
 
 -- it took what it counts

@@ -16,6 +16,7 @@ use Rattle.nor_save.specs.declared.refusal.Refusal.TheVariants.{Vault}
 use Rattle.nor_save.specs.Request.{is_touched_by}
 use Rattle.nor_save.specs.Saving.{head_of}
 use Rattle.nor_session.specs.Modelled.{IsModelled, most_of}
+use Rattle.nor_session.specs.Verdict.{IsAccepted}
 use Rattle.nor_session.specs.Restore.{CanGiveBack}
 use Rattle.nor_session.specs.Rehearsal.{KeepsNature, CanEnd, SealFits, AreRestores, LeavesRefused, BlamesVault, RehearsalTells}
 
@@ -32,11 +33,13 @@ pub record LeadsBack (saved : ℕ → Bool) (first : Chip) (text : List ℕ) (st
   pub free : is_locked first ≡ true → (s : ℕ) → saved s ≡ true → is_unit_guarded first (4096 * s) 4096 ≡ false
   pub within : IsWithin (places_of saved) first state
 
--- At every exit of the session: where its vault isn't sealed the chip is as it was, and else that leads back.
+-- At every exit of the session: where its vault isn't sealed the chip is as it was, and else that leads back, and the
+-- request is accepted.
 pub record LeavesSession (request : Request) (image : List ℕ) (old new : BusState) (vault : VaultState) : Type 0 where
   pub nature : KeepsNature old new
   pub same : IsModelled old → IsCalm old → vault.sealed ≡ false → IsSame old.chip new.chip
   pub back : IsModelled old → vault.sealed ≡ true → LeadsBack (is_touched_by request image old.chip) old.chip vault.bytes new
+  pub accepted : IsModelled old → vault.sealed ≡ true → IsAccepted request image old.chip
 
 -- It was allowed so many transactions, and ended, or was stopped since they were too few.
 pub record ShowsSession (request : Request) (image : List ℕ) (allowance : ℕ) (old : BusState) (vault : VaultState) (ended : Bool) : Type 0 where

@@ -7,6 +7,7 @@ ghost use Rattle.nor_journal.specs.Saved.{JournalSaves};
 ghost use Rattle.nor_apply.specs.Counts.{sector_count};
 ghost use Rattle.nor_save.specs.Request.{is_touched_by};
 ghost use Rattle.nor_save.specs.Saving.{head_of};
+ghost use Rattle.nor_session.specs.Verdict.{IsAccepted};
 ghost use Rattle.nor_session.specs.Modelled.{IsModelled, most_of};
 ghost use Rattle.nor_session.specs.Rehearsing.{LeavesSession, ShowsSession, RefusesSession, LeavesRestores, ShowsRestore, ShowsRestores, RefusesRestore, Undoes, RefusesUndo};
 ghost use Rattle.nor_session.specs.Rehearsal.{RehearsalTells, IsRehearsal, KeepsNature, first_allowance, CanEnd, SealFits, AreRestores, LeavesRefused, BlamesVault};
@@ -54,6 +55,8 @@ pub fn rehearse<B: Meter>(
     ensures refuses { IsModelled (B.state bus.old) → OnErr result (LeavesRefused (B.state bus.old) (B.state bus.new) (⟦<MemVault as Vault>⟧.state vault.new)) }
     ensures tells { IsModelled (B.state bus.old)
         → IfErr result (RehearsalTells request.now image.old (B.state bus.old).chip (⟦<MemVault as Vault>⟧.state vault.old) (⟦<MemVault as Vault>⟧.state vault.new)) }
+    ensures accepts { IsModelled (B.state bus.old) → (⟦<MemVault as Vault>⟧.state vault.new).sealed ≡ true
+        → IsAccepted request.now image.old (B.state bus.old).chip }
     ensures saves { IsModelled (B.state bus.old) → (⟦<MemVault as Vault>⟧.state vault.new).sealed ≡ true
         → JournalSaves (head_of (B.state bus.old).chip) (B.state bus.old).chip.bytes (is_touched_by request.now image.old (B.state bus.old).chip) (⟦<MemVault as Vault>⟧.state vault.new).bytes }
     ensures ended { IsModelled (B.state bus.old) → most_of ((B.state bus.old).chip.config.size / 4096) ≤ first_allowance stops.now

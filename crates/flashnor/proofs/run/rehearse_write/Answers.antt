@@ -1,3 +1,4 @@
+use Rattle.std.proofs.Common.{◌∙◌, sym}
 use Rattle.std.proofs.lemmas.Result.{err_from_is_err_and}
 use Rattle.flashnor.proofs.Writes.{back-emulated, comes-emulated, ends-emulated}
 use Rattle.flashnor.proofs.run.rehearse_write.Goals as goal
@@ -19,6 +20,7 @@ returns-clause-ends g c = λ programmer opens.
     comes-emulated programmer c.args.named _ _ _ c.args.stops.now _ c.in_ok-rehearsal.rehearsal c.request_to_write-request.ensures told.counts
     (λ modelled. record {
       ended = told.ended modelled;
+      accepted = λ sealed. told.accepts modelled (sym told.counts.seal ∙ sealed);
       stopped = told.stopped modelled;
       fits = told.seal modelled;
       restores = told.restores modelled;
