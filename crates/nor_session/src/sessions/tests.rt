@@ -116,7 +116,8 @@ fn a_chip_that_is_as_wanted_is_only_read(rt: HostRuntime) -> Result<(), Fail> {
 
 #[test]
 fn bits_that_fall_take_no_erase(rt: HostRuntime) -> Result<(), Fail> {
-    let sent = "0300f000 > 4096 bytes\n03000000 > 4096 bytes\n06\n02000100a5\n05 > 00\n03000000 > 4096 bytes\n";
+    let sent =
+        "0300f000 > 4096 bytes\n03000000 > 4096 bytes\n06\n02000100a5\n05 > 00\n03000000 > 4096 bytes\n";
     let ran = write_tiny(&rt, rt.alloc(), 0x100, &[0xFF], &[0xA5], sent)?;
     assert_eq!(rt; ran.counts(), Some((1, 0, 1, 28)));
     assert_eq!(rt; ran.vault.bytes().len(), 4161);
@@ -128,7 +129,8 @@ fn bits_that_fall_take_no_erase(rt: HostRuntime) -> Result<(), Fail> {
 
 #[test]
 fn bits_that_rise_take_an_erase(rt: HostRuntime) -> Result<(), Fail> {
-    let sent = "0300f000 > 4096 bytes\n06\n20000000\n05 > 00\n06\n0200000001\n05 > 00\n03000000 > 4096 bytes\n";
+    let sent =
+        "0300f000 > 4096 bytes\n06\n20000000\n05 > 00\n06\n0200000001\n05 > 00\n03000000 > 4096 bytes\n";
     let ran = write_tiny(&rt, rt.alloc(), 0, &[0x00], &[0x01], sent)?;
     assert_eq!(rt; ran.counts(), Some((1, 1, 1, 30)));
     Ok(())
@@ -136,7 +138,8 @@ fn bits_that_rise_take_an_erase(rt: HostRuntime) -> Result<(), Fail> {
 
 #[test]
 fn a_span_ends_with_its_page(rt: HostRuntime) -> Result<(), Fail> {
-    let sent = "03000000 > 4096 bytes\n06\n020000fe1122\n05 > 00\n06\n020001003344\n05 > 00\n03000000 > 4096 bytes\n";
+    let sent =
+        "03000000 > 4096 bytes\n06\n020000fe1122\n05 > 00\n06\n020001003344\n05 > 00\n03000000 > 4096 bytes\n";
     let new = [0x11, 0x22, 0x33, 0x44];
     let ran = write_tiny(&rt, rt.alloc(), 0xFE, &[0xFF; 4], &new, sent)?;
     assert_eq!(rt; ran.counts(), Some((1, 0, 2, 31)));
@@ -145,13 +148,21 @@ fn a_span_ends_with_its_page(rt: HostRuntime) -> Result<(), Fail> {
 
 #[test]
 fn large_erases_cover_raised_sectors_alone(rt: HostRuntime) -> Result<(), Fail> {
-    let sent = "0300f000 > 4096 bytes\n06\n52000000\n05 > 00\n06\n20008000\n05 > 00\n03000000 > 4096 bytes\n\
+    let sent =
+        "0300f000 > 4096 bytes\n06\n52000000\n05 > 00\n06\n20008000\n05 > 00\n03000000 > 4096 bytes\n\
         03001000 > 4096 bytes\n03002000 > 4096 bytes\n03003000 > 4096 bytes\n03004000 > 4096 bytes\n\
         03005000 > 4096 bytes\n03006000 > 4096 bytes\n03007000 > 4096 bytes\n03008000 > 4096 bytes\n";
     let ran = write_tiny(&rt, rt.alloc(), 0, &[0x00; 36_864], &[0xFF; 36_864], sent)?;
     assert_eq!(rt; ran.counts(), Some((9, 2, 0, 38)));
     assert_eq!(rt; ran.vault.bytes().len(), 36_961);
-    let ran = write_tiny(&rt, rt.alloc(), 0, &[0x00; 65_536], &[0xFF; 65_536], "0300f000 > 4096 bytes\n")?;
+    let ran = write_tiny(
+        &rt,
+        rt.alloc(),
+        0,
+        &[0x00; 65_536],
+        &[0xFF; 65_536],
+        "0300f000 > 4096 bytes\n",
+    )?;
     assert_eq!(rt; ran.counts(), Some((16, 1, 0, 42)));
     assert_eq!(rt; ran.vault.bytes().len(), 65_661);
     Ok(())
@@ -162,7 +173,13 @@ fn erase_middle(alloc: Global, log: &mut Vec<u8>, config: Config) -> Result<Ran,
     let len = config.size as usize;
     let bytes = erased_but(alloc, len, 0x8000, &[0x00; 131_072])?;
     let mut image = erased_but(alloc, len, 0, &[])?;
-    run(alloc, log, (config, bytes, [0x00, 0x00]), &mut image, &WRITE)
+    run(
+        alloc,
+        log,
+        (config, bytes, [0x00, 0x00]),
+        &mut image,
+        &WRITE,
+    )
 }
 
 // A chip of 256 KiB that is known by its SFDP, with these erase kinds.
@@ -183,10 +200,16 @@ fn sectors_are_erased_by_the_largest_units(rt: HostRuntime) -> Result<(), Fail> 
     let mut log = Vec::new(rt.alloc());
     let ran = erase_middle(rt.alloc(), &mut log, Config::w25q64fv())?;
     assert_eq!(rt; ran.counts().map(|counts| counts.1), Some(3));
-    let sent = "06\n52008000\n05 > 00\n06\nd8010000\n05 > 00\n06\n52020000\n05 > 00\n03008000 > 4096 bytes\n";
+    let sent =
+        "06\n52008000\n05 > 00\n06\nd8010000\n05 > 00\n06\n52020000\n05 > 00\n03008000 > 4096 bytes\n";
     let lines = str::from_utf8(log.as_slice()).ok();
     assert!(rt; lines.is_some_and(|lines| lines.contains(sent)));
-    let cases = [(false, true, 17), (true, false, 4), (false, false, 32), (true, true, 3)];
+    let cases = [
+        (false, true, 17),
+        (true, false, 4),
+        (false, false, 32),
+        (true, true, 3),
+    ];
     for (k32, k64, erases) in cases {
         let mut log = Vec::new(rt.alloc());
         let Some(config) = chip_by_sfdp(k32, k64) else {
@@ -228,15 +251,29 @@ fn what_is_not_included_stays(rt: HostRuntime) -> Result<(), Fail> {
 #[test]
 fn images_and_regions_fit_the_chip(rt: HostRuntime) -> Result<(), Fail> {
     let mut log = Vec::new(rt.alloc());
-    let chip = (Config::tiny64(), erased_but(rt.alloc(), 65_536, 0, &[])?, [0x00, 0x00]);
+    let chip = (
+        Config::tiny64(),
+        erased_but(rt.alloc(), 65_536, 0, &[])?,
+        [0x00, 0x00],
+    );
     let mut image = erased_but(rt.alloc(), 65_535, 0, &[])?;
     let ran = run(rt.alloc(), &mut log, chip, &mut image, &WRITE)?;
-    assert_eq!(rt; ran.refusal(), Some(Refusal::ImageSize { chip: 65_536, image: 65_535 }));
+    assert_eq!(rt;
+        ran.refusal(),
+        Some(Refusal::ImageSize {
+            chip: 65_536,
+            image: 65_535
+        })
+    );
     let request = Request {
         included: Some(region(rt.alloc(), "00000000:00010000 bios")?),
         ..WRITE
     };
-    let chip = (Config::tiny64(), erased_but(rt.alloc(), 65_536, 0, &[])?, [0x00, 0x00]);
+    let chip = (
+        Config::tiny64(),
+        erased_but(rt.alloc(), 65_536, 0, &[])?,
+        [0x00, 0x00],
+    );
     let mut image = erased_but(rt.alloc(), 65_536, 0, &[])?;
     let ran = run(rt.alloc(), &mut log, chip, &mut image, &request)?;
     assert_eq!(rt; ran.refusal(), Some(Refusal::RegionOutside));
@@ -280,7 +317,8 @@ fn protected_sectors_are_refused(rt: HostRuntime) -> Result<(), Fail> {
     let mut log = Vec::new(rt.alloc());
     let ran = write_large(rt.alloc(), &mut log, 0x7D_FFFF, [0x04, 0x00], &WRITE)?;
     assert_eq!(rt; ran.counts(), Some((1, 0, 1, 2057)));
-    let sent = b"037ff000 > 4096 bytes\n037df000 > 4096 bytes\n06\n027dffff00\n05 > 04\n037df000 > 4096 bytes\n";
+    let sent =
+        b"037ff000 > 4096 bytes\n037df000 > 4096 bytes\n06\n027dffff00\n05 > 04\n037df000 > 4096 bytes\n";
     assert!(rt; log.as_slice().ends_with(sent));
     Ok(())
 }
@@ -290,7 +328,8 @@ fn protection_is_lifted_and_given_back(rt: HostRuntime) -> Result<(), Fail> {
     let mut log = Vec::new(rt.alloc());
     let ran = write_large(rt.alloc(), &mut log, 0x7E_0000, [0x04, 0x00], &UNLOCK)?;
     assert_eq!(rt; ran.counts(), Some((1, 0, 1, 2063)));
-    let sent = b"037ff000 > 4096 bytes\n06\n010000\n05 > 00\n037e0000 > 4096 bytes\n06\n027e000000\n05 > 00\n\
+    let sent =
+        b"037ff000 > 4096 bytes\n06\n010000\n05 > 00\n037e0000 > 4096 bytes\n06\n027e000000\n05 > 00\n\
         06\n010400\n05 > 04\n037e0000 > 4096 bytes\n";
     assert!(rt; log.as_slice().ends_with(sent));
     assert_eq!(rt; ran.bus.status(), [0x04, 0x00]);
@@ -307,8 +346,20 @@ fn a_range_is_protected(rt: HostRuntime) -> Result<(), Fail> {
         (0x7E_0000, 0x2_0000, [0x00, 0x00], Ok(7), [0x04, 0x00]),
         (0x7E_0000, 0x2_0000, [0x04, 0x00], Ok(4), [0x04, 0x00]),
         (0, 0x80_0000, [0x00, 0x02], Ok(7), [0x1C, 0x02]),
-        (0, 0x1001, [0x00, 0x00], Err(Refusal::RangeNotOffered), [0x00, 0x00]),
-        (0, 0x80_0000, [0x80, 0x00], Err(Refusal::StatusLocked), [0x80, 0x00]),
+        (
+            0,
+            0x1001,
+            [0x00, 0x00],
+            Err(Refusal::RangeNotOffered),
+            [0x00, 0x00],
+        ),
+        (
+            0,
+            0x80_0000,
+            [0x80, 0x00],
+            Err(Refusal::StatusLocked),
+            [0x80, 0x00],
+        ),
     ];
     for (start, len, status, transactions, wanted) in cases {
         let mut log = Vec::new(rt.alloc());

@@ -52,7 +52,7 @@ returns-clause-keeps g c =
                 let kept : HasKept g.V.Vault.state c.header.new.self (head_of chip) old.chip.bytes never 0 = subst (λ (h : Content). HasKept g.V.Vault.state c.header.new.self h old.chip.bytes never 0) head begun in
                 let scanned = c.in_ok-scanned.ensures.keeps open_now (head_of chip) (sym is.config.size) kept in
                 let marked = kept_touched g.V.Vault.state c.scan_all.new.writer (head_of chip) old.chip.bytes chip.bytes (has c.in_ok-scanned.scanned.touched) (is_touched_by c.args.request.now c.args.image.now chip) (opening.found.size / 4096)
-                    (same_bytes chip old shows) touched scanned in
+                (same_bytes chip old shows) touched scanned in
                 let done = c.in_ok-end.ensures.kept (head_of chip) chip.bytes (is_touched_by c.args.request.now c.args.image.now chip) (opening.found.size / 4096) marked in
                 search rules;
           };
