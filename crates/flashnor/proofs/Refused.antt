@@ -23,7 +23,7 @@ use Rattle.flashnor.proofs.Shown.{ok-same, shown-emulated}
 
 -- the name that such a chip shows is its own
 pub named-emulated : (programmer : Programmer) (named : Option (Bor Text)) (bus : BusState) → Opens programmer bus
-    → IsNamed (wanted named) bus.chip → HasName named programmer.chip
+    → IsNamed (wanted named) bus.chip.config → HasName named programmer.chip
 named-emulated programmer named bus opens is =
     let part : part_of programmer.chip ≡ is.part =
     ok-same (part_of programmer.chip) is.part (shown_as bus.chip.config) (shown-emulated programmer.chip bus.chip.config opens.config) is.shown in

@@ -1,15 +1,12 @@
 -- What tells the parts of a journal apart: numbers, records, heads, and the fronts that they make.
-use Rattle.std.proofs.Common.{◌≡◌, ◌≢◌, ℕ, ◌+◌, ◌-◌, ◌/◌, ◌^◌, ◌<◌, ◌≤◌, ◌⊎◌, List, [], ◌∷◌, ◌++◌, length, get_or, take, drop, Option, Some, None, refl, sym, ap, subst, ◌∙◌, append_assoc, arith, inl, inr}
-use Rattle.std.specs.Prelude.{Result, Ok, Err, IfOk, IfErr, OnOk, IsOkAnd, IfSome}
+use Rattle.std.proofs.Common.{◌≡◌, ℕ, ◌+◌, ◌/◌, ◌^◌, ◌<◌, ◌≤◌, ◌⊎◌, List, [], ◌∷◌, ◌++◌, length, get_or, take, Option, Some, None, refl, sym, ap, ◌∙◌, append_assoc, arith, inl, inr}
+use Rattle.std.specs.Prelude.{IfSome}
 use Rattle.std.specs.Option.{unwrap_or}
-use Rattle.std.proofs.lemmas.List.{length-append, length-drop, take_at, drop_at, append-nil, append_cancel_left, take-append-drop}
+use Rattle.std.proofs.lemmas.List.{length-append, append-nil}
 use Rattle.sha2.specs.Sha256.{sha256}
-use Rattle.sha2.proofs.Facts256.{length-sha256}
-use Rattle.nor_journal.specs.declared.fault.JournalFault.{JournalFault}
-use Rattle.nor_journal.specs.declared.fault.JournalFault.TheVariants.{Short, Magic, Size, Place, Order, Long, Digest}
 use Rattle.nor_journal.specs.Number.{number_text, number_at}
-use Rattle.nor_journal.specs.Text.{SavedSector, Content, IsContent, IsChipSize, IsSectorBelow, AreRising, Format, First, Second, format_of, magic, SameHead, least_after, next_number, head, record_text, records_text, front, body, text, end_mark}
-use Rattle.nor_journal.specs.Fault.{HasFault, HeadFault, IsCut, HasWrongSize, head_length, NextFault, RecordFault, EndFault}
+use Rattle.nor_journal.specs.Text.{SavedSector, Content, IsContent, IsChipSize, AreRising, Format, First, Second, format_of, magic, SameHead, head, record_text, records_text, front, body, text, end_mark}
+use Rattle.nor_journal.specs.Fault.{head_length}
 use Rattle.nor_journal.proofs.Numbers.{length-number_text, number_at-number_text, number_at-take}
 
 -- two lists that go on differently, after parts of one length

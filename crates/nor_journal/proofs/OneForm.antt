@@ -1,6 +1,6 @@
 -- No body of a journal begins another, and a journal has no fault.
-use Rattle.std.proofs.Common.{◌≡◌, ◌≢◌, ℕ, ◌+◌, ◌-◌, ◌/◌, ◌^◌, ◌<◌, ◌≤◌, ◌⊎◌, List, [], ◌∷◌, ◌++◌, length, get_or, take, drop, Option, Some, None, refl, sym, ap, subst, ◌∙◌, append_assoc, arith, inl, inr}
-use Rattle.std.specs.Prelude.{Result, Ok, Err, IfOk, IfErr, OnOk, IsOkAnd, IfSome}
+use Rattle.std.proofs.Common.{◌≡◌, ◌≢◌, ℕ, ◌+◌, ◌-◌, ◌/◌, ◌<◌, ◌≤◌, ◌⊎◌, List, [], ◌∷◌, ◌++◌, length, take, drop, refl, sym, ap, subst, ◌∙◌, append_assoc, arith, inl, inr}
+use Rattle.std.specs.Prelude.{Result, Ok, Err, IfOk, IfErr, OnOk, IsOkAnd}
 use Rattle.std.specs.Option.{unwrap_or}
 use Rattle.std.proofs.lemmas.List.{length-append, length-drop, take_at, drop_at, append-nil, append_cancel_left, take-append-drop}
 use Rattle.sha2.specs.Sha256.{sha256}
@@ -8,9 +8,9 @@ use Rattle.sha2.proofs.Facts256.{length-sha256}
 use Rattle.nor_journal.specs.declared.fault.JournalFault.{JournalFault}
 use Rattle.nor_journal.specs.declared.fault.JournalFault.TheVariants.{Short, Magic, Size, Place, Order, Long, Digest}
 use Rattle.nor_journal.specs.Number.{number_text, number_at}
-use Rattle.nor_journal.specs.Text.{SavedSector, Content, IsContent, IsChipSize, IsSectorBelow, AreRising, Format, First, Second, format_of, magic, SameHead, least_after, next_number, head, record_text, records_text, front, body, text, end_mark}
+use Rattle.nor_journal.specs.Text.{SavedSector, Content, IsContent, IsSectorBelow, AreRising, Format, First, Second, format_of, magic, SameHead, least_after, next_number, head, record_text, records_text, front, body, text, end_mark}
 use Rattle.nor_journal.specs.Fault.{HasFault, HeadFault, IsCut, HasWrongSize, head_length, NextFault, RecordFault, EndFault}
-use Rattle.nor_journal.proofs.Numbers.{length-number_text, number_at-number_text, number_at-take}
+use Rattle.nor_journal.proofs.Numbers.{length-number_text, number_at-number_text}
 use Rattle.nor_journal.proofs.Fronts.{IsSector, same_parts, number_at-end_mark, length-end_mark, number_at-marked, number_at-record, length-record_text, records_text-cons, records_text-nil, few_sectors, length-magic, same_format, head_opened, length-head, front_opened, text_opened, same_fronts, same_content}
 
 -- ---- what follows is without fault

@@ -1,4 +1,5 @@
 pub mod Vault
+pub mod MemVault
 pub mod FileVault
 pub mod BrokenVault
 pub mod Number

@@ -79,7 +79,8 @@ impl<V: Vault> BrokenVault<V> {
     // Puts a piece into the vault below.
     fn pass_on(&mut self, piece: &[u8]) -> Result<(), VaultFault>
         requires { (V.state (inner_of self.old)).sealed ≡ false }
-        ensures law { Puts (⟦<BrokenVault<V> as Vault>⟧.state self.old) piece.now result (⟦<BrokenVault<V> as Vault>⟧.state self.new) }
+        ensures law { Puts (⟦<BrokenVault<V> as Vault>⟧.state self.old) piece.now result
+            (⟦<BrokenVault<V> as Vault>⟧.state self.new) }
         ensures inner { Puts (V.state (inner_of self.old)) piece.now result (V.state (inner_of self.new)) }
         ensures calls { calls_left self.new ≡ calls_left self.old }
         ensures kept { kept_of self.new ≡ kept_of self.old }
@@ -96,7 +97,8 @@ impl<V: Vault> Vault for BrokenVault<V> {
 
     fn put(&mut self, piece: &[u8]) -> Result<(), VaultFault>
         requires { (⟦<BrokenVault<V> as Vault>⟧.state self.old).sealed ≡ false }
-        ensures law { Puts (⟦<BrokenVault<V> as Vault>⟧.state self.old) piece.now result (⟦<BrokenVault<V> as Vault>⟧.state self.new) }
+        ensures law { Puts (⟦<BrokenVault<V> as Vault>⟧.state self.old) piece.now result
+            (⟦<BrokenVault<V> as Vault>⟧.state self.new) }
         // The call that is refused.
         ensures breaks { calls_left self.old ≡ 1
             → IsErrAnd result (Broke (kept_of self.old) (V.state (inner_of self.old)) piece.now (V.state (inner_of self.new))) }

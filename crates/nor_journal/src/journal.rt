@@ -122,7 +122,8 @@ impl<'a> Journal<'a> {
 
     /// The 4,096 bytes saved for a sector, or None where it isn't saved. Since the numbers rise, the search halves.
     pub fn find(&self, sector: u32) -> Option<&'a [u8]>
-        ensures value { MatchOption result (saved_in self.now.saved sector ≡ None) (λ bytes. saved_in self.now.saved sector ≡ Some bytes.now) }
+        ensures value { MatchOption result (saved_in self.now.saved sector ≡ None)
+            (λ bytes. saved_in self.now.saved sector ≡ Some bytes.now) }
         ensures whole { IfSome result (λ bytes. length bytes.now ≡ 4096) }
         ensures sound { IsContent self.now }
     {
@@ -156,5 +157,6 @@ pub fn one_fault()
 
 /// A sector is saved exactly where a record has its number, and then with the bytes of that record.
 pub fn one_record()
-    ensures { (c : Content) (sector : ℕ) (bytes : List ℕ) → IsContent c → saved_in c.saved sector ≡ Some bytes ↔ HasRecord c sector bytes }
+    ensures { (c : Content) (sector : ℕ) (bytes : List ℕ) → IsContent c
+        → saved_in c.saved sector ≡ Some bytes ↔ HasRecord c sector bytes }
 {}

@@ -1,6 +1,7 @@
 //! A vault in memory.
 ghost use Rattle.std.specs.Prelude.{◌≡◌, true, false, IsOk};
 ghost use Rattle.nor_journal.specs.Vault.{new_vault, Seals};
+ghost use Rattle.nor_journal.specs.MemVault.{held_by};
 
 use crate::vault::{Vault, VaultFault};
 use std::alloc::Global;
@@ -42,7 +43,7 @@ impl MemVault {
 }
 
 impl Vault for MemVault {
-    ghost state = { λ v. record { telling = true; bytes = v.bytes.items; sealed = v.sealed; failures = v.failures } };
+    ghost state = { held_by };
 
     fn put(&mut self, piece: &[u8]) -> Result<(), VaultFault> {
         if self.bytes.extend_from_slice(piece).is_err() {
@@ -53,8 +54,8 @@ impl Vault for MemVault {
     }
 
     fn seal(&mut self) -> Result<(), VaultFault>
-        requires { (⟦<MemVault as Vault>⟧.state self.old).sealed ≡ false }
-        ensures law { Seals (⟦<MemVault as Vault>⟧.state self.old) result (⟦<MemVault as Vault>⟧.state self.new) }
+        requires { (held_by self.old).sealed ≡ false }
+        ensures law { Seals (held_by self.old) result (held_by self.new) }
         ensures ok { IsOk result }
     {
         self.sealed = true;

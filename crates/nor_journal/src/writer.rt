@@ -95,7 +95,8 @@ impl<'a, V: Vault> Writer<'a, V> {
         requires size { IsChipSize size }
         ensures same_vault { (vault_of self.new).ghost_name ≡ (vault_of self.old).ghost_name }
         ensures vault { PutsOn (vault_state V.state self.old) result (vault_state V.state self.new) }
-        ensures written { HasPut V.state self.old [] → OnOk result (HasWritten V.state self.new (empty_content id (Some unique) status size)) }
+        ensures written { HasPut V.state self.old []
+            → OnOk result (HasWritten V.state self.new (empty_content id (Some unique) status size)) }
     {
         self.piece(&MAGIC)?;
         self.piece(&id)?;
@@ -125,7 +126,8 @@ impl<'a, V: Vault> Writer<'a, V> {
         ensures vault { Completes (vault_state V.state self.entry) result (V.state self.exit.0.now) }
         ensures written { (c : Content) → HasWritten V.state self.entry c
             → OnOk result ((V.state self.exit.0.now).telling ≡ true → (V.state self.exit.0.now).bytes ≡ text c) }
-        ensures kept { (head : Content) (chip : ℕ → ℕ) (saved : ℕ → Bool) (n : ℕ) → HasKept V.state self.entry head chip saved n
+        ensures kept { (head : Content) (chip : ℕ → ℕ) (saved : ℕ → Bool) (n : ℕ)
+            → HasKept V.state self.entry head chip saved n
             → OnOk result ((V.state self.exit.0.now).telling ≡ true → JournalSaves head chip saved (V.state self.exit.0.now).bytes) }
     {
         let Writer { vault, mut hasher } = self;

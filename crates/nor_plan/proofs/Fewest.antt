@@ -1,6 +1,6 @@
 -- No list that covers the set is shorter than the planned one. Each planned erase has a sector of its own, at
 -- which it begins: an erase within the set that holds this sector begins there too, so it holds no other such.
-use Rattle.std.proofs.Common.{ℕ, ◌≡◌, ◌<◌, ◌≤◌, ◌+◌, ◌-◌, ◌%◌, Bool, true, nat_eq, List, All, length, map, sym, ◌∙◌, inl, inr, arith}
+use Rattle.std.proofs.Common.{ℕ, ◌≡◌, ◌<◌, ◌≤◌, ◌+◌, ◌-◌, ◌%◌, Bool, true, nat_eq, List, All, length, map, refl, sym, ◌∙◌, inl, inr, arith}
 use Rattle.std.specs.List.{list_any}
 use Rattle.std.proofs.Common.{get_or}
 use Rattle.std.proofs.lemmas.Bool.{and_parts, and_from, both_ways, eq-eqb, eqb-true, le-leb, leb-true, lt-ltb, ltb-true}
@@ -14,11 +14,11 @@ use Rattle.nor_driver.specs.declared.units.EraseUnit.{EraseUnit}
 use Rattle.nor_driver.specs.declared.units.EraseUnit.TheVariants.{Sector, Block32, Block64, Chip}
 use Rattle.nor_driver.specs.Units.{sectors_in, is_aligned, erases_sector}
 use Rattle.nor_plan.specs.Erase.{is_offered, IsErase, Covers}
-use Rattle.nor_plan.specs.Planned.{holds_block, begins_unit, erase_at, planned_from}
+use Rattle.nor_plan.specs.Planned.{holds_block, holds_run, begins_unit, erase_at, planned_from, planned, fewest_erases, IsLeastLength}
 use Rattle.nor_plan.proofs.Places.{passing, All-passing, length-passing-implied}
 use Rattle.nor_plan.proofs.Tally.{tally, tally-implied, tally-all, tally-once, tally-cover}
 use Rattle.nor_plan.proofs.Units.{holds_run-from, unit_cases}
-use Rattle.nor_plan.proofs.Coverage.{IsPlannable, begins_in, begins_aligned}
+use Rattle.nor_plan.proofs.Coverage.{IsPlannable, planned_Covers, begins_in, begins_aligned}
 
 -- a unit within the set that holds a sector at which a planned unit begins, begins there
 begins_alike : (whole : Bool) (kinds : Kinds) (total : ℕ) (set : ℕ → Bool) → IsPlannable whole total set → (q : ℕ) → begins_unit whole kinds set q ≡ true → (unit : EraseUnit) (first : ℕ) → is_offered kinds unit ≡ true → is_aligned unit first ≡ true → ((s : ℕ) → first ≤ s → s < first + sectors_in total unit → set s ≡ true) → first ≤ q → q < first + sectors_in total unit → q ≡ first
@@ -102,3 +102,19 @@ planned_few whole kinds set from =
     let count : length (map (erase_at whole kinds (has set)) (passing (begins_unit whole kinds (has set)) from (4096 - from))) ≡ length (passing (begins_unit whole kinds (has set)) from (4096 - from)) =
     length-map (passing (begins_unit whole kinds (has set)) from (4096 - from)) (erase_at whole kinds (has set)) in
     omega (arith, length-passing-implied (begins_unit whole kinds (has set)) (has set) from (4096 - from) (begins_in whole kinds (has set)))
+
+-- the planned erases are such a list
+pub fewest_least : (kinds : Kinds) (total : ℕ) (set : ℕ → Bool) → total ≤ 4096 → ((s : ℕ) → set s ≡ true → s < total)
+    → IsLeastLength kinds total set (fewest_erases kinds total set)
+fewest_least kinds total set few below =
+    let can : IsPlannable (holds_run set 0 total) total set = record {
+      whole_is = refl;
+      below = below;
+      small = λ s member. let inside = below s member in omega arith;
+    } in
+    record {
+      some = planned kinds total set;
+      covers = planned_Covers (holds_run set 0 total) kinds total set can 0 refl;
+      reached = refl;
+      least = planned_fewest (holds_run set 0 total) kinds total set can 0;
+    }

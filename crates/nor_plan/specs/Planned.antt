@@ -1,11 +1,12 @@
 -- The erases that are planned for a set of sectors.
-use Rattle.std.specs.Prelude.{ℕ, ◌≡◌, ◌-◌, ◌%◌, Bool, ◌&&◌, if◌then◌else◌, List, length, map, filter, Option, MatchOption, [], ◌∷◌}
+use Rattle.std.specs.Prelude.{ℕ, ◌≡◌, ◌≤◌, ◌-◌, ◌%◌, Bool, ◌&&◌, if◌then◌else◌, List, length, map, filter, Option, MatchOption, [], ◌∷◌}
 use Rattle.std.specs.List.{list_all, range_with_len}
 use Rattle.nor_probe.specs.declared.sfdp.Kinds.{Kinds}
 use Rattle.nor_driver.specs.declared.units.Erase.{Erase}
 use Rattle.nor_driver.specs.declared.units.EraseUnit.{EraseUnit}
 use Rattle.nor_driver.specs.declared.units.EraseUnit.TheVariants.{Sector, Block32, Block64, Chip}
 use Rattle.nor_driver.specs.Units.{is_aligned}
+use Rattle.nor_plan.specs.Erase.{Covers}
 
 -- the sectors from one on are all in the set
 unfoldable pub holds_run : (ℕ → Bool) → ℕ → ℕ → Bool
@@ -50,3 +51,10 @@ planned kinds total set = planned_from (holds_run set 0 total) kinds set 0
 -- the length of a shortest list of erases that covers a set
 abbrev pub fewest_erases : Kinds → ℕ → (ℕ → Bool) → ℕ
 fewest_erases kinds total set = length (planned kinds total set)
+
+-- It is the least length: some list that covers the set is as long, and none is shorter.
+pub record IsLeastLength (kinds : Kinds) (total : ℕ) (set : ℕ → Bool) (count : ℕ) : Type 0 where
+  pub some : List Erase
+  pub covers : Covers kinds total some set
+  pub reached : length some ≡ count
+  pub least : (others : List Erase) → Covers kinds total others set → count ≤ length others

@@ -1,10 +1,11 @@
 //! The fewest erases for a set of sectors.
 
-ghost use Rattle.std.specs.Prelude.{◌≡◌, ◌+◌, ◌*◌, ◌/◌, ◌^◌, ◌<◌, ◌≤◌, ℕ, List, length};
+ghost use Rattle.std.specs.Prelude.{◌≡◌, ◌+◌, ◌*◌, ◌/◌, ◌^◌, ◌<◌, ◌≤◌, ℕ, Bool, true, List, length};
 ghost use Rattle.nor_driver.specs.Units.{is_aligned};
+ghost use Rattle.nor_probe.specs.declared.sfdp.Kinds.{Kinds};
 ghost use Rattle.nor_plan.specs.Counts.{IsCount};
 ghost use Rattle.nor_plan.specs.Erase.{Covers};
-ghost use Rattle.nor_plan.specs.Planned.{holds_block, holds_run, unit_at, planned, HeadsPlanned};
+ghost use Rattle.nor_plan.specs.Planned.{holds_block, holds_run, unit_at, planned, fewest_erases, HeadsPlanned, IsLeastLength};
 ghost use Rattle.nor_plan.specs.Erases.{erases_left};
 ghost use Rattle.nor_plan.specs.SectorSet.{has, LiesBelow, member_count};
 
@@ -35,6 +36,13 @@ pub fn erases(set: &SectorSet, kinds: Kinds, size: u32) -> Erases
     let whole = is_run(set, 0, size / SECTOR);
     Erases::new(*set, kinds, whole)
 }
+
+/// The number of the fewest erases is the least length of a list that sets just these sectors to FFh.
+#[tactic(auto, using(crate::proofs::Fewest::fewest_least))]
+pub fn fewest_is_least()
+    ensures { (kinds : Kinds) (total : ℕ) (set : ℕ → Bool) → total ≤ 4096 → ((s : ℕ) → set s ≡ true → s < total)
+        → IsLeastLength kinds total set (fewest_erases kinds total set) }
+{}
 
 /// The first erase from a sector on, and the sector from which to go on.
 fn next_erase(set: &SectorSet, kinds: Kinds, whole: bool, from: u32) -> Option<(Erase, u32)>

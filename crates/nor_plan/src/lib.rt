@@ -8,7 +8,7 @@ pub mod page;
 pub mod plan;
 pub mod set;
 
-pub use erase::{Erases, erases};
+pub use erase::{Erases, erases, fewest_is_least};
 pub use lanes::{bounds, differs, raises};
 pub use page::{PAGE, Span, Spans, spans};
 pub use plan::{Plan, SectorPlan};

@@ -75,6 +75,12 @@ pub record IsConfigOf (config : Config) (found : Found) : Type 0 where
   pub k64 : found.kinds.k64 ≡ config.k64
   pub scheme : found.scheme ≡ config.scheme
 
+-- The chip shows itself as a part with the name that is wanted.
+pub record IsNamed (named : Option ChipName) (config : Config) : Type 0 where
+  pub part : Part
+  pub shown : shown_as config ≡ Ok part
+  pub wanted : IsWanted named part.name
+
 -- The chip shows itself as a part that has another name than the one that is wanted.
 pub record HasOtherName (named : Option ChipName) (config : Config) : Type 0 where
   pub part : Part

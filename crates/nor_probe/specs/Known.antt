@@ -1,6 +1,7 @@
 -- What a chip shows of itself, and which chips are genuine and known.
-use Rattle.std.specs.Prelude.{◌≡◌, ◌+◌, ◌*◌, ◌||◌, ℕ, Bool, false, Option, None, Some, Result, Ok, Err, List, [], ◌∷◌, bytes_eq, slice_index, IsOk, if◌then◌else◌}
+use Rattle.std.specs.Prelude.{◌≡◌, ◌+◌, ◌*◌, ◌||◌, ℕ, Bool, true, false, Option, None, Some, Result, Ok, Err, List, [], ◌∷◌, bytes_eq, slice_index, IsOk, if◌then◌else◌}
 use Rattle.nor_chip.specs.declared.config.Config.{Config}
+use Rattle.nor_chip.specs.Bus.{BusState}
 pub use Rattle.nor_driver.specs.Reads.{id_of, shown}
 use Rattle.nor_probe.specs.declared.sfdp.Geometry.{Geometry}
 use Rattle.nor_probe.specs.declared.sfdp.SfdpFault.{SfdpFault}
@@ -57,11 +58,18 @@ pub record HasGeometry (geometry : Geometry) (config : Config) : Type 0 where
 -- A chip is genuine: if its ID is in the table, size, erase kinds and protection are those of the row; and if it
 -- isn't, the chip has no block protection, and an SFDP that is accepted tells its size and erase kinds.
 pub record IsGenuine (config : Config) : Type 0 where
-  pub listed : (part : Part) → part_of (id_of config) ≡ Some part → HasGeometry (record { size = part.size; kinds = part.kinds }) config × (config.scheme ≡ part.scheme)
+  pub listed : (part : Part) → part_of (id_of config) ≡ Some part
+      → HasGeometry (record { size = part.size; kinds = part.kinds }) config × (config.scheme ≡ part.scheme)
   pub unlisted : part_of (id_of config) ≡ None → config.scheme ≡ false
-  pub described : part_of (id_of config) ≡ None → (geometry : Geometry) → chip_says config ≡ Ok geometry → HasGeometry geometry config
+  pub described : part_of (id_of config) ≡ None
+      → (geometry : Geometry) → chip_says config ≡ Ok geometry → HasGeometry geometry config
 
 -- A chip is known: it is genuine, its ID isn't that of no chip, and it is in the table or its SFDP is accepted.
 pub record IsKnown (config : Config) : Type 0 where
   pub genuine : IsGenuine config
   pub shown : IsOk (shown_as config)
+
+-- The bus is honest, and its chip genuine: what is promised of bytes is promised of these buses.
+pub record IsModelled (state : BusState) : Type 0 where
+  pub honest : state.honest ≡ true
+  pub genuine : IsGenuine state.chip.config

@@ -4,7 +4,7 @@ ghost use Rattle.std.specs.Prelude.{◌≡◌, ◌<◌, ◌+◌, ◌^◌, ◌↔
 ghost use Rattle.nor_chip.specs.Size.{is_chip_size};
 ghost use Rattle.nor_probe.specs.declared.probes.ProbeFault.TheVariants as Faults;
 ghost use Rattle.nor_driver.specs.Looks.{Looks, Rested, RunsOut};
-ghost use Rattle.nor_probe.specs.Known.{id_of, pointer_in, chip_says, is_no_chip, IsGenuine};
+ghost use Rattle.nor_probe.specs.Known.{id_of, pointer_in, chip_says, is_no_chip, IsModelled};
 ghost use Rattle.nor_probe.specs.Found.{BlamesName, needed, Finds, IsConfigOf, IsCounted, IsPart, IsWanted, Tells};
 ghost use Rattle.nor_probe.specs.Steps.{AreParameters, Identifies, GeometryTells, IdentityTells, IsIdentified, IsIdentityFault, reads_under, fault_of};
 
@@ -61,7 +61,7 @@ pub fn probe<B: Bus>(bus: &mut B, named: Option<ChipName>) -> Result<Found, Prob
     ensures wanted { IfOk result (λ found. IsWanted named found.name) }
 
     ensures finds { (B.state bus.old).honest ≡ true → IfOk result (Finds (B.state bus.old) (B.state bus.new)) }
-    ensures genuine { (B.state bus.old).honest ≡ true → IsGenuine (B.state bus.old).chip.config → IfOk result (IsConfigOf (B.state bus.old).chip.config) }
+    ensures genuine { IsModelled (B.state bus.old) → IfOk result (IsConfigOf (B.state bus.old).chip.config) }
     ensures tells { (B.state bus.old).honest ≡ true → IfErr result (Tells named (B.state bus.old) (B.state bus.new)) }
 {
     let probed = probe_counted(bus, named)?;
@@ -79,7 +79,7 @@ pub fn probe_counted<B: Bus>(bus: &mut B, named: Option<ChipName>) -> Result<Pro
 
     ensures finds { (B.state bus.old).honest ≡ true → IfOk result (λ probed. Finds (B.state bus.old) (B.state bus.new) probed.found) }
     ensures sent { (B.state bus.old).honest ≡ true → IfOk result (λ probed. probed.transactions ≡ needed (B.state bus.old).chip) }
-    ensures genuine { (B.state bus.old).honest ≡ true → IsGenuine (B.state bus.old).chip.config → IfOk result (λ probed. IsConfigOf (B.state bus.old).chip.config probed.found) }
+    ensures genuine { IsModelled (B.state bus.old) → IfOk result (λ probed. IsConfigOf (B.state bus.old).chip.config probed.found) }
     ensures tells { (B.state bus.old).honest ≡ true → IfErr result (Tells named (B.state bus.old) (B.state bus.new)) }
 {
     let waited = wait(bus, 0)?;
@@ -174,7 +174,8 @@ struct Parameters {
 fn read_parameters<B: Bus>(bus: &mut B) -> Result<Parameters, Stopped>
     ensures leaves { Looks 3 (B.state bus.old) (B.state bus.new) }
     ensures rested { (B.state bus.old).honest ≡ true → OnOk result (Rested (B.state bus.old) (B.state bus.new)) }
-    ensures shown { (B.state bus.old).honest ≡ true → (B.state bus.old).chip.busy ≡ 0 → IfOk result (AreParameters (B.state bus.old).chip.config) }
+    ensures shown { (B.state bus.old).honest ≡ true → (B.state bus.old).chip.busy ≡ 0
+        → IfOk result (AreParameters (B.state bus.old).chip.config) }
     ensures count { (B.state bus.old).honest ≡ true → OnOk result ((B.state bus.old).left ≡ (B.state bus.new).left + 3) }
     ensures halts { OnErr result (RunsOut 3 (B.state bus.old) (B.state bus.new)) }
 {

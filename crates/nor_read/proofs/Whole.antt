@@ -18,7 +18,7 @@ use Rattle.nor_save.specs.declared.refusal.Refusal.TheVariants.{NoChip, UnknownC
 use Rattle.nor_save.specs.declared.report.Report.{Report}
 use Rattle.nor_save.specs.Scanning.{IsOpen}
 use Rattle.nor_save.proofs.Rests.{rested_then}
-use Rattle.nor_read.specs.Finding.{IsModelled, IsFound, HasFound, HasName, IsPassed, IsTaken, StopsReading, Rests, ProbeTells, Reports, most_of}
+use Rattle.nor_read.specs.Finding.{IsModelled, IsFound, HasFound, IsNamed, IsPassed, IsTaken, StopsReading, Rests, ProbeTells, Reports, most_of}
 use Rattle.nor_read.specs.Reading.{Copies, ReadsAll, ReadsOut, CopyTells, ReadTells}
 
 -- ---- how much was sent
@@ -62,11 +62,11 @@ open_after named old mid probed found looks known = record {
   same = ap (λ (config : Config). config.size) (found.rested known.honest).unchanged.same.config ∙ sym (size_of named old mid probed found known);
 }
 
-pub has_name : (named : Option ChipName) (old mid : BusState) (probed : Probed) → HasFound named old mid probed → old.honest ≡ true → HasName named old.chip.config
+pub has_name : (named : Option ChipName) (old mid : BusState) (probed : Probed) → HasFound named old mid probed → old.honest ≡ true → IsNamed named old.chip.config
 has_name named old mid probed found honest = record {
   part = part_in probed.found;
   shown = found.is.shown honest;
-  has_name = found.is.has_name;
+  wanted = found.is.has_name;
 }
 
 pub is_taken : (named : Option ChipName) (included : Option (List Span)) (old mid : BusState) (probed : Probed) → HasFound named old mid probed → FitsInto included probed.found.size → IsModelled old

@@ -2,24 +2,20 @@
 use Rattle.std.specs.Prelude.{◌≡◌, ◌≤◌, ◌+◌, ◌/◌, ℕ, true, Option, Ok, List}
 use Rattle.nor_chip.specs.declared.config.Config.{Config}
 use Rattle.nor_chip.specs.Bus.{BusState}
-use Rattle.nor_driver.specs.Looks.{Rested, RanOut, RunsOut}
+use Rattle.nor_driver.specs.Looks.{Looks, Rested, RanOut, RunsOut}
 use Rattle.nor_layout.specs.declared.ranges.Span.{Span}
 use Rattle.nor_layout.specs.Sectors.{ReachesPast, FitsInto}
 use Rattle.nor_probe.specs.declared.table.ChipName.{ChipName}
-use Rattle.nor_probe.specs.declared.table.Part.{Part}
 use Rattle.nor_probe.specs.declared.probes.Found.{Found}
 use Rattle.nor_probe.specs.declared.probes.Probed.{Probed}
 use Rattle.nor_probe.specs.declared.probes.ProbeFault.TheVariants as Probes
-use Rattle.nor_probe.specs.Known.{shown_as, IsGenuine}
+pub use Rattle.nor_probe.specs.Known.{IsModelled}
+use Rattle.nor_probe.specs.Known.{shown_as}
+pub use Rattle.nor_probe.specs.Found.{IsNamed}
 use Rattle.nor_probe.specs.Found.{needed, part_in, IsPart, IsWanted, IsConfigOf, Tells}
 use Rattle.nor_save.specs.declared.refusal.Refusal.{Refusal}
 use Rattle.nor_save.specs.declared.refusal.Refusal.TheVariants.{NoChip, UnknownChip, OtherName, Stopped, Timeout}
 use Rattle.nor_save.specs.declared.report.Report.{Report}
-
--- The bus is honest, and its chip genuine.
-pub record IsModelled (state : BusState) : Type 0 where
-  pub honest : state.honest ≡ true
-  pub genuine : IsGenuine state.chip.config
 
 -- What was found: whatever the bus, a row of the table or a part by SFDP, with the name that is wanted. On an honest
 -- bus it is what the chip shows itself as, with the kept bits of the chip's status; a genuine chip has its configuration.
@@ -51,20 +47,14 @@ ProbeTells named old new _ = ⊥
 
 -- ---- what is judged of the chip that was found
 
--- It shows itself as a part with the name that is wanted.
-pub record HasName (named : Option ChipName) (config : Config) : Type 0 where
-  pub part : Part
-  pub shown : shown_as config ≡ Ok part
-  pub has_name : IsWanted named part.name
-
 -- It has the name, and not all the addresses.
 pub record IsPassed (named : Option ChipName) (included : Option (List Span)) (config : Config) : Type 0 where
-  pub is : HasName named config
+  pub is : IsNamed named config
   pub past : ReachesPast included config.size
 
 -- It has the name, and all the addresses.
 pub record IsTaken (named : Option ChipName) (included : Option (List Span)) (config : Config) : Type 0 where
-  pub is : HasName named config
+  pub is : IsNamed named config
   pub fits : FitsInto included config.size
 
 -- ---- how much is sent
@@ -72,6 +62,10 @@ pub record IsTaken (named : Option ChipName) (included : Option (List Span)) (co
 -- at most as many transactions as a probe takes, and one for each sector of a chip of this size
 abbrev pub most_of : ℕ → ℕ
 most_of size = 65540 + size / 4096
+
+-- On a modelled bus that many of this chip's size.
+abbrev pub LooksBySize : BusState → BusState → Type 0
+LooksBySize old new = IsModelled old → Looks (most_of old.chip.config.size) old new
 
 -- A stop tells that fewer transactions were left than a reading of the largest chip takes, or on a modelled bus of
 -- this chip.

@@ -10,7 +10,7 @@ use Rattle.nor_probe.specs.declared.table.ChipName.{ChipName}
 use Rattle.nor_save.specs.declared.refusal.Refusal.{Refusal}
 use Rattle.nor_save.specs.declared.refusal.Refusal.TheVariants.{NoChip, UnknownChip, OtherName, NoProtection, Stopped, Timeout}
 use Rattle.nor_read.specs.declared.protection.Protection.{Protection}
-use Rattle.nor_read.specs.Finding.{IsModelled, HasName, ProbeTells}
+use Rattle.nor_read.specs.Finding.{IsModelled, IsNamed, ProbeTells}
 
 -- The code is defined, and the guarded places are so many from `start` on. Where there are none, they start at 0.
 pub record IsGuardedRange (chip : Chip) (start len : ℕ) : Type 0 where
@@ -31,7 +31,7 @@ pub record TellsProtection (named : Option ChipName) (old new : BusState) (prote
   pub sized : is_chip_size protection.size ≡ true
   pub rested : old.honest ≡ true → Rested old new
   pub idle : old.honest ≡ true → new.chip.busy ≡ 0
-  pub is : old.honest ≡ true → HasName named old.chip.config
+  pub is : old.honest ≡ true → IsNamed named old.chip.config
   pub told : IsModelled old → IsProtection old.chip protection
 
 -- what a refusal tells, on every bus
@@ -39,7 +39,7 @@ abbrev pub StatusTells : Option ChipName → BusState → BusState → Refusal �
 StatusTells named old new NoChip = ProbeTells named old new NoChip
 StatusTells named old new (UnknownChip fault) = ProbeTells named old new (UnknownChip fault)
 StatusTells named old new OtherName = ProbeTells named old new OtherName
-StatusTells named old new NoProtection = IsModelled old → HasName named old.chip.config × (old.chip.config.scheme ≡ false)
+StatusTells named old new NoProtection = IsModelled old → IsNamed named old.chip.config × (old.chip.config.scheme ≡ false)
 StatusTells named old new Stopped = RunsOut 65541 old new
 StatusTells named old new (Timeout address) = ProbeTells named old new (Timeout address)
 StatusTells named old new _ = ⊥

@@ -12,7 +12,7 @@ use Rattle.nor_save.specs.declared.refusal.Refusal.TheVariants.{NoChip, UnknownC
 use Rattle.nor_save.specs.declared.report.Report.{Report}
 use Rattle.nor_save.specs.Scanning.{IsOpen}
 use Rattle.nor_read.specs.declared.verifying.Compared.{Compared}
-use Rattle.nor_read.specs.Finding.{IsModelled, HasName, IsPassed, IsTaken, ProbeTells, StopsReading, Reports}
+use Rattle.nor_read.specs.Finding.{IsModelled, IsNamed, IsPassed, IsTaken, ProbeTells, StopsReading, Reports}
 
 -- each included byte from one address up to another is the image's
 abbrev pub AgreeIn : Option (List Span) → List ℕ → (ℕ → ℕ) → ℕ → ℕ → Type 0
@@ -36,7 +36,7 @@ pub record Verifies (named : Option ChipName) (included : Option (List Span)) (i
 
 -- The chip has the wanted name, and another size than the image, which are both told.
 pub record IsOtherSize (named : Option ChipName) (image : List ℕ) (config : Config) (chip_size image_size : ℕ) : Type 0 where
-  pub is : HasName named config
+  pub is : IsNamed named config
   pub of_chip : chip_size ≡ config.size
   pub of_image : image_size ≡ length image
   pub differ : length image ≢ config.size

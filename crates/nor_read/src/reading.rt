@@ -3,7 +3,7 @@ ghost use Rattle.std.specs.Prelude.{◌≡◌, ◌<◌, ◌≤◌, ◌/◌, fals
 ghost use Rattle.nor_chip.specs.Size.{is_chip_size};
 ghost use Rattle.nor_driver.specs.Looks.{Looks, RunsOut};
 ghost use Rattle.nor_journal.specs.Vault.{Took};
-ghost use Rattle.nor_read.specs.Finding.{IsModelled, Rests, most_of};
+ghost use Rattle.nor_read.specs.Finding.{Rests, LooksBySize, most_of};
 ghost use Rattle.nor_read.specs.Reading.{ReadsOut, ReadTells, ReadPuts, ReadsPart, ReadsAll, CopyTells, PutTells};
 
 use crate::finding::{find, report};
@@ -24,11 +24,13 @@ pub fn read_out<B: Bus, V: Vault>(
 ) -> Result<Report, Refusal>
     requires unsealed { (V.state out.old).sealed ≡ false }
     ensures leaves { Looks (most_of 16777216) (B.state bus.old) (B.state bus.new) }
-    ensures bound { IsModelled (B.state bus.old) → Looks (most_of (B.state bus.old).chip.config.size) (B.state bus.old) (B.state bus.new) }
+    ensures bound { LooksBySize (B.state bus.old) (B.state bus.new) }
     ensures rests { IfErr result (Rests (B.state bus.old) (B.state bus.new)) }
     ensures puts { ReadPuts result (V.state out.old) (V.state out.new) }
-    ensures reads { IfOk result (ReadsOut named (option_copied included.entry) (B.state bus.old) (B.state bus.new) (V.state out.old) (V.state out.new)) }
-    ensures tells { IfErr result (ReadTells named (option_copied included.entry) (B.state bus.old) (B.state bus.new) (V.state out.old) (V.state out.new)) }
+    ensures reads { IfOk result
+        (ReadsOut named (option_copied included.entry) (B.state bus.old) (B.state bus.new) (V.state out.old) (V.state out.new)) }
+    ensures tells { IfErr result
+        (ReadTells named (option_copied included.entry) (B.state bus.old) (B.state bus.new) (V.state out.old) (V.state out.new)) }
 {
     let probed = find(bus, named)?;
     if reaches_past(included, probed.found.size) {
@@ -49,8 +51,10 @@ fn copy_all<B: Bus, V: Vault>(
     requires unsealed { (V.state out.old).sealed ≡ false }
     ensures leaves { Looks (size / 4096) (B.state bus.old) (B.state bus.new) }
     ensures puts { ReadPuts result (V.state out.old) (V.state out.new) }
-    ensures reads { IfOk result (ReadsAll (option_copied included.entry) size (B.state bus.old) (B.state bus.new) (V.state out.old) (V.state out.new)) }
-    ensures tells { IfErr result (CopyTells (option_copied included.entry) size (B.state bus.old) (B.state bus.new) (V.state out.old) (V.state out.new)) }
+    ensures reads { IfOk result
+        (ReadsAll (option_copied included.entry) size (B.state bus.old) (B.state bus.new) (V.state out.old) (V.state out.new)) }
+    ensures tells { IfErr result
+        (CopyTells (option_copied included.entry) size (B.state bus.old) (B.state bus.new) (V.state out.old) (V.state out.new)) }
 {
     let mut reads = 0;
     let mut bytes = [0; 4096];

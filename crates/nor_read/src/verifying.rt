@@ -3,7 +3,7 @@ ghost use Rattle.std.specs.Prelude.{◌≡◌, ◌<◌, ◌≤◌, ◌+◌, ◌*
 ghost use Rattle.nor_chip.specs.Size.{is_chip_size};
 ghost use Rattle.nor_driver.specs.Looks.{Looks, RunsOut};
 ghost use Rattle.nor_layout.specs.Sectors.{AreOfSector};
-ghost use Rattle.nor_read.specs.Finding.{IsModelled, Rests, most_of};
+ghost use Rattle.nor_read.specs.Finding.{Rests, LooksBySize, most_of};
 ghost use Rattle.nor_read.specs.Verifying.{Verifies, VerifyTells, ComparesPart, ComparesAll, TellsFirst};
 
 use crate::finding::{find, report};
@@ -30,7 +30,7 @@ pub fn verify<B: Bus>(
     named: Option<ChipName>,
 ) -> Result<Report, Refusal>
     ensures leaves { Looks (most_of 16777216) (B.state bus.old) (B.state bus.new) }
-    ensures bound { IsModelled (B.state bus.old) → Looks (most_of (B.state bus.old).chip.config.size) (B.state bus.old) (B.state bus.new) }
+    ensures bound { LooksBySize (B.state bus.old) (B.state bus.new) }
     ensures rests { IfErr result (Rests (B.state bus.old) (B.state bus.new)) }
     ensures verifies { IfOk result (Verifies named (option_copied included.entry) image.now (B.state bus.old) (B.state bus.new)) }
     ensures tells { IfErr result (VerifyTells named (option_copied included.entry) image.now (B.state bus.old) (B.state bus.new)) }

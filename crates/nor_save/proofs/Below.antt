@@ -1,7 +1,7 @@
 -- A verdict on the numbers below a bound, and their count when one more passes.
-use Rattle.std.proofs.Common.{◌≡◌, ◌<◌, ◌≤◌, ◌+◌, ◌||◌, ◌∙◌, ℕ, zero, suc, Bool, true, false, refl, ap, sym, arith, inl, inr}
+use Rattle.std.proofs.Common.{◌≡◌, ◌<◌, ◌+◌, ◌||◌, ◌∙◌, ℕ, zero, suc, Bool, true, false, ap, sym, arith, inl, inr}
 use Rattle.std.specs.Prelude.{MatchBool, if◌then◌else◌, ◌==◌}
-use Rattle.std.proofs.lemmas.Bool.{cases_eq, or_left, or_right, ne_eqb, eq-eqb}
+use Rattle.std.proofs.lemmas.Bool.{cases_eq, or_left, ne_eqb, eq-eqb}
 use Rattle.nor_layout.specs.Below.{any_below, count_below}
 use Rattle.nor_layout.proofs.Below.{any_below-some}
 use Rattle.nor_apply.proofs.Counting.{any_below-all, count_below-same}

@@ -7,7 +7,7 @@ use Rattle.nor_driver.specs.Reads.{unique_of}
 use Rattle.nor_probe.specs.declared.table.ChipName.{ChipName}
 use Rattle.nor_probe.specs.declared.probes.Probed.{Probed}
 use Rattle.nor_probe.specs.declared.probes.ProbeFault.TheVariants as Probes
-use Rattle.nor_probe.specs.Known.{shown_as, IsGenuine}
+use Rattle.nor_probe.specs.Known.{shown_as, IsModelled}
 use Rattle.nor_probe.specs.Found.{part_in, IsPart, IsWanted, IsConfigOf, Tells}
 use Rattle.nor_save.specs.declared.opening.Opening.{Opening}
 use Rattle.nor_save.specs.declared.refusal.Refusal.{Refusal}
@@ -36,7 +36,7 @@ pub record Opens (named : Option ChipName) (old new : BusState) (opening : Openi
   pub rested : old.honest ≡ true → Rested old new
   pub idle : old.honest ≡ true → new.chip.busy ≡ 0
   pub shown : old.honest ≡ true → shown_as old.chip.config ≡ Ok (part_in opening.found)
-  pub genuine : old.honest ≡ true → IsGenuine old.chip.config → IsConfigOf old.chip.config opening.found
+  pub genuine : IsModelled old → IsConfigOf old.chip.config opening.found
   pub status1 : old.honest ≡ true → opening.found.status1 ≡ status1_of new.chip
   pub status2 : old.honest ≡ true → opening.status2 ≡ new.chip.kept2
   pub unique : old.honest ≡ true → opening.unique ≡ unique_of new.chip.config

@@ -7,8 +7,8 @@ ghost use Rattle.nor_chip.specs.Size.{is_chip_size};
 ghost use Rattle.nor_plan.specs.SectorSet.{has, LiesBelow};
 ghost use Rattle.nor_save.specs.Request.{is_data};
 ghost use Rattle.nor_save.specs.Opening.{status_read};
-ghost use Rattle.nor_save.specs.Saving.{IsOpening, OpeningJudges, OpeningAccepts, ScanJudges, ScanAccepts, IsLeastHeld, NoneHeld, SomeHeld, NeedsStatus};
 ghost use Rattle.nor_save.specs.Judging.{IsOpeningRefusal, IsScanRefusal, Lifts};
+ghost use Rattle.nor_save.specs.Judging.{AcceptsOpening, RefusesOpening, FindsHeld, FindsNeed, AcceptsScan, RefusesScan};
 
 use crate::opening::Opening;
 use crate::{Refusal, Request, What};
@@ -23,8 +23,8 @@ pub fn judge_opening(request: &Request, opening: &Opening, image: usize) -> Resu
     ensures sized { IfOk result (λ code. is_data request.now.what ≡ true → image ≡ opening.now.found.size) }
     ensures faults { IfErr result IsOpeningRefusal }
     ensures same_code { IfOk result (λ code. is_data request.now.what ≡ true → code ≡ code_in (status_read opening.now)) }
-    ensures accepts { (chip : Chip) → IsOpening chip opening.now → IfOk result (OpeningAccepts request.now image chip) }
-    ensures tells { (chip : Chip) → IsOpening chip opening.now → IfErr result (OpeningJudges request.now image chip) }
+    ensures accepts { AcceptsOpening request.now image opening.now result }
+    ensures tells { RefusesOpening request.now image opening.now result }
 {
     let size = opening.found.size;
     let code = opening.status().code();
@@ -59,7 +59,7 @@ pub fn judge_opening(request: &Request, opening: &Opening, image: usize) -> Resu
 pub fn first_held(touched: &SectorSet, opening: &Opening) -> Option<u32>
     requires sized { IsTrue (is_chip_size opening.now.found.size) }
     requires below { LiesBelow touched.now (opening.now.found.size / 4096) }
-    ensures held { (chip : Chip) → IsOpening chip opening.now → MatchOption result (NoneHeld (has touched.now) chip) (IsLeastHeld (has touched.now) chip) }
+    ensures held { FindsHeld (has touched.now) opening.now result }
     ensures reachable { IfSome result (λ sector. sector < 4096) }
     ensures found { IfSome result (λ sector. has touched.now sector ≡ true) }
 {
@@ -78,8 +78,7 @@ pub fn first_held(touched: &SectorSet, opening: &Opening) -> Option<u32>
 
 // A status write is needed: a range wants another code, or protection of a held sector is to be lifted.
 fn needs_status(request: &Request, opening: &Opening, is_held: bool, code: u8) -> bool
-    ensures { (chip : Chip) (touched : ℕ → Bool) → IsOpening chip opening.now → MatchBool is_held (SomeHeld touched chip) (NoneHeld touched chip)
-        → MatchBool result (NeedsStatus request.now code touched chip) (¬ NeedsStatus request.now code touched chip) }
+    ensures { FindsNeed request.now opening.now is_held code result }
 {
     match request.what {
         What::WpRange { .. } => code != opening.status().code(),
@@ -98,8 +97,8 @@ pub fn judge_scan(
     requires below { LiesBelow touched.now (opening.now.found.size / 4096) }
     ensures faults { IfErr result IsScanRefusal }
     ensures lifts { IfOk result (Lifts request.now touched.now) }
-    ensures accepts { (chip : Chip) → IsOpening chip opening.now → IfOk result (ScanAccepts request.now code (has touched.now) chip) }
-    ensures tells { (chip : Chip) → IsOpening chip opening.now → IfErr result (ScanJudges request.now code (has touched.now) chip) }
+    ensures accepts { AcceptsScan request.now opening.now code (has touched.now) result }
+    ensures tells { RefusesScan request.now opening.now code (has touched.now) result }
 {
     let held = first_held(touched, opening);
     let writes = needs_status(request, opening, held.is_some(), code);

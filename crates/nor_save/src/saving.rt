@@ -36,7 +36,8 @@ pub fn keep<B: Bus, V: Vault>(
     requires fresh { IsFresh (V.state vault.old) }
     ensures leaves { Looks (scanned_sectors request.now opening.now.found.size) (B.state bus.old) (B.state bus.new) }
     ensures puts { KeepPuts result (V.state vault.old) (V.state vault.new) }
-    ensures keeps { IfOk result (Keeps request.now opening.now code image.old image.new (B.state bus.old) (B.state bus.new) (V.state vault.new)) }
+    ensures keeps { IfOk result
+        (Keeps request.now opening.now code image.old image.new (B.state bus.old) (B.state bus.new) (V.state vault.new)) }
     ensures tells { IfErr result (KeepTells request.now opening.now code image.old (B.state bus.old) (B.state bus.new)) }
 {
     let size = opening.found.size;

@@ -108,7 +108,8 @@ pub fn scan_all<B: Bus, V: Vault>(
     ensures same_vault { (vault_of writer.new).ghost_name ≡ (vault_of writer.old).ghost_name }
     ensures puts { ScanPuts result (vault_state V.state writer.old) (vault_state V.state writer.new) }
     ensures tells { IfErr result (ScanTells (scanned_sectors request.now size) (B.state bus.old) (B.state bus.new)) }
-    ensures keeps { IsOpen size (B.state bus.old) → (head : Content) → head.size ≡ size → HasKept V.state writer.old head (B.state bus.old).chip.bytes never 0
+    ensures keeps { IsOpen size (B.state bus.old) → (head : Content) → head.size ≡ size
+        → HasKept V.state writer.old head (B.state bus.old).chip.bytes never 0
         → IfOk result (λ scanned. HasKept V.state writer.new head (B.state bus.old).chip.bytes (has scanned.touched) (size / 4096)) }
 {
     let mut scanned = Scanned::none();

@@ -1,5 +1,6 @@
 //! What a session finds and saves on a simulated chip, by what it sends and keeps.
 ghost use Rattle.nor_journal.specs.Vault.{IsFresh};
+ghost use Rattle.nor_journal.specs.MemVault.{held_by};
 
 use crate::{Kept, Refusal, Request, What, judge_opening, keep, open};
 use nor_chip::{Bus, Config, Delays, Meter, SimBus, TraceBus};
@@ -41,7 +42,7 @@ fn save<B: Bus>(
     image: &mut [u8],
     request: &Request,
 ) -> Result<Kept, Refusal>
-    requires { IsFresh (⟦<MemVault as Vault>⟧.state vault.old) }
+    requires { IsFresh (held_by vault.old) }
 {
     let opening = open(bus, request.named)?;
     let code = judge_opening(request, &opening, image.len())?;

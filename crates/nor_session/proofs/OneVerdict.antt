@@ -39,7 +39,7 @@ one_part : (outcome : Result Part ProbeFault) (x y : Part) → outcome ≡ Ok x 
 one_part (Ok part) x y first second = sym (same_ok part x first) ∙ same_ok part y second
 one_part (Err fault) x y first second = absurd cc
 
-other_name : (named : Option ChipName) (chip : Chip) → IsNamed named chip → HasOtherName named chip.config → ⊥
+other_name : (named : Option ChipName) (chip : Chip) → IsNamed named chip.config → HasOtherName named chip.config → ⊥
 other_name named chip is other =
     other.other (subst (λ (part : Part). IsWanted named part.name) (one_part (shown_as chip.config) is.part other.part is.shown other.shown) is.wanted)
 

@@ -41,7 +41,7 @@ pub is_opening : (request : Request) (opening : Opening) (old mid : BusState) �
 is_opening request opening old mid is opens =
     let same = (opens.rested is.honest).unchanged.same in
     record {
-      config = opens.genuine is.honest is.genuine;
+      config = opens.genuine is;
       one = kept1_of mid.chip opening.found.status1 (opens.status1 is.honest) ∙ same.kept1;
       two = opens.status2 is.honest ∙ same.kept2;
       unique = opens.unique is.honest ∙ ap unique_of same.config;
@@ -54,7 +54,7 @@ shows request opening old mid is looks opens = record {
   same = (opens.rested is.honest).unchanged.same;
 }
 
-pub named : (request : Request) (opening : Opening) (old mid : BusState) → IsModelled old → Opens request.named old mid opening → IsNamed request.named old.chip
+pub named : (request : Request) (opening : Opening) (old mid : BusState) → IsModelled old → Opens request.named old mid opening → IsNamed request.named old.chip.config
 named request opening old mid is opens = record { part = part_in opening.found; shown = opens.shown is.honest; wanted = opens.wanted }
 
 -- ---- how much was spent, by the chip's size
@@ -82,7 +82,7 @@ keep_tells request image opening code old mid new vault vault' Vault is looks op
 keep_tells request image opening code old mid new vault vault' Stopped is looks opens accepts rose tells =
     let ran = tells (looks.honest ∙ is.honest) in
     let below = ran.below in let count = opens.count is.honest in let few = opens.most in
-    let most = scanned_most request opening.found.size in let size = (opens.genuine is.honest is.genuine).size in
+    let most = scanned_most request opening.found.size in let size = (opens.genuine is).size in
     record { none_left = ran.none_left; below = omega arith }
 keep_tells request image opening code old mid new vault vault' StatusLocked is looks opens accepts rose tells = record {
   named = named request opening old mid is opens;

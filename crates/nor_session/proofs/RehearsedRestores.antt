@@ -16,7 +16,7 @@ use Rattle.nor_session.specs.Modelled.{IsModelled, most_of}
 use Rattle.nor_session.specs.Restore.{CanGiveBack, LeavesRestore, RestoreTells, IsRestoreRefusal}
 use Rattle.nor_session.specs.Session.{IsWithinBound}
 use Rattle.nor_session.specs.Rehearsal.{AreRestores}
-use Rattle.nor_session.specs.Rehearsing.{LeavesRestores, ShowsRestore, ShowsRestores, RefusesRestore, Undoes, RefusesUndo}
+use Rattle.nor_session.specs.Rehearsing.{LeavesRestores, ShowsRestore, ShowsRestores, StopsRestores, Undoes, RefusesUndo}
 use Rattle.nor_session.proofs.GivesBack.{can_give_back}
 use Rattle.nor_session.proofs.SavedCounts.{saved_count, saved_few}
 
@@ -100,7 +100,7 @@ under_stops n journal old mid new refusal allows stopped tells =
 
 -- it was refused
 pub under_refuses : (n : ℕ) (journal : Content) (old mid : BusState) (refusal : Refusal) → Allows n old mid → IsRestoreRefusal refusal → (refusal ≡ Stopped → ⊥)
-    → (IsModelled mid → (first : Chip) → CanGiveBack journal first mid → refusal ≡ Stopped) → RefusesRestore journal old refusal
+    → (IsModelled mid → (first : Chip) → CanGiveBack journal first mid → refusal ≡ Stopped) → StopsRestores journal old refusal
 under_refuses n journal old mid refusal allows answers never stops =
     let leaves = allow_leaves n journal old mid allows in
     record {
@@ -165,14 +165,14 @@ ended_last journal stops old now new n restores most before is past shows = reco
 }
 
 -- what is never refused later on isn't refused
-pub refuses_before : (journal : Content) (old mid : BusState) (refusal : Refusal) → LeavesRestores journal old mid → RefusesRestore journal mid refusal → RefusesRestore journal old refusal
+pub refuses_before : (journal : Content) (old mid : BusState) (refusal : Refusal) → LeavesRestores journal old mid → StopsRestores journal mid refusal → StopsRestores journal old refusal
 refuses_before journal old mid refusal leaves refuses = record {
   blameless = refuses.blameless;
   never = λ modelled first can. refuses.never (leaves.modelled modelled) first (leaves.can modelled first can);
 }
 
 -- under no stop no restore is stopped
-pub last_ends : (journal : Content) (now new : BusState) (most : ℕ) → most ≡ most_of 4096 → ShowsRestore journal most now new false → RefusesRestore journal now Stopped
+pub last_ends : (journal : Content) (now new : BusState) (most : ℕ) → most ≡ most_of 4096 → ShowsRestore journal most now new false → StopsRestores journal now Stopped
 last_ends journal now new most is shows = record {
   blameless = λ vault. absurd (stopped_isnt_vault vault);
   never = λ modelled first can.
@@ -199,7 +199,7 @@ undoes text stops old new journal restores reads shows = record {
 
 pub undo_refuses : (text : List ℕ) (old : BusState) (journal : Content) (refusal : Refusal)
     → ((head : Content) (chip : ℕ → ℕ) (saved : ℕ → Bool) → JournalSaves head chip saved text → SameHead head journal × Saves chip saved journal)
-    → RefusesRestore journal old refusal → RefusesUndo text old refusal
+    → StopsRestores journal old refusal → RefusesUndo text old refusal
 undo_refuses text old journal refusal reads refuses = record {
   blameless = refuses.blameless;
   never = λ modelled saved first leads.

@@ -26,12 +26,12 @@ use Rattle.nor_session.specs.Preparing.{IsOfKindFound, IsUnitRefusal, PrepareTel
 
 -- ---- the chip is named
 
-named_by : (chip : Chip) (outcome : Result Part ProbeFault) → shown_as chip.config ≡ outcome → IsOk outcome → IsNamed None chip
+named_by : (chip : Chip) (outcome : Result Part ProbeFault) → shown_as chip.config ≡ outcome → IsOk outcome → IsNamed None chip.config
 named_by chip (Ok part) is ok = record { part = part; shown = is; wanted = tt }
 named_by chip (Err fault) is ok = absurd cc
 
 -- a known chip has some name
-pub named_known : (chip : Chip) → IsKnown chip.config → IsNamed None chip
+pub named_known : (chip : Chip) → IsKnown chip.config → IsNamed None chip.config
 named_known chip known = named_by chip (shown_as chip.config) refl known.shown
 
 -- ---- its unit
@@ -64,7 +64,7 @@ pub opening_of : (opening : Opening) (old new : BusState) → IsModelled old →
 opening_of opening old new modelled opens =
     let same = (opens.rested modelled.honest).unchanged.same in
     record {
-      config = opens.genuine modelled.honest modelled.genuine;
+      config = opens.genuine modelled;
       one = kept1_read new.chip opening.found.status1 (opens.status1 modelled.honest) ∙ same.kept1;
       two = opens.status2 modelled.honest ∙ same.kept2;
       unique = opens.unique modelled.honest ∙ ap unique_of same.config;

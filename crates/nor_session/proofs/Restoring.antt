@@ -24,9 +24,9 @@ use Rattle.nor_save.specs.declared.refusal.Refusal.{Refusal}
 use Rattle.nor_save.specs.declared.refusal.Refusal.TheVariants.{Stopped, Timeout, Mismatch}
 use Rattle.nor_session.specs.declared.preparing.Prepared.{Prepared}
 use Rattle.nor_session.specs.Modelled.{IsModelled, kinds_of, most_of}
-use Rattle.nor_session.specs.Session.{IsWithinBound, HonestTells}
+use Rattle.nor_session.specs.Session.{IsWithinBound}
 use Rattle.nor_session.specs.Changing.{most_changed, LeavesChange, DoesChange, ChangeTells}
-use Rattle.nor_session.specs.Restore.{is_touched_from, is_raised_from, IsJudgedFirst, IsRestoreRefusal, RestoreTells, LeavesRestore, IsRestored, open_places, CanGiveBack}
+use Rattle.nor_session.specs.Restore.{is_touched_from, is_raised_from, IsJudgedFirst, IsRestoreRefusal, RestoreGivesUp, RestoreTells, LeavesRestore, IsRestored, open_places, CanGiveBack}
 use Rattle.nor_session.specs.Preparing.{PrepareTells, IsPrepared}
 use Rattle.nor_session.proofs.Changed.{two_writes}
 use Rattle.nor_session.proofs.RestoredBytes.{touched_saved, written_restored, pages_same}
@@ -63,10 +63,10 @@ prepare_answers journal most old new (Timeout address) tells = tt
 prepare_answers journal most old new (Mismatch address) tells = tt
 prepare_answers journal most old new _ tells = tells.judged
 
-pub prepare_gives_up : (journal : Content) (most : ℕ) (old new : BusState) (refusal : Refusal) → old.honest ≡ true → PrepareTells journal most old new refusal → HonestTells old new refusal
+pub prepare_gives_up : (journal : Content) (most : ℕ) (old new : BusState) (refusal : Refusal) → old.honest ≡ true → PrepareTells journal most old new refusal → RestoreGivesUp old new refusal
 prepare_gives_up journal most old new Stopped honest tells = (tells honest).none_left
 prepare_gives_up journal most old new (Timeout address) honest tells = tells honest
-prepare_gives_up journal most old new _ honest tells = λ few. tells.same honest
+prepare_gives_up journal most old new _ honest tells = λ first. tells.same honest
 
 pub prepare_tells : (journal : Content) (most : ℕ) (old new : BusState) (refusal : Refusal) → most ≤ most_of (length journal.saved) → IsModelled old → PrepareTells journal most old new refusal
     → RestoreTells journal old new refusal
@@ -165,10 +165,10 @@ change_not_judged changes wanted old new (Mismatch address) tells judged = judge
 change_not_judged changes wanted old new _ tells judged = tells
 
 pub change_gives_up : (journal : Content) (prepared : Prepared) (old mid new : BusState) (refusal : Refusal) → AreChanged journal prepared old mid new → old.honest ≡ true
-    → ChangeTells prepared.changes (saved_byte journal) mid new refusal → HonestTells old new refusal
+    → ChangeTells prepared.changes (saved_byte journal) mid new refusal → RestoreGivesUp old new refusal
 change_gives_up journal prepared old mid new Stopped are honest tells = (tells (are.looks.honest ∙ honest)).none_left
 change_gives_up journal prepared old mid new (Timeout address) are honest tells = tells (are.looks.honest ∙ honest)
-change_gives_up journal prepared old mid new (Mismatch address) are honest tells = λ few. absurd (omega arith)
+change_gives_up journal prepared old mid new (Mismatch address) are honest tells = λ first. absurd first
 change_gives_up journal prepared old mid new _ are honest tells = absurd tells
 
 pub change_tells : (journal : Content) (prepared : Prepared) (old mid new : BusState) (refusal : Refusal) → AreChanged journal prepared old mid new → IsModelled old

@@ -1,18 +1,21 @@
 -- The buses that promises of bytes are made for, and how many transactions a call may send.
-use Rattle.std.specs.Prelude.{◌≡◌, ◌+◌, ◌*◌, ℕ, true}
+use Rattle.std.specs.Prelude.{◌+◌, ◌*◌, ◌/◌, ℕ, Bool}
 use Rattle.nor_chip.specs.declared.config.Config.{Config}
-use Rattle.nor_chip.specs.Bus.{BusState}
+use Rattle.nor_plan.specs.Planned.{fewest_erases}
 use Rattle.nor_probe.specs.declared.sfdp.Kinds.{Kinds}
-use Rattle.nor_probe.specs.Known.{IsGenuine}
-
--- The bus is honest, and its chip is what it shows itself to be.
-pub record IsModelled (state : BusState) : Type 0 where
-  pub honest : state.honest ≡ true
-  pub genuine : IsGenuine state.chip.config
+pub use Rattle.nor_probe.specs.Known.{IsModelled}
 
 -- the chip's erase kinds beside 4 KiB
 abbrev pub kinds_of : Config → Kinds
 kinds_of config = record { k32 = config.k32; k64 = config.k64 }
+
+-- the least length of a list of erases that makes just these sectors of the chip FFh
+abbrev pub fewest_erases_of : Config → (ℕ → Bool) → ℕ
+fewest_erases_of config = fewest_erases (kinds_of config) (config.size / 4096)
+
+-- the most transactions of an opening, and of a scan of so many sectors
+abbrev pub most_looked : ℕ → ℕ
+most_looked sectors = 65542 + sectors
 
 -- The most transactions of a call that may touch so many sectors: the opening takes 65,542; each sector is read when
 -- it is scanned, before it is programmed and when it is checked; it is erased once and has sixteen pages; the status

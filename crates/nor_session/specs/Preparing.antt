@@ -1,5 +1,5 @@
 -- What a restore finds of a chip before it changes anything.
-use Rattle.std.specs.Prelude.{◌≡◌, ◌≢◌, ◌<◌, ◌≤◌, ◌+◌, ◌/◌, ◌⊎◌, ℕ, Bool, true, List, length, slice_index}
+use Rattle.std.specs.Prelude.{◌≡◌, ◌≢◌, ◌<◌, ◌≤◌, ◌+◌, ◌/◌, ◌⊎◌, ℕ, Bool, true, List, Result, IfErr, OnOk, OnErr, IfOk, MatchBool, length, slice_index}
 use Rattle.nor_chip.specs.Chip.{Chip, IsSame, is_locked}
 use Rattle.nor_chip.specs.Guard.{code_of}
 use Rattle.nor_chip.specs.Bus.{BusState}
@@ -21,9 +21,9 @@ use Rattle.nor_save.specs.declared.refusal.Refusal.TheVariants.{OtherUnit, Statu
 use Rattle.nor_save.specs.Scanning.{AreMarks, IsOpen}
 use Rattle.nor_save.specs.Saving.{IsOpening, NoneHeld, SomeHeld}
 use Rattle.nor_session.specs.declared.preparing.Prepared.{Prepared}
-use Rattle.nor_session.specs.Modelled.{IsModelled, kinds_of}
+use Rattle.nor_session.specs.Modelled.{IsModelled, most_looked, kinds_of}
 use Rattle.nor_session.specs.Changing.{touched_count}
-use Rattle.nor_session.specs.Restore.{is_touched_from, is_raised_from, code_told, Fits, IsJudgedFirst, IsRestoreVerdict, IsRestorable}
+use Rattle.nor_session.specs.Restore.{is_touched_from, is_raised_from, code_told, IsOfKind, HasFixedTold, Fits, IsJudgedFirst, IsRestoreVerdict, IsRestorable}
 
 -- ---- the opening
 
@@ -41,6 +41,21 @@ IsUnitRefusal _ = ⊥
 -- an opening of a chip that the journal is of
 abbrev pub FitsOpening : Content → Opening → Type 0
 FitsOpening journal opening = (chip : Chip) → chip.kept2 < 128 → IsOpening chip opening → Fits journal chip
+
+-- the fixed bits that an opening shows are those that the journal tells, on each chip that it is an opening of
+abbrev pub ShowsFixed : Content → Opening → Bool → Type 0
+ShowsFixed journal opening shown = (chip : Chip) → chip.kept2 < 128 → IsOpening chip opening
+    → MatchBool shown (HasFixedTold journal chip) (¬ HasFixedTold journal chip)
+
+-- where the unit is accepted the journal is one of each such chip that has its ID and size
+abbrev pub AcceptsUnit : Content → Opening → Result Unit Refusal → Type 0
+AcceptsUnit journal opening judged = (chip : Chip) → chip.kept2 < 128 → IsOpening chip opening
+    → IsOfKind journal chip.config → OnOk judged (Fits journal chip)
+
+-- and where it is refused, that is the verdict
+abbrev pub RefusesUnit : Content → Opening → Result Unit Refusal → Type 0
+RefusesUnit journal opening judged = (chip : Chip) → chip.kept2 < 128 → IsOpening chip opening
+    → IsOfKind journal chip.config → IfErr judged (IsRestoreVerdict journal chip)
 
 -- A refusal that was judged: nothing changed, and on a modelled bus it is the verdict.
 pub record IsRefusedFor (journal : Content) (old new : BusState) (refusal : Refusal) : Type 0 where
@@ -107,6 +122,16 @@ pub record IsShut (journal : Content) (touched : ℕ → Bool) (chip : Chip) : T
   pub locked : is_locked chip ≡ true
   pub needs : NeedsCodeFrom journal touched chip
 
+-- changes are only made where the status of each chip with this opening may be changed so
+abbrev pub MakesChanges : Content → Opening → (ℕ → Bool) → Result Changes Refusal → Type 0
+MakesChanges journal opening touched judged =
+    (chip : Chip) → IsOpening chip opening → IfOk judged (MayChangeStatus journal touched chip)
+
+-- and refused where it is shut
+abbrev pub RefusesShut : Content → Opening → (ℕ → Bool) → Result Changes Refusal → Type 0
+RefusesShut journal opening touched judged =
+    (chip : Chip) → IsOpening chip opening → OnErr judged (IsShut journal touched chip)
+
 -- ---- all of it
 
 -- On a modelled bus: the chip as it was before may be restored, was found as it is, and as it is now the changes that
@@ -133,7 +158,7 @@ pub record IsPrepared (journal : Content) (old new : BusState) (prepared : Prepa
   pub few : prepared.touched ≤ length journal.saved
   pub room : length journal.saved ≤ 4096
   pub least : 4 + length journal.saved ≤ prepared.transactions
-  pub most : prepared.transactions ≤ 65542 + length journal.saved
+  pub most : prepared.transactions ≤ most_looked (length journal.saved)
   pub rested : old.honest ≡ true → Rested old new
   pub sent : old.honest ≡ true → old.left ≡ new.left + prepared.transactions
   pub modelled : IsModelled old → IsPreparedFor journal old.chip new.chip prepared

@@ -1,19 +1,20 @@
 -- What a rehearsal promises.
-use Rattle.std.specs.Prelude.{◌≡◌, ◌≤◌, ◌<◌, ◌+◌, ◌-◌, ◌*◌, ◌/◌, max, ℕ, Bool, true, false, List, [], ◌∷◌, length, slice_index}
+use Rattle.std.specs.Prelude.{◌≡◌, ◌≤◌, ◌<◌, ◌+◌, ◌-◌, ◌*◌, ◌/◌, max, ℕ, Bool, true, false, List, [], ◌∷◌, Result, IfOk, IfErr, OnErr, drop, length, slice_index}
 use Rattle.nor_chip.specs.Chip.{Chip, IsSame}
 use Rattle.nor_chip.specs.Bus.{BusState}
+use Rattle.nor_driver.specs.Looks.{IsCalm}
 use Rattle.nor_journal.specs.Vault.{VaultState, Rose}
-use Rattle.nor_layout.specs.Below.{count_below}
-use Rattle.nor_plan.specs.Planned.{fewest_erases}
-use Rattle.nor_apply.specs.Content.{is_programmed}
+use Rattle.nor_journal.specs.Saved.{JournalSaves}
+use Rattle.nor_apply.specs.Counts.{sector_count}
 use Rattle.nor_save.specs.declared.report.Request.{Request}
 use Rattle.nor_save.specs.declared.refusal.Refusal.{Refusal}
 use Rattle.nor_save.specs.declared.refusal.Refusal.TheVariants.{Vault}
 use Rattle.nor_save.specs.Request.{scanned_sectors, is_touched_by, is_raised_by}
+use Rattle.nor_save.specs.Saving.{head_of}
 use Rattle.nor_session.specs.declared.rehearsals.Rehearsal.{Rehearsal}
-use Rattle.nor_session.specs.Modelled.{most_of, kinds_of}
+use Rattle.nor_session.specs.Modelled.{IsModelled, most_looked, most_of, fewest_erases_of}
 use Rattle.nor_session.specs.Verdict.{IsVerdict, IsAccepted}
-use Rattle.nor_session.specs.Session.{wanted_of, erased_of}
+use Rattle.nor_session.specs.Session.{pages_of}
 
 -- the transactions that the session is allowed: without a stop the most that a session takes on a chip of 16 MiB
 abbrev pub first_allowance : List ℕ → ℕ
@@ -38,8 +39,7 @@ pub record IsRehearsal (stops : ℕ) (vault : VaultState) (rehearsal : Rehearsal
 abbrev pub least_needed : Request → List ℕ → Chip → ℕ
 least_needed request image chip =
     4 + scanned_sectors request chip.config.size
-    + 3 * (fewest_erases (kinds_of chip.config) (chip.config.size / 4096) (is_raised_by request image chip)
-    + count_below 65536 (is_programmed (is_touched_by request image chip) (erased_of request image chip) (wanted_of request image chip)))
+    + 3 * (fewest_erases_of chip.config (is_raised_by request image chip) + pages_of request image chip)
 
 -- A session can end on the chip: it is accepted, and so many transactions may be enough.
 pub record CanEnd (request : Request) (image : List ℕ) (allowance : ℕ) (chip : Chip) : Type 0 where
@@ -50,7 +50,7 @@ pub record CanEnd (request : Request) (image : List ℕ) (allowance : ℕ) (chip
 -- and where it wasn't it was less than these may take.
 pub record SealFits (request : Request) (allowance : ℕ) (chip : Chip) (seal : Bool) : Type 0 where
   pub enough : seal ≡ true → 4 + scanned_sectors request chip.config.size ≤ allowance
-  pub below : seal ≡ false → allowance < 65542 + scanned_sectors request chip.config.size
+  pub below : seal ≡ false → allowance < most_looked (scanned_sectors request chip.config.size)
 
 -- So many restores of a journal of so many sectors were run, under these stops in turn: each before the last was
 -- stopped, so it was allowed fewer transactions than the bound, and the last ended, so where it ran under a stop, that
@@ -75,3 +75,48 @@ BlamesVault old new refusal = refusal ≡ Vault → Rose old new
 abbrev pub RehearsalTells : Request → List ℕ → Chip → VaultState → VaultState → Refusal → Type 0
 RehearsalTells request image chip old new Vault = Rose old new
 RehearsalTells request image chip old new refusal = IsVerdict request image chip refusal
+
+-- ---- what a rehearsal says on an honest bus whose chip is what it shows itself to be
+
+abbrev pub GivesAllBack : BusState → BusState → Type 0
+GivesAllBack old new = IsModelled old → IsCalm old → IsSame old.chip new.chip
+
+abbrev pub RefusesRehearsal : Request → List ℕ → BusState → VaultState → VaultState → Result Rehearsal Refusal → Type 0
+RefusesRehearsal request image old vault vault' result =
+    IsModelled old → IfErr result (RehearsalTells request image old.chip vault vault')
+
+abbrev pub StaysRefused : BusState → BusState → VaultState → Result Rehearsal Refusal → Type 0
+StaysRefused old new vault result = IsModelled old → OnErr result (LeavesRefused old new vault)
+
+-- a vault is sealed only for a request that is accepted
+abbrev pub SealsAccepted : Request → List ℕ → BusState → VaultState → Type 0
+SealsAccepted request image old vault =
+    IsModelled old → vault.sealed ≡ true → IsAccepted request image old.chip
+
+-- and has the journal of the starting chip, which saves just the touched sectors
+abbrev pub SealsJournal : Request → List ℕ → BusState → VaultState → Type 0
+SealsJournal request image old vault =
+    IsModelled old → vault.sealed ≡ true
+    → JournalSaves (head_of old.chip) old.chip.bytes (is_touched_by request image old.chip) vault.bytes
+
+-- the session ends where it was allowed as many transactions as it takes at most
+abbrev pub EndsWhereAllowed : List ℕ → BusState → Result Rehearsal Refusal → Type 0
+EndsWhereAllowed stops old result =
+    IsModelled old → most_of (old.chip.config.size / 4096) ≤ first_allowance stops
+    → IfOk result (λ rehearsal. rehearsal.ended ≡ true)
+
+-- and only where it was allowed as many as it takes at least
+abbrev pub EndsWhereEnough : Request → List ℕ → List ℕ → BusState → Result Rehearsal Refusal → Type 0
+EndsWhereEnough request image stops old result =
+    IsModelled old → IfOk result (λ rehearsal. rehearsal.ended ≡ true → CanEnd request image (first_allowance stops) old.chip)
+
+-- the vault is sealed as the first allowance lets it
+abbrev pub SealsAsAllowed : Request → List ℕ → BusState → Result Rehearsal Refusal → Type 0
+SealsAsAllowed request stops old result =
+    IsModelled old → IfOk result (λ rehearsal. SealFits request (first_allowance stops) old.chip rehearsal.sealed)
+
+-- restores are run under the later stops, until one ends
+abbrev pub RestoresInTurn : Request → List ℕ → List ℕ → BusState → Result Rehearsal Refusal → Type 0
+RestoresInTurn request image stops old result =
+    IsModelled old → IfOk result (λ rehearsal. rehearsal.sealed ≡ true
+    → AreRestores (sector_count (is_touched_by request image old.chip)) (drop 1 stops) rehearsal.restores)

@@ -78,7 +78,7 @@ pub record ShowsRestores (journal : Content) (stops : List ℕ) (old new : BusSt
   pub back : IsModelled old → (first : Chip) → CanGiveBack journal first old → IsSame first new.chip
 
 -- A restore was refused: never one of a chip that the journal can give back, and never by the vault.
-pub record RefusesRestore (journal : Content) (old : BusState) (refusal : Refusal) : Type 0 where
+pub record StopsRestores (journal : Content) (old : BusState) (refusal : Refusal) : Type 0 where
   pub blameless : refusal ≡ Vault → ⊥
   pub never : IsModelled old → (first : Chip) → CanGiveBack journal first old → ⊥
 

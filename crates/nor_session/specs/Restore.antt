@@ -1,16 +1,15 @@
 -- What a restore wants of a chip, and what it promises.
-use Rattle.std.specs.Prelude.{◌≡◌, ◌≢◌, ◌+◌, ◌*◌, ◌/◌, ◌%◌, ◌&&◌, ◌||◌, ◌⊎◌, ℕ, Bool, true, false, not, length, slice_index, None, IfSome, IsSomeAnd, Err, if◌then◌else◌}
+use Rattle.std.specs.Prelude.{◌≡◌, ◌≢◌, ◌+◌, ◌*◌, ◌/◌, ◌%◌, ◌&&◌, ◌||◌, ◌⊎◌, ℕ, Bool, true, false, not, length, slice_index, None, Result, IfOk, IfErr, IfSome, IsSomeAnd, OnOk, Err, if◌then◌else◌}
 use Rattle.nor_chip.specs.declared.config.Config.{Config}
-use Rattle.nor_chip.specs.Chip.{Chip, is_locked}
+use Rattle.nor_chip.specs.Chip.{Chip, IsSame, is_locked}
 use Rattle.nor_chip.specs.Guard.{code_of, is_guarded}
 use Rattle.nor_chip.specs.Bus.{BusState}
-use Rattle.nor_driver.specs.Looks.{IsCalm, RanOut}
+use Rattle.nor_driver.specs.Looks.{IsCalm, Looks, RanOut}
 use Rattle.nor_driver.specs.Reads.{id_of, unique_of}
 use Rattle.nor_driver.specs.StatusWrites.{KeepsFixed, HasCode}
 use Rattle.nor_journal.specs.Text.{Content}
 use Rattle.nor_journal.specs.Saved.{Saves, is_saved, saved_byte}
 use Rattle.nor_layout.specs.Below.{count_below}
-use Rattle.nor_plan.specs.Planned.{fewest_erases}
 use Rattle.nor_probe.specs.declared.probes.ProbeFault.TheVariants as Probes
 use Rattle.nor_probe.specs.Known.{shown_as, IsKnown}
 use Rattle.nor_probe.specs.Found.{IsConfigOf}
@@ -21,7 +20,7 @@ use Rattle.nor_save.specs.declared.report.Report.{Report}
 use Rattle.nor_save.specs.declared.refusal.Refusal.{Refusal}
 use Rattle.nor_save.specs.declared.refusal.Refusal.TheVariants.{NoChip, UnknownChip, StatusLocked, Stopped, Timeout, Mismatch, OtherChip, OtherUnit, StatusDiffers}
 use Rattle.nor_save.specs.Saving.{SomeHeld}
-use Rattle.nor_session.specs.Modelled.{most_of, kinds_of}
+use Rattle.nor_session.specs.Modelled.{IsModelled, most_looked, most_of, fewest_erases_of}
 use Rattle.nor_session.specs.Verdict.{IsNamed}
 
 -- ---- what is wanted
@@ -66,7 +65,7 @@ pub record HasFixedTold (journal : Content) (chip : Chip) : Type 0 where
 
 -- The chip is known, and the journal is one of it.
 pub record Fits (journal : Content) (chip : Chip) : Type 0 where
-  pub named : IsNamed None chip
+  pub named : IsNamed None chip.config
   pub kind : IsOfKind journal chip.config
   pub unit : ¬ IsOfOtherUnit journal chip.config
   pub fixed : HasFixedTold journal chip
@@ -79,10 +78,10 @@ NeedsStatusFrom journal chip = (code_of chip ≢ code_told journal) ⊎ SomeHeld
 abbrev pub IsRestoreVerdict : Content → Chip → Refusal → Type 0
 IsRestoreVerdict journal chip NoChip = shown_as chip.config ≡ Err Probes.NoChip
 IsRestoreVerdict journal chip (UnknownChip fault) = shown_as chip.config ≡ Err (Probes.UnknownChip fault)
-IsRestoreVerdict journal chip OtherChip = IsNamed None chip × (¬ IsOfKind journal chip.config)
-IsRestoreVerdict journal chip OtherUnit = IsNamed None chip × IsOfKind journal chip.config × IsOfOtherUnit journal chip.config
+IsRestoreVerdict journal chip OtherChip = IsNamed None chip.config × (¬ IsOfKind journal chip.config)
+IsRestoreVerdict journal chip OtherUnit = IsNamed None chip.config × IsOfKind journal chip.config × IsOfOtherUnit journal chip.config
 IsRestoreVerdict journal chip StatusDiffers =
-    IsNamed None chip × IsOfKind journal chip.config × (¬ IsOfOtherUnit journal chip.config) × (¬ HasFixedTold journal chip)
+    IsNamed None chip.config × IsOfKind journal chip.config × (¬ IsOfOtherUnit journal chip.config) × (¬ HasFixedTold journal chip)
 IsRestoreVerdict journal chip StatusLocked = Fits journal chip × (is_locked chip ≡ true) × NeedsStatusFrom journal chip
 IsRestoreVerdict journal chip _ = ⊥
 
@@ -110,12 +109,32 @@ IsRestoreRefusal (Timeout address) = Unit {0}
 IsRestoreRefusal (Mismatch address) = Unit {0}
 IsRestoreRefusal refusal = IsJudgedFirst refusal
 
+-- until it is judged a restore only looks, as far as the opening and the scan of the largest chip
+abbrev pub LooksUnlessBegun : BusState → BusState → Result Report Refusal → Type 0
+LooksUnlessBegun old new result =
+    IfErr result (λ refusal. IsJudgedFirst refusal → Looks (most_looked 4096) old new)
+
+-- ---- on an honest bus
+
+-- A stop comes only where no transaction is left, and no timeout; after a refusal that was judged first bytes and kept
+-- bits are as they were.
+abbrev pub RestoreGivesUp : BusState → BusState → Refusal → Type 0
+RestoreGivesUp old new Stopped = new.left ≡ 0
+RestoreGivesUp old new (Timeout address) = ⊥
+RestoreGivesUp old new refusal = IsJudgedFirst refusal → IsSame old.chip new.chip
+
+abbrev pub StaysUnlessBegun : BusState → BusState → Result Report Refusal → Type 0
+StaysUnlessBegun old new result = old.honest ≡ true → IfErr result (RestoreGivesUp old new)
+
 -- ---- on an honest bus whose chip is what it shows itself to be
 
 -- The answer is the verdict; or the bus stopped where fewer transactions were left than the bound.
 abbrev pub RestoreTells : Content → BusState → BusState → Refusal → Type 0
 RestoreTells journal old new Stopped = RanOut (most_of (length journal.saved)) old new
 RestoreTells journal old new refusal = IsRestoreVerdict journal old.chip refusal
+
+abbrev pub RefusesRestore : Content → BusState → BusState → Result Report Refusal → Type 0
+RefusesRestore journal old new result = IsModelled old → IfErr result (RestoreTells journal old new)
 
 -- At every exit, whatever the journal: outside the saved sectors bytes are as they were, the fixed bits are, and only
 -- sectors with a bit that had to rise were erased.
@@ -124,6 +143,11 @@ pub record LeavesRestore (journal : Content) (old new : BusState) : Type 0 where
   pub bytes : IsCalm old → (a : ℕ) → is_saved journal (a / 4096) ≡ false → new.chip.bytes a ≡ old.chip.bytes a
   pub fixed : IsCalm old → KeepsFixed old.chip new.chip
   pub worn : (s : ℕ) → is_raised_from journal old.chip s ≡ false → new.worn s ≡ old.worn s
+
+-- how many pages have to be programmed once the raised sectors are erased
+abbrev pub pages_from : Content → Chip → ℕ
+pages_from journal chip = count_below 65536
+    (is_programmed (is_touched_from journal chip) (once_erased (is_raised_from journal chip) chip.bytes) (restored journal chip.bytes))
 
 -- At the end the chip is what the journal wants, and idle, and the report counts what was done.
 pub record IsRestored (journal : Content) (old new : BusState) (report : Report) : Type 0 where
@@ -137,9 +161,11 @@ pub record IsRestored (journal : Content) (old new : BusState) (report : Report)
   pub found : IsConfigOf old.chip.config report.found
   pub status1 : report.found.status1 / 4 ≡ old.chip.kept1
   pub touched : report.touched ≡ sector_count (is_touched_from journal old.chip)
-  pub erases : report.erases ≡ fewest_erases (kinds_of old.chip.config) (old.chip.config.size / 4096) (is_raised_from journal old.chip)
-  pub programs : report.programs
-      ≡ count_below 65536 (is_programmed (is_touched_from journal old.chip) (once_erased (is_raised_from journal old.chip) old.chip.bytes) (restored journal old.chip.bytes))
+  pub erases : report.erases ≡ fewest_erases_of old.chip.config (is_raised_from journal old.chip)
+  pub programs : report.programs ≡ pages_from journal old.chip
+
+abbrev pub Restores : Content → BusState → BusState → Result Report Refusal → Type 0
+Restores journal old new result = IsModelled old → IfOk result (IsRestored journal old new)
 
 -- ---- giving a chip back
 
@@ -160,3 +186,18 @@ pub record CanGiveBack (journal : Content) (first : Chip) (state : BusState) : T
   pub known : IsKnown first.config
   pub saves : SavesChip journal first
   pub within : IsWithin (open_places journal first) first state
+
+-- At every exit the bus's chip can still be made each first one that it could be made before.
+abbrev pub KeepsGivingBack : Content → BusState → BusState → Type 0
+KeepsGivingBack journal old new =
+    IsModelled old → (first : Chip) → CanGiveBack journal first old → CanGiveBack journal first new
+
+-- a restore that ends has made it that one
+abbrev pub GivesBack : Content → BusState → BusState → Result Report Refusal → Type 0
+GivesBack journal old new result =
+    IsModelled old → (first : Chip) → CanGiveBack journal first old → OnOk result (IsSame first new.chip)
+
+-- and nothing else than a stop keeps it from ending
+abbrev pub EndsUnlessStopped : Content → BusState → Result Report Refusal → Type 0
+EndsUnlessStopped journal old result =
+    IsModelled old → (first : Chip) → CanGiveBack journal first old → IfErr result (λ refusal. refusal ≡ Stopped)

@@ -1,14 +1,14 @@
 -- What a session promises.
-use Rattle.std.specs.Prelude.{◌≡◌, ◌≤◌, ◌<◌, ◌+◌, ◌*◌, ◌/◌, ◌||◌, ℕ, Bool, true, false, List, if◌then◌else◌}
+use Rattle.std.specs.Prelude.{◌≡◌, ◌≤◌, ◌<◌, ◌+◌, ◌*◌, ◌/◌, ◌||◌, ℕ, Bool, true, false, List, Result, IfOk, IfErr, if◌then◌else◌}
 use Rattle.nor_chip.specs.Chip.{Chip, IsSame, is_locked}
 use Rattle.nor_chip.specs.Guard.{is_unit_guarded}
 use Rattle.nor_chip.specs.Bus.{BusState}
-use Rattle.nor_driver.specs.Looks.{RanOut}
+use Rattle.nor_driver.specs.Looks.{Looks, RanOut}
+use Rattle.nor_driver.specs.Operations.{Falls}
 use Rattle.nor_driver.specs.StatusWrites.{KeepsFixed, HasCode}
 use Rattle.nor_journal.specs.Vault.{VaultState, Rose}
 use Rattle.nor_journal.specs.Saved.{JournalSaves}
 use Rattle.nor_layout.specs.Below.{count_below}
-use Rattle.nor_plan.specs.Planned.{fewest_erases}
 use Rattle.nor_probe.specs.Found.{IsConfigOf}
 use Rattle.nor_apply.specs.Counts.{sector_count}
 use Rattle.nor_apply.specs.Content.{once_erased, is_programmed}
@@ -22,7 +22,7 @@ use Rattle.nor_save.specs.declared.refusal.Refusal.TheVariants.{Vault, Stopped, 
 use Rattle.nor_save.specs.Refusal.{number_of}
 use Rattle.nor_save.specs.Request.{wanted, scanned_sectors, is_touched_by, is_raised_by, IsWantedCode}
 use Rattle.nor_save.specs.Saving.{head_of}
-use Rattle.nor_session.specs.Modelled.{most_of, kinds_of}
+use Rattle.nor_session.specs.Modelled.{IsModelled, most_looked, most_of, fewest_erases_of}
 use Rattle.nor_session.specs.Verdict.{IsVerdict, IsAccepted}
 
 -- ---- on every bus
@@ -55,13 +55,17 @@ pub record IsWithinBound (scanned writes : ℕ) (report : Report) : Type 0 where
   pub touched : report.touched ≤ scanned
   pub erases : report.erases ≤ scanned
   pub programs : report.programs ≤ 16 * scanned
-  pub few : report.transactions ≤ 65542 + scanned + 2 * report.touched + 65538 * (report.erases + report.programs + writes)
+  pub few : report.transactions ≤ most_looked scanned + 2 * report.touched + 65538 * (report.erases + report.programs + writes)
   pub least : 4 + scanned + 3 * (report.erases + report.programs) ≤ report.transactions
 
 -- The session ended: the vault is sealed, and the report is within its bound.
 pub record Ends (request : Request) (vault : VaultState) (report : Report) : Type 0 where
   pub sealed : vault.sealed ≡ true
   pub bounded : IsWithinBound (scanned_sectors request report.found.size) (most_status_writes request.what request.unlock) report
+
+-- until the vault is sealed it only looks, as far as the opening and the scan of the largest chip
+abbrev pub LooksUnsealed : BusState → BusState → VaultState → Type 0
+LooksUnsealed old new vault = vault.sealed ≡ false → Looks (most_looked 4096) old new
 
 -- ---- on an honest bus
 
@@ -72,7 +76,18 @@ HonestTells old new Stopped = new.left ≡ 0
 HonestTells old new (Timeout address) = ⊥
 HonestTells old new refusal = number_of refusal ≤ 11 → IsSame old.chip new.chip
 
+abbrev pub GivesUp : BusState → BusState → Result Report Refusal → Type 0
+GivesUp old new result = old.honest ≡ true → IfErr result (HonestTells old new)
+
+-- the report's transactions are those that were sent
+abbrev pub SentAsTold : BusState → BusState → Result Report Refusal → Type 0
+SentAsTold old new result = old.honest ≡ true → IfOk result (λ report. old.left ≡ new.left + report.transactions)
+
 -- ---- on an honest bus whose chip is what it shows itself to be
+
+-- at every exit at most as many transactions were sent as the chip's size takes
+abbrev pub FallsBySize : BusState → BusState → Type 0
+FallsBySize old new = IsModelled old → Falls (most_of (old.chip.config.size / 4096)) old new
 
 -- The answer is the verdict; or the vault failed, or the bus stopped where fewer transactions were left than the bound.
 abbrev pub SessionTells : Request → List ℕ → BusState → BusState → VaultState → VaultState → Refusal → Type 0
@@ -80,10 +95,18 @@ SessionTells request image old new vault vault' Vault = Rose vault vault'
 SessionTells request image old new vault vault' Stopped = RanOut (most_of (old.chip.config.size / 4096)) old new
 SessionTells request image old new vault vault' refusal = IsVerdict request image old.chip refusal
 
+abbrev pub Refuses : Request → List ℕ → BusState → BusState → VaultState → VaultState → Result Report Refusal → Type 0
+Refuses request image old new vault vault' result =
+    IsModelled old → IfErr result (SessionTells request image old new vault vault')
+
 -- a stop before the vault was sealed came in the opening or the scan
 abbrev pub StopsEarly : Request → BusState → Refusal → Type 0
-StopsEarly request old Stopped = old.left < 65542 + scanned_sectors request old.chip.config.size
+StopsEarly request old Stopped = old.left < most_looked (scanned_sectors request old.chip.config.size)
 StopsEarly request old _ = Unit {0}
+
+abbrev pub SealsOnceScanned : Request → BusState → VaultState → Result Report Refusal → Type 0
+SealsOnceScanned request old vault result =
+    IsModelled old → vault.sealed ≡ false → IfErr result (StopsEarly request old)
 
 -- The wanted kept bits: the fixed ones are as they were, and the code is the wanted one.
 pub record HasWantedBits (what : What) (old new : Chip) : Type 0 where
@@ -100,6 +123,11 @@ wanted_of request image chip = wanted request image chip.config.size chip.bytes
 abbrev pub erased_of : Request → List ℕ → Chip → ℕ → ℕ
 erased_of request image chip = once_erased (is_raised_by request image chip) chip.bytes
 
+-- how many pages have to be programmed then
+abbrev pub pages_of : Request → List ℕ → Chip → ℕ
+pages_of request image chip = count_below 65536
+    (is_programmed (is_touched_by request image chip) (erased_of request image chip) (wanted_of request image chip))
+
 -- At the end the chip is the wanted one, and idle; only raised sectors were erased, by the fewest erases; and the
 -- report tells the chip and counts what was done.
 pub record IsDone (request : Request) (image : List ℕ) (old new : BusState) (report : Report) : Type 0 where
@@ -111,8 +139,15 @@ pub record IsDone (request : Request) (image : List ℕ) (old new : BusState) (r
   pub found : IsConfigOf old.chip.config report.found
   pub status1 : report.found.status1 / 4 ≡ old.chip.kept1
   pub touched : report.touched ≡ sector_count (is_touched_by request image old.chip)
-  pub erases : report.erases ≡ fewest_erases (kinds_of old.chip.config) (old.chip.config.size / 4096) (is_raised_by request image old.chip)
-  pub programs : report.programs ≡ count_below 65536 (is_programmed (is_touched_by request image old.chip) (erased_of request image old.chip) (wanted_of request image old.chip))
+  pub erases : report.erases ≡ fewest_erases_of old.chip.config (is_raised_by request image old.chip)
+  pub programs : report.programs ≡ pages_of request image old.chip
+
+abbrev pub Finishes : Request → List ℕ → BusState → BusState → Result Report Refusal → Type 0
+Finishes request image old new result = IsModelled old → IfOk result (IsDone request image old new)
+
+-- none of these sectors is guarded
+abbrev pub AreFree : (ℕ → Bool) → Chip → Type 0
+AreFree sectors chip = (s : ℕ) → sectors s ≡ true → is_unit_guarded chip (4096 * s) 4096 ≡ false
 
 -- Once the vault is sealed the request is accepted; a telling vault has the journal of the starting chip, which saves
 -- just the touched sectors, none of them guarded where the status is locked; and the chip is on the way to the wanted
@@ -121,6 +156,11 @@ pub record IsDone (request : Request) (image : List ℕ) (old new : BusState) (r
 pub record CanBeUndone (request : Request) (image : List ℕ) (old new : BusState) (vault : VaultState) : Type 0 where
   pub accepted : IsAccepted request image old.chip
   pub journal : vault.telling ≡ true → JournalSaves (head_of old.chip) old.chip.bytes (is_touched_by request image old.chip) vault.bytes
-  pub free : is_locked old.chip ≡ true → (s : ℕ) → is_touched_by request image old.chip s ≡ true → is_unit_guarded old.chip (4096 * s) 4096 ≡ false
-  pub changes : MayChange (is_touched_by request image old.chip) (is_raised_by request image old.chip) (wanted_of request image old.chip) old new
+  pub free : is_locked old.chip ≡ true → AreFree (is_touched_by request image old.chip) old.chip
+  pub changes :
+      MayChange (is_touched_by request image old.chip) (is_raised_by request image old.chip) (wanted_of request image old.chip) old new
   pub spent : new.left + (4 + scanned_sectors request old.chip.config.size) ≤ old.left
+
+abbrev pub LeadsBackFrom : Request → List ℕ → BusState → BusState → VaultState → Type 0
+LeadsBackFrom request image old new vault =
+    IsModelled old → vault.sealed ≡ true → CanBeUndone request image old new vault

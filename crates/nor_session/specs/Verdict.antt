@@ -1,26 +1,19 @@
 -- The verdict on a request: the first of the refusals from 1 to 10 that holds of a chip, or that it is accepted.
-use Rattle.std.specs.Prelude.{◌≡◌, ℕ, Bool, List, length, Ok, Err, Option}
+use Rattle.std.specs.Prelude.{◌≡◌, ℕ, Bool, List, length, Err}
 use Rattle.nor_chip.specs.Chip.{Chip}
-use Rattle.nor_probe.specs.declared.table.ChipName.{ChipName}
-use Rattle.nor_probe.specs.declared.table.Part.{Part}
 use Rattle.nor_probe.specs.declared.probes.ProbeFault.TheVariants as Probes
 use Rattle.nor_probe.specs.Known.{shown_as}
-use Rattle.nor_probe.specs.Found.{IsWanted, HasOtherName}
+pub use Rattle.nor_probe.specs.Found.{IsNamed}
+use Rattle.nor_probe.specs.Found.{HasOtherName}
 use Rattle.nor_save.specs.declared.report.Request.{Request}
 use Rattle.nor_save.specs.declared.refusal.Refusal.{Refusal}
 use Rattle.nor_save.specs.declared.refusal.Refusal.TheVariants.{NoChip, UnknownChip, OtherName, ImageSize, RegionOutside, NoProtection, UndefinedProtection, RangeNotOffered, StatusLocked, Protected}
 use Rattle.nor_save.specs.Request.{is_touched_by}
 use Rattle.nor_save.specs.Saving.{OpeningAccepts, OpeningJudges, ScanAccepts, ScanJudges}
 
--- The chip shows itself as a part, under a name that is wanted.
-pub record IsNamed (named : Option ChipName) (chip : Chip) : Type 0 where
-  pub part : Part
-  pub shown : shown_as chip.config ≡ Ok part
-  pub wanted : IsWanted named part.name
-
 -- The opening refuses nothing, and the touched sectors are refused for this.
 pub record IsScanVerdict (request : Request) (image : List ℕ) (chip : Chip) (refusal : Refusal) : Type 0 where
-  pub named : IsNamed request.named chip
+  pub named : IsNamed request.named chip.config
   pub code : ℕ
   pub opening : OpeningAccepts request (length image) chip code
   pub judges : ScanJudges request code (is_touched_by request image chip) chip refusal
@@ -30,11 +23,13 @@ abbrev pub IsVerdict : Request → List ℕ → Chip → Refusal → Type 0
 IsVerdict request image chip NoChip = shown_as chip.config ≡ Err Probes.NoChip
 IsVerdict request image chip (UnknownChip fault) = shown_as chip.config ≡ Err (Probes.UnknownChip fault)
 IsVerdict request image chip OtherName = HasOtherName request.named chip.config
-IsVerdict request image chip (ImageSize size len) = IsNamed request.named chip × OpeningJudges request (length image) chip (ImageSize size len)
-IsVerdict request image chip RegionOutside = IsNamed request.named chip × OpeningJudges request (length image) chip RegionOutside
-IsVerdict request image chip NoProtection = IsNamed request.named chip × OpeningJudges request (length image) chip NoProtection
-IsVerdict request image chip UndefinedProtection = IsNamed request.named chip × OpeningJudges request (length image) chip UndefinedProtection
-IsVerdict request image chip RangeNotOffered = IsNamed request.named chip × OpeningJudges request (length image) chip RangeNotOffered
+IsVerdict request image chip (ImageSize size len) =
+    IsNamed request.named chip.config × OpeningJudges request (length image) chip (ImageSize size len)
+IsVerdict request image chip RegionOutside = IsNamed request.named chip.config × OpeningJudges request (length image) chip RegionOutside
+IsVerdict request image chip NoProtection = IsNamed request.named chip.config × OpeningJudges request (length image) chip NoProtection
+IsVerdict request image chip UndefinedProtection =
+    IsNamed request.named chip.config × OpeningJudges request (length image) chip UndefinedProtection
+IsVerdict request image chip RangeNotOffered = IsNamed request.named chip.config × OpeningJudges request (length image) chip RangeNotOffered
 IsVerdict request image chip StatusLocked = IsScanVerdict request image chip StatusLocked
 IsVerdict request image chip (Protected address) = IsScanVerdict request image chip (Protected address)
 IsVerdict request image chip _ = ⊥
@@ -42,7 +37,7 @@ IsVerdict request image chip _ = ⊥
 -- The verdict is "accepted": neither the opening nor the scan refuses anything. `unlock` tells whether protection has
 -- to be lifted.
 pub record IsAccepted (request : Request) (image : List ℕ) (chip : Chip) : Type 0 where
-  pub named : IsNamed request.named chip
+  pub named : IsNamed request.named chip.config
   pub code : ℕ
   pub opening : OpeningAccepts request (length image) chip code
   pub unlock : Bool

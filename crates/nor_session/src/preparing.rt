@@ -1,12 +1,11 @@
 //! What a restore knows before it changes anything, and the judgement on the status.
-ghost use Rattle.std.specs.Prelude.{◌≡◌, ◌≤◌, ◌+◌, ◌/◌, true, length, IfOk, IfErr, OnErr, IsTrue};
-ghost use Rattle.nor_chip.specs.Chip.{Chip};
+ghost use Rattle.std.specs.Prelude.{◌≡◌, ◌≤◌, ◌/◌, length, IfOk, IfErr, IsTrue};
 ghost use Rattle.nor_chip.specs.Size.{is_chip_size};
 ghost use Rattle.nor_driver.specs.Looks.{Looks};
 ghost use Rattle.nor_plan.specs.SectorSet.{has, LiesBelow};
 ghost use Rattle.nor_save.specs.declared.refusal.Refusal.TheVariants as Refusals;
-ghost use Rattle.nor_save.specs.Saving.{IsOpening};
-ghost use Rattle.nor_session.specs.Preparing.{AreChanges, MayChangeStatus, IsShut, IsPrepared, PrepareTells};
+ghost use Rattle.nor_session.specs.Modelled.{most_looked};
+ghost use Rattle.nor_session.specs.Preparing.{AreChanges, MakesChanges, RefusesShut, IsPrepared, PrepareTells};
 
 use crate::reopening::open_saved;
 use crate::rescanning::scan_saved;
@@ -29,9 +28,9 @@ pub(crate) struct Prepared {
 #[tactic(auto, using(crate::proofs::SavedBytes::saved_room))]
 pub(crate) fn prepare<B: Bus>(bus: &mut B, journal: &Journal<'_>) -> Result<Prepared, Refusal>
     ensures room { length journal.now.saved ≤ 4096 }
-    ensures leaves { Looks (65542 + length journal.now.saved) (B.state bus.old) (B.state bus.new) }
+    ensures leaves { Looks (most_looked (length journal.now.saved)) (B.state bus.old) (B.state bus.new) }
     ensures prepares { IfOk result (IsPrepared journal.now (B.state bus.old) (B.state bus.new)) }
-    ensures tells { IfErr result (PrepareTells journal.now (65542 + length journal.now.saved) (B.state bus.old) (B.state bus.new)) }
+    ensures tells { IfErr result (PrepareTells journal.now (most_looked (length journal.now.saved)) (B.state bus.old) (B.state bus.new)) }
 {
     let sectors = journal.count();
     let opening = open_saved(bus, journal)?;
@@ -55,8 +54,8 @@ fn judge_changes(
     requires below { LiesBelow scanned.now.touched (opening.now.found.size / 4096) }
     ensures changes { IfOk result (AreChanges journal.now opening.now scanned.now) }
     ensures locked { IfErr result (λ refusal. refusal ≡ Refusals.StatusLocked) }
-    ensures accepts { (chip : Chip) → IsOpening chip opening.now → IfOk result (MayChangeStatus journal.now (has scanned.now.touched) chip) }
-    ensures tells { (chip : Chip) → IsOpening chip opening.now → OnErr result (IsShut journal.now (has scanned.now.touched) chip) }
+    ensures accepts { MakesChanges journal.now opening.now (has scanned.now.touched) result }
+    ensures tells { RefusesShut journal.now opening.now (has scanned.now.touched) result }
 {
     let code = Status::of(journal.status()).code();
     let unlock = first_held(&scanned.touched, opening).is_some();

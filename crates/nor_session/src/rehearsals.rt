@@ -1,16 +1,13 @@
 //! A rehearsal: a session that is stopped on purpose, and the restores from its journal.
-ghost use Rattle.std.specs.Prelude.{◌≡◌, ◌≤◌, ◌+◌, ◌*◌, ◌/◌, true, false, length, drop, IfOk, IfErr, OnErr};
-ghost use Rattle.nor_chip.specs.Chip.{IsSame};
-ghost use Rattle.nor_driver.specs.Looks.{IsCalm};
+ghost use Rattle.std.specs.Prelude.{◌≡◌, ◌≤◌, length, drop, IfOk, IfErr};
 ghost use Rattle.nor_journal.specs.Vault.{IsFresh};
-ghost use Rattle.nor_journal.specs.Saved.{JournalSaves};
-ghost use Rattle.nor_apply.specs.Counts.{sector_count};
-ghost use Rattle.nor_save.specs.Request.{is_touched_by};
-ghost use Rattle.nor_save.specs.Saving.{head_of};
-ghost use Rattle.nor_session.specs.Verdict.{IsAccepted};
-ghost use Rattle.nor_session.specs.Modelled.{IsModelled, most_of};
-ghost use Rattle.nor_session.specs.Rehearsing.{LeavesSession, ShowsSession, RefusesSession, LeavesRestores, ShowsRestore, ShowsRestores, RefusesRestore, Undoes, RefusesUndo};
-ghost use Rattle.nor_session.specs.Rehearsal.{RehearsalTells, IsRehearsal, KeepsNature, first_allowance, CanEnd, SealFits, AreRestores, LeavesRefused, BlamesVault};
+ghost use Rattle.nor_journal.specs.MemVault.{held_by};
+ghost use Rattle.nor_session.specs.Modelled.{most_of};
+ghost use Rattle.nor_session.specs.Rehearsing.{LeavesSession, ShowsSession, RefusesSession, LeavesRestores, ShowsRestore, ShowsRestores};
+ghost use Rattle.nor_session.specs.Rehearsing.{Undoes, StopsRestores, RefusesUndo};
+ghost use Rattle.nor_session.specs.Rehearsal.{KeepsNature, IsRehearsal, BlamesVault, first_allowance};
+ghost use Rattle.nor_session.specs.Rehearsal.{GivesAllBack, StaysRefused, RefusesRehearsal, SealsAccepted, SealsJournal};
+ghost use Rattle.nor_session.specs.Rehearsal.{EndsWhereAllowed, EndsWhereEnough, SealsAsAllowed, RestoresInTurn};
 
 use crate::restores::restore;
 use crate::sessions::session;
@@ -43,29 +40,23 @@ pub fn rehearse<B: Meter>(
     stops: &[u64],
 ) -> Result<Rehearsal, Refusal>
     requires few { length stops.now ≤ 64 }
-    requires fresh { IsFresh (⟦<MemVault as Vault>⟧.state vault.old) }
+    requires fresh { IsFresh (held_by vault.old) }
 
     // On every bus.
     ensures nature { KeepsNature (B.state bus.old) (B.state bus.new) }
-    ensures counts { IfOk result (IsRehearsal (length stops.now) (⟦<MemVault as Vault>⟧.state vault.new)) }
-    ensures blames { IfErr result (BlamesVault (⟦<MemVault as Vault>⟧.state vault.old) (⟦<MemVault as Vault>⟧.state vault.new)) }
+    ensures counts { IfOk result (IsRehearsal (length stops.now) (held_by vault.new)) }
+    ensures blames { IfErr result (BlamesVault (held_by vault.old) (held_by vault.new)) }
 
     // On an honest bus whose chip is what it shows itself to be.
-    ensures gives_back { IsModelled (B.state bus.old) → IsCalm (B.state bus.old) → IsSame (B.state bus.old).chip (B.state bus.new).chip }
-    ensures refuses { IsModelled (B.state bus.old) → OnErr result (LeavesRefused (B.state bus.old) (B.state bus.new) (⟦<MemVault as Vault>⟧.state vault.new)) }
-    ensures tells { IsModelled (B.state bus.old)
-        → IfErr result (RehearsalTells request.now image.old (B.state bus.old).chip (⟦<MemVault as Vault>⟧.state vault.old) (⟦<MemVault as Vault>⟧.state vault.new)) }
-    ensures accepts { IsModelled (B.state bus.old) → (⟦<MemVault as Vault>⟧.state vault.new).sealed ≡ true
-        → IsAccepted request.now image.old (B.state bus.old).chip }
-    ensures saves { IsModelled (B.state bus.old) → (⟦<MemVault as Vault>⟧.state vault.new).sealed ≡ true
-        → JournalSaves (head_of (B.state bus.old).chip) (B.state bus.old).chip.bytes (is_touched_by request.now image.old (B.state bus.old).chip) (⟦<MemVault as Vault>⟧.state vault.new).bytes }
-    ensures ended { IsModelled (B.state bus.old) → most_of ((B.state bus.old).chip.config.size / 4096) ≤ first_allowance stops.now
-        → IfOk result (λ rehearsal. rehearsal.ended ≡ true) }
-    ensures stopped { IsModelled (B.state bus.old)
-        → IfOk result (λ rehearsal. rehearsal.ended ≡ true → CanEnd request.now image.old (first_allowance stops.now) (B.state bus.old).chip) }
-    ensures seal { IsModelled (B.state bus.old) → IfOk result (λ rehearsal. SealFits request.now (first_allowance stops.now) (B.state bus.old).chip rehearsal.sealed) }
-    ensures restores { IsModelled (B.state bus.old) → IfOk result (λ rehearsal. rehearsal.sealed ≡ true
-        → AreRestores (sector_count (is_touched_by request.now image.old (B.state bus.old).chip)) (drop 1 stops.now) rehearsal.restores) }
+    ensures gives_back { GivesAllBack (B.state bus.old) (B.state bus.new) }
+    ensures refuses { StaysRefused (B.state bus.old) (B.state bus.new) (held_by vault.new) result }
+    ensures tells { RefusesRehearsal request.now image.old (B.state bus.old) (held_by vault.old) (held_by vault.new) result }
+    ensures accepts { SealsAccepted request.now image.old (B.state bus.old) (held_by vault.new) }
+    ensures saves { SealsJournal request.now image.old (B.state bus.old) (held_by vault.new) }
+    ensures ended { EndsWhereAllowed stops.now (B.state bus.old) result }
+    ensures stopped { EndsWhereEnough request.now image.old stops.now (B.state bus.old) result }
+    ensures seal { SealsAsAllowed request.now stops.now (B.state bus.old) result }
+    ensures restores { RestoresInTurn request.now image.old stops.now (B.state bus.old) result }
 {
     let ended = stopped_session(bus, vault, image, request, stops)?;
     if !vault.is_sealed() {
@@ -120,10 +111,12 @@ fn stopped_session<B: Meter>(
     request: &Request,
     stops: &[u64],
 ) -> Result<bool, Refusal>
-    requires { IsFresh (⟦<MemVault as Vault>⟧.state vault.old) }
-    ensures leaves { LeavesSession request.now image.old (B.state bus.old) (B.state bus.new) (⟦<MemVault as Vault>⟧.state vault.new) }
-    ensures shows { IfOk result (ShowsSession request.now image.old (first_allowance stops.now) (B.state bus.old) (⟦<MemVault as Vault>⟧.state vault.new)) }
-    ensures refuses { IfErr result (RefusesSession request.now image.old (B.state bus.old) (B.state bus.new) (⟦<MemVault as Vault>⟧.state vault.old) (⟦<MemVault as Vault>⟧.state vault.new)) }
+    requires { IsFresh (held_by vault.old) }
+    ensures leaves { LeavesSession request.now image.old (B.state bus.old) (B.state bus.new) (held_by vault.new) }
+    ensures shows { IfOk result
+        (ShowsSession request.now image.old (first_allowance stops.now) (B.state bus.old) (held_by vault.new)) }
+    ensures refuses { IfErr result
+        (RefusesSession request.now image.old (B.state bus.old) (B.state bus.new) (held_by vault.old) (held_by vault.new)) }
 {
     bus.allow(first_allowed(stops));
     match session(bus, vault, image, request) {
@@ -155,7 +148,7 @@ fn restore_in_turn<B: Meter>(
     requires few { length stops.now ≤ 64 }
     ensures leaves { LeavesRestores journal.now (B.state bus.old) (B.state bus.new) }
     ensures shows { IfOk result (ShowsRestores journal.now stops.now (B.state bus.old) (B.state bus.new)) }
-    ensures refuses { IfErr result (RefusesRestore journal.now (B.state bus.old)) }
+    ensures refuses { IfErr result (StopsRestores journal.now (B.state bus.old)) }
 {
     let mut restores = 0;
     for stop in stops {
@@ -174,7 +167,7 @@ fn restore_in_turn<B: Meter>(
 fn ends_under<B: Meter>(bus: &mut B, journal: &Journal<'_>, allowance: u64) -> Result<bool, Refusal>
     ensures leaves { LeavesRestores journal.now (B.state bus.old) (B.state bus.new) }
     ensures shows { IfOk result (ShowsRestore journal.now allowance (B.state bus.old) (B.state bus.new)) }
-    ensures refuses { IfErr result (RefusesRestore journal.now (B.state bus.old)) }
+    ensures refuses { IfErr result (StopsRestores journal.now (B.state bus.old)) }
 {
     bus.allow(allowance);
     match restore(bus, journal) {

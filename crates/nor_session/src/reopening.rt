@@ -1,11 +1,8 @@
 //! How a restore begins: the chip is opened, and must be one that the journal is of.
-ghost use Rattle.std.specs.Prelude.{◌≡◌, ◌<◌, ◌/◌, ◌%◌, [], ◌∷◌, slice_index, None, IfOk, IfErr, OnOk, MatchBool};
-ghost use Rattle.nor_chip.specs.Chip.{Chip};
+ghost use Rattle.std.specs.Prelude.{◌≡◌, ◌/◌, ◌%◌, [], ◌∷◌, slice_index, None, IfOk, IfErr, MatchBool};
 ghost use Rattle.nor_driver.specs.Looks.{Looks};
 ghost use Rattle.nor_save.specs.Opening.{Opens};
-ghost use Rattle.nor_save.specs.Saving.{IsOpening};
-ghost use Rattle.nor_session.specs.Restore.{IsOfKind, HasFixedTold, Fits, IsRestoreVerdict};
-ghost use Rattle.nor_session.specs.Preparing.{IsOfKindFound, IsUnitRefusal, FitsOpening, PrepareTells};
+ghost use Rattle.nor_session.specs.Preparing.{IsOfKindFound, IsUnitRefusal, FitsOpening, ShowsFixed, AcceptsUnit, RefusesUnit, PrepareTells};
 
 use nor_chip::{Bus, Status};
 use nor_journal::Journal;
@@ -50,8 +47,8 @@ fn is_of_kind(journal: &Journal<'_>, found: &Found) -> bool
 // Judges the unit, and the bits of its status that a restore doesn't set.
 fn judge_unit(journal: &Journal<'_>, opening: &Opening) -> Result<(), Refusal>
     ensures faults { IfErr result IsUnitRefusal }
-    ensures fits { (chip : Chip) → chip.kept2 < 128 → IsOpening chip opening.now → IsOfKind journal.now chip.config → OnOk result (Fits journal.now chip) }
-    ensures tells { (chip : Chip) → chip.kept2 < 128 → IsOpening chip opening.now → IsOfKind journal.now chip.config → IfErr result (IsRestoreVerdict journal.now chip) }
+    ensures fits { AcceptsUnit journal.now opening.now result }
+    ensures tells { RefusesUnit journal.now opening.now result }
 {
     if let Some(unique) = journal.unique()
         && unique != opening.unique
@@ -67,7 +64,7 @@ fn judge_unit(journal: &Journal<'_>, opening: &Opening) -> Result<(), Refusal>
 
 // The fixed bits of the status are those that the journal tells, and where there is no block protection all kept ones.
 fn has_fixed(journal: &Journal<'_>, opening: &Opening) -> bool
-    ensures { (chip : Chip) → chip.kept2 < 128 → IsOpening chip opening.now → MatchBool result (HasFixedTold journal.now chip) (¬ HasFixedTold journal.now chip) }
+    ensures { ShowsFixed journal.now opening.now result }
 {
     let told = Status::of(journal.status()).kept().bytes();
     let read = opening.status().kept().bytes();

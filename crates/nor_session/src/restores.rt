@@ -1,12 +1,10 @@
 //! A restore: the chip is made again what a journal says.
-ghost use Rattle.std.specs.Prelude.{◌≡◌, ◌≤◌, ◌+◌, ◌/◌, ℕ, true, length, IfOk, IfErr, OnOk};
-ghost use Rattle.nor_chip.specs.Chip.{Chip, IsSame};
-ghost use Rattle.nor_driver.specs.Looks.{Looks};
+ghost use Rattle.std.specs.Prelude.{length, IfOk, IfErr};
 ghost use Rattle.nor_apply.specs.Spending.{Spends};
-ghost use Rattle.nor_save.specs.declared.refusal.Refusal.TheVariants as Refusals;
 ghost use Rattle.nor_session.specs.Modelled.{IsModelled, most_of};
-ghost use Rattle.nor_session.specs.Session.{IsWithinBound, HonestTells};
-ghost use Rattle.nor_session.specs.Restore.{IsRestoreRefusal, IsJudgedFirst, RestoreTells, LeavesRestore, IsRestored, CanGiveBack};
+ghost use Rattle.nor_session.specs.Session.{IsWithinBound, SentAsTold};
+ghost use Rattle.nor_session.specs.Restore.{IsRestoreRefusal, LooksUnlessBegun, StaysUnlessBegun, RefusesRestore, LeavesRestore, Restores};
+ghost use Rattle.nor_session.specs.Restore.{KeepsGivingBack, GivesBack, EndsUnlessStopped};
 
 use crate::preparing::prepare;
 use crate::sources::Saved;
@@ -22,23 +20,22 @@ pub fn restore<B: Bus>(bus: &mut B, journal: &Journal<'_>) -> Result<Report, Ref
     // On every bus.
     ensures spends { Spends (most_of (length journal.now.saved)) (B.state bus.old) (B.state bus.new) }
     ensures answers { IfErr result IsRestoreRefusal }
-    ensures looks { IfErr result (λ refusal. IsJudgedFirst refusal → Looks 69638 (B.state bus.old) (B.state bus.new)) }
+    ensures looks { LooksUnlessBegun (B.state bus.old) (B.state bus.new) result }
     ensures bounded { IfOk result (IsWithinBound (length journal.now.saved) 2) }
 
     // On an honest bus.
-    ensures gives_up { (B.state bus.old).honest ≡ true → IfErr result (HonestTells (B.state bus.old) (B.state bus.new)) }
-    ensures counted { (B.state bus.old).honest ≡ true → IfOk result (λ report. (B.state bus.old).left ≡ (B.state bus.new).left + report.transactions) }
+    ensures gives_up { StaysUnlessBegun (B.state bus.old) (B.state bus.new) result }
+    ensures counted { SentAsTold (B.state bus.old) (B.state bus.new) result }
 
     // On an honest bus whose chip is what it shows itself to be.
-    ensures tells { IsModelled (B.state bus.old) → IfErr result (RestoreTells journal.now (B.state bus.old) (B.state bus.new)) }
+    ensures tells { RefusesRestore journal.now (B.state bus.old) (B.state bus.new) result }
     ensures leaves { IsModelled (B.state bus.old) → LeavesRestore journal.now (B.state bus.old) (B.state bus.new) }
-    ensures done { IsModelled (B.state bus.old) → IfOk result (IsRestored journal.now (B.state bus.old) (B.state bus.new)) }
+    ensures done { Restores journal.now (B.state bus.old) (B.state bus.new) result }
 
     // And for each chip that the journal saves and that the bus's chip is within.
-    ensures within { IsModelled (B.state bus.old) → (first : Chip) → CanGiveBack journal.now first (B.state bus.old) → CanGiveBack journal.now first (B.state bus.new) }
-    ensures back { IsModelled (B.state bus.old) → (first : Chip) → CanGiveBack journal.now first (B.state bus.old) → OnOk result (IsSame first (B.state bus.new).chip) }
-    ensures only_stops { IsModelled (B.state bus.old) → (first : Chip) → CanGiveBack journal.now first (B.state bus.old)
-        → IfErr result (λ refusal. refusal ≡ Refusals.Stopped) }
+    ensures within { KeepsGivingBack journal.now (B.state bus.old) (B.state bus.new) }
+    ensures back { GivesBack journal.now (B.state bus.old) (B.state bus.new) result }
+    ensures only_stops { EndsUnlessStopped journal.now (B.state bus.old) result }
 {
     let prepared = prepare(bus, journal)?;
     let kept = Kept {

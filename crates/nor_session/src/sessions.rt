@@ -1,15 +1,14 @@
 //! A session: the chip is saved, and then made what is wanted.
-ghost use Rattle.std.specs.Prelude.{◌≡◌, ◌≤◌, ◌+◌, ◌/◌, ℕ, List, true, false, length, IfOk, IfErr};
+ghost use Rattle.std.specs.Prelude.{ℕ, List, IfOk, IfErr};
 ghost use Rattle.nor_chip.specs.Chip.{Chip};
-ghost use Rattle.nor_driver.specs.Looks.{Looks};
-ghost use Rattle.nor_driver.specs.Operations.{Falls};
 ghost use Rattle.nor_journal.specs.Vault.{IsFresh};
 ghost use Rattle.nor_apply.specs.Spending.{Spends};
 ghost use Rattle.nor_save.specs.declared.report.Request.{Request};
 ghost use Rattle.nor_save.specs.declared.refusal.Refusal.{Refusal};
 ghost use Rattle.nor_session.specs.Verdict.{IsVerdict, IsAccepted};
-ghost use Rattle.nor_session.specs.Modelled.{IsModelled, most_of};
-ghost use Rattle.nor_session.specs.Session.{Answers, Ends, HonestTells, SessionTells, StopsEarly, IsDone, CanBeUndone};
+ghost use Rattle.nor_session.specs.Modelled.{most_of};
+ghost use Rattle.nor_session.specs.Session.{LooksUnsealed, Answers, Ends, GivesUp, SentAsTold};
+ghost use Rattle.nor_session.specs.Session.{FallsBySize, Refuses, Finishes, SealsOnceScanned, LeadsBackFrom};
 
 use crate::sources::Image;
 use crate::states::{Kept, WayBack};
@@ -35,22 +34,21 @@ pub fn session<B: Bus, V: Vault>(
     requires { IsFresh (V.state vault.old) }
 
     // On every bus and every vault.
-    ensures looks { (V.state vault.new).sealed ≡ false → Looks 69638 (B.state bus.old) (B.state bus.new) }
+    ensures looks { LooksUnsealed (B.state bus.old) (B.state bus.new) (V.state vault.new) }
     ensures spends { Spends (most_of 4096) (B.state bus.old) (B.state bus.new) }
     ensures answers { IfErr result (Answers (V.state vault.old) (V.state vault.new)) }
     ensures ends { IfOk result (Ends request.now (V.state vault.new)) }
 
     // On an honest bus.
-    ensures gives_up { (B.state bus.old).honest ≡ true → IfErr result (HonestTells (B.state bus.old) (B.state bus.new)) }
-    ensures counted { (B.state bus.old).honest ≡ true → IfOk result (λ report. (B.state bus.old).left ≡ (B.state bus.new).left + report.transactions) }
+    ensures gives_up { GivesUp (B.state bus.old) (B.state bus.new) result }
+    ensures counted { SentAsTold (B.state bus.old) (B.state bus.new) result }
 
     // On an honest bus whose chip is what it shows itself to be.
-    ensures falls { IsModelled (B.state bus.old) → Falls (most_of ((B.state bus.old).chip.config.size / 4096)) (B.state bus.old) (B.state bus.new) }
-    ensures tells { IsModelled (B.state bus.old) → IfErr result (SessionTells request.now image.old (B.state bus.old) (B.state bus.new) (V.state vault.old) (V.state vault.new)) }
-    ensures done { IsModelled (B.state bus.old) → IfOk result (IsDone request.now image.old (B.state bus.old) (B.state bus.new)) }
-    ensures early { IsModelled (B.state bus.old) → (V.state vault.new).sealed ≡ false → IfErr result (StopsEarly request.now (B.state bus.old)) }
-    ensures undo { IsModelled (B.state bus.old) → (V.state vault.new).sealed ≡ true
-        → CanBeUndone request.now image.old (B.state bus.old) (B.state bus.new) (V.state vault.new) }
+    ensures falls { FallsBySize (B.state bus.old) (B.state bus.new) }
+    ensures tells { Refuses request.now image.old (B.state bus.old) (B.state bus.new) (V.state vault.old) (V.state vault.new) result }
+    ensures done { Finishes request.now image.old (B.state bus.old) (B.state bus.new) result }
+    ensures early { SealsOnceScanned request.now (B.state bus.old) (V.state vault.new) result }
+    ensures undo { LeadsBackFrom request.now image.old (B.state bus.old) (B.state bus.new) (V.state vault.new) }
 {
     let opening = open(bus, request.named)?;
     let code = judge_opening(request, &opening, image.len())?;
@@ -83,5 +81,6 @@ pub fn session<B: Bus, V: Vault>(
 /// A request has one verdict: where it is accepted, no refusal from 1 to 10 is.
 #[tactic(auto, using(crate::proofs::OneVerdict::accepted_only))]
 pub fn accepted_alone()
-    ensures { (request : Request) (image : List ℕ) (chip : Chip) (refusal : Refusal) → IsAccepted request image chip → IsVerdict request image chip refusal → ⊥ }
+    ensures { (request : Request) (image : List ℕ) (chip : Chip) (refusal : Refusal)
+        → IsAccepted request image chip → ¬ IsVerdict request image chip refusal }
 {}

@@ -44,9 +44,12 @@ impl<'a, B: Bus, S: Source> Kept<'a, B, S> {
         requires small { self.changes.now.size ≤ 16777216 }
         requires code { self.changes.now.code < 64 }
         requires sourced { (s : ℕ) → has self.changes.now.touched s ≡ true → S.has self.source.now s ≡ true }
-        ensures leaves { LeavesChange self.entry.changes.now (S.wanted self.entry.source.now) (B.state self.entry.bus.now) (B.state self.exit.0.now) }
-        ensures does { IfOk result (DoesChange self.entry.changes.now (S.wanted self.entry.source.now) verify (B.state self.entry.bus.now) (B.state self.exit.0.now)) }
-        ensures tells { IfErr result (ChangeTells self.entry.changes.now (S.wanted self.entry.source.now) (B.state self.entry.bus.now) (B.state self.exit.0.now)) }
+        ensures leaves { LeavesChange self.entry.changes.now (S.wanted self.entry.source.now)
+            (B.state self.entry.bus.now) (B.state self.exit.0.now) }
+        ensures does { IfOk result (DoesChange self.entry.changes.now (S.wanted self.entry.source.now) verify
+            (B.state self.entry.bus.now) (B.state self.exit.0.now)) }
+        ensures tells { IfErr result (ChangeTells self.entry.changes.now (S.wanted self.entry.source.now)
+            (B.state self.entry.bus.now) (B.state self.exit.0.now)) }
     {
         let Kept {
             bus,

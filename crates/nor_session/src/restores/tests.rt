@@ -1,5 +1,6 @@
 //! Restores on a simulated chip, by what they send and leave.
 ghost use Rattle.nor_journal.specs.Vault.{IsFresh};
+ghost use Rattle.nor_journal.specs.MemVault.{held_by};
 
 use super::restore;
 use nor_chip::{Config, Delays, Meter, SimBus, TraceBus};
@@ -24,7 +25,7 @@ const FIRST_EMPTY: [u8; 53] = [
 
 // The journal of a TINY64 whose first sector has FFh but for its first byte.
 fn save_tiny64(vault: &mut MemVault, first: u8) -> Result<(), VaultFault>
-    requires { IsFresh (⟦<MemVault as Vault>⟧.state vault.old) }
+    requires { IsFresh (held_by vault.old) }
 {
     let mut bytes = [0xFF; 4096];
     bytes[0] = first;
@@ -35,7 +36,7 @@ fn save_tiny64(vault: &mut MemVault, first: u8) -> Result<(), VaultFault>
 
 // The journal of a W25Q64FV whose last 32nd of a block is guarded, and whose first sector of these had FFh.
 fn save_guarded(vault: &mut MemVault) -> Result<(), VaultFault>
-    requires { IsFresh (⟦<MemVault as Vault>⟧.state vault.old) }
+    requires { IsFresh (held_by vault.old) }
 {
     let writer = Writer::start(vault, [0xEF, 0x40, 0x17], [0; 8], [0x04, 0x00], 0x80_0000)?;
     let writer = writer.sector(0x7E0, &[0xFF; 4096])?;

@@ -7,7 +7,7 @@ use Rattle.nor_journal.proofs.Saves.{HasKept-none}
 use Rattle.nor_plan.specs.SectorSet.{has}
 use Rattle.nor_save.specs.Request.{is_touched_by}
 use Rattle.nor_save.specs.Saving.{head_of}
-use Rattle.nor_save.specs.Scanning.{IsOpen, never}
+use Rattle.nor_save.specs.Scanning.{never}
 use Rattle.nor_save.specs.Keeping.{KeepTells}
 use Rattle.nor_save.proofs.KeptHeads.{same_bytes, is_open, touched_right, raised_right, merged_right, judged_tells, accepts_touched, kept_touched, head_same}
 use Rattle.nor_save.proofs.saving.keep.Goals as goal

@@ -1,6 +1,6 @@
 use Rattle.std.proofs.Common.{◌+◌, length, rules, arith}
 use Rattle.std.proofs.lemmas.Grind.{common_steps}
-use Rattle.nor_session.specs.Modelled.{most_of}
+use Rattle.nor_session.specs.Modelled.{most_looked, most_of}
 use Rattle.nor_session.proofs.Restoring.{AreChanged, looks_most, looks_spend, prepare_answers, prepare_gives_up, prepare_tells, looks_leave, looks_back, changed_spends, changed_leaves, changed_back, change_answers, change_not_judged, change_gives_up, change_tells, sum_fits, restored_bounded, restored_counted, restored_done, restored_back}
 use Rattle.nor_session.proofs.GivenBack.{only_stopped}
 use Rattle.nor_session.proofs.restores.restore.Goals as goal
@@ -17,7 +17,7 @@ returns-in_err-prepared-clause-answers g c =
 pub returns-in_err-prepared-clause-looks : goal.returns-in_err-prepared-clause-looks
 returns-in_err-prepared-clause-looks g c =
     let room = c.prepare.ensures.room in
-    let looks = looks_most (65542 + length c.args.journal.now.saved) 69638 (g.B.Bus.state c.args.bus.now) (g.B.Bus.state c.prepare.new.bus) (omega arith) c.prepare.ensures.leaves in
+    let looks = looks_most (65542 + length c.args.journal.now.saved) (most_looked 4096) (g.B.Bus.state c.args.bus.now) (g.B.Bus.state c.prepare.new.bus) (omega arith) c.prepare.ensures.leaves in
     search rules
 
 pub returns-in_err-prepared-clause-gives_up : goal.returns-in_err-prepared-clause-gives_up

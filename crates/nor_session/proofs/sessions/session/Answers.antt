@@ -4,7 +4,7 @@ use Rattle.nor_session.proofs.Ready.{has_opened, ready, scanned_few, spends_look
 use Rattle.nor_save.proofs.Rests.{looks_then}
 use Rattle.nor_save.specs.Request.{scanned_sectors}
 use Rattle.nor_driver.specs.Looks.{Looks}
-use Rattle.nor_session.specs.Modelled.{most_of}
+use Rattle.nor_session.specs.Modelled.{most_looked, most_of}
 use Rattle.nor_session.proofs.ReadyChip.{is_opening, falls_sized, keep_tells}
 use Rattle.nor_session.proofs.SessionChanges.{change_tells}
 use Rattle.nor_session.proofs.SessionEnds.{ready_chip, can_be_undone, done}
@@ -16,7 +16,7 @@ returns-in_err-kept-clause-looks g c = λ unsealed.
     let looked = has_opened c.args.request.now c.in_ok-opening.opening (g.B.Bus.state c.args.bus.now) (g.B.Bus.state c.open.new.bus) c.open.ensures.leaves opens in
     let few = scanned_few c.args.request.now c.in_ok-opening.opening.found.size opens.part.at_most in
     let most = opens.most in
-    looks_then c.in_ok-opening.opening.transactions (scanned_sectors c.args.request.now c.in_ok-opening.opening.found.size) 69638 (g.B.Bus.state c.args.bus.now) (g.B.Bus.state c.open.new.bus) (g.B.Bus.state c.keep.new.bus)
+    looks_then c.in_ok-opening.opening.transactions (scanned_sectors c.args.request.now c.in_ok-opening.opening.found.size) (most_looked 4096) (g.B.Bus.state c.args.bus.now) (g.B.Bus.state c.open.new.bus) (g.B.Bus.state c.keep.new.bus)
     (omega arith) looked c.keep.ensures.leaves
 
 pub returns-in_err-kept-clause-spends : goal.returns-in_err-kept-clause-spends
@@ -25,9 +25,9 @@ returns-in_err-kept-clause-spends g c =
     let looked = has_opened c.args.request.now c.in_ok-opening.opening (g.B.Bus.state c.args.bus.now) (g.B.Bus.state c.open.new.bus) c.open.ensures.leaves opens in
     let few = scanned_few c.args.request.now c.in_ok-opening.opening.found.size opens.part.at_most in
     let most = opens.most in
-    let looks : Looks 69638 (g.B.Bus.state c.args.bus.now) (g.B.Bus.state c.keep.new.bus) = looks_then c.in_ok-opening.opening.transactions (scanned_sectors c.args.request.now c.in_ok-opening.opening.found.size) 69638 (g.B.Bus.state c.args.bus.now) (g.B.Bus.state c.open.new.bus) (g.B.Bus.state c.keep.new.bus)
+    let looks : Looks (most_looked 4096) (g.B.Bus.state c.args.bus.now) (g.B.Bus.state c.keep.new.bus) = looks_then c.in_ok-opening.opening.transactions (scanned_sectors c.args.request.now c.in_ok-opening.opening.found.size) (most_looked 4096) (g.B.Bus.state c.args.bus.now) (g.B.Bus.state c.open.new.bus) (g.B.Bus.state c.keep.new.bus)
     (omega arith) looked c.keep.ensures.leaves in
-    spends_looks 69638 4563750922 (g.B.Bus.state c.args.bus.now) (g.B.Bus.state c.keep.new.bus) (omega arith) looks
+    spends_looks (most_looked 4096) 4563750922 (g.B.Bus.state c.args.bus.now) (g.B.Bus.state c.keep.new.bus) (omega arith) looks
 
 pub returns-clause-ends : goal.returns-clause-ends
 returns-clause-ends g c =
@@ -46,7 +46,7 @@ returns-in_err-kept-clause-falls g c = λ modelled.
     let few = opens.most in
     let looks : Looks (most_of (scanned_sectors c.args.request.now c.in_ok-opening.opening.found.size)) (g.B.Bus.state c.args.bus.now) (g.B.Bus.state c.keep.new.bus) =
     looks_then c.in_ok-opening.opening.transactions (scanned_sectors c.args.request.now c.in_ok-opening.opening.found.size) (most_of (scanned_sectors c.args.request.now c.in_ok-opening.opening.found.size)) (g.B.Bus.state c.args.bus.now) (g.B.Bus.state c.open.new.bus) (g.B.Bus.state c.keep.new.bus) (omega arith) looked c.keep.ensures.leaves in
-    falls_sized c.args.request.now c.in_ok-opening.opening (g.B.Bus.state c.args.bus.now) (g.B.Bus.state c.keep.new.bus) modelled.honest (opens.genuine modelled.honest modelled.genuine) (spends_looks (most_of (scanned_sectors c.args.request.now c.in_ok-opening.opening.found.size)) (most_of (scanned_sectors c.args.request.now c.in_ok-opening.opening.found.size)) (g.B.Bus.state c.args.bus.now) (g.B.Bus.state c.keep.new.bus) (omega arith) looks)
+    falls_sized c.args.request.now c.in_ok-opening.opening (g.B.Bus.state c.args.bus.now) (g.B.Bus.state c.keep.new.bus) modelled.honest (opens.genuine modelled) (spends_looks (most_of (scanned_sectors c.args.request.now c.in_ok-opening.opening.found.size)) (most_of (scanned_sectors c.args.request.now c.in_ok-opening.opening.found.size)) (g.B.Bus.state c.args.bus.now) (g.B.Bus.state c.keep.new.bus) (omega arith) looks)
 
 pub returns-in_err-kept-clause-tells : goal.returns-in_err-kept-clause-tells
 returns-in_err-kept-clause-tells g c = λ modelled.
@@ -79,7 +79,7 @@ returns-in_err-work-clause-falls g c = λ modelled.
     c.open.ensures.leaves c.in_ok-opening.ensures.opens c.keep.ensures.leaves c.in_ok-kept.ensures.keeps c.status.ensures c.in_ok-code.ensures.same_code in
     let few = scanned_few c.args.request.now c.in_ok-opening.opening.found.size is.part.at_most in
     let spends = spends_ready c.args.request.now c.in_ok-opening.opening c.status.result c.in_ok-code.code c.in_ok-kept.kept (g.B.Bus.state c.args.bus.now) (g.B.Bus.state c.keep.new.bus) (g.B.Bus.state c.finish.new.self.0) is c.finish.ensures.leaves.spends in
-    falls_sized c.args.request.now c.in_ok-opening.opening (g.B.Bus.state c.args.bus.now) (g.B.Bus.state c.finish.new.self.0) modelled.honest (c.in_ok-opening.ensures.opens.genuine modelled.honest modelled.genuine) spends
+    falls_sized c.args.request.now c.in_ok-opening.opening (g.B.Bus.state c.args.bus.now) (g.B.Bus.state c.finish.new.self.0) modelled.honest (c.in_ok-opening.ensures.opens.genuine modelled) spends
 
 pub returns-in_err-work-clause-tells : goal.returns-in_err-work-clause-tells
 returns-in_err-work-clause-tells g c = λ modelled.
@@ -114,7 +114,7 @@ returns-clause-falls g c = λ modelled.
     c.open.ensures.leaves c.in_ok-opening.ensures.opens c.keep.ensures.leaves c.in_ok-kept.ensures.keeps c.status.ensures c.in_ok-code.ensures.same_code in
     let few = scanned_few c.args.request.now c.in_ok-opening.opening.found.size is.part.at_most in
     let spends = spends_ready c.args.request.now c.in_ok-opening.opening c.status.result c.in_ok-code.code c.in_ok-kept.kept (g.B.Bus.state c.args.bus.now) (g.B.Bus.state c.keep.new.bus) (g.B.Bus.state c.finish.new.self.0) is c.finish.ensures.leaves.spends in
-    falls_sized c.args.request.now c.in_ok-opening.opening (g.B.Bus.state c.args.bus.now) (g.B.Bus.state c.finish.new.self.0) modelled.honest (c.in_ok-opening.ensures.opens.genuine modelled.honest modelled.genuine) spends
+    falls_sized c.args.request.now c.in_ok-opening.opening (g.B.Bus.state c.args.bus.now) (g.B.Bus.state c.finish.new.self.0) modelled.honest (c.in_ok-opening.ensures.opens.genuine modelled) spends
 
 pub returns-clause-done : goal.returns-clause-done
 returns-clause-done g c = λ modelled.
