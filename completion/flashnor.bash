@@ -43,7 +43,7 @@ _flashnor_files() {
     _flashnor_answer "$word" "${names[@]}"
 }
 
-# The text of -p: the programmer, its keys (each once), the emulated chips, and the files of the three keys that name one.
+# The text of -p: the programmer, its keys (each once), the emulated chips, and files for the three keys that name one.
 _flashnor_programmer() {
     local word=$1 key keys=()
     compopt -o nospace 2> /dev/null
