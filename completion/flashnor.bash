@@ -1,4 +1,7 @@
 # Completion of flashnor's command line for bash. Source this file, or install it (make install).
+#
+# To try it without a keyboard set COMP_LINE, COMP_POINT, COMP_WORDS and COMP_CWORD as bash does, with ':' and '=' as
+# words of their own, call _flashnor, and look at COMPREPLY.
 
 # The words of the line up to the cursor, as the shell separates them by spaces alone: bash hands them over cut at ':'
 # and '=' too. They go into the array `words`, the one that is being typed last.
