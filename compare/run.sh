@@ -2,10 +2,10 @@
 # compare/run.sh [PROGRAM]: flashrom and flashnor on the same emulated W25Q128FV.
 #
 # Both find the chip, read it and write a random image onto one full of FFh; flashrom verifies what it wrote, and
-# flashnor does so too and keeps a journal. The bytes that they leave and the protection ranges that they offer must be
-# the same, else the status is 1. Times are printed as ratios, flashnor's to flashrom's, each the best of three rounds
-# (or of ROUNDS). One that is longer than wanted is printed, and no failure. This is no part of the gate, since it needs
-# flashrom.
+# flashnor does so too and keeps a journal. Then they write and erase two regions, and list the protection ranges. The
+# bytes that they leave and the ranges that they offer must be the same, else the status is 1. Times are printed as
+# ratios, flashnor's to flashrom's, each the best of three rounds (or of ROUNDS). One that is longer than wanted is
+# printed, and no failure. This is no part of the gate, since it needs flashrom.
 set -euo pipefail
 
 top=$(cd "$(dirname "$0")/.." && pwd)
@@ -108,6 +108,22 @@ restore() {
     echo "restored from the journal of $(stat -c %s journal) bytes: the same bytes as before"
 }
 
+# Two regions of a random chip, one smaller than a sector, are written from the blank image, and erased. All else stays.
+regions() {
+    printf '00000800:000008ff small\n00123000:00124567 large\n' > layout
+    both_hold random
+    rom -l layout -i small -i large -w blank
+    nor -l layout -i small,large -w blank --journal journal
+    same nor.bin rom.bin
+    cp nor.bin written
+    both_hold random
+    rom -l layout -i small -i large -E
+    nor -l layout -i small,large -E --journal journal
+    same nor.bin rom.bin
+    same nor.bin written
+    echo "regions written and erased: the same bytes"
+}
+
 # flashrom prints a range as "start=0x00fc0000 length=0x00040000 (upper 1/64)", flashnor as "0xfc0000,0x040000".
 ranges() {
     both_hold blank
@@ -143,4 +159,5 @@ measure "read 16 MiB, flashrom by -c" "" read_all -c "$chip"
 measure "write 16 MiB" 0.1667 write_all
 measure "write 16 MiB, flashrom by -c" "" write_all -c "$chip"
 restore
+regions
 ranges
