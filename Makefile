@@ -57,7 +57,7 @@ bench:
 
 # Runs flashrom and the program on the same chip images, where flashrom is installed: the same bytes, the same ranges,
 # and how long each takes.
-compare: $(PROGRAM)
+compare:
 	@bash compare/run.sh $(CURDIR)/$(PROGRAM)
 
 # The program goes to bin, since it works on files alone and needs no rights; flashrom, which drives hardware, is in
