@@ -4,6 +4,7 @@ PROGRAM := crates/flashnor/out/flashnor
 BENCH := crates/bench/out/bench
 SCRATCH := $(CURDIR)/out/demo
 WORDS := -p dummy:emulate=TINY64,image=chip.bin -w new.bin --rehearse 25
+AGAIN = cd $(SCRATCH) && $(CURDIR)/$(PROGRAM) $(WORDS)
 
 # Where `make install` puts things, below DESTDIR if that is given.
 PREFIX ?= /usr/local
@@ -25,11 +26,12 @@ files:
 	@{ printf '\000'; cat $(SCRATCH)/rest; } > $(SCRATCH)/chip.bin
 	@{ printf '\001'; cat $(SCRATCH)/rest; } > $(SCRATCH)/new.bin
 
-# The first run, on these files: a session that is stopped after 25 transactions and given back.
+# The first run, on these files: a session that is stopped after 25 transactions and given back. It ends with the
+# run's own status, and says how to run again on the same files.
 demo: files
 	@if [ -x $(PROGRAM) ]; then \
-	  cd $(SCRATCH) && $(CURDIR)/$(PROGRAM) $(WORDS) && \
-	  echo "(again on the same files: cd $(SCRATCH) && $(CURDIR)/$(PROGRAM) $(WORDS))"; \
+	  (cd $(SCRATCH) && $(CURDIR)/$(PROGRAM) $(WORDS)); status=$$?; \
+	  echo "(again on the same files: $(AGAIN))"; exit $$status; \
 	else \
 	  $(MAKE) --no-print-directory try; \
 	fi
@@ -41,9 +43,8 @@ try: files
 	rt try --data chip.bin=$(SCRATCH)/chip.bin --data new.bin=$(SCRATCH)/new.bin -- $(WORDS) \
 	  > $(SCRATCH)/printed 2> $(SCRATCH)/said; status=$$?; \
 	sed '/^run=/d' $(SCRATCH)/printed; \
-	if [ $$status -ne 0 ]; then cat $(SCRATCH)/said >&2; exit $$status; fi
-	@echo "('make' proves it and builds it as $(CURDIR)/$(PROGRAM);" \
-	  "then, on the same files: cd $(SCRATCH) && $(CURDIR)/$(PROGRAM) $(WORDS))"
+	if [ $$status -ne 0 ]; then cat $(SCRATCH)/said >&2; fi; \
+	echo "('make' proves and builds it; then, on the same files: $(AGAIN))"; exit $$status
 
 # Measures the parts as they stand, each beside plain work of the same size in the same run. A time that is longer
 # than wanted is printed, and no failure.
