@@ -4,13 +4,20 @@ PROGRAM := crates/flashnor/out/flashnor
 BENCH := crates/bench/out/bench
 SCRATCH := $(CURDIR)/out/demo
 WORDS := -p dummy:emulate=TINY64,image=chip.bin -w new.bin --rehearse 25
+AGAIN = cd $(SCRATCH) && $(CURDIR)/$(PROGRAM) $(WORDS)
 
-.PHONY: build demo files bench check clean
+# Where `make install` puts things, below DESTDIR if that is given.
+PREFIX ?= /usr/local
+
+.PHONY: build demo try files bench compare install check clean
 
 # Proves the program and everything below it, builds it, and runs it once.
 build: files
 	cd crates/flashnor && rt run -- -p dummy:emulate=TINY64,image=$(SCRATCH)/chip.bin -w $(SCRATCH)/new.bin --rehearse 25
 	@test -x $(PROGRAM)
+
+$(PROGRAM):
+	@$(MAKE) --no-print-directory build
 
 # A chip file whose byte 0 is 00h, an image whose byte 0 is 01h, and FFh in all other bytes of both.
 files:
@@ -19,14 +26,25 @@ files:
 	@{ printf '\000'; cat $(SCRATCH)/rest; } > $(SCRATCH)/chip.bin
 	@{ printf '\001'; cat $(SCRATCH)/rest; } > $(SCRATCH)/new.bin
 
-# The first run, on these files: a session that is stopped after 25 transactions and given back.
+# The first run, on these files: a session that is stopped after 25 transactions and given back. It ends with the
+# run's own status, and says how to run again on the same files.
 demo: files
 	@if [ -x $(PROGRAM) ]; then \
-	  cd $(SCRATCH) && $(CURDIR)/$(PROGRAM) $(WORDS); \
+	  (cd $(SCRATCH) && $(CURDIR)/$(PROGRAM) $(WORDS)); status=$$?; \
+	  echo "(again on the same files: $(AGAIN))"; exit $$status; \
 	else \
-	  echo "(the proved program isn't built yet: this run compiles it without its proof; 'make' proves and builds it)"; \
-	  cd crates/flashnor && rt try --data chip.bin=$(SCRATCH)/chip.bin --data new.bin=$(SCRATCH)/new.bin -- $(WORDS) 2>/dev/null | grep -v '^run='; \
+	  $(MAKE) --no-print-directory try; \
 	fi
+
+# The same run where the program isn't built yet. What `rt` says beside the program is shown where the run fails.
+try: files
+	@echo "(the proved program isn't built yet: this run compiles it without its proof, and keeps none)"
+	@cd crates/flashnor && \
+	rt try --data chip.bin=$(SCRATCH)/chip.bin --data new.bin=$(SCRATCH)/new.bin -- $(WORDS) \
+	  > $(SCRATCH)/printed 2> $(SCRATCH)/said; status=$$?; \
+	sed '/^run=/d' $(SCRATCH)/printed; \
+	if [ $$status -ne 0 ]; then cat $(SCRATCH)/said >&2; fi; \
+	echo "('make' proves and builds it; then, on the same files: $(AGAIN))"; exit $$status
 
 # Measures the parts as they stand, each beside plain work of the same size in the same run. A time that is longer
 # than wanted is printed, and no failure.
@@ -37,6 +55,18 @@ bench:
 	@$(BENCH) journal
 	@$(BENCH) session
 	@$(BENCH) read
+
+# Runs flashrom and the program on the same chip images, where flashrom is installed: the same bytes, the same ranges,
+# and how long each takes.
+compare:
+	@bash compare/run.sh $(CURDIR)/$(PROGRAM)
+
+# The program goes to bin, since it works on files alone and needs no rights; flashrom, which drives hardware, is in
+# sbin.
+install: $(PROGRAM)
+	install -D -m 755 $(PROGRAM) $(DESTDIR)$(PREFIX)/bin/flashnor
+	install -D -m 644 man/flashnor.8 $(DESTDIR)$(PREFIX)/share/man/man8/flashnor.8
+	install -D -m 644 completion/flashnor.bash $(DESTDIR)$(PREFIX)/share/bash-completion/completions/flashnor
 
 # The merge gate.
 check:

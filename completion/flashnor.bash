@@ -1,0 +1,119 @@
+# Completion of flashnor's command line for bash. Source this file, or install it (make install).
+#
+# To try it without a keyboard set COMP_LINE, COMP_POINT, COMP_WORDS and COMP_CWORD as bash does, with ':' and '=' as
+# words of their own, call _flashnor, and look at COMPREPLY.
+
+# The words of the line up to the cursor, as the shell separates them by spaces alone: bash hands them over cut at ':'
+# and '=' too. They go into the array `words`, the one that is being typed last.
+_flashnor_words() {
+    local typed=${COMP_LINE:0:COMP_POINT} piece
+    words=()
+    for piece in "${COMP_WORDS[@]:0:COMP_CWORD+1}"; do
+        if [[ ${#words[@]} -eq 0 || $typed == [[:space:]]* ]]; then
+            typed=${typed#"${typed%%[![:space:]]*}"}
+            words+=("")
+        fi
+        [[ $typed == "$piece"* ]] || piece=$typed
+        words[-1]+=$piece
+        typed=${typed:${#piece}}
+    done
+}
+
+# Answers with those of the candidates that begin as the word does. What stands before the last ':' or '=' at which bash
+# cuts the word is taken off, since it stays on the line.
+_flashnor_answer() {
+    local word=$1 mark kept=''
+    for mark in : =; do
+        if [[ $COMP_WORDBREAKS == *"$mark"* && $word == *"$mark"* ]]; then
+            local front=${word%"$mark"*}$mark
+            ((${#front} > ${#kept})) && kept=$front
+        fi
+    done
+    local candidate
+    for candidate in "${@:2}"; do
+        [[ $candidate == "$word"* ]] && COMPREPLY+=("${candidate:${#kept}}")
+    done
+}
+
+# Answers with files whose names begin as the text behind `front` does, `front` being the word's part before the name. A
+# backslash before a space in it is the shell's.
+_flashnor_files() {
+    local word=${1//\\/} front=$2 name names=()
+    while IFS= read -r name; do
+        names+=("$front$name")
+    done < <(compgen -f -- "${word#"$front"}")
+    compopt -o filenames 2> /dev/null
+    _flashnor_answer "$word" "${names[@]}"
+}
+
+# The text of -p: the programmer, its keys (each once), the emulated chips, and files for the three keys that name one.
+_flashnor_programmer() {
+    local word=$1 key keys=()
+    compopt -o nospace 2> /dev/null
+    if [[ $word != dummy:* ]]; then
+        _flashnor_answer "$word" dummy:
+        return
+    fi
+    local last=${word#dummy:}
+    last=${last##*,}
+    local front=${word%"$last"}
+    case $last in
+        emulate=*) _flashnor_answer "$word" "$front"emulate={TINY64,W25Q64FV,W25Q128FV} ;;
+        image=* | status=* | trace=*) _flashnor_files "$word" "$front${last%%=*}=" ;;
+        *=*) ;;
+        *)
+            for key in emulate image status stop trace unique busy power; do
+                [[ ,${front#dummy:} == *",$key="* ]] || keys+=("$front$key=")
+            done
+            _flashnor_answer "$word" "${keys[@]}"
+            ;;
+    esac
+}
+
+# The regions of the layout file that -l names on this line, behind those that -i has already.
+_flashnor_regions() {
+    local word=$1 place file='' region regions=()
+    for ((place = 0; place + 1 < ${#words[@]}; place++)); do
+        [[ ${words[place]} == -l ]] && file=${words[place + 1]}
+    done
+    [[ -r $file ]] || return
+    while read -r _ region || [[ -n $region ]]; do
+        [[ -n $region ]] && regions+=("${word%"${word##*,}"}$region")
+    done < "$file"
+    compopt -o nospace 2> /dev/null
+    _flashnor_answer "$word" "${regions[@]}"
+}
+
+# The options that the line doesn't have yet.
+_flashnor_options() {
+    local option rest=()
+    for option in -p -r -w -v -E --flash-size --wp-status --wp-list --wp-range --restore -L -c -l -i -n --unlock \
+        --journal --rehearse -h; do
+        [[ " ${words[*]:0:${#words[@]}-1} " == *" $option "* ]] || rest+=("$option")
+    done
+    _flashnor_answer "$1" "${rest[@]}"
+}
+
+_flashnor() {
+    local words=() word before
+    COMPREPLY=()
+    _flashnor_words
+    word=${words[-1]}
+    before=''
+    ((${#words[@]} > 1)) && before=${words[-2]}
+    case $before in
+        -p) _flashnor_programmer "$word" ;;
+        -c) _flashnor_answer "$word" W25Q64FV W25Q128FV SFDP ;;
+        -r | -w | -v | -l | --restore | --journal) _flashnor_files "$word" "" ;;
+        -i) _flashnor_regions "$word" ;;
+        --wp-range | --rehearse) ;;
+        *)
+            case $word in
+                --restore=* | --journal=*) _flashnor_files "$word" "${word%%=*}=" ;;
+                *) _flashnor_options "$word" ;;
+            esac
+            ;;
+    esac
+}
+
+complete -F _flashnor flashnor
