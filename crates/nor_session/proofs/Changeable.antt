@@ -188,6 +188,7 @@ prepared_for journal opening scanned changes sent old mid new read are judged mo
         not_locked = λ locked needs. may.not_locked locked (needs_from journal (is_touched_from journal old.chip) set old.chip (λ s. sym (right s)) needs);
       };
       found = is.config;
+      shown = read.opens.shown modelled.honest;
       status1 = is.one;
       kinds = kinds;
       size = size;

@@ -243,6 +243,7 @@ restored_done journal prepared old mid new work sent are does modelled =
       idle = applied.idle;
       worn = λ s. applied.worn s ∙ ap (λ (b : Bool). b || raised_in changes s) (same.worn s) ∙ ap (λ (b : Bool). old.worn s || b) (for.raised s);
       found = for.found;
+      shown = for.shown;
       status1 = for.status1;
       touched = are.is.count ∙ ap sector_count touched;
       erases =

@@ -1,6 +1,8 @@
 -- The changes of a session can be made, and what a refusal of them tells.
 use Rattle.std.proofs.Common.{◌≡◌, ◌≢◌, ◌<◌, ◌≤◌, ◌+◌, ◌-◌, ◌*◌, ◌/◌, ◌%◌, ◌&&◌, ◌∙◌, ℕ, Bool, true, false, List, length, [], ◌∷◌, ap, sym, refl, subst, arith, true≢false, bit_and, inl, inr}
-use Rattle.std.specs.Prelude.{if◌then◌else◌, not, ◌||◌, ◌==◌, nat_lt, slice_index}
+use Rattle.nor_probe.specs.Known.{shown_as}
+use Rattle.nor_probe.specs.Found.{part_in}
+use Rattle.std.specs.Prelude.{Ok, if◌then◌else◌, not, ◌||◌, ◌==◌, nat_lt, slice_index}
 use Rattle.std.proofs.lemmas.Bool.{cases_Bool, cases_eq, ne_eqb, eq-eqb, and_parts}
 use Rattle.nor_chip.specs.declared.config.Config.{Config}
 use Rattle.nor_chip.specs.declared.status.Status.{Status}
@@ -37,6 +39,7 @@ use Rattle.nor_session.proofs.ReadyChip.{ran_out_sized}
 pub record ReadyChip (request : Request) (image image' : List ℕ) (opening : Opening) (code : ℕ) (kept : Kept) (old mid : BusState) : Type 0 where
   pub honest : old.honest ≡ true
   pub is : IsOpening old.chip opening
+  pub shown : shown_as old.chip.config ≡ Ok (part_in opening.found)
   pub accepts : OpeningAccepts request (length image) old.chip code
   pub idle : mid.chip.busy ≡ 0
   pub rested : Rested old mid

@@ -51,6 +51,7 @@ ready_chip request image image' opening status code kept old mid new vault model
     record {
       honest = modelled.honest;
       is = opened;
+      shown = opens.shown modelled.honest;
       accepts = accepts opened;
       idle = let less = again.unchanged.busy in let idle = opens.idle modelled.honest in omega arith;
       rested = rested;
@@ -214,6 +215,7 @@ done request image image' opening status code kept old mid new verify work sent 
       idle = applied.idle;
       worn = λ s. applied.worn s ∙ ap (λ (b : Bool). b || has kept.scanned.raised s) (of.rested.unchanged.worn s) ∙ ap (λ (b : Bool). old.worn s || b) (of.raised s);
       found = of.is.config;
+      shown = of.shown;
       status1 = of.is.one;
       touched = is.marks.count ∙ ap sector_count (fun_ext of.touched);
       erases = does.erases

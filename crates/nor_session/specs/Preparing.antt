@@ -1,5 +1,5 @@
 -- What a restore finds of a chip before it changes anything.
-use Rattle.std.specs.Prelude.{◌≡◌, ◌≢◌, ◌<◌, ◌≤◌, ◌+◌, ◌/◌, ◌⊎◌, ℕ, Bool, true, List, Result, IfErr, OnOk, OnErr, IfOk, MatchBool, length, slice_index}
+use Rattle.std.specs.Prelude.{◌≡◌, ◌≢◌, ◌<◌, ◌≤◌, ◌+◌, ◌/◌, ◌⊎◌, ℕ, Bool, true, List, Result, Ok, IfErr, OnOk, OnErr, IfOk, MatchBool, length, slice_index}
 use Rattle.nor_chip.specs.Chip.{Chip, IsSame, is_locked}
 use Rattle.nor_chip.specs.Guard.{code_of}
 use Rattle.nor_chip.specs.Bus.{BusState}
@@ -11,7 +11,8 @@ use Rattle.nor_plan.specs.declared.plan.SectorPlan.{SectorPlan}
 use Rattle.nor_plan.specs.Plan.{AreBytesOf, IsPlan}
 use Rattle.nor_plan.specs.SectorSet.{has, LiesBelow}
 use Rattle.nor_probe.specs.declared.probes.Found.{Found}
-use Rattle.nor_probe.specs.Found.{IsConfigOf}
+use Rattle.nor_probe.specs.Known.{shown_as}
+use Rattle.nor_probe.specs.Found.{IsConfigOf, part_in}
 use Rattle.nor_apply.specs.declared.changes.Changes.{Changes}
 use Rattle.nor_apply.specs.Applying.{CanApply}
 use Rattle.nor_save.specs.declared.opening.Opening.{Opening}
@@ -139,6 +140,7 @@ RefusesShut journal opening touched judged =
 pub record IsPreparedFor (journal : Content) (old new : Chip) (prepared : Prepared) : Type 0 where
   pub accepted : IsRestorable journal old
   pub found : IsConfigOf old.config prepared.found
+  pub shown : shown_as old.config ≡ Ok (part_in prepared.found)
   pub status1 : prepared.found.status1 / 4 ≡ old.kept1
   pub kinds : prepared.changes.kinds ≡ kinds_of old.config
   pub size : prepared.changes.size ≡ old.config.size

@@ -1,5 +1,5 @@
 -- What a restore wants of a chip, and what it promises.
-use Rattle.std.specs.Prelude.{◌≡◌, ◌≢◌, ◌+◌, ◌*◌, ◌/◌, ◌%◌, ◌&&◌, ◌||◌, ◌⊎◌, ℕ, Bool, true, false, not, length, slice_index, None, Result, IfOk, IfErr, IfSome, IsSomeAnd, OnOk, Err, if◌then◌else◌}
+use Rattle.std.specs.Prelude.{◌≡◌, ◌≢◌, ◌+◌, ◌*◌, ◌/◌, ◌%◌, ◌&&◌, ◌||◌, ◌⊎◌, ℕ, Bool, true, false, not, length, slice_index, None, Result, IfOk, IfErr, IfSome, IsSomeAnd, OnOk, Ok, Err, if◌then◌else◌}
 use Rattle.nor_chip.specs.declared.config.Config.{Config}
 use Rattle.nor_chip.specs.Chip.{Chip, IsSame, is_locked}
 use Rattle.nor_chip.specs.Guard.{code_of, is_guarded}
@@ -12,7 +12,7 @@ use Rattle.nor_journal.specs.Saved.{Saves, is_saved, saved_byte}
 use Rattle.nor_layout.specs.Below.{count_below}
 use Rattle.nor_probe.specs.declared.probes.ProbeFault.TheVariants as Probes
 use Rattle.nor_probe.specs.Known.{shown_as, IsKnown}
-use Rattle.nor_probe.specs.Found.{IsConfigOf}
+use Rattle.nor_probe.specs.Found.{IsConfigOf, part_in}
 use Rattle.nor_apply.specs.Counts.{sector_count}
 use Rattle.nor_apply.specs.Content.{is_touched, is_raised, once_erased, is_programmed}
 use Rattle.nor_apply.specs.Within.{IsWithin}
@@ -159,6 +159,7 @@ pub record IsRestored (journal : Content) (old new : BusState) (report : Report)
   pub idle : new.chip.busy ≡ 0
   pub worn : (s : ℕ) → new.worn s ≡ (old.worn s || is_raised_from journal old.chip s)
   pub found : IsConfigOf old.chip.config report.found
+  pub shown : shown_as old.chip.config ≡ Ok (part_in report.found)
   pub status1 : report.found.status1 / 4 ≡ old.chip.kept1
   pub touched : report.touched ≡ sector_count (is_touched_from journal old.chip)
   pub erases : report.erases ≡ fewest_erases_of old.chip.config (is_raised_from journal old.chip)

@@ -1,5 +1,5 @@
 -- What a session promises.
-use Rattle.std.specs.Prelude.{◌≡◌, ◌≤◌, ◌<◌, ◌+◌, ◌*◌, ◌/◌, ◌||◌, ℕ, Bool, true, false, List, Result, IfOk, IfErr, if◌then◌else◌}
+use Rattle.std.specs.Prelude.{◌≡◌, ◌≤◌, ◌<◌, ◌+◌, ◌*◌, ◌/◌, ◌||◌, ℕ, Bool, true, false, List, Result, Ok, IfOk, IfErr, if◌then◌else◌}
 use Rattle.nor_chip.specs.Chip.{Chip, IsSame, is_locked}
 use Rattle.nor_chip.specs.Guard.{is_unit_guarded}
 use Rattle.nor_chip.specs.Bus.{BusState}
@@ -9,7 +9,8 @@ use Rattle.nor_driver.specs.StatusWrites.{KeepsFixed, HasCode}
 use Rattle.nor_journal.specs.Vault.{VaultState, Rose}
 use Rattle.nor_journal.specs.Saved.{JournalSaves}
 use Rattle.nor_layout.specs.Below.{count_below}
-use Rattle.nor_probe.specs.Found.{IsConfigOf}
+use Rattle.nor_probe.specs.Known.{shown_as}
+use Rattle.nor_probe.specs.Found.{IsConfigOf, part_in}
 use Rattle.nor_apply.specs.Counts.{sector_count}
 use Rattle.nor_apply.specs.Content.{once_erased, is_programmed}
 use Rattle.nor_apply.specs.Change.{MayChange}
@@ -137,6 +138,7 @@ pub record IsDone (request : Request) (image : List ℕ) (old new : BusState) (r
   pub idle : new.chip.busy ≡ 0
   pub worn : (s : ℕ) → new.worn s ≡ (old.worn s || is_raised_by request image old.chip s)
   pub found : IsConfigOf old.chip.config report.found
+  pub shown : shown_as old.chip.config ≡ Ok (part_in report.found)
   pub status1 : report.found.status1 / 4 ≡ old.chip.kept1
   pub touched : report.touched ≡ sector_count (is_touched_by request image old.chip)
   pub erases : report.erases ≡ fewest_erases_of old.chip.config (is_raised_by request image old.chip)
