@@ -5,3 +5,4 @@ pub mod Begins
 pub mod Taken
 pub mod Asked
 pub mod Sound
+pub mod Wrong

@@ -75,9 +75,21 @@ list-lone given sound none = go given.programmer sound.needed sound.programmer n
     listed : (b : Bool) → (true && not b) ≡ false → b ≡ true
     listed true h = refl
     listed false h = cc
+
     apart : (b : Bool) → b ≡ false → not b ≡ false → ⊥
     apart true h k = cc
     apart false h k = cc
+
     go : (text : Option Text) → (not (is_some text) && not given.list) ≡ false → is_no is_programmer text ≡ false → is_there is_programmer text ≡ false → given.list ≡ true
     go None needed known none = listed given.list needed
     go (Some x) needed known none = absurd (apart (is_programmer x) none known)
+
+-- no operation at all
+pub probe : (given : Texts) → given.list ≡ false → is_change given ≡ false → given.flash_size ≡ false → given.wp_status ≡ false → given.wp_list ≡ false
+    → given.read ≡ None → given.verify ≡ None → given.restore ≡ None → operations given ≡ 0
+probe given list same size status ranges read verify restore =
+    let content : is_new_content given ≡ false = first_false _ _ same in
+    let write : is_some given.write ≡ false = first_false _ _ content in
+    let erase : given.erase ≡ false = second_false _ _ content in
+    let range : is_some given.wp_range ≡ false = second_false _ _ same in
+    rw (list, size, status, ranges, read, verify, write, erase, range, restore) refl

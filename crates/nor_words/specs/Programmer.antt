@@ -78,9 +78,9 @@ abbrev pub is_programmer : Text → Bool
 is_programmer text = starts_with nat_eq text (codes "dummy:")
     && (are_settings (settings_of text) && is_some (option_and_then chip_named (said text (codes "emulate"))))
 
--- `-p` has a `stop=`
+-- a programmer's text that has a `stop=`
 abbrev pub has_stop : Text → Bool
-has_stop text = is_some (said text (codes "stop"))
+has_stop text = is_programmer text && is_some (option_and_then number_of (said text (codes "stop")))
 
 -- The text is a programmer's, and this one's: each part is what the setting with its key says, or nothing where there is
 -- none.

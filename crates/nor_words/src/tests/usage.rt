@@ -117,3 +117,14 @@ fn takes_sixty_four_stops(rt: HostRuntime) -> Result<(), Fail> {
     line.push_str(",1")?;
     all_fail(&rt, alloc, &[(line.as_str(), 9)])
 }
+
+// There is memory enough for these words, so the fault that may come with any words doesn't come.
+#[test]
+fn words_memory(rt: HostRuntime) -> Result<(), Fail> {
+    let words = words_of(
+        rt.alloc(),
+        "-p dummy:emulate=TINY64,image=chip -w new --journal j",
+    )?;
+    assert!(rt; request_of(rt.alloc(), words.as_slice()).is_ok());
+    Ok(())
+}

@@ -1,0 +1,7 @@
+use Rattle.nor_words.proofs.given.Given.has_wrong_programmer.Goals as goal
+
+pub returns-then-is_some : goal.returns-then-is_some
+returns-then-is_some c = ?
+
+pub returns : goal.returns
+returns c = ?
