@@ -53,3 +53,46 @@ pub viewed-read : {S U : Type 0} (f : Text → Option U) (v : S → U) (text : O
     → option_and_then f (option_map (λ t. t.now) text) ≡ option_map v found
 viewed-read f v None found h = rw h refl
 viewed-read f v (Some t) found h = sym h
+
+-- ---- the same of a reference, as the code tests it
+
+abbrev text_at : Option (Bor Text) → Option Text
+text_at = option_map (λ t. t.now)
+
+flipped : (a b : Bool) → a ≡ not b → b ≡ not a
+flipped true true h = cc
+flipped true false h = refl
+flipped false true h = refl
+flipped false false h = cc
+
+pub absent : (f : Text → Bool) (text : Option (Bor Text)) → is_some text ≡ false → false ≡ is_no f (text_at text)
+absent f None none = refl
+absent f (Some t) none = cc
+
+pub programmer-there : (text : Option (Bor Text)) (found : Option Programmer) (none : Bool) → Means (text_at text) found → is_some text ≡ true → is_some found ≡ not none
+    → none ≡ is_no is_programmer (text_at text)
+programmer-there None found none means some told = cc
+programmer-there (Some t) found none means some told = flipped _ _ told ∙ wrong-programmer (Some t.now) found means
+
+pub read-there : {T : Type 0} (f : Text → Option T) (text : Option (Bor Text)) (found : Option T) (none : Bool) → option_and_then f (text_at text) ≡ found → is_some text ≡ true
+    → is_some found ≡ not none → none ≡ is_no (reads f) (text_at text)
+read-there f None found none means some told = cc
+read-there f (Some t) found none means some told = flipped _ _ told ∙ wrong-read f (Some t.now) found means
+
+is_some-viewed : {S U : Type 0} (v : S → U) (found : Option S) → is_some (option_map v found) ≡ is_some found
+is_some-viewed v None = refl
+is_some-viewed v (Some x) = refl
+
+pub stops-there : {S : Type 0} (v : S → List ℕ) (rehearse : Option (Bor Text)) (programmer : Option Text) (found : Option Programmer) (stops : Option S) (none : Bool)
+    → Means programmer found → option_and_then stops_of (text_at rehearse) ≡ option_map v stops → is_some rehearse ≡ true → is_some stops ≡ not none
+    → (none || option_map_or (λ programmer. is_some programmer.stop) found false)
+    ≡ (is_no (reads stops_of) (text_at rehearse) || (is_some (text_at rehearse) && is_there has_stop programmer))
+stops-there v None programmer found stops none means read some told = cc
+stops-there v (Some t) programmer found stops none means read some told =
+    ap (λ b. b || option_map_or (λ programmer. is_some programmer.stop) found false) (flipped _ _ (is_some-viewed v stops ∙ told))
+    ∙ wrong-stops (Some t.now) programmer found (option_map v stops) means read
+
+pub stops-absent : (rehearse : Option (Bor Text)) (programmer : Option Text) → is_some rehearse ≡ false
+    → false ≡ (is_no (reads stops_of) (text_at rehearse) || (is_some (text_at rehearse) && is_there has_stop programmer))
+stops-absent None programmer none = refl
+stops-absent (Some t) programmer none = cc
