@@ -8,4 +8,4 @@ returns-then-is_some c =
     programmer-there c.args.self.now.programmer c.args.meaning.now.programmer c.is_none.result c.requires.programmer (sym c.is_some.ensures ∙ c.if-is_some.true) c.is_none.ensures
 
 pub returns-else-is_some : goal.returns-else-is_some
-returns-else-is_some c = absent is_programmer c.args.self.now.programmer (sym c.is_some.ensures ∙ c.if-is_some.false)
+returns-else-is_some c = c.if-is_some.false ∙ absent is_programmer c.args.self.now.programmer (sym c.is_some.ensures ∙ c.if-is_some.false)

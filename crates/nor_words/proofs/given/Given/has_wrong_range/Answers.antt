@@ -9,4 +9,4 @@ returns-then-is_some c =
     read-there range_of c.args.self.now.wp_range c.args.meaning.now.range c.is_none.result c.requires.range (sym c.is_some.ensures ∙ c.if-is_some.true) c.is_none.ensures
 
 pub returns-else-is_some : goal.returns-else-is_some
-returns-else-is_some c = absent (reads range_of) c.args.self.now.wp_range (sym c.is_some.ensures ∙ c.if-is_some.false)
+returns-else-is_some c = c.if-is_some.false ∙ absent (reads range_of) c.args.self.now.wp_range (sym c.is_some.ensures ∙ c.if-is_some.false)
