@@ -1,7 +1,6 @@
 -- What options come to that words give.
 use Rattle.std.proofs.Common.{◌≡◌, ◌∙◌, Bool, true, false, cond, List, [], ◌∷◌, Option, Some, None, Result, Ok, Err, ap, not, refl, sym}
 use Rattle.std.specs.Prelude.{MatchResult}
-use Rattle.clap.specs.declared.error.Error.{Error}
 use Rattle.nor_words.specs.Text.{Text}
 use Rattle.std.specs.List.{list_all}
 use Rattle.nor_words.specs.Given.{Texts, given_by}

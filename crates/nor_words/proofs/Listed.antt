@@ -1,14 +1,13 @@
 -- Settings and stops that are gone through in turn, from the n-th on.
-use Rattle.std.proofs.Common.{◌≡◌, ◌∙◌, ℕ, suc, ◌+◌, ◌<◌, ◌≤◌, ◌&&◌, ◌||◌, Bool, true, false, List, [], ◌∷◌, ◌++◌, Option, Some, None, length, drop, get_or, cond, ap, ap₂, sym, refl, arith, nat_lt, nat_le, is_some, option_map}
+use Rattle.std.proofs.Common.{◌≡◌, ◌∙◌, ℕ, suc, ◌+◌, ◌<◌, ◌≤◌, ◌&&◌, Bool, true, false, List, [], ◌∷◌, ◌++◌, Option, Some, None, length, drop, get_or, cond, ap, ap₂, sym, refl, arith, nat_le}
 use Rattle.std.specs.Prelude.{filter_map, find, Result, Ok, Err, IsOk, OnOk, OnErr}
 use Rattle.std.specs.Result.{result_ok}
 use Rattle.std.specs.List.{count_by, list_all}
 use Rattle.std.proofs.lemmas.Bool.Decides.{nat_tests}
 use Rattle.std.proofs.lemmas.List.Sums.{sum_by-cons}
 use Rattle.std.proofs.lemmas.List.{append-nil, append_assoc, length_push}
-use Rattle.nor_words.specs.Text.{Text, pieces_of, reads, value_of}
+use Rattle.nor_words.specs.Text.{Text, pieces_of, reads}
 use Rattle.nor_words.specs.Numbers.{number_of}
-use Rattle.nor_words.specs.Programmer.{has_key, value_in}
 use Rattle.nor_words.specs.Stops.{stops_of}
 use Rattle.nor_words.proofs.InTurn.{turned, ended}
 

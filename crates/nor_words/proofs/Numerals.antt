@@ -1,5 +1,5 @@
 -- Numbers of digits, and a range of two.
-use Rattle.std.proofs.Common.{◌≡◌, ◌∙◌, ℕ, suc, ◌+◌, ◌^◌, ◌<◌, ◌≤◌, ◌==◌, ◌&&◌, Bool, true, false, List, [], ◌∷◌, Option, Some, None, Result, Ok, Err, length, take, drop, cond, ap, sym, refl, subst, arith, nat_lt, nat_le, option_map}
+use Rattle.std.proofs.Common.{◌≡◌, ℕ, ◌^◌, ◌<◌, ◌≤◌, ◌==◌, ◌&&◌, Bool, true, false, [], ◌∷◌, Option, Some, None, Result, Ok, Err, length, drop, cond, ap, sym, refl, subst, arith, nat_lt, nat_le, option_map}
 use Rattle.std.specs.Prelude.{option_and_then}
 use Rattle.std.specs.Char.{digit_value, is_digit}
 use Rattle.std.specs.List.{list_all, position_or_len}
@@ -8,7 +8,7 @@ use Rattle.std.specs.Str.Parse.{AllDigits, ParsesUnsigned, digits_value, without
 use Rattle.std.proofs.lemmas.Bool.Decides.{nat_tests}
 use Rattle.std.proofs.lemmas.List.{at_drop_all}
 use Rattle.nor_words.specs.Text.{Text, front_of, rest_of}
-use Rattle.nor_words.specs.Numbers.{is_numeral, numeral, place_of, range_of}
+use Rattle.nor_words.specs.Numbers.{numeral, place_of, range_of}
 
 pub first_part : (a b : Bool) → (a && b) ≡ true → a ≡ true
 first_part true b h = refl

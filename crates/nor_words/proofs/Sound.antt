@@ -1,5 +1,5 @@
 -- What options are that have no fault.
-use Rattle.std.proofs.Common.{◌≡◌, ◌∙◌, ◌&&◌, ◌||◌, ℕ, Bool, true, false, cond, [], ◌∷◌, Option, Some, None, is_some, nat_eq, nat_lt, not, ap, ap₂, refl, sym}
+use Rattle.std.proofs.Common.{◌≡◌, ◌∙◌, ◌&&◌, ◌||◌, Bool, true, false, cond, [], ◌∷◌, Option, Some, None, is_some, nat_eq, nat_lt, not, ap, ap₂, refl, sym}
 use Rattle.std.specs.Prelude.{option_and_then}
 use Rattle.nor_words.specs.Text.{Text, reads}
 use Rattle.nor_words.specs.Given.{Texts, how_many, is_change, is_new_content, operations}

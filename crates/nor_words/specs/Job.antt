@@ -1,5 +1,5 @@
 -- The job that options ask for which have no fault.
-use Rattle.std.specs.Prelude.{◌≡◌, true, false, Option, Some, None, is_some, not, option_and_then, option_map}
+use Rattle.std.specs.Prelude.{◌≡◌, true, false, Option, Some, None, not, option_and_then, option_map}
 use Rattle.std.specs.Borrow.{Bor}
 use Rattle.std.specs.Option.{IsSomeAnd}
 use Rattle.nor_words.specs.Given.{Texts, operations}

@@ -1,5 +1,5 @@
 -- What the code reads from the texts of options that aren't names.
-use Rattle.std.specs.Prelude.{◌≡◌, false, Option, option_and_then, option_map}
+use Rattle.std.specs.Prelude.{◌≡◌, false, option_and_then, option_map}
 use Rattle.std.specs.Option.{IsSomeAnd, MatchOption}
 use Rattle.nor_words.specs.Faults.{is_there}
 use Rattle.nor_words.specs.Given.{Texts}

@@ -1,5 +1,5 @@
 -- The options of the program, as `clap` reads them.
-use Rattle.std.specs.Prelude.{◌≡◌, true, false, List, [], ◌∷◌, Some, None, codes, fold, slice_get}
+use Rattle.std.specs.Prelude.{◌≡◌, true, false, List, [], ◌∷◌, Some, codes, fold, slice_get}
 use Rattle.clap.specs.Words.{App, Rule, new_app, new_rule, rule_of, with_rule}
 use Rattle.clap.specs.declared.builder.arg.Arg.{Arg}
 use Rattle.clap.specs.declared.builder.action.ArgAction.TheVariants.{Set, SetTrue, HelpShort}

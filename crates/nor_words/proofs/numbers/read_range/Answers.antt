@@ -1,4 +1,4 @@
-use Rattle.std.proofs.Common.{◌≡◌, ◌∙◌, ◌==◌, None, length, rules, sym}
+use Rattle.std.proofs.Common.{◌≡◌, ◌∙◌, ◌==◌, length, rules, sym}
 use Rattle.std.specs.List.{position_or_len}
 use Rattle.nor_words.proofs.Numerals.{range_of-uncut}
 use Rattle.nor_words.proofs.numbers.read_range.Goals as goal

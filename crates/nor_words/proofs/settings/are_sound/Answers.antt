@@ -1,10 +1,9 @@
-use Rattle.std.proofs.Common.{◌≡◌, ◌∙◌, true, false, length, drop, lit<, rules, sym, ap, arith}
+use Rattle.std.proofs.Common.{◌≡◌, true, false, length, lit<, rules, sym}
 use Rattle.std.proofs.lemmas.Iterator.Consumers.{YieldsList-turn, YieldsList-end}
 use Rattle.std.proofs.lemmas.Iterator.Splits.{YieldsList-from_str_split}
 use Rattle.std.proofs.lemmas.List.{length_push}
-use Rattle.std.specs.Prelude.{option_map}
-use Rattle.nor_words.specs.Text.{pieces_of, value_of}
-use Rattle.nor_words.specs.Programmer.{has_key, is_alone_in, is_setting}
+use Rattle.nor_words.specs.Text.{pieces_of}
+use Rattle.nor_words.specs.Programmer.{is_alone_in, is_setting}
 use Rattle.std.proofs.Common.{◌&&◌}
 use Rattle.nor_words.proofs.Listed.{all-failed, all-passed, all-ended}
 use Rattle.nor_words.proofs.settings.are_sound.Goals as goal

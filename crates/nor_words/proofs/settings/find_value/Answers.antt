@@ -1,10 +1,10 @@
-use Rattle.std.proofs.Common.{Some, ◌≡◌, ◌∙◌, true, false, length, drop, lit<, rules, sym, ap, arith}
+use Rattle.std.proofs.Common.{Some, ◌≡◌, ◌∙◌, true, false, length, lit<, rules, sym, ap}
 use Rattle.std.proofs.lemmas.Iterator.Consumers.{YieldsList-turn, YieldsList-end}
 use Rattle.std.proofs.lemmas.Iterator.Splits.{YieldsList-from_str_split}
 use Rattle.std.proofs.lemmas.List.{length_push}
 use Rattle.std.specs.Prelude.{option_map}
 use Rattle.nor_words.specs.Text.{pieces_of, value_of}
-use Rattle.nor_words.specs.Programmer.{has_key, is_alone_in, is_setting}
+use Rattle.nor_words.specs.Programmer.{has_key}
 use Rattle.nor_words.proofs.Listed.{find-met, find-passed, find-ended}
 use Rattle.nor_words.proofs.settings.find_value.Goals as goal
 

@@ -1,7 +1,6 @@
-use Rattle.std.proofs.Common.{◌≡◌, ◌+◌, ◌&&◌, cond, length, drop}
+use Rattle.std.proofs.Common.{◌≡◌, length, drop}
 use Rattle.std.specs.Prelude.{find}
-use Rattle.std.specs.List.{count_by, list_all}
-use Rattle.nor_words.specs.Programmer.{has_key, is_alone_in, is_setting}
+use Rattle.nor_words.specs.Programmer.{has_key}
 use Rattle.nor_words.specs.Text.{pieces_of}
 use Rattle.nor_words.proofs.settings.find_value.Given as goal
 

@@ -1,4 +1,4 @@
-use Rattle.std.proofs.Common.{◌≡◌, ◌∙◌, Some, None, ap, codes, option_map, sym}
+use Rattle.std.proofs.Common.{◌∙◌, Some, None, ap, codes, option_map, sym}
 use Rattle.std.specs.Prelude.{option_and_then}
 use Rattle.nor_words.specs.Numbers.{byte_of, number_of, polls_of, unique_of}
 use Rattle.nor_words.specs.Programmer.{are_settings, chip_named}
