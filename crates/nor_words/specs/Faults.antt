@@ -1,0 +1,50 @@
+-- The faults that options may have which `clap` takes.
+use Rattle.std.specs.Prelude.{◌&&◌, ◌||◌, Bool, false, Option, Some, None, List, [], ◌∷◌, is_some, nat_eq, nat_lt, not, if◌then◌else◌}
+use Rattle.std.specs.Option.{option_map_or}
+use Rattle.nor_words.specs.Text.{Text, reads}
+use Rattle.nor_words.specs.Given.{Texts, how_many, is_change, is_new_content, operations, takes_regions}
+use Rattle.nor_words.specs.Numbers.{range_of}
+use Rattle.nor_words.specs.Programmer.{has_stop, is_programmer}
+use Rattle.nor_words.specs.Stops.{stops_of}
+use Rattle.nor_words.specs.declared.words.UsageFault.{UsageFault}
+use Rattle.nor_words.specs.declared.words.UsageFault.TheVariants as why
+
+-- a fault, beside whether it holds
+abbrev pub Case : Type 0
+Case = Bool × UsageFault
+
+-- there is a text, and it passes the test
+abbrev pub is_there : (Text → Bool) → Option Text → Bool
+is_there test text = option_map_or test text false
+
+-- there is a text, and it doesn't pass the test
+abbrev pub is_no : (Text → Bool) → Option Text → Bool
+is_no test = is_there (λ text. not (test text))
+
+-- a change has exactly one of `--journal` and `--rehearse`, and all else has neither
+abbrev pub has_wrong_journal : Texts → Bool
+has_wrong_journal given =
+    not (nat_eq (how_many (is_some given.journal ∷ is_some given.rehearse ∷ [])) (if is_change given then 1 else 0))
+
+-- one of `-l` and `-i` is there, and not both with an operation that takes regions
+abbrev pub has_wrong_regions : Texts → Bool
+has_wrong_regions given = (is_some given.layout || is_some given.names)
+    && not (is_some given.layout && (is_some given.names && takes_regions given))
+
+-- all of them in their order
+abbrev pub usage_faults : Texts → List Case
+usage_faults given =
+    (not (is_some given.programmer) && not given.list, why.NoProgrammer)
+    ∷ (is_no is_programmer given.programmer, why.Programmer)
+    ∷ (nat_lt 1 (operations given), why.TwoOperations)
+    ∷ (is_no (reads range_of) given.wp_range, why.Range)
+    ∷ (has_wrong_journal given, why.Journal)
+    ∷ (has_wrong_regions given, why.Layout)
+    ∷ ((given.no_verify || given.unlock) && not (is_new_content given), why.Unneeded)
+    ∷ (is_no (reads stops_of) given.rehearse || (is_some given.rehearse && is_there has_stop given.programmer), why.Stops)
+    ∷ []
+
+-- the first that holds
+abbrev pub first_fault : List Case → Option UsageFault
+first_fault [] = None
+first_fault (case ∷ cases) = if case.0 then Some case.1 else first_fault cases

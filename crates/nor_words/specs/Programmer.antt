@@ -1,0 +1,96 @@
+-- What the text of `-p` says.
+use Rattle.std.specs.Prelude.{◌≡◌, ◌&&◌, Bool, true, List, [], ◌∷◌, Option, Some, None, length, drop, find, codes, is_some, nat_eq, nat_lt, nat_le, option_map, option_and_then, if◌then◌else◌}
+use Rattle.std.specs.List.{count_by, list_all, list_any, starts_with}
+use Rattle.std.specs.Str.{bytes_eq}
+use Rattle.nor_chip.specs.Chip.{IsTiny64}
+use Rattle.nor_chip.specs.Makers.{IsW25q64fv, IsW25q128fv}
+use Rattle.nor_chip.specs.declared.config.Config.{Config}
+use Rattle.nor_words.specs.declared.programmer.Emulated.{Emulated}
+use Rattle.nor_words.specs.declared.programmer.Emulated.TheVariants.{Tiny64, W25q64fv, W25q128fv}
+use Rattle.nor_words.specs.declared.programmer.Programmer.{Programmer}
+use Rattle.nor_words.specs.Numbers.{byte_of, number_of, polls_of, unique_of}
+use Rattle.nor_words.specs.Text.{Text, pieces_of, key_of, value_of, reads}
+
+-- the emulated chip of this name
+abbrev pub chip_named : Text → Option Emulated
+chip_named name = if bytes_eq name (codes "TINY64") then Some Tiny64
+    else if bytes_eq name (codes "W25Q64FV") then Some W25q64fv
+    else if bytes_eq name (codes "W25Q128FV") then Some W25q128fv
+    else None
+
+-- the configuration of an emulated chip
+abbrev pub IsConfigOf : Emulated → Config → Type 0
+IsConfigOf Tiny64 config = IsTiny64 config
+IsConfigOf W25q64fv config = IsW25q64fv config
+IsConfigOf W25q128fv config = IsW25q128fv config
+
+-- the name of a file isn't empty
+abbrev pub is_file : Text → Bool
+is_file name = nat_lt 0 (length name)
+
+-- the keys, each with what its values are
+abbrev pub keys : List (Text × (Text → Bool))
+keys =
+    (codes "emulate", reads chip_named)
+    ∷ (codes "image", is_file)
+    ∷ (codes "status", is_file)
+    ∷ (codes "trace", is_file)
+    ∷ (codes "stop", reads number_of)
+    ∷ (codes "unique", reads unique_of)
+    ∷ (codes "busy", reads polls_of)
+    ∷ (codes "power", reads byte_of)
+    ∷ []
+
+-- the setting has this key
+abbrev pub has_key : Text → Text → Bool
+has_key key setting = bytes_eq (key_of setting) key
+
+-- there is such a key, and this is a value of it
+abbrev pub may_have : Text → Text → Bool
+may_have key value = list_any (λ known. bytes_eq key known.0 && known.1 value) keys
+
+-- the setting has one of the keys, and a value of this key
+abbrev pub is_setting : Text → Bool
+is_setting setting = may_have (key_of setting) (value_of setting)
+
+-- at most one of the settings has the key of this one
+abbrev pub is_alone_in : List Text → Text → Bool
+is_alone_in settings setting = nat_le (count_by (has_key (key_of setting)) settings) 1
+
+-- each is a setting, and none has the key of another
+abbrev pub are_settings : List Text → Bool
+are_settings settings = list_all (λ setting. is_setting setting && is_alone_in settings setting) settings
+
+-- the settings behind `dummy:`
+abbrev pub settings_of : Text → List Text
+settings_of text = pieces_of (drop 6 text)
+
+-- the value of the key, where a setting has it
+abbrev pub value_in : List Text → Text → Option Text
+value_in settings key = option_map value_of (find (has_key key) settings)
+
+-- what the text of `-p` says of the key
+abbrev pub said : Text → Text → Option Text
+said text = value_in (settings_of text)
+
+-- `dummy:` and then settings, of which one names the chip
+abbrev pub is_programmer : Text → Bool
+is_programmer text = starts_with nat_eq text (codes "dummy:")
+    && (are_settings (settings_of text) && is_some (option_and_then chip_named (said text (codes "emulate"))))
+
+-- a programmer's text that has a `stop=`
+abbrev pub has_stop : Text → Bool
+has_stop text = is_programmer text && is_some (option_and_then number_of (said text (codes "stop")))
+
+-- The text is a programmer's, and this one's: each part is what the setting with its key says, or nothing where there is
+-- none.
+pub record IsProgrammer (text : Text) (programmer : Programmer) : Type 0 where
+  pub sound : is_programmer text ≡ true
+  pub chip : option_and_then chip_named (said text (codes "emulate")) ≡ Some programmer.chip
+  pub image : said text (codes "image") ≡ option_map (λ name. name.now) programmer.image
+  pub status : said text (codes "status") ≡ option_map (λ name. name.now) programmer.status
+  pub trace : said text (codes "trace") ≡ option_map (λ name. name.now) programmer.trace
+  pub stop : option_and_then number_of (said text (codes "stop")) ≡ programmer.stop
+  pub unique : option_and_then unique_of (said text (codes "unique")) ≡ programmer.unique
+  pub busy : option_and_then polls_of (said text (codes "busy")) ≡ programmer.busy
+  pub power : option_and_then byte_of (said text (codes "power")) ≡ programmer.power

@@ -1,0 +1,337 @@
+//! What the words give each option.
+ghost use Rattle.std.specs.Prelude.{◌≡◌, ◌&&◌, ◌||◌, None, Some, false, is_some, not, option_map, option_and_then, MatchOption, MatchResult};
+ghost use Rattle.std.specs.Option.{option_map_or};
+ghost use Rattle.clap.specs.Words.{found_of, rows_of};
+ghost use Rattle.nor_words.specs.Given.{given_in, is_set_in, operations, is_new_content, is_change, takes_regions};
+ghost use Rattle.nor_words.specs.Faults.{first_fault, has_wrong_journal, has_wrong_regions, is_no, is_there, usage_faults};
+ghost use Rattle.nor_words.specs.Job.{IsAsked, IsChange, IsKeeping, IsRegions, IsTask, IsWanted};
+ghost use Rattle.nor_words.specs.Meaning.{IsMeaning};
+ghost use Rattle.nor_words.specs.Numbers.{range_of};
+ghost use Rattle.nor_words.specs.Programmer.{has_stop, is_programmer};
+ghost use Rattle.nor_words.specs.Stops.{stops_of};
+ghost use Rattle.nor_words.specs.Text.{reads};
+
+use crate::job::{Change, ChipJob, Job, Keeping, Regions, Task, Wanted};
+use crate::numbers::read_range;
+use crate::programmer::Programmer;
+use crate::stops::{MOST_STOPS, read_stops};
+use crate::words::UsageFault;
+use arrayvec::ArrayVec;
+use clap::ArgMatches;
+
+/// The texts of the options that take one, and whether the flags are set.
+#[derive(Clone, Copy)]
+pub struct Given<'a> {
+    programmer: Option<&'a str>,
+    chip: Option<&'a str>,
+    list: bool,
+    flash_size: bool,
+    wp_status: bool,
+    wp_list: bool,
+    read: Option<&'a str>,
+    verify: Option<&'a str>,
+    write: Option<&'a str>,
+    erase: bool,
+    wp_range: Option<&'a str>,
+    restore: Option<&'a str>,
+    layout: Option<&'a str>,
+    names: Option<&'a str>,
+    no_verify: bool,
+    unlock: bool,
+    journal: Option<&'a str>,
+    rehearse: Option<&'a str>,
+}
+
+/// What the texts mean that aren't names; nothing where a text isn't there or has no meaning.
+#[derive(Drop)]
+struct Meaning<'a> {
+    programmer: Option<Programmer<'a>>,
+    range: Option<(u32, u32)>,
+    stops: Option<ArrayVec<u64, MOST_STOPS>>,
+}
+
+impl<'a> Given<'a> {
+    ghost use Rattle.nor_words.specs.Given.{texts_of};
+
+    /// What a parse of the words found.
+    pub fn of(matches: &ArgMatches<'a>) -> Given<'a>
+        ensures { texts_of result ≡ given_in (rows_of (found_of matches.now)) }
+    {
+        Given {
+            programmer: matches.get_str("programmer"),
+            chip: matches.get_str("chip"),
+            list: is_set(matches, "list"),
+            flash_size: is_set(matches, "flash-size"),
+            wp_status: is_set(matches, "wp-status"),
+            wp_list: is_set(matches, "wp-list"),
+            read: matches.get_str("read"),
+            verify: matches.get_str("verify"),
+            write: matches.get_str("write"),
+            erase: is_set(matches, "erase"),
+            wp_range: matches.get_str("wp-range"),
+            restore: matches.get_str("restore"),
+            layout: matches.get_str("layout"),
+            names: matches.get_str("include"),
+            no_verify: is_set(matches, "no-verify"),
+            unlock: is_set(matches, "unlock"),
+            journal: matches.get_str("journal"),
+            rehearse: matches.get_str("rehearse"),
+        }
+    }
+
+    /// The job that the options ask for, or the first fault that they have.
+    pub fn job(self) -> Result<Job<'a>, UsageFault>
+        ensures { MatchResult result
+            (λ job. (first_fault (usage_faults (texts_of self.entry)) ≡ None) × IsAsked (texts_of self.entry) job)
+            (λ fault. first_fault (usage_faults (texts_of self.entry)) ≡ Some fault) }
+    {
+        let meaning = self.meaning();
+        if let Some(fault) = self.fault(&meaning) {
+            return Err(fault);
+        }
+        match meaning.programmer {
+            Some(programmer) if !self.list => Ok(Job::Chip(ChipJob {
+                programmer,
+                named: self.chip,
+                task: self.task(meaning.range, meaning.stops),
+            })),
+            _ => Ok(Job::List),
+        }
+    }
+
+    // Reads the texts that aren't names.
+    fn meaning(&self) -> Meaning<'a>
+        ensures { IsMeaning (texts_of self.now) result }
+    {
+        Meaning {
+            programmer: self.programmer.and_then(Programmer::read),
+            range: self.wp_range.and_then(read_range),
+            stops: self.rehearse.and_then(read_stops),
+        }
+    }
+
+    // The first fault that the options have.
+    fn fault(&self, meaning: &Meaning<'a>) -> Option<UsageFault>
+        requires { IsMeaning (texts_of self.now) meaning.now }
+        ensures { result ≡ first_fault (usage_faults (texts_of self.now)) }
+    {
+        if self.lacks_programmer() {
+            Some(UsageFault::NoProgrammer)
+        } else if self.has_wrong_programmer(meaning) {
+            Some(UsageFault::Programmer)
+        } else if self.operations() > 1 {
+            Some(UsageFault::TwoOperations)
+        } else if self.has_wrong_range(meaning) {
+            Some(UsageFault::Range)
+        } else if self.has_wrong_journal() {
+            Some(UsageFault::Journal)
+        } else if self.has_wrong_regions() {
+            Some(UsageFault::Layout)
+        } else if self.has_unneeded() {
+            Some(UsageFault::Unneeded)
+        } else if self.has_wrong_stops(meaning) {
+            Some(UsageFault::Stops)
+        } else {
+            None
+        }
+    }
+
+    // All but the list of chips needs a programmer.
+    fn lacks_programmer(&self) -> bool
+        ensures { result ≡ (not (is_some (texts_of self.now).programmer) && not (texts_of self.now).list) }
+    {
+        self.programmer.is_none() && !self.list
+    }
+
+    // The text of `-p` is no programmer's.
+    fn has_wrong_programmer(&self, meaning: &Meaning<'a>) -> bool
+        requires { IsMeaning (texts_of self.now) meaning.now }
+        ensures { result ≡ is_no is_programmer (texts_of self.now).programmer }
+    {
+        self.programmer.is_some() && meaning.programmer.is_none()
+    }
+
+    // The text of `--wp-range` is no range.
+    fn has_wrong_range(&self, meaning: &Meaning<'a>) -> bool
+        requires { IsMeaning (texts_of self.now) meaning.now }
+        ensures { result ≡ is_no (reads range_of) (texts_of self.now).wp_range }
+    {
+        self.wp_range.is_some() && meaning.range.is_none()
+    }
+
+    // The text of `--rehearse` isn't stops, or the programmer stops beside it.
+    fn has_wrong_stops(&self, meaning: &Meaning<'a>) -> bool
+        requires { IsMeaning (texts_of self.now) meaning.now }
+        ensures { result ≡ (is_no (reads stops_of) (texts_of self.now).rehearse
+            || (is_some (texts_of self.now).rehearse && is_there has_stop (texts_of self.now).programmer)) }
+    {
+        self.rehearse.is_some() && (meaning.stops.is_none() || meaning.has_stop())
+    }
+
+    // How many operations there are.
+    fn operations(&self) -> usize
+        ensures { result ≡ operations (texts_of self.now) }
+    {
+        let asked = [
+            self.list,
+            self.flash_size,
+            self.wp_status,
+            self.wp_list,
+            self.read.is_some(),
+            self.verify.is_some(),
+            self.write.is_some(),
+            self.erase,
+            self.wp_range.is_some(),
+            self.restore.is_some(),
+        ];
+        asked.iter().filter(|asked| **asked).count()
+    }
+
+    // The operation gives the chip new bytes.
+    fn is_new_content(&self) -> bool
+        ensures { result ≡ is_new_content (texts_of self.now) }
+    {
+        self.write.is_some() || self.erase
+    }
+
+    // The operation changes the chip and keeps a journal.
+    fn is_change(&self) -> bool
+        ensures { result ≡ is_change (texts_of self.now) }
+    {
+        self.is_new_content() || self.wp_range.is_some()
+    }
+
+    // The operation may be held to regions.
+    fn takes_regions(&self) -> bool
+        ensures { result ≡ takes_regions (texts_of self.now) }
+    {
+        self.read.is_some() || self.verify.is_some() || self.is_new_content()
+    }
+
+    // A change has not exactly one of `--journal` and `--rehearse`, or what is no change has one.
+    fn has_wrong_journal(&self) -> bool
+        ensures { result ≡ has_wrong_journal (texts_of self.now) }
+    {
+        match (self.journal, self.rehearse) {
+            (None, None) => self.is_change(),
+            (Some(_), Some(_)) => true,
+            _ => !self.is_change(),
+        }
+    }
+
+    // `-n` or `--unlock` is there, and no new content.
+    fn has_unneeded(&self) -> bool
+        ensures { result ≡ (((texts_of self.now).no_verify || (texts_of self.now).unlock) && not (is_new_content (texts_of self.now))) }
+    {
+        (self.no_verify || self.unlock) && !self.is_new_content()
+    }
+
+    // One of `-l` and `-i` is there without the other, or with an operation that takes no regions.
+    fn has_wrong_regions(&self) -> bool
+        ensures { result ≡ has_wrong_regions (texts_of self.now) }
+    {
+        match (self.layout, self.names) {
+            (None, None) => false,
+            (Some(_), Some(_)) => !self.takes_regions(),
+            _ => true,
+        }
+    }
+
+    // What is done with the chip, where the options have no fault.
+    fn task(&self, range: Option<(u32, u32)>, stops: Option<ArrayVec<u64, MOST_STOPS>>) -> Task<'a>
+        requires { ((texts_of self.now).list ≡ false) × (first_fault (usage_faults (texts_of self.now)) ≡ None)
+            × (option_and_then range_of (texts_of self.now).wp_range ≡ range)
+            × (option_and_then stops_of (texts_of self.now).rehearse ≡ option_map (λ stops. stops.items) stops) }
+        ensures { IsTask (texts_of self.now) result }
+    {
+        let Some(wanted) = self.wanted(range) else {
+            return self.plain_task();
+        };
+        let Some(keeping) = self.keeping(stops) else {
+            return self.plain_task();
+        };
+        Task::Change(Change {
+            wanted,
+            regions: self.regions(),
+            unlock: self.unlock,
+            verify: !self.no_verify,
+            keeping,
+        })
+    }
+
+    // What the chip is changed to.
+    fn wanted(&self, range: Option<(u32, u32)>) -> Option<Wanted<'a>>
+        requires { option_and_then range_of (texts_of self.now).wp_range ≡ range }
+        ensures { MatchOption result ((is_new_content (texts_of self.now) ≡ false) × (range ≡ None)) (IsWanted (texts_of self.now)) }
+    {
+        match (self.write, range) {
+            (Some(image), _) => Some(Wanted::Write { image }),
+            (None, Some((start, len))) => Some(Wanted::Range { start, len }),
+            (None, None) if self.erase => Some(Wanted::Erase),
+            (None, None) => None,
+        }
+    }
+
+    // What becomes of the journal.
+    fn keeping(&self, stops: Option<ArrayVec<u64, MOST_STOPS>>) -> Option<Keeping<'a>>
+        requires { option_and_then stops_of (texts_of self.now).rehearse ≡ option_map (λ stops. stops.items) stops }
+        ensures { MatchOption result (((texts_of self.now).journal ≡ None) × (stops ≡ None)) (IsKeeping (texts_of self.now)) }
+    {
+        match (self.journal, stops) {
+            (Some(file), _) => Some(Keeping::Journal { file }),
+            (None, Some(stops)) => Some(Keeping::Rehearse { stops }),
+            (None, None) => None,
+        }
+    }
+
+    // The regions, where there are some.
+    fn regions(&self) -> Option<Regions<'a>>
+        requires { has_wrong_regions (texts_of self.now) ≡ false }
+        ensures { IsRegions (texts_of self.now) result }
+    {
+        match (self.layout, self.names) {
+            (Some(layout), Some(names)) => Some(Regions { layout, names }),
+            _ => None,
+        }
+    }
+
+    // What is done that is no change.
+    fn plain_task(&self) -> Task<'a>
+        requires { ((texts_of self.now).list ≡ false) × (is_change (texts_of self.now) ≡ false)
+            × (has_wrong_regions (texts_of self.now) ≡ false) }
+        ensures { IsTask (texts_of self.now) result }
+    {
+        let regions = self.regions();
+        match (self.read, self.verify, self.restore) {
+            (Some(file), _, _) => Task::Read { file, regions },
+            (None, Some(file), _) => Task::Verify { file, regions },
+            (None, None, Some(journal)) => Task::Restore { journal },
+            (None, None, None) if self.flash_size => Task::FlashSize,
+            (None, None, None) if self.wp_status => Task::WpStatus,
+            (None, None, None) if self.wp_list => Task::WpList,
+            (None, None, None) => Task::Probe,
+        }
+    }
+}
+
+impl Meaning<'_> {
+    // The programmer stops after so many transactions.
+    fn has_stop(&self) -> bool
+        ensures { result ≡ option_map_or (λ programmer. is_some programmer.stop) self.now.programmer false }
+    {
+        match &self.programmer {
+            Some(programmer) => programmer.stop.is_some(),
+            None => false,
+        }
+    }
+}
+
+// A flag that is set has the value `true`.
+fn is_set(matches: &ArgMatches<'_>, flag: &str) -> bool
+    ensures { result ≡ is_set_in (rows_of (found_of matches.now)) flag.now }
+{
+    match matches.get_str(flag) {
+        Some(value) => value == "true",
+        None => false,
+    }
+}

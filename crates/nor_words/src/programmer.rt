@@ -1,0 +1,93 @@
+//! The text of the option `-p`.
+ghost use Rattle.std.specs.Prelude.{◌≡◌, false};
+ghost use Rattle.std.specs.Option.{MatchOption};
+
+use crate::numbers::{read_byte, read_number, read_polls, read_unique};
+use crate::settings::{are_sound, find_value};
+use nor_chip::Config;
+
+/// A chip that the program emulates.
+#[derive(Clone, Copy, Debug, PartialEq, Eq)]
+pub enum Emulated {
+    /// 64 KiB, known by its SFDP alone.
+    Tiny64,
+    /// 8 MiB.
+    W25q64fv,
+    /// 16 MiB.
+    W25q128fv,
+}
+
+impl Emulated {
+    ghost use Rattle.nor_words.specs.Programmer.{chip_named, IsConfigOf};
+
+    /// The chip of this name.
+    pub fn named(name: &str) -> Option<Emulated>
+        ensures { result ≡ chip_named name.now }
+    {
+        match name {
+            "TINY64" => Some(Emulated::Tiny64),
+            "W25Q64FV" => Some(Emulated::W25q64fv),
+            "W25Q128FV" => Some(Emulated::W25q128fv),
+            _ => None,
+        }
+    }
+
+    /// What never changes of the chip.
+    pub fn config(self) -> Config
+        ensures { IsConfigOf self result }
+    {
+        match self {
+            Emulated::Tiny64 => Config::tiny64(),
+            Emulated::W25q64fv => Config::w25q64fv(),
+            Emulated::W25q128fv => Config::w25q128fv(),
+        }
+    }
+}
+
+/// The programmer that `-p` names: `dummy:` and then settings `key=value`, separated by commas, in any order and
+/// each at most once.
+#[derive(Clone, Copy, Debug, PartialEq, Eq)]
+pub struct Programmer<'a> {
+    /// `emulate=NAME`, which must be there: the chip.
+    pub chip: Emulated,
+    /// `image=FILE`: the file of the chip's bytes.
+    pub image: Option<&'a str>,
+    /// `status=FILE`: the file of its two status bytes.
+    pub status: Option<&'a str>,
+    /// `trace=FILE`: the file that gets a line for each transaction.
+    pub trace: Option<&'a str>,
+    /// `stop=N`: how many transactions are allowed.
+    pub stop: Option<u64>,
+    /// `unique=` and 16 hexadecimal digits: the chip's own number.
+    pub unique: Option<[u8; 8]>,
+    /// `busy=N`: how many polls answer BUSY after each operation.
+    pub busy: Option<u16>,
+    /// `power=HH`: a stop is a loss of power, and leaves this byte where something ran.
+    pub power: Option<u8>,
+}
+
+impl<'a> Programmer<'a> {
+    ghost use Rattle.nor_words.specs.Programmer.{is_programmer, IsProgrammer};
+
+    /// Reads the text. A setting goes on to the next comma, and its key to the first `=`. `None` where the text is no
+    /// programmer's.
+    pub fn read(text: &'a str) -> Option<Programmer<'a>>
+        ensures { MatchOption result (is_programmer text.now ≡ false) (IsProgrammer text.now) }
+    {
+        let listed = text.strip_prefix("dummy:")?;
+        if !are_sound(listed) {
+            return None;
+        }
+        let chip = Emulated::named(find_value(listed, "emulate")?)?;
+        Some(Programmer {
+            chip,
+            image: find_value(listed, "image"),
+            status: find_value(listed, "status"),
+            trace: find_value(listed, "trace"),
+            stop: find_value(listed, "stop").and_then(read_number),
+            unique: find_value(listed, "unique").and_then(read_unique),
+            busy: find_value(listed, "busy").and_then(read_polls),
+            power: find_value(listed, "power").and_then(read_byte),
+        })
+    }
+}
