@@ -1,4 +1,5 @@
 pub mod Shown
 pub mod Ready
 pub mod Changed
+pub mod Doing
 pub mod Ended

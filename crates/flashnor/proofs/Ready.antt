@@ -4,10 +4,9 @@ use Rattle.std.specs.Prelude.{if◌then◌else◌, is_none}
 use Rattle.std.specs.Borrow.{Bor}
 use Rattle.nor_chip.specs.declared.config.Config.{Config}
 use Rattle.nor_chip.specs.Bus.{Allows, BusState}
-use Rattle.nor_chip.specs.Start.{Starts}
-use Rattle.nor_chip.specs.declared.sim.Delays.{Delays}
 use Rattle.nor_chip.specs.Chip.{Chip, IsSame}
 use Rattle.nor_driver.specs.Looks.{IsCalm, Looks}
+use Rattle.nor_driver.specs.Reads.{shown}
 use Rattle.nor_journal.specs.Text.{Content as Journal}
 use Rattle.nor_probe.specs.Known.{IsGenuine, chip_says, id_of, is_no_chip, listed_or, part_by_sfdp, shown_as}
 use Rattle.nor_probe.specs.Found.{Finds, IsWanted, Tells, part_in}
@@ -30,7 +29,7 @@ use Rattle.nor_words.specs.declared.programmer.Emulated.TheVariants.{Tiny64, W25
 use Rattle.nor_words.specs.declared.programmer.Programmer.{Programmer}
 use Rattle.flashnor.specs.Changes.{HasGivenName, HasRestored, Passes, ProbeRefuses}
 use Rattle.flashnor.specs.declared.answers.Answer.TheVariants as answer
-use Rattle.flashnor.specs.Chips.{IsConfigWith, IsReady, Opens, allowance_of}
+use Rattle.flashnor.specs.Chips.{IsConfigWith, IsReady, Holds, Opens, allowance_of}
 use Rattle.flashnor.specs.declared.chips.Content.{Content}
 use Rattle.flashnor.specs.Found.{HasName, IsFound, part_of, wanted}
 use Rattle.flashnor.specs.Readings.{FindRefuses}
@@ -39,7 +38,7 @@ use Rattle.flashnor.proofs.Shown.{ok-same, shown-emulated}
 -- ---- the unique ID tells nothing of what a chip is
 
 says-free : (config : Config) (number : List ℕ) → chip_says (record config { unique = number }) ≡ chip_says config
-unfolding chip_says
+unfolding chip_says shown
 says-free config number = refl
 
 shown-free : (config : Config) (number : List ℕ) → shown_as (record config { unique = number }) ≡ shown_as config
@@ -49,9 +48,13 @@ shown-free config number =
 
 genuine-free : (config : Config) (number : List ℕ) → IsGenuine (record config { unique = number }) → IsGenuine config
 genuine-free config number is = record {
-  listed = is.listed;
+  listed = λ part row.
+      let has = is.listed part row in
+      (record { size = has.0.size; k32 = has.0.k32; k64 = has.0.k64 }, has.1);
   unlisted = is.unlisted;
-  described = λ none geometry says. is.described none geometry (says-free config number ∙ says);
+  described = λ none geometry says.
+      let has = is.described none geometry (says-free config number ∙ says) in
+      record { size = has.size; k32 = has.k32; k64 = has.k64 };
 }
 
 -- ---- the emulated chips
@@ -66,12 +69,6 @@ size_emulated Tiny64 config is = is.size
 size_emulated W25q64fv config is = is.size
 size_emulated W25q128fv config is = is.size
 
--- a unique ID in place of eight zeros
-pub with_unique : (chip : Emulated) (base : Config) (number : List ℕ) → IsConfigOf chip base → IsConfigWith chip (Some number) (record base { unique = number })
-with_unique Tiny64 base number is = (record { id = is.id; size = is.size; k32 = is.k32; k64 = is.k64; scheme = is.scheme; unique = refl; sfdp = is.sfdp }, refl)
-with_unique W25q64fv base number is = (record { id = is.id; size = is.size; k32 = is.k32; k64 = is.k64; scheme = is.scheme; unique = refl; sfdp = is.sfdp }, refl)
-with_unique W25q128fv base number is = (record { id = is.id; size = is.size; k32 = is.k32; k64 = is.k64; scheme = is.scheme; unique = refl; sfdp = is.sfdp }, refl)
-
 genuine-with : (chip : Emulated) (number : Option (List ℕ)) (config : Config) → IsConfigWith chip number config → IsGenuine config
 genuine-with chip None config is = genuine-emulated chip config is
 genuine-with chip (Some number) config is = genuine-free config (replicate 8 0) (genuine-emulated chip _ is.0)
@@ -79,10 +76,6 @@ genuine-with chip (Some number) config is = genuine-free config (replicate 8 0) 
 shown-with : (chip : Emulated) (number : Option (List ℕ)) (config : Config) → IsConfigWith chip number config → shown_as config ≡ Ok (part_of chip)
 shown-with chip None config is = shown-emulated chip config is
 shown-with chip (Some number) config is = sym (shown-free config (replicate 8 0)) ∙ shown-emulated chip _ is.0
-
-pub size_with : (chip : Emulated) (number : Option (List ℕ)) (config : Config) → IsConfigWith chip number config → config.size ≡ (part_of chip).size
-size_with chip None config is = size_emulated chip config is
-size_with chip (Some number) config is = size_emulated chip _ is.0
 
 -- ---- the bus
 
@@ -121,31 +114,31 @@ refuses_ready programmer named asked old new Probes.OtherName same ready tells =
     ok-same (part_of programmer.chip) other.part (shown_as old.chip.config) (shown-ready programmer old ready) other.shown in
     other.other (rw (same, ← part) has)
 refuses_ready programmer named asked old new Probes.Stopped same ready tells =
-    let below = tells.1 in let left = ready.left in
-    rw (← left) below
+    subst (λ (n : ℕ). n < 65540) ready.left tells.1
 refuses_ready programmer named asked old new Probes.Timeout same ready tells = tells
 
 -- how it is started: with all that its files tell, then the power that may be lost, then its allowance
-pub opens_start : (programmer : Programmer) (content : Content) (setup : Config) (delays : Delays) (allowed : ℕ) (first lost last : BusState)
-    → IsConfigWith programmer.chip programmer.unique setup → Starts setup content.bytes.items content.status delays first → delays.now ≡ 0
-    → lost ≡ record first { steady = is_none programmer.power } → allowed ≡ allowance_of programmer → Allows allowed lost last
-    → Opens programmer content last
-opens_start programmer content setup delays allowed first lost last is starts now lose allowance allows =
+pub opens_held : (programmer : Programmer) (content : Content) (allowed : ℕ) (first lost last : BusState)
+    → Holds programmer content first → lost ≡ record first { steady = is_none programmer.power }
+    → allowed ≡ allowance_of programmer → Allows allowed lost last → Opens programmer content last
+opens_held programmer content allowed first lost last held lose allowance allows =
     let chip : last.chip ≡ first.chip = allows.chip ∙ ap (λ state. state.chip) lose in
-    let honest : lost.honest ≡ true = ap (λ state. state.honest) lose ∙ starts.honest in
+    let honest : lost.honest ≡ true = ap (λ state. state.honest) lose ∙ held.honest in
     record {
       ready = record {
-        config = subst (IsConfigWith programmer.chip programmer.unique) (sym (ap (λ x. x.config) chip ∙ starts.config)) is;
-        idle = ap (λ x. x.busy) chip ∙ (starts.busy ∙ now);
+        config = subst (IsConfigWith programmer.chip programmer.unique) (sym (ap (λ x. x.config) chip)) held.config;
+        idle = ap (λ x. x.busy) chip ∙ held.idle;
         left = allows.left honest ∙ allowance;
         honest = allows.honest ∙ honest;
         steady = allows.steady ∙ ap (λ state. state.steady) lose;
-        still = allows.stirred ∙ (ap (λ state. state.stirred) lose ∙ starts.stirred);
+        still = allows.stirred ∙ (ap (λ state. state.stirred) lose ∙ held.still);
       };
-      bytes = λ a. ap (λ x. x.bytes a) chip ∙ starts.bytes a;
-      kept1 = ap (λ x. x.kept1) chip ∙ starts.kept1;
-      kept2 = ap (λ x. x.kept2) chip ∙ starts.kept2;
-      latch = ap (λ x. x.latch) chip ∙ starts.latch;
+      holds = record {
+        bytes = λ a. ap (λ x. x.bytes a) chip ∙ held.bytes a;
+        kept1 = ap (λ x. x.kept1) chip ∙ held.kept1;
+        kept2 = ap (λ x. x.kept2) chip ∙ held.kept2;
+        latch = ap (λ x. x.latch) chip ∙ held.latch;
+      };
     }
 
 -- ---- a probe before a restore

@@ -1,6 +1,7 @@
 -- What a run opens: the emulated chip, and the bus to it.
 use Rattle.std.specs.Prelude.{◌≡◌, ◌⊎◌, ◌/◌, ◌%◌, ◌==◌, ℕ, List, false, true, Option, Some, None, IsSomeAnd, is_none, replicate, slice_index, unwrap_or}
 use Rattle.nor_chip.specs.Bus.{BusState}
+use Rattle.nor_chip.specs.Chip.{Chip}
 use Rattle.nor_chip.specs.declared.config.Config.{Config}
 use Rattle.nor_save.specs.declared.refusal.Refusal.TheVariants.{Memory}
 use Rattle.nor_words.specs.Programmer.{IsConfigOf}
@@ -31,8 +32,23 @@ pub record IsReady (programmer : Programmer) (bus : BusState) : Type 0 where
   pub still : bus.stirred ≡ false
 
 -- The chip has these bytes, and the kept bits and the latch of these status bytes.
+pub record HasContent (content : Content) (chip : Chip) : Type 0 where
+  pub bytes : (a : ℕ) → chip.bytes a ≡ slice_index content.bytes.items a
+  pub kept1 : chip.kept1 ≡ slice_index content.status 0 / 4
+  pub kept2 : chip.kept2 ≡ slice_index content.status 1 % 128
+  pub latch : chip.latch ≡ (slice_index content.status 0 / 2 % 2 == 1)
+
+-- The bus is ready, and the chip as its files tell it.
 pub record Opens (programmer : Programmer) (content : Content) (bus : BusState) : Type 0 where
   pub ready : IsReady programmer bus
+  pub holds : HasContent content bus.chip
+
+-- The same before anything is allowed, while the bus keeps its power.
+pub record Holds (programmer : Programmer) (content : Content) (bus : BusState) : Type 0 where
+  pub config : IsConfigWith programmer.chip programmer.unique bus.chip.config
+  pub idle : bus.chip.busy ≡ 0
+  pub honest : bus.honest ≡ true
+  pub still : bus.stirred ≡ false
   pub bytes : (a : ℕ) → bus.chip.bytes a ≡ slice_index content.bytes.items a
   pub kept1 : bus.chip.kept1 ≡ slice_index content.status 0 / 4
   pub kept2 : bus.chip.kept2 ≡ slice_index content.status 1 % 128

@@ -21,6 +21,7 @@ use nor_words::{Change, Emulated, Keeping, Wanted};
 use std::rt::Files;
 
 /// Changes the chip, or rehearses that. A fault is one from before the session.
+#[tactic(auto, using(crate::proofs::Doing::does_change))]
 pub fn change_chip<'a, R: Files + AllocGlobal, B: Meter>(
     rt: &R,
     bus: &mut B,
@@ -138,7 +139,6 @@ pub fn restore_chip<'a, R: Files + AllocGlobal, B: Bus>(
 }
 
 // Makes a chip, which must have the name that is given, if one is, again what a journal says.
-#[tactic(auto, using(crate::proofs::Ready::restores_done, crate::proofs::Ready::restores_refused, crate::proofs::Ready::restores_unfound))]
 fn restore_named<B: Bus>(
     bus: &mut B,
     named: Option<&str>,

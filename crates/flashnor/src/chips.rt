@@ -1,7 +1,7 @@
 //! The emulated chip: what its files tell of it, and the bus to it.
 ghost use Rattle.std.specs.Prelude.{◌≡◌, ◌∷◌, [], IfOk, IfErr, IfSome, OnSome, Some, replicate, unwrap_or, vec_len};
 ghost use Rattle.nor_chip.specs.Sim.{fill_of, pace_of};
-ghost use Rattle.flashnor.specs.Chips.{FailsToOpen, IsConfigWith, Opens};
+ghost use Rattle.flashnor.specs.Chips.{FailsToOpen, Holds, IsConfigWith, Opens};
 ghost use Rattle.flashnor.specs.Files.{AreFrom, IsOpening};
 ghost use Rattle.flashnor.specs.Found.{part_of};
 
@@ -23,7 +23,6 @@ pub struct Content {
 }
 
 /// Reads the chip's files: FFh and clear status bytes where none is named or there.
-#[tactic(auto, using(crate::proofs::Ready::size_emulated))]
 pub fn read_content<'a, R: Files + AllocGlobal>(
     rt: &R,
     programmer: &Programmer<'a>,
@@ -31,16 +30,38 @@ pub fn read_content<'a, R: Files + AllocGlobal>(
     ensures ok { IfOk result (λ content. vec_len content.bytes ≡ (part_of programmer.now.chip).size) }
     ensures err { IfErr result (FailsToOpen programmer.now) }
 {
-    let (alloc, size) = (rt.alloc(), programmer.chip.config().size);
-    let bytes = match programmer.image {
-        Some(name) => image_in(alloc, fs::open(rt, name), name, size)?,
-        None => erased(alloc, size)?,
-    };
-    let status = match programmer.status {
-        Some(name) => status_in(alloc, fs::open(rt, name), name)?,
-        None => [0, 0],
-    };
+    let bytes = read_image(rt, programmer)?;
+    let status = read_status(rt, programmer)?;
     Ok(Content { bytes, status })
+}
+
+// The chip's bytes.
+#[tactic(auto, using(crate::proofs::Ready::size_emulated))]
+fn read_image<'a, R: Files + AllocGlobal>(
+    rt: &R,
+    programmer: &Programmer<'a>,
+) -> Result<Vec<u8>, Fault<'a>>
+    ensures len { IfOk result (λ bytes. vec_len bytes ≡ (part_of programmer.now.chip).size) }
+    ensures err { IfErr result (FailsToOpen programmer.now) }
+{
+    let size = programmer.chip.config().size;
+    match programmer.image {
+        Some(name) => Ok(image_in(rt.alloc(), fs::open(rt, name), name, size)?),
+        None => Ok(erased(rt.alloc(), size)?),
+    }
+}
+
+// The chip's status bytes.
+fn read_status<'a, R: Files + AllocGlobal>(
+    rt: &R,
+    programmer: &Programmer<'a>,
+) -> Result<[u8; 2], Fault<'a>>
+    ensures { IfErr result (FailsToOpen programmer.now) }
+{
+    match programmer.status {
+        Some(name) => Ok(status_in(rt.alloc(), fs::open(rt, name), name)?),
+        None => Ok([0, 0]),
+    }
 }
 
 // The bytes of a chip of this size in a file that was to be opened, or FFh where it is missing.
@@ -109,12 +130,23 @@ pub fn erased(alloc: Global, size: u32) -> Result<Vec<u8>, AllocError>
 /// A bus to the programmer's chip with this content: idle, allowed as many transactions as the programmer says, and
 /// answering BUSY to as many polls after each operation. A stop loses the power where the programmer says what that
 /// leaves.
-#[tactic(auto, using(crate::proofs::Ready::opens_start))]
 pub fn start(programmer: &Programmer<'_>, content: Content) -> SimBus
     requires { vec_len content.bytes ≡ (part_of programmer.now.chip).size }
     ensures opens { Opens programmer.now content (⟦<SimBus as Bus>⟧.state result) }
     ensures pace { pace_of result ≡ unwrap_or programmer.now.busy 0 }
     ensures fill { fill_of result ≡ programmer.now.power }
+{
+    let mut bus = hold(programmer, content);
+    bus.lose(programmer.power);
+    bus.allow(programmer.stop.unwrap_or(u64::MAX));
+    bus
+}
+
+// A bus to the programmer's chip with this content, which keeps its power and lets nothing through yet.
+fn hold(programmer: &Programmer<'_>, content: Content) -> SimBus
+    requires { vec_len content.bytes ≡ (part_of programmer.now.chip).size }
+    ensures held { Holds programmer.now content (⟦<SimBus as Bus>⟧.state result) }
+    ensures pace { pace_of result ≡ unwrap_or programmer.now.busy 0 }
 {
     let config = config_of(programmer);
     let delays = Delays {
@@ -122,14 +154,10 @@ pub fn start(programmer: &Programmer<'_>, content: Content) -> SimBus
         each: programmer.busy.unwrap_or(0),
     };
     let Content { bytes, status } = content;
-    let mut bus = SimBus::new(config, bytes, status, delays).unwrap();
-    bus.lose(programmer.power);
-    bus.allow(programmer.stop.unwrap_or(u64::MAX));
-    bus
+    SimBus::new(config, bytes, status, delays).unwrap()
 }
 
 // What never changes of the programmer's chip.
-#[tactic(auto, using(crate::proofs::Ready::with_unique))]
 fn config_of(programmer: &Programmer<'_>) -> Config
     ensures { IsConfigWith programmer.now.chip programmer.now.unique result }
 {

@@ -40,7 +40,7 @@ pub fn tell_size<B: Bus>(bus: &mut B, named: Option<&str>) -> Result<Answer, Ref
 }
 
 // The chip, which must have the name that is given, if one is.
-#[tactic(auto, using(crate::proofs::Ready::finds_ready, crate::proofs::Ready::refuses_ready))]
+#[tactic(auto, using(crate::proofs::Ready::finds_ready))]
 fn find<B: Bus>(bus: &mut B, named: Option<&str>) -> Result<Found, Refusal>
     ensures looks { Looks 65540 (B.state bus.old) (B.state bus.new) }
     ensures found { (programmer : Programmer) → IsReady programmer (B.state bus.old)
@@ -81,11 +81,10 @@ pub fn read_chip<'a, R: Files + AllocGlobal, B: Bus>(
 {
     let included = read_included(rt, regions)?;
     let mut out = FileVault::new(create(rt, file)?);
-    let outcome = match read_out(bus, included.as_ref(), read_name(named), &mut out) {
-        Ok(report) => Ok(Answer::Read(report)),
-        Err(refusal) => Err(refusal),
-    };
-    Ok(outcome)
+    match read_out(bus, included.as_ref(), read_name(named), &mut out) {
+        Ok(report) => Ok(Ok(Answer::Read(report))),
+        Err(refusal) => Ok(Err(refusal)),
+    }
 }
 
 /// Compares the chip with the image in the file of this name. A fault is one from before that.
@@ -101,9 +100,8 @@ pub fn verify_chip<'a, R: Files + AllocGlobal, B: Bus>(
 {
     let included = read_included(rt, regions)?;
     let image = read_file(rt, file, MOST_IMAGE_BYTES)?;
-    let outcome = match verify(bus, &image, included.as_ref(), read_name(named)) {
-        Ok(report) => Ok(Answer::Verified(report)),
-        Err(refusal) => Err(refusal),
-    };
-    Ok(outcome)
+    match verify(bus, &image, included.as_ref(), read_name(named)) {
+        Ok(report) => Ok(Ok(Answer::Verified(report))),
+        Err(refusal) => Ok(Err(refusal)),
+    }
 }

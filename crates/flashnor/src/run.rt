@@ -36,13 +36,13 @@ pub fn run_words<R: Files + AllocGlobal, O: Write, E: Write>(
             write!(output, "{text}")
         }
         Err(fault) => {
-            print_fault(errors, fault);
-            print_unwritten(errors, unwritten);
-            return 1;
+            let status = print_fault(errors, fault);
+            let _ = print_unwritten(errors, unwritten);
+            return status;
         }
     };
-    let status = if printed.is_ok() { 0 } else { 1 };
-    status.max(print_unwritten(errors, unwritten))
+    let written = print_unwritten(errors, unwritten);
+    if printed.is_ok() && written { 0 } else { 1 }
 }
 
 // How a run ended: what it came to, and the files that couldn't be written after its call.
@@ -55,7 +55,7 @@ struct Ended<'a> {
 impl<'a> Ended<'a> {
     // A run without a call.
     fn before(answer: Result<Answer, Fault<'a>>) -> Ended<'a>
-        ensures { result.answer ≡ answer }
+        ensures { result.answer ≡ answer.entry }
     {
         let unwritten = Unwritten {
             image: None,
@@ -83,7 +83,6 @@ fn run<'a, R: Files + AllocGlobal>(rt: &R, words: &'a [String]) -> Ended<'a>
 
 // Opens the programmer's chip, does the job's task, and writes the chip into its files where the task changed it. An
 // error is a fault from before the call.
-#[tactic(auto, using(crate::proofs::Ended::ends_called))]
 fn work_on_chip<'a, R: Files + AllocGlobal>(
     rt: &R,
     job: &ChipJob<'a>,
@@ -92,7 +91,9 @@ fn work_on_chip<'a, R: Files + AllocGlobal>(
     ensures err { IfErr result (FailsJob job.now) }
 {
     let content = read_content(rt, &job.programmer)?;
-    let Called { bus, answer, lost } = call_on(rt, start(&job.programmer, content), job)?;
+    let bus = start(&job.programmer, content);
+    let called = call_on(rt, bus, job)?;
+    let Called { bus, answer, lost } = called;
     let unwritten = write_after(rt, job, &bus, lost);
     let answer = told(answer);
     Ok(Ended { answer, unwritten })
