@@ -1,7 +1,7 @@
 -- What sessions, rehearsals and restores come to.
-use Rattle.std.proofs.Common.{◌≡◌, ◌∙◌, ◌≤◌, ◌⊎◌, ℕ, Bool, List, Option, true, false, arith, inl, inr, refl}
+use Rattle.std.proofs.Common.{◌≡◌, ◌≤◌, ◌⊎◌, ℕ, Bool, List, true, false, arith, inl, inr, refl}
 use Rattle.nor_chip.specs.Bus.{BusState}
-use Rattle.nor_chip.specs.Chip.{Chip, IsSame}
+use Rattle.nor_chip.specs.Chip.{IsSame}
 use Rattle.nor_driver.specs.Looks.{IsCalm, Looks}
 use Rattle.nor_journal.specs.Vault.{VaultState}
 use Rattle.nor_save.specs.Refusal.{number_of}

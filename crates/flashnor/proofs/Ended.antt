@@ -1,7 +1,6 @@
 -- How calls and jobs end a run.
-use Rattle.std.proofs.Common.{◌≡◌, ◌⊎◌, List, Option, None, Some, Result, Ok, Err, inl, inr, sym}
+use Rattle.std.proofs.Common.{◌≡◌, List, Option, None, Some, Result, Ok, Err, inl, inr}
 use Rattle.std.specs.Prelude.{IsSomeAnd}
-use Rattle.std.specs.Borrow.{Bor}
 use Rattle.nor_chip.specs.Bus.{BusState}
 use Rattle.nor_save.specs.declared.refusal.Refusal.{Refusal}
 use Rattle.nor_words.specs.Text.{Text}
@@ -18,7 +17,7 @@ use Rattle.nor_words.specs.declared.job.Wanted.TheVariants as wanted
 use Rattle.nor_words.specs.declared.words.UsageFault.{UsageFault}
 use Rattle.flashnor.specs.Chips.{IsReady, Opens}
 use Rattle.flashnor.specs.Requests.{FailsToInclude}
-use Rattle.flashnor.specs.Run.{Does, EndsJob, FailsBefore, FailsJob, FailsToKeep, FailsToRead, IsAnswer, IsCalled, IsToldAs}
+use Rattle.flashnor.specs.Run.{Does, EndsJob, FailsBefore, FailsJob, FailsToKeep, FailsToRead, IsAnswer, IsToldAs}
 use Rattle.flashnor.specs.declared.answers.Answer.{Answer}
 use Rattle.flashnor.specs.declared.answers.Answer.TheVariants as answer
 use Rattle.flashnor.specs.declared.chips.Content.{Content}

@@ -1,5 +1,5 @@
 -- A bus to the programmer's chip is one that promises are made for.
-use Rattle.std.proofs.Common.{◌≡◌, ◌∙◌, ◌<◌, ◌≤◌, ℕ, List, Option, None, Some, Result, Ok, Err, ap, arith, inl, inr, refl, replicate, subst, sym, true, unwrap_or}
+use Rattle.std.proofs.Common.{◌≡◌, ◌∙◌, ◌<◌, ℕ, List, Option, None, Some, Ok, Err, ap, inl, inr, refl, replicate, subst, sym, true}
 use Rattle.std.specs.Prelude.{if◌then◌else◌, is_none}
 use Rattle.std.specs.Borrow.{Bor}
 use Rattle.nor_chip.specs.declared.config.Config.{Config}
@@ -31,7 +31,7 @@ use Rattle.flashnor.specs.Changes.{HasGivenName, HasRestored, Passes, ProbeRefus
 use Rattle.flashnor.specs.declared.answers.Answer.TheVariants as answer
 use Rattle.flashnor.specs.Chips.{IsConfigWith, IsReady, Holds, Opens, allowance_of}
 use Rattle.flashnor.specs.declared.chips.Content.{Content}
-use Rattle.flashnor.specs.Found.{HasName, IsFound, part_of, wanted}
+use Rattle.flashnor.specs.Found.{IsFound, part_of, wanted}
 use Rattle.flashnor.specs.Readings.{FindRefuses}
 use Rattle.flashnor.proofs.Shown.{ok-same, shown-emulated}
 

@@ -1,10 +1,9 @@
 -- What a run came to.
-use Rattle.std.specs.Prelude.{◌≡◌, ◌⊎◌, ℕ, Bool, true, false, List, Option, None, Some, Result, Ok, Err, MatchResult, IsSomeAnd, ⊤}
+use Rattle.std.specs.Prelude.{◌≡◌, ◌⊎◌, ℕ, Bool, true, false, List, Option, Result, Ok, Err, IsSomeAnd, ⊤}
 use Rattle.std.specs.Borrow.{Bor}
 use Rattle.nor_chip.specs.Bus.{BusState}
-use Rattle.nor_driver.specs.Looks.{Looks}
 use Rattle.nor_journal.specs.Fault.{HasFault}
-use Rattle.nor_journal.specs.Text.{Content as Journal, IsContent, text}
+use Rattle.nor_journal.specs.Text.{Content as Journal, IsContent}
 use Rattle.nor_journal.specs.Vault.{VaultState, IsFresh}
 use Rattle.nor_layout.specs.declared.ranges.Span.{Span}
 use Rattle.nor_save.specs.declared.refusal.Refusal.{Refusal}
