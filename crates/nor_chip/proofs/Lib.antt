@@ -2,6 +2,7 @@ pub mod Aim
 pub mod Guarded
 pub mod GuardedPlaces
 pub mod LeastCodes
+pub mod Lines
 pub mod Page
 pub mod Round
 pub mod Sizes

@@ -1,5 +1,7 @@
 -- The bus that writes down what it carries out, as contracts see it.
-use Rattle.std.specs.Prelude.{◌≡◌, Bool, true, Result, OnErr}
+use Rattle.std.specs.Prelude.{◌≡◌, ◌++◌, ◌==◌, ℕ, Bool, true, false, List, [], Option, Result, OnOk, OnErr, length, codes, decimal, nat_lt, if◌then◌else◌}
+use Rattle.std.specs.Io.KnownBytes.{Appends}
+use Rattle.hex.specs.Hex.{encode_lower}
 use Rattle.nor_chip.specs.declared.trace.TraceBus.{TraceBus}
 use Rattle.nor_chip.specs.declared.bus.Stopped.{Stopped}
 
@@ -13,8 +15,20 @@ log_of traced = traced.log
 abbrev pub has_lost : {B L : Type 0} → TraceBus B L → Bool
 has_lost traced = traced.lost
 
--- Once a line is lost this stays so, and a transaction that the bus inside stops has no line.
-pub record Traces {B L : Type 0} (outcome : Result Unit Stopped) (old new : TraceBus B L) : Type 0 where
+-- what a line tells of the bytes that were taken in: their digits, or for more than three of them their number
+abbrev pub told_of : List ℕ → List ℕ
+told_of answer =
+    if length answer == 0 then []
+    else (if nat_lt 3 (length answer) then codes " > " ++ decimal (length answer) ++ codes " bytes" else codes " > " ++ encode_lower answer)
+
+-- the line of a transaction: the digits of the bytes sent, and what it tells of those taken in
+abbrev pub line_of : List ℕ → List ℕ → List ℕ
+line_of out answer = encode_lower out ++ told_of answer ++ codes "\n"
+
+-- Once a line is lost this stays so; a transaction that the bus inside stops has no line, and any other has its own,
+-- as far as what the log holds is known.
+pub record Traces {B L : Type 0} (contents : L → Option (List ℕ)) (out answer : List ℕ) (outcome : Result Unit Stopped) (old new : TraceBus B L) : Type 0 where
   pub still_lost : has_lost old ≡ true → has_lost new ≡ true
   pub no_line : OnErr outcome (log_of new ≡ log_of old)
   pub none_lost : OnErr outcome (has_lost new ≡ has_lost old)
+  pub line : OnOk outcome (has_lost new ≡ false → Appends (contents (log_of old)) (contents (log_of new)) (line_of out answer))

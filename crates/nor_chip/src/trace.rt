@@ -1,7 +1,9 @@
 //! A bus that writes down what it carries out.
 ghost use Rattle.std.specs.Prelude.{◌≡◌, true, false, OnOk, OnErr};
+ghost use Rattle.std.specs.Io.KnownBytes.{Appends, Keeps};
+ghost use Rattle.hex.specs.Hex.{encode_lower};
 ghost use Rattle.nor_chip.specs.Bus.{Sends, Stops, Carries, Allows};
-ghost use Rattle.nor_chip.specs.Trace.{traced_by, has_lost, Traces};
+ghost use Rattle.nor_chip.specs.Trace.{traced_by, log_of, has_lost, line_of, Traces};
 
 use crate::{Bus, Meter, Stopped};
 
@@ -30,6 +32,7 @@ impl<B: Bus + Drop, L: Write + Drop> TraceBus<B, L> {
     /// A bus that traces this one into this log.
     pub fn new(bus: B, log: L) -> TraceBus<B, L>
         ensures state { ⟦<TraceBus<B, L> as Bus>⟧.state result ≡ B.state bus }
+        ensures log { log_of result ≡ log }
         ensures lost { has_lost result ≡ false }
     {
         TraceBus {
@@ -49,6 +52,7 @@ impl<B: Bus + Drop, L: Write + Drop> TraceBus<B, L> {
     /// Hands over to the log's own sink what the log holds back. What doesn't get there counts as lost.
     pub fn flush(&mut self)
         ensures state { ⟦<TraceBus<B, L> as Bus>⟧.state self.new ≡ ⟦<TraceBus<B, L> as Bus>⟧.state self.old }
+        ensures log { Keeps (L.contents (log_of self.old)) (L.contents (log_of self.new)) }
         ensures lost { has_lost self.old ≡ true → has_lost self.new ≡ true }
     {
         if self.log.flush().is_err() {
@@ -79,7 +83,7 @@ impl<B: Bus, L: Write> Bus for TraceBus<B, L> {
         ensures stops { (B.state (traced_by self.old)).honest ≡ true → OnErr result (Stops (B.state (traced_by self.old)) (B.state (traced_by self.new))) }
         ensures unread { (B.state (traced_by self.old)).honest ≡ true → OnErr result (reply.new ≡ reply.old) }
         ensures carries { (B.state (traced_by self.old)).honest ≡ true → OnOk result (Carries out.now reply.new (B.state (traced_by self.old)) (B.state (traced_by self.new))) }
-        ensures traces { Traces result self.old self.new }
+        ensures traces { Traces L.contents out.now reply.new result self.old self.new }
     {
         self.bus.transfer(out, reply)?;
         if write_line(&mut self.log, out, reply).is_err() {
@@ -92,13 +96,16 @@ impl<B: Bus, L: Write> Bus for TraceBus<B, L> {
 impl<B: Meter, L: Write> Meter for TraceBus<B, L> {
     fn allow(&mut self, n: u64)
         ensures allows { Allows n (B.state (traced_by self.old)) (B.state (traced_by self.new)) }
+        ensures log { log_of self.new ≡ log_of self.old }
         ensures lost { has_lost self.new ≡ has_lost self.old }
     {
         self.bus.allow(n);
     }
 }
 
-fn write_line<L: Write>(log: &mut L, out: &[u8], reply: &[u8]) -> io::Result<()> {
+fn write_line<L: Write>(log: &mut L, out: &[u8], reply: &[u8]) -> io::Result<()>
+    ensures { OnOk result (Appends (L.contents log.old) (L.contents log.new) (line_of out.now reply.now)) }
+{
     write_digits(log, out)?;
     if reply.len() > 3 {
         write!(log, " > {} bytes", reply.len())?;
@@ -109,7 +116,9 @@ fn write_line<L: Write>(log: &mut L, out: &[u8], reply: &[u8]) -> io::Result<()>
     log.write_all(b"\n")
 }
 
-fn write_digits<L: Write>(log: &mut L, bytes: &[u8]) -> io::Result<()> {
+fn write_digits<L: Write>(log: &mut L, bytes: &[u8]) -> io::Result<()>
+    ensures { OnOk result (Appends (L.contents log.old) (L.contents log.new) (encode_lower bytes.now)) }
+{
     let mut rest = bytes;
     while !rest.is_empty() {
         let (piece, later) = rest.split_at(rest.len().min(PIECE));

@@ -107,12 +107,14 @@ fn a_stopped_transaction_has_no_line(rt: HostRuntime) -> Result<(), Fail> {
 fn more_than_three_replies_are_told_by_their_number(rt: HostRuntime) -> Result<(), Fail> {
     let mut log = Vec::new(rt.alloc());
     let mut bus = TraceBus::new(erased(rt.alloc(), 9)?, &mut log);
-    for replies in [3, 4, 5, 6, 7] {
+    for replies in [3, 4, 5, 6, 7, 65_543] {
         let mut reply = vec![in rt.alloc(); 0x00; replies]?;
         bus.transfer(&[0x9F], &mut reply)?;
     }
+    assert!(rt; !bus.lost());
     let _ = bus.into_inner();
-    let expected = b"9f > fe1010\n9f > 4 bytes\n9f > 5 bytes\n9f > 6 bytes\n9f > 7 bytes\n";
+    let expected =
+        b"9f > fe1010\n9f > 4 bytes\n9f > 5 bytes\n9f > 6 bytes\n9f > 7 bytes\n9f > 65543 bytes\n";
     assert_eq!(rt; log.as_slice(), expected.as_slice());
     Ok(())
 }
@@ -164,6 +166,48 @@ fn a_lost_line_stops_nothing_and_is_told(rt: HostRuntime) -> Result<(), Fail> {
     let chip = bus.into_inner();
     assert_eq!(rt; chip.status(), [0x02, 0x00]);
     assert_eq!(rt; lines.as_slice(), b"06\n\n".as_slice());
+    Ok(())
+}
+
+// Whichever write of it fails, a line is lost exactly where it isn't whole.
+#[test]
+fn a_line_is_lost_exactly_where_it_is_not_whole(rt: HostRuntime) -> Result<(), Fail> {
+    let forms: [(&[u8], usize, &[u8]); 3] = [
+        (&[0x06], 0, b"06\n"),
+        (&[0x9F], 3, b"9f > fe1010\n"),
+        (&[0x9F], 4, b"9f > 4 bytes\n"),
+    ];
+    for (out, replies, whole) in forms {
+        for good in 0..8u8 {
+            let mut lines = Vec::new(rt.alloc());
+            let log = Failing {
+                lines: &mut lines,
+                good,
+            };
+            let mut bus = TraceBus::new(erased(rt.alloc(), 1)?, log);
+            let mut reply = vec![in rt.alloc(); 0x00; replies]?;
+            bus.transfer(out, &mut reply)?;
+            let lost = bus.lost();
+            let _ = bus.into_inner();
+            assert_eq!(rt; lost, lines.as_slice() != whole);
+            assert!(rt; lost || good > 1);
+            assert!(rt; !lost || good < 7);
+        }
+    }
+    Ok(())
+}
+
+#[test]
+fn a_flush_that_fails_nowhere_loses_nothing(rt: HostRuntime) -> Result<(), Fail> {
+    let mut lines = Vec::new(rt.alloc());
+    let log = BufWriter::new(rt.alloc(), &mut lines)?;
+    let mut bus = TraceBus::new(erased(rt.alloc(), 1)?, log);
+    bus.flush();
+    bus.transfer(&[0x06], &mut [])?;
+    bus.flush();
+    assert!(rt; !bus.lost());
+    let _ = bus.into_inner();
+    assert_eq!(rt; lines.as_slice(), b"06\n".as_slice());
     Ok(())
 }
 
