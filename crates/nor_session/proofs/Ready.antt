@@ -221,13 +221,14 @@ writes_few request opening status code kept old mid is = writes_few_by request.w
 
 pub bounded : (request : Request) (opening : Opening) (status : Status) (code : ℕ) (kept : Kept) (old mid new : BusState) (wanted : ℕ → ℕ) (verify : Bool) (work : Work) (sent : ℕ) → sent ≡ kept.scanned.reads → Ready request opening status code kept old mid
     → DoesChange (changes_of opening kept status code) wanted verify mid new work
-    → IsWithinBound (scanned_sectors request opening.found.size) (most_status_writes request.what request.unlock)
+    → IsWithinBound (scanned_sectors request opening.found.size) (most_status_writes request.what request.unlock) verify
     (record { found = opening.found; touched = kept.scanned.count; erases = work.erases; programs = work.programs; transactions = opening.transactions + sent + work.transactions })
 bounded request opening status code kept old mid new wanted verify work sent is_sent is does =
     let writes = writes_few request opening status code kept old mid is in
     let count = is.marks.count in let fewer = is.fewer in let reads = is.reads in
     let erases = does.fewer_erases in let programs = does.fewer_programs in let few = does.few in let least = does.least in
     let opened = is.few in let began = is.least in
+    let checks : (if verify then kept.scanned.count else 0) ≡ (if verify then touched_count (changes_of opening kept status code) else 0) = ap (λ (n : ℕ). if verify then n else 0) count in
     record {
       touched = omega arith;
       erases = omega arith;

@@ -68,7 +68,7 @@ under_leaves n most journal old mid new allows spends leaves within =
     }
 
 -- it ended
-pub under_ends : (n : ℕ) (journal : Content) (old mid new : BusState) (report : Report) → Allows n old mid → IsWithinBound (length journal.saved) 2 report
+pub under_ends : (n : ℕ) (journal : Content) (old mid new : BusState) (report : Report) → Allows n old mid → IsWithinBound (length journal.saved) 2 true report
     → (mid.honest ≡ true → mid.left ≡ new.left + report.transactions) → (IsModelled mid → (first : Chip) → CanGiveBack journal first mid → IsSame first new.chip)
     → ShowsRestore journal n old new true
 under_ends n journal old mid new report allows bounded counted back =

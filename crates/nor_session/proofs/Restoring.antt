@@ -204,7 +204,7 @@ sum_fits journal prepared old mid new work are does =
 
 pub restored_bounded : (journal : Content) (prepared : Prepared) (old mid new : BusState) (work : Work) (sent : ℕ) → AreChanged journal prepared old mid new
     → DoesChange prepared.changes (saved_byte journal) true mid new work → sent ≡ prepared.transactions + work.transactions
-    → IsWithinBound (length journal.saved) 2 (report_of prepared work sent)
+    → IsWithinBound (length journal.saved) 2 true (report_of prepared work sent)
 restored_bounded journal prepared old mid new work sent are does sum =
     let most = are.is.most in let least = are.is.least in let few = are.is.few in let count = are.is.count in
     let erases = does.fewer_erases in let programs = does.fewer_programs in let most_sent = does.few in let least_sent = does.least in

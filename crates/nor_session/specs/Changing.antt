@@ -32,7 +32,8 @@ pub record DoesChange (changes : Changes) (wanted : ℕ → ℕ) (verify : Bool)
   pub erases : work.erases ≡ fewest_erases changes.kinds (changes.size / 4096) (raised_in changes)
   pub fewer_erases : work.erases ≤ touched_count changes
   pub fewer_programs : work.programs ≤ 16 * touched_count changes
-  pub few : work.transactions ≤ 2 * touched_count changes + 65538 * (work.erases + work.programs + status_writes changes)
+  pub few : work.transactions
+      ≤ touched_count changes + (if verify then touched_count changes else 0) + 65538 * (work.erases + work.programs + status_writes changes)
   pub least : 3 * (work.erases + work.programs + status_writes changes) + (if verify then touched_count changes else 0) ≤ work.transactions
   pub sent : old.honest ≡ true → old.left ≡ new.left + work.transactions
   pub done : old.honest ≡ true → CanApply changes wanted old.chip → HasApplied changes wanted old new

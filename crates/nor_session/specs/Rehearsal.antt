@@ -26,13 +26,14 @@ pub record KeepsNature (old new : BusState) : Type 0 where
   pub honest : new.honest ≡ old.honest
   pub steady : new.steady ≡ old.steady
 
--- On every bus: what a rehearsal counts, under so many stops.
+-- On every bus: what a rehearsal counts, under so many stops. Without a stop the session ended.
 pub record IsRehearsal (stops : ℕ) (vault : VaultState) (rehearsal : Rehearsal) : Type 0 where
   pub seal : rehearsal.sealed ≡ vault.sealed
   pub ended : rehearsal.ended ≡ true → rehearsal.sealed ≡ true
   pub some : rehearsal.sealed ≡ true → 1 ≤ rehearsal.restores
   pub most : rehearsal.restores ≤ max 1 stops
   pub none : rehearsal.sealed ≡ false → rehearsal.restores ≡ 0
+  pub whole : stops ≡ 0 → rehearsal.ended ≡ true
 
 -- the transactions that a session needs at least: those of the opening and the scan, and three for each erase and each
 -- program

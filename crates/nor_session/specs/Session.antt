@@ -28,8 +28,8 @@ use Rattle.nor_session.specs.Verdict.{IsVerdict, IsAccepted}
 
 -- ---- on every bus
 
--- The refusals that a session gives. It blames the vault only where that failed, and after a refusal from 1 to 11 the
--- vault isn't sealed.
+-- The refusals that a session gives. It blames the vault only where that failed, after a refusal from 1 to 11 the vault
+-- isn't sealed, and after one from 1 to 8, which the opening judges, it is as it was.
 abbrev pub IsOwnRefusal : VaultState → VaultState → Refusal → Type 0
 IsOwnRefusal old new Vault = Rose old new
 IsOwnRefusal old new (BadJournal fault) = ⊥
@@ -43,6 +43,7 @@ IsOwnRefusal old new _ = Unit {0}
 pub record Answers (old new : VaultState) (refusal : Refusal) : Type 0 where
   pub own : IsOwnRefusal old new refusal
   pub unsealed : number_of refusal ≤ 11 → new.sealed ≡ false
+  pub unused : number_of refusal ≤ 8 → new ≡ old
 
 -- how often a request may write the status: for a range once, else where protection may be lifted once for that and
 -- once to give it back
@@ -51,18 +52,21 @@ most_status_writes (WpRange start len) unlock = 1
 most_status_writes _ unlock = if unlock then 2 else 0
 
 -- What a report may count, where so many sectors are scanned and the status is written at most so often. The opening
--- takes four transactions or more, an operation three or more (write enable, the command, a poll).
-pub record IsWithinBound (scanned writes : ℕ) (report : Report) : Type 0 where
+-- takes four transactions or more, an operation three or more (write enable, the command, a poll); and where it is
+-- asked for, each touched sector is read back.
+pub record IsWithinBound (scanned writes : ℕ) (verify : Bool) (report : Report) : Type 0 where
   pub touched : report.touched ≤ scanned
   pub erases : report.erases ≤ scanned
   pub programs : report.programs ≤ 16 * scanned
-  pub few : report.transactions ≤ most_looked scanned + 2 * report.touched + 65538 * (report.erases + report.programs + writes)
-  pub least : 4 + scanned + 3 * (report.erases + report.programs) ≤ report.transactions
+  pub few : report.transactions
+      ≤ most_looked scanned + report.touched + (if verify then report.touched else 0) + 65538 * (report.erases + report.programs + writes)
+  pub least : 4 + scanned + (if verify then report.touched else 0) + 3 * (report.erases + report.programs) ≤ report.transactions
 
 -- The session ended: the vault is sealed, and the report is within its bound.
 pub record Ends (request : Request) (vault : VaultState) (report : Report) : Type 0 where
   pub sealed : vault.sealed ≡ true
-  pub bounded : IsWithinBound (scanned_sectors request report.found.size) (most_status_writes request.what request.unlock) report
+  pub bounded :
+    IsWithinBound (scanned_sectors request report.found.size) (most_status_writes request.what request.unlock) request.verify report
 
 -- until the vault is sealed it only looks, as far as the opening and the scan of the largest chip
 abbrev pub LooksUnsealed : BusState → BusState → VaultState → Type 0

@@ -113,6 +113,7 @@ fn stopped_session<B: Meter>(
 ) -> Result<bool, Refusal>
     requires { IsFresh (held_by vault.old) }
     ensures leaves { LeavesSession request.now image.old (B.state bus.old) (B.state bus.new) (held_by vault.new) }
+    ensures whole { length stops.now ≡ 0 → IfOk result (λ ended. ended ≡ true) }
     ensures shows { IfOk result
         (ShowsSession request.now image.old (first_allowance stops.now) (B.state bus.old) (held_by vault.new)) }
     ensures refuses { IfErr result

@@ -21,7 +21,7 @@ pub fn restore<B: Bus>(bus: &mut B, journal: &Journal<'_>) -> Result<Report, Ref
     ensures spends { Spends (most_of (length journal.now.saved)) (B.state bus.old) (B.state bus.new) }
     ensures answers { IfErr result IsRestoreRefusal }
     ensures looks { LooksUnlessBegun (B.state bus.old) (B.state bus.new) result }
-    ensures bounded { IfOk result (IsWithinBound (length journal.now.saved) 2) }
+    ensures bounded { IfOk result (IsWithinBound (length journal.now.saved) 2 true) }
 
     // On an honest bus.
     ensures gives_up { StaysUnlessBegun (B.state bus.old) (B.state bus.new) result }
