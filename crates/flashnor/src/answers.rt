@@ -1,7 +1,9 @@
 //! What a job comes to.
 
+use nor_chip::Offered;
 use nor_probe::Found;
-use nor_session::Rehearsal;
+use nor_read::Protection;
+use nor_session::{Rehearsal, Report};
 
 /// What a job came to.
 #[derive(Drop)]
@@ -12,6 +14,16 @@ pub enum Answer {
     Found(Found),
     /// Its size in bytes.
     Size(u32),
-    /// A write was rehearsed, and the chip given back.
+    /// It was read into a file.
+    Read(Report),
+    /// Its bytes are those of a file.
+    Verified(Report),
+    /// It was changed, or given back from a journal.
+    Done(Report),
+    /// A change was rehearsed, and the chip given back.
     Rehearsed(Rehearsal),
+    /// What protects it.
+    Protection(Protection),
+    /// The ranges of it that can be protected.
+    Ranges(Offered),
 }

@@ -1,22 +1,30 @@
 //! What the program prints: each message is one line.
-ghost use Rattle.std.specs.Prelude.{◌≡◌};
+ghost use Rattle.std.specs.Prelude.{◌≡◌, ◌≤◌};
 
 use crate::answers::Answer;
-use crate::words::UsageFault;
-use nor_probe::{ChipName, Found, ProbeFault, chips};
-use nor_session::{Refusal, Rehearsal};
+use crate::chips::Unwritten;
+use nor_chip::Offered;
+use nor_layout::LayoutFault;
+use nor_probe::{ChipName, Found, chips};
+use nor_read::Protection;
+use nor_session::{Refusal, Rehearsal, Report};
+use nor_words::UsageFault;
 use std::alloc::AllocError;
-use std::io::Write;
+use std::io::{ErrorKind, Write};
 use std::{fmt, io};
 use thiserror::Error;
 
 /// What went wrong with a file.
 #[derive(Clone, Copy, Debug, PartialEq, Eq)]
 pub enum FileFault {
-    /// 1: it can't be read.
+    /// 1: it can't be read, or is a layout's and too long for one.
     Read,
-    /// 3: it is a chip's, and has another length than the chip.
+    /// 2: it can't be made or written, or it is a trace's and lost a line.
+    Write,
+    /// 3: it is a chip's and has another length than the chip, or it is that of the status and hasn't two bytes.
     Length,
+    /// 4: it is to be a journal's, and is there already.
+    Exists,
 }
 
 impl FileFault {
@@ -28,7 +36,9 @@ impl FileFault {
     {
         match self {
             FileFault::Read => 1,
+            FileFault::Write => 2,
             FileFault::Length => 3,
+            FileFault::Exists => 4,
         }
     }
 }
@@ -38,12 +48,28 @@ impl FileFault {
 pub enum Fault<'a> {
     #[error("{0}")]
     Usage(UsageFault),
+    /// The words aren't text, so there is nothing to parse. It has the number of words that the parser refuses.
+    #[error("error: invalid UTF-8 was detected in one or more arguments\n\nUsage fault 1.")]
+    NoText,
+    /// A layout, or the names of its regions, can't be used.
+    #[error("Layout fault {}{}.", .0.number(), Place(.0.line()))]
+    Layout(LayoutFault),
     /// The file has this name.
     #[error("File fault {}: {name}.", .fault.number())]
     File { fault: FileFault, name: &'a str },
     /// A call refused; or memory ran out while files were read, which is told the same way.
     #[error("Error {}: {}.", .0.number(), Reason(*.0))]
     Refused(Refusal),
+}
+
+impl Fault<'_> {
+    /// The fault of words that can't be collected.
+    pub fn of_words(error: &io::Error) -> Fault<'static> {
+        match error.kind() {
+            ErrorKind::OutOfMemory => Fault::Usage(UsageFault::Memory),
+            _ => Fault::NoText,
+        }
+    }
 }
 
 impl From<UsageFault> for Fault<'_> {
@@ -53,6 +79,16 @@ impl From<UsageFault> for Fault<'_> {
 
     fn from(fault: UsageFault) -> Self {
         Fault::Usage(fault)
+    }
+}
+
+impl From<LayoutFault> for Fault<'_> {
+    ghost use Rattle.flashnor.specs.declared.messages.Fault.TheVariants.{Layout};
+
+    ghost from_gives = { λ layout fault. fault ≡ Layout layout };
+
+    fn from(fault: LayoutFault) -> Self {
+        Fault::Layout(fault)
     }
 }
 
@@ -67,17 +103,6 @@ impl From<AllocError> for Fault<'_> {
     }
 }
 
-impl From<ProbeFault> for Fault<'_> {
-    ghost use Rattle.flashnor.specs.declared.messages.Fault.TheVariants.{Refused};
-    ghost use Rattle.nor_save.specs.Refusal.{of_probe};
-
-    ghost from_gives = { λ found fault. fault ≡ Refused (of_probe found) };
-
-    fn from(fault: ProbeFault) -> Self {
-        Fault::Refused(Refusal::from(fault))
-    }
-}
-
 impl From<Refusal> for Fault<'_> {
     ghost use Rattle.flashnor.specs.declared.messages.Fault.TheVariants.{Refused};
 
@@ -85,6 +110,19 @@ impl From<Refusal> for Fault<'_> {
 
     fn from(refusal: Refusal) -> Self {
         Fault::Refused(refusal)
+    }
+}
+
+// Where a layout's fault is, if it is in one line.
+#[derive(Drop)]
+struct Place(Option<usize>);
+
+impl fmt::Display for Place {
+    fn fmt<W: fmt::Write>(&self, f: &mut fmt::Formatter<W>) -> fmt::Result {
+        match self.0 {
+            Some(line) => write!(f, " at line {line}"),
+            None => Ok(()),
+        }
     }
 }
 
@@ -135,12 +173,17 @@ impl fmt::Display for Digits {
 }
 
 /// Prints what a job came to.
-pub fn print_answer<W: Write>(output: &mut W, answer: &Answer) -> io::Result<()> {
+pub fn print_answer<W: Write>(output: &mut W, answer: Answer) -> io::Result<()> {
     match answer {
         Answer::Chips => print_chips(output)?,
-        Answer::Found(found) => print_found(output, found)?,
+        Answer::Found(found) => print_found(output, &found)?,
         Answer::Size(size) => writeln!(output, "{size}")?,
-        Answer::Rehearsed(rehearsal) => print_rehearsal(output, rehearsal)?,
+        Answer::Read(report) => print_read(output, &report)?,
+        Answer::Verified(report) => print_verified(output, &report)?,
+        Answer::Done(report) => print_done(output, &report)?,
+        Answer::Rehearsed(rehearsal) => print_rehearsal(output, &rehearsal)?,
+        Answer::Protection(protection) => print_protection(output, &protection)?,
+        Answer::Ranges(ranges) => print_ranges(output, ranges)?,
     }
     output.flush()
 }
@@ -159,6 +202,25 @@ fn print_found<W: Write>(output: &mut W, found: &Found) -> io::Result<()> {
     writeln!(output, "Found {name} ({id}), {size} bytes.")
 }
 
+fn print_read<W: Write>(output: &mut W, report: &Report) -> io::Result<()> {
+    print_found(output, &report.found)?;
+    writeln!(output, "Read {} bytes.", report.found.size)
+}
+
+fn print_verified<W: Write>(output: &mut W, report: &Report) -> io::Result<()> {
+    print_found(output, &report.found)?;
+    writeln!(output, "Verified.")
+}
+
+fn print_done<W: Write>(output: &mut W, report: &Report) -> io::Result<()> {
+    print_found(output, &report.found)?;
+    writeln!(
+        output,
+        "Done: touched {}, erases {}, programs {}, transactions {}.",
+        report.touched, report.erases, report.programs, report.transactions
+    )
+}
+
 fn print_rehearsal<W: Write>(output: &mut W, rehearsal: &Rehearsal) -> io::Result<()> {
     let how = if rehearsal.ended { "ended" } else { "stopped" };
     let restores = rehearsal.restores;
@@ -167,10 +229,44 @@ fn print_rehearsal<W: Write>(output: &mut W, rehearsal: &Rehearsal) -> io::Resul
     writeln!(output, "Chip as before.")
 }
 
+fn print_protection<W: Write>(output: &mut W, protection: &Protection) -> io::Result<()> {
+    match protection.range {
+        Some((start, len)) => writeln!(output, "Range: {start:#08x},{len:#08x}")?,
+        None => writeln!(output, "Range: undefined")?,
+    }
+    let mode = if protection.locked { "locked" } else { "open" };
+    writeln!(output, "Mode: {mode}")
+}
+
+fn print_ranges<W: Write>(output: &mut W, ranges: Offered) -> io::Result<()> {
+    for (start, len) in ranges {
+        writeln!(output, "{start:#08x},{len:#08x}")?;
+    }
+    Ok(())
+}
+
 /// Prints what ends a run, and answers the status that it ends with. A line that can't be printed is lost.
 pub fn print_fault<W: Write>(errors: &mut W, fault: Fault<'_>) -> u8
     ensures { result ≡ 1 }
 {
     let _ = writeln!(errors, "{fault}");
     1
+}
+
+/// Prints a line for each file that couldn't be written after a call, and answers the status that the run ends with
+/// for their sake. A line that can't be printed is lost.
+pub fn print_unwritten<W: Write>(errors: &mut W, unwritten: Unwritten<'_>) -> u8
+    ensures { result ≤ 1 }
+{
+    let Unwritten {
+        image,
+        status,
+        trace,
+    } = unwritten;
+    let mut worst = 0;
+    for name in [image, status, trace].into_iter().flatten() {
+        let fault = FileFault::Write;
+        worst = print_fault(errors, Fault::File { fault, name });
+    }
+    worst
 }

@@ -1,0 +1,21 @@
+//! What the words of flashnor's command line ask for.
+//!
+//! `request_of` reads them: `clap` takes the words apart, and what they give each option is a job or the first fault
+//! that the options have. Nothing is opened here, so the job tells files by the names that were given.
+#![tactic(auto)]
+
+mod given;
+mod job;
+mod numbers;
+mod options;
+mod programmer;
+mod settings;
+mod stops;
+#[cfg(test)]
+mod tests;
+mod words;
+
+pub use job::{Change, ChipJob, Job, Keeping, Regions, Task, Wanted};
+pub use programmer::{Emulated, Programmer};
+pub use stops::MOST_STOPS;
+pub use words::{UsageFault, request_of};

@@ -1,0 +1,88 @@
+//! The text of the option `-p`.
+ghost use Rattle.std.specs.Prelude.{◌≡◌};
+
+use crate::numbers::{read_byte, read_number, read_polls, read_unique};
+use crate::settings::{are_settings, value_of};
+use nor_chip::Config;
+
+/// A chip that the program emulates.
+#[derive(Clone, Copy, Debug, PartialEq, Eq)]
+pub enum Emulated {
+    /// 64 KiB, known by its SFDP alone.
+    Tiny64,
+    /// 8 MiB.
+    W25q64fv,
+    /// 16 MiB.
+    W25q128fv,
+}
+
+impl Emulated {
+    ghost use Rattle.nor_words.specs.Programmer.{chip_named, IsConfigOf};
+
+    /// The chip of this name.
+    pub fn named(name: &str) -> Option<Emulated>
+        ensures { result ≡ chip_named name.now }
+    {
+        match name {
+            "TINY64" => Some(Emulated::Tiny64),
+            "W25Q64FV" => Some(Emulated::W25q64fv),
+            "W25Q128FV" => Some(Emulated::W25q128fv),
+            _ => None,
+        }
+    }
+
+    /// What never changes of the chip.
+    pub fn config(self) -> Config
+        ensures { IsConfigOf self result }
+    {
+        match self {
+            Emulated::Tiny64 => Config::tiny64(),
+            Emulated::W25q64fv => Config::w25q64fv(),
+            Emulated::W25q128fv => Config::w25q128fv(),
+        }
+    }
+}
+
+/// The programmer that `-p` names: `dummy:` and then settings `key=value`, separated by commas, in any order and
+/// each at most once.
+#[derive(Clone, Copy, Debug, PartialEq, Eq)]
+pub struct Programmer<'a> {
+    /// `emulate=NAME`, which must be there: the chip.
+    pub chip: Emulated,
+    /// `image=FILE`: the file of the chip's bytes.
+    pub image: Option<&'a str>,
+    /// `status=FILE`: the file of its two status bytes.
+    pub status: Option<&'a str>,
+    /// `trace=FILE`: the file that gets a line for each transaction.
+    pub trace: Option<&'a str>,
+    /// `stop=N`: how many transactions are allowed.
+    pub stop: Option<u64>,
+    /// `unique=` and 16 hexadecimal digits: the chip's own number.
+    pub unique: Option<[u8; 8]>,
+    /// `busy=N`: how many polls answer BUSY after each operation.
+    pub busy: Option<u16>,
+    /// `power=HH`: a stop is a loss of power, and leaves this byte where something ran.
+    pub power: Option<u8>,
+}
+
+impl<'a> Programmer<'a> {
+    /// Reads the text. A setting goes on to the next comma, and its key to the first `=`. `None` where the text is no
+    /// programmer's.
+    pub fn read(text: &'a str) -> Option<Programmer<'a>> {
+        let listed = text.strip_prefix("dummy:")?;
+        if !are_settings(listed) {
+            return None;
+        }
+        let chip = Emulated::named(value_of(listed, "emulate")?)?;
+        Some(Programmer {
+            chip,
+            image: value_of(listed, "image"),
+            status: value_of(listed, "status"),
+            trace: value_of(listed, "trace"),
+            stop: value_of(listed, "stop").and_then(read_number),
+            unique: value_of(listed, "unique").and_then(read_unique),
+            busy: value_of(listed, "busy").and_then(read_polls),
+            power: value_of(listed, "power").and_then(read_byte),
+        })
+    }
+}

@@ -1,0 +1,3 @@
+//! Words and their jobs.
+
+mod first;
