@@ -3,6 +3,7 @@
 mod erasing;
 mod failing;
 mod faults;
+mod journals;
 mod kept;
 mod layouts;
 mod power;

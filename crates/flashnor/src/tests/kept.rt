@@ -108,7 +108,7 @@ impl Kept {
             return Err(failed());
         };
         let (over, behind) = piece.split_at(piece.len().min(bytes.len().saturating_sub(at)));
-        for (place, byte) in bytes.iter_mut().skip(at).zip(over) {
+        for (byte, place) in over.iter().zip(bytes.iter_mut().skip(at)) {
             *place = *byte;
         }
         bytes.extend_from_slice(behind)?;
