@@ -132,10 +132,8 @@ fn holds(
     len: usize,
     spans: &[(usize, usize, u8)],
 ) -> Result<(), Fail> {
-    let bytes = shelf.bytes(name)?;
     let wanted = filled(shelf.alloc(), len, spans)?;
-    assert_eq!(rt; bytes.len(), len, "in {name}");
-    assert!(rt; bytes.as_slice() == wanted.as_slice(), "in {name}");
+    assert!(rt; shelf.reads(name, &wanted)?, "in {name}");
     Ok(())
 }
 

@@ -79,6 +79,19 @@ fn an_idle_chip_keeps_its_bytes(rt: HostRuntime) -> Result<(), Fail> {
     Ok(())
 }
 
+// A chip that keeps its power keeps its latch too: the status file has it, and the next run starts with it.
+#[test]
+fn a_chip_with_power_keeps_its_latch(rt: HostRuntime) -> Result<(), Fail> {
+    let shelf = small(&rt)?;
+    let line = "-p dummy:emulate=TINY64,image=chip,status=status,stop=24 -w new --journal journal";
+    fails(&rt, &shelf, line, "Error 12: stopped.")?;
+    assert_eq!(rt; shelf.bytes("status")?.as_slice(), [0x02, 0x00].as_slice());
+    let line = "-p dummy:emulate=TINY64,image=chip,status=status,trace=trace --restore journal";
+    changes(&rt, &shelf, line, TINY, [0, 0, 0, 8])?;
+    traces(&rt, &shelf, "trace", 8, 1, &["05 > 02"])?;
+    holds(&rt, &shelf, "chip", 65_536, &[(0, 0, 0x00)])
+}
+
 // A write of 00h to 7E0000h, which status 04h guards. The 2,054th transaction begins the status write that lifts
 // protection, and the power is lost while it runs: an even fill leaves the old bits, an odd one the new ones.
 fn loses_power<R: AllocGlobal + Abort>(
@@ -131,19 +144,25 @@ fn a_status_write_may_have_ended(rt: HostRuntime) -> Result<(), Fail> {
     loses_power(&rt, "01", 0x00, &sent)
 }
 
-// The same two as rehearsals: the restore that ends is the first.
-#[test]
-fn status_writes_without_power_are_rehearsed(rt: HostRuntime) -> Result<(), Fail> {
+// The same two as rehearsals: the restore that ends is the first. It takes five transactions or nine.
+fn rehearses<R: AllocGlobal + Abort>(rt: &R, fill: &str, count: usize) -> Result<(), Fail> {
     let shelf = Shelf::new(rt.alloc())
         .with_bytes("status", &[0x04, 0x00])?
         .with("new", 8_388_608, &[(0x7E0000, 0x7E0000, 0x00)])?;
-    for (fill, count) in [("00", 2059), ("01", 2063)] {
-        let line = format!(in rt.alloc();
-            "-p dummy:emulate=W25Q64FV,status=status,busy=1,power={fill},trace=trace -w new --unlock --rehearse 2054"
-        )?;
-        let told = "Rehearsal: session stopped.\nRestores: 1.\nChip as before.\n";
-        prints(&rt, &shelf, line.as_str(), told)?;
-        traces(&rt, &shelf, "trace", count, 2053, &["06", "010000"])?;
-    }
-    Ok(())
+    let line = format!(in rt.alloc();
+        "-p dummy:emulate=W25Q64FV,status=status,busy=1,power={fill},trace=trace -w new --unlock --rehearse 2054"
+    )?;
+    let told = "Rehearsal: session stopped.\nRestores: 1.\nChip as before.\n";
+    prints(rt, &shelf, line.as_str(), told)?;
+    traces(rt, &shelf, "trace", count, 2053, &["06", "010000"])
+}
+
+#[test]
+fn a_status_write_that_did_not_begin_is_rehearsed(rt: HostRuntime) -> Result<(), Fail> {
+    rehearses(&rt, "00", 2059)
+}
+
+#[test]
+fn a_status_write_that_ended_is_rehearsed(rt: HostRuntime) -> Result<(), Fail> {
+    rehearses(&rt, "01", 2063)
 }

@@ -83,17 +83,15 @@ fn a_chip_without_a_file_is_erased(rt: HostRuntime) -> Result<(), Fail> {
 #[test]
 fn a_write_of_64_megabits_is_rehearsed(rt: HostRuntime) -> Result<(), Fail> {
     let shelf = Shelf::new(rt.alloc()).with("new", 8_388_608, &[(0, 0, 0x01)])?;
-    all_print(
-        &rt,
-        &shelf,
-        &[
-            (
-                "-p dummy:emulate=W25Q64FV -c W25Q64FV -w new --rehearse 2055",
-                STOPPED,
-            ),
-            ("-p dummy:emulate=W25Q64FV -w new --rehearse 2051", UNSEALED),
-        ],
-    )
+    let line = "-p dummy:emulate=W25Q64FV -c W25Q64FV -w new --rehearse 2055";
+    prints(&rt, &shelf, line, STOPPED)
+}
+
+#[test]
+fn a_stop_in_the_scan_of_64_megabits_is_rehearsed(rt: HostRuntime) -> Result<(), Fail> {
+    let shelf = Shelf::new(rt.alloc()).with("new", 8_388_608, &[(0, 0, 0x01)])?;
+    let line = "-p dummy:emulate=W25Q64FV -w new --rehearse 2051";
+    prints(&rt, &shelf, line, UNSEALED)
 }
 
 #[test]

@@ -57,6 +57,14 @@ impl Shelf {
         }
     }
 
+    /// The file of this name has these bytes.
+    pub fn reads(&self, name: &str, wanted: &[u8]) -> Result<bool, Fail> {
+        Ok(match &self.find(name)?.try_borrow()?.bytes {
+            Some(bytes) => bytes.as_slice() == wanted,
+            None => false,
+        })
+    }
+
     /// The file of this name is there.
     pub fn has(&self, name: &str) -> Result<bool, Fail> {
         Ok(self.find(name)?.try_borrow()?.bytes.is_some())
@@ -92,9 +100,10 @@ pub fn filled(
 ) -> Result<Vec<u8>, AllocError> {
     let mut bytes = vec![in alloc; 0xFF; len]?;
     for (first, last, byte) in spans {
-        let count = last.saturating_sub(*first).saturating_add(1);
-        for place in bytes.iter_mut().skip(*first).take(count) {
-            *place = *byte;
+        for place in *first..=*last {
+            if let Some(slot) = bytes.get_mut(place) {
+                *slot = *byte;
+            }
         }
     }
     Ok(bytes)

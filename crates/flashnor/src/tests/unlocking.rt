@@ -11,18 +11,21 @@ const SIZE: usize = 8_388_608;
 // BP 001, status 04h: the last 64th, from 7E0000h on, is guarded.
 const WRITE: &str = "-p dummy:emulate=W25Q64FV,image=chip,status=status,trace=trace --journal journal -w";
 
-// Files of an erased chip, which aren't there yet, and images that differ from it in one byte each.
-fn images(alloc: Global, status: [u8; 2]) -> Result<Shelf, Fail> {
+// The places on both sides of that border.
+const FREE: usize = 0x7DFFFF;
+const GUARDED: usize = 0x7E0000;
+
+// An erased chip, whose file isn't there yet, and an image that has 00h at one place.
+fn shelf_of(alloc: Global, status: [u8; 2], at: usize) -> Result<Shelf, Fail> {
     Shelf::new(alloc)
         .with_bytes("status", &status)?
-        .with("free", SIZE, &[(0x7DFFFF, 0x7DFFFF, 0x00)])?
-        .with("guarded", SIZE, &[(0x7E0000, 0x7E0000, 0x00)])
+        .with("new", SIZE, &[(at, at, 0x00)])
 }
 
 #[test]
 fn a_free_sector_beside_guarded_ones_is_written(rt: HostRuntime) -> Result<(), Fail> {
-    let shelf = images(rt.alloc(), [0x04, 0x00])?;
-    let line = format!(in rt.alloc(); "{WRITE} free")?;
+    let shelf = shelf_of(rt.alloc(), [0x04, 0x00], FREE)?;
+    let line = format!(in rt.alloc(); "{WRITE} new")?;
     changes(&rt, &shelf, line.as_str(), LARGE, [1, 0, 1, 2057])?;
     let sent = ["05 > 04", "9f > ef4017", "35 > 00", "4b00000000 > 8 bytes"];
     traces(&rt, &shelf, "trace", 2057, 1, &sent)?;
@@ -43,30 +46,36 @@ fn a_free_sector_beside_guarded_ones_is_written(rt: HostRuntime) -> Result<(), F
 // The trace ends with the scan: nothing else was sent.
 #[test]
 fn a_guarded_sector_is_refused(rt: HostRuntime) -> Result<(), Fail> {
-    let shelf = images(rt.alloc(), [0x04, 0x00])?;
-    let line = format!(in rt.alloc(); "{WRITE} guarded")?;
+    let shelf = shelf_of(rt.alloc(), [0x04, 0x00], GUARDED)?;
+    let line = format!(in rt.alloc(); "{WRITE} new")?;
     fails(&rt, &shelf, line.as_str(), "Error 10: protected at 0x7e0000.")?;
     traces(&rt, &shelf, "trace", 2052, 2052, &["037ff000 > 4096 bytes"])?;
     holds(&rt, &shelf, "chip", SIZE, &[])
 }
 
-// With CMP the other places are guarded: what was refused is written, and what was written refused.
+// With CMP the other places are guarded: what was written is refused.
 #[test]
 fn the_complement_is_guarded(rt: HostRuntime) -> Result<(), Fail> {
-    let shelf = images(rt.alloc(), [0x04, 0x40])?;
-    let line = format!(in rt.alloc(); "{WRITE} free")?;
+    let shelf = shelf_of(rt.alloc(), [0x04, 0x40], FREE)?;
+    let line = format!(in rt.alloc(); "{WRITE} new")?;
     fails(&rt, &shelf, line.as_str(), "Error 10: protected at 0x7df000.")?;
-    holds(&rt, &shelf, "chip", SIZE, &[])?;
-    let line = "-p dummy:emulate=W25Q64FV,image=chip,status=status --journal other -w guarded";
-    changes(&rt, &shelf, line, LARGE, [1, 0, 1, 2057])?;
+    holds(&rt, &shelf, "chip", SIZE, &[])
+}
+
+// And what was refused is written.
+#[test]
+fn the_complement_of_free_places_is_free(rt: HostRuntime) -> Result<(), Fail> {
+    let shelf = shelf_of(rt.alloc(), [0x04, 0x40], GUARDED)?;
+    let line = format!(in rt.alloc(); "{WRITE} new")?;
+    changes(&rt, &shelf, line.as_str(), LARGE, [1, 0, 1, 2057])?;
     holds(&rt, &shelf, "chip", SIZE, &[(0x7E0000, 0x7E0000, 0x00)])
 }
 
 // Protection is lifted, the byte programmed, and protection given back before the check.
 #[test]
 fn protection_is_lifted_and_given_back(rt: HostRuntime) -> Result<(), Fail> {
-    let shelf = images(rt.alloc(), [0x04, 0x00])?;
-    let line = format!(in rt.alloc(); "{WRITE} guarded --unlock")?;
+    let shelf = shelf_of(rt.alloc(), [0x04, 0x00], GUARDED)?;
+    let line = format!(in rt.alloc(); "{WRITE} new --unlock")?;
     changes(&rt, &shelf, line.as_str(), LARGE, [1, 0, 1, 2063])?;
     let sent = [
         "06",
@@ -90,8 +99,8 @@ fn protection_is_lifted_and_given_back(rt: HostRuntime) -> Result<(), Fail> {
 // The write is stopped behind the status write that lifts protection, which is all that the restore has to undo.
 #[test]
 fn lifted_protection_is_restored(rt: HostRuntime) -> Result<(), Fail> {
-    let shelf = images(rt.alloc(), [0x04, 0x00])?;
-    let line = "-p dummy:emulate=W25Q64FV,image=chip,status=status,stop=2054 --journal journal -w guarded --unlock";
+    let shelf = shelf_of(rt.alloc(), [0x04, 0x00], GUARDED)?;
+    let line = "-p dummy:emulate=W25Q64FV,image=chip,status=status,stop=2054 --journal journal -w new --unlock";
     fails(&rt, &shelf, line, "Error 12: stopped.")?;
     assert_eq!(rt; shelf.bytes("status")?.as_slice(), [0x00, 0x00].as_slice());
     let line = "-p dummy:emulate=W25Q64FV,image=chip,status=status,trace=trace --restore journal";
@@ -112,16 +121,21 @@ fn lifted_protection_is_restored(rt: HostRuntime) -> Result<(), Fail> {
     Ok(())
 }
 
-// SRP0 is set too: what is guarded stays so, and what is free is written without a status write.
+// SRP0 is set too: what is guarded stays so.
 #[test]
 fn a_locked_status_is_not_lifted(rt: HostRuntime) -> Result<(), Fail> {
-    let shelf = images(rt.alloc(), [0x84, 0x00])?;
-    let line = format!(in rt.alloc(); "{WRITE} guarded --unlock")?;
+    let shelf = shelf_of(rt.alloc(), [0x84, 0x00], GUARDED)?;
+    let line = format!(in rt.alloc(); "{WRITE} new --unlock")?;
     fails(&rt, &shelf, line.as_str(), "Error 9: status locked.")?;
-    holds(&rt, &shelf, "chip", SIZE, &[])?;
-    let shelf = shelf.with("first", SIZE, &[(0, 0, 0x00)])?;
-    let line = "-p dummy:emulate=W25Q64FV,image=chip,status=status --journal other -w first --unlock";
-    changes(&rt, &shelf, line, LARGE, [1, 0, 1, 2057])?;
+    holds(&rt, &shelf, "chip", SIZE, &[])
+}
+
+// What is free is written without a status write, so it doesn't matter that none could be made.
+#[test]
+fn a_locked_status_leaves_free_places_free(rt: HostRuntime) -> Result<(), Fail> {
+    let shelf = shelf_of(rt.alloc(), [0x84, 0x00], 0)?;
+    let line = format!(in rt.alloc(); "{WRITE} new --unlock")?;
+    changes(&rt, &shelf, line.as_str(), LARGE, [1, 0, 1, 2057])?;
     holds(&rt, &shelf, "chip", SIZE, &[(0, 0, 0x00)])?;
     assert_eq!(rt; shelf.bytes("status")?.as_slice(), [0x84, 0x00].as_slice());
     Ok(())
@@ -130,14 +144,14 @@ fn a_locked_status_is_not_lifted(rt: HostRuntime) -> Result<(), Fail> {
 // SEC with BP 110 isn't defined: whatever is asked for, the chip isn't written.
 #[test]
 fn undefined_protection_refuses_each_write(rt: HostRuntime) -> Result<(), Fail> {
-    let shelf = images(rt.alloc(), [0x58, 0x00])?;
+    let shelf = shelf_of(rt.alloc(), [0x58, 0x00], FREE)?;
     let told = "Error 7: undefined protection.";
     all_fail(
         &rt,
         &shelf,
         &[
-            ("-p dummy:emulate=W25Q64FV,status=status --journal a -w free", told),
-            ("-p dummy:emulate=W25Q64FV,status=status --journal b -w free --unlock", told),
+            ("-p dummy:emulate=W25Q64FV,status=status --journal a -w new", told),
+            ("-p dummy:emulate=W25Q64FV,status=status --journal b -w new --unlock", told),
             ("-p dummy:emulate=W25Q64FV,status=status --journal c -E --unlock", told),
         ],
     )
