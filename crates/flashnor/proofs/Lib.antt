@@ -1,9 +1,5 @@
-pub mod InTurn
-pub mod Numbers
-pub mod Named
-pub mod Taken
-pub mod Asked
 pub mod Shown
-pub mod Genuine
-pub mod Refused
-pub mod Writes
+pub mod Ready
+pub mod Changed
+pub mod Doing
+pub mod Ended

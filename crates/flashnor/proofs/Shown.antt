@@ -1,26 +1,20 @@
 -- What the emulated chips show themselves as.
-use Rattle.std.proofs.Common.{◌≡◌, ◌∙◌, ◌≤◌, true, List, ℕ, [], ◌∷◌, Option, None, Result, Ok, Err, ap, refl, subst, sym, arith}
-use Rattle.std.specs.Prelude.{IfOk, IfErr, IsOk, MatchResult, if◌then◌else◌}
-use Rattle.std.specs.Borrow.{Bor}
+use Rattle.std.proofs.Common.{◌≡◌, ◌∙◌, true, List, ℕ, [], ◌∷◌, None, Result, Ok, Err, ap, refl, subst, sym}
+use Rattle.std.specs.Prelude.{IsOk, if◌then◌else◌}
 use Rattle.nor_chip.specs.declared.config.Config.{Config}
-use Rattle.nor_chip.specs.Bus.{BusState}
 use Rattle.nor_chip.specs.Chip.{IsTiny64}
-use Rattle.nor_probe.specs.Found.{Finds, IsWanted, Tells, part_in}
 use Rattle.nor_probe.specs.Known.{HasGeometry, chip_says, id_of, is_no_chip, listed_or, part_by_sfdp, shown_as}
 use Rattle.nor_probe.specs.Table.{part_of as row_of}
 use Rattle.nor_probe.proofs.Emulated.{tiny64_known}
-use Rattle.nor_probe.specs.declared.probes.Found.{Found}
 use Rattle.nor_probe.specs.declared.probes.ProbeFault.{ProbeFault}
-use Rattle.nor_probe.specs.declared.probes.ProbeFault.TheVariants.{NoChip, UnknownChip, OtherName, Stopped, Timeout}
+use Rattle.nor_probe.specs.declared.probes.ProbeFault.TheVariants.{NoChip}
 use Rattle.nor_probe.specs.declared.sfdp.Geometry.{Geometry}
 use Rattle.nor_probe.specs.declared.sfdp.SfdpFault.{SfdpFault}
-use Rattle.nor_probe.specs.declared.table.ChipName.{ChipName}
 use Rattle.nor_probe.specs.declared.table.Part.{Part}
-use Rattle.flashnor.specs.Found.{IsFound, IsOther, part_of, wanted}
-use Rattle.flashnor.specs.Programmer.{IsConfigOf}
-use Rattle.flashnor.specs.Text.{Text}
-use Rattle.flashnor.specs.declared.programmer.Emulated.{Emulated}
-use Rattle.flashnor.specs.declared.programmer.Emulated.TheVariants.{Tiny64, W25q64fv, W25q128fv}
+use Rattle.flashnor.specs.Found.{part_of}
+use Rattle.nor_words.specs.Programmer.{IsConfigOf}
+use Rattle.nor_words.specs.declared.programmer.Emulated.{Emulated}
+use Rattle.nor_words.specs.declared.programmer.Emulated.TheVariants.{Tiny64, W25q64fv, W25q128fv}
 
 -- what a geometry makes of TINY64, where it is that of the chip
 by_geometry : (config : Config) → IsTiny64 config → (says : Result Geometry SfdpFault)
@@ -55,26 +49,3 @@ pub ok-same : (x y : Part) (r : Result Part ProbeFault) → r ≡ Ok x → r ≡
 ok-same x y r to_x to_y =
     let same = sym to_x ∙ to_y in
     cc
-
--- what a probe answers on a bus to one of them that is idle and not stopped
-pub found-emulated : (chip : Emulated) (named : Option (Bor Text)) (asked : Option ChipName) (old new : BusState) (r : Result Found ProbeFault)
-    → asked ≡ wanted named → IsConfigOf chip old.chip.config → old.chip.busy ≡ 0 → 65540 ≤ old.left
-    → IfOk r (λ found. IsWanted asked found.name) → IfOk r (Finds old new) → IfErr r (Tells asked old new)
-    → MatchResult r (IsFound named chip) (IsOther named chip)
-found-emulated chip named asked old new (Ok found) same config idle left name finds tells =
-    let part : part_of chip ≡ part_in found = ok-same (part_of chip) (part_in found) (shown_as old.chip.config) (shown-emulated chip old.chip.config config) finds.part in
-    record { part = sym part; name = rw (← same, part) name }
-found-emulated chip named asked old new (Err NoChip) same config idle left name finds tells =
-    let bad = sym (shown-emulated chip old.chip.config config) ∙ tells.0 in
-    cc
-found-emulated chip named asked old new (Err (UnknownChip fault)) same config idle left name finds tells =
-    let bad = sym (shown-emulated chip old.chip.config config) ∙ tells.0 in
-    cc
-found-emulated chip named asked old new (Err OtherName) same config idle left name finds tells =
-    let other = tells.0 in
-    let part : part_of chip ≡ other.part = ok-same (part_of chip) other.part (shown_as old.chip.config) (shown-emulated chip old.chip.config config) other.shown in
-    (refl, λ has. other.other (rw (same, ← part) has))
-found-emulated chip named asked old new (Err Stopped) same config idle left name finds tells =
-    let below = tells.1 in
-    absurd (omega arith)
-found-emulated chip named asked old new (Err Timeout) same config idle left name finds tells = absurd tells

@@ -1,39 +1,42 @@
--- What a run opens.
-use Rattle.std.specs.Prelude.{◌≡◌, ◌<◌, ℕ, true, false, Option, Some, None}
-use Rattle.nor_chip.specs.Bus.{BusState}
-use Rattle.nor_chip.specs.Chip.{IsSame}
+-- How the files of a run may end it.
+use Rattle.std.specs.Prelude.{◌≡◌, ◌⊎◌, ℕ, List, Result, Ok, Err, IfSome, Option}
+use Rattle.std.specs.IoError.{error_kind}
+use Rattle.std.specs.declared.io.Error.{Error}
+use Rattle.std.specs.declared.io.ErrorKind.TheVariants as Kinds
 use Rattle.nor_save.specs.declared.refusal.Refusal.TheVariants.{Memory}
+use Rattle.nor_words.specs.Text.{Text}
 use Rattle.flashnor.specs.declared.messages.Fault.{Fault}
 use Rattle.flashnor.specs.declared.messages.Fault.TheVariants as end
 use Rattle.flashnor.specs.declared.messages.FileFault.TheVariants as file
-use Rattle.flashnor.specs.declared.programmer.Programmer.{Programmer}
-use Rattle.flashnor.specs.Text.{Text}
-use Rattle.flashnor.specs.Programmer.{IsConfigOf}
 
--- An honest and steady bus to the programmer's chip: idle, with its latch and both status bytes clear, and erased where
--- no file is named.
-pub record Opens (programmer : Programmer) (bus : BusState) : Type 0 where
-  pub config : IsConfigOf programmer.chip bus.chip.config
-  pub idle : bus.chip.busy ≡ 0
-  pub latch : bus.chip.latch ≡ false
-  pub kept1 : bus.chip.kept1 ≡ 0
-  pub kept2 : bus.chip.kept2 ≡ 0
-  pub honest : bus.honest ≡ true
-  pub steady : bus.steady ≡ true
-  pub erased : programmer.image ≡ None → (a : ℕ) → a < bus.chip.config.size → bus.chip.bytes a ≡ 255
-
--- An honest and steady bus stays so, and its chip the same but for latch and `busy`.
-abbrev pub StaysOpen : BusState → BusState → Type 0
-StaysOpen old new = old.honest ≡ true → old.steady ≡ true → (new.honest ≡ true) × (new.steady ≡ true) × IsSame old.chip new.chip
-
--- how the reading of the file of this name may end a run
+-- the file of this name is read: that can't be done, or memory runs out
 abbrev pub IsReading : Text → Fault → Type 0
 IsReading name (end.Refused refusal) = refusal ≡ Memory
 IsReading name (end.File fault of) = (fault ≡ file.Read) × (of.now ≡ name)
 IsReading name _ = ⊥
 
--- how the opening of a chip may end a run, whose bytes are in a file of this name or in none
-abbrev pub IsOpening : Option Text → Fault → Type 0
+-- the chip's file of this name is read: it may also have another length than the chip
+abbrev pub IsOpening : Text → Fault → Type 0
 IsOpening name (end.Refused refusal) = refusal ≡ Memory
-IsOpening name (end.File fault of) = name ≡ Some of.now
+IsOpening name (end.File fault of) = ((fault ≡ file.Read) ⊎ (fault ≡ file.Length)) × (of.now ≡ name)
 IsOpening name _ = ⊥
+
+-- the file of this name can't be made or emptied
+abbrev pub IsMaking : Text → Fault → Type 0
+IsMaking name (end.File fault of) = (fault ≡ file.Write) × (of.now ≡ name)
+IsMaking name _ = ⊥
+
+-- the file of this name can't be made, or is there already
+abbrev pub IsMakingNew : Text → Fault → Type 0
+IsMakingNew name (end.File fault of) = ((fault ≡ file.Write) ⊎ (fault ≡ file.Exists)) × (of.now ≡ name)
+IsMakingNew name _ = ⊥
+
+-- the file of this name is made, and gets a buffer
+abbrev pub IsLogging : Text → Fault → Type 0
+IsLogging name (end.Refused refusal) = refusal ≡ Memory
+IsLogging name fault = IsMaking name fault
+
+-- The bytes are those of a file that was to be opened, as far as these are known, or where it is missing these ones.
+abbrev pub AreFrom : {F : Type 0} → (F → Option (List ℕ)) → List ℕ → Result F Error → List ℕ → Type 0
+AreFrom remaining missing (Ok file) bytes = IfSome (remaining file) (λ all. bytes ≡ all)
+AreFrom remaining missing (Err error) bytes = (error_kind error ≡ Kinds.NotFound) × (bytes ≡ missing)

@@ -4,14 +4,12 @@ use Rattle.std.specs.Borrow.{Bor}
 use Rattle.nor_probe.specs.Found.{IsWanted, part_in}
 use Rattle.nor_probe.specs.Table.{name_of, w25q64fv, w25q128fv}
 use Rattle.nor_probe.specs.declared.probes.Found.{Found}
-use Rattle.nor_probe.specs.declared.probes.ProbeFault.{ProbeFault}
-use Rattle.nor_probe.specs.declared.probes.ProbeFault.TheVariants.{OtherName}
 use Rattle.nor_probe.specs.declared.table.ChipName.{ChipName}
 use Rattle.nor_probe.specs.declared.table.ChipName.TheVariants.{Sfdp}
 use Rattle.nor_probe.specs.declared.table.Part.{Part}
-use Rattle.flashnor.specs.Text.{Text}
-use Rattle.flashnor.specs.declared.programmer.Emulated.{Emulated}
-use Rattle.flashnor.specs.declared.programmer.Emulated.TheVariants.{Tiny64, W25q64fv, W25q128fv}
+use Rattle.nor_words.specs.Text.{Text}
+use Rattle.nor_words.specs.declared.programmer.Emulated.{Emulated}
+use Rattle.nor_words.specs.declared.programmer.Emulated.TheVariants.{Tiny64, W25q64fv, W25q128fv}
 
 -- what an emulated chip is found as: a Winbond chip as its row of the table, TINY64 as its SFDP says
 abbrev pub part_of : Emulated → Part
@@ -37,7 +35,3 @@ HasName named chip = IsWanted (wanted named) (part_of chip).name
 pub record IsFound (named : Option (Bor Text)) (chip : Emulated) (found : Found) : Type 0 where
   pub part : part_in found ≡ part_of chip
   pub name : HasName named chip
-
--- the chip has another name than the one given, which is all that is ever wrong with an emulated chip
-abbrev pub IsOther : Option (Bor Text) → Emulated → ProbeFault → Type 0
-IsOther named chip fault = (fault ≡ OtherName) × (HasName named chip → ⊥)

@@ -1,13 +1,8 @@
-pub mod Text
-pub mod Programmer
-pub mod Settings
-pub mod Stops
-pub mod Options
-pub mod Given
-pub mod Faults
-pub mod Job
-pub mod Words
 pub mod Messages
 pub mod Files
+pub mod Chips
 pub mod Found
+pub mod Requests
+pub mod Readings
+pub mod Changes
 pub mod Run

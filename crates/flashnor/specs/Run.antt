@@ -1,119 +1,150 @@
 -- What a run came to.
-use Rattle.std.specs.Prelude.{◌≡◌, ◌≢◌, ◌≤◌, ◌<◌, ◌+◌, ◌/◌, ◌⊎◌, ℕ, true, false, List, Option, None, Result, Ok, Err, drop, length, option_map, ⊤}
+use Rattle.std.specs.Prelude.{◌≡◌, ◌⊎◌, ℕ, Bool, true, false, List, Option, Result, Ok, Err, IsSomeAnd, ⊤}
 use Rattle.std.specs.Borrow.{Bor}
 use Rattle.nor_chip.specs.Bus.{BusState}
-use Rattle.nor_journal.specs.Vault.{VaultState}
-use Rattle.nor_apply.specs.Counts.{sector_count}
-use Rattle.nor_save.specs.Request.{scanned_sectors, is_touched_by}
-use Rattle.nor_save.specs.declared.report.Request.{Request}
-use Rattle.nor_save.specs.declared.report.What.TheVariants.{Write}
+use Rattle.nor_journal.specs.Fault.{HasFault}
+use Rattle.nor_journal.specs.Text.{Content as Journal, IsContent}
+use Rattle.nor_journal.specs.Vault.{VaultState, IsFresh}
+use Rattle.nor_layout.specs.declared.ranges.Span.{Span}
 use Rattle.nor_save.specs.declared.refusal.Refusal.{Refusal}
-use Rattle.nor_save.specs.declared.refusal.Refusal.TheVariants.{OtherName, ImageSize, Vault, Memory}
-use Rattle.nor_session.specs.Modelled.{most_of}
-use Rattle.nor_session.specs.Rehearsal.{AreRestores, CanEnd, IsRehearsal, first_allowance}
-use Rattle.nor_session.specs.declared.rehearsals.Rehearsal.{Rehearsal}
-use Rattle.flashnor.specs.Text.{Text}
-use Rattle.flashnor.specs.Files.{IsOpening, IsReading, Opens}
-use Rattle.flashnor.specs.Found.{HasName, IsFound, part_of, wanted}
-use Rattle.flashnor.specs.Words.{IsJob, IsFault}
+use Rattle.nor_save.specs.declared.refusal.Refusal.TheVariants.{Memory, BadJournal}
+use Rattle.nor_words.specs.Text.{Text}
+use Rattle.nor_words.specs.Words.{IsJob, IsFault}
+use Rattle.nor_words.specs.declared.job.Change.{Change}
+use Rattle.nor_words.specs.declared.job.ChipJob.{ChipJob}
+use Rattle.nor_words.specs.declared.job.Job.{Job}
+use Rattle.nor_words.specs.declared.job.Job.TheVariants as job
+use Rattle.nor_words.specs.declared.job.Keeping.{Keeping}
+use Rattle.nor_words.specs.declared.job.Regions.{Regions}
+use Rattle.nor_words.specs.declared.job.Keeping.TheVariants as keeping
+use Rattle.nor_words.specs.declared.job.Task.{Task}
+use Rattle.nor_words.specs.declared.job.Task.TheVariants as task
+use Rattle.nor_words.specs.declared.job.Wanted.{Wanted}
+use Rattle.nor_words.specs.declared.job.Wanted.TheVariants as wanted
+use Rattle.nor_words.specs.declared.programmer.Programmer.{Programmer}
+use Rattle.flashnor.specs.Changes.{HasChanged, HasRestored}
+use Rattle.flashnor.specs.Chips.{FailsToOpen, Opens}
+use Rattle.flashnor.specs.Files.{IsLogging, IsMaking, IsMakingNew, IsReading}
+use Rattle.flashnor.specs.Readings.{HasFound, HasRead, HasTold, HasVerified, ListsRanges, TellsFound, TellsGuarded, TellsSize}
+use Rattle.flashnor.specs.Requests.{AreRangesOf, FailsToInclude, request_for}
 use Rattle.flashnor.specs.declared.answers.Answer.{Answer}
 use Rattle.flashnor.specs.declared.answers.Answer.TheVariants as answer
-use Rattle.flashnor.specs.declared.programmer.Emulated.{Emulated}
-use Rattle.flashnor.specs.declared.programmer.Programmer.{Programmer}
-use Rattle.flashnor.specs.declared.words.ChipJob.{ChipJob}
-use Rattle.flashnor.specs.declared.words.Job.{Job}
-use Rattle.flashnor.specs.declared.words.Job.TheVariants as job
-use Rattle.flashnor.specs.declared.words.Task.{Task}
-use Rattle.flashnor.specs.declared.words.Task.TheVariants as task
+use Rattle.flashnor.specs.declared.chips.Content.{Content}
 use Rattle.flashnor.specs.declared.messages.Fault.{Fault}
 use Rattle.flashnor.specs.declared.messages.Fault.TheVariants as end
 
--- the request to write a whole image to a chip of this name, if one is given, and to check it
-abbrev pub writing : Option (Bor Text) → Request
-writing named = record { what = Write; named = wanted named; included = None; unlock = false; verify = true }
+-- ---- calls
 
--- A rehearsal of the writing of an image under these stops, on a bus to the programmer's chip and with a vault of its own.
-pub record IsRehearsed (programmer : Programmer) (named : Option (Bor Text)) (stops : List ℕ) (rehearsal : Rehearsal) : Type 0 where
-  -- the bus at the start, and the bytes of the image
-  pub bus : BusState
-  pub opened : Opens programmer bus
+-- the journal of a change is kept, in a file
+abbrev pub keeps : Keeping → Bool
+keeps (keeping.Journal file) = true
+keeps (keeping.Rehearse stops) = false
+
+-- A change was asked for, in these ranges and with this image.
+pub record DoesChange (named : Option (Bor Text)) (change : Change) (old new : BusState) (outcome : Result Answer Refusal) : Type 0 where
+  pub ranges : Option (List Span)
   pub image : List ℕ
-  -- what was sealed, ended and restored goes together
+  pub included : AreRangesOf change.regions ranges
   pub vault : VaultState
-  pub counts : IsRehearsal (length stops) vault rehearsal
-  -- The session was allowed the first of the stops. It ended if that was as much as any session on such a chip needs,
-  pub ended : most_of ((part_of programmer.chip).size / 4096) ≤ first_allowance stops → rehearsal.ended ≡ true
-  -- and only if it was as much as this one needs at least;
-  pub enough : rehearsal.ended ≡ true → CanEnd (writing named) image (first_allowance stops) bus.chip
-  -- its journal was sealed if that was as much as opening and scan may take, and only if it was as much as they take,
-  -- on a chip of the name and the size that are wanted.
-  pub name : rehearsal.sealed ≡ true → HasName named programmer.chip
-  pub size : rehearsal.sealed ≡ true → length image ≡ (part_of programmer.chip).size
-  pub unsealed : rehearsal.sealed ≡ false → first_allowance stops < 65542 + scanned_sectors (writing named) (part_of programmer.chip).size
-  pub sealed : rehearsal.sealed ≡ true → 4 + scanned_sectors (writing named) (part_of programmer.chip).size ≤ first_allowance stops
-  -- The restores were run under the other stops in turn, from a journal of the touched sectors.
-  pub restores : rehearsal.sealed ≡ true → AreRestores (sector_count (is_touched_by (writing named) image bus.chip)) (drop 1 stops) rehearsal.restores
+  pub vault' : VaultState
+  pub fresh : IsFresh vault
+  pub changed : HasChanged (request_for change named ranges) image change.keeping old new vault vault' outcome
 
--- the task is a rehearsal, and comes to this
-abbrev pub ComesTo : Programmer → Option (Bor Text) → Task → Rehearsal → Type 0
-ComesTo programmer named (task.Rehearse image stops) rehearsal = IsRehearsed programmer named stops.items rehearsal
-ComesTo programmer named _ rehearsal = ⊥
+-- The chip was read out in the ranges of the regions, if there are any.
+pub record DoesRead (named : Option (Bor Text)) (regions : Option Regions) (old new : BusState) (outcome : Result Answer Refusal) : Type 0 where
+  pub ranges : Option (List Span)
+  pub included : AreRangesOf regions ranges
+  pub read : HasRead named ranges old new outcome
 
--- What may be refused where a chip is only found: that it has another name than the one given.
-abbrev pub FindRefuses : Option (Bor Text) → Emulated → Refusal → Type 0
-FindRefuses named chip OtherName = HasName named chip → ⊥
-FindRefuses named chip _ = ⊥
+-- It was compared with some image in these ranges.
+pub record DoesVerify (named : Option (Bor Text)) (regions : Option Regions) (old new : BusState) (outcome : Result Answer Refusal) : Type 0 where
+  pub ranges : Option (List Span)
+  pub included : AreRangesOf regions ranges
+  pub image : List ℕ
+  pub verified : HasVerified named ranges image old new outcome
 
--- What a session may refuse that writes an image: beside the name, that the image has another length than the chip, and
--- that there is no memory for the journal. An emulated chip is known, and its status is clear, so all else is accepted.
-abbrev pub WriteRefuses : Option (Bor Text) → Emulated → Refusal → Type 0
-WriteRefuses named chip OtherName = HasName named chip → ⊥
-WriteRefuses named chip (ImageSize size len) = HasName named chip × (size ≡ (part_of chip).size) × (len ≢ size)
-WriteRefuses named chip Vault = ⊤
-WriteRefuses named chip _ = ⊥
+-- A journal was restored.
+pub record DoesRestore (named : Option (Bor Text)) (old new : BusState) (outcome : Result Answer Refusal) : Type 0 where
+  pub journal : Journal
+  pub sound : IsContent journal
+  pub restored : HasRestored journal named old new outcome
 
--- what a task on a chip may be refused for
-abbrev pub Refuses : Task → Option (Bor Text) → Emulated → Refusal → Type 0
-Refuses (task.Rehearse image stops) = WriteRefuses
-Refuses _ = FindRefuses
+-- what the call for a task came to, on a bus to the programmer's chip
+abbrev pub Does : Programmer → Option (Bor Text) → Task → BusState → BusState → Result Answer Refusal → Type 0
+Does programmer named task.Probe old new outcome = HasFound (TellsFound programmer named) programmer named old new outcome
+Does programmer named task.FlashSize old new outcome = HasFound (TellsSize programmer named) programmer named old new outcome
+Does programmer named task.WpStatus old new outcome = HasTold (TellsGuarded named old new) named old new outcome
+Does programmer named task.WpList old new outcome = HasTold (ListsRanges named old new) named old new outcome
+Does programmer named (task.Read file regions) old new outcome = DoesRead named regions old new outcome
+Does programmer named (task.Verify file regions) old new outcome = DoesVerify named regions old new outcome
+Does programmer named (task.Change change) old new outcome = DoesChange named change old new outcome
+Does programmer named (task.Restore journal) old new outcome = DoesRestore named old new outcome
 
--- the fault is that of the image that the task reads
-abbrev pub IsOfImage : Task → Fault → Type 0
-IsOfImage (task.Rehearse image stops) fault = IsReading image.now fault
-IsOfImage _ fault = ⊥
+-- after the call the chip is written into its files: it was changed, and that was no rehearsal
+abbrev pub changes_chip : Task → Bool
+changes_chip (task.Change change) = keeps change.keeping
+changes_chip (task.Restore journal) = true
+changes_chip _ = false
 
--- An answer is of the task's kind, and tells of the programmer's chip, which has the name that is given.
-abbrev pub IsAnswerOf : ChipJob → Answer → Type 0
-IsAnswerOf on_chip answer.Chips = ⊥
-IsAnswerOf on_chip (answer.Found found) =
-    (on_chip.task ≡ task.Probe) × IsFound on_chip.named on_chip.programmer.chip found
-IsAnswerOf on_chip (answer.Size size) = (on_chip.task ≡ task.FlashSize)
-    × HasName on_chip.named on_chip.programmer.chip × (size ≡ (part_of on_chip.programmer.chip).size)
-IsAnswerOf on_chip (answer.Rehearsed rehearsal) = ComesTo on_chip.programmer on_chip.named on_chip.task rehearsal
+-- The job's call was made: on a bus to the programmer's chip, as its files tell it.
+pub record IsCalled (job : ChipJob) (outcome : Result Answer Refusal) : Type 0 where
+  pub content : Content
+  pub old : BusState
+  pub new : BusState
+  pub opened : Opens job.programmer content old
+  pub does : Does job.programmer job.named job.task old new outcome
 
--- How the writing of the image of this name may end beside: with a fault of its file, for want of memory, or with a
--- refusal of the session.
-abbrev pub IsWriteEnd : Option (Bor Text) → Emulated → Text → Fault → Type 0
-IsWriteEnd named chip image (end.Usage fault) = ⊥
-IsWriteEnd named chip image (end.Refused refusal) = (refusal ≡ Memory) ⊎ WriteRefuses named chip refusal
-IsWriteEnd named chip image fault = IsReading image fault
+-- ---- faults from before the call
 
--- How a job on a chip may end beside: with a fault of the chip's file or of the image's, for want of memory, or with a
--- refusal.
-abbrev pub IsEndOf : ChipJob → Fault → Type 0
-IsEndOf on_chip (end.Usage fault) = ⊥
-IsEndOf on_chip (end.Refused refusal) = (refusal ≡ Memory) ⊎ Refuses on_chip.task on_chip.named on_chip.programmer.chip refusal
-IsEndOf on_chip fault = IsOpening (option_map (λ name. name.now) on_chip.programmer.image) fault ⊎ IsOfImage on_chip.task fault
+-- how the reading of a change's image may end a run
+abbrev pub FailsToRead : Wanted → Fault → Type 0
+FailsToRead (wanted.Write image) fault = IsReading image.now fault
+FailsToRead wanted.Erase fault = fault ≡ end.Refused Memory
+FailsToRead (wanted.Range start len) fault = ⊥
+
+-- how the making of a change's journal may end it
+abbrev pub FailsToKeep : Keeping → Fault → Type 0
+FailsToKeep (keeping.Journal file) fault = IsMakingNew file.now fault
+FailsToKeep (keeping.Rehearse stops) fault = ⊥
+
+-- how the reading of a journal may end it
+abbrev pub FailsToRestore : Text → Fault → Type 0
+FailsToRestore name (end.Refused (BadJournal fault)) = (bytes : List ℕ) × HasFault bytes fault
+FailsToRestore name fault = IsReading name fault
+
+-- how a task may end a run before its call is made
+abbrev pub FailsBefore : Task → Fault → Type 0
+FailsBefore (task.Read file regions) fault = FailsToInclude regions fault ⊎ IsMaking file.now fault
+FailsBefore (task.Verify file regions) fault = FailsToInclude regions fault ⊎ IsReading file.now fault
+FailsBefore (task.Change change) fault = FailsToInclude change.regions fault ⊎ (FailsToRead change.wanted fault ⊎ FailsToKeep change.keeping fault)
+FailsBefore (task.Restore journal) fault = FailsToRestore journal.now fault
+FailsBefore _ fault = ⊥
+
+-- how a job may end without a call: by the chip's files, by the trace's, or by those of its task
+abbrev pub FailsJob : ChipJob → Fault → Type 0
+FailsJob on_chip fault = FailsToOpen on_chip.programmer fault
+    ⊎ (IsSomeAnd on_chip.programmer.trace (λ name. IsLogging name.now fault) ⊎ FailsBefore on_chip.task fault)
+
+-- ---- runs
+
+-- a call's refusal is a fault of the run
+abbrev pub IsToldAs : Result Answer Refusal → Result Answer Fault → Type 0
+IsToldAs (Ok found) outcome = outcome ≡ Ok found
+IsToldAs (Err refusal) outcome = outcome ≡ Err (end.Refused refusal)
+
+-- A job on a chip ends with what its call came to, or with a fault from before the call.
+abbrev pub EndsJob : ChipJob → Result Answer Fault → Type 0
+EndsJob on_chip (Ok found) = IsCalled on_chip (Ok found)
+EndsJob on_chip (Err (end.Refused refusal)) = IsCalled on_chip (Err refusal) ⊎ FailsJob on_chip (end.Refused refusal)
+EndsJob on_chip (Err fault) = FailsJob on_chip fault
 
 -- the list of chips is the answer to nothing else
-abbrev pub Answers : Job → Answer → Type 0
-Answers job.List answer.Chips = ⊤
+abbrev pub Answers : Job → Result Answer Fault → Type 0
+Answers job.List (Ok answer.Chips) = ⊤
 Answers job.List _ = ⊥
-Answers (job.Chip on_chip) found = IsAnswerOf on_chip found
+Answers (job.Chip on_chip) outcome = EndsJob on_chip outcome
 
--- An answer is that to the job that the words ask for, a usage fault is that of the words, and any other fault is an end
--- of the job on a chip that they ask for.
+-- A usage fault is that of the words, and all else the answer to the job that the words ask for.
 abbrev pub IsAnswer : List Text → Result Answer Fault → Type 0
-IsAnswer words (Ok found) = (asked : Job) × IsJob words asked × Answers asked found
 IsAnswer words (Err (end.Usage fault)) = IsFault words fault
-IsAnswer words (Err fault) = (on_chip : ChipJob) × IsJob words (job.Chip on_chip) × IsEndOf on_chip fault
+IsAnswer words outcome = (asked : Job) × IsJob words asked × Answers asked outcome

@@ -1,75 +1,169 @@
 //! Jobs that change a chip: sessions, rehearsals of them, and restores.
+ghost use Rattle.std.specs.Prelude.{◌≡◌, ◌≤◌, ◌⊎◌, IfOk, IfErr, MatchResult, OnOk, length};
+ghost use Rattle.nor_chip.specs.Chip.{IsSame};
+ghost use Rattle.nor_driver.specs.Looks.{IsCalm};
+ghost use Rattle.nor_journal.specs.Vault.{IsFresh};
+ghost use Rattle.nor_session.specs.Modelled.{IsModelled};
+ghost use Rattle.flashnor.specs.Changes.{GivesUp, HasChanged, HasRehearsed, HasRestored, Passes, ProbeRefuses, TellsDone};
+ghost use Rattle.flashnor.specs.Requests.{FailsToInclude};
+ghost use Rattle.flashnor.specs.Run.{DoesChange, DoesRestore, FailsToKeep, FailsToRead, FailsToRestore};
+
 use crate::answers::Answer;
 use crate::chips::erased;
 use crate::files::{MOST_IMAGE_BYTES, MOST_JOURNAL_BYTES, create_new, read_file};
 use crate::messages::Fault;
 use crate::requests::{read_included, read_name, request_for};
-use nor_chip::Meter;
-use nor_journal::{FileVault, Journal, MemVault};
+use nor_chip::{Bus, Meter};
+use nor_journal::{FileVault, Journal, MemVault, Vault};
 use nor_probe::probe;
-use nor_session::{Refusal, Report, rehearse, restore, session};
-use nor_words::{Change, ChipJob, Emulated, Keeping, Wanted};
+use nor_session::{Refusal, Request, rehearse, restore, session};
+use nor_words::{Change, Emulated, Keeping, Wanted};
 use std::rt::Files;
 
-/// Changes the chip, or rehearses that.
+/// Changes the chip, or rehearses that. A fault is one from before the session.
+#[tactic(auto, using(crate::proofs::Doing::does_change))]
 pub fn change_chip<'a, R: Files + AllocGlobal, B: Meter>(
     rt: &R,
     bus: &mut B,
-    job: &ChipJob<'a>,
+    chip: Emulated,
+    named: Option<&str>,
     change: &Change<'a>,
-) -> Result<Result<Answer, Refusal>, Fault<'a>> {
-    let included = read_included(rt, &change.regions)?;
-    let request = request_for(change, job.named, included);
-    let mut image = read_wanted(rt, job.programmer.chip, &change.wanted)?;
-    match &change.keeping {
-        Keeping::Journal { file } => {
-            let mut vault = FileVault::new(create_new(rt, *file)?);
-            Ok(session(bus, &mut vault, &mut image, &request).map(Answer::Done))
-        }
-        Keeping::Rehearse { stops } => {
-            let mut vault = MemVault::new(rt.alloc());
-            Ok(rehearse(bus, &mut vault, &mut image, &request, stops.as_slice()).map(
-                Answer::Rehearsed,
-            ))
-        }
-    }
+) -> Result<Result<Answer, Refusal>, Fault<'a>>
+    ensures ok { IsModelled (B.state bus.old) → IsCalm (B.state bus.old)
+        → IfOk result (DoesChange named.entry change.now (B.state bus.old) (B.state bus.new)) }
+    ensures err { IfErr result (λ fault. FailsToInclude change.now.regions fault
+        ⊎ (FailsToRead change.now.wanted fault ⊎ FailsToKeep change.now.keeping fault)) }
+{
+    let included = read_included(rt, change.regions)?;
+    let request = request_for(change, named, included);
+    let mut image = read_wanted(rt, chip, change.wanted)?;
+    let mut vault = MemVault::new(rt.alloc());
+    let outcome = change_with(rt, bus, &mut vault, &mut image, &request, &change.keeping)?;
+    Ok(outcome)
 }
 
 // The buffer of a session: for a write the image, for an erase as many bytes as the chip has.
 fn read_wanted<'a, R: Files + AllocGlobal>(
     rt: &R,
     chip: Emulated,
-    wanted: &Wanted<'a>,
-) -> Result<Vec<u8>, Fault<'a>> {
+    wanted: Wanted<'a>,
+) -> Result<Vec<u8>, Fault<'a>>
+    ensures { IfErr result (FailsToRead wanted.entry) }
+{
     match wanted {
-        Wanted::Write { image } => read_file(rt, *image, MOST_IMAGE_BYTES),
+        Wanted::Write { image } => read_file(rt, image, MOST_IMAGE_BYTES),
         Wanted::Erase => Ok(erased(rt.alloc(), chip.config().size)?),
         Wanted::Range { .. } => Ok(Vec::new(rt.alloc())),
     }
 }
 
-/// Gives the chip back what the journal in the file of this name says.
-pub fn restore_chip<'a, R: Files + AllocGlobal, B: Meter>(
+// Runs the session of a request with its journal in a file, or rehearses it with the journal in this vault.
+fn change_with<'a, R: Files, B: Meter>(
+    rt: &R,
+    bus: &mut B,
+    vault: &mut MemVault,
+    image: &mut [u8],
+    request: &Request,
+    keeping: &Keeping<'a>,
+) -> Result<Result<Answer, Refusal>, Fault<'a>>
+    requires { IsFresh (⟦<MemVault as Vault>⟧.state vault.old) }
+    ensures ok { IsModelled (B.state bus.old) → IsCalm (B.state bus.old)
+        → IfOk result (HasChanged request.now image.old keeping.now (B.state bus.old) (B.state bus.new)
+        (⟦<MemVault as Vault>⟧.state vault.old) (⟦<MemVault as Vault>⟧.state vault.new)) }
+    ensures err { IfErr result (FailsToKeep keeping.now) }
+{
+    match keeping {
+        Keeping::Journal { file } => {
+            let mut journal = FileVault::new(create_new(rt, *file)?);
+            Ok(keep_change(bus, &mut journal, image, request))
+        }
+        Keeping::Rehearse { stops } => Ok(rehearse_change(
+            bus,
+            vault,
+            image,
+            request,
+            stops.as_slice(),
+        )),
+    }
+}
+
+// Runs the session of a request, which keeps its journal in this vault.
+#[tactic(auto, using(crate::proofs::Changed::gives_up))]
+fn keep_change<B: Bus, V: Vault>(
+    bus: &mut B,
+    vault: &mut V,
+    image: &mut [u8],
+    request: &Request,
+) -> Result<Answer, Refusal>
+    requires { IsFresh (V.state vault.old) }
+    ensures { IsModelled (B.state bus.old) → IsCalm (B.state bus.old)
+        → MatchResult result (TellsDone request.now image.old (B.state bus.old) (B.state bus.new)) (GivesUp request.now image.old (B.state bus.old) (B.state bus.new)) }
+{
+    let report = session(bus, vault, image, request)?;
+    Ok(Answer::Done(report))
+}
+
+// Rehearses the session of a request under these stops, with its journal in this vault.
+fn rehearse_change<B: Meter>(
+    bus: &mut B,
+    vault: &mut MemVault,
+    image: &mut [u8],
+    request: &Request,
+    stops: &[u64],
+) -> Result<Answer, Refusal>
+    requires few { length stops.now ≤ 64 }
+    requires fresh { IsFresh (⟦<MemVault as Vault>⟧.state vault.old) }
+    ensures { IsModelled (B.state bus.old) → IsCalm (B.state bus.old)
+        → HasRehearsed request.now image.old stops.now (B.state bus.old) (B.state bus.new) (⟦<MemVault as Vault>⟧.state vault.old) (⟦<MemVault as Vault>⟧.state vault.new) result }
+{
+    let rehearsal = rehearse(bus, vault, image, request, stops)?;
+    Ok(Answer::Rehearsed(rehearsal))
+}
+
+/// Makes the chip again what the journal in the file of this name says. A fault is one from before the restore.
+pub fn restore_chip<'a, R: Files + AllocGlobal, B: Bus>(
     rt: &R,
     bus: &mut B,
     named: Option<&str>,
     journal: &'a str,
-) -> Result<Result<Answer, Refusal>, Fault<'a>> {
+) -> Result<Result<Answer, Refusal>, Fault<'a>>
+    ensures ok { IsModelled (B.state bus.old) → IsCalm (B.state bus.old)
+        → IfOk result (DoesRestore named.entry (B.state bus.old) (B.state bus.new)) }
+    ensures err { IfErr result (FailsToRestore journal.now) }
+{
     let text = read_file(rt, journal, MOST_JOURNAL_BYTES)?;
     match Journal::read(&text) {
-        Ok(journal) => Ok(restore_named(bus, named, &journal).map(Answer::Done)),
+        Ok(journal) => Ok(restore_named(bus, named, &journal)),
         Err(fault) => Err(Fault::Refused(Refusal::BadJournal(fault))),
     }
 }
 
-// Restores a chip, which must have the name that is given, if one is.
-fn restore_named<B: Meter>(
+// Makes a chip, which must have the name that is given, if one is, again what a journal says.
+fn restore_named<B: Bus>(
     bus: &mut B,
     named: Option<&str>,
     journal: &Journal<'_>,
-) -> Result<Report, Refusal> {
-    if named.is_some() {
-        probe(bus, read_name(named))?;
+) -> Result<Answer, Refusal>
+    ensures { IsModelled (B.state bus.old) → IsCalm (B.state bus.old)
+        → HasRestored journal.now named.entry (B.state bus.old) (B.state bus.new) result }
+{
+    find_named(bus, named)?;
+    let report = restore(bus, journal)?;
+    Ok(Answer::Done(report))
+}
+
+// Sees that the chip has the name that is given, if one is.
+#[tactic(auto, using(crate::proofs::Ready::passes_probe, crate::proofs::Ready::passes_none, crate::proofs::Ready::looked_same))]
+fn find_named<B: Bus>(bus: &mut B, named: Option<&str>) -> Result<(), Refusal>
+    ensures passes { IsModelled (B.state bus.old) → IsCalm (B.state bus.old) → OnOk result (Passes named.entry (B.state bus.old) (B.state bus.new)) }
+    ensures same { IsModelled (B.state bus.old) → IsCalm (B.state bus.old) → IsSame (B.state bus.old).chip (B.state bus.new).chip }
+    ensures refuses { IsModelled (B.state bus.old) → IfErr result (ProbeRefuses named.entry (B.state bus.old) (B.state bus.new)) }
+{
+    if named.is_none() {
+        return Ok(());
     }
-    restore(bus, journal)
+    match probe(bus, read_name(named)) {
+        Ok(_) => Ok(()),
+        Err(fault) => Err(Refusal::from(fault)),
+    }
 }

@@ -2,7 +2,7 @@
 ghost use Rattle.std.specs.Prelude.{◌≡◌, ◌↔◌, IfOk, IfErr, IfSome, take};
 ghost use Rattle.std.specs.IoError.{error_kind};
 ghost use Rattle.std.specs.declared.io.ErrorKind.TheVariants as Kinds;
-ghost use Rattle.flashnor.specs.Files.{IsReading};
+ghost use Rattle.flashnor.specs.Files.{IsReading, IsMaking, IsMakingNew, IsLogging};
 ghost use Rattle.flashnor.specs.declared.messages.Fault.TheVariants as Faults;
 ghost use Rattle.nor_save.specs.declared.refusal.Refusal.TheVariants as Refusals;
 
@@ -56,7 +56,8 @@ where
         Err(_) => 0,
     };
     // One more than there are, so that the read that finds the end has room.
-    let mut bytes = Vec::with_capacity(alloc, told as usize + 1)?;
+    let room = (told as usize).saturating_add(1);
+    let mut bytes = Vec::with_capacity(alloc, room)?;
     match file.take(most).read_to_end(&mut bytes) {
         Ok(_) => Ok(bytes),
         Err(error) => Err(reading(error, name)),
@@ -78,12 +79,16 @@ pub fn reading(error: io::Error, name: &str) -> Fault<'_>
 }
 
 /// The file of this name, made or emptied.
-pub fn create<'a, R: Files>(rt: &R, name: &'a str) -> Result<R::File, Fault<'a>> {
+pub fn create<'a, R: Files>(rt: &R, name: &'a str) -> Result<R::File, Fault<'a>>
+    ensures { IfErr result (IsMaking name.now) }
+{
     fs::create(rt, name).map_err(|_| writing(name))
 }
 
 /// The file of this name, which wasn't there before.
-pub fn create_new<'a, R: Files>(rt: &R, name: &'a str) -> Result<R::File, Fault<'a>> {
+pub fn create_new<'a, R: Files>(rt: &R, name: &'a str) -> Result<R::File, Fault<'a>>
+    ensures { IfErr result (IsMakingNew name.now) }
+{
     match File::create_new(rt, name) {
         Ok(file) => Ok(file),
         Err(error) if error.kind() == ErrorKind::AlreadyExists => {
@@ -98,13 +103,17 @@ pub fn create_new<'a, R: Files>(rt: &R, name: &'a str) -> Result<R::File, Fault<
 pub fn create_log<'a, R: Files + AllocGlobal>(
     rt: &R,
     name: &'a str,
-) -> Result<BufWriter<R::File>, Fault<'a>> {
+) -> Result<BufWriter<R::File>, Fault<'a>>
+    ensures { IfErr result (IsLogging name.now) }
+{
     let file = create(rt, name)?;
     BufWriter::new(rt.alloc(), file).map_err(|_| Fault::Refused(Refusal::Memory))
 }
 
 /// The fault of a file that can't be made or written.
-pub fn writing(name: &str) -> Fault<'_> {
+pub fn writing(name: &str) -> Fault<'_>
+    ensures { IsMaking name.now result }
+{
     let fault = FileFault::Write;
     Fault::File { fault, name }
 }

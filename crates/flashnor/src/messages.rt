@@ -1,5 +1,5 @@
 //! What the program prints: each message is one line.
-ghost use Rattle.std.specs.Prelude.{◌≡◌, ◌≤◌};
+ghost use Rattle.std.specs.Prelude.{◌≡◌};
 
 use crate::answers::Answer;
 use crate::chips::Unwritten;
@@ -253,20 +253,19 @@ pub fn print_fault<W: Write>(errors: &mut W, fault: Fault<'_>) -> u8
     1
 }
 
-/// Prints a line for each file that couldn't be written after a call, and answers the status that the run ends with
-/// for their sake. A line that can't be printed is lost.
-pub fn print_unwritten<W: Write>(errors: &mut W, unwritten: Unwritten<'_>) -> u8
-    ensures { result ≤ 1 }
-{
+/// Prints a line for each file that couldn't be written after a call, and tells whether there is none. A line that
+/// can't be printed is lost.
+pub fn print_unwritten<W: Write>(errors: &mut W, unwritten: Unwritten<'_>) -> bool {
     let Unwritten {
         image,
         status,
         trace,
     } = unwritten;
-    let mut worst = 0;
+    let mut written = true;
     for name in [image, status, trace].into_iter().flatten() {
         let fault = FileFault::Write;
-        worst = print_fault(errors, Fault::File { fault, name });
+        print_fault(errors, Fault::File { fault, name });
+        written = false;
     }
-    worst
+    written
 }

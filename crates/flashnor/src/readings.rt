@@ -1,58 +1,107 @@
 //! Jobs that leave a chip as it is.
+ghost use Rattle.std.specs.Prelude.{IfOk, IfErr, MatchResult, ◌⊎◌};
+ghost use Rattle.nor_driver.specs.Looks.{Looks};
+ghost use Rattle.nor_words.specs.declared.programmer.Programmer.{Programmer};
+ghost use Rattle.flashnor.specs.Chips.{IsReady};
+ghost use Rattle.flashnor.specs.Files.{IsMaking, IsReading};
+ghost use Rattle.flashnor.specs.Found.{IsFound};
+ghost use Rattle.flashnor.specs.Readings.{FindRefuses, HasFound, HasTold, ListsRanges, TellsFound, TellsGuarded, TellsSize};
+ghost use Rattle.flashnor.specs.Requests.{FailsToInclude};
+ghost use Rattle.flashnor.specs.Run.{DoesRead, DoesVerify};
+
 use crate::answers::Answer;
 use crate::files::{MOST_IMAGE_BYTES, create, read_file};
 use crate::messages::Fault;
 use crate::requests::{read_included, read_name};
-use nor_chip::{Meter, offered};
+use nor_chip::{Bus, offered};
 use nor_journal::FileVault;
-use nor_probe::probe;
+use nor_probe::{Found, probe};
 use nor_read::{read_out, verify, wp_status};
 use nor_session::Refusal;
 use nor_words::Regions;
 use std::rt::Files;
 
 /// Finds the chip.
-pub fn find_chip<B: Meter>(bus: &mut B, named: Option<&str>) -> Result<Answer, Refusal> {
-    Ok(Answer::Found(probe(bus, read_name(named))?))
+pub fn find_chip<B: Bus>(bus: &mut B, named: Option<&str>) -> Result<Answer, Refusal>
+    ensures { (programmer : Programmer) → IsReady programmer (B.state bus.old)
+        → HasFound (TellsFound programmer named.entry) programmer named.entry (B.state bus.old) (B.state bus.new) result }
+{
+    let found = find(bus, named)?;
+    Ok(Answer::Found(found))
 }
 
 /// Tells the chip's size.
-pub fn tell_size<B: Meter>(bus: &mut B, named: Option<&str>) -> Result<Answer, Refusal> {
-    Ok(Answer::Size(probe(bus, read_name(named))?.size))
+pub fn tell_size<B: Bus>(bus: &mut B, named: Option<&str>) -> Result<Answer, Refusal>
+    ensures { (programmer : Programmer) → IsReady programmer (B.state bus.old)
+        → HasFound (TellsSize programmer named.entry) programmer named.entry (B.state bus.old) (B.state bus.new) result }
+{
+    let found = find(bus, named)?;
+    Ok(Answer::Size(found.size))
+}
+
+// The chip, which must have the name that is given, if one is.
+#[tactic(auto, using(crate::proofs::Ready::finds_ready))]
+fn find<B: Bus>(bus: &mut B, named: Option<&str>) -> Result<Found, Refusal>
+    ensures looks { Looks 65540 (B.state bus.old) (B.state bus.new) }
+    ensures found { (programmer : Programmer) → IsReady programmer (B.state bus.old)
+        → MatchResult result (IsFound named.entry programmer.chip) (FindRefuses programmer named.entry) }
+{
+    match probe(bus, read_name(named)) {
+        Ok(found) => Ok(found),
+        Err(fault) => Err(Refusal::from(fault)),
+    }
 }
 
 /// Tells what protects the chip.
-pub fn tell_protection<B: Meter>(bus: &mut B, named: Option<&str>) -> Result<Answer, Refusal> {
-    Ok(Answer::Protection(wp_status(bus, read_name(named))?))
+pub fn tell_protection<B: Bus>(bus: &mut B, named: Option<&str>) -> Result<Answer, Refusal>
+    ensures { HasTold (TellsGuarded named.entry (B.state bus.old) (B.state bus.new)) named.entry (B.state bus.old) (B.state bus.new) result }
+{
+    let protection = wp_status(bus, read_name(named))?;
+    Ok(Answer::Protection(protection))
 }
 
 /// Tells which ranges of the chip can be protected.
-pub fn list_ranges<B: Meter>(bus: &mut B, named: Option<&str>) -> Result<Answer, Refusal> {
-    Ok(Answer::Ranges(offered(wp_status(bus, read_name(named))?.size)))
+pub fn list_ranges<B: Bus>(bus: &mut B, named: Option<&str>) -> Result<Answer, Refusal>
+    ensures { HasTold (ListsRanges named.entry (B.state bus.old) (B.state bus.new)) named.entry (B.state bus.old) (B.state bus.new) result }
+{
+    let protection = wp_status(bus, read_name(named))?;
+    Ok(Answer::Ranges(offered(protection.size)))
 }
 
-/// Reads the chip into the file of this name.
-pub fn read_chip<'a, R: Files + AllocGlobal, B: Meter>(
+/// Reads the chip into the file of this name. A fault is one from before that.
+pub fn read_chip<'a, R: Files + AllocGlobal, B: Bus>(
     rt: &R,
     bus: &mut B,
     named: Option<&str>,
     file: &'a str,
-    regions: &Option<Regions<'a>>,
-) -> Result<Result<Answer, Refusal>, Fault<'a>> {
+    regions: Option<Regions<'a>>,
+) -> Result<Result<Answer, Refusal>, Fault<'a>>
+    ensures ok { IfOk result (DoesRead named.entry regions.entry (B.state bus.old) (B.state bus.new)) }
+    ensures err { IfErr result (λ fault. FailsToInclude regions.entry fault ⊎ IsMaking file.now fault) }
+{
     let included = read_included(rt, regions)?;
     let mut out = FileVault::new(create(rt, file)?);
-    Ok(read_out(bus, included.as_ref(), read_name(named), &mut out).map(Answer::Read))
+    match read_out(bus, included.as_ref(), read_name(named), &mut out) {
+        Ok(report) => Ok(Ok(Answer::Read(report))),
+        Err(refusal) => Ok(Err(refusal)),
+    }
 }
 
-/// Compares the chip with the image in the file of this name.
-pub fn verify_chip<'a, R: Files + AllocGlobal, B: Meter>(
+/// Compares the chip with the image in the file of this name. A fault is one from before that.
+pub fn verify_chip<'a, R: Files + AllocGlobal, B: Bus>(
     rt: &R,
     bus: &mut B,
     named: Option<&str>,
     file: &'a str,
-    regions: &Option<Regions<'a>>,
-) -> Result<Result<Answer, Refusal>, Fault<'a>> {
+    regions: Option<Regions<'a>>,
+) -> Result<Result<Answer, Refusal>, Fault<'a>>
+    ensures ok { IfOk result (DoesVerify named.entry regions.entry (B.state bus.old) (B.state bus.new)) }
+    ensures err { IfErr result (λ fault. FailsToInclude regions.entry fault ⊎ IsReading file.now fault) }
+{
     let included = read_included(rt, regions)?;
     let image = read_file(rt, file, MOST_IMAGE_BYTES)?;
-    Ok(verify(bus, &image, included.as_ref(), read_name(named)).map(Answer::Verified))
+    match verify(bus, &image, included.as_ref(), read_name(named)) {
+        Ok(report) => Ok(Ok(Answer::Verified(report))),
+        Err(refusal) => Ok(Err(refusal)),
+    }
 }

@@ -1,39 +1,57 @@
 //! What is asked of a chip, in the words of the calls that work on it.
+ghost use Rattle.std.specs.Prelude.{◌≡◌, IfOk, IfErr, option_copied};
+ghost use Rattle.flashnor.specs.Found.{wanted};
+ghost use Rattle.flashnor.specs.Requests.{AreIncluded, AreRangesOf, FailsToInclude, request_for, what_of};
+
 use crate::files::{MOST_LAYOUT_BYTES, read_file};
 use crate::messages::{Fault, FileFault};
-use nor_layout::{Layout, Ranges};
+use nor_layout::{Layout, LayoutFault, Ranges};
 use nor_probe::ChipName;
 use nor_session::{Request, What};
 use nor_words::{Change, Regions, Wanted};
+use std::alloc::Global;
 use std::rt::Files;
 
 /// The chip's name that the text says, if there is one.
-pub fn read_name(named: Option<&str>) -> Option<ChipName> {
+pub fn read_name(named: Option<&str>) -> Option<ChipName>
+    ensures { result ≡ wanted named.entry }
+{
     named.map(ChipName::of)
 }
 
-/// The addresses of the regions that are named, if any are; their layout is read from its file.
+/// The addresses of the regions, if there are any; their layout is read from its file.
 pub fn read_included<'a, R: Files + AllocGlobal>(
     rt: &R,
-    regions: &Option<Regions<'a>>,
-) -> Result<Option<Ranges>, Fault<'a>> {
-    match regions {
-        None => Ok(None),
-        Some(Regions { layout, names }) => {
-            let text = read_file(rt, *layout, MOST_LAYOUT_BYTES + 1)?;
-            if text.len() as u64 > MOST_LAYOUT_BYTES {
-                let (fault, name) = (FileFault::Read, *layout);
-                return Err(Fault::File { fault, name });
-            }
-            Ok(Some(Layout::read(rt.alloc(), &text)?.include(*names)?))
-        }
+    regions: Option<Regions<'a>>,
+) -> Result<Option<Ranges>, Fault<'a>>
+    ensures ok { IfOk result (AreRangesOf regions.entry) }
+    ensures err { IfErr result (FailsToInclude regions.entry) }
+{
+    let Some(Regions { layout, names }) = regions else {
+        return Ok(None);
+    };
+    let text = read_file(rt, layout, MOST_LAYOUT_BYTES + 1)?;
+    if text.len() as u64 > MOST_LAYOUT_BYTES {
+        let (fault, name) = (FileFault::Read, layout);
+        return Err(Fault::File { fault, name });
     }
+    let included = included_in(rt.alloc(), &text, names)?;
+    Ok(Some(included))
 }
 
-/// The request for a change of a chip that must have this name, if one is given.
-pub fn request_for(change: &Change<'_>, named: Option<&str>, included: Option<Ranges>) -> Request {
+// The addresses of the regions that are named, in the layout that the text is.
+fn included_in(alloc: Global, text: &[u8], names: &str) -> Result<Ranges, LayoutFault>
+    ensures { IfOk result (AreIncluded text.now names.now) }
+{
+    Layout::read(alloc, text)?.include(names)
+}
+
+/// The request for a change of a chip that must have this name, if one is given, in these ranges.
+pub fn request_for(change: &Change<'_>, named: Option<&str>, included: Option<Ranges>) -> Request
+    ensures { result ≡ request_for change.now named.entry included }
+{
     Request {
-        what: what_of(&change.wanted),
+        what: what_of(change.wanted),
         named: read_name(named),
         included,
         unlock: change.unlock,
@@ -41,13 +59,12 @@ pub fn request_for(change: &Change<'_>, named: Option<&str>, included: Option<Ra
     }
 }
 
-fn what_of(wanted: &Wanted<'_>) -> What {
+fn what_of(wanted: Wanted<'_>) -> What
+    ensures { result ≡ what_of wanted.entry }
+{
     match wanted {
         Wanted::Write { .. } => What::Write,
         Wanted::Erase => What::Erase,
-        Wanted::Range { start, len } => What::WpRange {
-            start: *start,
-            len: *len,
-        },
+        Wanted::Range { start, len } => What::WpRange { start, len },
     }
 }

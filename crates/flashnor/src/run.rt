@@ -1,5 +1,9 @@
 //! A run of the program.
-ghost use Rattle.std.specs.Prelude.{◌≡◌, ◌≤◌, map, string_bytes};
+ghost use Rattle.std.specs.Prelude.{◌≡◌, ◌≤◌, ◌⊎◌, IfOk, IfErr, IsSomeAnd, map, string_bytes};
+ghost use Rattle.nor_words.specs.Words.{IsRefused};
+ghost use Rattle.flashnor.specs.Chips.{IsReady, Opens};
+ghost use Rattle.flashnor.specs.Files.{IsLogging};
+ghost use Rattle.flashnor.specs.Run.{Does, EndsJob, FailsBefore, FailsJob, IsAnswer, IsToldAs, changes_chip};
 
 use crate::answers::Answer;
 use crate::changes::{change_chip, restore_chip};
@@ -8,7 +12,7 @@ use crate::files::create_log;
 use crate::messages::{Fault, print_answer, print_fault, print_unwritten};
 use crate::readings::{find_chip, list_ranges, read_chip, tell_protection, tell_size, verify_chip};
 use clap::error::ErrorKind;
-use nor_chip::{Meter, SimBus, TraceBus};
+use nor_chip::{Bus, Meter, SimBus, TraceBus};
 use nor_session::Refusal;
 use nor_words::{Change, ChipJob, Job, Keeping, Task, UsageFault, request_of};
 use std::io::Write;
@@ -23,6 +27,7 @@ pub fn run_words<R: Files + AllocGlobal, O: Write, E: Write>(
     errors: &mut E,
 ) -> u8
     ensures status { result ≤ 1 }
+    ensures refused { IsRefused (map string_bytes words.now) → result ≡ 1 }
 {
     let Ended { answer, unwritten } = run(rt, words);
     let printed = match answer {
@@ -31,13 +36,13 @@ pub fn run_words<R: Files + AllocGlobal, O: Write, E: Write>(
             write!(output, "{text}")
         }
         Err(fault) => {
-            print_fault(errors, fault);
-            print_unwritten(errors, unwritten);
-            return 1;
+            let status = print_fault(errors, fault);
+            let _ = print_unwritten(errors, unwritten);
+            return status;
         }
     };
-    let status = if printed.is_ok() { 0 } else { 1 };
-    status.max(print_unwritten(errors, unwritten))
+    let written = print_unwritten(errors, unwritten);
+    if printed.is_ok() && written { 0 } else { 1 }
 }
 
 // How a run ended: what it came to, and the files that couldn't be written after its call.
@@ -49,7 +54,9 @@ struct Ended<'a> {
 
 impl<'a> Ended<'a> {
     // A run without a call.
-    fn before(answer: Result<Answer, Fault<'a>>) -> Ended<'a> {
+    fn before(answer: Result<Answer, Fault<'a>>) -> Ended<'a>
+        ensures { result.answer ≡ answer.entry }
+    {
         let unwritten = Unwritten {
             image: None,
             status: None,
@@ -60,7 +67,10 @@ impl<'a> Ended<'a> {
 }
 
 // Does what the words ask for.
-fn run<'a, R: Files + AllocGlobal>(rt: &R, words: &'a [String]) -> Ended<'a> {
+#[tactic(auto, using(crate::proofs::Ended::answer_ended, crate::proofs::Ended::answer_failed, crate::proofs::Ended::answer_listed, crate::proofs::Ended::answer_usage))]
+fn run<'a, R: Files + AllocGlobal>(rt: &R, words: &'a [String]) -> Ended<'a>
+    ensures { IsAnswer (map string_bytes words.now) result.answer }
+{
     match request_of(rt.alloc(), words) {
         Ok(Job::List) => Ended::before(Ok(Answer::Chips)),
         Ok(Job::Chip(job)) => match work_on_chip(rt, &job) {
@@ -76,23 +86,47 @@ fn run<'a, R: Files + AllocGlobal>(rt: &R, words: &'a [String]) -> Ended<'a> {
 fn work_on_chip<'a, R: Files + AllocGlobal>(
     rt: &R,
     job: &ChipJob<'a>,
-) -> Result<Ended<'a>, Fault<'a>> {
+) -> Result<Ended<'a>, Fault<'a>>
+    ensures ok { IfOk result (λ ended. EndsJob job.now ended.answer) }
+    ensures err { IfErr result (FailsJob job.now) }
+{
     let content = read_content(rt, &job.programmer)?;
-    let called = call_on(rt, start(&job.programmer, content), job)?;
+    let bus = start(&job.programmer, content);
+    let called = call_on(rt, bus, job)?;
+    let Called { bus, answer, lost } = called;
+    let unwritten = write_after(rt, job, &bus, lost);
+    let answer = told(answer);
+    Ok(Ended { answer, unwritten })
+}
+
+// What a call came to, as a run tells it.
+fn told<'a>(answer: Result<Answer, Refusal>) -> Result<Answer, Fault<'a>>
+    ensures { IsToldAs answer result }
+{
+    match answer {
+        Ok(answer) => Ok(answer),
+        Err(refusal) => Err(Fault::Refused(refusal)),
+    }
+}
+
+// Writes the chip into its files, where the job changes it and is no rehearsal. Answers which files couldn't be
+// written, the trace beside them.
+fn write_after<'a, R: Files>(
+    rt: &R,
+    job: &ChipJob<'a>,
+    bus: &SimBus,
+    trace: Option<&'a str>,
+) -> Unwritten<'a> {
     let (image, status) = if changes_chip(&job.task) {
-        write_back(rt, &job.programmer, &called.bus)
+        write_back(rt, &job.programmer, bus)
     } else {
         (None, None)
     };
-    let unwritten = Unwritten {
+    Unwritten {
         image,
         status,
-        trace: called.lost,
-    };
-    Ok(Ended {
-        answer: called.answer.map_err(Fault::Refused),
-        unwritten,
-    })
+        trace,
+    }
 }
 
 // A call that was made: the bus to the chip after it, what it came to, and the trace's name where that lost a line.
@@ -108,7 +142,11 @@ fn call_on<'a, R: Files + AllocGlobal>(
     rt: &R,
     mut bus: SimBus,
     job: &ChipJob<'a>,
-) -> Result<Called<'a>, Fault<'a>> {
+) -> Result<Called<'a>, Fault<'a>>
+    ensures ok { let old = ⟦<SimBus as Bus>⟧.state bus in IsReady job.now.programmer old
+        → IfOk result (λ called. Does job.now.programmer job.now.named job.now.task old (⟦<SimBus as Bus>⟧.state called.bus) called.answer) }
+    ensures err { IfErr result (λ fault. IsSomeAnd job.now.programmer.trace (λ name. IsLogging name.now fault) ⊎ FailsBefore job.now.task fault) }
+{
     let Some(name) = job.programmer.trace else {
         let answer = do_task(rt, &mut bus, job)?;
         return Ok(Called {
@@ -128,29 +166,39 @@ fn call_on<'a, R: Files + AllocGlobal>(
     })
 }
 
-// Does the job's task on its chip, with as many transactions as are allowed. A fault is one from before the call.
+// Does the job's task on its chip. A fault is one from before the call.
+#[tactic(auto, using(crate::proofs::Ready::modelled_ready, crate::proofs::Ready::calm_ready))]
 fn do_task<'a, R: Files + AllocGlobal, B: Meter>(
     rt: &R,
     bus: &mut B,
     job: &ChipJob<'a>,
-) -> Result<Result<Answer, Refusal>, Fault<'a>> {
-    bus.allow(job.programmer.stop.unwrap_or(u64::MAX));
+) -> Result<Result<Answer, Refusal>, Fault<'a>>
+    ensures ok { IsReady job.now.programmer (B.state bus.old)
+        → IfOk result (Does job.now.programmer job.now.named job.now.task (B.state bus.old) (B.state bus.new)) }
+    ensures err { IfErr result (FailsBefore job.now.task) }
+{
+    let named = job.named;
     match &job.task {
-        Task::Probe => Ok(find_chip(bus, job.named)),
-        Task::FlashSize => Ok(tell_size(bus, job.named)),
-        Task::WpStatus => Ok(tell_protection(bus, job.named)),
-        Task::WpList => Ok(list_ranges(bus, job.named)),
-        Task::Read { file, regions } => read_chip(rt, bus, job.named, *file, regions),
-        Task::Verify { file, regions } => verify_chip(rt, bus, job.named, *file, regions),
-        Task::Change(change) => change_chip(rt, bus, job, change),
-        Task::Restore { journal } => restore_chip(rt, bus, job.named, *journal),
+        Task::Probe => Ok(find_chip(bus, named)),
+        Task::FlashSize => Ok(tell_size(bus, named)),
+        Task::WpStatus => Ok(tell_protection(bus, named)),
+        Task::WpList => Ok(list_ranges(bus, named)),
+        Task::Read { file, regions } => read_chip(rt, bus, named, *file, *regions),
+        Task::Verify { file, regions } => verify_chip(rt, bus, named, *file, *regions),
+        Task::Change(change) => change_chip(rt, bus, job.programmer.chip, named, change),
+        Task::Restore { journal } => restore_chip(rt, bus, named, *journal),
     }
 }
 
 // After its call the chip is written into its files: the task changes it, and isn't a rehearsal.
-fn changes_chip(task: &Task<'_>) -> bool {
+fn changes_chip(task: &Task<'_>) -> bool
+    ensures { result ≡ changes_chip task.now }
+{
     match task {
-        Task::Change(Change { keeping, .. }) => matches!(keeping, Keeping::Journal { .. }),
+        Task::Change(Change { keeping, .. }) => match keeping {
+            Keeping::Journal { .. } => true,
+            Keeping::Rehearse { .. } => false,
+        },
         Task::Restore { .. } => true,
         _ => false,
     }

@@ -1,0 +1,193 @@
+-- A bus to the programmer's chip is one that promises are made for.
+use Rattle.std.proofs.Common.{◌≡◌, ◌∙◌, ◌<◌, ℕ, List, Option, None, Some, Ok, Err, ap, inl, inr, refl, replicate, subst, sym, true}
+use Rattle.std.specs.Prelude.{if◌then◌else◌, is_none}
+use Rattle.std.specs.Borrow.{Bor}
+use Rattle.nor_chip.specs.declared.config.Config.{Config}
+use Rattle.nor_chip.specs.Bus.{Allows, BusState}
+use Rattle.nor_chip.specs.Chip.{Chip, IsSame}
+use Rattle.nor_driver.specs.Looks.{IsCalm, Looks}
+use Rattle.nor_driver.specs.Reads.{shown}
+use Rattle.nor_journal.specs.Text.{Content as Journal}
+use Rattle.nor_probe.specs.Known.{IsGenuine, chip_says, id_of, is_no_chip, listed_or, part_by_sfdp, shown_as}
+use Rattle.nor_probe.specs.Found.{Finds, IsWanted, Tells, part_in}
+use Rattle.nor_probe.specs.Table.{part_of as row_of}
+use Rattle.nor_probe.specs.declared.probes.Found.{Found}
+use Rattle.nor_probe.specs.declared.probes.ProbeFault.{ProbeFault}
+use Rattle.nor_probe.specs.declared.probes.ProbeFault.TheVariants as Probes
+use Rattle.nor_probe.specs.declared.table.ChipName.{ChipName}
+use Rattle.nor_probe.specs.declared.table.Part.{Part}
+use Rattle.nor_probe.proofs.Emulated.{tiny64_known, w25q64fv_known, w25q128fv_known}
+use Rattle.nor_save.specs.Refusal.{of_probe}
+use Rattle.nor_save.specs.declared.refusal.Refusal.{Refusal}
+use Rattle.nor_save.specs.declared.report.Report.{Report}
+use Rattle.nor_session.specs.Modelled.{IsModelled}
+use Rattle.nor_session.specs.Restore.{IsJudgedFirst, IsRestored, RestoreTells}
+use Rattle.nor_words.specs.Programmer.{IsConfigOf}
+use Rattle.nor_words.specs.Text.{Text}
+use Rattle.nor_words.specs.declared.programmer.Emulated.{Emulated}
+use Rattle.nor_words.specs.declared.programmer.Emulated.TheVariants.{Tiny64, W25q64fv, W25q128fv}
+use Rattle.nor_words.specs.declared.programmer.Programmer.{Programmer}
+use Rattle.flashnor.specs.Changes.{HasGivenName, HasRestored, Passes, ProbeRefuses}
+use Rattle.flashnor.specs.declared.answers.Answer.TheVariants as answer
+use Rattle.flashnor.specs.Chips.{IsConfigWith, IsReady, Holds, Opens, allowance_of}
+use Rattle.flashnor.specs.declared.chips.Content.{Content}
+use Rattle.flashnor.specs.Found.{IsFound, part_of, wanted}
+use Rattle.flashnor.specs.Readings.{FindRefuses}
+use Rattle.flashnor.proofs.Shown.{ok-same, shown-emulated}
+
+-- ---- the unique ID tells nothing of what a chip is
+
+says-free : (config : Config) (number : List ℕ) → chip_says (record config { unique = number }) ≡ chip_says config
+unfolding chip_says shown
+says-free config number = refl
+
+shown-free : (config : Config) (number : List ℕ) → shown_as (record config { unique = number }) ≡ shown_as config
+shown-free config number =
+    ap (λ says. if is_no_chip (id_of config) then Err Probes.NoChip else listed_or (part_by_sfdp (id_of config) says) (row_of (id_of config)))
+    (says-free config number)
+
+genuine-free : (config : Config) (number : List ℕ) → IsGenuine (record config { unique = number }) → IsGenuine config
+genuine-free config number is = record {
+  listed = λ part row.
+      let has = is.listed part row in
+      (record { size = has.0.size; k32 = has.0.k32; k64 = has.0.k64 }, has.1);
+  unlisted = is.unlisted;
+  described = λ none geometry says.
+      let has = is.described none geometry (says-free config number ∙ says) in
+      record { size = has.size; k32 = has.k32; k64 = has.k64 };
+}
+
+-- ---- the emulated chips
+
+genuine-emulated : (chip : Emulated) (config : Config) → IsConfigOf chip config → IsGenuine config
+genuine-emulated Tiny64 config is = (tiny64_known config is).genuine
+genuine-emulated W25q64fv config is = (w25q64fv_known config is).genuine
+genuine-emulated W25q128fv config is = (w25q128fv_known config is).genuine
+
+pub size_emulated : (chip : Emulated) (config : Config) → IsConfigOf chip config → config.size ≡ (part_of chip).size
+size_emulated Tiny64 config is = is.size
+size_emulated W25q64fv config is = is.size
+size_emulated W25q128fv config is = is.size
+
+genuine-with : (chip : Emulated) (number : Option (List ℕ)) (config : Config) → IsConfigWith chip number config → IsGenuine config
+genuine-with chip None config is = genuine-emulated chip config is
+genuine-with chip (Some number) config is = genuine-free config (replicate 8 0) (genuine-emulated chip _ is.0)
+
+shown-with : (chip : Emulated) (number : Option (List ℕ)) (config : Config) → IsConfigWith chip number config → shown_as config ≡ Ok (part_of chip)
+shown-with chip None config is = shown-emulated chip config is
+shown-with chip (Some number) config is = sym (shown-free config (replicate 8 0)) ∙ shown-emulated chip _ is.0
+
+-- ---- the bus
+
+pub modelled_ready : (programmer : Programmer) (bus : BusState) → IsReady programmer bus → IsModelled bus
+modelled_ready programmer bus ready = record {
+  honest = ready.honest;
+  genuine = genuine-with programmer.chip programmer.unique bus.chip.config ready.config;
+}
+
+pub calm_ready : (programmer : Programmer) (bus : BusState) → IsReady programmer bus → IsCalm bus
+calm_ready programmer bus ready = inr ready.idle
+
+shown-ready : (programmer : Programmer) (bus : BusState) → IsReady programmer bus → shown_as bus.chip.config ≡ Ok (part_of programmer.chip)
+shown-ready programmer bus ready = shown-with programmer.chip programmer.unique bus.chip.config ready.config
+
+-- what is found on it
+pub finds_ready : (programmer : Programmer) (named : Option (Bor Text)) (asked : Option ChipName) (old new : BusState) (found : Found)
+    → asked ≡ wanted named → IsReady programmer old → IsWanted asked found.name → Finds old new found → IsFound named programmer.chip found
+finds_ready programmer named asked old new found same ready name finds =
+    let part : part_of programmer.chip ≡ part_in found =
+    ok-same (part_of programmer.chip) (part_in found) (shown_as old.chip.config) (shown-ready programmer old ready) finds.part in
+    record { part = sym part; name = rw (← same, part) name }
+
+-- and what is refused
+pub refuses_ready : (programmer : Programmer) (named : Option (Bor Text)) (asked : Option ChipName) (old new : BusState) (fault : ProbeFault)
+    → asked ≡ wanted named → IsReady programmer old → Tells asked old new fault → FindRefuses programmer named (of_probe fault)
+refuses_ready programmer named asked old new Probes.NoChip same ready tells =
+    let bad = sym (shown-ready programmer old ready) ∙ tells.0 in
+    cc
+refuses_ready programmer named asked old new (Probes.UnknownChip fault) same ready tells =
+    let bad = sym (shown-ready programmer old ready) ∙ tells.0 in
+    cc
+refuses_ready programmer named asked old new Probes.OtherName same ready tells = λ has.
+    let other = tells.0 in
+    let part : part_of programmer.chip ≡ other.part =
+    ok-same (part_of programmer.chip) other.part (shown_as old.chip.config) (shown-ready programmer old ready) other.shown in
+    other.other (rw (same, ← part) has)
+refuses_ready programmer named asked old new Probes.Stopped same ready tells =
+    subst (λ (n : ℕ). n < 65540) ready.left tells.1
+refuses_ready programmer named asked old new Probes.Timeout same ready tells = tells
+
+-- how it is started: with all that its files tell, then the power that may be lost, then its allowance
+pub opens_held : (programmer : Programmer) (content : Content) (allowed : ℕ) (first lost last : BusState)
+    → Holds programmer content first → lost ≡ record first { steady = is_none programmer.power }
+    → allowed ≡ allowance_of programmer → Allows allowed lost last → Opens programmer content last
+opens_held programmer content allowed first lost last held lose allowance allows =
+    let chip : last.chip ≡ first.chip = allows.chip ∙ ap (λ state. state.chip) lose in
+    let honest : lost.honest ≡ true = ap (λ state. state.honest) lose ∙ held.honest in
+    record {
+      ready = record {
+        config = subst (IsConfigWith programmer.chip programmer.unique) (sym (ap (λ x. x.config) chip)) held.config;
+        idle = ap (λ x. x.busy) chip ∙ held.idle;
+        left = allows.left honest ∙ allowance;
+        honest = allows.honest ∙ honest;
+        steady = allows.steady ∙ ap (λ state. state.steady) lose;
+        still = allows.stirred ∙ (ap (λ state. state.stirred) lose ∙ held.still);
+      };
+      holds = record {
+        bytes = λ a. ap (λ x. x.bytes a) chip ∙ held.bytes a;
+        kept1 = ap (λ x. x.kept1) chip ∙ held.kept1;
+        kept2 = ap (λ x. x.kept2) chip ∙ held.kept2;
+        latch = ap (λ x. x.latch) chip ∙ held.latch;
+      };
+    }
+
+-- ---- a probe before a restore
+
+pub looked_same : (most : ℕ) (old new : BusState) → Looks most old new → old.honest ≡ true → IsCalm old → IsSame old.chip new.chip
+looked_same most old new looks honest calm = ((looks.looked honest).stays.calm calm)
+
+modelled_same : (old new : BusState) → new.honest ≡ old.honest → IsSame old.chip new.chip → IsModelled old → IsModelled new
+modelled_same old new honest same modelled = record {
+  honest = honest ∙ modelled.honest;
+  genuine = subst IsGenuine (sym same.config) modelled.genuine;
+}
+
+given_name : (named : Option (Bor Text)) (chip : Chip) (part : Part) → shown_as chip.config ≡ Ok part → IsWanted (wanted named) part.name → HasGivenName named chip
+given_name None chip part shown name = tt
+given_name (Some text) chip part shown name = record { part = part; shown = shown; wanted = name }
+
+pub passes_probe : (named : Option (Bor Text)) (asked : Option ChipName) (old new : BusState) (found : Found)
+    → asked ≡ wanted named → IsModelled old → new.honest ≡ old.honest → IsWanted asked found.name → Finds old new found → Passes named old new
+passes_probe named asked old new found same modelled honest name finds = record {
+  same = finds.rested.unchanged.same;
+  modelled = modelled_same old new honest finds.rested.unchanged.same modelled;
+  calm = inr finds.idle;
+  name = given_name named old.chip (part_in found) finds.part (rw (← same) name);
+}
+
+pub passes_none : (bus : BusState) → IsModelled bus → IsCalm bus → Passes None bus bus
+passes_none bus modelled calm = record {
+  same = record { config = refl; bytes = λ a. refl; kept1 = refl; kept2 = refl };
+  modelled = modelled;
+  calm = calm;
+  name = tt;
+}
+
+-- ---- a restore
+
+pub restores_done : (journal : Journal) (named : Option (Bor Text)) (old found new : BusState) (report : Report)
+    → Passes named old found → IsRestored journal found new report → HasRestored journal named old new (Ok (answer.Done report))
+restores_done journal named old found new report passes restored = record { found = found; same = passes.same; name = passes.name; told = restored }
+
+pub restores_refused : (journal : Journal) (named : Option (Bor Text)) (old found new : BusState) (refusal : Refusal)
+    → Passes named old found → RestoreTells journal found new refusal → (IsJudgedFirst refusal → Looks 69638 found new) → HasRestored journal named old new (Err refusal)
+restores_refused journal named old found new refusal passes tells looks = record {
+  found = found;
+  same = passes.same;
+  name = tt;
+  told = inl (record { refuses = tells; same = λ judged. looked_same 69638 found new (looks judged) passes.modelled.honest passes.calm });
+}
+
+pub restores_unfound : (journal : Journal) (named : Option (Bor Text)) (old new : BusState) (refusal : Refusal)
+    → IsSame old.chip new.chip → ProbeRefuses named old new refusal → HasRestored journal named old new (Err refusal)
+restores_unfound journal named old new refusal same refuses = record { found = new; same = same; name = tt; told = inr refuses }

@@ -1,0 +1,122 @@
+-- What the jobs come to that change a chip.
+use Rattle.std.specs.Prelude.{◌≡◌, ◌≤◌, ◌/◌, ◌⊎◌, ℕ, List, Option, None, Some, Result, true, drop, length, MatchResult, OnOk, ⊤}
+use Rattle.std.specs.Borrow.{Bor}
+use Rattle.nor_chip.specs.Bus.{BusState}
+use Rattle.nor_chip.specs.Chip.{Chip, IsSame}
+use Rattle.nor_driver.specs.Looks.{IsCalm, RanOut}
+use Rattle.nor_journal.specs.Saved.{JournalSaves}
+use Rattle.nor_journal.specs.Text.{Content as Journal}
+use Rattle.nor_journal.specs.Vault.{VaultState}
+use Rattle.nor_apply.specs.Change.{MayChange}
+use Rattle.nor_apply.specs.Counts.{sector_count}
+use Rattle.nor_probe.specs.Found.{Tells}
+use Rattle.nor_probe.specs.declared.probes.ProbeFault.{ProbeFault}
+use Rattle.nor_save.specs.Refusal.{number_of, of_probe}
+use Rattle.nor_save.specs.Request.{is_touched_by, is_raised_by}
+use Rattle.nor_save.specs.Saving.{head_of}
+use Rattle.nor_save.specs.declared.report.Request.{Request}
+use Rattle.nor_save.specs.declared.refusal.Refusal.{Refusal}
+use Rattle.nor_save.specs.declared.refusal.Refusal.TheVariants.{Vault, Stopped}
+use Rattle.nor_session.specs.Modelled.{IsModelled, most_of}
+use Rattle.nor_session.specs.Verdict.{IsAccepted, IsNamed, IsVerdict}
+use Rattle.nor_session.specs.Session.{IsDone, wanted_of}
+use Rattle.nor_session.specs.Restore.{IsRestored, RestoreTells, IsJudgedFirst}
+use Rattle.nor_session.specs.Rehearsal.{AreRestores, CanEnd, IsRehearsal, RehearsalTells, SealFits, first_allowance}
+use Rattle.nor_session.specs.declared.rehearsals.Rehearsal.{Rehearsal}
+use Rattle.nor_words.specs.Text.{Text}
+use Rattle.nor_words.specs.declared.job.Keeping.{Keeping}
+use Rattle.nor_words.specs.declared.job.Keeping.TheVariants as keeping
+use Rattle.flashnor.specs.Found.{wanted}
+use Rattle.flashnor.specs.declared.answers.Answer.{Answer}
+use Rattle.flashnor.specs.declared.answers.Answer.TheVariants as answer
+
+-- ---- sessions
+
+-- the chip is the one that the request wants
+abbrev pub TellsDone : Request → List ℕ → BusState → BusState → Answer → Type 0
+TellsDone request image old new (answer.Done report) = IsDone request image old new report
+TellsDone request image old new _ = ⊥
+
+-- the refusal is the verdict; or the journal's file failed, or the bus stopped
+abbrev pub ChangeRefuses : Request → List ℕ → BusState → BusState → Refusal → Type 0
+ChangeRefuses request image old new Vault = ⊤
+ChangeRefuses request image old new Stopped = RanOut (most_of (old.chip.config.size / 4096)) old new
+ChangeRefuses request image old new refusal = IsVerdict request image old.chip refusal
+
+-- The request is accepted, and the chip on the way to the one that it wants.
+pub record IsUnderWay (request : Request) (image : List ℕ) (old new : BusState) : Type 0 where
+  pub accepted : IsAccepted request image old.chip
+  pub changes : MayChange (is_touched_by request image old.chip) (is_raised_by request image old.chip) (wanted_of request image old.chip) old new
+
+-- A change was refused or stopped: after refusals from 1 to 11 the chip is as before, and else it is as before or on the
+-- way to the wanted one.
+pub record GivesUp (request : Request) (image : List ℕ) (old new : BusState) (refusal : Refusal) : Type 0 where
+  pub refuses : ChangeRefuses request image old new refusal
+  pub same : number_of refusal ≤ 11 → IsSame old.chip new.chip
+  pub leaves : IsSame old.chip new.chip ⊎ IsUnderWay request image old new
+
+-- ---- rehearsals
+
+-- What a rehearsal under these stops showed, whose vault ends so.
+pub record IsRehearsed (request : Request) (image stops : List ℕ) (chip : Chip) (vault : VaultState) (rehearsal : Rehearsal) : Type 0 where
+  pub counts : IsRehearsal (length stops) vault rehearsal
+  -- The session ended if it was allowed as much as any session on such a chip needs, and only if as much as this one does.
+  pub ended : most_of (chip.config.size / 4096) ≤ first_allowance stops → rehearsal.ended ≡ true
+  pub enough : rehearsal.ended ≡ true → CanEnd request image (first_allowance stops) chip
+  -- Its journal was sealed if that was as much as opening and scan may take, and only if it was as much as they take,
+  -- where the request is accepted; and it saves the touched sectors.
+  pub fits : SealFits request (first_allowance stops) chip rehearsal.sealed
+  pub accepted : rehearsal.sealed ≡ true → IsAccepted request image chip
+  pub saves : rehearsal.sealed ≡ true → JournalSaves (head_of chip) chip.bytes (is_touched_by request image chip) vault.bytes
+  -- The restores were run under the other stops in turn.
+  pub restores : rehearsal.sealed ≡ true → AreRestores (sector_count (is_touched_by request image chip)) (drop 1 stops) rehearsal.restores
+
+abbrev pub TellsRehearsed : Request → List ℕ → List ℕ → Chip → VaultState → Answer → Type 0
+TellsRehearsed request image stops chip vault (answer.Rehearsed rehearsal) = IsRehearsed request image stops chip vault rehearsal
+TellsRehearsed request image stops chip vault _ = ⊥
+
+-- A rehearsal leaves the chip as before, at every end.
+pub record HasRehearsed (request : Request) (image stops : List ℕ) (old new : BusState) (vault vault' : VaultState) (outcome : Result Answer Refusal) : Type 0 where
+  pub same : IsSame old.chip new.chip
+  pub told : MatchResult outcome (TellsRehearsed request image stops old.chip vault') (RehearsalTells request image old.chip vault vault')
+
+-- what a change came to, with a vault in memory for rehearsals
+abbrev pub HasChanged : Request → List ℕ → Keeping → BusState → BusState → VaultState → VaultState → Result Answer Refusal → Type 0
+HasChanged request image (keeping.Journal file) old new vault vault' outcome = MatchResult outcome (TellsDone request image old new) (GivesUp request image old new)
+HasChanged request image (keeping.Rehearse stops) old new vault vault' outcome = HasRehearsed request image stops.items old new vault vault' outcome
+
+-- ---- restores
+
+-- the chip is what the journal wants
+abbrev pub TellsRestored : Journal → BusState → BusState → Answer → Type 0
+TellsRestored journal old new (answer.Done report) = IsRestored journal old new report
+TellsRestored journal old new _ = ⊥
+
+-- a probe refused, for the name or before
+abbrev pub ProbeRefuses : Option (Bor Text) → BusState → BusState → Refusal → Type 0
+ProbeRefuses named old new refusal = (fault : ProbeFault) × (refusal ≡ of_probe fault) × Tells (wanted named) old new fault
+
+-- A restore refused: for its verdict on the chip, which is as before then, or since the bus stopped.
+pub record RestoreRefuses (journal : Journal) (old new : BusState) (refusal : Refusal) : Type 0 where
+  pub refuses : RestoreTells journal old new refusal
+  pub same : IsJudgedFirst refusal → IsSame old.chip new.chip
+
+-- the chip has the name that is given, if one is
+abbrev pub HasGivenName : Option (Bor Text) → Chip → Type 0
+HasGivenName None chip = ⊤
+HasGivenName (Some name) chip = IsNamed (wanted (Some name)) chip
+
+-- A probe for that name was passed.
+pub record Passes (named : Option (Bor Text)) (old new : BusState) : Type 0 where
+  pub same : IsSame old.chip new.chip
+  pub modelled : IsModelled new
+  pub calm : IsCalm new
+  pub name : HasGivenName named old.chip
+
+-- A restore was made on the chip, after a probe for the name that is given, if one is.
+pub record HasRestored (journal : Journal) (named : Option (Bor Text)) (old new : BusState) (outcome : Result Answer Refusal) : Type 0 where
+  -- the bus after that probe, which tells that the chip has the name
+  pub found : BusState
+  pub same : IsSame old.chip found.chip
+  pub name : OnOk outcome (HasGivenName named old.chip)
+  pub told : MatchResult outcome (TellsRestored journal found new) (λ refusal. RestoreRefuses journal found new refusal ⊎ ProbeRefuses named old new refusal)

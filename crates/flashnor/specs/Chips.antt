@@ -1,0 +1,60 @@
+-- What a run opens: the emulated chip, and the bus to it.
+use Rattle.std.specs.Prelude.{◌≡◌, ◌⊎◌, ◌/◌, ◌%◌, ◌==◌, ℕ, List, false, true, Option, Some, None, IsSomeAnd, is_none, replicate, slice_index, unwrap_or}
+use Rattle.nor_chip.specs.Bus.{BusState}
+use Rattle.nor_chip.specs.Chip.{Chip}
+use Rattle.nor_chip.specs.declared.config.Config.{Config}
+use Rattle.nor_save.specs.declared.refusal.Refusal.TheVariants.{Memory}
+use Rattle.nor_words.specs.Programmer.{IsConfigOf}
+use Rattle.nor_words.specs.declared.programmer.Emulated.{Emulated}
+use Rattle.nor_words.specs.declared.programmer.Programmer.{Programmer}
+use Rattle.flashnor.specs.Files.{IsOpening}
+use Rattle.flashnor.specs.declared.chips.Content.{Content}
+use Rattle.flashnor.specs.declared.messages.Fault.{Fault}
+use Rattle.flashnor.specs.declared.messages.Fault.TheVariants as end
+
+-- the configuration of an emulated chip, with this unique ID in place of eight zeros, if one is given
+abbrev pub IsConfigWith : Emulated → Option (List ℕ) → Config → Type 0
+IsConfigWith chip None config = IsConfigOf chip config
+IsConfigWith chip (Some unique) config = IsConfigOf chip (record config { unique = replicate 8 0 }) × (config.unique ≡ unique)
+
+-- how many transactions are allowed; without `stop=` the most that can be
+abbrev pub allowance_of : Programmer → ℕ
+allowance_of programmer = unwrap_or programmer.stop 18446744073709551615
+
+-- An honest bus to the programmer's chip, which is idle. So many transactions are allowed, and a stop loses the power
+-- where `power=` is given.
+pub record IsReady (programmer : Programmer) (bus : BusState) : Type 0 where
+  pub config : IsConfigWith programmer.chip programmer.unique bus.chip.config
+  pub idle : bus.chip.busy ≡ 0
+  pub left : bus.left ≡ allowance_of programmer
+  pub honest : bus.honest ≡ true
+  pub steady : bus.steady ≡ is_none programmer.power
+  pub still : bus.stirred ≡ false
+
+-- The chip has these bytes, and the kept bits and the latch of these status bytes.
+pub record HasContent (content : Content) (chip : Chip) : Type 0 where
+  pub bytes : (a : ℕ) → chip.bytes a ≡ slice_index content.bytes.items a
+  pub kept1 : chip.kept1 ≡ slice_index content.status 0 / 4
+  pub kept2 : chip.kept2 ≡ slice_index content.status 1 % 128
+  pub latch : chip.latch ≡ (slice_index content.status 0 / 2 % 2 == 1)
+
+-- The bus is ready, and the chip as its files tell it.
+pub record Opens (programmer : Programmer) (content : Content) (bus : BusState) : Type 0 where
+  pub ready : IsReady programmer bus
+  pub holds : HasContent content bus.chip
+
+-- The same before anything is allowed, while the bus keeps its power.
+pub record Holds (programmer : Programmer) (content : Content) (bus : BusState) : Type 0 where
+  pub config : IsConfigWith programmer.chip programmer.unique bus.chip.config
+  pub idle : bus.chip.busy ≡ 0
+  pub honest : bus.honest ≡ true
+  pub still : bus.stirred ≡ false
+  pub bytes : (a : ℕ) → bus.chip.bytes a ≡ slice_index content.bytes.items a
+  pub kept1 : bus.chip.kept1 ≡ slice_index content.status 0 / 4
+  pub kept2 : bus.chip.kept2 ≡ slice_index content.status 1 % 128
+  pub latch : bus.chip.latch ≡ (slice_index content.status 0 / 2 % 2 == 1)
+
+-- how the opening of a chip may end a run: by one of its files, or for want of memory
+abbrev pub FailsToOpen : Programmer → Fault → Type 0
+FailsToOpen programmer fault = (fault ≡ end.Refused Memory)
+    ⊎ (IsSomeAnd programmer.image (λ name. IsOpening name.now fault) ⊎ IsSomeAnd programmer.status (λ name. IsOpening name.now fault))

@@ -1,0 +1,54 @@
+-- What a job asks of the calls.
+use Rattle.std.specs.Prelude.{◌≡◌, ℕ, List, Option, Some, None}
+use Rattle.nor_layout.specs.declared.ranges.Span.{Span}
+use Rattle.nor_layout.specs.declared.region.Region.{Region}
+use Rattle.nor_layout.specs.Grammar.{IsLayout}
+use Rattle.nor_layout.specs.Included.{is_included}
+use Rattle.nor_layout.specs.Ranges.{contains}
+use Rattle.nor_save.specs.declared.report.Request.{Request}
+use Rattle.nor_save.specs.declared.report.What.{What}
+use Rattle.nor_save.specs.declared.report.What.TheVariants as what
+use Rattle.nor_words.specs.declared.job.Change.{Change}
+use Rattle.nor_words.specs.declared.job.Regions.{Regions}
+use Rattle.nor_words.specs.declared.job.Wanted.{Wanted}
+use Rattle.nor_words.specs.declared.job.Wanted.TheVariants as wanted
+use Rattle.nor_words.specs.Text.{Text}
+use Rattle.std.specs.Borrow.{Bor}
+use Rattle.flashnor.specs.Files.{IsReading}
+use Rattle.flashnor.specs.Found.{wanted as name_wanted}
+use Rattle.flashnor.specs.declared.messages.Fault.{Fault}
+use Rattle.flashnor.specs.declared.messages.Fault.TheVariants as end
+
+-- what a session is to do
+abbrev pub what_of : Wanted → What
+what_of (wanted.Write image) = what.Write
+what_of wanted.Erase = what.Erase
+what_of (wanted.Range start len) = what.WpRange start len
+
+-- the request for a change, of a chip of this name, if one is given, in these ranges
+abbrev pub request_for : Change → Option (Bor Text) → Option (List Span) → Request
+request_for change named ranges = record {
+  what = what_of change.wanted;
+  named = name_wanted named;
+  included = ranges;
+  unlock = change.unlock;
+  verify = change.verify;
+}
+
+-- The ranges have the addresses of the regions that the names list, in the layout that the text is.
+pub record AreIncluded (text names : List ℕ) (ranges : List Span) : Type 0 where
+  pub regions : List Region
+  pub layout : IsLayout text regions
+  pub union : (a : ℕ) → contains ranges a ≡ is_included regions names a
+
+-- ranges are there exactly where regions are named, and are those that some text of the layout's file says
+abbrev pub AreRangesOf : Option Regions → Option (List Span) → Type 0
+AreRangesOf None ranges = ranges ≡ None
+AreRangesOf (Some regions) None = ⊥
+AreRangesOf (Some regions) (Some ranges) = (text : List ℕ) × AreIncluded text regions.names.now ranges
+
+-- how the reading of a layout may end a run: by its file, or by its text and the names
+abbrev pub FailsToInclude : Option Regions → Fault → Type 0
+FailsToInclude None fault = ⊥
+FailsToInclude (Some regions) (end.Layout fault) = Unit {0}
+FailsToInclude (Some regions) fault = IsReading regions.layout.now fault
