@@ -47,12 +47,7 @@ fn run(shelf: &Shelf, line: &str) -> Result<Outcome, Fail> {
 }
 
 // Runs the program on the line, which prints this text to each of the two outputs and ends with this status.
-fn ends(
-    rt: &impl Abort,
-    shelf: &Shelf,
-    line: &str,
-    told: (&str, &str, u8),
-) -> Result<(), Fail> {
+fn ends(rt: &impl Abort, shelf: &Shelf, line: &str, told: (&str, &str, u8)) -> Result<(), Fail> {
     let ran = run(shelf, line)?;
     let (output, errors, status) = told;
     assert_eq!(rt; ran.errors.as_slice(), errors.as_bytes(), "at {line}");
@@ -91,6 +86,7 @@ fn all_fail(rt: &impl Abort, shelf: &Shelf, rows: &[(&str, &str)]) -> Result<(),
 
 // How the chips are told that are found.
 const TINY: &str = "Found SFDP (fe1010), 65536 bytes.";
+
 const LARGE: &str = "Found W25Q64FV (ef4017), 8388608 bytes.";
 
 // What a session or restore sends first to the small chip, while it is idle: the probe, status 2 and the unique ID.
@@ -151,7 +147,11 @@ fn traces(
     assert_eq!(rt; text.lines().count(), count, "in {name}");
     let mut traced = text.lines().skip(from.saturating_sub(1));
     for (k, line) in lines.iter().enumerate() {
-        assert_eq!(rt; traced.next(), Some(*line), "{k} lines behind {from} in {name}");
+        assert_eq!(rt;
+            traced.next(),
+            Some(*line),
+            "{k} lines behind {from} in {name}"
+        );
     }
     Ok(())
 }

@@ -5,6 +5,7 @@ use super::{TINY, changes, holds, traces};
 use std::test::Fail;
 
 const ERASE: &str = "-p dummy:emulate=TINY64,image=chip,trace=trace -E --journal journal";
+
 const WRITE: &str = "-p dummy:emulate=TINY64,image=chip,trace=trace -w new --journal journal";
 
 // Sector 0 is all 00h; of the others nothing has to be changed. Opening and scan take 23 transactions, the erase three

@@ -29,9 +29,16 @@ fn fails_at_each_read<R: AllocGlobal + Abort>(rt: &R, name: &str, line: &str) ->
             assert!(rt; nth > 1, "at {line}");
             return Ok(());
         }
-        assert_eq!(rt; ran.errors.as_slice(), told.as_bytes(), "at {nth} of {line}");
+        assert_eq!(rt;
+            ran.errors.as_slice(),
+            told.as_bytes(),
+            "at {nth} of {line}"
+        );
         assert!(rt; ran.output.is_empty(), "at {nth} of {line}");
-        assert!(rt; !shelf.has("journal")? && !shelf.has("out")?, "at {nth} of {line}");
+        assert!(rt;
+            !shelf.has("journal")? && !shelf.has("out")?,
+            "at {nth} of {line}"
+        );
         holds(rt, &shelf, "chip", 65_536, &[(0, 0, 0x00)])?;
     }
     Err(Fail::new("too many reads"))
@@ -43,8 +50,14 @@ fn a_read_that_fails_is_told(rt: HostRuntime) -> Result<(), Fail> {
         ("chip", WRITE),
         ("status", WRITE),
         ("new", WRITE),
-        ("layout", "-p dummy:emulate=TINY64,image=chip -r out -l layout -i a"),
-        ("new", "-p dummy:emulate=TINY64,image=chip -w new --rehearse 25"),
+        (
+            "layout",
+            "-p dummy:emulate=TINY64,image=chip -r out -l layout -i a",
+        ),
+        (
+            "new",
+            "-p dummy:emulate=TINY64,image=chip -w new --rehearse 25",
+        ),
     ] {
         fails_at_each_read(&rt, name, line)?;
     }
@@ -62,12 +75,19 @@ fn a_read_of_a_journal_that_fails_is_told(rt: HostRuntime) -> Result<(), Fail> {
             .with("chip", 65_536, &[(0, 0, 0x01)])?
             .with_bytes("journal", &journal)?
             .with_flaw("journal", Flaw::Read(nth))?;
-        let ran = run(&shelf, "-p dummy:emulate=TINY64,image=chip --restore journal")?;
+        let ran = run(
+            &shelf,
+            "-p dummy:emulate=TINY64,image=chip --restore journal",
+        )?;
         if ran.status == 0 {
             assert!(rt; nth > 1);
             return holds(&rt, &shelf, "chip", 65_536, &[(0, 0, 0x00)]);
         }
-        assert_eq!(rt; ran.errors.as_slice(), b"File fault 1: journal.\n".as_slice(), "at {nth}");
+        assert_eq!(rt;
+            ran.errors.as_slice(),
+            b"File fault 1: journal.\n".as_slice(),
+            "at {nth}"
+        );
         assert!(rt; ran.output.is_empty(), "at {nth}");
         holds(&rt, &shelf, "chip", 65_536, &[(0, 0, 0x01)])?;
     }
@@ -184,7 +204,10 @@ fn readings_write_nothing_back(rt: HostRuntime) -> Result<(), Fail> {
     for (words, told) in [
         ("", "Found SFDP (fe1010), 65536 bytes.\n"),
         ("--flash-size", "65536\n"),
-        ("-r out", "Found SFDP (fe1010), 65536 bytes.\nRead 65536 bytes.\n"),
+        (
+            "-r out",
+            "Found SFDP (fe1010), 65536 bytes.\nRead 65536 bytes.\n",
+        ),
         ("-v out", "Found SFDP (fe1010), 65536 bytes.\nVerified.\n"),
         (
             "-w new --rehearse 25",
@@ -202,7 +225,10 @@ fn readings_write_nothing_back(rt: HostRuntime) -> Result<(), Fail> {
 fn a_lost_trace_is_told(rt: HostRuntime) -> Result<(), Fail> {
     for (words, told) in [
         ("", "Found SFDP (fe1010), 65536 bytes.\n"),
-        ("-r out", "Found SFDP (fe1010), 65536 bytes.\nRead 65536 bytes.\n"),
+        (
+            "-r out",
+            "Found SFDP (fe1010), 65536 bytes.\nRead 65536 bytes.\n",
+        ),
         (
             "-w new --rehearse 25",
             "Rehearsal: session stopped.\nRestores: 1.\nChip as before.\n",

@@ -50,14 +50,38 @@ fn the_files_of_a_chip_have_its_length(rt: HostRuntime) -> Result<(), Fail> {
         &rt,
         &shelf,
         &[
-            ("-p dummy:emulate=TINY64,image=short", "File fault 3: short."),
-            ("-p dummy:emulate=TINY64,image=long --flash-size", "File fault 3: long."),
-            ("-p dummy:emulate=TINY64,image=huge -r out", "File fault 3: huge."),
-            ("-p dummy:emulate=TINY64,image=empty -E --journal j", "File fault 3: empty."),
-            ("-p dummy:emulate=W25Q64FV,image=long", "File fault 3: long."),
-            ("-p dummy:emulate=TINY64,status=empty", "File fault 3: empty."),
-            ("-p dummy:emulate=TINY64,status=one --wp-status", "File fault 3: one."),
-            ("-p dummy:emulate=TINY64,status=three -v none", "File fault 3: three."),
+            (
+                "-p dummy:emulate=TINY64,image=short",
+                "File fault 3: short.",
+            ),
+            (
+                "-p dummy:emulate=TINY64,image=long --flash-size",
+                "File fault 3: long.",
+            ),
+            (
+                "-p dummy:emulate=TINY64,image=huge -r out",
+                "File fault 3: huge.",
+            ),
+            (
+                "-p dummy:emulate=TINY64,image=empty -E --journal j",
+                "File fault 3: empty.",
+            ),
+            (
+                "-p dummy:emulate=W25Q64FV,image=long",
+                "File fault 3: long.",
+            ),
+            (
+                "-p dummy:emulate=TINY64,status=empty",
+                "File fault 3: empty.",
+            ),
+            (
+                "-p dummy:emulate=TINY64,status=one --wp-status",
+                "File fault 3: one.",
+            ),
+            (
+                "-p dummy:emulate=TINY64,status=three -v none",
+                "File fault 3: three.",
+            ),
         ],
     )
 }
@@ -69,14 +93,35 @@ fn files_that_cannot_be_read_are_told(rt: HostRuntime) -> Result<(), Fail> {
         &rt,
         &shelf,
         &[
-            ("-p dummy:emulate=TINY64,image=denied", "File fault 1: denied."),
-            ("-p dummy:emulate=TINY64,status=denied", "File fault 1: denied."),
-            ("-p dummy:emulate=TINY64 -w none --journal j", "File fault 1: none."),
-            ("-p dummy:emulate=TINY64 -w folder/none --rehearse 1", "File fault 1: folder/none."),
-            ("-p dummy:emulate=TINY64 -w denied --rehearse 1", "File fault 1: denied."),
+            (
+                "-p dummy:emulate=TINY64,image=denied",
+                "File fault 1: denied.",
+            ),
+            (
+                "-p dummy:emulate=TINY64,status=denied",
+                "File fault 1: denied.",
+            ),
+            (
+                "-p dummy:emulate=TINY64 -w none --journal j",
+                "File fault 1: none.",
+            ),
+            (
+                "-p dummy:emulate=TINY64 -w folder/none --rehearse 1",
+                "File fault 1: folder/none.",
+            ),
+            (
+                "-p dummy:emulate=TINY64 -w denied --rehearse 1",
+                "File fault 1: denied.",
+            ),
             ("-p dummy:emulate=TINY64 -v none", "File fault 1: none."),
-            ("-p dummy:emulate=TINY64 -r out -l none -i a", "File fault 1: none."),
-            ("-p dummy:emulate=TINY64 --restore none", "File fault 1: none."),
+            (
+                "-p dummy:emulate=TINY64 -r out -l none -i a",
+                "File fault 1: none.",
+            ),
+            (
+                "-p dummy:emulate=TINY64 --restore none",
+                "File fault 1: none.",
+            ),
         ],
     )
 }
@@ -91,10 +136,22 @@ fn files_that_cannot_be_made_are_told(rt: HostRuntime) -> Result<(), Fail> {
         &shelf,
         &[
             ("-p dummy:emulate=TINY64 -r denied", "File fault 2: denied."),
-            ("-p dummy:emulate=TINY64 -r folder/out", "File fault 2: folder/out."),
-            ("-p dummy:emulate=TINY64,trace=denied", "File fault 2: denied."),
-            ("-p dummy:emulate=TINY64,image=chip -w new --journal denied", "File fault 2: denied."),
-            ("-p dummy:emulate=TINY64,image=chip -E --journal folder/j", "File fault 2: folder/j."),
+            (
+                "-p dummy:emulate=TINY64 -r folder/out",
+                "File fault 2: folder/out.",
+            ),
+            (
+                "-p dummy:emulate=TINY64,trace=denied",
+                "File fault 2: denied.",
+            ),
+            (
+                "-p dummy:emulate=TINY64,image=chip -w new --journal denied",
+                "File fault 2: denied.",
+            ),
+            (
+                "-p dummy:emulate=TINY64,image=chip -E --journal folder/j",
+                "File fault 2: folder/j.",
+            ),
         ],
     )?;
     assert!(rt; !shelf.has("chip")?);
@@ -158,14 +215,38 @@ fn files_are_opened_in_their_order(rt: HostRuntime) -> Result<(), Fail> {
                 "-p dummy:trace=denied,emulate=TINY64 -v none -l wrong -i b",
                 "File fault 2: denied.",
             ),
-            ("-p dummy:emulate=TINY64 -v none -l wrong -i b", "Layout fault 1 at line 1."),
-            ("-p dummy:emulate=TINY64 -v none -l layout -i b", "Layout fault 8."),
-            ("-p dummy:emulate=TINY64 -v none -l layout -i a", "File fault 1: none."),
-            ("-p dummy:emulate=TINY64 -r denied -l layout -i b", "Layout fault 8."),
-            ("-p dummy:emulate=TINY64 -w none --journal good", "File fault 1: none."),
-            ("-p dummy:emulate=TINY64 -c none -w good --journal good", "File fault 4: good."),
-            ("-p dummy:emulate=TINY64 -c none -r denied", "File fault 2: denied."),
-            ("-p dummy:emulate=TINY64 -c none -v short", "Error 3: another chip than named."),
+            (
+                "-p dummy:emulate=TINY64 -v none -l wrong -i b",
+                "Layout fault 1 at line 1.",
+            ),
+            (
+                "-p dummy:emulate=TINY64 -v none -l layout -i b",
+                "Layout fault 8.",
+            ),
+            (
+                "-p dummy:emulate=TINY64 -v none -l layout -i a",
+                "File fault 1: none.",
+            ),
+            (
+                "-p dummy:emulate=TINY64 -r denied -l layout -i b",
+                "Layout fault 8.",
+            ),
+            (
+                "-p dummy:emulate=TINY64 -w none --journal good",
+                "File fault 1: none.",
+            ),
+            (
+                "-p dummy:emulate=TINY64 -c none -w good --journal good",
+                "File fault 4: good.",
+            ),
+            (
+                "-p dummy:emulate=TINY64 -c none -r denied",
+                "File fault 2: denied.",
+            ),
+            (
+                "-p dummy:emulate=TINY64 -c none -v short",
+                "Error 3: another chip than named.",
+            ),
         ],
     )
 }
@@ -185,7 +266,10 @@ fn usage_faults_are_told(rt: HostRuntime) -> Result<(), Fail> {
             ("-p dummy:emulate=TINY64 -w a", "Usage fault 6."),
             ("-p dummy:emulate=TINY64 -r a -l f", "Usage fault 7."),
             ("-p dummy:emulate=TINY64 -r a -n", "Usage fault 8."),
-            ("-p dummy:emulate=TINY64 -E --rehearse 1,x", "Usage fault 9."),
+            (
+                "-p dummy:emulate=TINY64 -E --rehearse 1,x",
+                "Usage fault 9.",
+            ),
         ],
     )
 }

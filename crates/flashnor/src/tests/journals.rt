@@ -14,7 +14,10 @@ fn damage_is_told(rt: HostRuntime) -> Result<(), Fail> {
     changes(&rt, &shelf, WRITE, TINY, [0, 0, 0, 23])?;
     let whole = shelf.bytes("journal")?;
     assert_eq!(rt; whole.len(), 61);
-    shelf.put("cut", Vec::from_slice(rt.alloc(), whole.get(..60).unwrap_or(&[]))?)?;
+    shelf.put(
+        "cut",
+        Vec::from_slice(rt.alloc(), whole.get(..60).unwrap_or(&[]))?,
+    )?;
     shelf.put("empty", Vec::new(rt.alloc()))?;
     let mut longer = Vec::from_slice(rt.alloc(), &whole)?;
     longer.push(0x00)?;
@@ -64,18 +67,36 @@ fn damage_is_told(rt: HostRuntime) -> Result<(), Fail> {
 fn journals_that_are_none_are_told(rt: HostRuntime) -> Result<(), Fail> {
     let shelf = Shelf::new(rt.alloc())
         .with("new", 65_536, &[(0x100, 0x100, 0xA5)])?
-        .with_bytes("other", b"NORUNDO3\xFE\x10\x10\x00\x00\x00\x00\x01\x00\xFF\xFF\xFF\xFF")?
-        .with_bytes("small", b"NORUNDO1\xFE\x10\x10\x00\x00\x00\x80\x00\x00\xFF\xFF\xFF\xFF")?;
+        .with_bytes(
+            "other",
+            b"NORUNDO3\xFE\x10\x10\x00\x00\x00\x00\x01\x00\xFF\xFF\xFF\xFF",
+        )?
+        .with_bytes(
+            "small",
+            b"NORUNDO1\xFE\x10\x10\x00\x00\x00\x80\x00\x00\xFF\xFF\xFF\xFF",
+        )?;
     changes(&rt, &shelf, WRITE, TINY, [1, 0, 1, 28])?;
     let whole = shelf.bytes("journal")?;
-    shelf.put("cut", Vec::from_slice(rt.alloc(), whole.get(..4000).unwrap_or(&[]))?)?;
+    shelf.put(
+        "cut",
+        Vec::from_slice(rt.alloc(), whole.get(..4000).unwrap_or(&[]))?,
+    )?;
     all_fail(
         &rt,
         &shelf,
         &[
-            ("-p dummy:emulate=TINY64 --restore cut", "Error 15: journal fault 1."),
-            ("-p dummy:emulate=TINY64 --restore other", "Error 15: journal fault 2."),
-            ("-p dummy:emulate=TINY64 --restore small", "Error 15: journal fault 3."),
+            (
+                "-p dummy:emulate=TINY64 --restore cut",
+                "Error 15: journal fault 1.",
+            ),
+            (
+                "-p dummy:emulate=TINY64 --restore other",
+                "Error 15: journal fault 2.",
+            ),
+            (
+                "-p dummy:emulate=TINY64 --restore small",
+                "Error 15: journal fault 3.",
+            ),
         ],
     )
 }
@@ -113,7 +134,10 @@ fn a_journal_fits_its_own_chip_alone(rt: HostRuntime) -> Result<(), Fail> {
     )?;
     holds(&rt, &shelf, "large", 8_388_608, &[(0x100, 0x100, 0xA5)])?;
     holds(&rt, &shelf, "chip", 65_536, &[(0x100, 0x100, 0xA5)])?;
-    assert_eq!(rt; shelf.bytes("protected")?.as_slice(), [0x04, 0x00].as_slice());
+    assert_eq!(rt;
+        shelf.bytes("protected")?.as_slice(),
+        [0x04, 0x00].as_slice()
+    );
     Ok(())
 }
 
@@ -123,7 +147,12 @@ fn a_refused_restore_makes_files(rt: HostRuntime) -> Result<(), Fail> {
     let shelf = Shelf::new(rt.alloc()).with("new", 65_536, &[(0x100, 0x100, 0xA5)])?;
     changes(&rt, &shelf, WRITE, TINY, [1, 0, 1, 28])?;
     let line = "-p dummy:emulate=TINY64,image=a,status=b,unique=0000000000000001 --restore journal";
-    fails(&rt, &shelf, line, "Error 20: another unit than the journal's.")?;
+    fails(
+        &rt,
+        &shelf,
+        line,
+        "Error 20: another unit than the journal's.",
+    )?;
     holds(&rt, &shelf, "a", 65_536, &[])?;
     assert_eq!(rt; shelf.bytes("b")?.as_slice(), [0x00, 0x00].as_slice());
     let line = "-p dummy:emulate=TINY64,image=c,status=d -c W25Q64FV --restore journal";

@@ -23,10 +23,7 @@ fn named_regions_are_read(rt: HostRuntime) -> Result<(), Fail> {
 }
 
 // The name of the layout's region, and what is told of it.
-fn refuses_layouts<R: AllocGlobal + Abort>(
-    rt: &R,
-    rows: &[(&str, &str)],
-) -> Result<(), Fail> {
+fn refuses_layouts<R: AllocGlobal + Abort>(rt: &R, rows: &[(&str, &str)]) -> Result<(), Fail> {
     for (layout, told) in rows {
         let shelf = Shelf::new(rt.alloc()).with_bytes("layout", layout.as_bytes())?;
         let line = format!(in rt.alloc(); "{READ} x")?;
@@ -93,9 +90,18 @@ fn regions_lie_on_the_chip(rt: HostRuntime) -> Result<(), Fail> {
         &rt,
         &shelf,
         &[
-            ("-p dummy:emulate=TINY64 -w new -l layout -i all --journal a", told),
-            ("-p dummy:emulate=TINY64 -E -l layout -i all --journal b", told),
-            ("-p dummy:emulate=TINY64 -w new -l layout -i all --rehearse 99", told),
+            (
+                "-p dummy:emulate=TINY64 -w new -l layout -i all --journal a",
+                told,
+            ),
+            (
+                "-p dummy:emulate=TINY64 -E -l layout -i all --journal b",
+                told,
+            ),
+            (
+                "-p dummy:emulate=TINY64 -w new -l layout -i all --rehearse 99",
+                told,
+            ),
             ("-p dummy:emulate=TINY64 -r out -l layout -i all", told),
             ("-p dummy:emulate=TINY64 -v new -l layout -i all", told),
         ],
@@ -109,7 +115,8 @@ fn a_write_is_held_to_its_regions(rt: HostRuntime) -> Result<(), Fail> {
         .with("chip", 65_536, &[(0x0000, 0xFFFF, 0x3C)])?
         .with("new", 65_536, &[(0x1234, 0x1234, 0x0C)])?
         .with_bytes("layout", b"1234:1234 one")?;
-    let line = "-p dummy:emulate=TINY64,image=chip,trace=trace -w new -l layout -i one --journal journal";
+    let line =
+        "-p dummy:emulate=TINY64,image=chip,trace=trace -w new -l layout -i one --journal journal";
     changes(&rt, &shelf, line, TINY, [1, 0, 1, 13])?;
     let sent = [
         "03001000 > 4096 bytes",

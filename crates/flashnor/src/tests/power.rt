@@ -33,7 +33,8 @@ const RESTORED: [&str; 12] = [
 #[test]
 fn a_sector_that_was_being_erased_is_given_back(rt: HostRuntime) -> Result<(), Fail> {
     let shelf = small(&rt)?;
-    let line = "-p dummy:emulate=TINY64,image=chip,busy=2,power=5A,stop=25 -w new --journal journal";
+    let line =
+        "-p dummy:emulate=TINY64,image=chip,busy=2,power=5A,stop=25 -w new --journal journal";
     fails(&rt, &shelf, line, "Error 12: stopped.")?;
     holds(&rt, &shelf, "chip", 65_536, &[(0x0000, 0x0FFF, 0x5A)])?;
     let line = "-p dummy:emulate=TINY64,image=chip,busy=2,trace=trace --restore journal";
@@ -46,7 +47,8 @@ fn a_sector_that_was_being_erased_is_given_back(rt: HostRuntime) -> Result<(), F
 #[test]
 fn an_erase_without_power_is_rehearsed(rt: HostRuntime) -> Result<(), Fail> {
     let shelf = small(&rt)?;
-    let line = "-p dummy:emulate=TINY64,image=chip,busy=2,power=5A,trace=trace -w new --rehearse 25";
+    let line =
+        "-p dummy:emulate=TINY64,image=chip,busy=2,power=5A,trace=trace -w new --rehearse 25";
     let told = "Rehearsal: session stopped.\nRestores: 1.\nChip as before.\n";
     prints(&rt, &shelf, line, told)?;
     traces(&rt, &shelf, "trace", 44, 24, &["06", "20000000", "05 > 00"])?;
@@ -59,7 +61,8 @@ fn a_page_that_was_being_programmed_is_given_back(rt: HostRuntime) -> Result<(),
     let shelf = Shelf::new(rt.alloc())
         .with("chip", 65_536, &[])?
         .with("new", 65_536, &[(0x100, 0x100, 0xA5)])?;
-    let line = "-p dummy:emulate=TINY64,image=chip,busy=1,power=00,stop=26 -w new --journal journal";
+    let line =
+        "-p dummy:emulate=TINY64,image=chip,busy=1,power=00,stop=26 -w new --journal journal";
     fails(&rt, &shelf, line, "Error 12: stopped.")?;
     holds(&rt, &shelf, "chip", 65_536, &[(0x0100, 0x01FF, 0x00)])?;
     // Opening and scan, an erase with two polls, and the check.
@@ -72,7 +75,8 @@ fn a_page_that_was_being_programmed_is_given_back(rt: HostRuntime) -> Result<(),
 #[test]
 fn an_idle_chip_keeps_its_bytes(rt: HostRuntime) -> Result<(), Fail> {
     let shelf = small(&rt)?;
-    let line = "-p dummy:emulate=TINY64,image=chip,status=status,busy=2,power=5A,stop=24 -w new --journal journal";
+    let line =
+        "-p dummy:emulate=TINY64,image=chip,status=status,busy=2,power=5A,stop=24 -w new --journal journal";
     fails(&rt, &shelf, line, "Error 12: stopped.")?;
     holds(&rt, &shelf, "chip", 65_536, &[(0, 0, 0x00)])?;
     assert_eq!(rt; shelf.bytes("status")?.as_slice(), [0x00, 0x00].as_slice());

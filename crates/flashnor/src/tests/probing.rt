@@ -80,7 +80,10 @@ fn the_list_needs_no_chip(rt: HostRuntime) -> Result<(), Fail> {
         &shelf,
         &[
             ("-L", LISTED),
-            ("-L -p dummy:emulate=TINY64,image=denied,trace=trace", LISTED),
+            (
+                "-L -p dummy:emulate=TINY64,image=denied,trace=trace",
+                LISTED,
+            ),
             ("-c TINY64 -L", LISTED),
         ],
     )?;
@@ -95,6 +98,11 @@ fn a_probe_is_traced(rt: HostRuntime) -> Result<(), Fail> {
     let told = "Found SFDP (fe1010), 65536 bytes.\n";
     prints(&rt, &shelf, "-p dummy:emulate=TINY64,trace=trace", told)?;
     traces(&rt, &shelf, "trace", 5, 1, OPENING.get(..5).unwrap_or(&[]))?;
-    prints(&rt, &shelf, "-p dummy:emulate=W25Q64FV,trace=trace --flash-size", "8388608\n")?;
+    prints(
+        &rt,
+        &shelf,
+        "-p dummy:emulate=W25Q64FV,trace=trace --flash-size",
+        "8388608\n",
+    )?;
     traces(&rt, &shelf, "trace", 2, 1, &["05 > 00", "9f > ef4017"])
 }

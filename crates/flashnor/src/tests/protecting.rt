@@ -55,7 +55,14 @@ fn protection_of_128_megabits_is_told(rt: HostRuntime) -> Result<(), Fail> {
             "Range: 0x000000,0x040000\nMode: open\n",
         )],
     )?;
-    traces(&rt, &shelf, "trace", 3, 1, &["05 > 24", "9f > ef4018", "35 > 00"])
+    traces(
+        &rt,
+        &shelf,
+        "trace",
+        3,
+        1,
+        &["05 > 24", "9f > ef4018", "35 > 00"],
+    )
 }
 
 #[test]
@@ -67,7 +74,10 @@ fn a_chip_without_protection_has_none_to_tell(rt: HostRuntime) -> Result<(), Fai
         &[
             ("-p dummy:emulate=TINY64 --wp-status", told),
             ("-p dummy:emulate=TINY64 --wp-list", told),
-            ("-p dummy:emulate=TINY64 --wp-range 0,0 --journal journal", told),
+            (
+                "-p dummy:emulate=TINY64 --wp-range 0,0 --journal journal",
+                told,
+            ),
             (
                 "-p dummy:emulate=TINY64 -c W25Q64FV --wp-list",
                 "Error 3: another chip than named.",

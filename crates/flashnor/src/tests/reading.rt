@@ -12,11 +12,21 @@ const OUT: &str = "-p dummy:emulate=TINY64,image=chip,trace=trace -r out";
 #[test]
 fn a_chip_is_read_into_a_file(rt: HostRuntime) -> Result<(), Fail> {
     let shelf = Shelf::new(rt.alloc())
-        .with("chip", 65_536, &[(0x0000, 0x0FFF, 0x00), (0xFFFF, 0xFFFF, 0x7E)])?
+        .with(
+            "chip",
+            65_536,
+            &[(0x0000, 0x0FFF, 0x00), (0xFFFF, 0xFFFF, 0x7E)],
+        )?
         .with("out", 70_000, &[(0, 69_999, 0x11)])?;
     let told = format!(in rt.alloc(); "{TINY}\nRead 65536 bytes.\n")?;
     prints(&rt, &shelf, OUT, told.as_str())?;
-    holds(&rt, &shelf, "out", 65_536, &[(0x0000, 0x0FFF, 0x00), (0xFFFF, 0xFFFF, 0x7E)])?;
+    holds(
+        &rt,
+        &shelf,
+        "out",
+        65_536,
+        &[(0x0000, 0x0FFF, 0x00), (0xFFFF, 0xFFFF, 0x7E)],
+    )?;
     traces(&rt, &shelf, "trace", 21, 6, &["03000000 > 4096 bytes"])?;
     traces(&rt, &shelf, "trace", 21, 21, &["0300f000 > 4096 bytes"])?;
     let line = "-p dummy:emulate=TINY64,image=none,status=nothing -r out";
@@ -105,14 +115,31 @@ fn a_stopped_reading_is_told(rt: HostRuntime) -> Result<(), Fail> {
         &rt,
         &shelf,
         &[
-            ("-p dummy:emulate=TINY64,stop=7 -r out", "Error 12: stopped."),
-            ("-p dummy:emulate=TINY64,stop=20 -v same", "Error 12: stopped."),
+            (
+                "-p dummy:emulate=TINY64,stop=7 -r out",
+                "Error 12: stopped.",
+            ),
+            (
+                "-p dummy:emulate=TINY64,stop=20 -v same",
+                "Error 12: stopped.",
+            ),
             ("-p dummy:emulate=TINY64,stop=4", "Error 12: stopped."),
-            ("-p dummy:emulate=TINY64,stop=0 --flash-size", "Error 12: stopped."),
-            ("-p dummy:emulate=W25Q64FV,stop=2 --wp-status", "Error 12: stopped."),
+            (
+                "-p dummy:emulate=TINY64,stop=0 --flash-size",
+                "Error 12: stopped.",
+            ),
+            (
+                "-p dummy:emulate=W25Q64FV,stop=2 --wp-status",
+                "Error 12: stopped.",
+            ),
         ],
     )?;
     holds(&rt, &shelf, "out", 8192, &[])?;
     let told = format!(in rt.alloc(); "{TINY}\nVerified.\n")?;
-    prints(&rt, &shelf, "-p dummy:emulate=TINY64,stop=21 -v same", told.as_str())
+    prints(
+        &rt,
+        &shelf,
+        "-p dummy:emulate=TINY64,stop=21 -v same",
+        told.as_str(),
+    )
 }

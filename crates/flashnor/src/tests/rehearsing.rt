@@ -5,7 +5,9 @@ use super::{all_fail, all_print, holds, prints, traces};
 use std::test::Fail;
 
 const STOPPED: &str = "Rehearsal: session stopped.\nRestores: 1.\nChip as before.\n";
+
 const ENDED: &str = "Rehearsal: session ended.\nRestores: 1.\nChip as before.\n";
+
 const UNSEALED: &str = "Rehearsal: session stopped.\nRestores: 0.\nChip as before.\n";
 
 // Byte 0 of the chip is 00h and that of the image 01h, so the sector is erased and then programmed. Opening and scan
@@ -22,8 +24,14 @@ fn stops_of_a_write_are_rehearsed(rt: HostRuntime) -> Result<(), Fail> {
         ("25", STOPPED),
         ("29", STOPPED),
         ("30", ENDED),
-        ("27,10", "Rehearsal: session stopped.\nRestores: 2.\nChip as before.\n"),
-        ("25,0,12,13", "Rehearsal: session stopped.\nRestores: 3.\nChip as before.\n"),
+        (
+            "27,10",
+            "Rehearsal: session stopped.\nRestores: 2.\nChip as before.\n",
+        ),
+        (
+            "25,0,12,13",
+            "Rehearsal: session stopped.\nRestores: 3.\nChip as before.\n",
+        ),
     ] {
         let line = format!(in rt.alloc();
             "-p dummy:emulate=TINY64,image=chip -w new --rehearse {stops}"
@@ -40,7 +48,8 @@ fn a_rehearsal_is_traced_as_one(rt: HostRuntime) -> Result<(), Fail> {
     let shelf = Shelf::new(rt.alloc())
         .with("chip", 65_536, &[(0, 0, 0x00)])?
         .with("new", 65_536, &[(0, 0, 0x01)])?;
-    let line = "-p dummy:emulate=TINY64,image=chip,status=status,trace=trace -w new --rehearse 27,10";
+    let line =
+        "-p dummy:emulate=TINY64,image=chip,status=status,trace=trace -w new --rehearse 27,10";
     let told = "Rehearsal: session stopped.\nRestores: 2.\nChip as before.\n";
     prints(&rt, &shelf, line, told)?;
     traces(&rt, &shelf, "trace", 50, 27, &["06", "05 > 02"])?;
@@ -69,8 +78,14 @@ fn a_chip_without_a_file_is_erased(rt: HostRuntime) -> Result<(), Fail> {
         &shelf,
         &[
             ("-p dummy:emulate=TINY64 -w new --rehearse 23", ENDED),
-            ("-p dummy:image=none,emulate=TINY64 -w new --rehearse 23", ENDED),
-            ("-p dummy:emulate=TINY64 -c SFDP -w new --rehearse 23", ENDED),
+            (
+                "-p dummy:image=none,emulate=TINY64 -w new --rehearse 23",
+                ENDED,
+            ),
+            (
+                "-p dummy:emulate=TINY64 -c SFDP -w new --rehearse 23",
+                ENDED,
+            ),
             ("-p dummy:emulate=TINY64 -E --rehearse 22", UNSEALED),
         ],
     )?;
@@ -125,7 +140,12 @@ fn lifted_protection_is_rehearsed(rt: HostRuntime) -> Result<(), Fail> {
 #[test]
 fn a_range_is_rehearsed(rt: HostRuntime) -> Result<(), Fail> {
     let shelf = Shelf::new(rt.alloc());
-    for (stop, told) in [("3", UNSEALED), ("4", STOPPED), ("6", STOPPED), ("7", ENDED)] {
+    for (stop, told) in [
+        ("3", UNSEALED),
+        ("4", STOPPED),
+        ("6", STOPPED),
+        ("7", ENDED),
+    ] {
         let line = format!(in rt.alloc();
             "-p dummy:emulate=W25Q64FV --wp-range 0x7E0000,0x20000 --rehearse {stop}"
         )?;

@@ -6,6 +6,7 @@ use std::process::Abort;
 use std::test::Fail;
 
 const WRITE: &str = "-p dummy:emulate=TINY64,image=chip -w new --journal journal";
+
 const RESTORE: &str = "-p dummy:emulate=TINY64,image=chip,trace=trace --restore journal";
 
 // Byte 0 of the chip was 00h and that of the image is 01h. The write was stopped behind its 25th transaction, which
@@ -111,7 +112,8 @@ fn a_journal_of_format_1_is_restored_on_any_unit(rt: HostRuntime) -> Result<(), 
     let shelf = Shelf::new(rt.alloc())
         .with("chip", 65_536, &[(0x100, 0x100, 0xA5)])?
         .with_bytes("journal", &journal)?;
-    let line = "-p dummy:unique=0000000000000001,emulate=TINY64,image=chip,trace=trace --restore journal";
+    let line =
+        "-p dummy:unique=0000000000000001,emulate=TINY64,image=chip,trace=trace --restore journal";
     changes(&rt, &shelf, line, TINY, [1, 1, 0, 12])?;
     let sent = [
         "03000000 > 4096 bytes",

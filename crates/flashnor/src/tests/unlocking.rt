@@ -9,10 +9,12 @@ use std::test::Fail;
 const SIZE: usize = 8_388_608;
 
 // BP 001, status 04h: the last 64th, from 7E0000h on, is guarded.
-const WRITE: &str = "-p dummy:emulate=W25Q64FV,image=chip,status=status,trace=trace --journal journal -w";
+const WRITE: &str =
+    "-p dummy:emulate=W25Q64FV,image=chip,status=status,trace=trace --journal journal -w";
 
 // The places on both sides of that border.
 const FREE: usize = 0x7DFFFF;
+
 const GUARDED: usize = 0x7E0000;
 
 // An erased chip, whose file isn't there yet, and an image that has 00h at one place.
@@ -48,7 +50,12 @@ fn a_free_sector_beside_guarded_ones_is_written(rt: HostRuntime) -> Result<(), F
 fn a_guarded_sector_is_refused(rt: HostRuntime) -> Result<(), Fail> {
     let shelf = shelf_of(rt.alloc(), [0x04, 0x00], GUARDED)?;
     let line = format!(in rt.alloc(); "{WRITE} new")?;
-    fails(&rt, &shelf, line.as_str(), "Error 10: protected at 0x7e0000.")?;
+    fails(
+        &rt,
+        &shelf,
+        line.as_str(),
+        "Error 10: protected at 0x7e0000.",
+    )?;
     traces(&rt, &shelf, "trace", 2052, 2052, &["037ff000 > 4096 bytes"])?;
     holds(&rt, &shelf, "chip", SIZE, &[])
 }
@@ -58,7 +65,12 @@ fn a_guarded_sector_is_refused(rt: HostRuntime) -> Result<(), Fail> {
 fn the_complement_is_guarded(rt: HostRuntime) -> Result<(), Fail> {
     let shelf = shelf_of(rt.alloc(), [0x04, 0x40], FREE)?;
     let line = format!(in rt.alloc(); "{WRITE} new")?;
-    fails(&rt, &shelf, line.as_str(), "Error 10: protected at 0x7df000.")?;
+    fails(
+        &rt,
+        &shelf,
+        line.as_str(),
+        "Error 10: protected at 0x7df000.",
+    )?;
     holds(&rt, &shelf, "chip", SIZE, &[])
 }
 
@@ -100,7 +112,8 @@ fn protection_is_lifted_and_given_back(rt: HostRuntime) -> Result<(), Fail> {
 #[test]
 fn lifted_protection_is_restored(rt: HostRuntime) -> Result<(), Fail> {
     let shelf = shelf_of(rt.alloc(), [0x04, 0x00], GUARDED)?;
-    let line = "-p dummy:emulate=W25Q64FV,image=chip,status=status,stop=2054 --journal journal -w new --unlock";
+    let line =
+        "-p dummy:emulate=W25Q64FV,image=chip,status=status,stop=2054 --journal journal -w new --unlock";
     fails(&rt, &shelf, line, "Error 12: stopped.")?;
     assert_eq!(rt; shelf.bytes("status")?.as_slice(), [0x00, 0x00].as_slice());
     let line = "-p dummy:emulate=W25Q64FV,image=chip,status=status,trace=trace --restore journal";
@@ -150,9 +163,18 @@ fn undefined_protection_refuses_each_write(rt: HostRuntime) -> Result<(), Fail> 
         &rt,
         &shelf,
         &[
-            ("-p dummy:emulate=W25Q64FV,status=status --journal a -w new", told),
-            ("-p dummy:emulate=W25Q64FV,status=status --journal b -w new --unlock", told),
-            ("-p dummy:emulate=W25Q64FV,status=status --journal c -E --unlock", told),
+            (
+                "-p dummy:emulate=W25Q64FV,status=status --journal a -w new",
+                told,
+            ),
+            (
+                "-p dummy:emulate=W25Q64FV,status=status --journal b -w new --unlock",
+                told,
+            ),
+            (
+                "-p dummy:emulate=W25Q64FV,status=status --journal c -E --unlock",
+                told,
+            ),
         ],
     )
 }

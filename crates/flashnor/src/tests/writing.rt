@@ -82,7 +82,10 @@ fn a_chip_that_is_as_wanted_is_only_read(rt: HostRuntime) -> Result<(), Fail> {
     changes(&rt, &shelf, WRITE, TINY, [0, 0, 0, 23])?;
     traces(&rt, &shelf, "trace", 23, 1, &OPENING)?;
     traces(&rt, &shelf, "trace", 23, 8, &SCAN)?;
-    assert_eq!(rt; shelf.bytes("journal")?.as_slice(), EMPTY_JOURNAL.as_slice());
+    assert_eq!(rt;
+        shelf.bytes("journal")?.as_slice(),
+        EMPTY_JOURNAL.as_slice()
+    );
     assert!(rt; shelf.is_synced("journal")?);
     holds(&rt, &shelf, "chip", 65_536, &[])?;
     assert_eq!(rt; shelf.bytes("status")?.as_slice(), [0x00, 0x00].as_slice());
@@ -108,11 +111,15 @@ fn a_byte_is_programmed(rt: HostRuntime) -> Result<(), Fail> {
     traces(&rt, &shelf, "trace", 28, 8, &SCAN)?;
     let journal = shelf.bytes("journal")?;
     assert!(rt; journal.get(..25) == EMPTY_JOURNAL.get(..25));
-    assert!(rt; journal.get(4125..) == Some([
-        0xFF, 0xFF, 0xFF, 0xFF, 0xD3, 0xCE, 0x40, 0xC1, 0xB1, 0xE6, 0x74, 0x4A, 0x9B, 0xAC, 0x95,
-        0x55, 0x42, 0xB9, 0xCC, 0xC9, 0x83, 0xD5, 0xFA, 0x75, 0xB9, 0xC2, 0x79, 0x2D, 0x91, 0x66,
-        0x46, 0xFB, 0x18, 0x8C, 0x93, 0x13,
-    ].as_slice()));
+    assert!(rt;
+        journal.get(4125..)
+            == Some([
+                0xFF, 0xFF, 0xFF, 0xFF, 0xD3, 0xCE, 0x40, 0xC1, 0xB1, 0xE6, 0x74, 0x4A, 0x9B, 0xAC,
+                0x95, 0x55, 0x42, 0xB9, 0xCC, 0xC9, 0x83, 0xD5, 0xFA, 0x75, 0xB9, 0xC2, 0x79, 0x2D,
+                0x91, 0x66, 0x46, 0xFB, 0x18, 0x8C, 0x93, 0x13,
+            ]
+            .as_slice())
+    );
     Ok(())
 }
 
