@@ -67,8 +67,8 @@ fn a_chip_is_erased_as_a_whole_where_each_sector_is(rt: HostRuntime) -> Result<(
 // The pages of sector 0 that are programmed again: all but that of the region.
 const KEPT_PAGES: [usize; 15] = [0, 1, 2, 3, 4, 5, 6, 7, 9, 10, 11, 12, 13, 14, 15];
 
-// Sector 0 is all 00h, and the page of 000800h is to be FFh. One sector is read, erased, and given its other pages back:
-// opening and scan take 8 transactions, the erase three, fifteen programs 45 and the check one.
+// Sector 0 is all 00h, and the page of 000800h is to be FFh. One sector is read, erased, and given its other pages
+// back: opening and scan take 8 transactions, the erase three, fifteen programs 45 and the check one.
 #[test]
 fn what_is_not_included_is_given_back(rt: HostRuntime) -> Result<(), Fail> {
     let shelf = Shelf::new(rt.alloc())

@@ -18,8 +18,8 @@ fn small<R: AllocGlobal>(rt: &R) -> Result<Shelf, Fail> {
         .with_bytes("layout", b"0:1 a\n")
 }
 
-// Runs the line with the file of this name failing at its first read, at its second, and so on, until the run has none of
-// that number. Each of these reads is told, and no file is made.
+// Runs the line with the file of this name failing at its first read, at its second, and so on, until the run has none
+// of that number. Each of these reads is told, and no file is made.
 fn fails_at_each_read<R: AllocGlobal + Abort>(rt: &R, name: &str, line: &str) -> Result<(), Fail> {
     let told = format!(in rt.alloc(); "File fault 1: {name}.\n")?;
     for nth in 1..100 {
@@ -133,7 +133,7 @@ fn a_journal_that_cannot_be_written_is_told(rt: HostRuntime) -> Result<(), Fail>
     Err(Fail::new("too many writes"))
 }
 
-// A journal of one sector has 61 + 4,100 bytes. One byte of room less is told, and so is a journal that can't be synced.
+// A journal of one sector has 61 + 4,100 bytes. One byte of room less is told, and so is one that can't be synced.
 #[test]
 fn a_journal_without_room_is_told(rt: HostRuntime) -> Result<(), Fail> {
     for flaw in [

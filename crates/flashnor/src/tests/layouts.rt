@@ -7,8 +7,8 @@ use std::test::Fail;
 
 const READ: &str = "-p dummy:emulate=TINY64,image=chip,trace=trace -r out -l layout -i";
 
-// Regions may be named in any order and more than once; `a` ends inside sector 0, `b` begins there, and `c` isn't named.
-// The opening takes five transactions, and only the two sectors are read.
+// Regions may be named in any order and more than once: `a` is sector 0, `b` begins inside it and ends inside the next,
+// and `c` isn't named. The opening takes five transactions, and only these two sectors are read.
 #[test]
 fn named_regions_are_read(rt: HostRuntime) -> Result<(), Fail> {
     let shelf = Shelf::new(rt.alloc())

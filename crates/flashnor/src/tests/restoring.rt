@@ -95,8 +95,8 @@ fn a_named_restore_is_stopped_with_its_probe(rt: HostRuntime) -> Result<(), Fail
     holds(&rt, &shelf, "chip", 65_536, &[(0, 0, 0x00)])
 }
 
-// A chip of format 1's time: the magic, the ID, the status, the size, sector 0 all FFh, the end mark, and the SHA-256 of
-// all that by `sha256sum`. It fits each unit: byte 000100h, programmed since, rises again by an erase.
+// It has the magic, the ID, the status, the size, sector 0 all FFh, the end mark, and the SHA-256 of all that by
+// `sha256sum`, but no unique ID: byte 000100h, programmed since, rises again by an erase.
 #[test]
 fn a_journal_of_format_1_is_restored_on_any_unit(rt: HostRuntime) -> Result<(), Fail> {
     let mut journal = vec![in rt.alloc(); 0xFF; 0]?;

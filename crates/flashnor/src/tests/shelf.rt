@@ -25,7 +25,8 @@ impl Shelf {
         }
     }
 
-    /// With one more file, so long and FFh but for these bytes: the first and the last place of some, and what they are.
+    /// With one more file, so long and FFh but for these bytes: the first and the last place of some, and what they
+    /// are.
     pub fn with(self, name: &str, len: usize, spans: &[(usize, usize, u8)]) -> Result<Shelf, Fail> {
         self.put(name, filled(self.alloc, len, spans)?)?;
         Ok(self)

@@ -1,5 +1,5 @@
-//! Writes of an image, by what they tell, send, save and leave. The opening takes 7 transactions and the scan 16, so the
-//! 24th is the first behind them.
+//! Writes of an image, by what they tell, send, save and leave. The opening takes 7 transactions and the scan 16, so
+//! the 24th is the first behind them.
 
 use super::shelf::Shelf;
 use super::{OPENING, TINY, changes, holds, traces};
