@@ -2,7 +2,8 @@
 
 use super::kept::Flaw;
 use super::shelf::Shelf;
-use super::{all_fail, run};
+use super::{all_fail, holds, run};
+use crate::run_words;
 use std::test::Fail;
 
 // The image that is written.
@@ -297,4 +298,23 @@ fn help_is_no_fault(rt: HostRuntime) -> Result<(), Fail> {
     assert!(rt; ran.errors.is_empty());
     assert_eq!(rt; ran.status, 0);
     Ok(())
+}
+
+// Results that can't be printed are a fault without a line, since there is nowhere left to tell it. What was done stays
+// done, and the files are written back.
+#[test]
+fn results_that_cannot_be_printed_are_a_fault(rt: HostRuntime) -> Result<(), Fail> {
+    let shelf = Shelf::new(rt.alloc());
+    let mut words = Vec::new(rt.alloc());
+    for word in ["-p", "dummy:emulate=TINY64,image=chip", "-E", "--journal", "journal"] {
+        words.push(String::from_str(rt.alloc(), word)?)?;
+    }
+    let mut room = [0x00; 20];
+    let mut output = room.as_mut_slice();
+    let mut errors = Vec::new(rt.alloc());
+    let status = run_words(&shelf, words.as_slice(), &mut output, &mut errors);
+    assert_eq!(rt; status, 1);
+    assert!(rt; errors.is_empty());
+    assert_eq!(rt; shelf.bytes("journal")?.len(), 61);
+    holds(&rt, &shelf, "chip", 65_536, &[])
 }

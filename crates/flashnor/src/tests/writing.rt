@@ -195,3 +195,20 @@ fn what_is_not_checked_is_written_all_the_same(rt: HostRuntime) -> Result<(), Fa
     traces(&rt, &shelf, "trace", 29, 28, &["0200000001", "05 > 00"])?;
     holds(&rt, &shelf, "chip", 65_536, &[(0, 0, 0x01)])
 }
+
+// Behind the magic and the ID: the unit's own number, and the status without BUSY, WEL and SUS. The latch that was set
+// stays so in the status file; SUS reads 0.
+#[test]
+fn a_journal_has_the_number_of_the_unit(rt: HostRuntime) -> Result<(), Fail> {
+    let shelf = Shelf::new(rt.alloc())
+        .with("new", 65_536, &[])?
+        .with_bytes("status", &[0x42, 0x82])?;
+    let line = "-p dummy:emulate=TINY64,unique=0123456789abcDEF,status=status -w new --journal journal";
+    changes(&rt, &shelf, line, TINY, [0, 0, 0, 23])?;
+    let journal = shelf.bytes("journal")?;
+    assert_eq!(rt; journal.len(), 61);
+    let wanted = [0x01, 0x23, 0x45, 0x67, 0x89, 0xAB, 0xCD, 0xEF, 0x40, 0x02];
+    assert!(rt; journal.get(11..21) == Some(wanted.as_slice()));
+    assert_eq!(rt; shelf.bytes("status")?.as_slice(), [0x42, 0x02].as_slice());
+    Ok(())
+}
