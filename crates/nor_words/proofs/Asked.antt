@@ -1,74 +1,49 @@
--- Faults in their order, and the job of options that have none.
-use Rattle.std.proofs.Common.{◌≡◌, ◌∙◌, ◌<◌, ◌≤◌, ◌++◌, Bool, true, false, cond, List, [], ◌∷◌, Option, Some, None, Result, Ok, Err, nat_lt, refl, arith}
+-- What options come to that words give.
+use Rattle.std.proofs.Common.{◌≡◌, ◌∙◌, Bool, true, false, cond, List, [], ◌∷◌, Option, Some, None, Result, Ok, Err, ap, not, refl, sym}
 use Rattle.std.specs.Prelude.{MatchResult}
-use Rattle.std.proofs.lemmas.Bool.Decides.{nat_tests}
-use Rattle.clap.specs.declared.error.Error.{Error}
 use Rattle.nor_words.specs.Text.{Text}
-use Rattle.nor_words.specs.Given.{Texts, given_by, operations}
-use Rattle.nor_words.specs.Faults.{Case, first_fault, programmer_faults, task_faults, usage_faults}
+use Rattle.std.specs.List.{list_all}
+use Rattle.nor_words.specs.Given.{Texts, given_by}
+use Rattle.nor_words.specs.Faults.{Case, first_fault, usage_faults}
+use Rattle.nor_words.proofs.Numerals.{first_part, second_part}
 use Rattle.nor_words.specs.Job.{IsAsked}
 use Rattle.nor_words.specs.Words.{IsFault, IsJob, refusals_of}
-use Rattle.nor_words.specs.declared.words.Job.{Job}
+use Rattle.nor_words.specs.declared.job.Job.{Job}
 use Rattle.nor_words.specs.declared.words.UsageFault.{UsageFault}
 use Rattle.nor_words.specs.declared.words.UsageFault.TheVariants as why
 
--- a fault in front comes first
-front-step : (holds : Bool) (fault told : UsageFault) (front all : Option UsageFault) → (front ≡ Some told → all ≡ Some told)
-    → cond holds (Some fault) front ≡ Some told → cond holds (Some fault) all ≡ Some told
-front-step true fault told front all more h = h
-front-step false fault told front all more h = more h
+abbrev is_words : UsageFault → Bool
+is_words (why.Words error) = true
+is_words _ = false
 
-pub first_fault-front : (front back : List Case) (told : UsageFault) → first_fault front ≡ Some told → first_fault (front ++ back) ≡ Some told
-first_fault-front [] back told h = cc
-first_fault-front (case ∷ front) back told h =
-    front-step case.0 case.1 told (first_fault front) (first_fault (front ++ back)) (first_fault-front front back told) h
+no_words : (b : Bool) → not b ≡ true → b ≡ false
+no_words true h = cc
+no_words false h = refl
 
--- where none is in front the others count
-back-step : (holds : Bool) (fault : UsageFault) (front all back : Option UsageFault) → (front ≡ None → all ≡ back)
-    → cond holds (Some fault) front ≡ None → cond holds (Some fault) all ≡ back
-back-step true fault front all back more h = cc
-back-step false fault front all back more h = more h
+told-step : (holds : Bool) (fault told : UsageFault) (rest : Option UsageFault) → not (is_words fault) ≡ true → (rest ≡ Some told → is_words told ≡ false)
+    → cond holds (Some fault) rest ≡ Some told → is_words told ≡ false
+told-step true fault told rest other more h =
+    let same : fault ≡ told = cc in
+    ap is_words (sym same) ∙ no_words _ other
+told-step false fault told rest other more h = more h
 
-pub first_fault-back : (front back : List Case) → first_fault front ≡ None → first_fault (front ++ back) ≡ first_fault back
-first_fault-back [] back none = refl
-first_fault-back (case ∷ front) back none =
-    back-step case.0 case.1 (first_fault front) (first_fault (front ++ back)) (first_fault back) (first_fault-back front back) none
-
--- several operations are the fault of options whose programmer has none
-pub two_operations : (given : Texts) → first_fault (programmer_faults given) ≡ None → 1 < operations given
-    → first_fault (usage_faults given) ≡ Some why.TwoOperations
-two_operations given none several =
-    let over : nat_lt 1 (operations given) ≡ true = grind (arith, nat_tests) in
-    first_fault-back (programmer_faults given) ((nat_lt 1 (operations given), why.TwoOperations) ∷ task_faults given) none ∙ rw over refl
-
--- with one operation or none, the faults of the task are left
-pub one_operation : (given : Texts) → first_fault (programmer_faults given) ≡ None → operations given ≤ 1
-    → first_fault (usage_faults given) ≡ first_fault (task_faults given)
-one_operation given none few =
-    let under : nat_lt 1 (operations given) ≡ false = grind (arith, nat_tests) in
-    first_fault-back (programmer_faults given) ((nat_lt 1 (operations given), why.TwoOperations) ∷ task_faults given) none ∙ rw under refl
-
--- a fault of the programmer's comes first
-pub programmer_first : (given : Texts) (fault : UsageFault) → first_fault (programmer_faults given) ≡ Some fault → first_fault (usage_faults given) ≡ Some fault
-programmer_first given fault h =
-    first_fault-front (programmer_faults given) ((nat_lt 1 (operations given), why.TwoOperations) ∷ task_faults given) fault h
-
--- options that `clap` takes have no fault of `clap`'s
-not_words : (a b c d f : Bool) (error : Error)
-    → cond a (Some why.NoProgrammer) (cond b (Some why.Programmer) (cond c (Some why.TwoOperations) (cond d (Some why.Journal) (cond f (Some why.Stops) None)))) ≡ Some (why.Words error) → ⊥
-not_words true b c d f error h = cc
-not_words false true c d f error h = cc
-not_words false false true d f error h = cc
-not_words false false false true f error h = cc
-not_words false false false false true error h = cc
-not_words false false false false false error h = cc
+-- none of the cases is a fault of `clap`'s, so none is told
+told-other : (cases : List Case) (told : UsageFault) → list_all (λ (one : Case). not (is_words one.1)) cases ≡ true → first_fault cases ≡ Some told
+    → is_words told ≡ false
+told-other [] told all h = cc
+told-other (one ∷ cases) told all h = told-step one.0 one.1 told (first_fault cases) (first_part _ _ all) (told-other cases told (second_part _ _ all)) h
 
 fault-told : (words : List Text) (fault : UsageFault) → refusals_of words ≡ [] → first_fault (usage_faults (given_by words)) ≡ Some fault → IsFault words fault
-fault-told words (why.Words error) taken h = absurd (not_words _ _ _ _ _ error h)
+fault-told words (why.Words error) taken h =
+    let bad : true ≡ false = told-other (usage_faults (given_by words)) (why.Words error) refl h in
+    cc
 fault-told words why.NoProgrammer taken h = (taken, h)
 fault-told words why.Programmer taken h = (taken, h)
 fault-told words why.TwoOperations taken h = (taken, h)
+fault-told words why.Range taken h = (taken, h)
 fault-told words why.Journal taken h = (taken, h)
+fault-told words why.Layout taken h = (taken, h)
+fault-told words why.Unneeded taken h = (taken, h)
 fault-told words why.Stops taken h = (taken, h)
 fault-told words why.Memory taken h = tt
 

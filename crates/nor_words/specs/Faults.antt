@@ -1,8 +1,10 @@
 -- The faults that options may have which `clap` takes.
-use Rattle.std.specs.Prelude.{◌&&◌, ◌||◌, Bool, Option, Some, None, List, [], ◌∷◌, ◌++◌, is_some, nat_lt, not, option_and_then, if◌then◌else◌}
-use Rattle.nor_words.specs.Text.{Text}
-use Rattle.nor_words.specs.Given.{Texts, operations}
-use Rattle.nor_words.specs.Programmer.{programmer_of}
+use Rattle.std.specs.Prelude.{◌&&◌, ◌||◌, Bool, false, Option, Some, None, List, [], ◌∷◌, is_some, nat_eq, nat_lt, not, if◌then◌else◌}
+use Rattle.std.specs.Option.{option_map_or}
+use Rattle.nor_words.specs.Text.{Text, reads}
+use Rattle.nor_words.specs.Given.{Texts, how_many, is_change, is_new_content, operations, takes_regions}
+use Rattle.nor_words.specs.Numbers.{range_of}
+use Rattle.nor_words.specs.Programmer.{has_stop, is_programmer}
 use Rattle.nor_words.specs.Stops.{stops_of}
 use Rattle.nor_words.specs.declared.words.UsageFault.{UsageFault}
 use Rattle.nor_words.specs.declared.words.UsageFault.TheVariants as why
@@ -11,32 +13,36 @@ use Rattle.nor_words.specs.declared.words.UsageFault.TheVariants as why
 abbrev pub Case : Type 0
 Case = Bool × UsageFault
 
--- there is a text, and its reading finds nothing in it
-abbrev pub means_nothing : {T : Type 0} → (Text → Option T) → Option Text → Bool
-means_nothing reading text = is_some text && not (is_some (option_and_then reading text))
+-- there is a text, and it passes the test
+abbrev pub is_there : (Text → Bool) → Option Text → Bool
+is_there test text = option_map_or test text false
 
--- what may be wrong with `-p`, which all but `-L` need
-abbrev pub programmer_faults : Texts → List Case
-programmer_faults given =
-    (not (is_some given.programmer) && not given.list, why.NoProgrammer)
-    ∷ (means_nothing programmer_of given.programmer, why.Programmer)
-    ∷ []
+-- there is a text, and it doesn't pass the test
+abbrev pub is_no : (Text → Bool) → Option Text → Bool
+is_no test = is_there (λ text. not (test text))
 
--- one option is given, and the other isn't
-abbrev pub is_alone : Option Text → Option Text → Bool
-is_alone one other = is_some one && not (is_some other)
+-- a change has exactly one of `--journal` and `--rehearse`, and all else has neither
+abbrev pub has_wrong_journal : Texts → Bool
+has_wrong_journal given =
+    not (nat_eq (how_many (is_some given.journal ∷ is_some given.rehearse ∷ [])) (if is_change given then 1 else 0))
 
--- what may be wrong with `-w` and `--rehearse`, which go together
-abbrev pub task_faults : Texts → List Case
-task_faults given =
-    (is_alone given.write given.rehearse || is_alone given.rehearse given.write, why.Journal)
-    ∷ (means_nothing stops_of given.rehearse, why.Stops)
-    ∷ []
+-- one of `-l` and `-i` is there, and not both with an operation that takes regions
+abbrev pub has_wrong_regions : Texts → Bool
+has_wrong_regions given = (is_some given.layout || is_some given.names)
+    && not (is_some given.layout && (is_some given.names && takes_regions given))
 
 -- all of them in their order
 abbrev pub usage_faults : Texts → List Case
 usage_faults given =
-    programmer_faults given ++ (nat_lt 1 (operations given), why.TwoOperations) ∷ task_faults given
+    (not (is_some given.programmer) && not given.list, why.NoProgrammer)
+    ∷ (is_no is_programmer given.programmer, why.Programmer)
+    ∷ (nat_lt 1 (operations given), why.TwoOperations)
+    ∷ (is_no (reads range_of) given.wp_range, why.Range)
+    ∷ (has_wrong_journal given, why.Journal)
+    ∷ (has_wrong_regions given, why.Layout)
+    ∷ ((given.no_verify || given.unlock) && not (is_new_content given), why.Unneeded)
+    ∷ (is_no (reads stops_of) given.rehearse || (is_some given.rehearse && is_there has_stop given.programmer), why.Stops)
+    ∷ []
 
 -- the first that holds
 abbrev pub first_fault : List Case → Option UsageFault

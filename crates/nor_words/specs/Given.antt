@@ -1,5 +1,6 @@
 -- What the words of the command line give each option.
-use Rattle.std.specs.Prelude.{ℕ, Bool, false, Option, List, [], ◌∷◌, codes, filter, is_some, length, option_map}
+use Rattle.std.specs.Prelude.{◌||◌, ℕ, Bool, false, Option, List, [], ◌∷◌, codes, is_some, option_map}
+use Rattle.std.specs.List.{count_by}
 use Rattle.std.specs.Option.{option_map_or}
 use Rattle.std.specs.Str.{bytes_eq}
 use Rattle.clap.specs.Words.{Row, first_of, matches_of}
@@ -9,50 +10,112 @@ use Rattle.nor_words.specs.declared.given.Given.{Given}
 
 -- The texts of the options that take one, and whether the flags are set.
 pub record Texts : Type 0 where
-  -- `-p TEXT`
+  -- `-p TEXT`, `-c NAME`
   pub programmer : Option Text
-  -- `-w FILE`
-  pub write : Option Text
-  -- `--flash-size`
-  pub flash_size : Bool
-  -- `-L`
-  pub list : Bool
-  -- `-c NAME`
   pub chip : Option Text
-  -- `--rehearse N,N,..`
+  -- `-L`, `--flash-size`, `--wp-status`, `--wp-list`
+  pub list : Bool
+  pub flash_size : Bool
+  pub wp_status : Bool
+  pub wp_list : Bool
+  -- `-r FILE`, `-v FILE`
+  pub read : Option Text
+  pub verify : Option Text
+  -- `-w FILE`, `-E`, `--wp-range S,L`, `--restore FILE`
+  pub write : Option Text
+  pub erase : Bool
+  pub wp_range : Option Text
+  pub restore : Option Text
+  -- `--journal FILE`, `--rehearse N,N,..`
+  pub journal : Option Text
   pub rehearse : Option Text
+  -- `-l FILE`, `-i NAMES`
+  pub layout : Option Text
+  pub names : Option Text
+  -- `-n`, `--unlock`
+  pub no_verify : Bool
+  pub unlock : Bool
 
 -- `clap` gives a flag that is set the value `true`
 abbrev pub is_flag_set : Option Text → Bool
 is_flag_set value = option_map_or (λ text. bytes_eq text (codes "true")) value false
 
+-- the text of an option, and whether a flag is set, in what a parse found
+abbrev pub text_in : List Row → Text → Option Text
+text_in rows id = first_of id rows
+
+abbrev pub is_set_in : List Row → Text → Bool
+is_set_in rows id = is_flag_set (first_of id rows)
+
 -- what a parse found
 abbrev pub given_in : List Row → Texts
 given_in rows = record {
-  programmer = first_of (codes "programmer") rows;
-  write = first_of (codes "write") rows;
-  flash_size = is_flag_set (first_of (codes "flash-size") rows);
-  list = is_flag_set (first_of (codes "list") rows);
-  chip = first_of (codes "chip") rows;
-  rehearse = first_of (codes "rehearse") rows;
+  programmer = text_in rows (codes "programmer");
+  chip = text_in rows (codes "chip");
+  list = is_set_in rows (codes "list");
+  flash_size = is_set_in rows (codes "flash-size");
+  wp_status = is_set_in rows (codes "wp-status");
+  wp_list = is_set_in rows (codes "wp-list");
+  read = text_in rows (codes "read");
+  verify = text_in rows (codes "verify");
+  write = text_in rows (codes "write");
+  erase = is_set_in rows (codes "erase");
+  wp_range = text_in rows (codes "wp-range");
+  restore = text_in rows (codes "restore");
+  journal = text_in rows (codes "journal");
+  rehearse = text_in rows (codes "rehearse");
+  layout = text_in rows (codes "layout");
+  names = text_in rows (codes "include");
+  no_verify = is_set_in rows (codes "no-verify");
+  unlock = is_set_in rows (codes "unlock");
 }
 
 -- what the words give
 abbrev pub given_by : List Text → Texts
 given_by words = given_in (matches_of options words)
 
--- how many operations are asked for: `-w`, `--flash-size` and `-L`
-abbrev pub operations : Texts → ℕ
-operations given =
-    length (filter (λ asked. asked) (is_some given.write ∷ given.flash_size ∷ given.list ∷ []))
-
 -- what the code holds of it
 abbrev pub texts_of : Given → Texts
 texts_of given = record {
   programmer = option_map (λ text. text.now) given.programmer;
-  write = option_map (λ text. text.now) given.write;
-  flash_size = given.flash_size;
-  list = given.list;
   chip = option_map (λ text. text.now) given.chip;
+  list = given.list;
+  flash_size = given.flash_size;
+  wp_status = given.wp_status;
+  wp_list = given.wp_list;
+  read = option_map (λ text. text.now) given.read;
+  verify = option_map (λ text. text.now) given.verify;
+  write = option_map (λ text. text.now) given.write;
+  erase = given.erase;
+  wp_range = option_map (λ text. text.now) given.wp_range;
+  restore = option_map (λ text. text.now) given.restore;
+  journal = option_map (λ text. text.now) given.journal;
   rehearse = option_map (λ text. text.now) given.rehearse;
+  layout = option_map (λ text. text.now) given.layout;
+  names = option_map (λ text. text.now) given.names;
+  no_verify = given.no_verify;
+  unlock = given.unlock;
 }
+
+-- how many of these are asked for
+abbrev pub how_many : List Bool → ℕ
+how_many = count_by (λ asked. asked)
+
+-- how many operations there are
+abbrev pub operations : Texts → ℕ
+operations given = how_many (
+    given.list ∷ given.flash_size ∷ given.wp_status ∷ given.wp_list
+    ∷ is_some given.read ∷ is_some given.verify
+    ∷ is_some given.write ∷ given.erase ∷ is_some given.wp_range ∷ is_some given.restore ∷ [])
+
+-- the operation gives the chip new content
+abbrev pub is_new_content : Texts → Bool
+is_new_content given = is_some given.write || given.erase
+
+-- the operation changes the chip and keeps a journal, or rehearses that
+abbrev pub is_change : Texts → Bool
+is_change given = is_new_content given || is_some given.wp_range
+
+-- the operation may be held to regions
+abbrev pub takes_regions : Texts → Bool
+takes_regions given = is_some given.read || (is_some given.verify || is_new_content given)

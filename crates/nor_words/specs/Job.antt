@@ -1,26 +1,68 @@
 -- The job that options ask for which have no fault.
-use Rattle.std.specs.Prelude.{◌≡◌, true, false, Some, None, option_and_then, option_map}
-use Rattle.nor_words.specs.Given.{Texts}
-use Rattle.nor_words.specs.Programmer.{programmer_of, shown}
+use Rattle.std.specs.Prelude.{◌≡◌, true, false, Option, Some, None, not, option_and_then, option_map}
+use Rattle.std.specs.Borrow.{Bor}
+use Rattle.std.specs.Option.{IsSomeAnd}
+use Rattle.nor_words.specs.Given.{Texts, operations}
+use Rattle.nor_words.specs.Numbers.{range_of}
+use Rattle.nor_words.specs.Programmer.{IsProgrammer}
 use Rattle.nor_words.specs.Stops.{stops_of}
-use Rattle.nor_words.specs.declared.words.ChipJob.{ChipJob}
-use Rattle.nor_words.specs.declared.words.Job.{Job}
-use Rattle.nor_words.specs.declared.words.Job.TheVariants as job
-use Rattle.nor_words.specs.declared.words.Task.{Task}
-use Rattle.nor_words.specs.declared.words.Task.TheVariants as task
+use Rattle.nor_words.specs.Text.{Text}
+use Rattle.nor_words.specs.declared.job.Change.{Change}
+use Rattle.nor_words.specs.declared.job.ChipJob.{ChipJob}
+use Rattle.nor_words.specs.declared.job.Job.{Job}
+use Rattle.nor_words.specs.declared.job.Job.TheVariants as job
+use Rattle.nor_words.specs.declared.job.Keeping.{Keeping}
+use Rattle.nor_words.specs.declared.job.Keeping.TheVariants as keep
+use Rattle.nor_words.specs.declared.job.Regions.{Regions}
+use Rattle.nor_words.specs.declared.job.Task.{Task}
+use Rattle.nor_words.specs.declared.job.Task.TheVariants as task
+use Rattle.nor_words.specs.declared.job.Wanted.{Wanted}
+use Rattle.nor_words.specs.declared.job.Wanted.TheVariants as want
 
--- `-w` is a rehearsal, under the stops that `--rehearse` lists; without it the chip is only found, or its size told
+-- the option has this text
+abbrev pub Names : Option Text → Bor Text → Type 0
+Names option text = option ≡ Some text.now
+
+-- `-l` and `-i`, or neither
+abbrev pub IsRegions : Texts → Option Regions → Type 0
+IsRegions given None = (given.layout ≡ None) × (given.names ≡ None)
+IsRegions given (Some regions) = Names given.layout regions.layout × Names given.names regions.names
+
+-- what a change makes of the chip
+abbrev pub IsWanted : Texts → Wanted → Type 0
+IsWanted given (want.Write image) = Names given.write image
+IsWanted given want.Erase = given.erase ≡ true
+IsWanted given (want.Range start len) = option_and_then range_of given.wp_range ≡ Some (start, len)
+
+-- where its journal is kept, or how it is rehearsed
+abbrev pub IsKeeping : Texts → Keeping → Type 0
+IsKeeping given (keep.Journal file) = Names given.journal file
+IsKeeping given (keep.Rehearse stops) = option_and_then stops_of given.rehearse ≡ Some stops.items
+
+-- Each part of a change is what the options say.
+pub record IsChange (given : Texts) (change : Change) : Type 0 where
+  pub wanted : IsWanted given change.wanted
+  pub regions : IsRegions given change.regions
+  pub unlock : change.unlock ≡ given.unlock
+  pub verify : change.verify ≡ not given.no_verify
+  pub keeping : IsKeeping given change.keeping
+
+-- the one operation that there is; none is a probe
 abbrev pub IsTask : Texts → Task → Type 0
-IsTask given task.Probe = (given.write ≡ None) × (given.flash_size ≡ false)
-IsTask given task.FlashSize = (given.write ≡ None) × (given.flash_size ≡ true)
-IsTask given (task.Rehearse image stops) =
-    (given.write ≡ Some image.now) × (option_and_then stops_of given.rehearse ≡ Some stops.items)
+IsTask given task.Probe = operations given ≡ 0
+IsTask given task.FlashSize = given.flash_size ≡ true
+IsTask given task.WpStatus = given.wp_status ≡ true
+IsTask given task.WpList = given.wp_list ≡ true
+IsTask given (task.Read file regions) = Names given.read file × IsRegions given regions
+IsTask given (task.Verify file regions) = Names given.verify file × IsRegions given regions
+IsTask given (task.Change change) = IsChange given change
+IsTask given (task.Restore journal) = Names given.restore journal
 
 -- Each part of a job on a chip is what the options say.
-pub record IsChipJob (given : Texts) (job : ChipJob) : Type 0 where
-  pub programmer : option_and_then programmer_of given.programmer ≡ Some (shown job.programmer)
-  pub named : given.chip ≡ option_map (λ name. name.now) job.named
-  pub task : IsTask given job.task
+pub record IsChipJob (given : Texts) (on_chip : ChipJob) : Type 0 where
+  pub programmer : IsSomeAnd given.programmer (λ text. IsProgrammer text on_chip.programmer)
+  pub named : given.chip ≡ option_map (λ name. name.now) on_chip.named
+  pub task : IsTask given on_chip.task
 
 -- `-L` is the list of chips, and all else is done with a chip
 abbrev pub IsAsked : Texts → Job → Type 0

@@ -1,5 +1,5 @@
 -- The options of the program, as `clap` reads them.
-use Rattle.std.specs.Prelude.{◌≡◌, true, false, Some, codes}
+use Rattle.std.specs.Prelude.{◌≡◌, true, false, List, [], ◌∷◌, Some, codes, fold, slice_get}
 use Rattle.clap.specs.Words.{App, Rule, new_app, new_rule, rule_of, with_rule}
 use Rattle.clap.specs.declared.builder.arg.Arg.{Arg}
 use Rattle.clap.specs.declared.builder.action.ArgAction.TheVariants.{Set, SetTrue, HelpShort}
@@ -13,33 +13,55 @@ valued id = record (new_rule id) { action = Some Set; value_names = 1 }
 abbrev pub flag : Text → Rule
 flag id = record (new_rule id) { action = Some SetTrue }
 
--- `-p TEXT`
-abbrev pub programmer_rule : Rule
-programmer_rule = record (valued (codes "programmer")) { short = Some 112 }
+-- it is written as `-` and this letter
+abbrev pub by_letter : Text → Rule → Rule
+by_letter letter rule = record rule { short = slice_get letter 0 }
 
--- `-w FILE`
-abbrev pub write_rule : Rule
-write_rule = record (valued (codes "write")) { short = Some 119 }
+-- it is written as `--` and its name
+abbrev pub by_name : Rule → Rule
+by_name rule = record rule { long = Some rule.id }
 
--- `--flash-size`
-abbrev pub flash_size_rule : Rule
-flash_size_rule = record (flag (codes "flash-size")) { long = Some (codes "flash-size") }
+-- the programmer and its chip
+abbrev pub chip_rules : List Rule
+chip_rules =
+    by_letter (codes "p") (valued (codes "programmer"))
+    ∷ by_letter (codes "c") (valued (codes "chip"))
+    ∷ by_letter (codes "L") (flag (codes "list"))
+    ∷ []
 
--- `-L`
-abbrev pub list_rule : Rule
-list_rule = record (flag (codes "list")) { short = Some 76 }
+-- the operations that leave the chip as it is
+abbrev pub reader_rules : List Rule
+reader_rules =
+    by_name (flag (codes "flash-size"))
+    ∷ by_name (flag (codes "wp-status"))
+    ∷ by_name (flag (codes "wp-list"))
+    ∷ by_letter (codes "r") (valued (codes "read"))
+    ∷ by_letter (codes "v") (valued (codes "verify"))
+    ∷ []
 
--- `-c NAME`
-abbrev pub chip_rule : Rule
-chip_rule = record (valued (codes "chip")) { short = Some 99 }
+-- the operations that change the chip
+abbrev pub change_rules : List Rule
+change_rules =
+    by_letter (codes "w") (valued (codes "write"))
+    ∷ by_letter (codes "E") (flag (codes "erase"))
+    ∷ by_name (valued (codes "wp-range"))
+    ∷ by_name (valued (codes "restore"))
+    ∷ []
 
--- `--rehearse N,N,..`
-abbrev pub rehearse_rule : Rule
-rehearse_rule = record (valued (codes "rehearse")) { long = Some (codes "rehearse") }
+-- how an operation is done
+abbrev pub manner_rules : List Rule
+manner_rules =
+    by_name (valued (codes "journal"))
+    ∷ by_name (valued (codes "rehearse"))
+    ∷ by_letter (codes "l") (valued (codes "layout"))
+    ∷ by_letter (codes "i") (valued (codes "include"))
+    ∷ by_letter (codes "n") (flag (codes "no-verify"))
+    ∷ by_name (flag (codes "unlock"))
+    ∷ []
 
 -- `-h`
 abbrev pub help_rule : Rule
-help_rule = record (new_rule (codes "usage")) { short = Some 104; action = Some HelpShort }
+help_rule = by_letter (codes "h") (record (new_rule (codes "usage")) { action = Some HelpShort })
 
 -- an argument of `clap` by this rule
 pub record IsOption (option : Rule) (arg : Arg) : Type 0 where
@@ -51,8 +73,10 @@ abbrev pub no_options : App
 no_options = let app = new_app (codes "flashnor") in
     record app { top = record app.top { no_binary_name = true; disable_help_flag = true } }
 
--- the options that take a value or a flag, and help
+-- these options behind those that there are
+abbrev pub with_rules : App → List Rule → App
+with_rules = fold with_rule
+
+-- all options
 abbrev pub options : App
-options =
-    with_rule (with_rule (with_rule (with_rule (with_rule (with_rule (with_rule no_options programmer_rule) write_rule)
-    flash_size_rule) list_rule) chip_rule) rehearse_rule) help_rule
+options = with_rule (with_rules (with_rules (with_rules (with_rules no_options chip_rules) reader_rules) change_rules) manner_rules) help_rule

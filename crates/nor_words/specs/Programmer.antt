@@ -1,6 +1,6 @@
 -- What the text of `-p` says.
-use Rattle.std.specs.Prelude.{◌&&◌, ◌||◌, Bool, List, Option, Some, None, length, drop, filter, find, codes, is_some, nat_eq, nat_lt, nat_le, option_map, option_and_then, if◌then◌else◌}
-use Rattle.std.specs.List.{starts_with, list_all}
+use Rattle.std.specs.Prelude.{◌≡◌, ◌&&◌, Bool, true, List, [], ◌∷◌, Option, Some, None, length, drop, find, codes, is_some, nat_eq, nat_lt, nat_le, option_map, option_and_then, if◌then◌else◌}
+use Rattle.std.specs.List.{count_by, list_all, list_any, starts_with}
 use Rattle.std.specs.Str.{bytes_eq}
 use Rattle.nor_chip.specs.Chip.{IsTiny64}
 use Rattle.nor_chip.specs.Makers.{IsW25q64fv, IsW25q128fv}
@@ -8,7 +8,8 @@ use Rattle.nor_chip.specs.declared.config.Config.{Config}
 use Rattle.nor_words.specs.declared.programmer.Emulated.{Emulated}
 use Rattle.nor_words.specs.declared.programmer.Emulated.TheVariants.{Tiny64, W25q64fv, W25q128fv}
 use Rattle.nor_words.specs.declared.programmer.Programmer.{Programmer}
-use Rattle.nor_words.specs.Text.{Text, pieces_of, key_of, value_of}
+use Rattle.nor_words.specs.Numbers.{byte_of, number_of, polls_of, unique_of}
+use Rattle.nor_words.specs.Text.{Text, pieces_of, key_of, value_of, reads}
 
 -- the emulated chip of this name
 abbrev pub chip_named : Text → Option Emulated
@@ -23,42 +24,73 @@ IsConfigOf Tiny64 config = IsTiny64 config
 IsConfigOf W25q64fv config = IsW25q64fv config
 IsConfigOf W25q128fv config = IsW25q128fv config
 
--- `emulate=NAME`, the name of an emulated chip
-abbrev pub names_chip : Text → Bool
-names_chip setting =
-    bytes_eq (key_of setting) (codes "emulate") && is_some (chip_named (value_of setting))
+-- the name of a file isn't empty
+abbrev pub is_file : Text → Bool
+is_file name = nat_lt 0 (length name)
 
--- `image=FILE`, the name of a file, which isn't empty
-abbrev pub names_image : Text → Bool
-names_image setting =
-    bytes_eq (key_of setting) (codes "image") && nat_lt 0 (length (value_of setting))
+-- the keys, each with what its values are
+abbrev pub keys : List (Text × (Text → Bool))
+keys =
+    (codes "emulate", reads chip_named)
+    ∷ (codes "image", is_file)
+    ∷ (codes "status", is_file)
+    ∷ (codes "trace", is_file)
+    ∷ (codes "stop", reads number_of)
+    ∷ (codes "unique", reads unique_of)
+    ∷ (codes "busy", reads polls_of)
+    ∷ (codes "power", reads byte_of)
+    ∷ []
+
+-- the setting has this key
+abbrev pub has_key : Text → Text → Bool
+has_key key setting = bytes_eq (key_of setting) key
+
+-- there is such a key, and this is a value of it
+abbrev pub may_have : Text → Text → Bool
+may_have key value = list_any (λ known. bytes_eq key known.0 && known.1 value) keys
+
+-- the setting has one of the keys, and a value of this key
+abbrev pub is_setting : Text → Bool
+is_setting setting = may_have (key_of setting) (value_of setting)
+
+-- at most one of the settings has the key of this one
+abbrev pub is_alone_in : List Text → Text → Bool
+is_alone_in settings setting = nat_le (count_by (has_key (key_of setting)) settings) 1
+
+-- each is a setting, and none has the key of another
+abbrev pub are_settings : List Text → Bool
+are_settings settings = list_all (λ setting. is_setting setting && is_alone_in settings setting) settings
 
 -- the settings behind `dummy:`
 abbrev pub settings_of : Text → List Text
 settings_of text = pieces_of (drop 6 text)
 
--- `dummy:` and then settings, of which at most one names a chip and at most one an image
-abbrev pub is_dummy : Text → Bool
-is_dummy text = starts_with nat_eq text (codes "dummy:")
-    && (list_all (λ setting. names_chip setting || names_image setting) (settings_of text)
-    && (nat_le (length (filter names_chip (settings_of text))) 1
-    && nat_le (length (filter names_image (settings_of text))) 1))
+-- the value of the key, where a setting has it
+abbrev pub value_in : List Text → Text → Option Text
+value_in settings key = option_map value_of (find (has_key key) settings)
 
--- the chip that a setting names
-abbrev pub chip_in : List Text → Option Emulated
-chip_in settings = option_and_then (λ setting. chip_named (value_of setting)) (find names_chip settings)
+-- what the text of `-p` says of the key
+abbrev pub said : Text → Text → Option Text
+said text = value_in (settings_of text)
 
--- the file of the chip's bytes, where a setting names one
-abbrev pub image_in : List Text → Option Text
-image_in settings = option_map value_of (find names_image settings)
+-- `dummy:` and then settings, of which one names the chip
+abbrev pub is_programmer : Text → Bool
+is_programmer text = starts_with nat_eq text (codes "dummy:")
+    && (are_settings (settings_of text) && is_some (option_and_then chip_named (said text (codes "emulate"))))
 
--- the chip that the text asks for, with the file of its bytes; none where a chip isn't named
-abbrev pub programmer_of : Text → Option (Emulated × Option Text)
-programmer_of text =
-    if is_dummy text
-    then option_map (λ chip. (chip, image_in (settings_of text))) (chip_in (settings_of text))
-    else None
+-- a programmer's text that has a `stop=`
+abbrev pub has_stop : Text → Bool
+has_stop text = is_programmer text && is_some (option_and_then number_of (said text (codes "stop")))
 
--- a programmer, as its text says it
-abbrev pub shown : Programmer → Emulated × Option Text
-shown programmer = (programmer.chip, option_map (λ name. name.now) programmer.image)
+-- The text is a programmer's, and this one's: each part is what the setting with its key says, or nothing where there is
+-- none.
+pub record IsProgrammer (text : Text) (programmer : Programmer) : Type 0 where
+  pub sound : is_programmer text ≡ true
+  pub chip : option_and_then chip_named (said text (codes "emulate")) ≡ Some programmer.chip
+  pub image : said text (codes "image") ≡ option_map (λ name. name.now) programmer.image
+  pub status : said text (codes "status") ≡ option_map (λ name. name.now) programmer.status
+  pub trace : said text (codes "trace") ≡ option_map (λ name. name.now) programmer.trace
+  pub stop : option_and_then number_of (said text (codes "stop")) ≡ programmer.stop
+  pub unique : option_and_then unique_of (said text (codes "unique")) ≡ programmer.unique
+  pub busy : option_and_then polls_of (said text (codes "busy")) ≡ programmer.busy
+  pub power : option_and_then byte_of (said text (codes "power")) ≡ programmer.power

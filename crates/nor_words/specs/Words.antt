@@ -8,7 +8,7 @@ use Rattle.nor_words.specs.Options.{options}
 use Rattle.nor_words.specs.Given.{given_by}
 use Rattle.nor_words.specs.Faults.{first_fault, usage_faults}
 use Rattle.nor_words.specs.Job.{IsAsked}
-use Rattle.nor_words.specs.declared.words.Job.{Job}
+use Rattle.nor_words.specs.declared.job.Job.{Job}
 use Rattle.nor_words.specs.declared.words.UsageFault.{UsageFault}
 use Rattle.nor_words.specs.declared.words.UsageFault.TheVariants as why
 

@@ -1,4 +1,15 @@
 //! What the words give each option.
+ghost use Rattle.std.specs.Prelude.{◌≡◌, ◌&&◌, ◌||◌, None, Some, false, is_some, not, option_map, option_and_then, MatchOption, MatchResult};
+ghost use Rattle.std.specs.Option.{option_map_or};
+ghost use Rattle.clap.specs.Words.{found_of, rows_of};
+ghost use Rattle.nor_words.specs.Given.{given_in, is_set_in, operations, is_new_content, is_change, takes_regions};
+ghost use Rattle.nor_words.specs.Faults.{first_fault, has_wrong_journal, has_wrong_regions, is_no, is_there, usage_faults};
+ghost use Rattle.nor_words.specs.Job.{IsAsked, IsChange, IsKeeping, IsRegions, IsTask, IsWanted};
+ghost use Rattle.nor_words.specs.Meaning.{IsMeaning};
+ghost use Rattle.nor_words.specs.Numbers.{range_of};
+ghost use Rattle.nor_words.specs.Programmer.{has_stop, is_programmer};
+ghost use Rattle.nor_words.specs.Stops.{stops_of};
+ghost use Rattle.nor_words.specs.Text.{reads};
 
 use crate::job::{Change, ChipJob, Job, Keeping, Regions, Task, Wanted};
 use crate::numbers::read_range;
@@ -40,8 +51,12 @@ struct Meaning<'a> {
 }
 
 impl<'a> Given<'a> {
+    ghost use Rattle.nor_words.specs.Given.{texts_of};
+
     /// What a parse of the words found.
-    pub fn of(matches: &ArgMatches<'a>) -> Given<'a> {
+    pub fn of(matches: &ArgMatches<'a>) -> Given<'a>
+        ensures { texts_of result ≡ given_in (rows_of (found_of matches.now)) }
+    {
         Given {
             programmer: matches.get_str("programmer"),
             chip: matches.get_str("chip"),
@@ -65,7 +80,11 @@ impl<'a> Given<'a> {
     }
 
     /// The job that the options ask for, or the first fault that they have.
-    pub fn job(self) -> Result<Job<'a>, UsageFault> {
+    pub fn job(self) -> Result<Job<'a>, UsageFault>
+        ensures { MatchResult result
+            (λ job. (first_fault (usage_faults (texts_of self.entry)) ≡ None) × IsAsked (texts_of self.entry) job)
+            (λ fault. first_fault (usage_faults (texts_of self.entry)) ≡ Some fault) }
+    {
         let meaning = self.meaning();
         if let Some(fault) = self.fault(&meaning) {
             return Err(fault);
@@ -81,7 +100,9 @@ impl<'a> Given<'a> {
     }
 
     // Reads the texts that aren't names.
-    fn meaning(&self) -> Meaning<'a> {
+    fn meaning(&self) -> Meaning<'a>
+        ensures { IsMeaning (texts_of self.now) result }
+    {
         Meaning {
             programmer: self.programmer.and_then(Programmer::read),
             range: self.wp_range.and_then(read_range),
@@ -90,64 +111,125 @@ impl<'a> Given<'a> {
     }
 
     // The first fault that the options have.
-    fn fault(&self, meaning: &Meaning<'a>) -> Option<UsageFault> {
-        if self.programmer.is_none() && !self.list {
+    fn fault(&self, meaning: &Meaning<'a>) -> Option<UsageFault>
+        requires { IsMeaning (texts_of self.now) meaning.now }
+        ensures { result ≡ first_fault (usage_faults (texts_of self.now)) }
+    {
+        if self.lacks_programmer() {
             Some(UsageFault::NoProgrammer)
-        } else if self.programmer.is_some() && meaning.programmer.is_none() {
+        } else if self.has_wrong_programmer(meaning) {
             Some(UsageFault::Programmer)
         } else if self.operations() > 1 {
             Some(UsageFault::TwoOperations)
-        } else if self.wp_range.is_some() && meaning.range.is_none() {
+        } else if self.has_wrong_range(meaning) {
             Some(UsageFault::Range)
-        } else if self.keepings() != usize::from(self.is_change()) {
+        } else if self.has_wrong_journal() {
             Some(UsageFault::Journal)
         } else if self.has_wrong_regions() {
             Some(UsageFault::Layout)
-        } else if (self.no_verify || self.unlock) && !self.is_new_content() {
+        } else if self.has_unneeded() {
             Some(UsageFault::Unneeded)
-        } else if self.rehearse.is_some() && (meaning.stops.is_none() || meaning.is_stopped()) {
+        } else if self.has_wrong_stops(meaning) {
             Some(UsageFault::Stops)
         } else {
             None
         }
     }
 
-    // How many operations there are.
-    fn operations(&self) -> usize {
-        let told = usize::from(self.list)
-            + usize::from(self.flash_size)
-            + usize::from(self.wp_status)
-            + usize::from(self.wp_list);
-        let read = usize::from(self.read.is_some()) + usize::from(self.verify.is_some());
-        let changed = usize::from(self.write.is_some())
-            + usize::from(self.erase)
-            + usize::from(self.wp_range.is_some())
-            + usize::from(self.restore.is_some());
-        told + read + changed
+    // All but the list of chips needs a programmer.
+    fn lacks_programmer(&self) -> bool
+        ensures { result ≡ (not (is_some (texts_of self.now).programmer) && not (texts_of self.now).list) }
+    {
+        self.programmer.is_none() && !self.list
     }
 
-    // How many of `--journal` and `--rehearse` there are.
-    fn keepings(&self) -> usize {
-        usize::from(self.journal.is_some()) + usize::from(self.rehearse.is_some())
+    // The text of `-p` is no programmer's.
+    fn has_wrong_programmer(&self, meaning: &Meaning<'a>) -> bool
+        requires { IsMeaning (texts_of self.now) meaning.now }
+        ensures { result ≡ is_no is_programmer (texts_of self.now).programmer }
+    {
+        self.programmer.is_some() && meaning.programmer.is_none()
+    }
+
+    // The text of `--wp-range` is no range.
+    fn has_wrong_range(&self, meaning: &Meaning<'a>) -> bool
+        requires { IsMeaning (texts_of self.now) meaning.now }
+        ensures { result ≡ is_no (reads range_of) (texts_of self.now).wp_range }
+    {
+        self.wp_range.is_some() && meaning.range.is_none()
+    }
+
+    // The text of `--rehearse` isn't stops, or the programmer stops beside it.
+    fn has_wrong_stops(&self, meaning: &Meaning<'a>) -> bool
+        requires { IsMeaning (texts_of self.now) meaning.now }
+        ensures { result ≡ (is_no (reads stops_of) (texts_of self.now).rehearse
+            || (is_some (texts_of self.now).rehearse && is_there has_stop (texts_of self.now).programmer)) }
+    {
+        self.rehearse.is_some() && (meaning.stops.is_none() || meaning.has_stop())
+    }
+
+    // How many operations there are.
+    fn operations(&self) -> usize
+        ensures { result ≡ operations (texts_of self.now) }
+    {
+        let asked = [
+            self.list,
+            self.flash_size,
+            self.wp_status,
+            self.wp_list,
+            self.read.is_some(),
+            self.verify.is_some(),
+            self.write.is_some(),
+            self.erase,
+            self.wp_range.is_some(),
+            self.restore.is_some(),
+        ];
+        asked.iter().filter(|asked| **asked).count()
     }
 
     // The operation gives the chip new bytes.
-    fn is_new_content(&self) -> bool {
+    fn is_new_content(&self) -> bool
+        ensures { result ≡ is_new_content (texts_of self.now) }
+    {
         self.write.is_some() || self.erase
     }
 
     // The operation changes the chip and keeps a journal.
-    fn is_change(&self) -> bool {
+    fn is_change(&self) -> bool
+        ensures { result ≡ is_change (texts_of self.now) }
+    {
         self.is_new_content() || self.wp_range.is_some()
     }
 
     // The operation may be held to regions.
-    fn takes_regions(&self) -> bool {
+    fn takes_regions(&self) -> bool
+        ensures { result ≡ takes_regions (texts_of self.now) }
+    {
         self.read.is_some() || self.verify.is_some() || self.is_new_content()
     }
 
+    // A change has not exactly one of `--journal` and `--rehearse`, or what is no change has one.
+    fn has_wrong_journal(&self) -> bool
+        ensures { result ≡ has_wrong_journal (texts_of self.now) }
+    {
+        match (self.journal, self.rehearse) {
+            (None, None) => self.is_change(),
+            (Some(_), Some(_)) => true,
+            _ => !self.is_change(),
+        }
+    }
+
+    // `-n` or `--unlock` is there, and no new content.
+    fn has_unneeded(&self) -> bool
+        ensures { result ≡ (((texts_of self.now).no_verify || (texts_of self.now).unlock) && not (is_new_content (texts_of self.now))) }
+    {
+        (self.no_verify || self.unlock) && !self.is_new_content()
+    }
+
     // One of `-l` and `-i` is there without the other, or with an operation that takes no regions.
-    fn has_wrong_regions(&self) -> bool {
+    fn has_wrong_regions(&self) -> bool
+        ensures { result ≡ has_wrong_regions (texts_of self.now) }
+    {
         match (self.layout, self.names) {
             (None, None) => false,
             (Some(_), Some(_)) => !self.takes_regions(),
@@ -155,26 +237,33 @@ impl<'a> Given<'a> {
         }
     }
 
-    // What is done with the chip.
-    fn task(
-        &self,
-        range: Option<(u32, u32)>,
-        stops: Option<ArrayVec<u64, MOST_STOPS>>,
-    ) -> Task<'a> {
-        match (self.wanted(range), self.keeping(stops)) {
-            (Some(wanted), Some(keeping)) => Task::Change(Change {
-                wanted,
-                regions: self.regions(),
-                unlock: self.unlock,
-                verify: !self.no_verify,
-                keeping,
-            }),
-            _ => self.plain_task(),
-        }
+    // What is done with the chip, where the options have no fault.
+    fn task(&self, range: Option<(u32, u32)>, stops: Option<ArrayVec<u64, MOST_STOPS>>) -> Task<'a>
+        requires { ((texts_of self.now).list ≡ false) × (first_fault (usage_faults (texts_of self.now)) ≡ None)
+            × (option_and_then range_of (texts_of self.now).wp_range ≡ range)
+            × (option_and_then stops_of (texts_of self.now).rehearse ≡ option_map (λ stops. stops.items) stops) }
+        ensures { IsTask (texts_of self.now) result }
+    {
+        let Some(wanted) = self.wanted(range) else {
+            return self.plain_task();
+        };
+        let Some(keeping) = self.keeping(stops) else {
+            return self.plain_task();
+        };
+        Task::Change(Change {
+            wanted,
+            regions: self.regions(),
+            unlock: self.unlock,
+            verify: !self.no_verify,
+            keeping,
+        })
     }
 
     // What the chip is changed to.
-    fn wanted(&self, range: Option<(u32, u32)>) -> Option<Wanted<'a>> {
+    fn wanted(&self, range: Option<(u32, u32)>) -> Option<Wanted<'a>>
+        requires { option_and_then range_of (texts_of self.now).wp_range ≡ range }
+        ensures { MatchOption result ((is_new_content (texts_of self.now) ≡ false) × (range ≡ None)) (IsWanted (texts_of self.now)) }
+    {
         match (self.write, range) {
             (Some(image), _) => Some(Wanted::Write { image }),
             (None, Some((start, len))) => Some(Wanted::Range { start, len }),
@@ -184,7 +273,10 @@ impl<'a> Given<'a> {
     }
 
     // What becomes of the journal.
-    fn keeping(&self, stops: Option<ArrayVec<u64, MOST_STOPS>>) -> Option<Keeping<'a>> {
+    fn keeping(&self, stops: Option<ArrayVec<u64, MOST_STOPS>>) -> Option<Keeping<'a>>
+        requires { option_and_then stops_of (texts_of self.now).rehearse ≡ option_map (λ stops. stops.items) stops }
+        ensures { MatchOption result (((texts_of self.now).journal ≡ None) × (stops ≡ None)) (IsKeeping (texts_of self.now)) }
+    {
         match (self.journal, stops) {
             (Some(file), _) => Some(Keeping::Journal { file }),
             (None, Some(stops)) => Some(Keeping::Rehearse { stops }),
@@ -193,15 +285,22 @@ impl<'a> Given<'a> {
     }
 
     // The regions, where there are some.
-    fn regions(&self) -> Option<Regions<'a>> {
+    fn regions(&self) -> Option<Regions<'a>>
+        requires { has_wrong_regions (texts_of self.now) ≡ false }
+        ensures { IsRegions (texts_of self.now) result }
+    {
         match (self.layout, self.names) {
             (Some(layout), Some(names)) => Some(Regions { layout, names }),
             _ => None,
         }
     }
 
-    // What is done that keeps no journal.
-    fn plain_task(&self) -> Task<'a> {
+    // What is done that is no change.
+    fn plain_task(&self) -> Task<'a>
+        requires { ((texts_of self.now).list ≡ false) × (is_change (texts_of self.now) ≡ false)
+            × (has_wrong_regions (texts_of self.now) ≡ false) }
+        ensures { IsTask (texts_of self.now) result }
+    {
         let regions = self.regions();
         match (self.read, self.verify, self.restore) {
             (Some(file), _, _) => Task::Read { file, regions },
@@ -217,7 +316,9 @@ impl<'a> Given<'a> {
 
 impl Meaning<'_> {
     // The programmer stops after so many transactions.
-    fn is_stopped(&self) -> bool {
+    fn has_stop(&self) -> bool
+        ensures { result ≡ option_map_or (λ programmer. is_some programmer.stop) self.now.programmer false }
+    {
         match &self.programmer {
             Some(programmer) => programmer.stop.is_some(),
             None => false,
@@ -226,7 +327,9 @@ impl Meaning<'_> {
 }
 
 // A flag that is set has the value `true`.
-fn is_set(matches: &ArgMatches<'_>, flag: &str) -> bool {
+fn is_set(matches: &ArgMatches<'_>, flag: &str) -> bool
+    ensures { result ≡ is_set_in (rows_of (found_of matches.now)) flag.now }
+{
     match matches.get_str(flag) {
         Some(value) => value == "true",
         None => false,

@@ -1,4 +1,7 @@
 //! The options of the program.
+ghost use Rattle.std.specs.Prelude.{◌≡◌, IfOk, Some};
+ghost use Rattle.clap.specs.Words.{app_of};
+ghost use Rattle.nor_words.specs.Options.{options, with_rules, chip_rules, reader_rules, change_rules, manner_rules, help_rule, valued, flag, IsOption};
 
 use clap::{Arg, ArgAction, Command};
 use std::alloc::{AllocError, Global};
@@ -9,146 +12,202 @@ const ABOUT: &str = "Programs SPI NOR flash, and can give back what it changed."
 // What stands below the options.
 const NOTES: &str = "\
 TEXT of -p is dummy: and then KEY=VALUE, separated by commas, each key at most once:
-  emulate=NAME  The chip, which is always named: W25Q64FV (8 MiB), W25Q128FV (16 MiB) or
+  emulate=NAME  The chip, which must be named: W25Q64FV (8 MiB), W25Q128FV (16 MiB) or
                 TINY64 (64 KiB, known by its SFDP alone: its name for -c is SFDP)
-  image=FILE    The bytes of the chip; all are FFh where the key or the file is missing
-  status=FILE   Its two status bytes; both are 00h where the key or the file is missing
+  image=FILE    The file of its bytes; without one the chip is erased
+  status=FILE   The file of its two status bytes; without one both are 00
   stop=N        Stop after N transactions; not with --rehearse
-  trace=FILE    Write a line for each transaction into the file
-  unique=HEX    Its own number, 16 hexadecimal digits; all zeros without the key
-  busy=N        So many polls answer BUSY after each operation: 0 to 65535, or 0 without the key
-  power=HH      A stop is a loss of power: what was being written becomes this byte
+  trace=FILE    Write a line for each transaction into this file
+  unique=HEX    Its own number, 16 hexadecimal digits; without it all are 0
+  busy=N        How many polls answer BUSY after each operation, 0 to 65535; without it 0
+  power=HH      Each stop is a loss of power, and fills what was being written with this byte
 
-A journal holds the old bytes and the old status of what is changed. Keep it: --restore needs it.
+A journal holds the old content and status of all that a change touches, and --restore needs it.
 
-A rehearsal changes no file but the trace. The first number of --rehearse stops the session after so
-many transactions, the second stops the restore that follows, the third the next restore, and so on;
-a last restore runs to its end. Then the chip is as before.
+A rehearsal changes no file but the trace. The first number of --rehearse stops the change after so
+many transactions, the second stops the restore that follows, the third the next restore, and so on.
+A last restore isn't stopped, and then the chip is as it was before.
 
 Examples:
   Write an image, and keep a journal:
     flashnor -p dummy:emulate=W25Q64FV,image=chip.bin -w new.bin --journal chip.journal
-  Give back the old bytes, after a stop or whenever they are wanted again:
+  After a stop, or whenever the old content is wanted again, give it back:
     flashnor -p dummy:emulate=W25Q64FV,image=chip.bin --restore chip.journal
-  Rehearse the writing, stopped after 2060 transactions, and its restore, stopped after 9:
+  Rehearse that, stopped after 2060 transactions, and its restore, stopped after 9:
     flashnor -p dummy:emulate=W25Q64FV,image=chip.bin -w new.bin --rehearse 2060,9";
 
 /// The command that reads the words after the program's name.
-pub fn make_options<'a>(alloc: Global) -> Result<Command<'a>, AllocError> {
-    let command = Command::new(alloc, "flashnor")
+pub fn make_options<'a>(alloc: Global) -> Result<Command<'a>, AllocError>
+    ensures { IfOk result (λ command. app_of command ≡ options) }
+{
+    let named = Command::new(alloc, "flashnor")
         .no_binary_name(true)
         .disable_help_flag(true)
         .about(ABOUT)
         .after_help(NOTES);
-    let command = add_chip(alloc, command)?;
-    let command = add_readers(alloc, command)?;
-    let command = add_changes(alloc, command)?;
-    let help = Arg::new(alloc, "usage")
-        .short('h')
-        .help("Print this help")
-        .action(ArgAction::HelpShort);
-    let command = command.arg(help)?;
+    let chosen = add_chip(alloc, named)?;
+    let reading = add_readers(alloc, chosen)?;
+    let changing = add_changes(alloc, reading)?;
+    let kept = add_manners(alloc, changing)?;
+    let command = kept.arg(help_option(alloc))?;
     Ok(command)
 }
 
 // The programmer and its chip.
-fn add_chip<'a>(alloc: Global, command: Command<'a>) -> Result<Command<'a>, AllocError> {
-    let programmer = valued(
-        alloc,
-        "programmer",
-        "TEXT",
-        "The programmer, see below; all but -L need it",
-    );
-    let chip = valued(alloc, "chip", "NAME", "The chip must have this name");
-    let list = flag(alloc, "list", "List the chips that are known");
-    let command = command
-        .arg(programmer.short('p'))?
-        .arg(chip.short('c'))?
-        .arg(list.short('L'))?;
-    Ok(command)
+fn add_chip<'a>(alloc: Global, command: Command<'a>) -> Result<Command<'a>, AllocError>
+    ensures { IfOk result (λ longer. app_of longer ≡ with_rules (app_of command.entry) chip_rules) }
+{
+    let longer = command
+        .arg(short_value(
+            alloc,
+            'p',
+            "programmer",
+            "TEXT",
+            "The programmer and its chip, see below; all but -L need it",
+        ))?
+        .arg(short_value(alloc, 'c', "chip", "NAME", "The chip must have this name"))?
+        .arg(short_flag(alloc, 'L', "list", "List the chips that are known"))?;
+    Ok(longer)
 }
 
 // The operations that leave the chip as it is.
-fn add_readers<'a>(alloc: Global, command: Command<'a>) -> Result<Command<'a>, AllocError> {
-    let flash_size = flag(alloc, "flash-size", "Print the size of the chip in bytes");
-    let wp_status = flag(
-        alloc,
-        "wp-status",
-        "Print what is protected, and whether that is locked",
-    );
-    let wp_list = flag(alloc, "wp-list", "List the ranges that can be protected");
-    let read = valued(alloc, "read", "FILE", "Read the chip into the file");
-    let verify = valued(
-        alloc,
-        "verify",
-        "FILE",
-        "Compare the chip with the image in the file",
-    );
-    let command = command
-        .arg(flash_size.long("flash-size"))?
-        .arg(wp_status.long("wp-status"))?
-        .arg(wp_list.long("wp-list"))?
-        .arg(read.short('r'))?
-        .arg(verify.short('v'))?;
-    Ok(command)
+fn add_readers<'a>(alloc: Global, command: Command<'a>) -> Result<Command<'a>, AllocError>
+    ensures { IfOk result (λ longer. app_of longer ≡ with_rules (app_of command.entry) reader_rules) }
+{
+    let longer = command
+        .arg(long_flag(alloc, "flash-size", "Print the size of the chip in bytes"))?
+        .arg(long_flag(
+            alloc,
+            "wp-status",
+            "Print which range is protected, and whether that is locked",
+        ))?
+        .arg(long_flag(alloc, "wp-list", "List the ranges that can be protected"))?
+        .arg(short_value(alloc, 'r', "read", "FILE", "Read the chip into the file"))?
+        .arg(short_value(
+            alloc,
+            'v',
+            "verify",
+            "FILE",
+            "Compare the chip with the image in the file",
+        ))?;
+    Ok(longer)
 }
 
 // The operations that change the chip.
-fn add_changes<'a>(alloc: Global, command: Command<'a>) -> Result<Command<'a>, AllocError> {
-    let write = valued(alloc, "write", "FILE", "Write the image in the file");
-    let erase = flag(alloc, "erase", "Erase the chip");
-    let wp_range = valued(
-        alloc,
-        "wp-range",
-        "S,L",
-        "Protect L bytes from S on, decimal or with 0x, and no others",
-    );
-    let restore = valued(
-        alloc,
-        "restore",
-        "FILE",
-        "Give back what the journal in the file holds",
-    );
-    let command = command
-        .arg(write.short('w'))?
-        .arg(erase.short('E'))?
-        .arg(wp_range.long("wp-range"))?
-        .arg(restore.long("restore"))?;
-    add_manners(alloc, command)
+fn add_changes<'a>(alloc: Global, command: Command<'a>) -> Result<Command<'a>, AllocError>
+    ensures { IfOk result (λ longer. app_of longer ≡ with_rules (app_of command.entry) change_rules) }
+{
+    let longer = command
+        .arg(short_value(alloc, 'w', "write", "FILE", "Write the image in the file"))?
+        .arg(short_flag(alloc, 'E', "erase", "Erase the chip"))?
+        .arg(long_value(
+            alloc,
+            "wp-range",
+            "S,L",
+            "Protect L bytes from S on and no others; decimal, or 0x..",
+        ))?
+        .arg(long_value(alloc, "restore", "FILE", "Give back what a journal holds"))?;
+    Ok(longer)
 }
 
 // How an operation is done.
-fn add_manners<'a>(alloc: Global, command: Command<'a>) -> Result<Command<'a>, AllocError> {
-    let journal = valued(
-        alloc,
-        "journal",
-        "FILE",
-        "Keep the journal in this new file",
-    );
-    let rehearse = valued(alloc, "rehearse", "N,N,..", "Or rehearse");
-    let layout = valued(alloc, "layout", "FILE", "The layout");
-    let include = valued(alloc, "include", "NAMES", "The regions");
-    let no_verify = flag(alloc, "no-verify", "Do not read back");
-    let unlock = flag(alloc, "unlock", "Lift protection");
-    let command = command
-        .arg(journal.long("journal"))?
-        .arg(rehearse.long("rehearse"))?
-        .arg(layout.short('l'))?
-        .arg(include.short('i'))?
-        .arg(no_verify.short('n'))?
-        .arg(unlock.long("unlock"))?;
-    Ok(command)
+fn add_manners<'a>(alloc: Global, command: Command<'a>) -> Result<Command<'a>, AllocError>
+    ensures { IfOk result (λ longer. app_of longer ≡ with_rules (app_of command.entry) manner_rules) }
+{
+    let longer = command
+        .arg(long_value(
+            alloc,
+            "journal",
+            "FILE",
+            "Keep the journal in this new file; with -w, -E or --wp-range",
+        ))?
+        .arg(long_value(
+            alloc,
+            "rehearse",
+            "N,N,..",
+            "Or rehearse, stopped after N transactions, see below",
+        ))?
+        .arg(short_value(
+            alloc,
+            'l',
+            "layout",
+            "FILE",
+            "The layout of regions; with -i, and with -r, -w, -v or -E",
+        ))?
+        .arg(short_value(
+            alloc,
+            'i',
+            "include",
+            "NAMES",
+            "The regions to include, separated by commas; with -l",
+        ))?
+        .arg(short_flag(
+            alloc,
+            'n',
+            "no-verify",
+            "Do not verify what was written; with -w or -E",
+        ))?
+        .arg(long_flag(
+            alloc,
+            "unlock",
+            "Lift protection, and give it back; with -w or -E",
+        ))?;
+    Ok(longer)
 }
 
-// An option that takes one value.
-fn valued<'a>(alloc: Global, id: &'a str, value: &'a str, help: &'a str) -> Arg<'a> {
+fn help_option<'a>(alloc: Global) -> Arg<'a>
+    ensures { IsOption help_rule result }
+{
+    Arg::new(alloc, "usage")
+        .short('h')
+        .help("Print this help")
+        .action(ArgAction::HelpShort)
+}
+
+// An option of one letter that takes a value.
+fn short_value<'a>(
+    alloc: Global,
+    letter: char,
+    id: &'a str,
+    value: &'a str,
+    help: &'a str,
+) -> Arg<'a>
+    ensures { IsOption (record (valued id.entry.now) { short = Some letter }) result }
+{
     Arg::new(alloc, id)
+        .short(letter)
         .value_name(value)
         .help(help)
         .action(ArgAction::Set)
 }
 
-// An option that is there or isn't.
-fn flag<'a>(alloc: Global, id: &'a str, help: &'a str) -> Arg<'a> {
-    Arg::new(alloc, id).help(help).action(ArgAction::SetTrue)
+// An option of a whole name that takes a value.
+fn long_value<'a>(alloc: Global, name: &'a str, value: &'a str, help: &'a str) -> Arg<'a>
+    ensures { IsOption (record (valued name.entry.now) { long = Some name.entry.now }) result }
+{
+    Arg::new(alloc, name)
+        .long(name)
+        .value_name(value)
+        .help(help)
+        .action(ArgAction::Set)
+}
+
+// An option of one letter that is there or isn't.
+fn short_flag<'a>(alloc: Global, letter: char, id: &'a str, help: &'a str) -> Arg<'a>
+    ensures { IsOption (record (flag id.entry.now) { short = Some letter }) result }
+{
+    Arg::new(alloc, id)
+        .short(letter)
+        .help(help)
+        .action(ArgAction::SetTrue)
+}
+
+// An option of a whole name that is there or isn't.
+fn long_flag<'a>(alloc: Global, name: &'a str, help: &'a str) -> Arg<'a>
+    ensures { IsOption (record (flag name.entry.now) { long = Some name.entry.now }) result }
+{
+    Arg::new(alloc, name)
+        .long(name)
+        .help(help)
+        .action(ArgAction::SetTrue)
 }

@@ -1,8 +1,9 @@
 //! The text of the option `-p`.
-ghost use Rattle.std.specs.Prelude.{◌≡◌};
+ghost use Rattle.std.specs.Prelude.{◌≡◌, false};
+ghost use Rattle.std.specs.Option.{MatchOption};
 
 use crate::numbers::{read_byte, read_number, read_polls, read_unique};
-use crate::settings::{are_settings, value_of};
+use crate::settings::{are_sound, find_value};
 use nor_chip::Config;
 
 /// A chip that the program emulates.
@@ -66,23 +67,27 @@ pub struct Programmer<'a> {
 }
 
 impl<'a> Programmer<'a> {
+    ghost use Rattle.nor_words.specs.Programmer.{is_programmer, IsProgrammer};
+
     /// Reads the text. A setting goes on to the next comma, and its key to the first `=`. `None` where the text is no
     /// programmer's.
-    pub fn read(text: &'a str) -> Option<Programmer<'a>> {
+    pub fn read(text: &'a str) -> Option<Programmer<'a>>
+        ensures { MatchOption result (is_programmer text.now ≡ false) (IsProgrammer text.now) }
+    {
         let listed = text.strip_prefix("dummy:")?;
-        if !are_settings(listed) {
+        if !are_sound(listed) {
             return None;
         }
-        let chip = Emulated::named(value_of(listed, "emulate")?)?;
+        let chip = Emulated::named(find_value(listed, "emulate")?)?;
         Some(Programmer {
             chip,
-            image: value_of(listed, "image"),
-            status: value_of(listed, "status"),
-            trace: value_of(listed, "trace"),
-            stop: value_of(listed, "stop").and_then(read_number),
-            unique: value_of(listed, "unique").and_then(read_unique),
-            busy: value_of(listed, "busy").and_then(read_polls),
-            power: value_of(listed, "power").and_then(read_byte),
+            image: find_value(listed, "image"),
+            status: find_value(listed, "status"),
+            trace: find_value(listed, "trace"),
+            stop: find_value(listed, "stop").and_then(read_number),
+            unique: find_value(listed, "unique").and_then(read_unique),
+            busy: find_value(listed, "busy").and_then(read_polls),
+            power: find_value(listed, "power").and_then(read_byte),
         })
     }
 }

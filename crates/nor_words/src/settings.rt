@@ -1,21 +1,36 @@
 //! The settings of a programmer: `key=value`, separated by commas.
+ghost use Rattle.std.specs.Prelude.{◌≡◌, ◌&&◌, nat_le, option_map};
+ghost use Rattle.std.specs.List.{count_by};
+ghost use Rattle.nor_words.specs.Programmer.{are_settings, has_key, is_alone_in, is_setting, may_have, value_in};
+ghost use Rattle.nor_words.specs.Text.{key_of, pieces_of, value_of};
 
 use crate::numbers::{read_byte, read_number, read_polls, read_unique};
 use crate::programmer::Emulated;
 
-/// Each setting has a key that there is and a value that this key may have, and none has the key of another.
-pub fn are_settings(listed: &str) -> bool {
+/// Each setting has a key that there is and a value of this key, and none has the key of another.
+pub fn are_sound(listed: &str) -> bool
+    ensures { result ≡ are_settings (pieces_of listed.now) }
+{
     for setting in listed.split(',') {
-        let (key, value) = split_setting(setting);
-        if !may_be(key, value) || count_of(listed, key) > 1 {
+        if !is_sound(listed, setting) {
             return false;
         }
     }
     true
 }
 
+// It is a setting, and the only one of those that are listed with its key.
+fn is_sound(listed: &str, setting: &str) -> bool
+    ensures { result ≡ (is_setting setting.now && is_alone_in (pieces_of listed.now) setting.now) }
+{
+    let (key, value) = split_setting(setting);
+    is_known(key, value) && is_alone(listed, key)
+}
+
 /// The value of the key, where a setting has it.
-pub fn value_of<'a>(listed: &'a str, key: &str) -> Option<&'a str> {
+pub fn find_value<'a>(listed: &'a str, key: &str) -> Option<&'a str>
+    ensures { option_map (λ found. found.now) result ≡ value_in (pieces_of listed.entry.now) key.now }
+{
     for setting in listed.split(',') {
         let (found, value) = split_setting(setting);
         if found == key {
@@ -25,24 +40,38 @@ pub fn value_of<'a>(listed: &'a str, key: &str) -> Option<&'a str> {
     None
 }
 
-// How many settings have the key.
-fn count_of(listed: &str, key: &str) -> usize {
-    let mut count = 0;
+// At most one setting has the key.
+fn is_alone(listed: &str, key: &str) -> bool
+    ensures { result ≡ nat_le (count_by (has_key key.now) (pieces_of listed.now)) 1 }
+{
+    let mut found = false;
     for setting in listed.split(',') {
-        if split_setting(setting).0 == key {
-            count += 1;
+        let (other, _) = split_setting(setting);
+        if other != key {
+            continue;
         }
+        if found {
+            return false;
+        }
+        found = true;
     }
-    count
+    true
 }
 
 // The key goes on to the first `=`, and all behind it is the value.
-fn split_setting(setting: &str) -> (&str, &str) {
-    setting.split_once('=').unwrap_or((setting, ""))
+fn split_setting(setting: &str) -> (&str, &str)
+    ensures { (result.0.now ≡ key_of setting.now) × (result.1.now ≡ value_of setting.now) }
+{
+    match setting.split_once('=') {
+        Some(parts) => parts,
+        None => (setting, ""),
+    }
 }
 
-// There is such a key, and its value may be this.
-fn may_be(key: &str, value: &str) -> bool {
+// There is such a key, and this is a value of it.
+fn is_known(key: &str, value: &str) -> bool
+    ensures { result ≡ may_have key.now value.now }
+{
     match key {
         "emulate" => Emulated::named(value).is_some(),
         "image" | "status" | "trace" => !value.is_empty(),

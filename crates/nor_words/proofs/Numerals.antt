@@ -1,0 +1,90 @@
+-- Numbers of digits, and a range of two.
+use Rattle.std.proofs.Common.{◌≡◌, ℕ, ◌^◌, ◌<◌, ◌≤◌, ◌==◌, ◌&&◌, Bool, true, false, [], ◌∷◌, Option, Some, None, Result, Ok, Err, length, drop, cond, ap, sym, refl, subst, arith, nat_lt, nat_le, option_map}
+use Rattle.std.specs.Prelude.{option_and_then}
+use Rattle.std.specs.Char.{digit_value, is_digit}
+use Rattle.std.specs.List.{list_all, position_or_len}
+use Rattle.std.specs.Result.{result_ok}
+use Rattle.std.specs.Str.Parse.{AllDigits, ParsesUnsigned, digits_value, without_leading_plus}
+use Rattle.std.proofs.lemmas.Bool.Decides.{nat_tests}
+use Rattle.std.proofs.lemmas.List.{at_drop_all}
+use Rattle.nor_words.specs.Text.{Text, front_of, rest_of}
+use Rattle.nor_words.specs.Numbers.{numeral, place_of, range_of}
+
+pub first_part : (a b : Bool) → (a && b) ≡ true → a ≡ true
+first_part true b h = refl
+first_part false b h = cc
+
+pub second_part : (a b : Bool) → (a && b) ≡ true → b ≡ true
+second_part true b h = h
+second_part false b h = cc
+
+-- a plus is no digit
+plus-digit : (radix c : ℕ) → radix ≤ 36 → is_digit c radix ≡ true → c ≡ 43 → ⊥
+plus-digit radix c low is e =
+    let h : nat_lt (digit_value 43) radix ≡ true = subst (λ (d : ℕ). nat_lt (digit_value d) radix ≡ true) e is in
+    let over : 36 < radix = grind (arith, nat_tests) in
+    absurd (omega (arith, over, low))
+
+without_plus : (radix : ℕ) (text : Text) → radix ≤ 36 → list_all (λ digit. is_digit digit radix) text ≡ true → without_leading_plus text ≡ text
+without_plus radix [] low all = refl
+without_plus radix (c ∷ cs) low all = go (c == 43) refl
+  where
+    go : (b : Bool) → (c == 43) ≡ b → drop (cond (c == 43) 1 0) (c ∷ cs) ≡ c ∷ cs
+    go true is =
+        let e : c ≡ 43 = grind (arith, nat_tests) in
+        absurd (plus-digit radix c low (first_part _ _ all) e)
+    go false is = rw is refl
+
+all_digits : (radix : ℕ) (text : Text) → list_all (λ digit. is_digit digit radix) text ≡ true → AllDigits radix text
+all_digits radix [] all = tt
+all_digits radix (c ∷ cs) all =
+    let first : nat_lt (digit_value c) radix ≡ true = first_part _ _ all in
+    (grind (arith, nat_tests), all_digits radix cs (second_part _ _ all))
+
+-- a number that isn't above the greatest
+abbrev pub at_most : ℕ → ℕ → Option ℕ
+at_most greatest n = cond (nat_le n greatest) (Some n) None
+
+-- what `from_str_radix` gives of digits that aren't too many
+pub numeral-parsed : {E : Type 0} (radix most greatest : ℕ) (text : Text) (r : Result ℕ E) → radix ≤ 36 → greatest < 2 ^ 64
+    → list_all (λ digit. is_digit digit radix) text ≡ true → length text ≤ most → ParsesUnsigned 64 radix text r
+    → numeral radix most greatest text ≡ option_and_then (at_most greatest) (result_ok r)
+numeral-parsed radix most greatest text (Ok x) low fits all short parses =
+    let few : nat_le (length text) most ≡ true = grind (arith, nat_tests) in
+    let plain = without_plus radix text low all in
+    let parses2 = rw plain at parses in
+    let some : nat_le 1 (length text) ≡ true = let long = parses2.0.0.0 in grind (arith, nat_tests) in
+    rw (all, some, few) (ap (at_most greatest) (sym parses2.1))
+numeral-parsed radix most greatest text (Err e) low fits all short parses =
+    let few : nat_le (length text) most ≡ true = grind (arith, nat_tests) in
+    let plain = without_plus radix text low all in
+    let parses2 = rw plain at parses in
+    go (nat_le 1 (length text)) refl (nat_le (digits_value radix text) greatest) refl (λ long under. parses2 ((long, all_digits radix text all), under))
+  where
+    go : (a : Bool) → nat_le 1 (length text) ≡ a → (b : Bool) → nat_le (digits_value radix text) greatest ≡ b
+        → (0 < length text → digits_value radix text < 2 ^ 64 → ⊥) → numeral radix most greatest text ≡ None
+    go false ea b eb none = rw (all, ea) refl
+    go true ea false eb none = both (list_all (λ digit. is_digit digit radix) text) (nat_le (length text) most)
+      where
+        both : (p q : Bool) → cond (p && (nat_le 1 (length text) && (q && nat_le (digits_value radix text) greatest))) (Some (digits_value radix text)) None ≡ None
+        both true true = rw (ea, eb) refl
+        both true false = rw ea refl
+        both false q = refl
+    go true ea true eb none =
+        let long : 0 < length text = grind (arith, nat_tests) in
+        let under : digits_value radix text ≤ greatest = grind (arith, nat_tests) in
+        absurd (none long (omega (arith, under, fits)))
+
+-- a start, with the length that there may be
+abbrev with_len : Option ℕ → ℕ → Option (ℕ × ℕ)
+with_len len start = option_map (λ len. (start, len)) len
+
+-- no range is without a comma
+pub range_of-uncut : (text : Text) → position_or_len (λ byte. byte == 44) text ≡ length text → range_of text ≡ None
+range_of-uncut text uncut =
+    let none : rest_of text ≡ [] = at_drop_all (λ (x : Text). x) text _ (omega (arith, uncut)) in
+    rw none (empty (place_of (front_of text)))
+  where
+    empty : (start : Option ℕ) → option_and_then (with_len (place_of [])) start ≡ None
+    empty None = refl
+    empty (Some x) = refl

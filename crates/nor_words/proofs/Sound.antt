@@ -1,0 +1,95 @@
+-- What options are that have no fault.
+use Rattle.std.proofs.Common.{◌≡◌, ◌∙◌, ◌&&◌, ◌||◌, Bool, true, false, cond, [], ◌∷◌, Option, Some, None, is_some, nat_eq, nat_lt, not, ap, ap₂, refl, sym}
+use Rattle.std.specs.Prelude.{option_and_then}
+use Rattle.nor_words.specs.Text.{Text, reads}
+use Rattle.nor_words.specs.Given.{Texts, how_many, is_change, is_new_content, operations}
+use Rattle.nor_words.specs.Faults.{first_fault, has_wrong_journal, has_wrong_regions, is_no, is_there, usage_faults}
+use Rattle.nor_words.specs.Numbers.{range_of}
+use Rattle.nor_words.specs.Programmer.{has_stop, is_programmer}
+use Rattle.nor_words.specs.Stops.{stops_of}
+use Rattle.nor_words.specs.declared.words.UsageFault.{UsageFault}
+
+-- No fault holds.
+pub record Sound (given : Texts) : Type 0 where
+  pub needed : (not (is_some given.programmer) && not given.list) ≡ false
+  pub programmer : is_no is_programmer given.programmer ≡ false
+  pub single : nat_lt 1 (operations given) ≡ false
+  pub range : is_no (reads range_of) given.wp_range ≡ false
+  pub journal : has_wrong_journal given ≡ false
+  pub regions : has_wrong_regions given ≡ false
+  pub stops : (is_no (reads stops_of) given.rehearse || (is_some given.rehearse && is_there has_stop given.programmer)) ≡ false
+
+front : (holds : Bool) (fault : UsageFault) (rest : Option UsageFault) → cond holds (Some fault) rest ≡ None → (holds ≡ false) × (rest ≡ None)
+front true fault rest h = cc
+front false fault rest h = (refl, h)
+
+pub sound-none : (given : Texts) → first_fault (usage_faults given) ≡ None → Sound given
+sound-none given none =
+    let a = front _ _ _ none in
+    let b = front _ _ _ a.1 in
+    let d = front _ _ _ b.1 in
+    let e = front _ _ _ d.1 in
+    let f = front _ _ _ e.1 in
+    let g = front _ _ _ f.1 in
+    let h = front _ _ _ g.1 in
+    let i = front _ _ _ h.1 in
+    record { needed = a.0; programmer = b.0; single = d.0; range = e.0; journal = f.0; regions = g.0; stops = i.0 }
+
+pub first_false : (a b : Bool) → (a || b) ≡ false → a ≡ false
+first_false true b h = cc
+first_false false b h = refl
+
+pub second_false : (a b : Bool) → (a || b) ≡ false → b ≡ false
+second_false true b h = cc
+second_false false b h = h
+
+-- a text in which nothing is found, and which is no fault, isn't there
+pub not-there : {T : Type 0} (f : Text → Option T) (text : Option Text) → is_no (reads f) text ≡ false → option_and_then f text ≡ None → text ≡ None
+not-there f None sound none = refl
+not-there f (Some x) sound none =
+    let bad : true ≡ false = sym (ap (λ (o : Option _). not (is_some o)) none) ∙ sound in
+    cc
+
+-- without a range and new content there is no change
+pub no_change-wanted : (given : Texts) → Sound given → is_new_content given ≡ false → option_and_then range_of given.wp_range ≡ None → is_change given ≡ false
+no_change-wanted given sound same none =
+    let range : given.wp_range ≡ None = not-there range_of given.wp_range sound.range none in
+    ap₂ (λ a b. a || b) same (ap is_some range)
+
+-- and without a journal and stops neither
+pub no_change-kept : (given : Texts) → Sound given → given.journal ≡ None → option_and_then stops_of given.rehearse ≡ None → is_change given ≡ false
+no_change-kept given sound journal none =
+    let rehearse : given.rehearse ≡ None = not-there stops_of given.rehearse (first_false _ _ sound.stops) none in
+    go (is_change given) refl (sym (ap₂ (λ (a b : Option Text). not (nat_eq (how_many (is_some a ∷ is_some b ∷ [])) (cond (is_change given) 1 0))) journal rehearse) ∙ sound.journal)
+  where
+    go : (b : Bool) → is_change given ≡ b → not (nat_eq 0 (cond (is_change given) 1 0)) ≡ false → is_change given ≡ false
+    go true is h =
+        let bad : true ≡ false = sym (ap (λ b. not (nat_eq 0 (cond b 1 0))) is) ∙ h in
+        cc
+    go false is h = is
+
+-- where there is no list of chips, there is a programmer
+pub list-lone : (given : Texts) → Sound given → is_there is_programmer given.programmer ≡ false → given.list ≡ true
+list-lone given sound none = go given.programmer sound.needed sound.programmer none
+  where
+    listed : (b : Bool) → (true && not b) ≡ false → b ≡ true
+    listed true h = refl
+    listed false h = cc
+
+    apart : (b : Bool) → b ≡ false → not b ≡ false → ⊥
+    apart true h k = cc
+    apart false h k = cc
+
+    go : (text : Option Text) → (not (is_some text) && not given.list) ≡ false → is_no is_programmer text ≡ false → is_there is_programmer text ≡ false → given.list ≡ true
+    go None needed known none = listed given.list needed
+    go (Some x) needed known none = absurd (apart (is_programmer x) none known)
+
+-- no operation at all
+pub probe : (given : Texts) → given.list ≡ false → is_change given ≡ false → given.flash_size ≡ false → given.wp_status ≡ false → given.wp_list ≡ false
+    → given.read ≡ None → given.verify ≡ None → given.restore ≡ None → operations given ≡ 0
+probe given list same size status ranges read verify restore =
+    let content : is_new_content given ≡ false = first_false _ _ same in
+    let write : is_some given.write ≡ false = first_false _ _ content in
+    let erase : given.erase ≡ false = second_false _ _ content in
+    let range : is_some given.wp_range ≡ false = second_false _ _ same in
+    rw (list, size, status, ranges, read, verify, write, erase, range, restore) refl

@@ -1,0 +1,12 @@
+use Rattle.std.proofs.Common.{◌∙◌, ap, ap₂}
+use Rattle.clap.specs.Words.{app_of, with_rule}
+use Rattle.nor_words.proofs.options.add_manners.Goals as goal
+
+pub returns : goal.returns
+returns c =
+    let one = c.in_ok-arg.ensures.shape c.long_value.ensures.local ∙ ap (with_rule (app_of c.args.command)) c.long_value.ensures.rule in
+    let two = c.in_ok-arg-2.ensures.shape c.long_value-2.ensures.local ∙ ap₂ with_rule one c.long_value-2.ensures.rule in
+    let three = c.in_ok-arg-3.ensures.shape c.short_value.ensures.local ∙ ap₂ with_rule two c.short_value.ensures.rule in
+    let four = c.in_ok-arg-4.ensures.shape c.short_value-2.ensures.local ∙ ap₂ with_rule three c.short_value-2.ensures.rule in
+    let five = c.in_ok-arg-5.ensures.shape c.short_flag.ensures.local ∙ ap₂ with_rule four c.short_flag.ensures.rule in
+    c.in_ok-longer.ensures.shape c.long_flag.ensures.local ∙ ap₂ with_rule five c.long_flag.ensures.rule

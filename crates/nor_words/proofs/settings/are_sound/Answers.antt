@@ -1,0 +1,31 @@
+use Rattle.std.proofs.Common.{◌≡◌, true, false, length, lit<, rules, sym}
+use Rattle.std.proofs.lemmas.Iterator.Consumers.{YieldsList-turn, YieldsList-end}
+use Rattle.std.proofs.lemmas.Iterator.Splits.{YieldsList-from_str_split}
+use Rattle.std.proofs.lemmas.List.{length_push}
+use Rattle.nor_words.specs.Text.{pieces_of}
+use Rattle.nor_words.specs.Programmer.{is_alone_in, is_setting}
+use Rattle.std.proofs.Common.{◌&&◌}
+use Rattle.nor_words.proofs.Listed.{all-failed, all-passed, all-ended}
+use Rattle.nor_words.proofs.settings.are_sound.Goals as goal
+
+pub returns-then-not-is_sound : goal.returns-then-not-is_sound
+returns-then-not-is_sound c =
+    let pieces = YieldsList-from_str_split {s = c.into_iter-setting-iterator.result} 44 c.args.listed.now (lit< tt) (first_of (cc, search rules)) (first_of (cc, search rules)) (first_of (cc, search rules)) in
+    let turn = YieldsList-turn pieces c.loop-setting.yielded _ c.loop-setting.yielded_by _ _ c.in-Some.setting c.in-Some.is c.next.ensures.steps in
+    let other : (is_setting c.in-Some.setting.now && is_alone_in (pieces_of c.args.listed.now) c.in-Some.setting.now) ≡ false = first_of (cc, search rules) in
+    sym (all-failed (λ setting. is_setting setting && is_alone_in (pieces_of c.args.listed.now) setting) (pieces_of c.args.listed.now) (length c.loop-setting.yielded) c.in-Some.setting.now c.loop-setting.invariant.2 turn other)
+
+pub loop-setting-preserved : goal.loop-setting-preserved
+loop-setting-preserved c =
+    let pieces = YieldsList-from_str_split {s = c.into_iter-setting-iterator.result} 44 c.args.listed.now (lit< tt) (first_of (cc, search rules)) (first_of (cc, search rules)) (first_of (cc, search rules)) in
+    let turn = YieldsList-turn pieces c.loop-setting.yielded _ c.loop-setting.yielded_by _ _ c.in-Some.setting c.in-Some.is c.next.ensures.steps in
+    let met : (is_setting c.in-Some.setting.now && is_alone_in (pieces_of c.args.listed.now) c.in-Some.setting.now) ≡ true = first_of (cc, search rules) in
+    let passed = all-passed (λ setting. is_setting setting && is_alone_in (pieces_of c.args.listed.now) setting) (pieces_of c.args.listed.now) (length c.loop-setting.yielded) c.in-Some.setting.now c.loop-setting.invariant.2 turn met in
+    let longer = length_push c.loop-setting.yielded c.in-Some.setting in
+    (tt, tt, rw longer passed)
+
+pub returns : goal.returns
+returns c =
+    let pieces = YieldsList-from_str_split {s = c.into_iter-setting-iterator.result} 44 c.args.listed.now (lit< tt) (first_of (cc, search rules)) (first_of (cc, search rules)) (first_of (cc, search rules)) in
+    let end = YieldsList-end pieces c.loop-setting.yielded _ c.loop-setting.yielded_by _ _ c.in-None.is c.next.ensures.steps in
+    sym (all-ended (λ setting. is_setting setting && is_alone_in (pieces_of c.args.listed.now) setting) (pieces_of c.args.listed.now) (length c.loop-setting.yielded) c.loop-setting.invariant.2 end.1)

@@ -1,0 +1,43 @@
+-- What the words write numbers as.
+use Rattle.std.specs.Prelude.{◌&&◌, ℕ, Bool, List, Option, Some, None, codes, drop, length, nat_eq, nat_le, slice_get, option_and_then, option_map, if◌then◌else◌}
+use Rattle.std.specs.Char.{is_digit}
+use Rattle.std.specs.List.{list_all, starts_with}
+use Rattle.std.specs.Result.{result_ok}
+use Rattle.std.specs.Str.Parse.{digits_value}
+use Rattle.hex.specs.Hex.{decode_sized}
+use Rattle.nor_words.specs.Text.{Text, front_of, rest_of}
+
+-- 1 to so many digits of this radix, which write a number that is at most the greatest
+abbrev pub is_numeral : ℕ → ℕ → ℕ → Text → Bool
+is_numeral radix most greatest text = list_all (λ digit. is_digit digit radix) text
+    && (nat_le 1 (length text) && (nat_le (length text) most && nat_le (digits_value radix text) greatest))
+
+-- the number that such a text writes
+abbrev pub numeral : ℕ → ℕ → ℕ → Text → Option ℕ
+numeral radix most greatest text =
+    if is_numeral radix most greatest text then Some (digits_value radix text) else None
+
+-- 1 to 20 decimal digits, up to the greatest number of 64 bits
+abbrev pub number_of : Text → Option ℕ
+number_of = numeral 10 20 18446744073709551615
+
+-- a number of polls: 1 to 20 decimal digits, up to 65,535
+abbrev pub polls_of : Text → Option ℕ
+polls_of = numeral 10 20 65535
+
+-- an address or a length: `0x` and 1 to 8 hexadecimal digits, or 1 to 10 decimal digits, up to the greatest number of 32 bits
+abbrev pub place_of : Text → Option ℕ
+place_of text = if starts_with nat_eq text (codes "0x") then numeral 16 8 4294967295 (drop 2 text)
+    else numeral 10 10 4294967295 text
+
+-- a start and a length, around the first comma
+abbrev pub range_of : Text → Option (ℕ × ℕ)
+range_of text = option_and_then (λ start. option_map (λ len. (start, len)) (place_of (rest_of text))) (place_of (front_of text))
+
+-- the eight bytes of 16 hexadecimal digits
+abbrev pub unique_of : Text → Option (List ℕ)
+unique_of text = result_ok (decode_sized text 8)
+
+-- the byte of two hexadecimal digits
+abbrev pub byte_of : Text → Option ℕ
+byte_of text = option_and_then (λ bytes. slice_get bytes 0) (result_ok (decode_sized text 1))
