@@ -97,7 +97,8 @@ fn keep_change<B: Bus, V: Vault>(
 ) -> Result<Answer, Refusal>
     requires { IsFresh (V.state vault.old) }
     ensures { IsModelled (B.state bus.old) → IsCalm (B.state bus.old)
-        → MatchResult result (TellsDone request.now image.old (B.state bus.old) (B.state bus.new)) (GivesUp request.now image.old (B.state bus.old) (B.state bus.new)) }
+        → MatchResult result (TellsDone request.now image.old (B.state bus.old) (B.state bus.new))
+        (GivesUp request.now image.old (B.state bus.old) (B.state bus.new)) }
 {
     let report = session(bus, vault, image, request)?;
     Ok(Answer::Done(report))
@@ -114,7 +115,8 @@ fn rehearse_change<B: Meter>(
     requires few { length stops.now ≤ 64 }
     requires fresh { IsFresh (⟦<MemVault as Vault>⟧.state vault.old) }
     ensures { IsModelled (B.state bus.old) → IsCalm (B.state bus.old)
-        → HasRehearsed request.now image.old stops.now (B.state bus.old) (B.state bus.new) (⟦<MemVault as Vault>⟧.state vault.old) (⟦<MemVault as Vault>⟧.state vault.new) result }
+        → HasRehearsed request.now image.old stops.now (B.state bus.old) (B.state bus.new)
+        (⟦<MemVault as Vault>⟧.state vault.old) (⟦<MemVault as Vault>⟧.state vault.new) result }
 {
     let rehearsal = rehearse(bus, vault, image, request, stops)?;
     Ok(Answer::Rehearsed(rehearsal))
@@ -155,7 +157,8 @@ fn restore_named<B: Bus>(
 // Sees that the chip has the name that is given, if one is.
 #[tactic(auto, using(crate::proofs::Ready::passes_probe, crate::proofs::Ready::passes_none, crate::proofs::Ready::looked_same))]
 fn find_named<B: Bus>(bus: &mut B, named: Option<&str>) -> Result<(), Refusal>
-    ensures passes { IsModelled (B.state bus.old) → IsCalm (B.state bus.old) → OnOk result (Passes named.entry (B.state bus.old) (B.state bus.new)) }
+    ensures passes { IsModelled (B.state bus.old) → IsCalm (B.state bus.old)
+        → OnOk result (Passes named.entry (B.state bus.old) (B.state bus.new)) }
     ensures same { IsModelled (B.state bus.old) → IsCalm (B.state bus.old) → IsSame (B.state bus.old).chip (B.state bus.new).chip }
     ensures refuses { IsModelled (B.state bus.old) → IfErr result (ProbeRefuses named.entry (B.state bus.old) (B.state bus.new)) }
 {

@@ -54,7 +54,8 @@ fn find<B: Bus>(bus: &mut B, named: Option<&str>) -> Result<Found, Refusal>
 
 /// Tells what protects the chip.
 pub fn tell_protection<B: Bus>(bus: &mut B, named: Option<&str>) -> Result<Answer, Refusal>
-    ensures { HasTold (TellsGuarded named.entry (B.state bus.old) (B.state bus.new)) named.entry (B.state bus.old) (B.state bus.new) result }
+    ensures { HasTold (TellsGuarded named.entry (B.state bus.old) (B.state bus.new))
+        named.entry (B.state bus.old) (B.state bus.new) result }
 {
     let protection = wp_status(bus, read_name(named))?;
     Ok(Answer::Protection(protection))
@@ -62,7 +63,8 @@ pub fn tell_protection<B: Bus>(bus: &mut B, named: Option<&str>) -> Result<Answe
 
 /// Tells which ranges of the chip can be protected.
 pub fn list_ranges<B: Bus>(bus: &mut B, named: Option<&str>) -> Result<Answer, Refusal>
-    ensures { HasTold (ListsRanges named.entry (B.state bus.old) (B.state bus.new)) named.entry (B.state bus.old) (B.state bus.new) result }
+    ensures { HasTold (ListsRanges named.entry (B.state bus.old) (B.state bus.new))
+        named.entry (B.state bus.old) (B.state bus.new) result }
 {
     let protection = wp_status(bus, read_name(named))?;
     Ok(Answer::Ranges(offered(protection.size)))

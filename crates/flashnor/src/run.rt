@@ -144,8 +144,10 @@ fn call_on<'a, R: Files + AllocGlobal>(
     job: &ChipJob<'a>,
 ) -> Result<Called<'a>, Fault<'a>>
     ensures ok { let old = ⟦<SimBus as Bus>⟧.state bus in IsReady job.now.programmer old
-        → IfOk result (λ called. Does job.now.programmer job.now.named job.now.task old (⟦<SimBus as Bus>⟧.state called.bus) called.answer) }
-    ensures err { IfErr result (λ fault. IsSomeAnd job.now.programmer.trace (λ name. IsLogging name.now fault) ⊎ FailsBefore job.now.task fault) }
+        → IfOk result (λ called. Does job.now.programmer job.now.named job.now.task old
+        (⟦<SimBus as Bus>⟧.state called.bus) called.answer) }
+    ensures err { IfErr result (λ fault. IsSomeAnd job.now.programmer.trace (λ name. IsLogging name.now fault)
+        ⊎ FailsBefore job.now.task fault) }
 {
     let Some(name) = job.programmer.trace else {
         let answer = do_task(rt, &mut bus, job)?;

@@ -1,13 +1,14 @@
 //! Chips that are found, and the list of chips.
 
+use super::kept::Flaw;
 use super::shelf::Shelf;
-use super::{all_fail, all_print};
+use super::{OPENING, all_fail, all_print, prints, traces};
 use std::test::Fail;
 
 const LISTED: &str = "W25Q64FV ef4017 8388608\nW25Q128FV ef4018 16777216\nSFDP\n";
 
 #[test]
-fn finds_by_sfdp(rt: HostRuntime) -> Result<(), Fail> {
+fn a_chip_is_found_by_its_sfdp(rt: HostRuntime) -> Result<(), Fail> {
     let told = "Found SFDP (fe1010), 65536 bytes.\n";
     all_print(
         &rt,
@@ -21,7 +22,7 @@ fn finds_by_sfdp(rt: HostRuntime) -> Result<(), Fail> {
 }
 
 #[test]
-fn finds_64_megabits(rt: HostRuntime) -> Result<(), Fail> {
+fn a_chip_of_64_megabits_is_found(rt: HostRuntime) -> Result<(), Fail> {
     all_print(
         &rt,
         &Shelf::new(rt.alloc()),
@@ -36,7 +37,7 @@ fn finds_64_megabits(rt: HostRuntime) -> Result<(), Fail> {
 }
 
 #[test]
-fn finds_128_megabits(rt: HostRuntime) -> Result<(), Fail> {
+fn a_chip_of_128_megabits_is_found(rt: HostRuntime) -> Result<(), Fail> {
     all_print(
         &rt,
         &Shelf::new(rt.alloc()),
@@ -55,7 +56,7 @@ fn finds_128_megabits(rt: HostRuntime) -> Result<(), Fail> {
 
 // The name is compared byte by byte, and that of an emulated chip isn't always one that a chip is found under.
 #[test]
-fn finds_another(rt: HostRuntime) -> Result<(), Fail> {
+fn another_chip_is_told(rt: HostRuntime) -> Result<(), Fail> {
     let told = "Error 3: another chip than named.";
     all_fail(
         &rt,
@@ -72,14 +73,36 @@ fn finds_another(rt: HostRuntime) -> Result<(), Fail> {
 
 // The list needs no chip, and opens no file of one that is there.
 #[test]
-fn lists(rt: HostRuntime) -> Result<(), Fail> {
+fn the_list_needs_no_chip(rt: HostRuntime) -> Result<(), Fail> {
+    let shelf = Shelf::new(rt.alloc()).with_flaw("denied", Flaw::Denied)?;
     all_print(
         &rt,
-        &Shelf::new(rt.alloc()),
+        &shelf,
         &[
             ("-L", LISTED),
-            ("-L -p dummy:emulate=TINY64,image=denied", LISTED),
+            (
+                "-L -p dummy:emulate=TINY64,image=denied,trace=trace",
+                LISTED,
+            ),
             ("-c TINY64 -L", LISTED),
         ],
-    )
+    )?;
+    assert!(rt; !shelf.has("trace")?);
+    Ok(())
+}
+
+// No status 2 and no unique ID is read for these. A trace that was there is emptied.
+#[test]
+fn a_probe_is_traced(rt: HostRuntime) -> Result<(), Fail> {
+    let shelf = Shelf::new(rt.alloc()).with_bytes("trace", b"06\n06\n06\n06\n06\n06\n")?;
+    let told = "Found SFDP (fe1010), 65536 bytes.\n";
+    prints(&rt, &shelf, "-p dummy:emulate=TINY64,trace=trace", told)?;
+    traces(&rt, &shelf, "trace", 5, 1, OPENING.get(..5).unwrap_or(&[]))?;
+    prints(
+        &rt,
+        &shelf,
+        "-p dummy:emulate=W25Q64FV,trace=trace --flash-size",
+        "8388608\n",
+    )?;
+    traces(&rt, &shelf, "trace", 2, 1, &["05 > 00", "9f > ef4017"])
 }

@@ -1,77 +1,105 @@
-//! The texts of options.
+//! The lines that tell of faults, also of those that no run over an emulated chip comes to.
 
-use crate::programmer::{Emulated, Programmer};
-use crate::stops::{read_stop, read_stops};
+use crate::messages::{Fault, print_fault};
+use nor_journal::JournalFault;
+use nor_layout::LayoutFault;
+use nor_probe::SfdpFault;
+use nor_session::Refusal;
+use nor_words::UsageFault;
+use std::alloc::AllocError;
 use std::test::Fail;
 
-// A value goes on to the next comma, and a key to the first `=`. Settings come in any order, each at most once.
+// Few of the refusals come from emulated chips. What each of them is told as:
+const REFUSALS: [(Refusal, &str); 20] = [
+    (Refusal::NoChip, "Error 1: no chip.\n"),
+    (
+        Refusal::UnknownChip(SfdpFault::NoSector),
+        "Error 2: unknown chip, SFDP fault 8.\n",
+    ),
+    (Refusal::OtherName, "Error 3: another chip than named.\n"),
+    (
+        Refusal::ImageSize {
+            chip: 65536,
+            image: 65535,
+        },
+        "Error 4: image of 65535 bytes, chip of 65536 bytes.\n",
+    ),
+    (
+        Refusal::RegionOutside,
+        "Error 5: region outside the chip.\n",
+    ),
+    (
+        Refusal::NoProtection,
+        "Error 6: no protection on this chip.\n",
+    ),
+    (
+        Refusal::UndefinedProtection,
+        "Error 7: undefined protection.\n",
+    ),
+    (Refusal::RangeNotOffered, "Error 8: range not offered.\n"),
+    (Refusal::StatusLocked, "Error 9: status locked.\n"),
+    (
+        Refusal::Protected { address: 0x7E0000 },
+        "Error 10: protected at 0x7e0000.\n",
+    ),
+    (Refusal::Vault, "Error 11: journal not written.\n"),
+    (Refusal::Stopped, "Error 12: stopped.\n"),
+    (
+        Refusal::Timeout { address: 0x00F000 },
+        "Error 13: timeout at 0x00f000.\n",
+    ),
+    (
+        Refusal::Mismatch { address: 0x001234 },
+        "Error 14: bytes differ at 0x001234.\n",
+    ),
+    (
+        Refusal::BadJournal(JournalFault::Digest),
+        "Error 15: journal fault 7.\n",
+    ),
+    (
+        Refusal::OtherChip,
+        "Error 16: another chip than the journal's.\n",
+    ),
+    (
+        Refusal::StatusDiffers,
+        "Error 17: status differs from the journal's.\n",
+    ),
+    (Refusal::Memory, "Error 18: out of memory.\n"),
+    (
+        Refusal::Output {
+            written: 16_777_216,
+        },
+        "Error 19: output failed after 16777216 bytes.\n",
+    ),
+    (
+        Refusal::OtherUnit,
+        "Error 20: another unit than the journal's.\n",
+    ),
+];
+
 #[test]
-fn reads_programmers(rt: HostRuntime) {
-    for (text, chip, image) in [
-        ("dummy:emulate=TINY64", Emulated::Tiny64, None),
-        (
-            "dummy:emulate=W25Q64FV,image=chip.bin",
-            Emulated::W25q64fv,
-            Some("chip.bin"),
-        ),
-        (
-            "dummy:image=a=b,emulate=W25Q128FV",
-            Emulated::W25q128fv,
-            Some("a=b"),
-        ),
-    ] {
-        let programmer = Programmer::read(text).expect(&rt, "a programmer");
-        assert!(rt; programmer.chip == chip, "at {text}");
-        assert!(rt; programmer.image == image, "at {text}");
+fn each_refusal_has_a_line(rt: HostRuntime) -> Result<(), Fail> {
+    for (refusal, told) in REFUSALS {
+        let mut errors = Vec::new(rt.alloc());
+        let status = print_fault(&mut errors, Fault::from(refusal));
+        assert_eq!(rt; errors.as_slice(), told.as_bytes(), "at {told}");
+        assert_eq!(rt; status, 1, "at {told}");
     }
-    for text in [
-        "",
-        "dummy",
-        "dummy:",
-        "emulate=TINY64",
-        "dummy:emulate",
-        "dummy:emulate=tiny64",
-        "dummy:image=a",
-        "dummy:emulate=TINY64,",
-        "dummy:emulate=TINY64,image=",
-        "dummy:emulate=TINY64,image=a,image=a",
-        "dummy:emulate=TINY64,emulate=TINY64",
-        "dummy:emulate=TINY64,speed=1",
-    ] {
-        assert!(rt; Programmer::read(text).is_none(), "at {text}");
-    }
+    Ok(())
 }
 
-// A stop is 1 to 20 decimal digits up to the greatest number of 64 bits, and there are at most 64.
+// Where memory runs out the text depends on what was being done.
 #[test]
-fn reads_stops(rt: HostRuntime) -> Result<(), Fail> {
-    for (text, stop) in [
-        ("0", 0),
-        ("00000000000000000024", 24),
-        ("18446744073709551615", u64::MAX),
+fn want_of_memory_has_a_line(rt: HostRuntime) -> Result<(), Fail> {
+    for (fault, told) in [
+        (Fault::from(AllocError), "Error 18: out of memory.\n"),
+        (Fault::from(UsageFault::Memory), "Usage fault 10.\n"),
+        (Fault::from(LayoutFault::Memory), "Layout fault 7.\n"),
     ] {
-        assert_eq!(rt; read_stop(text), Some(stop), "at {text}");
+        let mut errors = Vec::new(rt.alloc());
+        let status = print_fault(&mut errors, fault);
+        assert_eq!(rt; errors.as_slice(), told.as_bytes(), "at {told}");
+        assert_eq!(rt; status, 1, "at {told}");
     }
-    for text in [
-        "",
-        "+1",
-        "-1",
-        "1x",
-        "0x1",
-        "000000000000000000024",
-        "18446744073709551616",
-    ] {
-        assert_eq!(rt; read_stop(text), None, "at {text}");
-    }
-    for text in ["", "1,", ",1", "1,,2", "1,x"] {
-        assert!(rt; read_stops(text).is_none(), "at {text}");
-    }
-    let mut text = String::from_str(rt.alloc(), "1")?;
-    for _ in 1..64 {
-        text.push_str(",1")?;
-    }
-    assert!(rt; read_stops(text.as_str()).is_some());
-    text.push_str(",1")?;
-    assert!(rt; read_stops(text.as_str()).is_none());
     Ok(())
 }

@@ -1,0 +1,212 @@
+//! A file in memory, and how it is opened, read and written.
+ghost use Rattle.std.specs.Io.{ReadsAtMost, WritesAtMost};
+
+use std::alloc::Global;
+use std::cell::RefCell;
+use std::fs::{Metadata, OpenFile, OpenOptions};
+use std::io;
+use std::io::{ErrorKind, Read, Seek, SeekFrom, Write};
+use std::rc::Rc;
+
+/// What is wrong with a file.
+#[derive(Clone, Copy, PartialEq, Eq)]
+pub enum Flaw {
+    /// It can't be opened.
+    Denied,
+    /// There is no memory to open it.
+    NoMemory,
+    /// The read of this number fails; the first is 1.
+    Read(u32),
+    /// The write of this number fails; the first is 1.
+    Write(u32),
+    /// It has room for so many bytes.
+    Room(usize),
+    /// It can't be synced.
+    Sync,
+    /// A read or a write moves one byte.
+    Slow,
+}
+
+/// What stays of a file while nobody has it open.
+#[derive(Drop)]
+pub struct Kept {
+    /// None where it isn't there.
+    pub bytes: Option<Vec<u8>>,
+    pub flaw: Option<Flaw>,
+    /// Nothing was written since it was last synced.
+    pub synced: bool,
+    reads: u32,
+    writes: u32,
+}
+
+impl Kept {
+    pub fn missing() -> Kept {
+        Kept {
+            bytes: None,
+            flaw: None,
+            synced: false,
+            reads: 0,
+            writes: 0,
+        }
+    }
+
+    fn open(&mut self, alloc: Global, how: &OpenOptions) -> io::Result<()> {
+        match self.flaw {
+            Some(Flaw::Denied) => return Err(io::Error::from(ErrorKind::PermissionDenied)),
+            Some(Flaw::NoMemory) => return Err(io::Error::from(ErrorKind::OutOfMemory)),
+            _ => {}
+        }
+        let creates = how.asks_create() || how.asks_create_new();
+        match &mut self.bytes {
+            Some(_) if how.asks_create_new() => Err(io::Error::from(ErrorKind::AlreadyExists)),
+            Some(bytes) => {
+                if how.asks_truncate() {
+                    bytes.clear();
+                }
+                Ok(())
+            }
+            None if creates => {
+                self.bytes = Some(Vec::new(alloc));
+                Ok(())
+            }
+            None => Err(io::Error::from(ErrorKind::NotFound)),
+        }
+    }
+
+    // Reads from this place on.
+    fn read(&mut self, at: usize, buf: &mut [u8]) -> io::Result<usize>
+        ensures { ReadsAtMost result buf.new }
+    {
+        self.reads = self.reads.wrapping_add(1);
+        if self.flaw == Some(Flaw::Read(self.reads)) {
+            return Err(failed());
+        }
+        let Some(bytes) = &self.bytes else {
+            return Err(failed());
+        };
+        let rest = bytes.get(at..).unwrap_or(&[]);
+        let mut rest = match self.flaw {
+            Some(Flaw::Slow) => up_to(rest, 1),
+            _ => rest,
+        };
+        rest.read(buf)
+    }
+
+    // Writes from this place on.
+    fn write(&mut self, at: usize, buf: &[u8]) -> io::Result<usize>
+        ensures { WritesAtMost result buf.now }
+    {
+        self.writes = self.writes.wrapping_add(1);
+        let piece = match self.flaw {
+            Some(Flaw::Write(nth)) if nth == self.writes => return Err(failed()),
+            Some(Flaw::Room(room)) if room <= at => return Err(failed()),
+            Some(Flaw::Room(room)) => up_to(buf, room - at),
+            Some(Flaw::Slow) => up_to(buf, 1),
+            _ => buf,
+        };
+        let Some(bytes) = &mut self.bytes else {
+            return Err(failed());
+        };
+        let (over, behind) = piece.split_at(piece.len().min(bytes.len().saturating_sub(at)));
+        for (byte, place) in over.iter().zip(bytes.iter_mut().skip(at)) {
+            *place = *byte;
+        }
+        bytes.extend_from_slice(behind)?;
+        self.synced = false;
+        Ok(piece.len())
+    }
+
+    fn sync(&mut self) -> io::Result<()> {
+        if self.flaw == Some(Flaw::Sync) {
+            return Err(failed());
+        }
+        self.synced = true;
+        Ok(())
+    }
+}
+
+// At most so many of the bytes, from the first on.
+fn up_to(bytes: &[u8], most: usize) -> &[u8] {
+    bytes.get(..most).unwrap_or(bytes)
+}
+
+/// The error of a file that fails.
+pub fn failed() -> io::Error {
+    io::Error::from(ErrorKind::Other)
+}
+
+/// A file that is open.
+#[derive(Drop)]
+pub struct Opened {
+    kept: Rc<RefCell<Kept>>,
+    at: usize,
+    reads: bool,
+    writes: bool,
+}
+
+impl Opened {
+    /// Opens the file as it is asked for.
+    pub fn open(alloc: Global, kept: Rc<RefCell<Kept>>, how: &OpenOptions) -> io::Result<Opened> {
+        kept.try_borrow_mut()
+            .map_err(|_| failed())?
+            .open(alloc, how)?;
+        Ok(Opened {
+            kept,
+            at: 0,
+            reads: how.asks_read(),
+            writes: how.asks_write(),
+        })
+    }
+}
+
+impl Read for Opened {
+    fn read(&mut self, buf: &mut [u8]) -> io::Result<usize> {
+        if !self.reads {
+            return Err(failed());
+        }
+        let mut kept = self.kept.try_borrow_mut().map_err(|_| failed())?;
+        let count = kept.read(self.at, buf)?;
+        self.at = self.at.saturating_add(count);
+        Ok(count)
+    }
+}
+
+impl Write for Opened {
+    fn write(&mut self, buf: &[u8]) -> io::Result<usize> {
+        if !self.writes {
+            return Err(failed());
+        }
+        let mut kept = self.kept.try_borrow_mut().map_err(|_| failed())?;
+        let count = kept.write(self.at, buf)?;
+        self.at = self.at.saturating_add(count);
+        Ok(count)
+    }
+
+    fn flush(&mut self) -> io::Result<()> {
+        Ok(())
+    }
+}
+
+impl Seek for Opened {
+    fn seek(&mut self, _to: SeekFrom) -> io::Result<u64> {
+        Err(failed())
+    }
+}
+
+impl OpenFile for Opened {
+    fn metadata(&self) -> io::Result<Metadata> {
+        Err(failed())
+    }
+
+    fn set_len(&self, _size: u64) -> io::Result<()> {
+        Err(failed())
+    }
+
+    fn sync_all(&self) -> io::Result<()> {
+        self.kept.try_borrow_mut().map_err(|_| failed())?.sync()
+    }
+
+    fn sync_data(&self) -> io::Result<()> {
+        self.kept.try_borrow_mut().map_err(|_| failed())?.sync()
+    }
+}
