@@ -1,21 +1,13 @@
 //! No call sends more transactions than it says: on a bus that lies, and on the slowest chip.
 use crate::row::{Row, Start, a_bit_rises, each_page_is_programmed, the_rest_of_a_sector_stays};
-use crate::runs::{Cut, Runs};
-use nor_chip::{Meter, SimBus, Spoil, SpoiltBus};
-use nor_journal::{Journal, MemVault};
+use crate::runs::Runs;
+use crate::spoilt::{Lied, most, spoilt};
+use nor_chip::Spoil;
+use nor_journal::MemVault;
 use nor_probe::probe;
 use nor_read::{read_out, verify, wp_status};
-use nor_session::{restore, session};
 use std::alloc::Global;
 use std::test::Fail;
-
-// The most transactions of a session on a chip of so many sectors, and of a restore that many are saved of: an opening
-// of 65,542, three readings of each sector, and for each sector an erase and sixteen programs, and two status writes,
-// each of them a write enable, the command and at most 65,536 polls.
-fn most(sectors: u32) -> u64 {
-    let sectors = u64::from(sectors);
-    65_542 + 3 * sectors + 65_538 * (17 * sectors + 2)
-}
 
 // The calls that read alone.
 #[derive(Clone, Copy, Debug)]
@@ -56,34 +48,6 @@ impl Reading {
     }
 }
 
-// The bus, spoilt, under any number of transactions.
-fn spoilt(mut bus: SimBus, spoil: Spoil) -> SpoiltBus<SimBus> {
-    bus.allow(u64::MAX);
-    SpoiltBus::new(bus, spoil)
-}
-
-// How many transactions a row's session sends on a bus that lies.
-fn sent_by_session(alloc: Global, row: &Row, spoil: Spoil) -> Result<u64, Fail> {
-    let mut bus = spoilt(row.bus(alloc, Start::IDLE)?, spoil);
-    let mut vault = MemVault::new(alloc);
-    let mut image = row.wanted(alloc)?;
-    let _ = session(&mut bus, &mut vault, &mut image, &row.request);
-    Ok(bus.sent())
-}
-
-// How many transactions a restore sends on a bus that lies.
-fn sent_by_restore(cut: Cut, spoil: Spoil) -> Result<u64, Fail> {
-    let Cut {
-        bus,
-        vault,
-        ended: _,
-    } = cut;
-    let mut bus = spoilt(bus, spoil);
-    let journal = Journal::read(vault.bytes())?;
-    let _ = restore(&mut bus, &journal);
-    Ok(bus.sent())
-}
-
 // The four ways to lie, with this number.
 fn lies(n: u64) -> Result<[Spoil; 4], Fail> {
     let byte = u8::try_from(n)?;
@@ -95,10 +59,11 @@ fn lies(n: u64) -> Result<[Spoil; 4], Fail> {
     ])
 }
 
+// A reading of the whole chip sends 21 transactions.
 #[test]
 fn readings_on_buses_that_lie(rt: HostRuntime) -> Result<(), Fail> {
     let row = a_bit_rises();
-    // A reading of the whole chip sends 21 transactions.
+    let mut runs: u64 = 0;
     for n in 0..=22 {
         for spoil in lies(n)? {
             for reading in READINGS {
@@ -107,37 +72,43 @@ fn readings_on_buses_that_lie(rt: HostRuntime) -> Result<(), Fail> {
                     0 < sent && sent <= reading.most(16),
                     "{reading:?}, {spoil:?}: {sent}"
                 );
+                runs = runs.checked_add(1).ok_or("too many runs")?;
             }
         }
     }
+    assert_eq!(rt; runs, 23 * 4 * 4);
     Ok(())
 }
 
+// The sessions send 30 and 57 transactions. Each run compares what it sent with its bound.
 #[test]
 fn sessions_on_buses_that_lie(rt: HostRuntime) -> Result<(), Fail> {
-    // The sessions send 30 and 57 transactions.
+    let mut runs: u64 = 0;
     for row in [a_bit_rises(), the_rest_of_a_sector_stays(rt.alloc())?] {
         for n in 0..=58 {
             for spoil in lies(n)? {
-                let sent = sent_by_session(rt.alloc(), &row, spoil)?;
-                assert!(rt; 0 < sent && sent <= most(16), "{spoil:?}: {sent}");
+                Lied::session(&rt, rt.alloc(), &row, spoil)?;
+                runs = runs.checked_add(1).ok_or("too many runs")?;
             }
         }
     }
+    assert_eq!(rt; runs, 2 * 59 * 4);
     Ok(())
 }
 
+// The session was stopped behind its erase, so that the restore sends 58 transactions.
 #[test]
 fn restores_on_buses_that_lie(rt: HostRuntime) -> Result<(), Fail> {
     let row = the_rest_of_a_sector_stays(rt.alloc())?;
-    let runs = Runs::new(rt.alloc(), &row, Start::IDLE)?;
-    // Behind the erase, from where a restore sends 58 transactions.
+    let stopped = Runs::new(rt.alloc(), &row, Start::IDLE)?;
+    let mut runs: u64 = 0;
     for n in 0..=59 {
         for spoil in lies(n)? {
-            let sent = sent_by_restore(runs.cut(&rt, 10)?, spoil)?;
-            assert!(rt; 0 < sent && sent <= most(1), "{spoil:?}: {sent}");
+            Lied::restore(&rt, stopped.cut(&rt, 10)?, spoil)?;
+            runs = runs.checked_add(1).ok_or("too many runs")?;
         }
     }
+    assert_eq!(rt; runs, 60 * 4);
     Ok(())
 }
 

@@ -17,6 +17,8 @@ mod row;
 #[cfg(test)]
 mod runs;
 #[cfg(test)]
+mod spoilt;
+#[cfg(test)]
 mod standing;
 #[cfg(test)]
 mod texts;

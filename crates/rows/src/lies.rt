@@ -3,75 +3,35 @@ use crate::row::{
     Row, Start, a_bit_rises, a_byte_is_programmed, a_guarded_byte_is_programmed,
     nine_sectors_are_erased, the_rest_of_a_sector_stays, two_pages_are_programmed,
 };
-use crate::runs::{AMPLE, Cut, Runs};
-use nor_chip::{Meter, Spoil, SpoiltBus};
-use nor_journal::{Journal, MemVault};
+use crate::runs::Runs;
+use crate::spoilt::Lied;
+use nor_chip::Spoil;
 use nor_probe::SfdpFault;
-use nor_session::{Refusal, restore, session};
+use nor_session::Refusal;
 use std::alloc::Global;
 use std::process::Abort;
 use std::test::Fail;
-
-// What a call came to on a bus that lies, and what it left.
-#[derive(Drop)]
-struct Lied {
-    cut: Cut,
-    refusal: Option<Refusal>,
-    sent: u64,
-}
-
-fn spoilt_session(alloc: Global, row: &Row, spoil: Spoil) -> Result<Lied, Fail> {
-    let mut bus = row.bus(alloc, Start::IDLE)?;
-    bus.allow(u64::MAX);
-    let mut bus = SpoiltBus::new(bus, spoil);
-    let mut vault = MemVault::new(alloc);
-    let mut image = row.wanted(alloc)?;
-    let refusal = session(&mut bus, &mut vault, &mut image, &row.request).err();
-    let sent = bus.sent();
-    let bus = bus.into_inner();
-    let cut = Cut {
-        bus,
-        vault,
-        ended: None,
-    };
-    Ok(Lied { cut, refusal, sent })
-}
-
-// Restores behind a session on an honest bus that was stopped.
-fn spoilt_restore(cut: Cut, spoil: Spoil) -> Result<Lied, Fail> {
-    let Cut {
-        mut bus,
-        vault,
-        ended,
-    } = cut;
-    bus.allow(u64::MAX);
-    let mut bus = SpoiltBus::new(bus, spoil);
-    let journal = Journal::read(vault.bytes())?;
-    let refusal = restore(&mut bus, &journal).err();
-    let sent = bus.sent();
-    let bus = bus.into_inner();
-    Ok(Lied {
-        cut: Cut { bus, vault, ended },
-        refusal,
-        sent,
-    })
-}
-
-// A restore on the honest bus gives the chip back, where a vault was sealed; else it is as before.
-fn assert_given_back(rt: &impl Abort, alloc: Global, row: &Row, lied: Lied) -> Result<(), Fail> {
-    let mut cut = lied.cut;
-    if cut.vault.is_sealed() {
-        assert!(rt; cut.restore(AMPLE)?.is_some());
-    }
-    Runs::new(alloc, row, Start::IDLE)?.assert_as_before(rt, &cut.bus);
-    Ok(())
-}
 
 const TIMEOUT: Refusal = Refusal::Timeout { address: 0 };
 
 const MISMATCH: Refusal = Refusal::Mismatch { address: 0 };
 
-const NO_SFDP: Refusal = Refusal::UnknownChip(SfdpFault::Signature);
+const fn no_sfdp(fault: SfdpFault) -> Refusal {
+    Refusal::UnknownChip(fault)
+}
+
+// The call was refused so, after so many transactions, and a restore on the honest bus gives the chip back.
+fn assert_lied(
+    rt: &impl Abort,
+    alloc: Global,
+    row: &Row,
+    lied: Lied,
+    told: (Refusal, u64),
+) -> Result<(), Fail> {
+    let (refusal, sent) = told;
+    assert_eq!(rt; (lied.refusal, lied.sent), (Some(refusal), sent));
+    lied.assert_given_back(rt, alloc, row)
+}
 
 // The opening's seven transactions and sixteen readings come first. 24 enables the erase, 25 is the erase, 26 its poll;
 // 27 enables the program, 28 is the program, 29 its poll, and 30 reads the sector again. A wait gives up behind 65,536
@@ -80,20 +40,15 @@ const NO_SFDP: Refusal = Refusal::UnknownChip(SfdpFault::Signature);
 fn a_session_that_erases(rt: HostRuntime) -> Result<(), Fail> {
     let row = a_bit_rises();
     let rows = [
-        (Spoil::Fill(0xFF), TIMEOUT, 65_536),
-        (Spoil::Fill(0x00), Refusal::NoChip, 2),
-        (Spoil::BusyFrom(26), TIMEOUT, 25 + 65_536),
-        (Spoil::Drop(24), MISMATCH, 30),
-        (Spoil::Low(0), NO_SFDP, 5),
+        (Spoil::Fill(0xFF), (TIMEOUT, 65_536)),
+        (Spoil::Fill(0x00), (Refusal::NoChip, 2)),
+        (Spoil::BusyFrom(26), (TIMEOUT, 25 + 65_536)),
+        (Spoil::Drop(24), (MISMATCH, 30)),
+        (Spoil::Low(0), (no_sfdp(SfdpFault::Signature), 5)),
     ];
-    for (spoil, refusal, sent) in rows {
-        let lied = spoilt_session(rt.alloc(), &row, spoil)?;
-        assert_eq!(rt;
-            (lied.refusal, lied.sent),
-            (Some(refusal), sent),
-            "{spoil:?}"
-        );
-        assert_given_back(&rt, rt.alloc(), &row, lied)?;
+    for (spoil, told) in rows {
+        let lied = Lied::session(&rt, rt.alloc(), &row, spoil)?;
+        assert_lied(&rt, rt.alloc(), &row, lied, told)?;
     }
     Ok(())
 }
@@ -106,112 +61,118 @@ fn a_session_that_programs(rt: HostRuntime) -> Result<(), Fail> {
     let rows = [
         (
             Spoil::BusyFrom(27),
-            Refusal::Timeout { address: 0x100 },
-            26 + 65_536,
+            (Refusal::Timeout { address: 0x100 }, 26 + 65_536),
         ),
-        (Spoil::Drop(26), Refusal::Mismatch { address: 0x100 }, 28),
+        (Spoil::Drop(26), (Refusal::Mismatch { address: 0x100 }, 28)),
     ];
-    for (spoil, refusal, sent) in rows {
-        let lied = spoilt_session(rt.alloc(), &row, spoil)?;
-        assert_eq!(rt;
-            (lied.refusal, lied.sent),
-            (Some(refusal), sent),
-            "{spoil:?}"
-        );
-        assert_given_back(&rt, rt.alloc(), &row, lied)?;
+    for (spoil, told) in rows {
+        let lied = Lied::session(&rt, rt.alloc(), &row, spoil)?;
+        assert_lied(&rt, rt.alloc(), &row, lied, told)?;
     }
     Ok(())
 }
 
-// The session was stopped behind its erase. Of the restore seven transactions are the opening, 8 and 9 read the
-// sector, 10 enables the program, 11 is the program, 12 its poll, and 13 reads the sector again.
+// The session was stopped behind its erase. Of the restore 1 is a poll, 2 the ID, 3 to 5 the SFDP, whose parts are FFh
+// where they were dropped, 6 status 2 and 7 the unique ID; 8 and 9 read the sector, 10 enables the program, 11 is the
+// program, 12 its poll, and 13 reads the sector again.
 #[test]
 fn a_restore_that_programs(rt: HostRuntime) -> Result<(), Fail> {
     let row = a_bit_rises();
     let runs = Runs::new(rt.alloc(), &row, Start::IDLE)?;
     let rows = [
-        (Spoil::Fill(0xFF), TIMEOUT, 65_536),
-        (Spoil::Fill(0x00), Refusal::NoChip, 2),
-        (Spoil::BusyFrom(12), TIMEOUT, 11 + 65_536),
-        (Spoil::Drop(10), MISMATCH, 13),
-        (Spoil::Drop(11), MISMATCH, 13),
-        (Spoil::Low(0), NO_SFDP, 5),
+        (Spoil::Fill(0xFF), (TIMEOUT, 65_536)),
+        (Spoil::Fill(0x00), (Refusal::NoChip, 2)),
+        (Spoil::BusyFrom(12), (TIMEOUT, 11 + 65_536)),
+        (Spoil::Drop(2), (Refusal::NoChip, 2)),
+        (Spoil::Drop(3), (no_sfdp(SfdpFault::Signature), 5)),
+        (Spoil::Drop(4), (no_sfdp(SfdpFault::FirstHeader), 5)),
+        (Spoil::Drop(5), (no_sfdp(SfdpFault::Address), 5)),
+        (Spoil::Drop(6), (Refusal::StatusDiffers, 7)),
+        (Spoil::Drop(7), (Refusal::OtherUnit, 7)),
+        (Spoil::Drop(10), (MISMATCH, 13)),
+        (Spoil::Drop(11), (MISMATCH, 13)),
+        (Spoil::Low(0), (no_sfdp(SfdpFault::Signature), 5)),
     ];
-    for (spoil, refusal, sent) in rows {
-        let lied = spoilt_restore(runs.cut(&rt, 25)?, spoil)?;
-        assert_eq!(rt;
-            (lied.refusal, lied.sent),
-            (Some(refusal), sent),
-            "{spoil:?}"
-        );
-        assert_given_back(&rt, rt.alloc(), &row, lied)?;
+    for (spoil, told) in rows {
+        let lied = Lied::restore(&rt, runs.cut(&rt, 25)?, spoil)?;
+        assert_lied(&rt, rt.alloc(), &row, lied, told)?;
     }
     Ok(())
 }
 
-fn changing_rows(alloc: Global) -> Result<[Row; 6], Fail> {
-    Ok([
-        a_byte_is_programmed(),
-        a_bit_rises(),
-        two_pages_are_programmed(),
-        nine_sectors_are_erased(),
-        the_rest_of_a_sector_stays(alloc)?,
-        a_guarded_byte_is_programmed(),
-    ])
+// A transaction that was dropped may leave bytes other than wanted; a chip that hangs is given up.
+fn is_fitting(spoil: Spoil, refusal: Option<Refusal>) -> bool {
+    match refusal {
+        None => true,
+        Some(Refusal::Mismatch { .. }) => matches!(spoil, Spoil::Drop(_)),
+        Some(Refusal::Timeout { .. }) => matches!(spoil, Spoil::BusyFrom(_)),
+        Some(_) => false,
+    }
 }
 
-// Drops each transaction past the seal of a row's session in turn. Answers how many there are.
-fn drop_each(rt: &impl Abort, alloc: Global, row: &Row) -> Result<u64, Fail> {
-    let sealed = row.sealed_at(Start::IDLE);
-    let length = row.ends_at(Start::IDLE);
-    for n in sealed..length {
-        let lied = spoilt_session(alloc, row, Spoil::Drop(n + 1))?;
-        assert!(rt;
-            matches!(lied.refusal, None | Some(Refusal::Mismatch { .. })),
-            "behind {n}"
-        );
-        assert!(rt; lied.cut.vault.is_sealed(), "behind {n}");
-        assert_given_back(rt, alloc, row, lied)?;
+// Drops each transaction past the seal of a row's session in turn, and shows BUSY from each of them on. Answers how
+// many runs there were.
+fn lie_past_the_seal(rt: &impl Abort, alloc: Global, row: &Row) -> Result<u64, Fail> {
+    let mut runs: u64 = 0;
+    for n in row.sealed_at(Start::IDLE)..row.ends_at(Start::IDLE) {
+        for spoil in [Spoil::Drop(n + 1), Spoil::BusyFrom(n + 1)] {
+            let lied = Lied::session(rt, alloc, row, spoil)?;
+            assert!(rt; is_fitting(spoil, lied.refusal), "{spoil:?}");
+            assert!(rt; lied.cut.vault.is_sealed(), "{spoil:?}");
+            lied.assert_given_back(rt, alloc, row)?;
+            runs = runs.checked_add(1).ok_or("too many runs")?;
+        }
     }
-    Ok(length.saturating_sub(sealed))
+    Ok(runs)
 }
 
 // Past the seal all that a session sends aims at the saved sectors or the protection bits, and what was saved was read
 // on a bus that was still honest. So the restore gives back what any one lie made of the chip.
 #[test]
-fn each_transaction_past_the_seal_is_dropped(rt: HostRuntime) -> Result<(), Fail> {
-    let mut dropped: u64 = 0;
-    for row in changing_rows(rt.alloc())? {
-        let more = drop_each(&rt, rt.alloc(), &row)?;
-        dropped = dropped.checked_add(more).ok_or("too many runs")?;
+fn any_lie_past_the_seal_is_undone(rt: HostRuntime) -> Result<(), Fail> {
+    let alloc = rt.alloc();
+    let rows = [
+        (a_byte_is_programmed(), 5),
+        (a_bit_rises(), 7),
+        (two_pages_are_programmed(), 8),
+        (nine_sectors_are_erased(), 15),
+        (the_rest_of_a_sector_stays(alloc)?, 49),
+        (a_guarded_byte_is_programmed(), 11),
+    ];
+    for (row, transactions) in rows {
+        assert_eq!(rt; lie_past_the_seal(&rt, alloc, &row)?, 2 * transactions);
     }
-    assert_eq!(rt; dropped, 5 + 7 + 8 + 15 + 49 + 11);
     Ok(())
 }
 
-// Shows BUSY from each transaction past the seal on. Answers how many there are.
-fn hang_at_each(rt: &impl Abort, alloc: Global, row: &Row) -> Result<u64, Fail> {
-    let sealed = row.sealed_at(Start::IDLE);
-    let length = row.ends_at(Start::IDLE);
-    for n in sealed..length {
-        let lied = spoilt_session(alloc, row, Spoil::BusyFrom(n + 1))?;
-        assert!(rt;
-            matches!(lied.refusal, None | Some(Refusal::Timeout { .. })),
-            "behind {n}"
-        );
-        assert!(rt; lied.cut.vault.is_sealed(), "behind {n}");
-        assert_given_back(rt, alloc, row, lied)?;
+// Drops each transaction of the restore behind a stop of a row's session, and shows BUSY from each of them on. A
+// restore on the honest bus follows.
+fn lie_to_restores(
+    rt: &impl Abort,
+    alloc: Global,
+    row: &Row,
+    stop: u64,
+    length: u64,
+) -> Result<(), Fail> {
+    let runs = Runs::new(alloc, row, Start::IDLE)?;
+    assert_eq!(rt; runs.cut(rt, stop)?.restore(length)?, Some(length));
+    for n in 0..length {
+        for spoil in [Spoil::Drop(n + 1), Spoil::BusyFrom(n + 1)] {
+            let lied = Lied::restore(rt, runs.cut(rt, stop)?, spoil)?;
+            lied.assert_given_back(rt, alloc, row)?;
+        }
     }
-    Ok(length.saturating_sub(sealed))
+    Ok(())
 }
 
+// Behind stops that leave a sector erased, a byte programmed, and protection lifted or given back.
 #[test]
-fn a_chip_hangs_from_each_transaction_past_the_seal_on(rt: HostRuntime) -> Result<(), Fail> {
-    let mut hung: u64 = 0;
-    for row in changing_rows(rt.alloc())? {
-        let more = hang_at_each(&rt, rt.alloc(), &row)?;
-        hung = hung.checked_add(more).ok_or("too many runs")?;
-    }
-    assert_eq!(rt; hung, 5 + 7 + 8 + 15 + 49 + 11);
+fn any_lie_to_a_restore_is_undone(rt: HostRuntime) -> Result<(), Fail> {
+    let alloc = rt.alloc();
+    lie_to_restores(&rt, alloc, &a_bit_rises(), 25, 13)?;
+    lie_to_restores(&rt, alloc, &a_byte_is_programmed(), 26, 12)?;
+    lie_to_restores(&rt, alloc, &the_rest_of_a_sector_stays(alloc)?, 10, 58)?;
+    lie_to_restores(&rt, alloc, &a_guarded_byte_is_programmed(), 2054, 8)?;
+    lie_to_restores(&rt, alloc, &a_guarded_byte_is_programmed(), 2061, 15)?;
     Ok(())
 }

@@ -126,7 +126,7 @@ const HEAD: &[u8; 25] = b"NORUNDO2\xFE\x10\x10\0\0\0\0\0\0\0\0\0\0\0\0\x01\0";
 #[test]
 fn journals_of_a_million_bytes(rt: HostRuntime) -> Result<(), Fail> {
     let alloc = rt.alloc();
-    for byte in 0..=255 {
+    for byte in [0x00, b'N', 0xFF] {
         assert_eq!(rt;
             journal_fault(alloc, b"", byte)?,
             Some(JournalFault::Magic),
