@@ -63,10 +63,10 @@ fn each_loss_behind_two_pages(rt: HostRuntime) -> Result<(), Fail> {
 // 8 stops before the seal, two that leave the sector as it was, two while it is erased, three behind that: 90
 // transactions, ten and five for each of its 16 pages. Then there are two stops while a page is programmed and three
 // behind that, with 15, 14, .. 1 pages left to program, and the one that was cut off.
-fn runs_behind_a_sector(erasing: u64, is_cleared: bool) -> u64 {
+fn runs_behind_a_sector(erasing: u32, is_cleared: bool) -> u64 {
     let left = 15 * 16 / 2;
     let cut_off = if is_cleared { 0 } else { 2 * 15 * 5 };
-    8 + 2 * 9 + 2 * erasing + 3 * 91 + 5 * (15 * 11 + 5 * left) + cut_off
+    8 + 2 * 9 + 2 * u64::from(erasing) + 3 * 91 + 5 * (15 * 11 + 5 * left) + cut_off
 }
 
 // The old sector is full of 00h. So with that fill a restore has nothing to do behind an erase that was cut off, and

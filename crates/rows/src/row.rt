@@ -118,8 +118,10 @@ impl Row {
 
     /// The fewest transactions with which the session ends.
     pub fn ends_at(&self, start: Start) -> u64 {
-        let waits = u64::from(start.delays.each) * u64::from(self.operations);
-        u64::from(self.length) + u64::from(start.delays.now) + waits
+        let waits = u64::from(start.delays.each).saturating_mul(u64::from(self.operations));
+        u64::from(self.length)
+            .saturating_add(u64::from(start.delays.now))
+            .saturating_add(waits)
     }
 }
 
