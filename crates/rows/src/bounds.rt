@@ -112,9 +112,9 @@ fn restores_on_buses_that_lie(rt: HostRuntime) -> Result<(), Fail> {
     Ok(())
 }
 
-// Both come near their bound: 271 and 241 of the 274 operations that it allows are sent, each with its 65,536 polls. The
-// restore opens with seven transactions, reads sixteen sectors, fifteen of them again before their programs, and all of
-// them at its end; it erases the last sector and programs the 240 pages of the others.
+// Both come near their bound: 271 and 241 of the 274 operations that it allows are sent, each with its 65,536 polls.
+// The restore opens with seven transactions, reads sixteen sectors, fifteen of them again before their programs, and
+// all of them at its end; it erases the last sector and programs the 240 pages of the others.
 #[test]
 fn the_slowest_session_and_its_restore(rt: HostRuntime) -> Result<(), Fail> {
     let row = each_page_is_programmed()?;
