@@ -1,0 +1,28 @@
+//! Hostile use of the public calls, across crates: sessions and restores that are stopped at each of their
+//! transactions or lose their power there, vaults that refuse, buses that lie and texts that attack. Tests alone.
+#![tactic(auto)]
+
+#[cfg(test)]
+mod bounds;
+#[cfg(test)]
+mod cuts;
+#[cfg(test)]
+mod lies;
+#[cfg(test)]
+mod power;
+#[cfg(test)]
+mod rehearsed;
+#[cfg(test)]
+mod row;
+#[cfg(test)]
+mod runs;
+#[cfg(test)]
+mod spoilt;
+#[cfg(test)]
+mod standing;
+#[cfg(test)]
+mod texts;
+#[cfg(test)]
+mod undone;
+#[cfg(test)]
+mod vaults;

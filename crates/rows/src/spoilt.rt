@@ -1,0 +1,77 @@
+//! Sessions and restores on a bus that lies in one way, and what may be asked of them all the same.
+use crate::row::{Row, Start};
+use crate::runs::{AMPLE, Cut, Runs};
+use nor_chip::{Meter, SimBus, Spoil, SpoiltBus};
+use nor_journal::{Journal, MemVault};
+use nor_session::{Refusal, restore, session};
+use std::alloc::Global;
+use std::process::Abort;
+use std::test::Fail;
+
+/// The most transactions of a session on a chip of so many sectors, and of a restore that so many are saved for: an
+/// opening of 65,542, three readings of each sector, and for each sector an erase and sixteen programs, and two status
+/// writes, each of them a write enable, the command and at most 65,536 polls.
+pub fn most(sectors: u32) -> u64 {
+    let sectors = u64::from(sectors);
+    65_542 + 3 * sectors + 65_538 * (17 * sectors + 2)
+}
+
+/// The bus, spoilt, under any number of transactions.
+pub fn spoilt(mut bus: SimBus, spoil: Spoil) -> SpoiltBus<SimBus> {
+    bus.allow(u64::MAX);
+    SpoiltBus::new(bus, spoil)
+}
+
+/// What a call came to on a bus that lies, how many transactions it sent, and what it left.
+#[derive(Drop)]
+pub struct Lied {
+    pub refusal: Option<Refusal>,
+    pub sent: u64,
+    pub cut: Cut,
+}
+
+impl Lied {
+    /// The row's session, which keeps its bound.
+    pub fn session(rt: &impl Abort, alloc: Global, row: &Row, spoil: Spoil) -> Result<Lied, Fail> {
+        let mut bus = spoilt(row.bus(alloc, Start::IDLE)?, spoil);
+        let mut vault = MemVault::new(alloc);
+        let mut image = row.wanted(alloc)?;
+        let refusal = session(&mut bus, &mut vault, &mut image, &row.request).err();
+        let sent = bus.sent();
+        assert!(rt;
+            0 < sent && sent <= most(row.config.size / 4096),
+            "{spoil:?}: {sent}"
+        );
+        let bus = bus.into_inner();
+        let cut = Cut {
+            bus,
+            vault,
+            ended: None,
+        };
+        Ok(Lied { refusal, sent, cut })
+    }
+
+    /// The restore behind a session that was stopped on the honest bus. It keeps its bound.
+    pub fn restore(rt: &impl Abort, cut: Cut, spoil: Spoil) -> Result<Lied, Fail> {
+        let Cut { bus, vault, ended } = cut;
+        let mut bus = spoilt(bus, spoil);
+        let journal = Journal::read(vault.bytes())?;
+        let saved = u32::try_from(journal.count())?;
+        let refusal = restore(&mut bus, &journal).err();
+        let sent = bus.sent();
+        assert!(rt; 0 < sent && sent <= most(saved), "{spoil:?}: {sent}");
+        let bus = bus.into_inner();
+        let cut = Cut { bus, vault, ended };
+        Ok(Lied { refusal, sent, cut })
+    }
+
+    /// Restores on the honest bus, where the vault was sealed. The chip is as before.
+    pub fn assert_given_back(self, rt: &impl Abort, alloc: Global, row: &Row) -> Result<(), Fail> {
+        let Lied { mut cut, .. } = self;
+        if cut.vault.is_sealed() {
+            assert!(rt; cut.restore(AMPLE)?.is_some());
+        }
+        Runs::new(alloc, row, Start::IDLE)?.assert_as_before(rt, &cut.bus);
+        Ok(())
+    }
+}
