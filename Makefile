@@ -5,7 +5,11 @@ BENCH := crates/bench/out/bench
 SCRATCH := $(CURDIR)/out/demo
 WORDS := -p dummy:emulate=TINY64,image=chip.bin -w new.bin --rehearse 25
 
-.PHONY: build demo files bench check clean
+# The cases that `make storm` runs: their seed, and how many.
+SEED := 1
+COUNT := 1000
+
+.PHONY: build demo files bench storm check clean
 
 # Proves the program and everything below it, builds it, and runs it once.
 build: files
@@ -37,6 +41,11 @@ bench:
 	@$(BENCH) journal
 	@$(BENCH) session
 	@$(BENCH) read
+
+# Sessions by chance, each beside plain code: `make storm SEED=7 COUNT=5000`. The first case proves and builds.
+storm:
+	@cd crates/storm && rt run -- $(SEED) 1 > /dev/null
+	@crates/storm/out/storm $(SEED) $(COUNT)
 
 # The merge gate.
 check:

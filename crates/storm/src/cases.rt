@@ -21,9 +21,9 @@ pub struct Case {
 }
 
 impl Case {
-    /// The next case that the dice give. One in sixteen is on a W25Q64FV.
+    /// The next case that the dice give. One in twelve is on a W25Q64FV.
     pub fn next(alloc: Global, dice: &mut Dice) -> Result<Case, Fault> {
-        let chip = if dice.hits(1, 16) {
+        let chip = if dice.hits(1, 12) {
             chips::large(alloc, dice)?
         } else {
             chips::small(alloc, dice)?

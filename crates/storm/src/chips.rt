@@ -89,16 +89,16 @@ pub fn large(alloc: Global, dice: &mut Dice) -> Result<Chip, Fault> {
     chip_of(alloc, dice, Config::w25q64fv(), status)
 }
 
-/// Status bytes by chance, of which half have no protection code or a usual one.
+/// Status bytes by chance: a third is locked, a third has no code or a usual one, and one in twelve the undefined code.
 pub fn protection(dice: &mut Dice) -> Status {
     let lock1 = dice.pick(0x80, &[0x00, 0x00, 0x00, 0x00]);
     let lock2 = dice.pick(0x01, &[0x00, 0x00, 0x00, 0x00]);
-    let code1 = dice.byte() & 0x7C;
-    let code2 = dice.byte() & 0x40;
-    let [code1, code2] = dice.pick(
-        [code1, code2],
-        &[[0x00, 0x00], [0x04, 0x00], [code1, code2]],
-    );
+    let any = [dice.byte() & 0x7C, dice.byte() & 0x40];
+    let [code1, code2] = if dice.hits(1, 12) {
+        dice.pick([0x58, 0x00], &[[0x78, 0x40]])
+    } else {
+        dice.pick([0x00, 0x00], &[[0x04, 0x00], any, any])
+    };
     let latch = dice.byte() & 0x03;
     let others = dice.byte() & 0xBE;
     [lock1 | code1 | latch, lock2 | code2 | others]

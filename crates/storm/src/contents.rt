@@ -23,7 +23,14 @@ enum Style {
 pub fn sector(dice: &mut Dice, sectors: u32) -> u32 {
     let last = sectors.saturating_sub(1);
     let near = dice.below(3);
-    let part = sectors >> dice.below(7);
+    let parts = [
+        sectors / 2,
+        sectors / 4,
+        sectors / 8,
+        sectors / 16,
+        sectors / 32,
+    ];
+    let part = dice.pick(sectors / 64, &parts);
     match dice.below(6) {
         0 => dice.below(17).min(last),
         1 => last.saturating_sub(dice.below(17)),

@@ -12,6 +12,7 @@ mod guards;
 mod lengths;
 mod parameters;
 mod readings;
+mod rehearsals;
 mod restores;
 mod runs;
 mod stops;

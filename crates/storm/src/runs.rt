@@ -6,7 +6,7 @@ use crate::fault::Fault;
 use crate::tally::Tally;
 use crate::wanted::Wanted;
 use crate::words::Job;
-use crate::{checks, readings, restores, stops, verdicts};
+use crate::{checks, readings, rehearsals, restores, stops, verdicts};
 use std::alloc::Global;
 
 /// A case that ended a run, by its number.
@@ -49,6 +49,10 @@ fn run_case(alloc: Global, seed: u64, number: u64, tally: &mut Tally) -> Result<
     checks::check_ended(&case, &wanted, &ran)?;
     tally.count_session(None);
     stops::check(alloc, &mut dice, &case, &wanted)?;
+    if dice.hits(1, 4) {
+        rehearsals::check(alloc, &mut dice, &case, &wanted)?;
+        tally.count_rehearsal();
+    }
     if dice.hits(1, 3) {
         let refusal = restores::check(alloc, &mut dice, &case, &wanted, &ran)?;
         tally.count_restore(refusal);

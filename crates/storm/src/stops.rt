@@ -44,8 +44,8 @@ pub fn check(alloc: Global, dice: &mut Dice, case: &Case, wanted: &Wanted) -> Re
     give_back(dice, case, wanted, ran)
 }
 
-// Where the session is stopped: anywhere, or among the changes.
-fn stop_for(dice: &mut Dice, case: &Case, wanted: &Wanted) -> u64 {
+/// Where a session is stopped: anywhere, or among the changes.
+pub fn stop_for(dice: &mut Dice, case: &Case, wanted: &Wanted) -> u64 {
     let whole = lengths::session(case, wanted.work(&case.chip));
     if dice.hits(1, 4) {
         return dice.up_to(whole);
@@ -55,8 +55,8 @@ fn stop_for(dice: &mut Dice, case: &Case, wanted: &Wanted) -> u64 {
     saving.saturating_add(changes)
 }
 
-// A stop loses the power of half the chips that were idle at the start.
-fn fill_for(dice: &mut Dice, case: &Case) -> Option<u8> {
+/// A stop loses the power of half the chips that were idle at the start, with this fill.
+pub fn fill_for(dice: &mut Dice, case: &Case) -> Option<u8> {
     if case.chip.is_idle() && dice.hits(1, 2) {
         Some(dice.pick(0x5A, &[0x00, 0xFF, 0xA5]))
     } else {
@@ -141,8 +141,8 @@ fn give_back(dice: &mut Dice, case: &Case, wanted: &Wanted, ran: Ran) -> Result<
     )
 }
 
-// Half of the stops come soon.
-fn stop_of_restore(dice: &mut Dice, most: u64) -> u64 {
+/// Where a restore is stopped, of which half come soon.
+pub fn stop_of_restore(dice: &mut Dice, most: u64) -> u64 {
     let most = if dice.hits(1, 2) { most } else { most.min(40) };
     dice.up_to(most)
 }

@@ -14,6 +14,8 @@ pub struct Tally {
     pub restored: u64,
     /// Restores on other chips by the number of their refusal.
     pub kept_away: [u64; 21],
+    /// Accepted sessions that were rehearsed too.
+    pub rehearsed: u64,
     /// Chips that were read out and compared.
     pub read: u64,
 }
@@ -25,6 +27,7 @@ impl Tally {
         refused: [0; 21],
         restored: 0,
         kept_away: [0; 21],
+        rehearsed: 0,
         read: 0,
     };
 
@@ -42,6 +45,11 @@ impl Tally {
             None => self.restored = self.restored.wrapping_add(1),
             Some(refusal) => count(&mut self.kept_away, refusal),
         }
+    }
+
+    /// Counts a rehearsal.
+    pub fn count_rehearsal(&mut self) {
+        self.rehearsed = self.rehearsed.wrapping_add(1);
     }
 
     /// Counts a chip that was read.
@@ -62,6 +70,7 @@ impl fmt::Display for Tally {
         write_numbers(f, &self.refused)?;
         write!(f, "\nrestores on other chips: {} accepted", self.restored)?;
         write_numbers(f, &self.kept_away)?;
+        write!(f, "\nrehearsals: {}", self.rehearsed)?;
         write!(f, "\nchips read: {}", self.read)
     }
 }
