@@ -1,4 +1,4 @@
-//! Three thousand cases, and the plain code itself at values of the papers that it was written from.
+//! Three thousand cases, and the plain code itself at known values.
 
 use crate::cases::Case;
 use crate::dice::Dice;
