@@ -9,7 +9,11 @@ AGAIN = cd $(SCRATCH) && $(CURDIR)/$(PROGRAM) $(WORDS)
 # Where `make install` puts things, below DESTDIR if that is given.
 PREFIX ?= /usr/local
 
-.PHONY: build demo try files bench compare install check clean
+# The cases that `make storm` runs: their seed, and how many.
+SEED := 1
+COUNT := 1000
+
+.PHONY: build demo try files bench compare storm install check clean
 
 # Proves the program and everything below it, builds it, and runs it once.
 build: files
@@ -67,6 +71,11 @@ install: $(PROGRAM)
 	install -D -m 755 $(PROGRAM) $(DESTDIR)$(PREFIX)/bin/flashnor
 	install -D -m 644 man/flashnor.8 $(DESTDIR)$(PREFIX)/share/man/man8/flashnor.8
 	install -D -m 644 completion/flashnor.bash $(DESTDIR)$(PREFIX)/share/bash-completion/completions/flashnor
+
+# Sessions by chance, each beside plain code: `make storm SEED=7 COUNT=5000`. The first case proves and builds.
+storm:
+	@cd crates/storm && rt run -- $(SEED) 1 > /dev/null
+	@crates/storm/out/storm $(SEED) $(COUNT)
 
 # The merge gate.
 check:

@@ -1,0 +1,164 @@
+//! What is asked of a chip, by chance.
+
+use crate::chips::{self, Chip};
+use crate::dice::Dice;
+use crate::fault::Fault;
+use crate::{contents, guards};
+use nor_layout::{Layout, Ranges, Span};
+use nor_probe::ChipName;
+use nor_session::{Request, What};
+use std::alloc::Global;
+use std::fmt::Write;
+
+/// A chip, and a request with its image.
+#[derive(Drop)]
+pub struct Case {
+    pub chip: Chip,
+    pub image: Vec<u8>,
+    pub request: Request,
+    /// The spans that the request includes, as they were made up; none is the whole chip.
+    pub included: Option<Vec<Span>>,
+}
+
+impl Case {
+    /// The next case that the dice give. One in twelve is on a W25Q64FV.
+    pub fn next(alloc: Global, dice: &mut Dice) -> Result<Case, Fault> {
+        let chip = if dice.hits(1, 12) {
+            chips::large(alloc, dice)?
+        } else {
+            chips::small(alloc, dice)?
+        };
+        let image = image_for(alloc, dice, &chip)?;
+        let what = what_for(dice, &chip);
+        let included = if dice.hits(1, 2) {
+            Some(spans_for(alloc, dice, &chip)?)
+        } else {
+            None
+        };
+        let request = Request {
+            what,
+            named: name_for(dice, &chip),
+            included: match &included {
+                Some(spans) => Some(ranges_of(alloc, spans.as_slice())?),
+                None => None,
+            },
+            unlock: dice.hits(1, 2),
+            verify: dice.hits(1, 2),
+        };
+        Ok(Case {
+            chip,
+            image,
+            request,
+            included,
+        })
+    }
+
+    /// The address is included by the request's ranges.
+    pub fn includes(&self, address: u32) -> bool {
+        match &self.included {
+            Some(spans) => spans
+                .iter()
+                .any(|span| span.first <= address && address <= span.last),
+            None => true,
+        }
+    }
+
+    /// The last included address, where there are ranges.
+    pub fn last_included(&self) -> Option<u32> {
+        match &self.included {
+            Some(spans) => spans.iter().map(|span| span.last).max(),
+            None => None,
+        }
+    }
+}
+
+// An image for a chip: its bytes with changes, seldom of another length.
+fn image_for(alloc: Global, dice: &mut Dice, chip: &Chip) -> Result<Vec<u8>, Fault> {
+    let mut image = chip.bytes.to_vec(alloc)?;
+    contents::alter(dice, image.as_mut_slice());
+    if dice.hits(1, 25) {
+        match dice.below(4) {
+            0 => image.push(0x00)?,
+            1 => image.truncate(0),
+            2 => image.truncate(dice.below(chip.config.size) as usize),
+            _ => {
+                let _ = image.pop();
+            }
+        }
+    }
+    Ok(image)
+}
+
+// What is asked for. A range is asked for often where it can be had.
+fn what_for(dice: &mut Dice, chip: &Chip) -> What {
+    let ranges = if chip.config.scheme { 5 } else { 1 };
+    if dice.hits(ranges, 20) {
+        let (start, len) = guards::guarded_places(dice.byte() % 64, chip.config.size);
+        let start = start.saturating_add(dice.pick(0, &[0, 0, 0, 0, 4096]));
+        let len = len.saturating_add(dice.pick(0, &[0, 0, 0, 0, 1]));
+        return What::WpRange { start, len };
+    }
+    dice.pick(What::Write, &[What::Write, What::Erase])
+}
+
+// No name, the chip's, or another.
+fn name_for(dice: &mut Dice, chip: &Chip) -> Option<ChipName> {
+    let right = if chip.config.scheme {
+        ChipName::W25Q64FV
+    } else {
+        ChipName::Sfdp
+    };
+    let names = [
+        ChipName::Other,
+        ChipName::W25Q128FV,
+        ChipName::Sfdp,
+        ChipName::W25Q64FV,
+    ];
+    match dice.below(24) {
+        0..4 => Some(right),
+        4 => Some(dice.pick(right, &names)),
+        _ => None,
+    }
+}
+
+// One to four spans of addresses, seldom past the chip's end.
+fn spans_for(alloc: Global, dice: &mut Dice, chip: &Chip) -> Result<Vec<Span>, Fault> {
+    let mut spans = Vec::new(alloc);
+    for _ in 0..dice.pick(1, &[2, 3, 4]) {
+        spans.push(span_for(dice, chip.config.size))?;
+    }
+    Ok(spans)
+}
+
+// A span of a few bytes, a few sectors, or a part of the chip.
+fn span_for(dice: &mut Dice, size: u32) -> Span {
+    let sector = contents::sector(dice, size / 4096);
+    let offset = dice.pick(0, &[0, 0x800, 0xFFF, 0x100]);
+    let first = sector.saturating_mul(4096).saturating_add(offset);
+    let most = dice.pick(300, &[4096, 4096, 40_000, size / 2]);
+    let last = first.saturating_add(dice.below(most));
+    let end = size.saturating_sub(1);
+    if dice.hits(1, 40) {
+        return Span {
+            first,
+            last: last.max(dice.pick(size, &[end, u32::MAX])),
+        };
+    }
+    Span {
+        first: first.min(end),
+        last: last.min(end),
+    }
+}
+
+// The ranges of a layout that has these spans as its regions.
+fn ranges_of(alloc: Global, spans: &[Span]) -> Result<Ranges, Fault> {
+    let mut text = String::new(alloc);
+    let mut names = String::from_str(alloc, "r0")?;
+    for (number, span) in spans.iter().enumerate() {
+        let Span { first, last } = *span;
+        writeln!(text, "0x{first:x}:{last:08X} r{number}")?;
+        write!(names, ",r{number}")?;
+    }
+    let layout = Layout::read(alloc, text.as_bytes())?;
+    Ok(layout.include(names.as_str())?)
+}

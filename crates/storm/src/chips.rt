@@ -1,0 +1,125 @@
+//! Chips by chance, as plain values.
+
+use crate::contents;
+use crate::dice::Dice;
+use crate::fault::Fault;
+use crate::guards::Status;
+use crate::parameters::{self, Told};
+use nor_chip::{Config, Delays, SimBus};
+use std::alloc::Global;
+
+/// A chip at a moment.
+#[derive(Drop)]
+pub struct Chip {
+    pub config: Config,
+    pub bytes: Vec<u8>,
+    /// Status 1 and status 2. Bit 1 of the first is the latch; BUSY and SUS aren't looked at.
+    pub status: Status,
+    pub delays: Delays,
+}
+
+impl Chip {
+    /// A bus to this chip, which lets nothing through yet.
+    pub fn bus(&self, alloc: Global) -> Result<SimBus, Fault> {
+        let bytes = self.bytes.to_vec(alloc)?;
+        Ok(SimBus::new(self.config, bytes, self.status, self.delays)?)
+    }
+
+    /// How many sectors of 4,096 bytes it has.
+    pub fn sectors(&self) -> u32 {
+        self.config.size / 4096
+    }
+
+    /// The same chip in memory of its own.
+    pub fn copy(&self, alloc: Global) -> Result<Chip, Fault> {
+        Ok(Chip {
+            config: self.config,
+            bytes: self.bytes.to_vec(alloc)?,
+            status: self.status,
+            delays: self.delays,
+        })
+    }
+
+    /// It isn't busy.
+    pub fn is_idle(&self) -> bool {
+        self.delays.now == 0
+    }
+}
+
+/// A chip of 64, 128 or 256 KiB that shows what it is by its SFDP alone. Some show nothing that is accepted, or the ID
+/// of no chip.
+pub fn small(alloc: Global, dice: &mut Dice) -> Result<Chip, Fault> {
+    let told = Told {
+        size: dice.pick(65_536, &[131_072, 262_144]),
+        k32: dice.hits(1, 2),
+        k64: dice.hits(1, 2),
+    };
+    let mut shown = parameters::show(dice, told);
+    if dice.hits(1, 20) {
+        parameters::damage(dice, &mut shown);
+    }
+    // A chip is what its SFDP says, where that is accepted.
+    let told = parameters::read(&shown, told.size).unwrap_or(told);
+    let id = id_for(dice);
+    let Some(config) = Config::new(id, told.size, told.k32, told.k64, false, &shown) else {
+        return Err(Fault::Case);
+    };
+    let status = [dice.byte(), dice.byte()];
+    chip_of(alloc, dice, config, status)
+}
+
+// An ID of no table, seldom that of no chip.
+fn id_for(dice: &mut Dice) -> [u8; 3] {
+    let last = dice.byte();
+    let ids = [
+        [0xFF, 0xFF, last & 0x7F],
+        [0x00, 0x00, last | 0x01],
+        [0x01, last, 0x17],
+    ];
+    if dice.hits(1, 50) {
+        dice.pick([0xFF; 3], &[[0x00; 3]])
+    } else {
+        dice.pick([0xFE, 0x10, 0x10], &ids)
+    }
+}
+
+/// A W25Q64FV, the chip with protection. Its status is locked now and then.
+pub fn large(alloc: Global, dice: &mut Dice) -> Result<Chip, Fault> {
+    let status = protection(dice);
+    chip_of(alloc, dice, Config::w25q64fv(), status)
+}
+
+/// Status bytes by chance: a third is locked, a third has no code or a usual one, and one in twelve the undefined code.
+pub fn protection(dice: &mut Dice) -> Status {
+    let lock1 = dice.pick(0x80, &[0x00, 0x00, 0x00, 0x00]);
+    let lock2 = dice.pick(0x01, &[0x00, 0x00, 0x00, 0x00]);
+    let any = [dice.byte() & 0x7C, dice.byte() & 0x40];
+    let [code1, code2] = if dice.hits(1, 12) {
+        dice.pick([0x58, 0x00], &[[0x78, 0x40]])
+    } else {
+        dice.pick([0x00, 0x00], &[[0x04, 0x00], any, any])
+    };
+    let latch = dice.byte() & 0x03;
+    let others = dice.byte() & 0xBE;
+    [lock1 | code1 | latch, lock2 | code2 | others]
+}
+
+// A chip with this configuration and status, whose bytes and delays come by chance.
+fn chip_of(alloc: Global, dice: &mut Dice, config: Config, status: Status) -> Result<Chip, Fault> {
+    let mut bytes = vec![in alloc; 0xFF; config.size as usize]?;
+    contents::paint(dice, bytes.as_mut_slice());
+    let mut unique = [0; 8];
+    if dice.hits(1, 2) {
+        dice.fill(&mut unique);
+    }
+    let delays = Delays {
+        now: dice.pick(0, &[0, 0, 1, 2, 3, 300]),
+        each: dice.pick(0, &[0, 1, 2, 3]),
+    };
+    Ok(Chip {
+        config: config.with_unique(unique),
+        bytes,
+        status,
+        delays,
+    })
+}

@@ -1,0 +1,125 @@
+//! Bytes of chips and images by chance.
+
+use crate::dice::Dice;
+
+/// How the bytes of some sectors come about.
+#[derive(Clone, Copy, Debug, PartialEq, Eq)]
+enum Style {
+    /// All FFh.
+    Erased,
+    /// All 00h.
+    Cleared,
+    /// Any bytes.
+    Any,
+    /// A few bits fall.
+    Falls,
+    /// A few bits rise.
+    Rises,
+    /// One byte is another.
+    OneByte,
+}
+
+/// A sector by chance, of so many: at the ends and around the places where guarded parts end more often than elsewhere.
+pub fn sector(dice: &mut Dice, sectors: u32) -> u32 {
+    let last = sectors.saturating_sub(1);
+    let near = dice.below(3);
+    let parts = [
+        sectors / 2,
+        sectors / 4,
+        sectors / 8,
+        sectors / 16,
+        sectors / 32,
+    ];
+    let part = dice.pick(sectors / 64, &parts);
+    match dice.below(6) {
+        0 => dice.below(17).min(last),
+        1 => last.saturating_sub(dice.below(17)),
+        2 => part.saturating_add(near).saturating_sub(1).min(last),
+        3 => last.saturating_sub(part.saturating_add(near).saturating_sub(2)),
+        _ => dice.below(sectors),
+    }
+}
+
+/// The bytes of a whole chip.
+pub fn paint(dice: &mut Dice, bytes: &mut [u8]) {
+    let base = dice.pick(Style::Erased, &[Style::Erased, Style::Cleared]);
+    let small = bytes.len() <= 262_144;
+    if small && dice.hits(1, 5) {
+        dice.fill(bytes);
+    } else if base == Style::Cleared {
+        bytes.fill(0x00);
+    } else {
+        bytes.fill(0xFF);
+    }
+    let styles = [Style::Cleared, Style::Any, Style::Any, Style::Falls];
+    for _ in 0..dice.below(9) {
+        let style = dice.pick(Style::Erased, &styles);
+        change_run(dice, bytes, style);
+    }
+}
+
+/// Makes an image of a chip's bytes: some runs of sectors change, or all do.
+pub fn alter(dice: &mut Dice, image: &mut [u8]) {
+    let small = image.len() <= 262_144;
+    if small && dice.hits(1, 10) {
+        image.fill(0xFF);
+    } else if small && dice.hits(1, 10) {
+        dice.fill(image);
+    }
+    let styles = [
+        Style::Falls,
+        Style::Rises,
+        Style::OneByte,
+        Style::OneByte,
+        Style::Cleared,
+        Style::Any,
+    ];
+    for _ in 0..dice.below(7) {
+        let style = dice.pick(Style::Erased, &styles);
+        change_run(dice, image, style);
+    }
+}
+
+// Gives some sectors in a row this style: up to three, or a unit of 32 or 64 KiB and a bit more.
+fn change_run(dice: &mut Dice, bytes: &mut [u8], style: Style) {
+    let sectors = u32::try_from(bytes.len() / 4096).unwrap_or(0);
+    let from = sector(dice, sectors);
+    let (from, count) = match dice.below(4) {
+        0 => (from / 8 * 8, dice.pick(8, &[9, 8])),
+        1 => (from / 16 * 16, dice.pick(16, &[17, 24, 33])),
+        _ => (from, dice.pick(1, &[1, 2, 3])),
+    };
+    let run = bytes.chunks_mut(4096).skip(from as usize).take(count);
+    for sector in run {
+        change(dice, sector, style);
+    }
+}
+
+// Gives the bytes of one sector this style.
+fn change(dice: &mut Dice, sector: &mut [u8], style: Style) {
+    match style {
+        Style::Erased => sector.fill(0xFF),
+        Style::Cleared => sector.fill(0x00),
+        Style::Any => dice.fill(sector),
+        Style::OneByte => change_some(dice, sector, 1, style),
+        Style::Falls | Style::Rises => {
+            let places = dice.pick(1, &[2, 5, 40]);
+            change_some(dice, sector, places, style);
+        }
+    }
+}
+
+// Changes the bytes at some places of a sector, where bits only fall, only rise, or both.
+fn change_some(dice: &mut Dice, sector: &mut [u8], places: u32, style: Style) {
+    for _ in 0..places {
+        let at = dice.below(4096) as usize;
+        let byte = dice.byte();
+        if let Some(place) = sector.get_mut(at) {
+            *place = match style {
+                Style::Falls => *place & byte,
+                Style::Rises => *place | byte,
+                _ => byte,
+            };
+        }
+    }
+}

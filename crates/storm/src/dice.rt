@@ -1,0 +1,56 @@
+//! Chance that comes again: the same seed and case give the same numbers in each run.
+
+use rand_core::Rng;
+use rand_pcg::Pcg32;
+
+/// Numbers by chance.
+#[derive(Drop)]
+pub struct Dice {
+    words: Pcg32,
+}
+
+impl Dice {
+    /// The numbers of one case under a seed. Each case has a stream of its own, so that it can be run alone.
+    pub fn new(seed: u64, case: u64) -> Dice {
+        let mixed = case.wrapping_mul(0x9E37_79B9_7F4A_7C15);
+        Dice {
+            words: Pcg32::new(seed.wrapping_add(mixed), case),
+        }
+    }
+
+    /// A number below `n`, or 0 where that is 0.
+    pub fn below(&mut self, n: u32) -> u32 {
+        self.words.next_u32().checked_rem(n).unwrap_or(0)
+    }
+
+    /// A number from 0 to `most`.
+    pub fn up_to(&mut self, most: u64) -> u64 {
+        let n = most.saturating_add(1);
+        self.words.next_u64().checked_rem(n).unwrap_or(0)
+    }
+
+    /// True so many times of so many.
+    pub fn hits(&mut self, times: u32, of: u32) -> bool {
+        self.below(of) < times
+    }
+
+    /// Any byte.
+    pub fn byte(&mut self) -> u8 {
+        self.words.next_u32().to_be_bytes()[0]
+    }
+
+    /// Makes each of the bytes any byte.
+    pub fn fill(&mut self, bytes: &mut [u8]) {
+        self.words.fill_bytes(bytes);
+    }
+
+    /// One of these, each as likely as the others.
+    pub fn pick<T: Copy>(&mut self, first: T, others: &[T]) -> T {
+        let count = u32::try_from(others.len()).unwrap_or(u32::MAX);
+        let at = self.up_to(u64::from(count));
+        match usize::try_from(at) {
+            Ok(at) => others.get(at).copied().unwrap_or(first),
+            Err(_) => first,
+        }
+    }
+}

@@ -1,0 +1,89 @@
+//! Restores on chips that are other than the session left them, beside what the plain code says of them.
+
+use crate::cases::Case;
+use crate::checks::{self, Ran};
+use crate::chips::{self, Chip};
+use crate::dice::Dice;
+use crate::fault::{Fault, agree};
+use crate::verdicts::{self, Saved};
+use crate::wanted::Wanted;
+use crate::{contents, guards, lengths};
+use nor_chip::Meter;
+use nor_journal::Journal;
+use nor_session::{Refusal, restore};
+use std::alloc::Global;
+
+/// Restores from the journal of a session that ended, on some chip. Answers what it was refused with.
+pub fn check(
+    alloc: Global,
+    dice: &mut Dice,
+    case: &Case,
+    wanted: &Wanted,
+    ran: &Ran,
+) -> Result<Option<Refusal>, Fault> {
+    let chip = other_chip(alloc, dice, &case.chip)?;
+    let saved = Saved {
+        chip: &case.chip,
+        sectors: wanted.sectors.as_slice(),
+    };
+    let restored = restored_of(alloc, &chip, saved)?;
+    let refusal = verdicts::of_restore(&chip, saved, &restored);
+    let mut bus = chip.bus(alloc)?;
+    bus.allow(u64::MAX);
+    let journal = Journal::read(ran.vault.bytes())?;
+    let answer = restore(&mut bus, &journal);
+    if let Some(refusal) = refusal {
+        agree(answer == Err(refusal), "the refusal of a restore")?;
+        agree(
+            checks::is_same(&bus, &chip),
+            "the chip after a refused restore",
+        )?;
+        return Ok(Some(refusal));
+    }
+    let Ok(report) = answer else {
+        return Err(Fault::Differs("an accepted restore ends"));
+    };
+    let work = restored.work(&chip);
+    checks::check_report(&chip, work, &report)?;
+    let sent = lengths::restore(&chip, wanted.work(&case.chip).touched, work);
+    agree(report.transactions == sent, "the transactions of a restore")?;
+    checks::check_wanted(&restored, &bus)?;
+    Ok(None)
+}
+
+// The chip of the journal with other bytes, and now and then with another status, number or kind.
+fn other_chip(alloc: Global, dice: &mut Dice, chip: &Chip) -> Result<Chip, Fault> {
+    if dice.hits(1, 12) {
+        return chips::small(alloc, dice);
+    }
+    let mut other = chip.copy(alloc)?;
+    contents::alter(dice, other.bytes.as_mut_slice());
+    let [status1, status2] = chip.status;
+    let [code1, code2] = guards::with_code([status1, status2], dice.byte() % 64);
+    match dice.below(8) {
+        0 => other.status = chips::protection(dice),
+        1 => other.config = chip.config.with_unique([dice.byte(); 8]),
+        2 | 3 => other.status = [code1, code2],
+        _ => {}
+    }
+    Ok(other)
+}
+
+// What a restore wants of a chip: the saved sectors as they were, and the protection code.
+fn restored_of(alloc: Global, chip: &Chip, saved: Saved<'_>) -> Result<Wanted, Fault> {
+    let mut bytes = chip.bytes.to_vec(alloc)?;
+    let old = saved.chip.bytes.chunks(4096);
+    for (now, (sector, old)) in bytes.chunks_mut(4096).zip(saved.sectors.iter().zip(old)) {
+        if sector.touched {
+            take_over(now, old);
+        }
+    }
+    let code = guards::code_of(saved.chip.status);
+    Wanted::new(alloc, chip, bytes, guards::with_code(chip.status, code))
+}
+
+fn take_over(now: &mut [u8], old: &[u8]) {
+    for (byte, old) in now.iter_mut().zip(old) {
+        *byte = *old;
+    }
+}

@@ -1,0 +1,61 @@
+//! Runs of cases, one after the other.
+
+use crate::cases::Case;
+use crate::dice::Dice;
+use crate::fault::Fault;
+use crate::tally::Tally;
+use crate::wanted::Wanted;
+use crate::words::Job;
+use crate::{checks, readings, rehearsals, restores, stops, verdicts};
+use std::alloc::Global;
+
+/// A case that ended a run, by its number.
+#[derive(Debug, Drop)]
+pub struct Halt {
+    pub case: u64,
+    pub fault: Fault,
+}
+
+/// Runs the cases of a job, up to the first that differs.
+pub fn run(alloc: Global, job: Job) -> Result<Tally, Halt> {
+    let mut tally = Tally::NONE;
+    for case in job.first..job.first.saturating_add(job.count) {
+        if let Err(fault) = run_case(alloc, job.seed, case, &mut tally) {
+            return Err(Halt { case, fault });
+        }
+    }
+    Ok(tally)
+}
+
+// Runs a session as the plain code wants it. An accepted one is stopped and given back too; some journals are restored
+// on other chips, and some chips are read.
+fn run_case(alloc: Global, seed: u64, number: u64, tally: &mut Tally) -> Result<(), Fault> {
+    let mut dice = Dice::new(seed, number);
+    let case = Case::next(alloc, &mut dice)?;
+    if dice.hits(1, 8) {
+        readings::check(alloc, &case)?;
+        tally.count_reading();
+    }
+    let ran = checks::run(alloc, &case, u64::MAX, None)?;
+    if let Some(refusal) = verdicts::of_opening(&case) {
+        tally.count_session(Some(refusal));
+        return checks::check_refused(&case, refusal, &ran);
+    }
+    let wanted = Wanted::of_case(alloc, &case)?;
+    if let Some(refusal) = verdicts::of_changes(&case, &wanted) {
+        tally.count_session(Some(refusal));
+        return checks::check_refused(&case, refusal, &ran);
+    }
+    checks::check_ended(&case, &wanted, &ran)?;
+    tally.count_session(None);
+    stops::check(alloc, &mut dice, &case, &wanted)?;
+    if dice.hits(1, 4) {
+        rehearsals::check(alloc, &mut dice, &case, &wanted)?;
+        tally.count_rehearsal();
+    }
+    if dice.hits(1, 3) {
+        let refusal = restores::check(alloc, &mut dice, &case, &wanted, &ran)?;
+        tally.count_restore(refusal);
+    }
+    Ok(())
+}

@@ -1,0 +1,85 @@
+//! How many cases there were of each kind.
+
+use nor_session::Refusal;
+use std::fmt;
+
+/// Cases by what they came to.
+#[derive(Clone, Copy, Debug, PartialEq, Eq)]
+pub struct Tally {
+    /// Sessions that were accepted, and so were stopped and given back too.
+    pub accepted: u64,
+    /// Sessions by the number of their refusal.
+    pub refused: [u64; 21],
+    /// Restores on other chips that were accepted.
+    pub restored: u64,
+    /// Restores on other chips by the number of their refusal.
+    pub kept_away: [u64; 21],
+    /// Accepted sessions that were rehearsed too.
+    pub rehearsed: u64,
+    /// Chips that were read out and compared.
+    pub read: u64,
+}
+
+impl Tally {
+    /// No case yet.
+    pub const NONE: Tally = Tally {
+        accepted: 0,
+        refused: [0; 21],
+        restored: 0,
+        kept_away: [0; 21],
+        rehearsed: 0,
+        read: 0,
+    };
+
+    /// Counts a session.
+    pub fn count_session(&mut self, refusal: Option<Refusal>) {
+        match refusal {
+            None => self.accepted = self.accepted.wrapping_add(1),
+            Some(refusal) => count(&mut self.refused, refusal),
+        }
+    }
+
+    /// Counts a restore on another chip.
+    pub fn count_restore(&mut self, refusal: Option<Refusal>) {
+        match refusal {
+            None => self.restored = self.restored.wrapping_add(1),
+            Some(refusal) => count(&mut self.kept_away, refusal),
+        }
+    }
+
+    /// Counts a rehearsal.
+    pub fn count_rehearsal(&mut self) {
+        self.rehearsed = self.rehearsed.wrapping_add(1);
+    }
+
+    /// Counts a chip that was read.
+    pub fn count_reading(&mut self) {
+        self.read = self.read.wrapping_add(1);
+    }
+}
+
+fn count(numbers: &mut [u64; 21], refusal: Refusal) {
+    if let Some(number) = numbers.get_mut(usize::from(refusal.number())) {
+        *number = number.wrapping_add(1);
+    }
+}
+
+impl fmt::Display for Tally {
+    fn fmt<W: fmt::Write>(&self, f: &mut fmt::Formatter<W>) -> fmt::Result {
+        write!(f, "sessions: {} accepted", self.accepted)?;
+        write_numbers(f, &self.refused)?;
+        write!(f, "\nrestores on other chips: {} accepted", self.restored)?;
+        write_numbers(f, &self.kept_away)?;
+        write!(f, "\nrehearsals: {}", self.rehearsed)?;
+        write!(f, "\nchips read: {}", self.read)
+    }
+}
+
+fn write_numbers<W: fmt::Write>(f: &mut fmt::Formatter<W>, numbers: &[u64; 21]) -> fmt::Result {
+    for (number, count) in numbers.iter().enumerate() {
+        if *count > 0 {
+            write!(f, ", {count} refused with {number}")?;
+        }
+    }
+    Ok(())
+}

@@ -1,0 +1,142 @@
+//! Which refusal a call has to answer, if any, told by the rules in their order.
+
+use crate::cases::Case;
+use crate::chips::Chip;
+use crate::wanted::{Sector, Wanted};
+use crate::{guards, parameters};
+use nor_chip::Config;
+use nor_probe::ChipName;
+use nor_session::{Refusal, What};
+
+/// The ID of the only chip of the table that is asked anything here.
+const LARGE: [u8; 3] = [0xEF, 0x40, 0x17];
+
+/// The chip is known by its ID.
+pub fn is_in_table(config: &Config) -> bool {
+    config.id == LARGE
+}
+
+/// The name under which a chip is found.
+pub fn name_of(config: &Config) -> ChipName {
+    if is_in_table(config) {
+        ChipName::W25Q64FV
+    } else {
+        ChipName::Sfdp
+    }
+}
+
+/// No chip, an unknown chip, or another name.
+pub fn of_probe(config: &Config, named: Option<ChipName>) -> Option<Refusal> {
+    if config.id == [0xFF; 3] || config.id == [0x00; 3] {
+        return Some(Refusal::NoChip);
+    }
+    if !is_in_table(config) {
+        if let Err(fault) = parameters::read(&config.sfdp, config.size) {
+            return Some(Refusal::UnknownChip(fault));
+        }
+    }
+    match named {
+        Some(name) if name != name_of(config) => Some(Refusal::OtherName),
+        _ => None,
+    }
+}
+
+/// An image that isn't as long as the chip.
+pub fn of_image(case: &Case) -> Option<Refusal> {
+    let chip = case.chip.config.size;
+    let image = case.image.len();
+    if image == chip as usize {
+        None
+    } else {
+        Some(Refusal::ImageSize { chip, image })
+    }
+}
+
+/// An included address that isn't on the chip.
+pub fn of_places(case: &Case) -> Option<Refusal> {
+    match case.last_included() {
+        Some(last) if last >= case.chip.config.size => Some(Refusal::RegionOutside),
+        _ => None,
+    }
+}
+
+/// The first of the refusals 1 to 8 that holds.
+pub fn of_opening(case: &Case) -> Option<Refusal> {
+    let config = &case.chip.config;
+    let protection = of_protection(config.scheme, guards::code_of(case.chip.status));
+    let probe = of_probe(config, case.request.named);
+    match case.request.what {
+        What::Write | What::Erase => probe.or(of_image(case)).or(of_places(case)).or(protection),
+        What::WpRange { .. } if !config.scheme => probe.or(Some(Refusal::NoProtection)),
+        What::WpRange { start, len } => probe.or(protection).or(of_range(start, len, config.size)),
+    }
+}
+
+// A protection code that the datasheets don't define.
+fn of_protection(scheme: bool, code: u8) -> Option<Refusal> {
+    if scheme && guards::is_undefined(code) {
+        Some(Refusal::UndefinedProtection)
+    } else {
+        None
+    }
+}
+
+// A range that no code guards.
+fn of_range(start: u32, len: u32, size: u32) -> Option<Refusal> {
+    match guards::least_code(start, len, size) {
+        Some(_) => None,
+        None => Some(Refusal::RangeNotOffered),
+    }
+}
+
+/// The refusals 9 and 10, once none of those before holds.
+pub fn of_changes(case: &Case, wanted: &Wanted) -> Option<Refusal> {
+    let chip = &case.chip;
+    let guarded = wanted.first_guarded(chip);
+    let other_code = guards::code_of(wanted.status) != guards::code_of(chip.status);
+    let writes_status = other_code || (case.request.unlock && guarded.is_some());
+    if writes_status && guards::is_locked(chip.status) {
+        return Some(Refusal::StatusLocked);
+    }
+    match guarded {
+        Some(sector) if !case.request.unlock => Some(Refusal::Protected {
+            address: sector.saturating_mul(4096),
+        }),
+        _ => None,
+    }
+}
+
+/// What a journal says: the chip that it was made of, and which sectors it saved of it.
+#[derive(Clone, Copy)]
+pub struct Saved<'a> {
+    pub chip: &'a Chip,
+    pub sectors: &'a [Sector],
+}
+
+/// The first of the refusals of a restore that holds. The wanted chip is that of the restore.
+pub fn of_restore(chip: &Chip, saved: Saved<'_>, wanted: &Wanted) -> Option<Refusal> {
+    let (new, old) = (&chip.config, &saved.chip.config);
+    if let Some(refusal) = of_probe(new, None) {
+        return Some(refusal);
+    }
+    if new.id != old.id || new.size != old.size {
+        return Some(Refusal::OtherChip);
+    }
+    if new.unique != old.unique {
+        return Some(Refusal::OtherUnit);
+    }
+    let differs = if new.scheme {
+        guards::fixed(chip.status) != guards::fixed(saved.chip.status)
+    } else {
+        guards::kept(chip.status) != guards::kept(saved.chip.status)
+    };
+    if differs {
+        return Some(Refusal::StatusDiffers);
+    }
+    let other_code = guards::code_of(chip.status) != guards::code_of(saved.chip.status);
+    let writes_status = other_code || wanted.first_guarded(chip).is_some();
+    if writes_status && guards::is_locked(chip.status) {
+        return Some(Refusal::StatusLocked);
+    }
+    None
+}

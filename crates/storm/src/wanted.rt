@@ -1,0 +1,216 @@
+//! What a chip is to be, and by which work, told by plain rules on its bytes.
+
+use crate::cases::Case;
+use crate::chips::Chip;
+use crate::fault::Fault;
+use crate::guards::{self, Status};
+use nor_session::What;
+use std::alloc::Global;
+
+/// What becomes of a sector.
+#[derive(Clone, Copy, Debug, PartialEq, Eq)]
+pub struct Sector {
+    /// A byte changes.
+    pub touched: bool,
+    /// A bit has to rise.
+    pub raised: bool,
+    /// So many pages are programmed.
+    pub pages: u32,
+}
+
+/// What a chip is to be.
+#[derive(Drop)]
+pub struct Wanted {
+    pub bytes: Vec<u8>,
+    /// The kept bits.
+    pub status: Status,
+    pub sectors: Vec<Sector>,
+}
+
+/// The work that makes a chip what is wanted, in numbers.
+#[derive(Clone, Copy, Debug, PartialEq, Eq)]
+pub struct Work {
+    pub touched: u64,
+    pub raised: u64,
+    pub erases: u64,
+    pub programs: u64,
+    pub status_writes: u64,
+}
+
+impl Wanted {
+    /// What the request of a case wants of its chip.
+    pub fn of_case(alloc: Global, case: &Case) -> Result<Wanted, Fault> {
+        let mut bytes = case.chip.bytes.to_vec(alloc)?;
+        if is_of_bytes(case.request.what) {
+            take_included(case, bytes.as_mut_slice());
+        }
+        Self::new(alloc, &case.chip, bytes, wanted_status(case))
+    }
+
+    /// These bytes and kept bits, wanted of a chip.
+    pub fn new(
+        alloc: Global,
+        chip: &Chip,
+        bytes: Vec<u8>,
+        status: Status,
+    ) -> Result<Wanted, Fault> {
+        let mut sectors = Vec::new(alloc);
+        for (old, new) in chip.bytes.chunks(4096).zip(bytes.chunks(4096)) {
+            sectors.push(sector_of(old, new))?;
+        }
+        Ok(Wanted {
+            bytes,
+            status,
+            sectors,
+        })
+    }
+
+    /// The least touched sector of the chip that has a guarded place.
+    pub fn first_guarded(&self, chip: &Chip) -> Option<u32> {
+        if !chip.config.scheme {
+            return None;
+        }
+        let code = guards::code_of(chip.status);
+        (0..chip.sectors()).find(|number| {
+            self.touches(*number) && guards::guards_some(code, chip.config.size, *number)
+        })
+    }
+
+    /// The sector is touched.
+    pub fn touches(&self, number: u32) -> bool {
+        self.sectors
+            .get(number as usize)
+            .is_some_and(|sector| sector.touched)
+    }
+
+    /// The work on this chip.
+    pub fn work(&self, chip: &Chip) -> Work {
+        let mut touched = 0_u64;
+        let mut raised = 0_u64;
+        let mut programs = 0_u64;
+        for sector in self.sectors.iter() {
+            touched = touched.saturating_add(u64::from(sector.touched));
+            raised = raised.saturating_add(u64::from(sector.raised));
+            programs = programs.saturating_add(u64::from(sector.pages));
+        }
+        Work {
+            touched,
+            raised,
+            erases: fewest_erases(self.sectors.as_slice(), chip),
+            programs,
+            status_writes: self.status_writes(chip),
+        }
+    }
+
+    // Protection is lifted where a touched sector is guarded; at the end the code is made the wanted one.
+    fn status_writes(&self, chip: &Chip) -> u64 {
+        let lifted = self.first_guarded(chip).is_some();
+        let code = if lifted {
+            0
+        } else {
+            guards::code_of(chip.status)
+        };
+        let last = code != guards::code_of(self.status);
+        u64::from(lifted) + u64::from(last)
+    }
+}
+
+// The request is one for bytes.
+fn is_of_bytes(what: What) -> bool {
+    what == What::Write || what == What::Erase
+}
+
+// Makes the included bytes those of the image, or FFh.
+fn take_included(case: &Case, bytes: &mut [u8]) {
+    let erases = case.request.what == What::Erase;
+    for (address, (byte, new)) in (0_u32..).zip(bytes.iter_mut().zip(case.image.iter())) {
+        if case.includes(address) {
+            *byte = if erases { 0xFF } else { *new };
+        }
+    }
+}
+
+// The kept bits, with the least code of a range that is to be protected.
+fn wanted_status(case: &Case) -> Status {
+    let status = guards::kept(case.chip.status);
+    let What::WpRange { start, len } = case.request.what else {
+        return status;
+    };
+    match guards::least_code(start, len, case.chip.config.size) {
+        Some(code) => guards::with_code(status, code),
+        None => status,
+    }
+}
+
+fn sector_of(old: &[u8], new: &[u8]) -> Sector {
+    let touched = differs(old, new);
+    let raised = rises(old, new);
+    Sector {
+        touched,
+        raised,
+        pages: pages_of(old, new, raised),
+    }
+}
+
+fn differs(old: &[u8], new: &[u8]) -> bool {
+    old.iter().zip(new).any(|(old, new)| *old != *new)
+}
+
+fn rises(old: &[u8], new: &[u8]) -> bool {
+    old.iter().zip(new).any(|(old, new)| *new & !*old != 0)
+}
+
+// The pages of a sector that differ from FFh once it is erased, or else from what is there.
+fn pages_of(old: &[u8], new: &[u8], raised: bool) -> u32 {
+    let mut pages = 0_u32;
+    for (old, new) in old.chunks(256).zip(new.chunks(256)) {
+        let programmed = if raised {
+            new.iter().any(|byte| *byte != 0xFF)
+        } else {
+            differs(old, new)
+        };
+        pages = pages.saturating_add(u32::from(programmed));
+    }
+    pages
+}
+
+// One for the whole chip where each sector is raised. Else one for each aligned 64 KiB that is raised throughout, for
+// each aligned 32 KiB outside these, and for each sector left.
+fn fewest_erases(sectors: &[Sector], chip: &Chip) -> u64 {
+    if are_raised(sectors) {
+        return 1;
+    }
+    let mut erases = 0_u64;
+    for block in sectors.chunks(16) {
+        erases = erases.saturating_add(if chip.config.k64 && are_raised(block) {
+            1
+        } else {
+            erases_of_halves(block, chip)
+        });
+    }
+    erases
+}
+
+fn erases_of_halves(block: &[Sector], chip: &Chip) -> u64 {
+    let mut erases = 0_u64;
+    for half in block.chunks(8) {
+        erases = erases.saturating_add(if chip.config.k32 && are_raised(half) {
+            1
+        } else {
+            raised_in(half)
+        });
+    }
+    erases
+}
+
+fn are_raised(sectors: &[Sector]) -> bool {
+    sectors.iter().all(|sector| sector.raised)
+}
+
+fn raised_in(sectors: &[Sector]) -> u64 {
+    let mut raised = 0_u64;
+    for sector in sectors {
+        raised = raised.saturating_add(u64::from(sector.raised));
+    }
+    raised
+}
