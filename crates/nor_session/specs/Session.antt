@@ -66,7 +66,7 @@ pub record IsWithinBound (scanned writes : ℕ) (verify : Bool) (report : Report
 pub record Ends (request : Request) (vault : VaultState) (report : Report) : Type 0 where
   pub sealed : vault.sealed ≡ true
   pub bounded :
-    IsWithinBound (scanned_sectors request report.found.size) (most_status_writes request.what request.unlock) request.verify report
+      IsWithinBound (scanned_sectors request report.found.size) (most_status_writes request.what request.unlock) request.verify report
 
 -- until the vault is sealed it only looks, as far as the opening and the scan of the largest chip
 abbrev pub LooksUnsealed : BusState → BusState → VaultState → Type 0

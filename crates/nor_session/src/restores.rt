@@ -1,5 +1,5 @@
 //! A restore: the chip is made again what a journal says.
-ghost use Rattle.std.specs.Prelude.{length, IfOk, IfErr};
+ghost use Rattle.std.specs.Prelude.{true, length, IfOk, IfErr};
 ghost use Rattle.nor_apply.specs.Spending.{Spends};
 ghost use Rattle.nor_session.specs.Modelled.{IsModelled, most_of};
 ghost use Rattle.nor_session.specs.Session.{IsWithinBound, SentAsTold};
