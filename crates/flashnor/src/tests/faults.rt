@@ -306,7 +306,13 @@ fn help_is_no_fault(rt: HostRuntime) -> Result<(), Fail> {
 fn results_that_cannot_be_printed_are_a_fault(rt: HostRuntime) -> Result<(), Fail> {
     let shelf = Shelf::new(rt.alloc());
     let mut words = Vec::new(rt.alloc());
-    for word in ["-p", "dummy:emulate=TINY64,image=chip", "-E", "--journal", "journal"] {
+    for word in [
+        "-p",
+        "dummy:emulate=TINY64,image=chip",
+        "-E",
+        "--journal",
+        "journal",
+    ] {
         words.push(String::from_str(rt.alloc(), word)?)?;
     }
     let mut room = [0x00; 20];

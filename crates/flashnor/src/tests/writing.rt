@@ -203,7 +203,8 @@ fn a_journal_has_the_number_of_the_unit(rt: HostRuntime) -> Result<(), Fail> {
     let shelf = Shelf::new(rt.alloc())
         .with("new", 65_536, &[])?
         .with_bytes("status", &[0x42, 0x82])?;
-    let line = "-p dummy:emulate=TINY64,unique=0123456789abcDEF,status=status -w new --journal journal";
+    let line =
+        "-p dummy:emulate=TINY64,unique=0123456789abcDEF,status=status -w new --journal journal";
     changes(&rt, &shelf, line, TINY, [0, 0, 0, 23])?;
     let journal = shelf.bytes("journal")?;
     assert_eq!(rt; journal.len(), 61);
