@@ -1,4 +1,5 @@
 //! A file in memory, and how it is opened, read and written.
+ghost use Rattle.std.specs.Prelude.{◌≤◌, length};
 ghost use Rattle.std.specs.Io.{ReadsAtMost, WritesAtMost};
 
 use std::alloc::Global;
@@ -81,14 +82,14 @@ impl Kept {
         if self.flaw == Some(Flaw::Read(self.reads)) {
             return Err(failed());
         }
+        let most = match self.flaw {
+            Some(Flaw::Slow) => 1,
+            _ => buf.len(),
+        };
         let Some(bytes) = &self.bytes else {
             return Err(failed());
         };
-        let rest = bytes.get(at..).unwrap_or(&[]);
-        let mut rest = match self.flaw {
-            Some(Flaw::Slow) => up_to(rest, 1),
-            _ => rest,
-        };
+        let mut rest = up_to(bytes.get(at..).unwrap_or(&[]), most);
         rest.read(buf)
     }
 
@@ -107,13 +108,14 @@ impl Kept {
         let Some(bytes) = &mut self.bytes else {
             return Err(failed());
         };
-        let (over, behind) = piece.split_at(piece.len().min(bytes.len().saturating_sub(at)));
+        let taken = piece.len();
+        let (over, behind) = piece.split_at(taken.min(bytes.len().saturating_sub(at)));
         for (byte, place) in over.iter().zip(bytes.iter_mut().skip(at)) {
             *place = *byte;
         }
         bytes.extend_from_slice(behind)?;
         self.synced = false;
-        Ok(piece.len())
+        Ok(taken)
     }
 
     fn sync(&mut self) -> io::Result<()> {
@@ -126,7 +128,9 @@ impl Kept {
 }
 
 // At most so many of the bytes, from the first on.
-fn up_to(bytes: &[u8], most: usize) -> &[u8] {
+fn up_to(bytes: &[u8], most: usize) -> &[u8]
+    ensures { length result.now ≤ length bytes.now }
+{
     bytes.get(..most).unwrap_or(bytes)
 }
 
