@@ -89,7 +89,16 @@ const TINY: &str = "Found SFDP (fe1010), 65536 bytes.";
 
 const LARGE: &str = "Found W25Q64FV (ef4017), 8388608 bytes.";
 
-// What a session or restore sends first to the small chip, while it is idle: the probe, status 2 and the unique ID.
+// What a probe sends to the small chip, while it is idle.
+const PROBE: [&str; 5] = [
+    "05 > 00",
+    "9f > fe1010",
+    "5a00000000 > 8 bytes",
+    "5a00000800 > 8 bytes",
+    "5a00001000 > 36 bytes",
+];
+
+// What a session or restore sends first: a probe, and reads of status 2 and the unique ID.
 const OPENING: [&str; 7] = [
     "05 > 00",
     "9f > fe1010",

@@ -2,7 +2,7 @@
 
 use super::kept::Flaw;
 use super::shelf::Shelf;
-use super::{OPENING, all_fail, all_print, prints, traces};
+use super::{PROBE, all_fail, all_print, prints, traces};
 use std::test::Fail;
 
 const LISTED: &str = "W25Q64FV ef4017 8388608\nW25Q128FV ef4018 16777216\nSFDP\n";
@@ -97,7 +97,7 @@ fn a_probe_is_traced(rt: HostRuntime) -> Result<(), Fail> {
     let shelf = Shelf::new(rt.alloc()).with_bytes("trace", b"06\n06\n06\n06\n06\n06\n")?;
     let told = "Found SFDP (fe1010), 65536 bytes.\n";
     prints(&rt, &shelf, "-p dummy:emulate=TINY64,trace=trace", told)?;
-    traces(&rt, &shelf, "trace", 5, 1, OPENING.get(..5).unwrap_or(&[]))?;
+    traces(&rt, &shelf, "trace", 5, 1, &PROBE)?;
     prints(
         &rt,
         &shelf,

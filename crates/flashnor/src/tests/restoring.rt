@@ -1,7 +1,7 @@
 //! Restores: what they tell, send and give back, and which journals and chips they refuse.
 
 use super::shelf::Shelf;
-use super::{OPENING, TINY, changes, fails, holds, traces};
+use super::{OPENING, PROBE, TINY, changes, fails, holds, traces};
 use std::process::Abort;
 use std::test::Fail;
 
@@ -73,15 +73,14 @@ fn a_write_that_ended_is_given_back(rt: HostRuntime) -> Result<(), Fail> {
 // chip of another name.
 #[test]
 fn a_restore_may_ask_for_a_name(rt: HostRuntime) -> Result<(), Fail> {
-    let probed = OPENING.get(..5).unwrap_or(&[]);
     let shelf = stopped(&rt)?;
     let line = "-p dummy:emulate=TINY64,image=chip,trace=trace -c TINY64 --restore journal";
     fails(&rt, &shelf, line, "Error 3: another chip than named.")?;
-    traces(&rt, &shelf, "trace", 5, 1, probed)?;
+    traces(&rt, &shelf, "trace", 5, 1, &PROBE)?;
     holds(&rt, &shelf, "chip", 65_536, &[])?;
     let line = "-p dummy:emulate=TINY64,image=chip,trace=trace,stop=18 -c SFDP --restore journal";
     changes(&rt, &shelf, line, TINY, [1, 0, 1, 13])?;
-    traces(&rt, &shelf, "trace", 18, 1, probed)?;
+    traces(&rt, &shelf, "trace", 18, 1, &PROBE)?;
     traces(&rt, &shelf, "trace", 18, 6, &OPENING)?;
     holds(&rt, &shelf, "chip", 65_536, &[(0, 0, 0x00)])
 }
