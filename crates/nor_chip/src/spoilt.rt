@@ -73,13 +73,16 @@ impl<B: Bus> SpoiltBus<B> {
 impl<B: Bus> Bus for SpoiltBus<B> {
     ghost state = { spoilt_state B.state };
 
-    ghost reaches = { λ spoilt honest. subst (λ (b : Bool). MatchBool b (IsChip (spoilt_state B.state spoilt).chip) (Unit {0})) honest tt };
+    ghost reaches = { λ spoilt honest.
+        subst (λ (b : Bool). MatchBool b (IsChip (spoilt_state B.state spoilt).chip) (Unit {0})) honest tt };
 
     fn transfer(&mut self, out: &[u8], reply: &mut [u8]) -> Result<(), Stopped>
         ensures sends { Sends out.now (spoilt_state B.state self.old) (spoilt_state B.state self.new) }
-        ensures stops { (spoilt_state B.state self.old).honest ≡ true → OnErr result (Stops (spoilt_state B.state self.old) (spoilt_state B.state self.new)) }
+        ensures stops { (spoilt_state B.state self.old).honest ≡ true
+            → OnErr result (Stops (spoilt_state B.state self.old) (spoilt_state B.state self.new)) }
         ensures unread { (spoilt_state B.state self.old).honest ≡ true → OnErr result (reply.new ≡ reply.old) }
-        ensures carries { (spoilt_state B.state self.old).honest ≡ true → OnOk result (Carries out.now reply.new (spoilt_state B.state self.old) (spoilt_state B.state self.new)) }
+        ensures carries { (spoilt_state B.state self.old).honest ≡ true
+            → OnOk result (Carries out.now reply.new (spoilt_state B.state self.old) (spoilt_state B.state self.new)) }
         ensures spoils { Spoils B.state out.now reply.old reply.new result self.old self.new }
     {
         self.stirred = is_changing(out) || self.stirred;

@@ -1,7 +1,9 @@
 //! What a request includes of a chip: the addresses of its ranges, and without ranges the whole chip.
 
-ghost use Rattle.std.specs.Prelude.{◌≡◌, ◌<◌, ◌+◌, ◌*◌, ℕ, MatchBool, length, slice_index, if◌then◌else◌, option_copied};
-ghost use Rattle.nor_layout.specs.Sectors.{includes, SomeInSector, NoneInSector, has_in_sector, ReachesPast, FitsInto, wanted_of, AreOfSector};
+ghost use Rattle.std.specs.Prelude.{◌≡◌, ◌<◌, ◌+◌, ◌*◌, ℕ, length, slice_index};
+ghost use Rattle.std.specs.Prelude.{MatchBool, if◌then◌else◌, option_copied};
+ghost use Rattle.nor_layout.specs.Sectors.{includes, SomeInSector, NoneInSector, has_in_sector};
+ghost use Rattle.nor_layout.specs.Sectors.{ReachesPast, FitsInto, wanted_of, AreOfSector};
 
 use crate::ranges::Ranges;
 

@@ -1,6 +1,7 @@
 //! Comparisons of two slices of one length, over lanes of 32 bytes and byte by byte for the rest.
 
-ghost use Rattle.std.specs.Prelude.{◌≡◌, ◌+◌, ◌*◌, ◌/◌, ◌≤◌, length, slice_index, MatchBool, MatchOption, IfNone, IfSome, not, bit_and, ◌==◌};
+ghost use Rattle.std.specs.Prelude.{◌≡◌, ◌==◌, ◌+◌, ◌*◌, ◌/◌, ◌≤◌, not, bit_and, length, slice_index};
+ghost use Rattle.std.specs.Prelude.{MatchBool, MatchOption, IfNone, IfSome};
 ghost use Rattle.nor_plan.specs.Mask.{IsMask, TellsChanges};
 ghost use Rattle.nor_plan.specs.Bytes.{AllAgree, AgreeWithin, SomeDiffer, NoneRises, SomeRise, IsFirstDifference, IsLastDifference};
 
@@ -185,7 +186,8 @@ fn differing(a: &[u8], b: &[u8], at: usize) -> u64
 fn rising(old: &[u8], target: &[u8], at: usize) -> u64
     requires old_within { at + 32 ≤ length old.now }
     requires target_within { at + 32 ≤ length target.now }
-    ensures { IsMask result (λ i. not (bit_and (slice_index target.now (at + i)) (slice_index old.now (at + i)) == slice_index target.now (at + i))) }
+    ensures { IsMask result (λ i.
+        not (bit_and (slice_index target.now (at + i)) (slice_index old.now (at + i)) == slice_index target.now (at + i))) }
 {
     let target = u8x32::from_slice(&target[at..]);
     let kept = target & u8x32::from_slice(&old[at..]);

@@ -4,7 +4,9 @@
 ghost use Rattle.std.specs.Prelude.{◌≡◌, ◌<◌, ◌≤◌, ◌+◌, ◌*◌, ◌-◌, ◌/◌, true, length, IsTrue, IfSome, IfOk};
 ghost use Rattle.nor_chip.specs.Size.{is_chip_size};
 ghost use Rattle.std.specs.Option.{SomeIff};
-ghost use Rattle.nor_probe.specs.Sfdp.{double_word, size_in_bits, is_supported_size, has_signature, is_basic, address_mode, has_write_granularity, is_erase_type_at, has_erase_type, geometry_of, table_faults, first_fault_or, sfdp_says};
+ghost use Rattle.nor_probe.specs.Sfdp.{double_word, size_in_bits, is_supported_size, has_signature, is_basic, address_mode};
+ghost use Rattle.nor_probe.specs.Sfdp.{has_write_granularity, is_erase_type_at, has_erase_type, geometry_of};
+ghost use Rattle.nor_probe.specs.Sfdp.{table_faults, first_fault_or, sfdp_says};
 
 use byteorder::{ByteOrder, LittleEndian};
 
