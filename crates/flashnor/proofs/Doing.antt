@@ -19,7 +19,7 @@ use Rattle.nor_words.specs.declared.job.Keeping.{Keeping}
 use Rattle.nor_words.specs.declared.job.Regions.{Regions}
 use Rattle.nor_words.specs.declared.programmer.Emulated.{Emulated}
 use Rattle.flashnor.specs.Changes.{HasChanged, HasDone, HasRestored, IsVaultOf}
-use Rattle.flashnor.specs.Events.{FileEvent, IsRead}
+use Rattle.flashnor.specs.Events.{Happened, IsRead}
 use Rattle.flashnor.specs.Events.FileEvent.{Emptied}
 use Rattle.flashnor.specs.Found.{wanted}
 use Rattle.flashnor.specs.Requests.{AreRangesOf, IsBufferOf, request_for}
@@ -27,7 +27,7 @@ use Rattle.flashnor.specs.Run.{DoesChange, DoesRead, DoesRestore, DoesVerify}
 use Rattle.flashnor.specs.declared.answers.Answer.{Answer}
 use Rattle.flashnor.specs.declared.answers.Answer.TheVariants as answer
 
-pub does_change : (happened : FileEvent → Type 0) (chip : Emulated) (named : Option (Bor Text)) (change : Change) (request : Request)
+pub does_change : (happened : Happened) (chip : Emulated) (named : Option (Bor Text)) (change : Change) (request : Request)
     (ranges : Option (List Span)) (image : List ℕ) (old new : BusState) (outcome : Result Answer Refusal)
     → request ≡ request_for change named ranges → AreRangesOf happened change.regions ranges → IsBufferOf happened chip change.wanted image
     → HasChanged happened request image change.keeping old new outcome → DoesChange happened chip named change old new outcome
@@ -39,14 +39,15 @@ does_change happened chip named change request ranges image old new outcome same
   changed = subst (λ (r : Request). HasChanged happened r image change.keeping old new outcome) same changed;
 }
 
-pub changes : (happened : FileEvent → Type 0) (request : Request) (image : List ℕ) (kept : Keeping) (old new : BusState) (vault vault' : VaultState)
-    (outcome : Result Answer Refusal) → IsFresh vault → IsVaultOf happened kept vault → HasDone request image kept old new vault vault' outcome
+pub changes : (happened : Happened) (request : Request) (image : List ℕ) (kept : Keeping) (old new : BusState)
+    (vault vault' : VaultState) (outcome : Result Answer Refusal) → IsFresh vault → IsVaultOf happened kept vault
+    → HasDone request image kept old new vault vault' outcome
     → HasChanged happened request image kept old new outcome
 changes happened request image kept old new vault vault' outcome fresh where_kept done =
     record { vault = vault; vault' = vault'; fresh = fresh; where_kept = where_kept; done = done }
 
-pub does_restore : (happened : FileEvent → Type 0) (journal : Journal) (named : Option (Bor Text)) (file : Text) (bytes : List ℕ) (old new : BusState)
-    (outcome : Result Answer Refusal) → IsContent journal → bytes ≡ text journal → IsRead happened file 16793662 bytes
+pub does_restore : (happened : Happened) (journal : Journal) (named : Option (Bor Text)) (file : Text) (bytes : List ℕ)
+    (old new : BusState) (outcome : Result Answer Refusal) → IsContent journal → bytes ≡ text journal → IsRead happened file 16793662 bytes
     → HasRestored journal named old new outcome → DoesRestore happened named file old new outcome
 does_restore happened journal named file bytes old new outcome sound same read restored = record {
   journal = journal;
@@ -55,7 +56,7 @@ does_restore happened journal named file bytes old new outcome sound same read r
   restored = restored;
 }
 
-module _ (happened : FileEvent → Type 0) (named : Option (Bor Text)) (asked : Option ChipName) (same : asked ≡ wanted named) (file : Text)
+module _ (happened : Happened) (named : Option (Bor Text)) (asked : Option ChipName) (same : asked ≡ wanted named) (file : Text)
     (regions : Option Regions) (ranges given : Option (List Span)) (included : AreRangesOf happened regions ranges) (lent : given ≡ ranges)
     (old new : BusState) (looks : Looks (most_of 16777216) old new) where
   pub reads_done : (vault vault' : VaultState) (report : Report) → happened (Emptied file vault) → Accepted vault vault'
@@ -74,8 +75,9 @@ module _ (happened : FileEvent → Type 0) (named : Option (Bor Text)) (asked : 
     };
   }
 
-  pub reads_refused : (vault vault' : VaultState) (refusal : Refusal) → happened (Emptied file vault) → ReadPuts {T = Answer} (Err refusal) vault vault'
-      → ReadTells asked given old new vault vault' refusal → DoesRead happened named file regions old new (Err refusal)
+  pub reads_refused : (vault vault' : VaultState) (refusal : Refusal) → happened (Emptied file vault)
+      → ReadPuts {T = Answer} (Err refusal) vault vault' → ReadTells asked given old new vault vault' refusal → DoesRead
+      happened named file regions old new (Err refusal)
   reads_refused vault vault' refusal emptied puts tells = record {
     ranges = ranges;
     included = included;
@@ -104,8 +106,8 @@ module _ (happened : FileEvent → Type 0) (named : Option (Bor Text)) (asked : 
     };
   }
 
-  pub verifies_refused : (image : List ℕ) (refusal : Refusal) → IsRead happened file 16777217 image → VerifyTells asked given image old new refusal
-      → DoesVerify happened named file regions old new (Err refusal)
+  pub verifies_refused : (image : List ℕ) (refusal : Refusal) → IsRead happened file 16777217 image
+      → VerifyTells asked given image old new refusal → DoesVerify happened named file regions old new (Err refusal)
   verifies_refused image refusal read tells = record {
     ranges = ranges;
     included = included;

@@ -20,9 +20,10 @@ use Rattle.nor_words.specs.declared.job.Wanted.TheVariants as wanted
 use Rattle.nor_words.specs.declared.words.UsageFault.{UsageFault}
 use Rattle.nor_words.specs.declared.words.UsageFault.TheVariants as usage
 use Rattle.flashnor.specs.Chips.{IsContentOf, IsReady, Opens}
-use Rattle.flashnor.specs.Events.{FileEvent}
+use Rattle.flashnor.specs.Events.{Happened}
 use Rattle.flashnor.specs.Requests.{FailsToInclude}
-use Rattle.flashnor.specs.Run.{AreLeft, Does, EndsJob, FailsBefore, FailsJob, FailsToKeep, FailsToRead, IsAnswer, IsCalled, IsToldAs, Succeeds, all_written, changes_chip}
+use Rattle.flashnor.specs.Run.{AreLeft, Does, EndsJob, FailsBefore, FailsJob, FailsToKeep, FailsToRead, IsAnswer, IsCalled, IsToldAs}
+use Rattle.flashnor.specs.Run.{Succeeds, all_written, changes_chip}
 use Rattle.flashnor.specs.declared.answers.Answer.{Answer}
 use Rattle.flashnor.specs.declared.answers.Answer.TheVariants as answer
 use Rattle.flashnor.specs.declared.chips.Content.{Content}
@@ -50,7 +51,7 @@ no_keep (keeping.Journal file) fault fails = fails
 no_keep (keeping.Rehearse stops) fault fails = fails
 
 -- below: whatever happened to the files
-module _ (happened : FileEvent → Type 0) where
+module _ (happened : Happened) where
   no_before : (done : Task) (fault : UsageFault) → FailsBefore happened done (end.Usage fault) → ⊥
   no_before task.Probe fault fails = fails
   no_before task.FlashSize fault fails = fails
@@ -100,7 +101,8 @@ module _ (happened : FileEvent → Type 0) where
       rw tells (inl (called on_chip content old new unwritten (Err refusal) read opens does left))
 
   -- a fault from before the call does, too
-  fails_ends : (on_chip : ChipJob) (unwritten : Unwritten) (fault : Fault) → FailsJob happened on_chip fault → EndsJob happened on_chip unwritten (Err fault)
+  fails_ends : (on_chip : ChipJob) (unwritten : Unwritten) (fault : Fault) → FailsJob happened on_chip fault
+      → EndsJob happened on_chip unwritten (Err fault)
   fails_ends on_chip unwritten (end.Refused refusal) fails = inr fails
   fails_ends on_chip unwritten (end.Usage fault) fails = fails
   fails_ends on_chip unwritten end.NoText fails = fails
@@ -109,7 +111,8 @@ module _ (happened : FileEvent → Type 0) where
 
   -- ---- runs
 
-  pub answer_ended : (words : List Text) (on_chip : ChipJob) (unwritten : Unwritten) (told : Result Answer Fault) → IsJob words (job.Chip on_chip)
+  pub answer_ended : (words : List Text) (on_chip : ChipJob) (unwritten : Unwritten) (told : Result Answer Fault)
+      → IsJob words (job.Chip on_chip)
       → EndsJob happened on_chip unwritten told → IsAnswer happened words told unwritten
   answer_ended words on_chip unwritten (Ok found) asks ends = (job.Chip on_chip, asks, ends)
   answer_ended words on_chip unwritten (Err (end.Usage fault)) asks ends = absurd (no_usage on_chip fault ends)
@@ -123,11 +126,13 @@ module _ (happened : FileEvent → Type 0) where
   answer_failed words on_chip unwritten fault told is asks fails =
       rw is (answer_ended words on_chip unwritten (Err fault) asks (fails_ends on_chip unwritten fault fails))
 
-  pub answer_listed : (words : List Text) (unwritten : Unwritten) (told : Result Answer Fault) → told ≡ Ok answer.Chips → IsJob words job.List
+  pub answer_listed : (words : List Text) (unwritten : Unwritten) (told : Result Answer Fault)
+      → told ≡ Ok answer.Chips → IsJob words job.List
       → IsAnswer happened words told unwritten
   answer_listed words unwritten told is asks = rw is (job.List, asks, tt)
 
-  pub answer_usage : (words : List Text) (unwritten : Unwritten) (fault : UsageFault) (told : Result Answer Fault) → told ≡ Err (end.Usage fault)
+  pub answer_usage : (words : List Text) (unwritten : Unwritten) (fault : UsageFault) (told : Result Answer Fault)
+      → told ≡ Err (end.Usage fault)
       → IsFault words fault → IsAnswer happened words told unwritten
   answer_usage words unwritten fault told is faulty = rw is faulty
 

@@ -43,7 +43,8 @@ says-free config number = refl
 
 shown-free : (config : Config) (number : List ℕ) → shown_as (record config { unique = number }) ≡ shown_as config
 shown-free config number =
-    ap (λ says. if is_no_chip (id_of config) then Err Probes.NoChip else listed_or (part_by_sfdp (id_of config) says) (row_of (id_of config)))
+    ap (λ says. if is_no_chip (id_of config) then Err Probes.NoChip else listed_or (part_by_sfdp (id_of config) says)
+    (row_of (id_of config)))
     (says-free config number)
 
 genuine-free : (config : Config) (number : List ℕ) → IsGenuine (record config { unique = number }) → IsGenuine config
@@ -73,7 +74,8 @@ genuine-with : (chip : Emulated) (number : Option (List ℕ)) (config : Config) 
 genuine-with chip None config is = genuine-emulated chip config is
 genuine-with chip (Some number) config is = genuine-free config (replicate 8 0) (genuine-emulated chip _ is.0)
 
-shown-with : (chip : Emulated) (number : Option (List ℕ)) (config : Config) → IsConfigWith chip number config → shown_as config ≡ Ok (part_of chip)
+shown-with : (chip : Emulated) (number : Option (List ℕ)) (config : Config) → IsConfigWith chip number config → shown_as
+    config ≡ Ok (part_of chip)
 shown-with chip None config is = shown-emulated chip config is
 shown-with chip (Some number) config is = sym (shown-free config (replicate 8 0)) ∙ shown-emulated chip _ is.0
 
@@ -100,7 +102,8 @@ finds_ready programmer named asked old new found same ready name finds =
     record { part = sym part; name = rw (← same, part) name }
 
 -- and what is refused
-pub refuses_ready : (programmer : Programmer) (named : Option (Bor Text)) (asked : Option ChipName) (old new : BusState) (fault : ProbeFault)
+pub refuses_ready : (programmer : Programmer) (named : Option (Bor Text)) (asked : Option ChipName) (old new : BusState)
+    (fault : ProbeFault)
     → asked ≡ wanted named → IsReady programmer old → Tells asked old new fault → FindRefuses programmer named (of_probe fault)
 refuses_ready programmer named asked old new Probes.NoChip same ready tells =
     let bad = sym (shown-ready programmer old ready) ∙ tells.0 in
@@ -152,12 +155,14 @@ modelled_same old new honest same modelled = record {
   genuine = subst IsGenuine (sym same.config) modelled.genuine;
 }
 
-given_name : (named : Option (Bor Text)) (chip : Chip) (part : Part) → shown_as chip.config ≡ Ok part → IsWanted (wanted named) part.name → HasGivenName named chip
+given_name : (named : Option (Bor Text)) (chip : Chip) (part : Part) → shown_as chip.config ≡ Ok part → IsWanted
+    (wanted named) part.name → HasGivenName named chip
 given_name None chip part shown name = tt
 given_name (Some text) chip part shown name = record { part = part; shown = shown; wanted = name }
 
 pub passes_probe : (named : Option (Bor Text)) (asked : Option ChipName) (old new : BusState) (found : Found)
-    → asked ≡ wanted named → IsModelled old → new.honest ≡ old.honest → IsWanted asked found.name → Finds old new found → Passes named old new
+    → asked ≡ wanted named → IsModelled old → new.honest ≡ old.honest → IsWanted asked found.name → Finds old new found →
+    Passes named old new
 passes_probe named asked old new found same modelled honest name finds = record {
   same = finds.rested.unchanged.same;
   modelled = modelled_same old new honest finds.rested.unchanged.same modelled;
@@ -177,10 +182,12 @@ passes_none bus modelled calm = record {
 
 pub restores_done : (journal : Journal) (named : Option (Bor Text)) (old found new : BusState) (report : Report)
     → Passes named old found → IsRestored journal found new report → HasRestored journal named old new (Ok (answer.Done report))
-restores_done journal named old found new report passes restored = record { found = found; same = passes.same; name = passes.name; told = restored }
+restores_done journal named old found new report passes restored = record
+    { found = found; same = passes.same; name = passes.name; told = restored }
 
 pub restores_refused : (journal : Journal) (named : Option (Bor Text)) (old found new : BusState) (refusal : Refusal)
-    → Passes named old found → RestoreTells journal found new refusal → (IsJudgedFirst refusal → Looks 69638 found new) → HasRestored journal named old new (Err refusal)
+    → Passes named old found → RestoreTells journal found new refusal → (IsJudgedFirst refusal → Looks 69638 found new) →
+    HasRestored journal named old new (Err refusal)
 restores_refused journal named old found new refusal passes tells looks = record {
   found = found;
   same = passes.same;

@@ -1,9 +1,10 @@
 -- What the jobs come to that change a chip.
-use Rattle.std.specs.Prelude.{◌≡◌, ◌≤◌, ◌/◌, ◌⊎◌, ℕ, List, Option, None, Some, Result, false, true, drop, length, IsOk, MatchResult, OnOk, ⊤}
+use Rattle.std.specs.Prelude.{◌≡◌, ◌≤◌, ◌/◌, ◌⊎◌, ℕ, List, Option, None, Some, Result, false, true, drop, length}
+use Rattle.std.specs.Prelude.{IsOk, MatchResult, OnOk, ⊤}
 use Rattle.std.specs.Borrow.{Bor}
 use Rattle.nor_chip.specs.Bus.{BusState}
 use Rattle.nor_chip.specs.Chip.{Chip, IsSame}
-use Rattle.nor_driver.specs.Looks.{IsCalm, RanOut}
+use Rattle.nor_driver.specs.Looks.{IsCalm}
 use Rattle.nor_journal.specs.Saved.{JournalSaves}
 use Rattle.nor_journal.specs.Text.{Content as Journal}
 use Rattle.nor_journal.specs.Vault.{IsFresh, VaultState}
@@ -15,9 +16,8 @@ use Rattle.nor_save.specs.Request.{is_touched_by}
 use Rattle.nor_save.specs.Saving.{head_of}
 use Rattle.nor_save.specs.declared.report.Request.{Request}
 use Rattle.nor_save.specs.declared.refusal.Refusal.{Refusal}
-use Rattle.nor_save.specs.declared.refusal.Refusal.TheVariants.{Vault, Stopped}
 use Rattle.nor_session.specs.Modelled.{IsModelled, most_of}
-use Rattle.nor_session.specs.Verdict.{IsAccepted, IsNamed, IsVerdict}
+use Rattle.nor_session.specs.Verdict.{IsAccepted, IsNamed}
 use Rattle.nor_session.specs.Session.{CanBeUndone, IsDone, SessionTells}
 use Rattle.nor_session.specs.Restore.{IsRestored, RestoreTells, IsJudgedFirst}
 use Rattle.nor_session.specs.Rehearsal.{AreRestores, CanEnd, IsRehearsal, RehearsalTells, SealFits, first_allowance}
@@ -25,7 +25,7 @@ use Rattle.nor_session.specs.declared.rehearsals.Rehearsal.{Rehearsal}
 use Rattle.nor_words.specs.Text.{Text}
 use Rattle.nor_words.specs.declared.job.Keeping.{Keeping}
 use Rattle.nor_words.specs.declared.job.Keeping.TheVariants as keeping
-use Rattle.flashnor.specs.Events.{FileEvent}
+use Rattle.flashnor.specs.Events.{Happened}
 use Rattle.flashnor.specs.Events.FileEvent.{Made}
 use Rattle.flashnor.specs.Found.{wanted}
 use Rattle.flashnor.specs.declared.answers.Answer.{Answer}
@@ -47,7 +47,8 @@ pub record GivesUp (request : Request) (image : List ℕ) (old new : BusState) (
 
 -- A change was made, or begun, with its journal in a vault: until that is sealed the chip is as before, and from then on
 -- the journal leads back, at every end.
-pub record HasKept (request : Request) (image : List ℕ) (old new : BusState) (vault vault' : VaultState) (outcome : Result Answer Refusal) : Type 0 where
+pub record HasKept (request : Request) (image : List ℕ) (old new : BusState) (vault vault' : VaultState)
+    (outcome : Result Answer Refusal) : Type 0 where
   pub told : MatchResult outcome (TellsDone request image old new) (GivesUp request image old new vault vault')
   pub sealed : IsOk outcome → vault'.sealed ≡ true
   pub same : vault'.sealed ≡ false → IsSame old.chip new.chip
@@ -74,22 +75,25 @@ TellsRehearsed request image stops chip vault (answer.Rehearsed rehearsal) = IsR
 TellsRehearsed request image stops chip vault _ = ⊥
 
 -- A rehearsal leaves the chip as before, at every end.
-pub record HasRehearsed (request : Request) (image stops : List ℕ) (old new : BusState) (vault vault' : VaultState) (outcome : Result Answer Refusal) : Type 0 where
+pub record HasRehearsed (request : Request) (image stops : List ℕ) (old new : BusState) (vault vault' : VaultState)
+    (outcome : Result Answer Refusal) : Type 0 where
   pub same : IsSame old.chip new.chip
   pub told : MatchResult outcome (TellsRehearsed request image stops old.chip vault') (RehearsalTells request image old.chip vault vault')
 
 -- the vault that a journal is kept in: one in the file that is named; for a rehearsal one in memory
-abbrev pub IsVaultOf : (FileEvent → Type 0) → Keeping → VaultState → Type 0
+abbrev pub IsVaultOf : Happened → Keeping → VaultState → Type 0
 IsVaultOf happened (keeping.Journal file) vault = happened (Made file.now vault)
 IsVaultOf happened (keeping.Rehearse stops) vault = vault.telling ≡ true
 
 -- what a change came to, whose vault starts and ends so
 abbrev pub HasDone : Request → List ℕ → Keeping → BusState → BusState → VaultState → VaultState → Result Answer Refusal → Type 0
 HasDone request image (keeping.Journal file) old new vault vault' outcome = HasKept request image old new vault vault' outcome
-HasDone request image (keeping.Rehearse stops) old new vault vault' outcome = HasRehearsed request image stops.items old new vault vault' outcome
+HasDone request image (keeping.Rehearse stops) old new vault vault' outcome =
+    HasRehearsed request image stops.items old new vault vault' outcome
 
 -- A change was made, or rehearsed, with its journal where it is to be kept.
-pub record HasChanged (happened : FileEvent → Type 0) (request : Request) (image : List ℕ) (kept : Keeping) (old new : BusState) (outcome : Result Answer Refusal) : Type 0 where
+pub record HasChanged (happened : Happened) (request : Request) (image : List ℕ) (kept : Keeping)
+    (old new : BusState) (outcome : Result Answer Refusal) : Type 0 where
   pub vault : VaultState
   pub vault' : VaultState
   pub fresh : IsFresh vault
@@ -130,4 +134,5 @@ pub record HasRestored (journal : Journal) (named : Option (Bor Text)) (old new 
   pub found : BusState
   pub same : IsSame old.chip found.chip
   pub name : OnOk outcome (HasGivenName named old.chip)
-  pub told : MatchResult outcome (TellsRestored journal found new) (λ refusal. RestoreRefuses journal found new refusal ⊎ ProbeRefuses named old new refusal)
+  pub told : MatchResult outcome (TellsRestored journal found new)
+      (λ refusal. RestoreRefuses journal found new refusal ⊎ ProbeRefuses named old new refusal)

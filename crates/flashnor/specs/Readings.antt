@@ -16,7 +16,7 @@ use Rattle.nor_save.specs.declared.refusal.Refusal.TheVariants.{OtherName, Stopp
 use Rattle.nor_words.specs.Text.{Text}
 use Rattle.nor_words.specs.declared.programmer.Programmer.{Programmer}
 use Rattle.flashnor.specs.Chips.{allowance_of}
-use Rattle.flashnor.specs.Events.{FileEvent}
+use Rattle.flashnor.specs.Events.{Happened}
 use Rattle.flashnor.specs.Events.FileEvent.{Emptied}
 use Rattle.flashnor.specs.Found.{HasName, IsFound, part_of, wanted}
 use Rattle.flashnor.specs.declared.answers.Answer.{Answer}
@@ -46,7 +46,8 @@ TellsGuarded named old new _ = ⊥
 
 -- the ranges that can be protected, all of them, of a chip of its size
 abbrev pub ListsRanges : Option (Bor Text) → BusState → BusState → Answer → Type 0
-ListsRanges named old new (answer.Ranges ranges) = (protection : Protection) × TellsProtection (wanted named) old new protection × IsStart protection.size ranges
+ListsRanges named old new (answer.Ranges ranges) =
+    (protection : Protection) × TellsProtection (wanted named) old new protection × IsStart protection.size ranges
 ListsRanges named old new _ = ⊥
 
 -- it was read out
@@ -60,17 +61,20 @@ TellsVerified named ranges image old new (answer.Verified report) = Verifies (wa
 TellsVerified named ranges image old new _ = ⊥
 
 -- The chip's protection is told, or refused, and the chip only looked at.
-pub record HasTold (tells : Answer → Type 0) (named : Option (Bor Text)) (old new : BusState) (outcome : Result Answer Refusal) : Type 0 where
+pub record HasTold (tells : Answer → Type 0) (named : Option (Bor Text)) (old new : BusState)
+    (outcome : Result Answer Refusal) : Type 0 where
   pub looks : Looks 65541 old new
   pub told : MatchResult outcome tells (StatusTells (wanted named) old new)
 
 -- The chip was found, or not, and only looked at.
-pub record HasFound (tells : Answer → Type 0) (programmer : Programmer) (named : Option (Bor Text)) (old new : BusState) (outcome : Result Answer Refusal) : Type 0 where
+pub record HasFound (tells : Answer → Type 0) (programmer : Programmer) (named : Option (Bor Text))
+    (old new : BusState) (outcome : Result Answer Refusal) : Type 0 where
   pub looks : Looks 65540 old new
   pub told : MatchResult outcome tells (FindRefuses programmer named)
 
 -- The chip was read out, in these ranges, into a vault in the file of this name.
-pub record HasRead (happened : FileEvent → Type 0) (named : Option (Bor Text)) (file : Text) (ranges : Option (List Span)) (old new : BusState) (outcome : Result Answer Refusal) : Type 0 where
+pub record HasRead (happened : Happened) (named : Option (Bor Text)) (file : Text) (ranges : Option (List Span))
+    (old new : BusState) (outcome : Result Answer Refusal) : Type 0 where
   pub looks : Looks (most_of 16777216) old new
   pub empty : VaultState
   pub filled : VaultState
@@ -79,6 +83,7 @@ pub record HasRead (happened : FileEvent → Type 0) (named : Option (Bor Text))
   pub told : MatchResult outcome (TellsRead named ranges old new empty filled) (ReadTells (wanted named) ranges old new empty filled)
 
 -- The chip was compared with this image, in these ranges.
-pub record HasVerified (named : Option (Bor Text)) (ranges : Option (List Span)) (image : List ℕ) (old new : BusState) (outcome : Result Answer Refusal) : Type 0 where
+pub record HasVerified (named : Option (Bor Text)) (ranges : Option (List Span)) (image : List ℕ)
+    (old new : BusState) (outcome : Result Answer Refusal) : Type 0 where
   pub looks : Looks (most_of 16777216) old new
   pub told : MatchResult outcome (TellsVerified named ranges image old new) (VerifyTells (wanted named) ranges image old new)

@@ -15,7 +15,7 @@ use Rattle.nor_words.specs.declared.job.Wanted.TheVariants as wanted
 use Rattle.nor_words.specs.Text.{Text}
 use Rattle.nor_words.specs.declared.programmer.Emulated.{Emulated}
 use Rattle.std.specs.Borrow.{Bor}
-use Rattle.flashnor.specs.Events.{FileEvent, IsRead}
+use Rattle.flashnor.specs.Events.{Happened, IsRead}
 use Rattle.flashnor.specs.Files.{IsReading}
 use Rattle.flashnor.specs.Found.{part_of, wanted as name_wanted}
 use Rattle.flashnor.specs.declared.messages.Fault.{Fault}
@@ -44,21 +44,21 @@ pub record AreIncluded (text names : List ℕ) (ranges : List Span) : Type 0 whe
   pub union : (a : ℕ) → contains ranges a ≡ is_included regions names a
 
 -- The ranges are those of the regions in the layout's file, which has at most 16 MiB.
-pub record AreOfLayout (happened : FileEvent → Type 0) (regions : Regions) (ranges : List Span) : Type 0 where
+pub record AreOfLayout (happened : Happened) (regions : Regions) (ranges : List Span) : Type 0 where
   pub text : List ℕ
   pub read : IsRead happened regions.layout.now 16777217 text
   pub whole : length text ≤ 16777216
   pub included : AreIncluded text regions.names.now ranges
 
 -- ranges are there exactly where regions are named
-abbrev pub AreRangesOf : (FileEvent → Type 0) → Option Regions → Option (List Span) → Type 0
+abbrev pub AreRangesOf : Happened → Option Regions → Option (List Span) → Type 0
 AreRangesOf happened None ranges = ranges ≡ None
 AreRangesOf happened (Some regions) None = ⊥
 AreRangesOf happened (Some regions) (Some ranges) = AreOfLayout happened regions ranges
 
 -- the buffer of a session: the image in its file, of which at most one byte more is read than the largest chip has, or
 -- as many bytes as the chip has, or nothing
-abbrev pub IsBufferOf : (FileEvent → Type 0) → Emulated → Wanted → List ℕ → Type 0
+abbrev pub IsBufferOf : Happened → Emulated → Wanted → List ℕ → Type 0
 IsBufferOf happened chip (wanted.Write image) bytes = IsRead happened image.now 16777217 bytes
 IsBufferOf happened chip wanted.Erase bytes = bytes ≡ replicate (part_of chip).size 255
 IsBufferOf happened chip (wanted.Range start len) bytes = bytes ≡ []

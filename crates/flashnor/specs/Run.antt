@@ -27,7 +27,7 @@ use Rattle.nor_words.specs.declared.programmer.Emulated.{Emulated}
 use Rattle.nor_words.specs.declared.programmer.Programmer.{Programmer}
 use Rattle.flashnor.specs.Changes.{HasChanged, HasRestored}
 use Rattle.flashnor.specs.Chips.{ArePutBack, FailsToOpen, IsContentOf, Opens}
-use Rattle.flashnor.specs.Events.{FileEvent, IsRead}
+use Rattle.flashnor.specs.Events.{Happened, IsRead}
 use Rattle.flashnor.specs.Files.{IsLogging, IsMaking, IsMakingNew, IsReading}
 use Rattle.flashnor.specs.Readings.{HasFound, HasRead, HasTold, HasVerified, ListsRanges, TellsFound, TellsGuarded, TellsSize}
 use Rattle.flashnor.specs.Requests.{AreRangesOf, FailsToInclude, IsBufferOf, request_for}
@@ -46,7 +46,8 @@ keeps (keeping.Journal file) = true
 keeps (keeping.Rehearse stops) = false
 
 -- A change was asked for, in the ranges of the regions and with the image.
-pub record DoesChange (happened : FileEvent → Type 0) (chip : Emulated) (named : Option (Bor Text)) (change : Change) (old new : BusState) (outcome : Result Answer Refusal) : Type 0 where
+pub record DoesChange (happened : Happened) (chip : Emulated) (named : Option (Bor Text)) (change : Change)
+    (old new : BusState) (outcome : Result Answer Refusal) : Type 0 where
   pub ranges : Option (List Span)
   pub included : AreRangesOf happened change.regions ranges
   pub image : List ℕ
@@ -54,14 +55,16 @@ pub record DoesChange (happened : FileEvent → Type 0) (chip : Emulated) (named
   pub changed : HasChanged happened (request_for change named ranges) image change.keeping old new outcome
 
 -- The chip was read out into the file in the ranges of the regions, if there are any.
-pub record DoesRead (happened : FileEvent → Type 0) (named : Option (Bor Text)) (file : Text) (regions : Option Regions) (old new : BusState) (outcome : Result Answer Refusal) : Type 0 where
+pub record DoesRead (happened : Happened) (named : Option (Bor Text)) (file : Text) (regions : Option Regions)
+    (old new : BusState) (outcome : Result Answer Refusal) : Type 0 where
   pub ranges : Option (List Span)
   pub included : AreRangesOf happened regions ranges
   pub read : HasRead happened named file ranges old new outcome
 
 -- It was compared in these ranges with the image in the file, of which at most one byte more is read than the largest
 -- chip has.
-pub record DoesVerify (happened : FileEvent → Type 0) (named : Option (Bor Text)) (file : Text) (regions : Option Regions) (old new : BusState) (outcome : Result Answer Refusal) : Type 0 where
+pub record DoesVerify (happened : Happened) (named : Option (Bor Text)) (file : Text) (regions : Option Regions)
+    (old new : BusState) (outcome : Result Answer Refusal) : Type 0 where
   pub ranges : Option (List Span)
   pub included : AreRangesOf happened regions ranges
   pub image : List ℕ
@@ -69,14 +72,15 @@ pub record DoesVerify (happened : FileEvent → Type 0) (named : Option (Bor Tex
   pub verified : HasVerified named ranges image old new outcome
 
 -- The journal in the file was restored, of which at most one byte more is read than the longest journal has.
-pub record DoesRestore (happened : FileEvent → Type 0) (named : Option (Bor Text)) (file : Text) (old new : BusState) (outcome : Result Answer Refusal) : Type 0 where
+pub record DoesRestore (happened : Happened) (named : Option (Bor Text)) (file : Text) (old new : BusState)
+    (outcome : Result Answer Refusal) : Type 0 where
   pub journal : Journal
   pub sound : IsContent journal
   pub read : IsRead happened file 16793662 (text journal)
   pub restored : HasRestored journal named old new outcome
 
 -- what the call for a task came to, on a bus to the programmer's chip
-abbrev pub Does : (FileEvent → Type 0) → Programmer → Option (Bor Text) → Task → BusState → BusState → Result Answer Refusal → Type 0
+abbrev pub Does : Happened → Programmer → Option (Bor Text) → Task → BusState → BusState → Result Answer Refusal → Type 0
 Does happened programmer named task.Probe old new outcome = HasFound (TellsFound programmer named) programmer named old new outcome
 Does happened programmer named task.FlashSize old new outcome = HasFound (TellsSize programmer named) programmer named old new outcome
 Does happened programmer named task.WpStatus old new outcome = HasTold (TellsGuarded named old new) named old new outcome
@@ -94,12 +98,12 @@ changes_chip _ = false
 
 -- where the task changes the chip, it was put back into its files, and the names of those that couldn't be written are
 -- these; else none was to be written
-abbrev pub AreLeft : Bool → (FileEvent → Type 0) → Programmer → Chip → Unwritten → Type 0
+abbrev pub AreLeft : Bool → Happened → Programmer → Chip → Unwritten → Type 0
 AreLeft true happened programmer chip unwritten = ArePutBack happened programmer chip unwritten.image unwritten.status
 AreLeft false happened programmer chip unwritten = (unwritten.image ≡ None) × (unwritten.status ≡ None)
 
 -- The job's call was made: on a bus to the programmer's chip, as its files tell it, into which it was put back.
-pub record IsCalled (happened : FileEvent → Type 0) (job : ChipJob) (unwritten : Unwritten) (outcome : Result Answer Refusal) : Type 0 where
+pub record IsCalled (happened : Happened) (job : ChipJob) (unwritten : Unwritten) (outcome : Result Answer Refusal) : Type 0 where
   pub content : Content
   pub read : IsContentOf happened job.programmer content
   pub old : BusState
@@ -122,20 +126,22 @@ FailsToKeep (keeping.Journal file) fault = IsMakingNew file.now fault
 FailsToKeep (keeping.Rehearse stops) fault = ⊥
 
 -- how the reading of a journal may end it
-abbrev pub FailsToRestore : (FileEvent → Type 0) → Text → Fault → Type 0
-FailsToRestore happened name (end.Refused (BadJournal fault)) = (bytes : List ℕ) × IsRead happened name 16793662 bytes × HasFault bytes fault
+abbrev pub FailsToRestore : Happened → Text → Fault → Type 0
+FailsToRestore happened name (end.Refused (BadJournal fault)) =
+    (bytes : List ℕ) × IsRead happened name 16793662 bytes × HasFault bytes fault
 FailsToRestore happened name fault = IsReading name fault
 
 -- how a task may end a run before its call is made
-abbrev pub FailsBefore : (FileEvent → Type 0) → Task → Fault → Type 0
+abbrev pub FailsBefore : Happened → Task → Fault → Type 0
 FailsBefore happened (task.Read file regions) fault = FailsToInclude regions fault ⊎ IsMaking file.now fault
 FailsBefore happened (task.Verify file regions) fault = FailsToInclude regions fault ⊎ IsReading file.now fault
-FailsBefore happened (task.Change change) fault = FailsToInclude change.regions fault ⊎ (FailsToRead change.wanted fault ⊎ FailsToKeep change.keeping fault)
+FailsBefore happened (task.Change change) fault =
+    FailsToInclude change.regions fault ⊎ (FailsToRead change.wanted fault ⊎ FailsToKeep change.keeping fault)
 FailsBefore happened (task.Restore journal) fault = FailsToRestore happened journal.now fault
 FailsBefore happened _ fault = ⊥
 
 -- how a job may end without a call: by the chip's files, by the trace's, or by those of its task
-abbrev pub FailsJob : (FileEvent → Type 0) → ChipJob → Fault → Type 0
+abbrev pub FailsJob : Happened → ChipJob → Fault → Type 0
 FailsJob happened on_chip fault = FailsToOpen on_chip.programmer fault
     ⊎ (IsSomeAnd on_chip.programmer.trace (λ name. IsLogging name.now fault) ⊎ FailsBefore happened on_chip.task fault)
 
@@ -147,20 +153,21 @@ IsToldAs (Ok found) outcome = outcome ≡ Ok found
 IsToldAs (Err refusal) outcome = outcome ≡ Err (end.Refused refusal)
 
 -- A job on a chip ends with what its call came to, or with a fault from before the call.
-abbrev pub EndsJob : (FileEvent → Type 0) → ChipJob → Unwritten → Result Answer Fault → Type 0
+abbrev pub EndsJob : Happened → ChipJob → Unwritten → Result Answer Fault → Type 0
 EndsJob happened on_chip unwritten (Ok found) = IsCalled happened on_chip unwritten (Ok found)
-EndsJob happened on_chip unwritten (Err (end.Refused refusal)) = IsCalled happened on_chip unwritten (Err refusal) ⊎ FailsJob happened on_chip (end.Refused refusal)
+EndsJob happened on_chip unwritten (Err (end.Refused refusal)) =
+    IsCalled happened on_chip unwritten (Err refusal) ⊎ FailsJob happened on_chip (end.Refused refusal)
 EndsJob happened on_chip unwritten (Err fault) = FailsJob happened on_chip fault
 
 -- the list of chips is the answer to nothing else
-abbrev pub Answers : (FileEvent → Type 0) → Job → Unwritten → Result Answer Fault → Type 0
+abbrev pub Answers : Happened → Job → Unwritten → Result Answer Fault → Type 0
 Answers happened job.List unwritten (Ok answer.Chips) = ⊤
 Answers happened job.List unwritten _ = ⊥
 Answers happened (job.Chip on_chip) unwritten outcome = EndsJob happened on_chip unwritten outcome
 
 -- A usage fault is that of the words, and all else the answer to the job that the words ask for, with the names of the
 -- files that couldn't be written.
-abbrev pub IsAnswer : (FileEvent → Type 0) → List Text → Result Answer Fault → Unwritten → Type 0
+abbrev pub IsAnswer : Happened → List Text → Result Answer Fault → Unwritten → Type 0
 IsAnswer happened words (Err (end.Usage fault)) unwritten = IsFault words fault
 IsAnswer happened words outcome unwritten = (asked : Job) × IsJob words asked × Answers happened asked unwritten outcome
 
@@ -169,6 +176,6 @@ abbrev pub all_written : Unwritten
 all_written = record { image = None; status = None; trace = None }
 
 -- A run without a fault: the words ask for help; or for a job, which was done, and each file was written.
-abbrev pub Succeeds : (FileEvent → Type 0) → List Text → Type 0
+abbrev pub Succeeds : Happened → List Text → Type 0
 Succeeds happened words =
     IsAmong kind.DisplayHelp (refusals_of words) ⊎ ((found : Answer) × IsAnswer happened words (Ok found) all_written)

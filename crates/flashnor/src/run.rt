@@ -132,7 +132,8 @@ fn write_after<'a, R: Store>(
     bus: &SimBus,
     trace: Option<&'a str>,
 ) -> Unwritten<'a>
-    ensures left { AreLeft (changes_chip job.now.task) (R.happened rt.now) job.now.programmer (⟦<SimBus as Bus>⟧.state bus.now).chip result }
+    ensures left { AreLeft (changes_chip job.now.task) (R.happened rt.now) job.now.programmer
+        (⟦<SimBus as Bus>⟧.state bus.now).chip result }
     ensures trace { result.trace ≡ trace.entry }
 {
     let (image, status) = if changes_chip(&job.task) {
