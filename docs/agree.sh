@@ -31,6 +31,7 @@ none_but() {
 same() {
     local text
     for text in "${@:3}"; do
+        [[ -s "$work/$1 of $2" ]] && cmp -s "$work/$1 of $2" "$work/$1 of $text" && continue
         none_but "$1" "$2" "$text"
         none_but "$1" "$text" "$2"
     done
