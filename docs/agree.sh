@@ -84,8 +84,10 @@ take_texts() {
 . docs/agree/words.sh
 . docs/agree/faults.sh
 . docs/agree/limits.sh
+. docs/agree/promises.sh
 take_texts
 take_words
 take_faults
 take_limits
+take_promises
 exit $failed
