@@ -1,5 +1,5 @@
 -- What sessions, rehearsals and restores come to.
-use Rattle.std.proofs.Common.{◌≡◌, ◌≤◌, ◌⊎◌, ℕ, Bool, List, true, false, arith, inl, inr, refl}
+use Rattle.std.proofs.Common.{◌≡◌, ◌≤◌, ℕ, List, Ok, Err, true, false, arith}
 use Rattle.nor_chip.specs.Bus.{BusState}
 use Rattle.nor_chip.specs.Chip.{IsSame}
 use Rattle.nor_driver.specs.Looks.{IsCalm, Looks}
@@ -8,32 +8,10 @@ use Rattle.nor_save.specs.Refusal.{number_of}
 use Rattle.nor_save.specs.declared.report.Request.{Request}
 use Rattle.nor_save.specs.declared.refusal.Refusal.{Refusal}
 use Rattle.nor_save.specs.declared.refusal.Refusal.TheVariants as why
-use Rattle.nor_session.specs.Session.{CanBeUndone, HonestTells, SessionTells}
-use Rattle.flashnor.specs.Changes.{ChangeRefuses, GivesUp, IsUnderWay}
-
--- the refusals of a session
-refuses : (request : Request) (image : List ℕ) (old new : BusState) (vault vault' : VaultState) (refusal : Refusal)
-    → SessionTells request image old new vault vault' refusal → ChangeRefuses request image old new refusal
-refuses request image old new vault vault' why.Vault tells = tt
-refuses request image old new vault vault' why.Stopped tells = tells
-refuses request image old new vault vault' why.NoChip tells = tells
-refuses request image old new vault vault' (why.UnknownChip fault) tells = tells
-refuses request image old new vault vault' why.OtherName tells = tells
-refuses request image old new vault vault' (why.ImageSize chip len) tells = tells
-refuses request image old new vault vault' why.RegionOutside tells = tells
-refuses request image old new vault vault' why.NoProtection tells = tells
-refuses request image old new vault vault' why.UndefinedProtection tells = tells
-refuses request image old new vault vault' why.RangeNotOffered tells = tells
-refuses request image old new vault vault' why.StatusLocked tells = tells
-refuses request image old new vault vault' (why.Protected address) tells = tells
-refuses request image old new vault vault' (why.Timeout address) tells = tells
-refuses request image old new vault vault' (why.Mismatch address) tells = tells
-refuses request image old new vault vault' (why.BadJournal fault) tells = tells
-refuses request image old new vault vault' why.OtherChip tells = tells
-refuses request image old new vault vault' why.StatusDiffers tells = tells
-refuses request image old new vault vault' why.Memory tells = tells
-refuses request image old new vault vault' (why.Output written) tells = tells
-refuses request image old new vault vault' why.OtherUnit tells = tells
+use Rattle.nor_save.specs.declared.report.Report.{Report}
+use Rattle.nor_session.specs.Session.{CanBeUndone, HonestTells, IsDone, SessionTells}
+use Rattle.flashnor.specs.Changes.{HasKept}
+use Rattle.flashnor.specs.declared.answers.Answer.TheVariants as answer
 
 -- after those from 1 to 11 the chip is as before
 stays : (old new : BusState) (refusal : Refusal) → HonestTells old new refusal → number_of refusal ≤ 11 → IsSame old.chip new.chip
@@ -58,21 +36,23 @@ stays old new why.Memory tells early = tells early
 stays old new (why.Output written) tells early = tells early
 stays old new why.OtherUnit tells early = tells early
 
--- until the vault is sealed the chip is as before, and then on its way
-leaves : (request : Request) (image : List ℕ) (old new : BusState) (vault : VaultState) (seal : Bool) → vault.sealed ≡ seal
-    → (vault.sealed ≡ false → Looks 69638 old new) → (vault.sealed ≡ true → CanBeUndone request image old new vault)
-    → old.honest ≡ true → IsCalm old → IsSame old.chip new.chip ⊎ IsUnderWay request image old new
-leaves request image old new vault false is looks undo honest calm = inl (((looks is).looked honest).stays.calm calm)
-leaves request image old new vault true is looks undo honest calm =
-    let undone = undo is in
-    inr (record { accepted = undone.accepted; changes = undone.changes })
+module _ (request : Request) (image : List ℕ) (old new : BusState) (vault vault' : VaultState)
+    (looks : vault'.sealed ≡ false → Looks 69638 old new) (undo : vault'.sealed ≡ true → CanBeUndone request image old new vault')
+    (honest : old.honest ≡ true) (calm : IsCalm old) where
+  same : vault'.sealed ≡ false → IsSame old.chip new.chip
+  same unsealed = (((looks unsealed).looked honest).stays.calm calm)
 
-pub gives_up : (request : Request) (image : List ℕ) (old new : BusState) (vault vault' : VaultState) (refusal : Refusal)
-    → SessionTells request image old new vault vault' refusal → HonestTells old new refusal
-    → (vault'.sealed ≡ false → Looks 69638 old new) → (vault'.sealed ≡ true → CanBeUndone request image old new vault')
-    → old.honest ≡ true → IsCalm old → GivesUp request image old new refusal
-gives_up request image old new vault vault' refusal tells honest_tells looks undo honest calm = record {
-  refuses = refuses request image old new vault vault' refusal tells;
-  same = stays old new refusal honest_tells;
-  leaves = leaves request image old new vault' vault'.sealed refl looks undo honest calm;
-}
+  -- a change that ended keeps the sealed journal
+  pub kept_done : (report : Report) → IsDone request image old new report → vault'.sealed ≡ true
+      → HasKept request image old new vault vault' (Ok (answer.Done report))
+  kept_done report done sealed = record { told = done; sealed = λ ok. sealed; same = same; undo = undo }
+
+  -- and one that gave up keeps it from when it was sealed on
+  pub kept_refused : (refusal : Refusal) → SessionTells request image old new vault vault' refusal → HonestTells old new refusal
+      → (number_of refusal ≤ 8 → vault' ≡ vault) → HasKept request image old new vault vault' (Err refusal)
+  kept_refused refusal tells honest_tells unused = record {
+    told = record { refuses = tells; same = stays old new refusal honest_tells; unused = unused };
+    sealed = λ ok. cc;
+    same = same;
+    undo = undo;
+  }

@@ -1,31 +1,32 @@
 -- What the jobs come to that change a chip.
-use Rattle.std.specs.Prelude.{◌≡◌, ◌≤◌, ◌/◌, ◌⊎◌, ℕ, List, Option, None, Some, Result, true, drop, length, MatchResult, OnOk, ⊤}
+use Rattle.std.specs.Prelude.{◌≡◌, ◌≤◌, ◌/◌, ◌⊎◌, ℕ, List, Option, None, Some, Result, false, true, drop, length, IsOk, MatchResult, OnOk, ⊤}
 use Rattle.std.specs.Borrow.{Bor}
 use Rattle.nor_chip.specs.Bus.{BusState}
 use Rattle.nor_chip.specs.Chip.{Chip, IsSame}
 use Rattle.nor_driver.specs.Looks.{IsCalm, RanOut}
 use Rattle.nor_journal.specs.Saved.{JournalSaves}
 use Rattle.nor_journal.specs.Text.{Content as Journal}
-use Rattle.nor_journal.specs.Vault.{VaultState}
-use Rattle.nor_apply.specs.Change.{MayChange}
+use Rattle.nor_journal.specs.Vault.{IsFresh, VaultState}
 use Rattle.nor_apply.specs.Counts.{sector_count}
 use Rattle.nor_probe.specs.Found.{Tells}
 use Rattle.nor_probe.specs.declared.probes.ProbeFault.{ProbeFault}
 use Rattle.nor_save.specs.Refusal.{number_of, of_probe}
-use Rattle.nor_save.specs.Request.{is_touched_by, is_raised_by}
+use Rattle.nor_save.specs.Request.{is_touched_by}
 use Rattle.nor_save.specs.Saving.{head_of}
 use Rattle.nor_save.specs.declared.report.Request.{Request}
 use Rattle.nor_save.specs.declared.refusal.Refusal.{Refusal}
 use Rattle.nor_save.specs.declared.refusal.Refusal.TheVariants.{Vault, Stopped}
 use Rattle.nor_session.specs.Modelled.{IsModelled, most_of}
 use Rattle.nor_session.specs.Verdict.{IsAccepted, IsNamed, IsVerdict}
-use Rattle.nor_session.specs.Session.{IsDone, wanted_of}
+use Rattle.nor_session.specs.Session.{CanBeUndone, IsDone, SessionTells}
 use Rattle.nor_session.specs.Restore.{IsRestored, RestoreTells, IsJudgedFirst}
 use Rattle.nor_session.specs.Rehearsal.{AreRestores, CanEnd, IsRehearsal, RehearsalTells, SealFits, first_allowance}
 use Rattle.nor_session.specs.declared.rehearsals.Rehearsal.{Rehearsal}
 use Rattle.nor_words.specs.Text.{Text}
 use Rattle.nor_words.specs.declared.job.Keeping.{Keeping}
 use Rattle.nor_words.specs.declared.job.Keeping.TheVariants as keeping
+use Rattle.flashnor.specs.Events.{FileEvent}
+use Rattle.flashnor.specs.Events.FileEvent.{Made}
 use Rattle.flashnor.specs.Found.{wanted}
 use Rattle.flashnor.specs.declared.answers.Answer.{Answer}
 use Rattle.flashnor.specs.declared.answers.Answer.TheVariants as answer
@@ -37,23 +38,20 @@ abbrev pub TellsDone : Request → List ℕ → BusState → BusState → Answer
 TellsDone request image old new (answer.Done report) = IsDone request image old new report
 TellsDone request image old new _ = ⊥
 
--- the refusal is the verdict; or the journal's file failed, or the bus stopped
-abbrev pub ChangeRefuses : Request → List ℕ → BusState → BusState → Refusal → Type 0
-ChangeRefuses request image old new Vault = ⊤
-ChangeRefuses request image old new Stopped = RanOut (most_of (old.chip.config.size / 4096)) old new
-ChangeRefuses request image old new refusal = IsVerdict request image old.chip refusal
-
--- The request is accepted, and the chip on the way to the one that it wants.
-pub record IsUnderWay (request : Request) (image : List ℕ) (old new : BusState) : Type 0 where
-  pub accepted : IsAccepted request image old.chip
-  pub changes : MayChange (is_touched_by request image old.chip) (is_raised_by request image old.chip) (wanted_of request image old.chip) old new
-
--- A change was refused or stopped: after refusals from 1 to 11 the chip is as before, and else it is as before or on the
--- way to the wanted one.
-pub record GivesUp (request : Request) (image : List ℕ) (old new : BusState) (refusal : Refusal) : Type 0 where
-  pub refuses : ChangeRefuses request image old new refusal
+-- A change was refused, or its journal or the bus failed; after refusals from 1 to 11 the chip is as before, and after
+-- those from 1 to 8 the vault too.
+pub record GivesUp (request : Request) (image : List ℕ) (old new : BusState) (vault vault' : VaultState) (refusal : Refusal) : Type 0 where
+  pub refuses : SessionTells request image old new vault vault' refusal
   pub same : number_of refusal ≤ 11 → IsSame old.chip new.chip
-  pub leaves : IsSame old.chip new.chip ⊎ IsUnderWay request image old new
+  pub unused : number_of refusal ≤ 8 → vault' ≡ vault
+
+-- A change was made, or begun, with its journal in a vault: until that is sealed the chip is as before, and from then on
+-- the journal leads back, at every end.
+pub record HasKept (request : Request) (image : List ℕ) (old new : BusState) (vault vault' : VaultState) (outcome : Result Answer Refusal) : Type 0 where
+  pub told : MatchResult outcome (TellsDone request image old new) (GivesUp request image old new vault vault')
+  pub sealed : IsOk outcome → vault'.sealed ≡ true
+  pub same : vault'.sealed ≡ false → IsSame old.chip new.chip
+  pub undo : vault'.sealed ≡ true → CanBeUndone request image old new vault'
 
 -- ---- rehearsals
 
@@ -80,10 +78,23 @@ pub record HasRehearsed (request : Request) (image stops : List ℕ) (old new : 
   pub same : IsSame old.chip new.chip
   pub told : MatchResult outcome (TellsRehearsed request image stops old.chip vault') (RehearsalTells request image old.chip vault vault')
 
--- what a change came to, with a vault in memory for rehearsals
-abbrev pub HasChanged : Request → List ℕ → Keeping → BusState → BusState → VaultState → VaultState → Result Answer Refusal → Type 0
-HasChanged request image (keeping.Journal file) old new vault vault' outcome = MatchResult outcome (TellsDone request image old new) (GivesUp request image old new)
-HasChanged request image (keeping.Rehearse stops) old new vault vault' outcome = HasRehearsed request image stops.items old new vault vault' outcome
+-- the vault that a journal is kept in: one in the file that is named; for a rehearsal one in memory
+abbrev pub IsVaultOf : (FileEvent → Type 0) → Keeping → VaultState → Type 0
+IsVaultOf happened (keeping.Journal file) vault = happened (Made file.now vault)
+IsVaultOf happened (keeping.Rehearse stops) vault = vault.telling ≡ true
+
+-- what a change came to, whose vault starts and ends so
+abbrev pub HasDone : Request → List ℕ → Keeping → BusState → BusState → VaultState → VaultState → Result Answer Refusal → Type 0
+HasDone request image (keeping.Journal file) old new vault vault' outcome = HasKept request image old new vault vault' outcome
+HasDone request image (keeping.Rehearse stops) old new vault vault' outcome = HasRehearsed request image stops.items old new vault vault' outcome
+
+-- A change was made, or rehearsed, with its journal where it is to be kept.
+pub record HasChanged (happened : FileEvent → Type 0) (request : Request) (image : List ℕ) (kept : Keeping) (old new : BusState) (outcome : Result Answer Refusal) : Type 0 where
+  pub vault : VaultState
+  pub vault' : VaultState
+  pub fresh : IsFresh vault
+  pub where_kept : IsVaultOf happened kept vault
+  pub done : HasDone request image kept old new vault vault' outcome
 
 -- ---- restores
 

@@ -1,13 +1,18 @@
 -- What a run opens: the emulated chip, and the bus to it.
-use Rattle.std.specs.Prelude.{◌≡◌, ◌⊎◌, ◌/◌, ◌%◌, ◌==◌, ℕ, List, false, true, Option, Some, None, IsSomeAnd, is_none, replicate, slice_index, unwrap_or}
+use Rattle.std.specs.Prelude.{◌≡◌, ◌⊎◌, ◌/◌, ◌%◌, ◌==◌, ◌∷◌, [], ℕ, List, false, true, Option, Some, None, IsSomeAnd, is_none, replicate, slice_index, unwrap_or}
+use Rattle.std.specs.Borrow.{Bor}
 use Rattle.nor_chip.specs.Bus.{BusState}
 use Rattle.nor_chip.specs.Chip.{Chip}
+use Rattle.nor_chip.specs.Start.{AreBytesOf, status_of}
 use Rattle.nor_chip.specs.declared.config.Config.{Config}
 use Rattle.nor_save.specs.declared.refusal.Refusal.TheVariants.{Memory}
 use Rattle.nor_words.specs.Programmer.{IsConfigOf}
 use Rattle.nor_words.specs.declared.programmer.Emulated.{Emulated}
 use Rattle.nor_words.specs.declared.programmer.Programmer.{Programmer}
+use Rattle.nor_words.specs.Text.{Text}
+use Rattle.flashnor.specs.Events.{AreOfFile, FileEvent, IsPutBack}
 use Rattle.flashnor.specs.Files.{IsOpening}
+use Rattle.flashnor.specs.Found.{part_of}
 use Rattle.flashnor.specs.declared.chips.Content.{Content}
 use Rattle.flashnor.specs.declared.messages.Fault.{Fault}
 use Rattle.flashnor.specs.declared.messages.Fault.TheVariants as end
@@ -30,6 +35,11 @@ pub record IsReady (programmer : Programmer) (bus : BusState) : Type 0 where
   pub honest : bus.honest ≡ true
   pub steady : bus.steady ≡ is_none programmer.power
   pub still : bus.stirred ≡ false
+
+-- It is what the chip's files have: FFh and clear status bytes where none is named or there.
+pub record IsContentOf (happened : FileEvent → Type 0) (programmer : Programmer) (content : Content) : Type 0 where
+  pub bytes : AreOfFile happened programmer.image (part_of programmer.chip).size (replicate (part_of programmer.chip).size 255) content.bytes.items
+  pub status : AreOfFile happened programmer.status 2 (0 ∷ 0 ∷ []) content.status
 
 -- The chip has these bytes, and the kept bits and the latch of these status bytes.
 pub record HasContent (content : Content) (chip : Chip) : Type 0 where
@@ -58,3 +68,8 @@ pub record Holds (programmer : Programmer) (content : Content) (bus : BusState) 
 abbrev pub FailsToOpen : Programmer → Fault → Type 0
 FailsToOpen programmer fault = (fault ≡ end.Refused Memory)
     ⊎ (IsSomeAnd programmer.image (λ name. IsOpening name.now fault) ⊎ IsSomeAnd programmer.status (λ name. IsOpening name.now fault))
+
+-- Its bytes and status bytes were written into the files that are named; or the names of those that couldn't be are these.
+pub record ArePutBack (happened : FileEvent → Type 0) (programmer : Programmer) (chip : Chip) (image status : Option (Bor Text)) : Type 0 where
+  pub image_put : IsPutBack happened programmer.image (AreBytesOf chip) image
+  pub status_put : IsPutBack happened programmer.status (λ bytes. bytes ≡ status_of chip) status

@@ -1,8 +1,5 @@
 -- How the files of a run may end it.
-use Rattle.std.specs.Prelude.{◌≡◌, ◌⊎◌, ℕ, List, Result, Ok, Err, IfSome, Option}
-use Rattle.std.specs.IoError.{error_kind}
-use Rattle.std.specs.declared.io.Error.{Error}
-use Rattle.std.specs.declared.io.ErrorKind.TheVariants as Kinds
+use Rattle.std.specs.Prelude.{◌≡◌, ◌⊎◌}
 use Rattle.nor_save.specs.declared.refusal.Refusal.TheVariants.{Memory}
 use Rattle.nor_words.specs.Text.{Text}
 use Rattle.flashnor.specs.declared.messages.Fault.{Fault}
@@ -35,8 +32,3 @@ IsMakingNew name _ = ⊥
 abbrev pub IsLogging : Text → Fault → Type 0
 IsLogging name (end.Refused refusal) = refusal ≡ Memory
 IsLogging name fault = IsMaking name fault
-
--- The bytes are those of a file that was to be opened, as far as these are known, or where it is missing these ones.
-abbrev pub AreFrom : {F : Type 0} → (F → Option (List ℕ)) → List ℕ → Result F Error → List ℕ → Type 0
-AreFrom remaining missing (Ok file) bytes = IfSome (remaining file) (λ all. bytes ≡ all)
-AreFrom remaining missing (Err error) bytes = (error_kind error ≡ Kinds.NotFound) × (bytes ≡ missing)

@@ -1,4 +1,5 @@
 pub mod Messages
+pub mod Events
 pub mod Files
 pub mod Chips
 pub mod Found

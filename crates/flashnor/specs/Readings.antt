@@ -8,7 +8,7 @@ use Rattle.nor_journal.specs.Vault.{VaultState}
 use Rattle.nor_layout.specs.declared.ranges.Span.{Span}
 use Rattle.nor_read.specs.Finding.{most_of}
 use Rattle.nor_read.specs.Protecting.{TellsProtection, StatusTells}
-use Rattle.nor_read.specs.Reading.{ReadsOut, ReadTells}
+use Rattle.nor_read.specs.Reading.{ReadPuts, ReadsOut, ReadTells}
 use Rattle.nor_read.specs.Verifying.{Verifies, VerifyTells}
 use Rattle.nor_read.specs.declared.protection.Protection.{Protection}
 use Rattle.nor_save.specs.declared.refusal.Refusal.{Refusal}
@@ -16,6 +16,8 @@ use Rattle.nor_save.specs.declared.refusal.Refusal.TheVariants.{OtherName, Stopp
 use Rattle.nor_words.specs.Text.{Text}
 use Rattle.nor_words.specs.declared.programmer.Programmer.{Programmer}
 use Rattle.flashnor.specs.Chips.{allowance_of}
+use Rattle.flashnor.specs.Events.{FileEvent}
+use Rattle.flashnor.specs.Events.FileEvent.{Emptied}
 use Rattle.flashnor.specs.Found.{HasName, IsFound, part_of, wanted}
 use Rattle.flashnor.specs.declared.answers.Answer.{Answer}
 use Rattle.flashnor.specs.declared.answers.Answer.TheVariants as answer
@@ -67,11 +69,13 @@ pub record HasFound (tells : Answer → Type 0) (programmer : Programmer) (named
   pub looks : Looks 65540 old new
   pub told : MatchResult outcome tells (FindRefuses programmer named)
 
--- The chip was read out, in these ranges, into a vault in the file.
-pub record HasRead (named : Option (Bor Text)) (ranges : Option (List Span)) (old new : BusState) (outcome : Result Answer Refusal) : Type 0 where
+-- The chip was read out, in these ranges, into a vault in the file of this name.
+pub record HasRead (happened : FileEvent → Type 0) (named : Option (Bor Text)) (file : Text) (ranges : Option (List Span)) (old new : BusState) (outcome : Result Answer Refusal) : Type 0 where
   pub looks : Looks (most_of 16777216) old new
   pub empty : VaultState
   pub filled : VaultState
+  pub emptied : happened (Emptied file empty)
+  pub puts : ReadPuts outcome empty filled
   pub told : MatchResult outcome (TellsRead named ranges old new empty filled) (ReadTells (wanted named) ranges old new empty filled)
 
 -- The chip was compared with this image, in these ranges.

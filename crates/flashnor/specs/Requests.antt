@@ -1,5 +1,5 @@
 -- What a job asks of the calls.
-use Rattle.std.specs.Prelude.{◌≡◌, ℕ, List, Option, Some, None}
+use Rattle.std.specs.Prelude.{◌≡◌, ◌≤◌, [], ℕ, List, Option, Some, None, length, replicate}
 use Rattle.nor_layout.specs.declared.ranges.Span.{Span}
 use Rattle.nor_layout.specs.declared.region.Region.{Region}
 use Rattle.nor_layout.specs.Grammar.{IsLayout}
@@ -13,9 +13,11 @@ use Rattle.nor_words.specs.declared.job.Regions.{Regions}
 use Rattle.nor_words.specs.declared.job.Wanted.{Wanted}
 use Rattle.nor_words.specs.declared.job.Wanted.TheVariants as wanted
 use Rattle.nor_words.specs.Text.{Text}
+use Rattle.nor_words.specs.declared.programmer.Emulated.{Emulated}
 use Rattle.std.specs.Borrow.{Bor}
+use Rattle.flashnor.specs.Events.{FileEvent, IsRead}
 use Rattle.flashnor.specs.Files.{IsReading}
-use Rattle.flashnor.specs.Found.{wanted as name_wanted}
+use Rattle.flashnor.specs.Found.{part_of, wanted as name_wanted}
 use Rattle.flashnor.specs.declared.messages.Fault.{Fault}
 use Rattle.flashnor.specs.declared.messages.Fault.TheVariants as end
 
@@ -41,11 +43,25 @@ pub record AreIncluded (text names : List ℕ) (ranges : List Span) : Type 0 whe
   pub layout : IsLayout text regions
   pub union : (a : ℕ) → contains ranges a ≡ is_included regions names a
 
--- ranges are there exactly where regions are named, and are those that some text of the layout's file says
-abbrev pub AreRangesOf : Option Regions → Option (List Span) → Type 0
-AreRangesOf None ranges = ranges ≡ None
-AreRangesOf (Some regions) None = ⊥
-AreRangesOf (Some regions) (Some ranges) = (text : List ℕ) × AreIncluded text regions.names.now ranges
+-- The ranges are those of the regions in the layout's file, which has at most 16 MiB.
+pub record AreOfLayout (happened : FileEvent → Type 0) (regions : Regions) (ranges : List Span) : Type 0 where
+  pub text : List ℕ
+  pub read : IsRead happened regions.layout.now 16777217 text
+  pub whole : length text ≤ 16777216
+  pub included : AreIncluded text regions.names.now ranges
+
+-- ranges are there exactly where regions are named
+abbrev pub AreRangesOf : (FileEvent → Type 0) → Option Regions → Option (List Span) → Type 0
+AreRangesOf happened None ranges = ranges ≡ None
+AreRangesOf happened (Some regions) None = ⊥
+AreRangesOf happened (Some regions) (Some ranges) = AreOfLayout happened regions ranges
+
+-- the buffer of a session: the image in its file, of which at most one byte more is read than the largest chip has, or
+-- as many bytes as the chip has, or nothing
+abbrev pub IsBufferOf : (FileEvent → Type 0) → Emulated → Wanted → List ℕ → Type 0
+IsBufferOf happened chip (wanted.Write image) bytes = IsRead happened image.now 16777217 bytes
+IsBufferOf happened chip wanted.Erase bytes = bytes ≡ replicate (part_of chip).size 255
+IsBufferOf happened chip (wanted.Range start len) bytes = bytes ≡ []
 
 -- how the reading of a layout may end a run: by its file, or by its text and the names
 abbrev pub FailsToInclude : Option Regions → Fault → Type 0

@@ -1,15 +1,17 @@
 -- What a run came to.
-use Rattle.std.specs.Prelude.{◌≡◌, ◌⊎◌, ℕ, Bool, true, false, List, Option, Result, Ok, Err, IsSomeAnd, ⊤}
+use Rattle.std.specs.Prelude.{◌≡◌, ◌⊎◌, ℕ, Bool, true, false, List, Option, None, Result, Ok, Err, IsSomeAnd, ⊤}
 use Rattle.std.specs.Borrow.{Bor}
 use Rattle.nor_chip.specs.Bus.{BusState}
+use Rattle.nor_chip.specs.Chip.{Chip}
 use Rattle.nor_journal.specs.Fault.{HasFault}
-use Rattle.nor_journal.specs.Text.{Content as Journal, IsContent}
-use Rattle.nor_journal.specs.Vault.{VaultState, IsFresh}
+use Rattle.nor_journal.specs.Text.{Content as Journal, IsContent, text}
 use Rattle.nor_layout.specs.declared.ranges.Span.{Span}
 use Rattle.nor_save.specs.declared.refusal.Refusal.{Refusal}
 use Rattle.nor_save.specs.declared.refusal.Refusal.TheVariants.{Memory, BadJournal}
 use Rattle.nor_words.specs.Text.{Text}
-use Rattle.nor_words.specs.Words.{IsJob, IsFault}
+use Rattle.clap.specs.Words.{IsAmong}
+use Rattle.clap.specs.declared.error.kind.ErrorKind.TheVariants as kind
+use Rattle.nor_words.specs.Words.{IsJob, IsFault, refusals_of}
 use Rattle.nor_words.specs.declared.job.Change.{Change}
 use Rattle.nor_words.specs.declared.job.ChipJob.{ChipJob}
 use Rattle.nor_words.specs.declared.job.Job.{Job}
@@ -21,15 +23,18 @@ use Rattle.nor_words.specs.declared.job.Task.{Task}
 use Rattle.nor_words.specs.declared.job.Task.TheVariants as task
 use Rattle.nor_words.specs.declared.job.Wanted.{Wanted}
 use Rattle.nor_words.specs.declared.job.Wanted.TheVariants as wanted
+use Rattle.nor_words.specs.declared.programmer.Emulated.{Emulated}
 use Rattle.nor_words.specs.declared.programmer.Programmer.{Programmer}
 use Rattle.flashnor.specs.Changes.{HasChanged, HasRestored}
-use Rattle.flashnor.specs.Chips.{FailsToOpen, Opens}
+use Rattle.flashnor.specs.Chips.{ArePutBack, FailsToOpen, IsContentOf, Opens}
+use Rattle.flashnor.specs.Events.{FileEvent, IsRead}
 use Rattle.flashnor.specs.Files.{IsLogging, IsMaking, IsMakingNew, IsReading}
 use Rattle.flashnor.specs.Readings.{HasFound, HasRead, HasTold, HasVerified, ListsRanges, TellsFound, TellsGuarded, TellsSize}
-use Rattle.flashnor.specs.Requests.{AreRangesOf, FailsToInclude, request_for}
+use Rattle.flashnor.specs.Requests.{AreRangesOf, FailsToInclude, IsBufferOf, request_for}
 use Rattle.flashnor.specs.declared.answers.Answer.{Answer}
 use Rattle.flashnor.specs.declared.answers.Answer.TheVariants as answer
 use Rattle.flashnor.specs.declared.chips.Content.{Content}
+use Rattle.flashnor.specs.declared.chips.Unwritten.{Unwritten}
 use Rattle.flashnor.specs.declared.messages.Fault.{Fault}
 use Rattle.flashnor.specs.declared.messages.Fault.TheVariants as end
 
@@ -40,45 +45,46 @@ abbrev pub keeps : Keeping → Bool
 keeps (keeping.Journal file) = true
 keeps (keeping.Rehearse stops) = false
 
--- A change was asked for, in these ranges and with this image.
-pub record DoesChange (named : Option (Bor Text)) (change : Change) (old new : BusState) (outcome : Result Answer Refusal) : Type 0 where
+-- A change was asked for, in the ranges of the regions and with the image.
+pub record DoesChange (happened : FileEvent → Type 0) (chip : Emulated) (named : Option (Bor Text)) (change : Change) (old new : BusState) (outcome : Result Answer Refusal) : Type 0 where
   pub ranges : Option (List Span)
+  pub included : AreRangesOf happened change.regions ranges
   pub image : List ℕ
-  pub included : AreRangesOf change.regions ranges
-  pub vault : VaultState
-  pub vault' : VaultState
-  pub fresh : IsFresh vault
-  pub changed : HasChanged (request_for change named ranges) image change.keeping old new vault vault' outcome
+  pub buffer : IsBufferOf happened chip change.wanted image
+  pub changed : HasChanged happened (request_for change named ranges) image change.keeping old new outcome
 
--- The chip was read out in the ranges of the regions, if there are any.
-pub record DoesRead (named : Option (Bor Text)) (regions : Option Regions) (old new : BusState) (outcome : Result Answer Refusal) : Type 0 where
+-- The chip was read out into the file in the ranges of the regions, if there are any.
+pub record DoesRead (happened : FileEvent → Type 0) (named : Option (Bor Text)) (file : Text) (regions : Option Regions) (old new : BusState) (outcome : Result Answer Refusal) : Type 0 where
   pub ranges : Option (List Span)
-  pub included : AreRangesOf regions ranges
-  pub read : HasRead named ranges old new outcome
+  pub included : AreRangesOf happened regions ranges
+  pub read : HasRead happened named file ranges old new outcome
 
--- It was compared with some image in these ranges.
-pub record DoesVerify (named : Option (Bor Text)) (regions : Option Regions) (old new : BusState) (outcome : Result Answer Refusal) : Type 0 where
+-- It was compared in these ranges with the image in the file, of which at most one byte more is read than the largest
+-- chip has.
+pub record DoesVerify (happened : FileEvent → Type 0) (named : Option (Bor Text)) (file : Text) (regions : Option Regions) (old new : BusState) (outcome : Result Answer Refusal) : Type 0 where
   pub ranges : Option (List Span)
-  pub included : AreRangesOf regions ranges
+  pub included : AreRangesOf happened regions ranges
   pub image : List ℕ
+  pub read : IsRead happened file 16777217 image
   pub verified : HasVerified named ranges image old new outcome
 
--- A journal was restored.
-pub record DoesRestore (named : Option (Bor Text)) (old new : BusState) (outcome : Result Answer Refusal) : Type 0 where
+-- The journal in the file was restored, of which at most one byte more is read than the longest journal has.
+pub record DoesRestore (happened : FileEvent → Type 0) (named : Option (Bor Text)) (file : Text) (old new : BusState) (outcome : Result Answer Refusal) : Type 0 where
   pub journal : Journal
   pub sound : IsContent journal
+  pub read : IsRead happened file 16793662 (text journal)
   pub restored : HasRestored journal named old new outcome
 
 -- what the call for a task came to, on a bus to the programmer's chip
-abbrev pub Does : Programmer → Option (Bor Text) → Task → BusState → BusState → Result Answer Refusal → Type 0
-Does programmer named task.Probe old new outcome = HasFound (TellsFound programmer named) programmer named old new outcome
-Does programmer named task.FlashSize old new outcome = HasFound (TellsSize programmer named) programmer named old new outcome
-Does programmer named task.WpStatus old new outcome = HasTold (TellsGuarded named old new) named old new outcome
-Does programmer named task.WpList old new outcome = HasTold (ListsRanges named old new) named old new outcome
-Does programmer named (task.Read file regions) old new outcome = DoesRead named regions old new outcome
-Does programmer named (task.Verify file regions) old new outcome = DoesVerify named regions old new outcome
-Does programmer named (task.Change change) old new outcome = DoesChange named change old new outcome
-Does programmer named (task.Restore journal) old new outcome = DoesRestore named old new outcome
+abbrev pub Does : (FileEvent → Type 0) → Programmer → Option (Bor Text) → Task → BusState → BusState → Result Answer Refusal → Type 0
+Does happened programmer named task.Probe old new outcome = HasFound (TellsFound programmer named) programmer named old new outcome
+Does happened programmer named task.FlashSize old new outcome = HasFound (TellsSize programmer named) programmer named old new outcome
+Does happened programmer named task.WpStatus old new outcome = HasTold (TellsGuarded named old new) named old new outcome
+Does happened programmer named task.WpList old new outcome = HasTold (ListsRanges named old new) named old new outcome
+Does happened programmer named (task.Read file regions) old new outcome = DoesRead happened named file.now regions old new outcome
+Does happened programmer named (task.Verify file regions) old new outcome = DoesVerify happened named file.now regions old new outcome
+Does happened programmer named (task.Change change) old new outcome = DoesChange happened programmer.chip named change old new outcome
+Does happened programmer named (task.Restore journal) old new outcome = DoesRestore happened named journal.now old new outcome
 
 -- after the call the chip is written into its files: it was changed, and that was no rehearsal
 abbrev pub changes_chip : Task → Bool
@@ -86,13 +92,21 @@ changes_chip (task.Change change) = keeps change.keeping
 changes_chip (task.Restore journal) = true
 changes_chip _ = false
 
--- The job's call was made: on a bus to the programmer's chip, as its files tell it.
-pub record IsCalled (job : ChipJob) (outcome : Result Answer Refusal) : Type 0 where
+-- where the task changes the chip, it was put back into its files, and the names of those that couldn't be written are
+-- these; else none was to be written
+abbrev pub AreLeft : Bool → (FileEvent → Type 0) → Programmer → Chip → Unwritten → Type 0
+AreLeft true happened programmer chip unwritten = ArePutBack happened programmer chip unwritten.image unwritten.status
+AreLeft false happened programmer chip unwritten = (unwritten.image ≡ None) × (unwritten.status ≡ None)
+
+-- The job's call was made: on a bus to the programmer's chip, as its files tell it, into which it was put back.
+pub record IsCalled (happened : FileEvent → Type 0) (job : ChipJob) (unwritten : Unwritten) (outcome : Result Answer Refusal) : Type 0 where
   pub content : Content
+  pub read : IsContentOf happened job.programmer content
   pub old : BusState
   pub new : BusState
   pub opened : Opens job.programmer content old
-  pub does : Does job.programmer job.named job.task old new outcome
+  pub does : Does happened job.programmer job.named job.task old new outcome
+  pub left : AreLeft (changes_chip job.task) happened job.programmer new.chip unwritten
 
 -- ---- faults from before the call
 
@@ -108,22 +122,22 @@ FailsToKeep (keeping.Journal file) fault = IsMakingNew file.now fault
 FailsToKeep (keeping.Rehearse stops) fault = ⊥
 
 -- how the reading of a journal may end it
-abbrev pub FailsToRestore : Text → Fault → Type 0
-FailsToRestore name (end.Refused (BadJournal fault)) = (bytes : List ℕ) × HasFault bytes fault
-FailsToRestore name fault = IsReading name fault
+abbrev pub FailsToRestore : (FileEvent → Type 0) → Text → Fault → Type 0
+FailsToRestore happened name (end.Refused (BadJournal fault)) = (bytes : List ℕ) × IsRead happened name 16793662 bytes × HasFault bytes fault
+FailsToRestore happened name fault = IsReading name fault
 
 -- how a task may end a run before its call is made
-abbrev pub FailsBefore : Task → Fault → Type 0
-FailsBefore (task.Read file regions) fault = FailsToInclude regions fault ⊎ IsMaking file.now fault
-FailsBefore (task.Verify file regions) fault = FailsToInclude regions fault ⊎ IsReading file.now fault
-FailsBefore (task.Change change) fault = FailsToInclude change.regions fault ⊎ (FailsToRead change.wanted fault ⊎ FailsToKeep change.keeping fault)
-FailsBefore (task.Restore journal) fault = FailsToRestore journal.now fault
-FailsBefore _ fault = ⊥
+abbrev pub FailsBefore : (FileEvent → Type 0) → Task → Fault → Type 0
+FailsBefore happened (task.Read file regions) fault = FailsToInclude regions fault ⊎ IsMaking file.now fault
+FailsBefore happened (task.Verify file regions) fault = FailsToInclude regions fault ⊎ IsReading file.now fault
+FailsBefore happened (task.Change change) fault = FailsToInclude change.regions fault ⊎ (FailsToRead change.wanted fault ⊎ FailsToKeep change.keeping fault)
+FailsBefore happened (task.Restore journal) fault = FailsToRestore happened journal.now fault
+FailsBefore happened _ fault = ⊥
 
 -- how a job may end without a call: by the chip's files, by the trace's, or by those of its task
-abbrev pub FailsJob : ChipJob → Fault → Type 0
-FailsJob on_chip fault = FailsToOpen on_chip.programmer fault
-    ⊎ (IsSomeAnd on_chip.programmer.trace (λ name. IsLogging name.now fault) ⊎ FailsBefore on_chip.task fault)
+abbrev pub FailsJob : (FileEvent → Type 0) → ChipJob → Fault → Type 0
+FailsJob happened on_chip fault = FailsToOpen on_chip.programmer fault
+    ⊎ (IsSomeAnd on_chip.programmer.trace (λ name. IsLogging name.now fault) ⊎ FailsBefore happened on_chip.task fault)
 
 -- ---- runs
 
@@ -133,18 +147,28 @@ IsToldAs (Ok found) outcome = outcome ≡ Ok found
 IsToldAs (Err refusal) outcome = outcome ≡ Err (end.Refused refusal)
 
 -- A job on a chip ends with what its call came to, or with a fault from before the call.
-abbrev pub EndsJob : ChipJob → Result Answer Fault → Type 0
-EndsJob on_chip (Ok found) = IsCalled on_chip (Ok found)
-EndsJob on_chip (Err (end.Refused refusal)) = IsCalled on_chip (Err refusal) ⊎ FailsJob on_chip (end.Refused refusal)
-EndsJob on_chip (Err fault) = FailsJob on_chip fault
+abbrev pub EndsJob : (FileEvent → Type 0) → ChipJob → Unwritten → Result Answer Fault → Type 0
+EndsJob happened on_chip unwritten (Ok found) = IsCalled happened on_chip unwritten (Ok found)
+EndsJob happened on_chip unwritten (Err (end.Refused refusal)) = IsCalled happened on_chip unwritten (Err refusal) ⊎ FailsJob happened on_chip (end.Refused refusal)
+EndsJob happened on_chip unwritten (Err fault) = FailsJob happened on_chip fault
 
 -- the list of chips is the answer to nothing else
-abbrev pub Answers : Job → Result Answer Fault → Type 0
-Answers job.List (Ok answer.Chips) = ⊤
-Answers job.List _ = ⊥
-Answers (job.Chip on_chip) outcome = EndsJob on_chip outcome
+abbrev pub Answers : (FileEvent → Type 0) → Job → Unwritten → Result Answer Fault → Type 0
+Answers happened job.List unwritten (Ok answer.Chips) = ⊤
+Answers happened job.List unwritten _ = ⊥
+Answers happened (job.Chip on_chip) unwritten outcome = EndsJob happened on_chip unwritten outcome
 
--- A usage fault is that of the words, and all else the answer to the job that the words ask for.
-abbrev pub IsAnswer : List Text → Result Answer Fault → Type 0
-IsAnswer words (Err (end.Usage fault)) = IsFault words fault
-IsAnswer words outcome = (asked : Job) × IsJob words asked × Answers asked outcome
+-- A usage fault is that of the words, and all else the answer to the job that the words ask for, with the names of the
+-- files that couldn't be written.
+abbrev pub IsAnswer : (FileEvent → Type 0) → List Text → Result Answer Fault → Unwritten → Type 0
+IsAnswer happened words (Err (end.Usage fault)) unwritten = IsFault words fault
+IsAnswer happened words outcome unwritten = (asked : Job) × IsJob words asked × Answers happened asked unwritten outcome
+
+-- each file was written
+abbrev pub all_written : Unwritten
+all_written = record { image = None; status = None; trace = None }
+
+-- A run without a fault: the words ask for help; or for a job, which was done, and each file was written.
+abbrev pub Succeeds : (FileEvent → Type 0) → List Text → Type 0
+Succeeds happened words =
+    IsAmong kind.DisplayHelp (refusals_of words) ⊎ ((found : Answer) × IsAnswer happened words (Ok found) all_written)

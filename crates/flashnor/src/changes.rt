@@ -1,28 +1,28 @@
 //! Jobs that change a chip: sessions, rehearsals of them, and restores.
-ghost use Rattle.std.specs.Prelude.{◌≡◌, ◌≤◌, ◌⊎◌, IfOk, IfErr, MatchResult, OnOk, length};
+ghost use Rattle.std.specs.Prelude.{◌≡◌, ◌≤◌, ◌⊎◌, IfOk, IfErr, OnOk, length};
 ghost use Rattle.nor_chip.specs.Chip.{IsSame};
 ghost use Rattle.nor_driver.specs.Looks.{IsCalm};
 ghost use Rattle.nor_journal.specs.Vault.{IsFresh};
 ghost use Rattle.nor_session.specs.Modelled.{IsModelled};
-ghost use Rattle.flashnor.specs.Changes.{GivesUp, HasChanged, HasRehearsed, HasRestored, Passes, ProbeRefuses, TellsDone};
-ghost use Rattle.flashnor.specs.Requests.{FailsToInclude};
+ghost use Rattle.flashnor.specs.Changes.{HasChanged, HasKept, HasRehearsed, HasRestored, Passes, ProbeRefuses};
+ghost use Rattle.flashnor.specs.Requests.{FailsToInclude, IsBufferOf};
 ghost use Rattle.flashnor.specs.Run.{DoesChange, DoesRestore, FailsToKeep, FailsToRead, FailsToRestore};
 
 use crate::answers::Answer;
 use crate::chips::erased;
-use crate::files::{MOST_IMAGE_BYTES, MOST_JOURNAL_BYTES, create_new, read_file};
+use crate::files::{MOST_IMAGE_BYTES, MOST_JOURNAL_BYTES, make, read_file};
 use crate::messages::Fault;
 use crate::requests::{read_included, read_name, request_for};
+use crate::stores::Store;
 use nor_chip::{Bus, Meter};
-use nor_journal::{FileVault, Journal, MemVault, Vault};
+use nor_journal::{Journal, MemVault, Vault};
 use nor_probe::probe;
 use nor_session::{Refusal, Request, rehearse, restore, session};
 use nor_words::{Change, Emulated, Keeping, Wanted};
-use std::rt::Files;
 
 /// Changes the chip, or rehearses that. A fault is one from before the session.
 #[tactic(auto, using(crate::proofs::Doing::does_change))]
-pub fn change_chip<'a, R: Files + AllocGlobal, B: Meter>(
+pub fn change_chip<'a, R: Store, B: Meter>(
     rt: &R,
     bus: &mut B,
     chip: Emulated,
@@ -30,7 +30,7 @@ pub fn change_chip<'a, R: Files + AllocGlobal, B: Meter>(
     change: &Change<'a>,
 ) -> Result<Result<Answer, Refusal>, Fault<'a>>
     ensures ok { IsModelled (B.state bus.old) → IsCalm (B.state bus.old)
-        → IfOk result (DoesChange named.entry change.now (B.state bus.old) (B.state bus.new)) }
+        → IfOk result (DoesChange (R.happened rt.now) chip named.entry change.now (B.state bus.old) (B.state bus.new)) }
     ensures err { IfErr result (λ fault. FailsToInclude change.now.regions fault
         ⊎ (FailsToRead change.now.wanted fault ⊎ FailsToKeep change.now.keeping fault)) }
 {
@@ -43,12 +43,13 @@ pub fn change_chip<'a, R: Files + AllocGlobal, B: Meter>(
 }
 
 // The buffer of a session: for a write the image, for an erase as many bytes as the chip has.
-fn read_wanted<'a, R: Files + AllocGlobal>(
+fn read_wanted<'a, R: Store>(
     rt: &R,
     chip: Emulated,
     wanted: Wanted<'a>,
 ) -> Result<Vec<u8>, Fault<'a>>
-    ensures { IfErr result (FailsToRead wanted.entry) }
+    ensures ok { IfOk result (λ image. IsBufferOf (R.happened rt.now) chip wanted.entry image.items) }
+    ensures err { IfErr result (FailsToRead wanted.entry) }
 {
     match wanted {
         Wanted::Write { image } => read_file(rt, image, MOST_IMAGE_BYTES),
@@ -58,7 +59,7 @@ fn read_wanted<'a, R: Files + AllocGlobal>(
 }
 
 // Runs the session of a request with its journal in a file, or rehearses it with the journal in this vault.
-fn change_with<'a, R: Files, B: Meter>(
+fn change_with<'a, R: Store, B: Meter>(
     rt: &R,
     bus: &mut B,
     vault: &mut MemVault,
@@ -68,13 +69,12 @@ fn change_with<'a, R: Files, B: Meter>(
 ) -> Result<Result<Answer, Refusal>, Fault<'a>>
     requires { IsFresh (⟦<MemVault as Vault>⟧.state vault.old) }
     ensures ok { IsModelled (B.state bus.old) → IsCalm (B.state bus.old)
-        → IfOk result (HasChanged request.now image.old keeping.now (B.state bus.old) (B.state bus.new)
-        (⟦<MemVault as Vault>⟧.state vault.old) (⟦<MemVault as Vault>⟧.state vault.new)) }
+        → IfOk result (HasChanged (R.happened rt.now) request.now image.old keeping.now (B.state bus.old) (B.state bus.new)) }
     ensures err { IfErr result (FailsToKeep keeping.now) }
 {
     match keeping {
         Keeping::Journal { file } => {
-            let mut journal = FileVault::new(create_new(rt, *file)?);
+            let mut journal = make(rt, *file)?;
             Ok(keep_change(bus, &mut journal, image, request))
         }
         Keeping::Rehearse { stops } => Ok(rehearse_change(
@@ -88,7 +88,7 @@ fn change_with<'a, R: Files, B: Meter>(
 }
 
 // Runs the session of a request, which keeps its journal in this vault.
-#[tactic(auto, using(crate::proofs::Changed::gives_up))]
+#[tactic(auto, using(crate::proofs::Changed::kept_done, crate::proofs::Changed::kept_refused))]
 fn keep_change<B: Bus, V: Vault>(
     bus: &mut B,
     vault: &mut V,
@@ -97,8 +97,8 @@ fn keep_change<B: Bus, V: Vault>(
 ) -> Result<Answer, Refusal>
     requires { IsFresh (V.state vault.old) }
     ensures { IsModelled (B.state bus.old) → IsCalm (B.state bus.old)
-        → MatchResult result (TellsDone request.now image.old (B.state bus.old) (B.state bus.new))
-        (GivesUp request.now image.old (B.state bus.old) (B.state bus.new)) }
+        → HasKept request.now image.old (B.state bus.old) (B.state bus.new)
+        (V.state vault.old) (V.state vault.new) result }
 {
     let report = session(bus, vault, image, request)?;
     Ok(Answer::Done(report))
@@ -123,15 +123,15 @@ fn rehearse_change<B: Meter>(
 }
 
 /// Makes the chip again what the journal in the file of this name says. A fault is one from before the restore.
-pub fn restore_chip<'a, R: Files + AllocGlobal, B: Bus>(
+pub fn restore_chip<'a, R: Store, B: Bus>(
     rt: &R,
     bus: &mut B,
     named: Option<&str>,
     journal: &'a str,
 ) -> Result<Result<Answer, Refusal>, Fault<'a>>
     ensures ok { IsModelled (B.state bus.old) → IsCalm (B.state bus.old)
-        → IfOk result (DoesRestore named.entry (B.state bus.old) (B.state bus.new)) }
-    ensures err { IfErr result (FailsToRestore journal.now) }
+        → IfOk result (DoesRestore (R.happened rt.now) named.entry journal.now (B.state bus.old) (B.state bus.new)) }
+    ensures err { IfErr result (FailsToRestore (R.happened rt.now) journal.now) }
 {
     let text = read_file(rt, journal, MOST_JOURNAL_BYTES)?;
     match Journal::read(&text) {

@@ -1,19 +1,17 @@
 //! The emulated chip: what its files tell of it, and the bus to it.
-ghost use Rattle.std.specs.Prelude.{◌≡◌, ◌∷◌, [], IfOk, IfErr, IfSome, OnSome, Some, replicate, unwrap_or, vec_len};
+ghost use Rattle.std.specs.Prelude.{◌≡◌, ◌∷◌, [], IfOk, IfErr, IfSome, IsSomeAnd, option_map, replicate, unwrap_or, vec_len};
 ghost use Rattle.nor_chip.specs.Sim.{fill_of, pace_of};
-ghost use Rattle.flashnor.specs.Chips.{FailsToOpen, Holds, IsConfigWith, Opens};
-ghost use Rattle.flashnor.specs.Files.{AreFrom, IsOpening};
+ghost use Rattle.flashnor.specs.Chips.{ArePutBack, FailsToOpen, Holds, IsConfigWith, IsContentOf, Opens};
+ghost use Rattle.flashnor.specs.Events.{AreOfFile, IsFound, IsPutBack};
+ghost use Rattle.flashnor.specs.Files.{IsOpening};
 ghost use Rattle.flashnor.specs.Found.{part_of};
 
-use crate::files::{read_up_to, reading, write_anew};
+use crate::files::reading;
 use crate::messages::{Fault, FileFault};
+use crate::stores::Store;
 use nor_chip::{Bus, Config, Delays, Meter, SimBus};
 use nor_words::Programmer;
 use std::alloc::{AllocError, Global};
-use std::fs::OpenFile;
-use std::io::{ErrorKind, Read};
-use std::rt::Files;
-use std::{fs, io};
 
 /// What a chip starts with: as many bytes as it has, and its two status bytes.
 #[derive(Drop)]
@@ -23,11 +21,9 @@ pub struct Content {
 }
 
 /// Reads the chip's files: FFh and clear status bytes where none is named or there.
-pub fn read_content<'a, R: Files + AllocGlobal>(
-    rt: &R,
-    programmer: &Programmer<'a>,
-) -> Result<Content, Fault<'a>>
-    ensures ok { IfOk result (λ content. vec_len content.bytes ≡ (part_of programmer.now.chip).size) }
+pub fn read_content<'a, R: Store>(rt: &R, programmer: &Programmer<'a>) -> Result<Content, Fault<'a>>
+    ensures len { IfOk result (λ content. vec_len content.bytes ≡ (part_of programmer.now.chip).size) }
+    ensures ok { IfOk result (IsContentOf (R.happened rt.now) programmer.now) }
     ensures err { IfErr result (FailsToOpen programmer.now) }
 {
     let bytes = read_image(rt, programmer)?;
@@ -37,87 +33,53 @@ pub fn read_content<'a, R: Files + AllocGlobal>(
 
 // The chip's bytes.
 #[tactic(auto, using(crate::proofs::Ready::size_emulated))]
-fn read_image<'a, R: Files + AllocGlobal>(
-    rt: &R,
-    programmer: &Programmer<'a>,
-) -> Result<Vec<u8>, Fault<'a>>
+fn read_image<'a, R: Store>(rt: &R, programmer: &Programmer<'a>) -> Result<Vec<u8>, Fault<'a>>
     ensures len { IfOk result (λ bytes. vec_len bytes ≡ (part_of programmer.now.chip).size) }
+    ensures ok { let size = (part_of programmer.now.chip).size in
+        IfOk result (λ bytes. AreOfFile (R.happened rt.now) programmer.now.image size (replicate size 255) bytes.items) }
     ensures err { IfErr result (FailsToOpen programmer.now) }
 {
     let size = programmer.chip.config().size;
-    match programmer.image {
-        Some(name) => Ok(image_in(rt.alloc(), fs::open(rt, name), name, size)?),
+    match read_whole(rt, programmer.image, size)? {
+        Some(bytes) => Ok(bytes),
         None => Ok(erased(rt.alloc(), size)?),
     }
 }
 
 // The chip's status bytes.
-fn read_status<'a, R: Files + AllocGlobal>(
-    rt: &R,
-    programmer: &Programmer<'a>,
-) -> Result<[u8; 2], Fault<'a>>
-    ensures { IfErr result (FailsToOpen programmer.now) }
+fn read_status<'a, R: Store>(rt: &R, programmer: &Programmer<'a>) -> Result<[u8; 2], Fault<'a>>
+    ensures ok { IfOk result (λ status. AreOfFile (R.happened rt.now) programmer.now.status 2 (0 ∷ 0 ∷ []) status) }
+    ensures err { IfErr result (FailsToOpen programmer.now) }
 {
-    match programmer.status {
-        Some(name) => Ok(status_in(rt.alloc(), fs::open(rt, name), name)?),
+    match read_whole(rt, programmer.status, 2)? {
+        Some(bytes) => Ok([bytes[0], bytes[1]]),
         None => Ok([0, 0]),
     }
 }
 
-// The bytes of a chip of this size in a file that was to be opened, or FFh where it is missing.
-fn image_in<F: Read + OpenFile + Drop>(
-    alloc: Global,
-    opened: io::Result<F>,
-    name: &str,
-    size: u32,
-) -> Result<Vec<u8>, Fault<'_>>
-    ensures len { IfOk result (λ bytes. vec_len bytes ≡ size) }
-    ensures from { IfOk result (λ bytes. AreFrom F.remaining (replicate size 255) opened bytes.items) }
-    ensures err { IfErr result (IsOpening name.now) }
-{
-    match opened {
-        Ok(file) => read_whole(alloc, file, name, size),
-        Err(error) if error.kind() == ErrorKind::NotFound => Ok(erased(alloc, size)?),
-        Err(error) => Err(reading(error, name)),
-    }
-}
-
-// The two status bytes in a file that was to be opened, or clear ones where it is missing.
-fn status_in<F: Read + OpenFile + Drop>(
-    alloc: Global,
-    opened: io::Result<F>,
-    name: &str,
-) -> Result<[u8; 2], Fault<'_>>
-    ensures from { IfOk result (λ status. AreFrom F.remaining (0 ∷ 0 ∷ []) opened status) }
-    ensures err { IfErr result (IsOpening name.now) }
-{
-    match opened {
-        Ok(file) => {
-            let bytes = read_whole(alloc, file, name, 2)?;
-            Ok([bytes[0], bytes[1]])
-        }
-        Err(error) if error.kind() == ErrorKind::NotFound => Ok([0, 0]),
-        Err(error) => Err(reading(error, name)),
-    }
-}
-
-// The bytes of a file that has so many.
-fn read_whole<F: Read + OpenFile + Drop>(
-    alloc: Global,
-    file: F,
-    name: &str,
+// The bytes of a chip's file, which has so many, if one is named and there.
+fn read_whole<'a, R: Store>(
+    rt: &R,
+    name: Option<&'a str>,
     len: u32,
-) -> Result<Vec<u8>, Fault<'_>>
-    ensures len { IfOk result (λ bytes. vec_len bytes ≡ len) }
-    ensures all { IfOk result (λ bytes. IfSome (F.remaining file) (λ all. bytes.items ≡ all)) }
-    ensures err { IfErr result (IsOpening name.now) }
+) -> Result<Option<Vec<u8>>, Fault<'a>>
+    ensures len { IfOk result (λ found. IfSome found (λ bytes. vec_len bytes ≡ len)) }
+    ensures ok { IfOk result (λ found. IsFound (R.happened rt.now) name.entry len (option_map (λ bytes. bytes.items) found)) }
+    ensures err { IfErr result (λ fault. IsSomeAnd name.entry (λ given. IsOpening given.now fault)) }
 {
-    let bytes = read_up_to(alloc, file, name, u64::from(len) + 1)?;
+    let Some(name) = name else {
+        return Ok(None);
+    };
+    let bytes = match rt.read_named(name, u64::from(len) + 1) {
+        Ok(Some(bytes)) => bytes,
+        Ok(None) => return Ok(None),
+        Err(error) => return Err(reading(error, name)),
+    };
     if bytes.len() != len as usize {
         let fault = FileFault::Length;
         return Err(Fault::File { fault, name });
     }
-    Ok(bytes)
+    Ok(Some(bytes))
 }
 
 /// The bytes of an erased chip of this size.
@@ -178,13 +140,12 @@ pub struct Unwritten<'a> {
 
 /// Writes the chip's bytes and status bytes into the files that are named, the second also where the first can't be
 /// written. Answers the names of those that can't.
-pub fn write_back<'a, R: Files>(
+pub fn write_back<'a, R: Store>(
     rt: &R,
     programmer: &Programmer<'a>,
     bus: &SimBus,
 ) -> (Option<&'a str>, Option<&'a str>)
-    ensures image { OnSome result.0 (result.0 ≡ programmer.now.image) }
-    ensures status { OnSome result.1 (result.1 ≡ programmer.now.status) }
+    ensures { ArePutBack (R.happened rt.now) programmer.now (⟦<SimBus as Bus>⟧.state bus.now).chip result.0 result.1 }
 {
     let image = put_back(rt, programmer.image, bus.bytes());
     let status = put_back(rt, programmer.status, &bus.status());
@@ -192,10 +153,10 @@ pub fn write_back<'a, R: Files>(
 }
 
 // Writes these bytes into the file of this name, if one is given, and answers its name where that fails.
-fn put_back<'a, R: Files>(rt: &R, name: Option<&'a str>, bytes: &[u8]) -> Option<&'a str>
-    ensures { OnSome result (result ≡ name.entry) }
+fn put_back<'a, R: Store>(rt: &R, name: Option<&'a str>, bytes: &[u8]) -> Option<&'a str>
+    ensures { IsPutBack (R.happened rt.now) name.entry (λ put. put ≡ bytes.now) result }
 {
-    match write_anew(rt, name?, bytes) {
+    match rt.write_named(name?, bytes) {
         Ok(()) => None,
         Err(_) => name,
     }

@@ -2,17 +2,21 @@
 ghost use Rattle.std.specs.Prelude.{◌≡◌, ◌↔◌, IfOk, IfErr, IfSome, take};
 ghost use Rattle.std.specs.IoError.{error_kind};
 ghost use Rattle.std.specs.declared.io.ErrorKind.TheVariants as Kinds;
+ghost use Rattle.nor_journal.specs.Vault.{IsFresh};
+ghost use Rattle.flashnor.specs.Events.{IsRead};
+ghost use Rattle.flashnor.specs.Events.FileEvent.{Emptied, Made};
 ghost use Rattle.flashnor.specs.Files.{IsReading, IsMaking, IsMakingNew, IsLogging};
 ghost use Rattle.flashnor.specs.declared.messages.Fault.TheVariants as Faults;
+ghost use Rattle.flashnor.specs.declared.messages.FileFault.TheVariants as FileFaults;
 ghost use Rattle.nor_save.specs.declared.refusal.Refusal.TheVariants as Refusals;
 
 use crate::messages::{Fault, FileFault};
+use crate::stores::Store;
 use nor_session::Refusal;
 use std::alloc::Global;
-use std::fs::{File, OpenFile};
+use std::fs::OpenFile;
+use std::io;
 use std::io::{BufWriter, ErrorKind, Read, Write};
-use std::rt::Files;
-use std::{fs, io};
 
 /// So many bytes of an image's file are read: one more than the largest chip has, so that an image that is too long is
 /// seen to be.
@@ -25,31 +29,23 @@ pub const MOST_JOURNAL_BYTES: u64 = 16_793_662;
 pub const MOST_LAYOUT_BYTES: u64 = 16_777_216;
 
 /// The bytes of the file of this name, of which at most so many are read.
-pub fn read_file<'a, R: Files + AllocGlobal>(
-    rt: &R,
-    name: &'a str,
-    most: u64,
-) -> Result<Vec<u8>, Fault<'a>>
-    ensures { IfErr result (IsReading name.now) }
+pub fn read_file<'a, R: Store>(rt: &R, name: &'a str, most: u64) -> Result<Vec<u8>, Fault<'a>>
+    ensures ok { IfOk result (λ bytes. IsRead (R.happened rt.now) name.now most bytes.items) }
+    ensures err { IfErr result (IsReading name.now) }
 {
-    match fs::open(rt, name) {
-        Ok(file) => read_up_to(rt.alloc(), file, name, most),
+    match rt.read_named(name, most) {
+        Ok(Some(bytes)) => Ok(bytes),
+        Ok(None) => Err(unread(name)),
         Err(error) => Err(reading(error, name)),
     }
 }
 
 /// What the file has, of which at most so many bytes are read, into memory that is taken once where the file tells its
 /// length.
-pub fn read_up_to<F: Read + OpenFile>(
-    alloc: Global,
-    file: F,
-    name: &str,
-    most: u64,
-) -> Result<Vec<u8>, Fault<'_>>
+pub fn read_up_to<F: Read + OpenFile>(alloc: Global, file: F, most: u64) -> io::Result<Vec<u8>>
 where
     F: Drop,
-    ensures ok { IfOk result (λ bytes. IfSome (F.remaining file) (λ all. bytes.items ≡ take most all)) }
-    ensures err { IfErr result (IsReading name.now) }
+    ensures { IfOk result (λ bytes. IfSome (F.remaining file) (λ all. bytes.items ≡ take most all)) }
 {
     let told = match file.metadata() {
         Ok(metadata) => metadata.len().min(most),
@@ -58,10 +54,8 @@ where
     // One more than there are, so that the read that finds the end has room.
     let room = (told as usize).saturating_add(1);
     let mut bytes = Vec::with_capacity(alloc, room)?;
-    match file.take(most).read_to_end(&mut bytes) {
-        Ok(_) => Ok(bytes),
-        Err(error) => Err(reading(error, name)),
-    }
+    file.take(most).read_to_end(&mut bytes)?;
+    Ok(bytes)
 }
 
 /// The fault of a file that can't be opened or read.
@@ -71,26 +65,33 @@ pub fn reading(error: io::Error, name: &str) -> Fault<'_>
 {
     match error.kind() {
         ErrorKind::OutOfMemory => Fault::Refused(Refusal::Memory),
-        _ => {
-            let fault = FileFault::Read;
-            Fault::File { fault, name }
-        }
+        _ => unread(name),
     }
 }
 
-/// The file of this name, made or emptied.
-pub fn create<'a, R: Files>(rt: &R, name: &'a str) -> Result<R::File, Fault<'a>>
-    ensures { IfErr result (IsMaking name.now) }
+// The fault of a file that is to be read and isn't there, or fails.
+fn unread(name: &str) -> Fault<'_>
+    ensures { result ≡ Faults.File FileFaults.Read name.entry }
 {
-    fs::create(rt, name).map_err(|_| writing(name))
+    let fault = FileFault::Read;
+    Fault::File { fault, name }
 }
 
-/// The file of this name, which wasn't there before.
-pub fn create_new<'a, R: Files>(rt: &R, name: &'a str) -> Result<R::File, Fault<'a>>
-    ensures { IfErr result (IsMakingNew name.now) }
+/// A vault in the file of this name, which is made or emptied.
+pub fn empty<'a, R: Store>(rt: &R, name: &'a str) -> Result<R::Kept, Fault<'a>>
+    ensures ok { IfOk result (λ vault. IsFresh (R.Kept.state vault) × R.happened rt.now (Emptied name.now (R.Kept.state vault))) }
+    ensures err { IfErr result (IsMaking name.now) }
 {
-    match File::create_new(rt, name) {
-        Ok(file) => Ok(file),
+    rt.vault_in(name).map_err(|_| writing(name))
+}
+
+/// A vault in the file of this name, which wasn't there before.
+pub fn make<'a, R: Store>(rt: &R, name: &'a str) -> Result<R::Kept, Fault<'a>>
+    ensures ok { IfOk result (λ vault. IsFresh (R.Kept.state vault) × R.happened rt.now (Made name.now (R.Kept.state vault))) }
+    ensures err { IfErr result (IsMakingNew name.now) }
+{
+    match rt.vault_in_new(name) {
+        Ok(vault) => Ok(vault),
         Err(error) if error.kind() == ErrorKind::AlreadyExists => {
             let fault = FileFault::Exists;
             Err(Fault::File { fault, name })
@@ -100,13 +101,10 @@ pub fn create_new<'a, R: Files>(rt: &R, name: &'a str) -> Result<R::File, Fault<
 }
 
 /// The file of this name, made or emptied, with a buffer.
-pub fn create_log<'a, R: Files + AllocGlobal>(
-    rt: &R,
-    name: &'a str,
-) -> Result<BufWriter<R::File>, Fault<'a>>
+pub fn create_log<'a, R: Store>(rt: &R, name: &'a str) -> Result<BufWriter<R::Log>, Fault<'a>>
     ensures { IfErr result (IsLogging name.now) }
 {
-    let file = create(rt, name)?;
+    let file = rt.log_in(name).map_err(|_| writing(name))?;
     BufWriter::new(rt.alloc(), file).map_err(|_| Fault::Refused(Refusal::Memory))
 }
 
@@ -118,12 +116,7 @@ pub fn writing(name: &str) -> Fault<'_>
     Fault::File { fault, name }
 }
 
-/// Writes these bytes into the file of this name, in place of what it has.
-pub fn write_anew<R: Files>(rt: &R, name: &str, bytes: &[u8]) -> io::Result<()> {
-    put_all(fs::create(rt, name)?, bytes)
-}
-
-// Writes these bytes into an empty file, all at once.
-fn put_all<F: Write + Drop>(mut file: F, bytes: &[u8]) -> io::Result<()> {
+/// Writes these bytes into an empty file, all at once.
+pub fn put_all<F: Write + Drop>(mut file: F, bytes: &[u8]) -> io::Result<()> {
     file.write_all(bytes)
 }

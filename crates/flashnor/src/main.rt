@@ -12,6 +12,7 @@ mod messages;
 mod readings;
 mod requests;
 mod run;
+mod stores;
 #[cfg(test)]
 mod tests;
 

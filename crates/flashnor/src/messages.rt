@@ -1,5 +1,6 @@
 //! What the program prints: each message is one line.
-ghost use Rattle.std.specs.Prelude.{◌≡◌};
+ghost use Rattle.std.specs.Prelude.{◌≡◌, true, is_none};
+ghost use Rattle.flashnor.specs.Run.{all_written};
 
 use crate::answers::Answer;
 use crate::chips::Unwritten;
@@ -255,17 +256,23 @@ pub fn print_fault<W: Write>(errors: &mut W, fault: Fault<'_>) -> u8
 
 /// Prints a line for each file that couldn't be written after a call, and tells whether there is none. A line that
 /// can't be printed is lost.
-pub fn print_unwritten<W: Write>(errors: &mut W, unwritten: Unwritten<'_>) -> bool {
-    let Unwritten {
-        image,
-        status,
-        trace,
-    } = unwritten;
-    let mut written = true;
-    for name in [image, status, trace].into_iter().flatten() {
-        let fault = FileFault::Write;
-        print_fault(errors, Fault::File { fault, name });
-        written = false;
-    }
-    written
+pub fn print_unwritten<W: Write>(errors: &mut W, unwritten: Unwritten<'_>) -> bool
+    ensures { result ≡ true → unwritten.entry ≡ all_written }
+{
+    let image = print_unwritten_file(errors, unwritten.image);
+    let status = print_unwritten_file(errors, unwritten.status);
+    let trace = print_unwritten_file(errors, unwritten.trace);
+    image && status && trace
+}
+
+// Prints the line of a file that couldn't be written, if this names one, and tells whether it names none.
+fn print_unwritten_file<W: Write>(errors: &mut W, name: Option<&str>) -> bool
+    ensures { result ≡ is_none name.entry }
+{
+    let Some(name) = name else {
+        return true;
+    };
+    let fault = FileFault::Write;
+    print_fault(errors, Fault::File { fault, name });
+    false
 }

@@ -10,16 +10,15 @@ ghost use Rattle.flashnor.specs.Requests.{FailsToInclude};
 ghost use Rattle.flashnor.specs.Run.{DoesRead, DoesVerify};
 
 use crate::answers::Answer;
-use crate::files::{MOST_IMAGE_BYTES, create, read_file};
+use crate::files::{MOST_IMAGE_BYTES, empty, read_file};
 use crate::messages::Fault;
 use crate::requests::{read_included, read_name};
+use crate::stores::Store;
 use nor_chip::{Bus, offered};
-use nor_journal::FileVault;
 use nor_probe::{Found, probe};
 use nor_read::{read_out, verify, wp_status};
 use nor_session::Refusal;
 use nor_words::Regions;
-use std::rt::Files;
 
 /// Finds the chip.
 pub fn find_chip<B: Bus>(bus: &mut B, named: Option<&str>) -> Result<Answer, Refusal>
@@ -71,18 +70,18 @@ pub fn list_ranges<B: Bus>(bus: &mut B, named: Option<&str>) -> Result<Answer, R
 }
 
 /// Reads the chip into the file of this name. A fault is one from before that.
-pub fn read_chip<'a, R: Files + AllocGlobal, B: Bus>(
+pub fn read_chip<'a, R: Store, B: Bus>(
     rt: &R,
     bus: &mut B,
     named: Option<&str>,
     file: &'a str,
     regions: Option<Regions<'a>>,
 ) -> Result<Result<Answer, Refusal>, Fault<'a>>
-    ensures ok { IfOk result (DoesRead named.entry regions.entry (B.state bus.old) (B.state bus.new)) }
+    ensures ok { IfOk result (DoesRead (R.happened rt.now) named.entry file.now regions.entry (B.state bus.old) (B.state bus.new)) }
     ensures err { IfErr result (λ fault. FailsToInclude regions.entry fault ⊎ IsMaking file.now fault) }
 {
     let included = read_included(rt, regions)?;
-    let mut out = FileVault::new(create(rt, file)?);
+    let mut out = empty(rt, file)?;
     match read_out(bus, included.as_ref(), read_name(named), &mut out) {
         Ok(report) => Ok(Ok(Answer::Read(report))),
         Err(refusal) => Ok(Err(refusal)),
@@ -90,14 +89,14 @@ pub fn read_chip<'a, R: Files + AllocGlobal, B: Bus>(
 }
 
 /// Compares the chip with the image in the file of this name. A fault is one from before that.
-pub fn verify_chip<'a, R: Files + AllocGlobal, B: Bus>(
+pub fn verify_chip<'a, R: Store, B: Bus>(
     rt: &R,
     bus: &mut B,
     named: Option<&str>,
     file: &'a str,
     regions: Option<Regions<'a>>,
 ) -> Result<Result<Answer, Refusal>, Fault<'a>>
-    ensures ok { IfOk result (DoesVerify named.entry regions.entry (B.state bus.old) (B.state bus.new)) }
+    ensures ok { IfOk result (DoesVerify (R.happened rt.now) named.entry file.now regions.entry (B.state bus.old) (B.state bus.new)) }
     ensures err { IfErr result (λ fault. FailsToInclude regions.entry fault ⊎ IsReading file.now fault) }
 {
     let included = read_included(rt, regions)?;

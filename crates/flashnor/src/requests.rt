@@ -5,12 +5,12 @@ ghost use Rattle.flashnor.specs.Requests.{AreIncluded, AreRangesOf, FailsToInclu
 
 use crate::files::{MOST_LAYOUT_BYTES, read_file};
 use crate::messages::{Fault, FileFault};
+use crate::stores::Store;
 use nor_layout::{Layout, LayoutFault, Ranges};
 use nor_probe::ChipName;
 use nor_session::{Request, What};
 use nor_words::{Change, Regions, Wanted};
 use std::alloc::Global;
-use std::rt::Files;
 
 /// The chip's name that the text says, if there is one.
 pub fn read_name(named: Option<&str>) -> Option<ChipName>
@@ -20,11 +20,11 @@ pub fn read_name(named: Option<&str>) -> Option<ChipName>
 }
 
 /// The addresses of the regions, if there are any; their layout is read from its file.
-pub fn read_included<'a, R: Files + AllocGlobal>(
+pub fn read_included<'a, R: Store>(
     rt: &R,
     regions: Option<Regions<'a>>,
 ) -> Result<Option<Ranges>, Fault<'a>>
-    ensures ok { IfOk result (AreRangesOf regions.entry) }
+    ensures ok { IfOk result (AreRangesOf (R.happened rt.now) regions.entry) }
     ensures err { IfErr result (FailsToInclude regions.entry) }
 {
     let Some(Regions { layout, names }) = regions else {

@@ -3,7 +3,8 @@ ghost use Rattle.std.specs.Prelude.{◌≡◌, ◌≤◌, ◌⊎◌, IfOk, IfErr
 ghost use Rattle.nor_words.specs.Words.{IsRefused};
 ghost use Rattle.flashnor.specs.Chips.{IsReady, Opens};
 ghost use Rattle.flashnor.specs.Files.{IsLogging};
-ghost use Rattle.flashnor.specs.Run.{Does, EndsJob, FailsBefore, FailsJob, IsAnswer, IsToldAs, changes_chip};
+ghost use Rattle.flashnor.specs.Events.{unseen};
+ghost use Rattle.flashnor.specs.Run.{AreLeft, Does, EndsJob, FailsBefore, FailsJob, IsAnswer, IsToldAs, Succeeds, changes_chip};
 
 use crate::answers::Answer;
 use crate::changes::{change_chip, restore_chip};
@@ -11,6 +12,7 @@ use crate::chips::{Unwritten, read_content, start, write_back};
 use crate::files::create_log;
 use crate::messages::{Fault, print_answer, print_fault, print_unwritten};
 use crate::readings::{find_chip, list_ranges, read_chip, tell_protection, tell_size, verify_chip};
+use crate::stores::{Disk, Store};
 use clap::error::ErrorKind;
 use nor_chip::{Bus, Meter, SimBus, TraceBus};
 use nor_session::Refusal;
@@ -28,6 +30,22 @@ pub fn run_words<R: Files + AllocGlobal, O: Write, E: Write>(
 ) -> u8
     ensures status { result ≤ 1 }
     ensures refused { IsRefused (map string_bytes words.now) → result ≡ 1 }
+    ensures succeeds { result ≡ 0 → Succeeds unseen (map string_bytes words.now) }
+{
+    run_over(&Disk(rt), words, output, errors)
+}
+
+// The same over any store of files.
+#[tactic(auto, using(crate::proofs::Ended::succeeds_helped, crate::proofs::Ended::succeeds_done))]
+fn run_over<R: Store, O: Write, E: Write>(
+    rt: &R,
+    words: &[String],
+    output: &mut O,
+    errors: &mut E,
+) -> u8
+    ensures status { result ≤ 1 }
+    ensures refused { IsRefused (map string_bytes words.now) → result ≡ 1 }
+    ensures succeeds { result ≡ 0 → Succeeds (R.happened rt.now) (map string_bytes words.now) }
 {
     let Ended { answer, unwritten } = run(rt, words);
     let printed = match answer {
@@ -68,8 +86,8 @@ impl<'a> Ended<'a> {
 
 // Does what the words ask for.
 #[tactic(auto, using(crate::proofs::Ended::answer_ended, crate::proofs::Ended::answer_failed, crate::proofs::Ended::answer_listed, crate::proofs::Ended::answer_usage))]
-fn run<'a, R: Files + AllocGlobal>(rt: &R, words: &'a [String]) -> Ended<'a>
-    ensures { IsAnswer (map string_bytes words.now) result.answer }
+fn run<'a, R: Store>(rt: &R, words: &'a [String]) -> Ended<'a>
+    ensures { IsAnswer (R.happened rt.now) (map string_bytes words.now) result.answer result.unwritten }
 {
     match request_of(rt.alloc(), words) {
         Ok(Job::List) => Ended::before(Ok(Answer::Chips)),
@@ -83,12 +101,9 @@ fn run<'a, R: Files + AllocGlobal>(rt: &R, words: &'a [String]) -> Ended<'a>
 
 // Opens the programmer's chip, does the job's task, and writes the chip into its files where the task changed it. An
 // error is a fault from before the call.
-fn work_on_chip<'a, R: Files + AllocGlobal>(
-    rt: &R,
-    job: &ChipJob<'a>,
-) -> Result<Ended<'a>, Fault<'a>>
-    ensures ok { IfOk result (λ ended. EndsJob job.now ended.answer) }
-    ensures err { IfErr result (FailsJob job.now) }
+fn work_on_chip<'a, R: Store>(rt: &R, job: &ChipJob<'a>) -> Result<Ended<'a>, Fault<'a>>
+    ensures ok { IfOk result (λ ended. EndsJob (R.happened rt.now) job.now ended.unwritten ended.answer) }
+    ensures err { IfErr result (FailsJob (R.happened rt.now) job.now) }
 {
     let content = read_content(rt, &job.programmer)?;
     let bus = start(&job.programmer, content);
@@ -111,12 +126,15 @@ fn told<'a>(answer: Result<Answer, Refusal>) -> Result<Answer, Fault<'a>>
 
 // Writes the chip into its files, where the job changes it and is no rehearsal. Answers which files couldn't be
 // written, the trace beside them.
-fn write_after<'a, R: Files>(
+fn write_after<'a, R: Store>(
     rt: &R,
     job: &ChipJob<'a>,
     bus: &SimBus,
     trace: Option<&'a str>,
-) -> Unwritten<'a> {
+) -> Unwritten<'a>
+    ensures left { AreLeft (changes_chip job.now.task) (R.happened rt.now) job.now.programmer (⟦<SimBus as Bus>⟧.state bus.now).chip result }
+    ensures trace { result.trace ≡ trace.entry }
+{
     let (image, status) = if changes_chip(&job.task) {
         write_back(rt, &job.programmer, bus)
     } else {
@@ -138,16 +156,16 @@ struct Called<'a> {
 }
 
 // Does the job's task, with a trace where one is asked for. An error is a fault from before the call.
-fn call_on<'a, R: Files + AllocGlobal>(
+fn call_on<'a, R: Store>(
     rt: &R,
     mut bus: SimBus,
     job: &ChipJob<'a>,
 ) -> Result<Called<'a>, Fault<'a>>
     ensures ok { let old = ⟦<SimBus as Bus>⟧.state bus in IsReady job.now.programmer old
-        → IfOk result (λ called. Does job.now.programmer job.now.named job.now.task old
+        → IfOk result (λ called. Does (R.happened rt.now) job.now.programmer job.now.named job.now.task old
         (⟦<SimBus as Bus>⟧.state called.bus) called.answer) }
     ensures err { IfErr result (λ fault. IsSomeAnd job.now.programmer.trace (λ name. IsLogging name.now fault)
-        ⊎ FailsBefore job.now.task fault) }
+        ⊎ FailsBefore (R.happened rt.now) job.now.task fault) }
 {
     let Some(name) = job.programmer.trace else {
         let answer = do_task(rt, &mut bus, job)?;
@@ -170,14 +188,15 @@ fn call_on<'a, R: Files + AllocGlobal>(
 
 // Does the job's task on its chip. A fault is one from before the call.
 #[tactic(auto, using(crate::proofs::Ready::modelled_ready, crate::proofs::Ready::calm_ready))]
-fn do_task<'a, R: Files + AllocGlobal, B: Meter>(
+fn do_task<'a, R: Store, B: Meter>(
     rt: &R,
     bus: &mut B,
     job: &ChipJob<'a>,
 ) -> Result<Result<Answer, Refusal>, Fault<'a>>
     ensures ok { IsReady job.now.programmer (B.state bus.old)
-        → IfOk result (Does job.now.programmer job.now.named job.now.task (B.state bus.old) (B.state bus.new)) }
-    ensures err { IfErr result (FailsBefore job.now.task) }
+        → IfOk result (Does (R.happened rt.now) job.now.programmer job.now.named job.now.task
+        (B.state bus.old) (B.state bus.new)) }
+    ensures err { IfErr result (FailsBefore (R.happened rt.now) job.now.task) }
 {
     let named = job.named;
     match &job.task {
