@@ -13,7 +13,7 @@ PREFIX ?= /usr/local
 SEED := 1
 COUNT := 1000
 
-.PHONY: build demo try files bench compare storm install check clean
+.PHONY: build demo try files bench compare storm install agree check clean
 
 # Proves the program and everything below it, builds it, and runs it once.
 build: files
@@ -77,7 +77,11 @@ storm:
 	@cd crates/storm && rt run -- $(SEED) 1 > /dev/null
 	@crates/storm/out/storm $(SEED) $(COUNT)
 
-# The merge gate.
+# Whether the help, README, SPECIFICATION, the manual page and the completion say what the sources say.
+agree:
+	@bash docs/agree.sh
+
+# The merge gate, which begins with that.
 check:
 	@bash .ci/run
 

@@ -1,0 +1,103 @@
+# Printed lines, and faults by their numbers, for agree.sh.
+
+# The line of each refusal: its number is in one source, its words in another.
+refusal_lines() {
+    sed -nE 's/^ *Refusal::([A-Za-z]+).* => ([0-9]+),$/\1 \2/p' crates/nor_save/src/refusal.rt | sort > "$work/numbers"
+    flat $messages | sed 's/Refusal::/\n/g' |
+        sed -nE 's/^([A-Za-z]+)[^"=]*=> [^"]*"([^"]*)".*/\1 \2/p' | sort > "$work/reasons"
+    join -a1 -a2 "$work/numbers" "$work/reasons" | sed -E 's/^[A-Za-z]+ ([0-9]+) (.*)/Error \1: \2./
+        s/\{image\}/I/; s/\{chip\}/C/; s/\{address:#08x\}/0xA/; s/\{written\}/W/; s/\{\}/K/'
+}
+
+# The lines of the other faults.
+fault_lines() {
+    local place
+    place=$(sed -nE 's/.*write!\(f, "( at line \{line\})"\).*/\1/p' $messages)
+    sed -nE 's/.*#\[error\("(\{0\})?((Usage|Layout|File) fault [^"]*)".*/\2/p' $words/words.rt $messages |
+        sed -E "s/\{\}\{\}\./K.\nLayout fault K$place./; s/\{line\}/N/; s/\{name\}/NAME/; s/\{\}|[0-9]+/K/"
+}
+
+# The lines of faults in the tables.
+take_lines() {
+    { refusal_lines; fault_lines; } | keep "lines of faults" program
+    table README.md Line | cut -d'|' -f1 | quoted | keep "lines of faults" README
+    table docs/SPECIFICATION.md Line | cut -d'|' -f1 | quoted | keep "lines of faults" SPECIFICATION
+    { tags Refusals; cut -f2 "$work/manual" | search '"[^"]* fault K[^"]*"' | tr -d '"'; } |
+        keep "lines of faults" manual
+    same "lines of faults" program $pages
+}
+
+# Each refusal that a text shows anywhere, with `_` for what it tells.
+take_shown() {
+    local text mark='s/ (0x[0-9a-fA-F]+|[0-9]+|[ICKW])([ .,])/ _\2/g'
+    sed -E "$mark" "$work/lines of faults of program" | keep "refusals shown" program
+    for text in $pages; do
+        search "Error [0-9]+: [a-zA-Z][a-zA-Z0-9 ,']*\." "$work/flat/$text" | sed -E "$mark" |
+            keep "refusals shown" $text
+        none_but "refusals shown" program $text
+    done
+}
+
+# The lines of answers, with `_` for what they tell.
+take_answers() {
+    local line told='NAME|ID|SIZE|START|LENGTH|SFDP|[TEPXK]|ended|stopped|open|locked'
+    flat $messages | search 'writeln!\( ?output, "[^"]*"' | sed -E 's/.*output, "(.*)"/\1/; s/\{[^}]*\}/_/g' |
+        keep answers program
+    table docs/SPECIFICATION.md Job | cut -d'|' -f2 | quoted > "$work/answers"
+    sed -E "s/[A-Z0-9]+ [0-9a-f]{6} [0-9]+/_ _ _/; s/\b($told)\b/_/g" "$work/answers" | keep answers SPECIFICATION
+    same answers program SPECIFICATION
+    awk -F'\t' '$1 == "OUTPUT" { print $4 }' "$work/manual" > "$work/told"
+    while IFS= read -r line; do
+        grep -qF -- "$line" "$work/told" || differs "answers: SPECIFICATION has '$line', manual hasn't"
+    done < <(grep -v '^W25' "$work/answers")
+}
+
+# The numbers that a source's faults have: as they are written, or counted where the first one is 1.
+numbers_in() {
+    awk '/^}/ { counts = 0 } /^    [A-Z][a-z]* = 1,$/ { counts = 1 } counts && /^    [A-Z]/ { print ++n }
+        match($0, /(Fault::[A-Za-z]+ => |Usage fault )[0-9]+/) { print substr($0, RSTART, RLENGTH) }' "$1" |
+        search '[0-9]+$'
+}
+
+# A list `1 .., 2 ..` that ends with its sentence, an item a line.
+items() { tr -d '`' | sed -E 's/^(.*[.:])? *1 /1 /; s/\. .*//; s/\.? *$//' | sed -E 's/, ([0-9]+ )/\n\1/g'; }
+
+# The faults of a kind by their numbers, in the same words, and those of the source by number alone.
+take_kind() {
+    local kind=$1 source=${2##*/}
+    sed -nE "s/.*\*\*$kind faults\*\*: //p" docs/SPECIFICATION.md | items | keep "$kind faults" SPECIFICATION
+    table README.md Line | grep -iE "^[^|]*$kind fault K" | cut -d'|' -f2 | items | keep "$kind faults" README
+    tags "^$kind faults" | keep "$kind faults" manual
+    same "$kind faults" $pages
+    numbers_in "$2" | keep "numbers of $kind faults" "$source"
+    cut -d' ' -f1 "$work/$kind faults of SPECIFICATION" | keep "numbers of $kind faults" SPECIFICATION
+    same "numbers of $kind faults" "$source" SPECIFICATION
+}
+
+# The options of which lines `N: ..` speak, by the lines' numbers.
+options_by_number() {
+    local number text
+    while read -r number text; do
+        search '(^| )(--?[a-zA-Z][-a-z]*|[a-z]+=)' <<< "$text" | sed "s/^ */${number%:} /"
+    done
+}
+
+# The options that each usage fault is about.
+take_usage_options() {
+    sed -nE 's/^ *\/\/\/ ([0-9]+: .*)/\1/p' $words/words.rt | tr -d '`' | options_by_number |
+        keep "options of usage faults" words.rt
+    options_by_number < "$work/Usage faults of SPECIFICATION" | keep "options of usage faults" SPECIFICATION
+    same "options of usage faults" words.rt SPECIFICATION
+}
+
+take_faults() {
+    take_lines
+    take_shown
+    take_answers
+    take_kind Usage $words/words.rt
+    take_kind Layout crates/nor_layout/src/fault.rt
+    take_kind File $messages
+    take_kind SFDP crates/nor_probe/src/sfdp.rt
+    take_kind Journal crates/nor_journal/src/fault.rt
+    take_usage_options
+}
