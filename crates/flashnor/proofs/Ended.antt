@@ -1,6 +1,6 @@
 -- How calls and jobs end a run.
 use Rattle.std.proofs.Common.{◌≡◌, List, Option, None, Some, Result, Ok, Err, inl, inr, subst}
-use Rattle.std.specs.Prelude.{IsSomeAnd}
+use Rattle.std.specs.Prelude.{IsSomeAnd, OnSome}
 use Rattle.nor_chip.specs.Bus.{BusState}
 use Rattle.nor_save.specs.declared.refusal.Refusal.{Refusal}
 use Rattle.nor_words.specs.Text.{Text}
@@ -86,19 +86,20 @@ module _ (happened : Happened) where
   called : (on_chip : ChipJob) (content : Content) (old new : BusState) (unwritten : Unwritten) (outcome : Result Answer Refusal)
       → IsContentOf happened on_chip.programmer content → Opens on_chip.programmer content old
       → (IsReady on_chip.programmer old → Does happened on_chip.programmer on_chip.named on_chip.task old new outcome)
-      → AreLeft (changes_chip on_chip.task) happened on_chip.programmer new.chip unwritten → IsCalled happened on_chip unwritten outcome
-  called on_chip content old new unwritten outcome read opens does left =
-      record { content = content; read = read; old = old; new = new; opened = opens; does = does opens.ready; left = left }
+      → AreLeft (changes_chip on_chip.task) happened on_chip.programmer new.chip unwritten
+      → OnSome unwritten.trace (unwritten.trace ≡ on_chip.programmer.trace) → IsCalled happened on_chip unwritten outcome
+  called on_chip content old new unwritten outcome read opens does left traced =
+      record { content = content; read = read; old = old; new = new; opened = opens; does = does opens.ready; left = left; traced = traced }
 
   pub ends_called : (on_chip : ChipJob) (content : Content) (old new : BusState) (unwritten : Unwritten) (outcome : Result Answer Refusal)
       (told : Result Answer Fault) → IsContentOf happened on_chip.programmer content → Opens on_chip.programmer content old
       → (IsReady on_chip.programmer old → Does happened on_chip.programmer on_chip.named on_chip.task old new outcome)
       → AreLeft (changes_chip on_chip.task) happened on_chip.programmer new.chip unwritten
-      → IsToldAs outcome told → EndsJob happened on_chip unwritten told
-  ends_called on_chip content old new unwritten (Ok found) told read opens does left tells =
-      rw tells (called on_chip content old new unwritten (Ok found) read opens does left)
-  ends_called on_chip content old new unwritten (Err refusal) told read opens does left tells =
-      rw tells (inl (called on_chip content old new unwritten (Err refusal) read opens does left))
+      → OnSome unwritten.trace (unwritten.trace ≡ on_chip.programmer.trace) → IsToldAs outcome told → EndsJob happened on_chip unwritten told
+  ends_called on_chip content old new unwritten (Ok found) told read opens does left traced tells =
+      rw tells (called on_chip content old new unwritten (Ok found) read opens does left traced)
+  ends_called on_chip content old new unwritten (Err refusal) told read opens does left traced tells =
+      rw tells (inl (called on_chip content old new unwritten (Err refusal) read opens does left traced))
 
   -- a fault from before the call does, too
   fails_ends : (on_chip : ChipJob) (unwritten : Unwritten) (fault : Fault) → FailsJob happened on_chip fault

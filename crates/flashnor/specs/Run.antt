@@ -1,5 +1,5 @@
 -- What a run came to.
-use Rattle.std.specs.Prelude.{◌≡◌, ◌⊎◌, ℕ, Bool, true, false, List, Option, None, Result, Ok, Err, IsSomeAnd, ⊤}
+use Rattle.std.specs.Prelude.{◌≡◌, ◌⊎◌, ℕ, Bool, true, false, List, Option, None, Result, Ok, Err, IsSomeAnd, OnSome, ⊤}
 use Rattle.std.specs.Borrow.{Bor}
 use Rattle.nor_chip.specs.Bus.{BusState}
 use Rattle.nor_chip.specs.Chip.{Chip}
@@ -102,7 +102,8 @@ abbrev pub AreLeft : Bool → Happened → Programmer → Chip → Unwritten →
 AreLeft true happened programmer chip unwritten = ArePutBack happened programmer chip unwritten.image unwritten.status
 AreLeft false happened programmer chip unwritten = (unwritten.image ≡ None) × (unwritten.status ≡ None)
 
--- The job's call was made: on a bus to the programmer's chip, as its files tell it, into which it was put back.
+-- The job's call was made: on a bus to the programmer's chip, as its files tell it, into which it was put back; and a
+-- trace that lost a line is the programmer's.
 pub record IsCalled (happened : Happened) (job : ChipJob) (unwritten : Unwritten) (outcome : Result Answer Refusal) : Type 0 where
   pub content : Content
   pub read : IsContentOf happened job.programmer content
@@ -111,6 +112,7 @@ pub record IsCalled (happened : Happened) (job : ChipJob) (unwritten : Unwritten
   pub opened : Opens job.programmer content old
   pub does : Does happened job.programmer job.named job.task old new outcome
   pub left : AreLeft (changes_chip job.task) happened job.programmer new.chip unwritten
+  pub traced : OnSome unwritten.trace (unwritten.trace ≡ job.programmer.trace)
 
 -- ---- faults from before the call
 

@@ -1,5 +1,5 @@
 //! A run of the program.
-ghost use Rattle.std.specs.Prelude.{◌≡◌, ◌≤◌, ◌⊎◌, IfOk, IfErr, IsSomeAnd, map, string_bytes};
+ghost use Rattle.std.specs.Prelude.{◌≡◌, ◌≤◌, ◌⊎◌, IfOk, IfErr, IsSomeAnd, OnSome, map, string_bytes};
 ghost use Rattle.nor_words.specs.Words.{IsRefused};
 ghost use Rattle.flashnor.specs.Chips.{IsReady, Opens};
 ghost use Rattle.flashnor.specs.Files.{IsLogging};
@@ -165,6 +165,7 @@ fn call_on<'a, R: Store>(
     ensures ok { let old = ⟦<SimBus as Bus>⟧.state bus in IsReady job.now.programmer old
         → IfOk result (λ called. Does (R.happened rt.now) job.now.programmer job.now.named job.now.task old
         (⟦<SimBus as Bus>⟧.state called.bus) called.answer) }
+    ensures lost { IfOk result (λ called. OnSome called.lost (called.lost ≡ job.now.programmer.trace)) }
     ensures err { IfErr result (λ fault. IsSomeAnd job.now.programmer.trace (λ name. IsLogging name.now fault)
         ⊎ FailsBefore (R.happened rt.now) job.now.task fault) }
 {
