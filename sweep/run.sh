@@ -1,5 +1,6 @@
 #!/usr/bin/env bash
-# sweep/run.sh [PROGRAM [RUN NUMBER]]: flashnor with each of its allocations refused in turn.
+# sweep/run.sh [PROGRAM [RUN NUMBER]]: flashnor with each of its allocations refused in turn, or with the one of this
+# number in one of the runs (0 refuses none).
 #
 # Four runs on a TINY64 of given bytes. Each is done once with all its memory, and must then come to its own answer, and
 # once for each allocation that it asked for, which refuse.c refuses. Then the answer is the run's own, or status 1 with
@@ -13,6 +14,7 @@ top=$(cd "$(dirname "$0")/.." && pwd)
 program=${1:-$top/crates/flashnor/out/flashnor}
 only=${2:-}
 at=${3:-}
+found_run=
 size=65536
 
 if ! command -v cc > /dev/null; then
@@ -99,6 +101,7 @@ sweep() {
     local -A told=()
     shift 5
     [[ -z $only || $only == "$run" ]] || return 0
+    found_run=yes
     cp "$image" wanted
     attempt 0 "$before" "$@"
     is_own && cmp -s chip.bin "$after" || differs "that isn't its own answer"
@@ -143,3 +146,4 @@ Done: touched 1, erases 1, programs 1, transactions 30." -w wanted --journal jou
 sweep a_byte_rehearsed byte_00 byte_01 byte_00 "Rehearsal: session stopped.
 Restores: 1.
 Chip as before." -w wanted --rehearse 25
+[[ -n $found_run ]] || fail "there is no run $only"
