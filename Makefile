@@ -13,7 +13,7 @@ PREFIX ?= /usr/local
 SEED := 1
 COUNT := 1000
 
-.PHONY: build demo try files bench compare storm install agree check clean
+.PHONY: build demo try files bench compare storm sweep install agree check clean
 
 # Proves the program and everything below it, builds it, and runs it once.
 build: files
@@ -76,6 +76,10 @@ install: $(PROGRAM)
 storm:
 	@cd crates/storm && rt run -- $(SEED) 1 > /dev/null
 	@crates/storm/out/storm $(SEED) $(COUNT)
+
+# Runs the program with each of its allocations refused in turn, where there is a C compiler.
+sweep:
+	@bash sweep/run.sh $(CURDIR)/$(PROGRAM)
 
 # Whether the help, README, SPECIFICATION, the manual page and the completion say what the sources say.
 agree:

@@ -3,7 +3,7 @@
 use crate::chips::{self, Chip};
 use crate::dice::Dice;
 use crate::fault::Fault;
-use crate::{contents, guards};
+use crate::{contents, guards, verdicts};
 use nor_layout::{Layout, Ranges, Span};
 use nor_probe::ChipName;
 use nor_session::{Request, What};
@@ -21,9 +21,10 @@ pub struct Case {
 }
 
 impl Case {
-    /// The next case that the dice give. One in twelve is on a W25Q64FV.
+    /// The next case that the dice give. One in five is on a chip with protection, so that the refusals of that
+    /// come often enough.
     pub fn next(alloc: Global, dice: &mut Dice) -> Result<Case, Fault> {
-        let chip = if dice.hits(1, 12) {
+        let chip = if dice.hits(1, 5) {
             chips::large(alloc, dice)?
         } else {
             chips::small(alloc, dice)?
@@ -76,6 +77,9 @@ impl Case {
 fn image_for(alloc: Global, dice: &mut Dice, chip: &Chip) -> Result<Vec<u8>, Fault> {
     let mut image = chip.bytes.to_vec(alloc)?;
     contents::alter(dice, image.as_mut_slice());
+    if chip.config.scheme && dice.hits(3, 4) {
+        change_guarded(dice, chip, image.as_mut_slice());
+    }
     if dice.hits(1, 25) {
         match dice.below(4) {
             0 => image.push(0x00)?,
@@ -89,12 +93,23 @@ fn image_for(alloc: Global, dice: &mut Dice, chip: &Chip) -> Result<Vec<u8>, Fau
     Ok(image)
 }
 
+// Changes a byte at one end of the guarded places, where there are any.
+fn change_guarded(dice: &mut Dice, chip: &Chip, image: &mut [u8]) {
+    let (start, len) = guards::guarded_places(guards::code_of(chip.status), chip.config.size);
+    let last = start.saturating_add(len).saturating_sub(1);
+    if len > 0
+        && let Some(byte) = image.get_mut(dice.pick(start, &[last]) as usize)
+    {
+        *byte ^= dice.byte() | 0x01;
+    }
+}
+
 // What is asked for. A range is asked for often where it can be had.
 fn what_for(dice: &mut Dice, chip: &Chip) -> What {
-    let ranges = if chip.config.scheme { 5 } else { 1 };
+    let ranges = if chip.config.scheme { 8 } else { 1 };
     if dice.hits(ranges, 20) {
         let (start, len) = guards::guarded_places(dice.byte() % 64, chip.config.size);
-        let start = start.saturating_add(dice.pick(0, &[0, 0, 0, 0, 4096]));
+        let start = start.saturating_add(dice.pick(0, &[0, 0, 0, 4096]));
         let len = len.saturating_add(dice.pick(0, &[0, 0, 0, 0, 1]));
         return What::WpRange { start, len };
     }
@@ -103,11 +118,7 @@ fn what_for(dice: &mut Dice, chip: &Chip) -> What {
 
 // No name, the chip's, or another.
 fn name_for(dice: &mut Dice, chip: &Chip) -> Option<ChipName> {
-    let right = if chip.config.scheme {
-        ChipName::W25Q64FV
-    } else {
-        ChipName::Sfdp
-    };
+    let right = verdicts::name_of(&chip.config);
     let names = [
         ChipName::Other,
         ChipName::W25Q128FV,

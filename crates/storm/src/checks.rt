@@ -4,8 +4,8 @@ use crate::cases::Case;
 use crate::chips::Chip;
 use crate::fault::{Fault, agree};
 use crate::wanted::{Wanted, Work};
-use crate::{guards, lengths, verdicts};
-use nor_chip::{Meter, SimBus};
+use crate::{guards, lengths, traces, verdicts};
+use nor_chip::{Meter, SimBus, TraceBus};
 use nor_journal::{Journal, MemVault};
 use nor_probe::Found;
 use nor_session::{Refusal, Report, session};
@@ -17,6 +17,18 @@ pub struct Ran {
     pub answer: Result<Report, Refusal>,
     pub bus: SimBus,
     pub vault: MemVault,
+    /// The trace, a line for each transaction.
+    pub sent: Vec<u8>,
+}
+
+impl Ran {
+    // The lines of the trace.
+    fn lines(&self) -> Result<&str, Fault> {
+        match str::from_utf8(self.sent.as_slice()) {
+            Ok(lines) => Ok(lines),
+            Err(_) => Err(Fault::Differs("a trace is text")),
+        }
+    }
 }
 
 /// Runs a session that is allowed so many transactions. With a fill a stop loses the power.
@@ -24,10 +36,22 @@ pub fn run(alloc: Global, case: &Case, allowed: u64, fill: Option<u8>) -> Result
     let mut bus = case.chip.bus(alloc)?;
     bus.lose(fill);
     bus.allow(allowed);
+    let mut sent = Vec::new(alloc);
+    let mut traced = TraceBus::new(bus, &mut sent);
     let mut image = case.image.to_vec(alloc)?;
     let mut vault = MemVault::new(alloc);
-    let answer = session(&mut bus, &mut vault, image.as_mut_slice(), &case.request);
-    Ok(Ran { answer, bus, vault })
+    let image = image.as_mut_slice();
+    let answer = session(&mut traced, &mut vault, image, &case.request);
+    if traced.lost() {
+        return Err(Fault::Memory);
+    }
+    let bus = traced.into_inner();
+    Ok(Ran {
+        answer,
+        bus,
+        vault,
+        sent,
+    })
 }
 
 /// The chip behind the bus has the bytes and kept bits of a chip.
@@ -46,7 +70,8 @@ pub fn check_refused(case: &Case, refusal: Refusal, ran: &Ran) -> Result<(), Fau
     agree(ran.answer == Err(refusal), "the refusal of a session")?;
     agree(is_same(&ran.bus, &case.chip), "the chip after a refusal")?;
     agree(is_quiet(&ran.bus, &case.chip), "the latch after a refusal")?;
-    agree(!ran.vault.is_sealed(), "the vault after a refusal")
+    agree(!ran.vault.is_sealed(), "the vault after a refusal")?;
+    traces::check_refused(case, refusal, ran.lines()?)
 }
 
 /// An accepted session did what was wanted, with the work that is counted plainly, and saved what it touched.
@@ -61,6 +86,7 @@ pub fn check_ended(case: &Case, wanted: &Wanted, ran: &Ran) -> Result<(), Fault>
     agree(report.transactions == sent, "the transactions of a session")?;
     check_wanted(wanted, &ran.bus)?;
     agree(ran.vault.is_sealed(), "the vault after a session")?;
+    traces::check_ended(case, wanted, ran.lines()?)?;
     let journal = Journal::read(ran.vault.bytes())?;
     check_journal(chip, wanted, &journal)
 }

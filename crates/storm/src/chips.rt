@@ -76,28 +76,33 @@ fn id_for(dice: &mut Dice) -> [u8; 3] {
         [0x00, 0x00, last | 0x01],
         [0x01, last, 0x17],
     ];
-    if dice.hits(1, 50) {
+    if dice.hits(1, 40) {
         dice.pick([0xFF; 3], &[[0x00; 3]])
     } else {
         dice.pick([0xFE, 0x10, 0x10], &ids)
     }
 }
 
-/// A W25Q64FV, the chip with protection. Its status is locked now and then.
+/// A W25Q64FV, seldom a W25Q128FV: the chips with protection. The status is locked now and then.
 pub fn large(alloc: Global, dice: &mut Dice) -> Result<Chip, Fault> {
     let status = protection(dice);
-    chip_of(alloc, dice, Config::w25q64fv(), status)
+    let config = if dice.hits(1, 10) {
+        Config::w25q128fv()
+    } else {
+        Config::w25q64fv()
+    };
+    chip_of(alloc, dice, config, status)
 }
 
-/// Status bytes by chance: a third is locked, a third has no code or a usual one, and one in twelve the undefined code.
+/// Status bytes by chance: a third is locked, a third has no code or a usual one, and one in eight an undefined code.
 pub fn protection(dice: &mut Dice) -> Status {
     let lock1 = dice.pick(0x80, &[0x00, 0x00, 0x00, 0x00]);
     let lock2 = dice.pick(0x01, &[0x00, 0x00, 0x00, 0x00]);
     let any = [dice.byte() & 0x7C, dice.byte() & 0x40];
-    let [code1, code2] = if dice.hits(1, 12) {
+    let [code1, code2] = if dice.hits(1, 8) {
         dice.pick([0x58, 0x00], &[[0x78, 0x40]])
     } else {
-        dice.pick([0x00, 0x00], &[[0x04, 0x00], any, any])
+        dice.pick([0x00, 0x00], &[[0x04, 0x00], any, any, any])
     };
     let latch = dice.byte() & 0x03;
     let others = dice.byte() & 0xBE;

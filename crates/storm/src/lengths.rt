@@ -4,7 +4,7 @@ use crate::cases::Case;
 use crate::chips::Chip;
 use crate::verdicts;
 use crate::wanted::Work;
-use nor_session::What;
+use nor_session::{Refusal, What};
 
 /// The sum of a few numbers, none of which is near the greatest u64.
 fn sum(numbers: &[u64]) -> u64 {
@@ -15,14 +15,12 @@ fn sum(numbers: &[u64]) -> u64 {
     sum
 }
 
-/// A probe: polls until BUSY is clear, the ID, and SFDP in three parts where the ID isn't in the table.
+/// A probe: polls until BUSY is clear, the ID, and SFDP in three parts where the ID is neither in the table nor that of
+/// no chip.
 pub fn probe(chip: &Chip) -> u64 {
     let polls = u64::from(chip.delays.now) + 1;
-    let parts = if verdicts::is_in_table(&chip.config) {
-        0
-    } else {
-        3
-    };
+    let known = verdicts::is_in_table(&chip.config) || verdicts::is_no_chip(&chip.config);
+    let parts = if known { 0 } else { 3 };
     sum(&[polls, 1, parts])
 }
 
@@ -56,6 +54,16 @@ pub fn saving(case: &Case) -> u64 {
         What::Write | What::Erase => included_sectors(case),
     };
     sum(&[opening(&case.chip), scanned])
+}
+
+/// A session that is refused: the first three refusals are known after the probe, the last two after the scan, and the
+/// others after the opening.
+pub fn refused(case: &Case, refusal: Refusal) -> u64 {
+    match refusal {
+        Refusal::NoChip | Refusal::UnknownChip(_) | Refusal::OtherName => probe(&case.chip),
+        Refusal::StatusLocked | Refusal::Protected { address: _ } => saving(case),
+        _ => opening(&case.chip),
+    }
 }
 
 /// The changes: a reading of each touched sector that isn't erased, and operations. An operation is the enable, the

@@ -19,6 +19,7 @@ mod stops;
 mod tally;
 #[cfg(test)]
 mod tests;
+mod traces;
 mod verdicts;
 mod wanted;
 mod words;

@@ -114,6 +114,7 @@ fn give_back(dice: &mut Dice, case: &Case, wanted: &Wanted, ran: Ran) -> Result<
         answer: _,
         mut bus,
         vault,
+        sent: _,
     } = ran;
     let journal = Journal::read(vault.bytes())?;
     let most = lengths::session(case, wanted.work(&case.chip));

@@ -8,26 +8,28 @@ use nor_chip::Config;
 use nor_probe::ChipName;
 use nor_session::{Refusal, What};
 
-/// The ID of the only chip of the table that is asked anything here.
-const LARGE: [u8; 3] = [0xEF, 0x40, 0x17];
-
 /// The chip is known by its ID.
 pub fn is_in_table(config: &Config) -> bool {
-    config.id == LARGE
+    name_of(config) != ChipName::Sfdp
 }
 
 /// The name under which a chip is found.
 pub fn name_of(config: &Config) -> ChipName {
-    if is_in_table(config) {
-        ChipName::W25Q64FV
-    } else {
-        ChipName::Sfdp
+    match config.id {
+        [0xEF, 0x40, 0x17] => ChipName::W25Q64FV,
+        [0xEF, 0x40, 0x18] => ChipName::W25Q128FV,
+        _ => ChipName::Sfdp,
     }
+}
+
+/// The ID is what a bus without a chip reads.
+pub fn is_no_chip(config: &Config) -> bool {
+    config.id == [0xFF; 3] || config.id == [0x00; 3]
 }
 
 /// No chip, an unknown chip, or another name.
 pub fn of_probe(config: &Config, named: Option<ChipName>) -> Option<Refusal> {
-    if config.id == [0xFF; 3] || config.id == [0x00; 3] {
+    if is_no_chip(config) {
         return Some(Refusal::NoChip);
     }
     if !is_in_table(config) {

@@ -4,6 +4,7 @@ use crate::cases::Case;
 use crate::chips::Chip;
 use crate::fault::Fault;
 use crate::guards::{self, Status};
+use nor_layout::Span;
 use nor_session::What;
 use std::alloc::Global;
 
@@ -83,6 +84,12 @@ impl Wanted {
             .is_some_and(|sector| sector.touched)
     }
 
+    /// Each of so many sectors is raised.
+    pub fn raises_all(&self, first: u32, count: u32) -> bool {
+        let from = self.sectors.iter().skip(first as usize);
+        from.take(count as usize).all(|sector| sector.raised)
+    }
+
     /// The work on this chip.
     pub fn work(&self, chip: &Chip) -> Work {
         let mut touched = 0_u64;
@@ -122,11 +129,25 @@ fn is_of_bytes(what: What) -> bool {
 
 // Makes the included bytes those of the image, or FFh.
 fn take_included(case: &Case, bytes: &mut [u8]) {
+    let whole = [Span {
+        first: 0,
+        last: u32::MAX,
+    }];
+    let spans = match &case.included {
+        Some(spans) => spans.as_slice(),
+        None => &whole,
+    };
+    for span in spans {
+        take_span(case, *span, bytes);
+    }
+}
+
+fn take_span(case: &Case, span: Span, bytes: &mut [u8]) {
     let erases = case.request.what == What::Erase;
-    for (address, (byte, new)) in (0_u32..).zip(bytes.iter_mut().zip(case.image.iter())) {
-        if case.includes(address) {
-            *byte = if erases { 0xFF } else { *new };
-        }
+    let places = bytes.iter_mut().zip(case.image.iter());
+    let up_to = (span.last as usize).saturating_add(1);
+    for (byte, new) in places.take(up_to).skip(span.first as usize) {
+        *byte = if erases { 0xFF } else { *new };
     }
 }
 
@@ -143,17 +164,19 @@ fn wanted_status(case: &Case) -> Status {
 }
 
 fn sector_of(old: &[u8], new: &[u8]) -> Sector {
-    let touched = differs(old, new);
+    if old == new {
+        return Sector {
+            touched: false,
+            raised: false,
+            pages: 0,
+        };
+    }
     let raised = rises(old, new);
     Sector {
-        touched,
+        touched: true,
         raised,
         pages: pages_of(old, new, raised),
     }
-}
-
-fn differs(old: &[u8], new: &[u8]) -> bool {
-    old.iter().zip(new).any(|(old, new)| *old != *new)
 }
 
 fn rises(old: &[u8], new: &[u8]) -> bool {
@@ -167,7 +190,7 @@ fn pages_of(old: &[u8], new: &[u8], raised: bool) -> u32 {
         let programmed = if raised {
             new.iter().any(|byte| *byte != 0xFF)
         } else {
-            differs(old, new)
+            old != new
         };
         pages = pages.saturating_add(u32::from(programmed));
     }

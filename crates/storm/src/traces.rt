@@ -1,0 +1,61 @@
+//! What a session sends, told by its trace: a line for each transaction.
+
+use crate::cases::Case;
+use crate::fault::{Fault, agree};
+use crate::lengths;
+use crate::wanted::Wanted;
+use nor_session::Refusal;
+
+/// The opcodes after which a chip may be another, as a trace has them.
+const CHANGING: [&str; 7] = ["06", "01", "02", "20", "52", "d8", "c7"];
+
+/// A refused session sent what it has to know for that, and nothing that changes.
+pub fn check_refused(case: &Case, refusal: Refusal, sent: &str) -> Result<(), Fault> {
+    let count = u64::try_from(sent.lines().count());
+    agree(
+        count == Ok(lengths::refused(case, refusal)),
+        "the transactions before a refusal",
+    )?;
+    agree(
+        !sent.lines().any(changes),
+        "a changing command before a refusal",
+    )
+}
+
+/// Nothing that changes is sent before all is saved, and then raised sectors alone are erased.
+pub fn check_ended(case: &Case, wanted: &Wanted, sent: &str) -> Result<(), Fault> {
+    let saving = usize::try_from(lengths::saving(case)).unwrap_or(usize::MAX);
+    agree(
+        !sent.lines().take(saving).any(changes),
+        "a changing command before the seal",
+    )?;
+    for line in sent.lines() {
+        if let Some((first, count)) = erased_by(line, case.chip.sectors()) {
+            agree(
+                wanted.raises_all(first, count),
+                "the sectors that are erased",
+            )?;
+        }
+    }
+    Ok(())
+}
+
+// The line is one of a changing command.
+fn changes(line: &str) -> bool {
+    CHANGING.iter().any(|opcode| line.starts_with(*opcode))
+}
+
+// The first sector that an erase aims at, and how many they are, on a chip of so many.
+fn erased_by(line: &str, sectors: u32) -> Option<(u32, u32)> {
+    if line == "c7" {
+        return Some((0, sectors));
+    }
+    let count = match line.get(..2) {
+        Some("20") => 1,
+        Some("52") => 8,
+        Some("d8") => 16,
+        _ => return None,
+    };
+    let address = u32::from_str_radix(line.get(2..)?, 16).ok()?;
+    Some((address / 4096 / count * count, count))
+}
