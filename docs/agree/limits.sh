@@ -64,7 +64,7 @@ limit_transactions() {
     local sfdp=crates/nor_probe/src/sfdp.rt polls opening
     polls=$(constant crates/nor_driver/src/waits.rt 'MOST_POLLS: u32 = ')
     opening=$(constant crates/nor_save/src/opening.rt 'Looks ')
-    limit "polls" "$polls" 2 '# (polls in a row|polls, after|times)'
+    limit "polls" "$polls" 2 '# (polls in a row|polls, after)'
     limit "polls of an operation" "$polls" 1 'BUSY is clear, at most #'
     limit "transactions of a probe" "$(constant crates/nor_probe/src/probes.rt 'Looks ')" 1 \
         'command and at most # transactions'
