@@ -2,11 +2,12 @@
 //!
 //! A chip is changed by `Kept` alone, and that is made only where a sealed vault or a journal leads back.
 ghost use Rattle.std.specs.Prelude.{◌≡◌, ◌<◌, ◌≤◌, ◌/◌, ℕ, Bool, true, IfOk, IfErr};
+ghost use Rattle.nor_driver.specs.Looks.{Looks};
 ghost use Rattle.nor_plan.specs.SectorSet.{has, LiesBelow};
-ghost use Rattle.nor_session.specs.Changing.{LeavesChange, DoesChange, ChangeTells};
+ghost use Rattle.nor_apply.specs.Applying.{most_applied};
+ghost use Rattle.nor_session.specs.Changing.{touched_count, LeavesChange, DoesChange, ChangeTells, DoesCheck, CheckRefuses};
 
-use crate::changing::change;
-use nor_apply::{Changes, Source, Work};
+use nor_apply::{Changes, Source, Work, apply, check_all};
 use nor_chip::Bus;
 use nor_journal::{Journal, Vault};
 use nor_save::Refusal;
@@ -57,6 +58,49 @@ impl<'a, B: Bus, S: Source> Kept<'a, B, S> {
             changes,
             way_back: WayBack(()),
         } = self;
-        change(bus, source, changes, verify)
+        let work = apply(bus, source, changes)?;
+        let done = Done {
+            bus,
+            source,
+            changes,
+            work,
+        };
+        done.check(verify)
+    }
+}
+
+/// All is written: what is left is the check. `Kept` alone makes it, and it can't be dropped either.
+pub(crate) struct Done<'a, B: Bus, S: Source> {
+    bus: &'a mut B,
+    source: &'a S,
+    changes: &'a Changes,
+    work: Work,
+}
+
+impl<'a, B: Bus, S: Source> Done<'a, B, S> {
+    // Where asked, reads back what was written. Answers the work, with these readings.
+    fn check(self, verify: bool) -> Result<Work, Refusal>
+        requires fits { self.work.transactions ≤ most_applied 4096 }
+        requires sourced { (s : ℕ) → has self.changes.now.touched s ≡ true → S.has self.source.now s ≡ true }
+        ensures leaves { Looks (touched_count self.entry.changes.now) (B.state self.entry.bus.now) (B.state self.exit.0.now) }
+        ensures does { IfOk result (DoesCheck self.entry.changes.now (S.wanted self.entry.source.now) verify self.entry.work
+            (B.state self.entry.bus.now) (B.state self.exit.0.now)) }
+        ensures tells { IfErr result (CheckRefuses self.entry.changes.now (S.wanted self.entry.source.now)
+            (B.state self.entry.bus.now) (B.state self.exit.0.now)) }
+    {
+        let Done {
+            bus,
+            source,
+            changes,
+            work,
+        } = self;
+        if !verify {
+            return Ok(work);
+        }
+        let reads = check_all(bus, source, &changes.touched)?;
+        Ok(Work {
+            transactions: work.transactions + reads,
+            ..work
+        })
     }
 }
