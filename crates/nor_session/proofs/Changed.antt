@@ -1,16 +1,15 @@
 -- What the changes came to, once they were checked.
-use Rattle.std.proofs.Common.{◌≡◌, ◌≤◌, ◌+◌, ◌%◌, ◌/◌, ◌∙◌, ℕ, Bool, true, false, ap, arith}
+use Rattle.std.proofs.Common.{◌≡◌, ◌≤◌, ◌%◌, ◌/◌, ◌∙◌, ℕ, Bool, true, false, ap, arith}
 use Rattle.std.specs.Prelude.{if◌then◌else◌}
 use Rattle.nor_chip.specs.Bus.{BusState}
 use Rattle.nor_driver.specs.Looks.{Rested}
 use Rattle.nor_layout.proofs.Below.{count_below-most}
 use Rattle.nor_apply.specs.declared.changes.Changes.{Changes}
 use Rattle.nor_apply.specs.declared.changes.Work.{Work}
-use Rattle.nor_apply.specs.Checking.{DoesChecks}
-use Rattle.nor_apply.specs.Applying.{touched_in, raised_in, status_writes, writes_code, HasApplied, LeavesApply, DoesApply}
+use Rattle.nor_apply.specs.Applying.{touched_in, raised_in, status_writes, writes_code, most_applied, HasApplied, LeavesApply, DoesApply}
 use Rattle.nor_apply.proofs.Kept.{fixed_then, kept_fixed}
 use Rattle.nor_apply.proofs.ApplyingExits.{raised_few}
-use Rattle.nor_session.specs.Changing.{touched_count, DoesChange}
+use Rattle.nor_session.specs.Changing.{touched_count, DoesCheck, DoesChange}
 
 -- ---- how much they take
 
@@ -26,9 +25,9 @@ two_writes changes =
 pub touched_most : (changes : Changes) → touched_count changes ≤ 4096
 touched_most changes = count_below-most 4096 (touched_in changes)
 
--- the number of transactions is far from the greatest
+-- there are no more transactions than the largest chip takes
 pub fits_work : (changes : Changes) (wanted : ℕ → ℕ) (old new : BusState) (work : Work) → ((s : ℕ) → raised_in changes s ≡ true → touched_in changes s ≡ true)
-    → DoesApply changes wanted old new work → work.transactions ≤ 4565999616
+    → DoesApply changes wanted old new work → work.transactions ≤ most_applied 4096
 fits_work changes wanted old new work inside does =
     let most = touched_most changes in
     let raised = raised_few changes inside in
@@ -36,28 +35,7 @@ fits_work changes wanted old new work inside does =
     let few = does.few in let erases = does.fewer_erases in let programs = does.fewer_programs in
     omega arith
 
--- ---- without a check
-
-none_for : (verify : Bool) (count : ℕ) → verify ≡ false → (if verify then count else 0) ≡ 0
-none_for verify count off = ap (λ (b : Bool). if b then count else 0) off
-
-pub unchecked : (changes : Changes) (wanted : ℕ → ℕ) (verify : Bool) (old new : BusState) (work : Work) → verify ≡ false → ((s : ℕ) → raised_in changes s ≡ true → touched_in changes s ≡ true)
-    → DoesApply changes wanted old new work → DoesChange changes wanted verify old new work
-unchecked changes wanted verify old new work off inside does =
-    let raised = raised_few changes inside in
-    let none = none_for verify (touched_count changes) off in
-    record {
-      erases = does.erases;
-      fewer_erases = let fewer = does.fewer_erases in omega arith;
-      fewer_programs = does.fewer_programs;
-      few = let few = does.few in omega arith;
-      least = let least = does.least in omega arith;
-      sent = does.sent;
-      done = does.done;
-      programs = does.programs;
-    }
-
--- ---- with a check
+-- ---- what they and their check leave
 
 -- readings leave what the changes came to
 rest_applied : (changes : Changes) (wanted : ℕ → ℕ) (old mid new : BusState) → HasApplied changes wanted old mid → Rested mid new → HasApplied changes wanted old new
@@ -75,26 +53,22 @@ rest_applied changes wanted old mid new applied rested =
       idle = let less = rested.unchanged.busy in let idle = applied.idle in omega arith;
     }
 
-all_for : (verify : Bool) (count : ℕ) → verify ≡ true → (if verify then count else 0) ≡ count
-all_for verify count on = ap (λ (b : Bool). if b then count else 0) on
-
-pub checked : (changes : Changes) (wanted : ℕ → ℕ) (verify : Bool) (old mid new : BusState) (work : Work) (checks : ℕ) → verify ≡ true → ((s : ℕ) → raised_in changes s ≡ true → touched_in changes s ≡ true)
-    → LeavesApply changes wanted old mid → DoesApply changes wanted old mid work → DoesChecks (touched_in changes) wanted mid new checks
-    → DoesChange changes wanted verify old new (record work { transactions = work.transactions + checks })
-checked changes wanted verify old mid new work checks on inside leaves does checking =
+pub checked : (changes : Changes) (wanted : ℕ → ℕ) (verify : Bool) (old mid new : BusState) (written work : Work) → ((s : ℕ) → raised_in changes s ≡ true → touched_in changes s ≡ true)
+    → LeavesApply changes wanted old mid → DoesApply changes wanted old mid written → DoesCheck changes wanted verify written mid new work
+    → DoesChange changes wanted verify old new work
+checked changes wanted verify old mid new written work inside leaves does checking =
     let raised = raised_few changes inside in
-    let all = all_for verify (touched_count changes) on in
-    let reads = checking.reads in
+    let erases = checking.erases in let programs = checking.programs in let transactions = checking.transactions in
     record {
-      erases = does.erases;
+      erases = checking.erases ∙ does.erases;
       fewer_erases = let fewer = does.fewer_erases in omega arith;
-      fewer_programs = does.fewer_programs;
+      fewer_programs = let fewer = does.fewer_programs in omega arith;
       few = let few = does.few in omega arith;
       least = let least = does.least in omega arith;
       sent = λ honest.
           let sent = does.sent honest in
-          let count = checking.count (leaves.spends.honest ∙ honest) in
+          let again = checking.sent (leaves.spends.honest ∙ honest) in
           omega arith;
       done = λ honest can. rest_applied changes wanted old mid new (does.done honest can) (checking.rested (leaves.spends.honest ∙ honest));
-      programs = does.programs;
+      programs = λ honest can. checking.programs ∙ does.programs honest can;
     }

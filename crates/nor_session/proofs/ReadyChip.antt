@@ -1,12 +1,13 @@
 -- What holds of a chip that is what it shows itself to be, once its touched sectors are saved.
 use Rattle.std.proofs.Common.{◌≡◌, ◌<◌, ◌+◌, ◌*◌, ◌/◌, ◌∙◌, ℕ, Bool, true, false, List, length, ap, refl, arith}
-use Rattle.std.specs.Prelude.{if◌then◌else◌, ◌==◌}
+use Rattle.std.specs.Prelude.{if◌then◌else◌, ◌==◌, Option, Err}
 use Rattle.nor_chip.specs.Chip.{Chip, status1_of}
 use Rattle.nor_chip.specs.Bus.{BusState}
 use Rattle.nor_driver.specs.Reads.{unique_of}
 use Rattle.nor_driver.specs.Looks.{Looks, RanOut}
 use Rattle.nor_driver.specs.Operations.{Falls}
 use Rattle.nor_journal.specs.Vault.{VaultState, Rose}
+use Rattle.nor_probe.specs.declared.table.ChipName.{ChipName}
 use Rattle.nor_probe.specs.Found.{IsConfigOf, part_in}
 use Rattle.nor_apply.specs.Spending.{Spends}
 use Rattle.nor_save.specs.declared.opening.Opening.{Opening}
@@ -16,7 +17,7 @@ use Rattle.nor_save.specs.declared.refusal.Refusal.TheVariants.{Vault, Stopped, 
 use Rattle.nor_save.specs.Request.{scanned_sectors}
 use Rattle.nor_save.specs.Opening.{Opens}
 use Rattle.nor_save.specs.Saving.{IsOpening, Shows, OpeningAccepts}
-use Rattle.nor_save.specs.Keeping.{KeepTells}
+use Rattle.nor_save.specs.Keeping.{KeepPuts, KeepTells}
 use Rattle.nor_session.specs.Modelled.{IsModelled, most_of}
 use Rattle.nor_session.specs.Verdict.{IsNamed}
 use Rattle.nor_session.specs.Session.{SessionTells}
@@ -54,6 +55,10 @@ shows request opening old mid is looks opens = record {
   same = (opens.rested is.honest).unchanged.same;
 }
 
+-- its own status byte is one that a chip has
+pub small_first : (named : Option ChipName) (opening : Opening) (old mid : BusState) → old.honest ≡ true → Opens named old mid opening → mid.chip.kept2 < 128 → old.chip.kept2 < 128
+small_first named opening old mid honest opens small = let same = (opens.rested honest).unchanged.same.kept2 in omega arith
+
 pub named : (request : Request) (opening : Opening) (old mid : BusState) → IsModelled old → Opens request.named old mid opening → IsNamed request.named old.chip.config
 named request opening old mid is opens = record { part = part_in opening.found; shown = opens.shown is.honest; wanted = opens.wanted }
 
@@ -74,6 +79,10 @@ ran_out_sized request opening old new config ran =
     record { none_left = ran.none_left; below = omega arith }
 
 -- ---- what a refusal of the scan tells
+
+pub not_sealed : (refusal : Refusal) (old new : VaultState) → old.sealed ≡ false → KeepPuts (Err refusal) old new → new.sealed ≡ false
+not_sealed Vault old new unsealed puts = puts.sealed ∙ unsealed
+not_sealed _ old new unsealed puts = puts.sealed ∙ unsealed
 
 pub keep_tells : (request : Request) (image : List ℕ) (opening : Opening) (code : ℕ) (old mid new : BusState) (vault vault' : VaultState) (refusal : Refusal)
     → IsModelled old → Looks 65542 old mid → Opens request.named old mid opening → OpeningAccepts request (length image) old.chip code

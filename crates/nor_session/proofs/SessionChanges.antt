@@ -16,6 +16,7 @@ use Rattle.nor_driver.specs.Looks.{Rested}
 use Rattle.nor_plan.specs.SectorSet.{has}
 use Rattle.nor_apply.specs.Content.{must_rise, is_touched, is_raised}
 use Rattle.nor_apply.specs.Within.{is_writable}
+use Rattle.nor_apply.specs.declared.changes.Changes.{Changes}
 use Rattle.nor_apply.specs.Applying.{CanApply, HasKeptBits, code_read, writes_code}
 use Rattle.nor_journal.specs.Vault.{VaultState}
 use Rattle.nor_apply.proofs.Kept.{kept_fixed, writable_same}
@@ -31,7 +32,7 @@ use Rattle.nor_save.specs.Request.{is_data, wanted, is_touched_by, is_raised_by}
 use Rattle.nor_save.specs.Opening.{status_read}
 use Rattle.nor_save.specs.Saving.{IsOpening, OpeningAccepts, ScanAccepts, SomeHeld, NeedsCode, NeedsStatus, is_held}
 use Rattle.nor_session.specs.Changing.{ChangeTells}
-use Rattle.nor_session.specs.Session.{SessionTells}
+use Rattle.nor_session.specs.Session.{HonestTells, SessionTells}
 use Rattle.nor_session.proofs.Ready.{Ready, changes_of, code_opened, lifts_none, ran_out_ready}
 use Rattle.nor_session.proofs.ReadyChip.{ran_out_sized}
 
@@ -212,6 +213,12 @@ can_apply request image image' opening status code kept old mid is of =
     }
 
 -- ---- what a refusal tells
+
+pub change_gives_up : (changes : Changes) (aim : ℕ → ℕ) (old mid new : BusState) (refusal : Refusal) → mid.honest ≡ true → ChangeTells changes aim mid new refusal → HonestTells old new refusal
+change_gives_up changes aim old mid new Stopped honest tells = (tells honest).none_left
+change_gives_up changes aim old mid new (Timeout address) honest tells = tells honest
+change_gives_up changes aim old mid new (Mismatch address) honest tells = λ judged. let past : 14 ≤ 11 = judged in absurd (omega arith)
+change_gives_up changes aim old mid new _ honest tells = absurd tells
 
 pub change_tells : (request : Request) (image image' : List ℕ) (opening : Opening) (status : Status) (code : ℕ) (kept : Kept) (old mid new : BusState) (vault vault' : VaultState) (refusal : Refusal)
     → Ready request opening status code kept old mid → ReadyChip request image image' opening code kept old mid

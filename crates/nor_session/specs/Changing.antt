@@ -1,7 +1,7 @@
 -- What the changes of a session or restore leave, with the check of what they came to.
 use Rattle.std.specs.Prelude.{◌≡◌, ◌≤◌, ◌+◌, ◌*◌, ◌/◌, ℕ, Bool, true, if◌then◌else◌}
 use Rattle.nor_chip.specs.Bus.{BusState}
-use Rattle.nor_driver.specs.Looks.{RanOut}
+use Rattle.nor_driver.specs.Looks.{Rested, RanOut, RunsOut}
 use Rattle.nor_layout.specs.Below.{count_below}
 use Rattle.nor_plan.specs.Planned.{fewest_erases}
 use Rattle.nor_apply.specs.declared.changes.Changes.{Changes}
@@ -9,6 +9,7 @@ use Rattle.nor_apply.specs.declared.changes.Work.{Work}
 use Rattle.nor_apply.specs.Counts.{sector_count}
 use Rattle.nor_apply.specs.Content.{once_erased, is_programmed}
 use Rattle.nor_apply.specs.Change.{MayChange}
+use Rattle.nor_apply.specs.Checking.{CanCheck, IsFirstMismatch}
 use Rattle.nor_apply.specs.Spending.{Spends}
 use Rattle.nor_apply.specs.Applying.{touched_in, raised_in, status_writes, most_applied, CanApply, HasApplied}
 use Rattle.nor_save.specs.declared.refusal.Refusal.{Refusal}
@@ -22,6 +23,32 @@ touched_count changes = sector_count (touched_in changes)
 abbrev pub most_changed : Changes → ℕ
 most_changed changes = most_applied (touched_count changes) + touched_count changes
 
+-- how many sectors are read back
+abbrev pub read_back : Changes → Bool → ℕ
+read_back changes verify = if verify then touched_count changes else 0
+
+-- ---- the check alone, once all is written
+
+-- At the end: so many sectors were read, which the work counts now, nothing changed, and each byte that was read is the
+-- wanted one.
+pub record DoesCheck (changes : Changes) (wanted : ℕ → ℕ) (verify : Bool) (written : Work) (old new : BusState) (work : Work) : Type 0 where
+  pub erases : work.erases ≡ written.erases
+  pub programs : work.programs ≡ written.programs
+  pub transactions : work.transactions ≡ written.transactions + read_back changes verify
+  pub sent : old.honest ≡ true → old.left ≡ new.left + read_back changes verify
+  pub rested : old.honest ≡ true → Rested old new
+  pub same : verify ≡ true → old.honest ≡ true → CanCheck (touched_in changes) old.chip
+      → (a : ℕ) → touched_in changes (a / 4096) ≡ true → old.chip.bytes a ≡ wanted a
+
+-- Why it wasn't passed: the bus stopped, with fewer transactions left than sectors, or this is the first difference.
+abbrev pub CheckRefuses : Changes → (ℕ → ℕ) → BusState → BusState → Refusal → Type 0
+CheckRefuses changes wanted old new Stopped = RunsOut (touched_count changes) old new
+CheckRefuses changes wanted old new (Mismatch address) =
+    old.honest ≡ true → CanCheck (touched_in changes) old.chip → IsFirstMismatch (touched_in changes) wanted old.chip.bytes address
+CheckRefuses changes wanted old new _ = ⊥
+
+-- ---- the changes and their check
+
 -- At every exit.
 pub record LeavesChange (changes : Changes) (wanted : ℕ → ℕ) (old new : BusState) : Type 0 where
   pub spends : Spends (most_changed changes) old new
@@ -33,8 +60,8 @@ pub record DoesChange (changes : Changes) (wanted : ℕ → ℕ) (verify : Bool)
   pub fewer_erases : work.erases ≤ touched_count changes
   pub fewer_programs : work.programs ≤ 16 * touched_count changes
   pub few : work.transactions
-      ≤ touched_count changes + (if verify then touched_count changes else 0) + 65538 * (work.erases + work.programs + status_writes changes)
-  pub least : 3 * (work.erases + work.programs + status_writes changes) + (if verify then touched_count changes else 0) ≤ work.transactions
+      ≤ touched_count changes + read_back changes verify + 65538 * (work.erases + work.programs + status_writes changes)
+  pub least : 3 * (work.erases + work.programs + status_writes changes) + read_back changes verify ≤ work.transactions
   pub sent : old.honest ≡ true → old.left ≡ new.left + work.transactions
   pub done : old.honest ≡ true → CanApply changes wanted old.chip → HasApplied changes wanted old new
   pub programs : old.honest ≡ true → CanApply changes wanted old.chip

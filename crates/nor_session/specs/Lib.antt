@@ -2,6 +2,7 @@ pub mod Modelled
 pub mod Verdict
 pub mod Changing
 pub mod Session
+pub mod Answering
 pub mod Restore
 pub mod Preparing
 pub mod Rehearsal

@@ -3,7 +3,6 @@
 //! What each call promises stands in `specs/`: `Verdict.antt`, `Session.antt`, `Restore.antt`, `Rehearsal.antt`.
 #![tactic(auto)]
 
-mod changing;
 mod preparing;
 mod rehearsals;
 mod reopening;

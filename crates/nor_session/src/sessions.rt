@@ -10,12 +10,10 @@ ghost use Rattle.nor_session.specs.Modelled.{most_of};
 ghost use Rattle.nor_session.specs.Session.{LooksUnsealed, Answers, Ends, GivesUp, SentAsTold};
 ghost use Rattle.nor_session.specs.Session.{FallsBySize, Refuses, Finishes, SealsOnceScanned, LeadsBackFrom};
 
-use crate::sources::Image;
-use crate::states::{Kept, WayBack};
-use nor_apply::Changes;
+use crate::states::Judged;
 use nor_chip::Bus;
 use nor_journal::Vault;
-use nor_save::{Refusal, Report, Request, judge_opening, keep, open};
+use nor_save::{Refusal, Report, Request, judge_opening, open};
 
 #[cfg(test)]
 mod tests;
@@ -52,30 +50,15 @@ pub fn session<B: Bus, V: Vault>(
 {
     let opening = open(bus, request.named)?;
     let code = judge_opening(request, &opening, image.len())?;
-    let kept = keep(bus, vault, image, request, &opening, code)?;
-    let changes = Changes {
-        touched: kept.scanned.touched,
-        raised: kept.scanned.raised,
-        kinds: opening.found.kinds,
-        size: opening.found.size,
-        status: opening.status(),
-        unlock: kept.unlock,
+    let judged = Judged {
+        bus,
+        vault,
+        image,
+        request,
+        opening,
         code,
     };
-    let kept_chip = Kept {
-        bus,
-        source: &Image { bytes: image },
-        changes: &changes,
-        way_back: WayBack::in_vault(vault),
-    };
-    let work = kept_chip.finish(request.verify)?;
-    Ok(Report {
-        found: opening.found,
-        touched: kept.scanned.count,
-        erases: work.erases,
-        programs: work.programs,
-        transactions: opening.transactions + u64::from(kept.scanned.reads) + work.transactions,
-    })
+    judged.answer()
 }
 
 /// A request has one verdict: where it is accepted, no refusal from 1 to 10 is.

@@ -1,0 +1,27 @@
+-- What a session knows once its opening is judged, and from where its promises count.
+use Rattle.std.specs.Prelude.{◌≡◌, ◌≤◌, ◌<◌, ℕ, true, Option}
+use Rattle.nor_chip.specs.Chip.{Chip}
+use Rattle.nor_chip.specs.Code.{code_in}
+use Rattle.nor_chip.specs.Bus.{BusState}
+use Rattle.nor_driver.specs.Looks.{Looks}
+use Rattle.nor_probe.specs.declared.table.ChipName.{ChipName}
+use Rattle.nor_probe.specs.Found.{IsPart}
+use Rattle.nor_save.specs.declared.opening.Opening.{Opening}
+use Rattle.nor_save.specs.declared.report.Request.{Request}
+use Rattle.nor_save.specs.Request.{is_data}
+use Rattle.nor_save.specs.Opening.{status_read, Opens}
+use Rattle.nor_save.specs.Saving.{IsOpening, OpeningAccepts}
+
+-- The opening found a part, and its judgement accepted the request against an image of so many bytes, with this wanted
+-- code.
+pub record IsJudged (request : Request) (image : ℕ) (opening : Opening) (code : ℕ) : Type 0 where
+  pub part : IsPart opening.found
+  pub few : opening.transactions ≤ 65542
+  pub six_bits : code < 64
+  pub sized : is_data request.what ≡ true → image ≡ opening.found.size
+  pub same_code : is_data request.what ≡ true → code ≡ code_in (status_read opening)
+  pub accepts : (chip : Chip) → IsOpening chip opening → OpeningAccepts request image chip code
+
+-- this holds of every state of the bus from which the opening led to the one now
+abbrev pub SinceOpening : Option ChipName → Opening → BusState → (BusState → Type 0) → Type 0
+SinceOpening named opening now promise = (first : BusState) → Looks 65542 first now → Opens named first now opening → promise first
