@@ -195,6 +195,8 @@ prepared_for journal opening scanned changes sent old mid new read are judged mo
       code = are.code;
       touched = λ s. touched s ∙ right s;
       raised = λ s. raised s ∙ right_raised s;
+      needed = λ hit. needs_from journal set (is_touched_from journal old.chip) old.chip right
+          (status_needed journal set old.chip changes may.lifts are.code (code_of_read changes old.chip one two) hit);
       can = record {
         idle = let mid_idle = read.opens.idle modelled.honest in let less = (read.scans.rested (read.looks.honest ∙ modelled.honest)).unchanged.busy in omega arith;
         sized = record {

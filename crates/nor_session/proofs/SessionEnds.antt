@@ -34,8 +34,9 @@ use Rattle.nor_save.specs.Keeping.{Keeps}
 use Rattle.nor_save.proofs.Planned.{wanted-kept}
 use Rattle.nor_session.specs.Modelled.{IsModelled, kinds_of}
 use Rattle.nor_session.specs.Changing.{LeavesChange, DoesChange}
-use Rattle.nor_session.specs.Session.{wanted_of, erased_of, IsDone, CanBeUndone}
-use Rattle.nor_session.proofs.Ready.{Ready, changes_of}
+use Rattle.nor_session.specs.Session.{wanted_of, erased_of, IsWithinBound, IsDone, NeedsNoStatus, CanBeUndone}
+use Rattle.nor_session.proofs.Changed.{no_write}
+use Rattle.nor_session.proofs.Ready.{Ready, changes_of, bounded_by}
 use Rattle.nor_session.proofs.ReadyChip.{is_opening, shows, named}
 use Rattle.nor_session.proofs.SessionChanges.{ReadyChip, can_apply, needs}
 
@@ -224,3 +225,14 @@ done request image image' opening status code kept old mid new verify work sent 
           ∙ ap (λ (set : ℕ → Bool). fewest_erases (kinds_of old.chip.config) (old.chip.config.size / 4096) set) (fun_ext of.raised);
       programs = does.programs honest can ∙ programs_done request image image' opening code kept old mid of;
     }
+
+-- where the request needs no status write, there is none
+pub spared : (request : Request) (image image' : List ℕ) (opening : Opening) (status : Status) (code : ℕ) (kept : Kept) (old mid new : BusState) (wanted : ℕ → ℕ) (verify : Bool) (work : Work) (sent : ℕ)
+    → sent ≡ kept.scanned.reads → Ready request opening status code kept old mid → ReadyChip request image image' opening code kept old mid → NeedsNoStatus request image old.chip
+    → DoesChange (changes_of opening kept status code) wanted verify mid new work
+    → IsWithinBound (scanned_sectors request old.chip.config.size) 0 verify
+    (record { found = opening.found; touched = kept.scanned.count; erases = work.erases; programs = work.programs; transactions = opening.transactions + sent + work.transactions })
+spared request image image' opening status code kept old mid new wanted verify work sent is_sent is of none does =
+    let never = no_write (changes_of opening kept status code) (λ writes. none code of.accepts.is_wanted (needs request image image' opening status code kept old mid is of writes)) in
+    subst (λ (n : ℕ). IsWithinBound (scanned_sectors request n) 0 verify (record { found = opening.found; touched = kept.scanned.count; erases = work.erases; programs = work.programs; transactions = opening.transactions + sent + work.transactions }))
+    of.is.config.size (bounded_by request opening status code kept old mid new wanted verify work sent 0 is_sent is never does)

@@ -22,6 +22,7 @@ use Rattle.nor_save.specs.declared.refusal.Refusal.TheVariants.{NoChip, UnknownC
 use Rattle.nor_save.specs.Saving.{SomeHeld}
 use Rattle.nor_session.specs.Modelled.{IsModelled, most_looked, most_of, fewest_erases_of}
 use Rattle.nor_session.specs.Verdict.{IsNamed}
+use Rattle.nor_session.specs.Session.{IsWithinBound}
 
 -- ---- what is wanted
 
@@ -167,6 +168,11 @@ pub record IsRestored (journal : Content) (old new : BusState) (report : Report)
 
 abbrev pub Restores : Content → BusState → BusState → Result Report Refusal → Type 0
 Restores journal old new result = IsModelled old → IfOk result (IsRestored journal old new)
+
+-- where no status write is needed, the report has no room for one
+abbrev pub SparesStatusFrom : Content → BusState → Result Report Refusal → Type 0
+SparesStatusFrom journal old result =
+    IsModelled old → (¬ NeedsStatusFrom journal old.chip) → IfOk result (IsWithinBound (length journal.saved) 0 true)
 
 -- ---- giving a chip back
 

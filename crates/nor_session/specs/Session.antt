@@ -22,7 +22,7 @@ use Rattle.nor_save.specs.declared.refusal.Refusal.{Refusal}
 use Rattle.nor_save.specs.declared.refusal.Refusal.TheVariants.{Vault, Stopped, Timeout, BadJournal, OtherChip, StatusDiffers, Memory, Output, OtherUnit}
 use Rattle.nor_save.specs.Refusal.{number_of}
 use Rattle.nor_save.specs.Request.{wanted, scanned_sectors, is_touched_by, is_raised_by, IsWantedCode}
-use Rattle.nor_save.specs.Saving.{head_of}
+use Rattle.nor_save.specs.Saving.{head_of, NeedsStatus}
 use Rattle.nor_session.specs.Modelled.{IsModelled, most_looked, most_of, fewest_erases_of}
 use Rattle.nor_session.specs.Verdict.{IsVerdict, IsAccepted}
 
@@ -150,6 +150,16 @@ pub record IsDone (request : Request) (image : List ℕ) (old new : BusState) (r
 
 abbrev pub Finishes : Request → List ℕ → BusState → BusState → Result Report Refusal → Type 0
 Finishes request image old new result = IsModelled old → IfOk result (IsDone request image old new)
+
+-- the request needs no status write on the chip
+abbrev pub NeedsNoStatus : Request → List ℕ → Chip → Type 0
+NeedsNoStatus request image chip =
+    (code : ℕ) → IsWantedCode request.what chip code → ¬ NeedsStatus request code (is_touched_by request image chip) chip
+
+-- where it needs none, the report has no room for one
+abbrev pub SparesStatus : Request → List ℕ → BusState → Result Report Refusal → Type 0
+SparesStatus request image old result = IsModelled old → NeedsNoStatus request image old.chip
+    → IfOk result (IsWithinBound (scanned_sectors request old.chip.config.size) 0 request.verify)
 
 -- none of these sectors is guarded
 abbrev pub AreFree : (ℕ → Bool) → Chip → Type 0

@@ -7,7 +7,7 @@ use Rattle.nor_driver.specs.Looks.{Looks}
 use Rattle.nor_session.specs.Modelled.{most_looked, most_of}
 use Rattle.nor_session.proofs.ReadyChip.{is_opening, falls_sized, keep_tells}
 use Rattle.nor_session.proofs.SessionChanges.{change_tells}
-use Rattle.nor_session.proofs.SessionEnds.{ready_chip, can_be_undone, done}
+use Rattle.nor_session.proofs.SessionEnds.{ready_chip, can_be_undone, done, spared}
 use Rattle.nor_session.proofs.sessions.session.Goals as goal
 
 pub returns-in_err-kept-clause-looks : goal.returns-in_err-kept-clause-looks
@@ -123,6 +123,15 @@ returns-clause-done g c = λ modelled.
     let of = ready_chip c.args.request.now c.args.image.now c.keep.new.image c.in_ok-opening.opening c.status.result c.in_ok-code.code c.in_ok-kept.kept (g.B.Bus.state c.args.bus.now) (g.B.Bus.state c.open.new.bus) (g.B.Bus.state c.keep.new.bus) _ modelled c.open.ensures.leaves c.in_ok-opening.ensures.opens is
     (c.in_ok-code.ensures.accepts (g.B.Bus.state c.args.bus.now).chip) c.in_ok-kept.ensures.keeps (λ a. let fits = c.keep.type_inv in search rules) (g.met.B.Bus.reaches c.args.bus.now modelled.honest).kept2 in
     done c.args.request.now c.args.image.now c.keep.new.image c.in_ok-opening.opening c.status.result c.in_ok-code.code c.in_ok-kept.kept (g.B.Bus.state c.args.bus.now) (g.B.Bus.state c.keep.new.bus) (g.B.Bus.state c.finish.new.self.0) c.args.request.now.verify c.in_ok-work.work c.from.result is of c.in_ok-work.ensures.does
+
+pub returns-clause-spares : goal.returns-clause-spares
+returns-clause-spares g c = λ modelled none.
+    let is = ready c.args.request.now c.in_ok-opening.opening c.status.result c.in_ok-code.code _ c.args.image.now c.keep.new.image _ c.in_ok-kept.kept (g.B.Bus.state c.args.bus.now) (g.B.Bus.state c.open.new.bus) (g.B.Bus.state c.keep.new.bus)
+    c.open.ensures.leaves c.in_ok-opening.ensures.opens c.keep.ensures.leaves c.in_ok-kept.ensures.keeps c.status.ensures c.in_ok-code.ensures.same_code in
+    let of = ready_chip c.args.request.now c.args.image.now c.keep.new.image c.in_ok-opening.opening c.status.result c.in_ok-code.code c.in_ok-kept.kept (g.B.Bus.state c.args.bus.now) (g.B.Bus.state c.open.new.bus) (g.B.Bus.state c.keep.new.bus) _ modelled c.open.ensures.leaves c.in_ok-opening.ensures.opens is
+    (c.in_ok-code.ensures.accepts (g.B.Bus.state c.args.bus.now).chip) c.in_ok-kept.ensures.keeps (λ a. let fits = c.keep.type_inv in search rules) (g.met.B.Bus.reaches c.args.bus.now modelled.honest).kept2 in
+    spared c.args.request.now c.args.image.now c.keep.new.image c.in_ok-opening.opening c.status.result c.in_ok-code.code c.in_ok-kept.kept (g.B.Bus.state c.args.bus.now) (g.B.Bus.state c.keep.new.bus) (g.B.Bus.state c.finish.new.self.0) _ c.args.request.now.verify c.in_ok-work.work
+    c.from.result c.from.ensures is of none c.in_ok-work.ensures.does
 
 pub returns-clause-undo : goal.returns-clause-undo
 returns-clause-undo g c = λ modelled sealed.
