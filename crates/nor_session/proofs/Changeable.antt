@@ -30,6 +30,7 @@ use Rattle.nor_save.proofs.Rests.{rested_then}
 use Rattle.nor_session.specs.Modelled.{IsModelled, kinds_of}
 use Rattle.nor_session.specs.Restore.{restored, is_touched_from, is_raised_from, code_told, Fits}
 use Rattle.nor_session.specs.Preparing.{IsOfKindFound, FitsOpening, PrepareTells, ScansSaved, NeedsCodeFrom, AreChanges, MayChangeStatus, IsShut, IsPreparedFor, IsPrepared}
+use Rattle.nor_session.proofs.ReadyChip.{told_idle}
 use Rattle.nor_session.proofs.Reopened.{opening_of}
 use Rattle.nor_session.proofs.Rescanned.{restored_saved}
 use Rattle.nor_session.proofs.RestoredBytes.{unraised_byte}
@@ -190,6 +191,7 @@ prepared_for journal opening scanned changes sent old mid new read are judged mo
       found = is.config;
       shown = read.opens.shown modelled.honest;
       status1 = is.one;
+      told = told_idle None opening old mid modelled.honest read.opens;
       kinds = kinds;
       size = size;
       code = are.code;

@@ -1,5 +1,5 @@
 -- What the changes came to, once they were checked.
-use Rattle.std.proofs.Common.{◌≡◌, ◌≤◌, ◌+◌, ◌%◌, ◌/◌, ◌∙◌, ◌||◌, ℕ, Bool, true, false, ap, sym, refl, true≢false, arith}
+use Rattle.std.proofs.Common.{◌≡◌, ◌≤◌, ◌+◌, ◌%◌, ◌/◌, ◌∙◌, ◌||◌, ℕ, Bool, true, false, ap, refl, true≢false, arith}
 use Rattle.std.specs.Prelude.{if◌then◌else◌}
 use Rattle.std.proofs.lemmas.Bool.{false_from_ne_true}
 use Rattle.nor_chip.specs.Bus.{BusState}

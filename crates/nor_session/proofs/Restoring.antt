@@ -258,6 +258,7 @@ restored_done journal prepared old mid new work sent are does modelled =
       found = for.found;
       shown = for.shown;
       status1 = for.status1;
+      told = for.told;
       touched = are.is.count ∙ ap sector_count touched;
       erases =
           does.erases

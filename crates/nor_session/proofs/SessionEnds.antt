@@ -37,7 +37,7 @@ use Rattle.nor_session.specs.Changing.{LeavesChange, DoesChange}
 use Rattle.nor_session.specs.Session.{wanted_of, erased_of, IsWithinBound, IsDone, NeedsNoStatus, CanBeUndone}
 use Rattle.nor_session.proofs.Changed.{no_write}
 use Rattle.nor_session.proofs.Ready.{Ready, changes_of, bounded_by}
-use Rattle.nor_session.proofs.ReadyChip.{is_opening, shows, named}
+use Rattle.nor_session.proofs.ReadyChip.{is_opening, told_idle, shows, named}
 use Rattle.nor_session.proofs.SessionChanges.{ReadyChip, can_apply, needs}
 
 pub ready_chip : (request : Request) (image image' : List ℕ) (opening : Opening) (status : Status) (code : ℕ) (kept : Kept) (old mid new : BusState) (vault : VaultState) → IsModelled old
@@ -53,6 +53,7 @@ ready_chip request image image' opening status code kept old mid new vault model
       honest = modelled.honest;
       is = opened;
       shown = opens.shown modelled.honest;
+      told = told_idle request.named opening old mid modelled.honest opens;
       accepts = accepts opened;
       idle = let less = again.unchanged.busy in let idle = opens.idle modelled.honest in omega arith;
       rested = rested;
@@ -218,6 +219,7 @@ done request image image' opening status code kept old mid new verify work sent 
       found = of.is.config;
       shown = of.shown;
       status1 = of.is.one;
+      told = of.told;
       touched = is.marks.count ∙ ap sector_count (fun_ext of.touched);
       erases = does.erases
           ∙ ap (λ (kinds : Kinds). fewest_erases kinds (opening.found.size / 4096) (has kept.scanned.raised)) (kinds_same opening.found.kinds old.chip.config of.is.config.k32 of.is.config.k64)

@@ -1,6 +1,6 @@
 -- What a restore finds of a chip before it changes anything.
 use Rattle.std.specs.Prelude.{◌≡◌, ◌≢◌, ◌<◌, ◌≤◌, ◌+◌, ◌/◌, ◌||◌, ◌⊎◌, ℕ, Bool, true, List, Result, Ok, IfErr, OnOk, OnErr, IfOk, MatchBool, length, slice_index}
-use Rattle.nor_chip.specs.Chip.{Chip, IsSame, is_locked}
+use Rattle.nor_chip.specs.Chip.{Chip, IsSame, is_locked, status1_of}
 use Rattle.nor_chip.specs.Guard.{code_of}
 use Rattle.nor_chip.specs.Bus.{BusState}
 use Rattle.nor_driver.specs.Looks.{Rested, RunsOut}
@@ -142,6 +142,7 @@ pub record IsPreparedFor (journal : Content) (old new : Chip) (prepared : Prepar
   pub found : IsConfigOf old.config prepared.found
   pub shown : shown_as old.config ≡ Ok (part_in prepared.found)
   pub status1 : prepared.found.status1 / 4 ≡ old.kept1
+  pub told : old.busy ≡ 0 → prepared.found.status1 ≡ status1_of old
   pub kinds : prepared.changes.kinds ≡ kinds_of old.config
   pub size : prepared.changes.size ≡ old.config.size
   pub code : prepared.changes.code ≡ code_told journal

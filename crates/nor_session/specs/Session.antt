@@ -1,6 +1,6 @@
 -- What a session promises.
 use Rattle.std.specs.Prelude.{◌≡◌, ◌≤◌, ◌<◌, ◌+◌, ◌*◌, ◌/◌, ◌||◌, ℕ, Bool, true, false, List, Result, Ok, IfOk, IfErr, if◌then◌else◌}
-use Rattle.nor_chip.specs.Chip.{Chip, IsSame, is_locked}
+use Rattle.nor_chip.specs.Chip.{Chip, IsSame, is_locked, status1_of}
 use Rattle.nor_chip.specs.Guard.{is_unit_guarded}
 use Rattle.nor_chip.specs.Bus.{BusState}
 use Rattle.nor_driver.specs.Looks.{Looks, RanOut}
@@ -144,6 +144,7 @@ pub record IsDone (request : Request) (image : List ℕ) (old new : BusState) (r
   pub found : IsConfigOf old.chip.config report.found
   pub shown : shown_as old.chip.config ≡ Ok (part_in report.found)
   pub status1 : report.found.status1 / 4 ≡ old.chip.kept1
+  pub told : old.chip.busy ≡ 0 → report.found.status1 ≡ status1_of old.chip
   pub touched : report.touched ≡ sector_count (is_touched_by request image old.chip)
   pub erases : report.erases ≡ fewest_erases_of old.chip.config (is_raised_by request image old.chip)
   pub programs : report.programs ≡ pages_of request image old.chip
