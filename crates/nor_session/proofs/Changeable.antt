@@ -30,6 +30,7 @@ use Rattle.nor_save.proofs.Rests.{rested_then}
 use Rattle.nor_session.specs.Modelled.{IsModelled, kinds_of}
 use Rattle.nor_session.specs.Restore.{restored, is_touched_from, is_raised_from, code_told, Fits}
 use Rattle.nor_session.specs.Preparing.{IsOfKindFound, FitsOpening, PrepareTells, ScansSaved, NeedsCodeFrom, AreChanges, MayChangeStatus, IsShut, IsPreparedFor, IsPrepared}
+use Rattle.nor_session.proofs.ReadyChip.{told_idle}
 use Rattle.nor_session.proofs.Reopened.{opening_of}
 use Rattle.nor_session.proofs.Rescanned.{restored_saved}
 use Rattle.nor_session.proofs.RestoredBytes.{unraised_byte}
@@ -190,11 +191,14 @@ prepared_for journal opening scanned changes sent old mid new read are judged mo
       found = is.config;
       shown = read.opens.shown modelled.honest;
       status1 = is.one;
+      told = told_idle None opening old mid modelled.honest read.opens;
       kinds = kinds;
       size = size;
       code = are.code;
       touched = λ s. touched s ∙ right s;
       raised = λ s. raised s ∙ right_raised s;
+      needed = λ hit. needs_from journal set (is_touched_from journal old.chip) old.chip right
+          (status_needed journal set old.chip changes may.lifts are.code (code_of_read changes old.chip one two) hit);
       can = record {
         idle = let mid_idle = read.opens.idle modelled.honest in let less = (read.scans.rested (read.looks.honest ∙ modelled.honest)).unchanged.busy in omega arith;
         sized = record {

@@ -1,6 +1,7 @@
 -- What the changes came to, once they were checked.
-use Rattle.std.proofs.Common.{◌≡◌, ◌≤◌, ◌%◌, ◌/◌, ◌∙◌, ℕ, Bool, true, false, ap, arith}
+use Rattle.std.proofs.Common.{◌≡◌, ◌≤◌, ◌%◌, ◌/◌, ◌∙◌, ℕ, Bool, true, false, ap, arith, ◌+◌, ◌||◌, refl, true≢false}
 use Rattle.std.specs.Prelude.{if◌then◌else◌}
+use Rattle.std.proofs.lemmas.Bool.{false_from_ne_true}
 use Rattle.nor_chip.specs.Bus.{BusState}
 use Rattle.nor_driver.specs.Looks.{Rested}
 use Rattle.nor_layout.proofs.Below.{count_below-most}
@@ -20,6 +21,17 @@ at_most_one false = omega arith
 pub two_writes : (changes : Changes) → status_writes changes ≤ 2
 two_writes changes =
     let one = at_most_one changes.unlock in let two = at_most_one (writes_code changes) in
+    omega arith
+
+none_of : (lift write : Bool) → (lift || write) ≡ false → (if lift then 1 else 0) + (if write then 1 else 0) ≡ 0
+none_of true write off = absurd (true≢false off)
+none_of false true off = absurd (true≢false off)
+none_of false false off = refl
+
+-- where it is never needed the status isn't written
+pub no_write : (changes : Changes) → ¬ ((changes.unlock || writes_code changes) ≡ true) → status_writes changes ≤ 0
+no_write changes never =
+    let none = none_of changes.unlock (writes_code changes) (false_from_ne_true (changes.unlock || writes_code changes) never) in
     omega arith
 
 pub touched_most : (changes : Changes) → touched_count changes ≤ 4096

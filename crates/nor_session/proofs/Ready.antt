@@ -219,12 +219,13 @@ writes_few request opening status code kept old mid is = writes_few_by request.w
 
 -- ---- the report
 
-pub bounded : (request : Request) (opening : Opening) (status : Status) (code : ℕ) (kept : Kept) (old mid new : BusState) (wanted : ℕ → ℕ) (verify : Bool) (work : Work) (sent : ℕ) → sent ≡ kept.scanned.reads → Ready request opening status code kept old mid
+-- where the status is written at most so often
+pub bounded_by : (request : Request) (opening : Opening) (status : Status) (code : ℕ) (kept : Kept) (old mid new : BusState) (wanted : ℕ → ℕ) (verify : Bool) (work : Work) (sent most : ℕ) → sent ≡ kept.scanned.reads
+    → Ready request opening status code kept old mid → status_writes (changes_of opening kept status code) ≤ most
     → DoesChange (changes_of opening kept status code) wanted verify mid new work
-    → IsWithinBound (scanned_sectors request opening.found.size) (most_status_writes request.what request.unlock) verify
+    → IsWithinBound (scanned_sectors request opening.found.size) most verify
     (record { found = opening.found; touched = kept.scanned.count; erases = work.erases; programs = work.programs; transactions = opening.transactions + sent + work.transactions })
-bounded request opening status code kept old mid new wanted verify work sent is_sent is does =
-    let writes = writes_few request opening status code kept old mid is in
+bounded_by request opening status code kept old mid new wanted verify work sent most is_sent is writes does =
     let count = is.marks.count in let fewer = is.fewer in let reads = is.reads in
     let erases = does.fewer_erases in let programs = does.fewer_programs in let few = does.few in let least = does.least in
     let opened = is.few in let began = is.least in
@@ -236,3 +237,11 @@ bounded request opening status code kept old mid new wanted verify work sent is_
       few = omega arith;
       least = omega arith;
     }
+
+pub bounded : (request : Request) (opening : Opening) (status : Status) (code : ℕ) (kept : Kept) (old mid new : BusState) (wanted : ℕ → ℕ) (verify : Bool) (work : Work) (sent : ℕ) → sent ≡ kept.scanned.reads → Ready request opening status code kept old mid
+    → DoesChange (changes_of opening kept status code) wanted verify mid new work
+    → IsWithinBound (scanned_sectors request opening.found.size) (most_status_writes request.what request.unlock) verify
+    (record { found = opening.found; touched = kept.scanned.count; erases = work.erases; programs = work.programs; transactions = opening.transactions + sent + work.transactions })
+bounded request opening status code kept old mid new wanted verify work sent is_sent is does =
+    bounded_by request opening status code kept old mid new wanted verify work sent (most_status_writes request.what request.unlock) is_sent is
+    (writes_few request opening status code kept old mid is) does

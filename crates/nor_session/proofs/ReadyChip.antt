@@ -1,5 +1,5 @@
 -- What holds of a chip that is what it shows itself to be, once its touched sectors are saved.
-use Rattle.std.proofs.Common.{◌≡◌, ◌<◌, ◌+◌, ◌*◌, ◌/◌, ◌∙◌, ℕ, Bool, true, false, List, length, ap, refl, arith}
+use Rattle.std.proofs.Common.{◌≡◌, ◌<◌, ◌+◌, ◌*◌, ◌/◌, ◌∙◌, ℕ, Bool, true, false, List, length, ap, refl, arith, sym}
 use Rattle.std.specs.Prelude.{if◌then◌else◌, ◌==◌, Option, Err}
 use Rattle.nor_chip.specs.Chip.{Chip, status1_of}
 use Rattle.nor_chip.specs.Bus.{BusState}
@@ -47,6 +47,15 @@ is_opening request opening old mid is opens =
       two = opens.status2 is.honest ∙ same.kept2;
       unique = opens.unique is.honest ∙ ap unique_of same.config;
     }
+
+-- an idle chip's status 1 is told as it was, with its latch
+pub told_idle : (named : Option ChipName) (opening : Opening) (old mid : BusState) → old.honest ≡ true → Opens named old mid opening → old.chip.busy ≡ 0 → opening.found.status1 ≡ status1_of old.chip
+told_idle named opening old mid honest opens idle =
+    let rested = opens.rested honest in
+    opens.status1 honest
+    ∙ ap (λ (n : ℕ). 4 * n + (if mid.chip.latch then 2 else 0) + (if mid.chip.busy == 0 then 0 else 1)) rested.unchanged.same.kept1
+    ∙ ap (λ (b : Bool). 4 * old.chip.kept1 + (if b then 2 else 0) + (if mid.chip.busy == 0 then 0 else 1)) (rested.idle_latch idle)
+    ∙ ap (λ (n : ℕ). 4 * old.chip.kept1 + (if old.chip.latch then 2 else 0) + (if n == 0 then 0 else 1)) (opens.idle honest ∙ sym idle)
 
 pub shows : (request : Request) (opening : Opening) (old mid : BusState) → IsModelled old → Looks 65542 old mid → Opens request.named old mid opening → Shows old.chip mid
 shows request opening old mid is looks opens = record {

@@ -6,6 +6,7 @@ use Rattle.nor_chip.specs.Bus.{BusState, Allows}
 use Rattle.nor_journal.specs.Text.{Content, SameHead}
 use Rattle.nor_journal.specs.declared.fault.JournalFault.{JournalFault}
 use Rattle.nor_journal.specs.Saved.{Saves, JournalSaves, is_saved}
+use Rattle.nor_journal.proofs.Saves.{Saves-set}
 use Rattle.nor_probe.specs.Known.{IsGenuine}
 use Rattle.nor_apply.specs.Spending.{Spends}
 use Rattle.nor_save.specs.declared.report.Report.{Report}
@@ -13,10 +14,11 @@ use Rattle.nor_save.specs.declared.refusal.Refusal.{Refusal}
 use Rattle.nor_save.specs.declared.refusal.Refusal.TheVariants.{Vault, Stopped, BadJournal}
 use Rattle.nor_save.specs.Saving.{head_of}
 use Rattle.nor_session.specs.Modelled.{IsModelled, most_of}
-use Rattle.nor_session.specs.Restore.{CanGiveBack, LeavesRestore, RestoreTells, IsRestoreRefusal}
+use Rattle.nor_session.specs.Restore.{CanGiveBack, LeavesRestore, RestoreGivesUp, RestoreTells, IsRestoreRefusal}
 use Rattle.nor_session.specs.Session.{IsWithinBound}
-use Rattle.nor_session.specs.Rehearsal.{AreRestores}
-use Rattle.nor_session.specs.Rehearsing.{LeavesRestores, ShowsRestore, ShowsRestores, StopsRestores, Undoes, RefusesUndo}
+use Rattle.nor_session.specs.Rehearsal.{AreRestores, FitsLastStop}
+use Rattle.nor_session.specs.Rehearsing.{LeavesRestores, ShowsRestore, ShowsRestores, StopsRestores, Undoes, WearsSaved, RefusesUndo}
+use Rattle.nor_session.proofs.Rescanned.{unraised_other}
 use Rattle.nor_session.proofs.GivesBack.{can_give_back}
 use Rattle.nor_session.proofs.SavedCounts.{saved_count, saved_few}
 
@@ -48,6 +50,7 @@ allow_leaves n journal old new allows = record {
       runs = rw (allows.chip, allows.steady) within.runs;
     });
   };
+  worn = λ modelled s other. allows.worn s;
 }
 
 pub restores_then : (journal : Content) (old mid new : BusState) → LeavesRestores journal old mid → LeavesRestores journal mid new → LeavesRestores journal old new
@@ -55,6 +58,7 @@ restores_then journal old mid new before after = record {
   nature = record { honest = after.nature.honest ∙ before.nature.honest; steady = after.nature.steady ∙ before.nature.steady };
   modelled = λ modelled. after.modelled (before.modelled modelled);
   can = λ modelled first can. after.can (before.modelled modelled) first (before.can modelled first can);
+  worn = λ modelled s other. after.worn (before.modelled modelled) s other ∙ before.worn modelled s other;
 }
 
 -- what one restore leaves that is allowed so many transactions
@@ -65,6 +69,7 @@ under_leaves n most journal old mid new allows spends leaves within =
       nature = record { honest = spends.honest; steady = spends.steady };
       modelled = λ modelled. modelled_at mid new spends.honest (leaves modelled).config modelled;
       can = within;
+      worn = λ modelled s other. (leaves modelled).worn s (unraised_other journal mid.chip.bytes s other);
     }
 
 -- it ended
@@ -80,17 +85,19 @@ under_ends n journal old mid new report allows bounded counted back =
           let sent = counted (leaves.modelled modelled).honest in
           let least = bounded.least in
           omega arith;
+      none_left = λ honest never. absurd (true≢false never);
       below = λ modelled never. absurd (true≢false never);
     }
 
 -- it was stopped
 pub under_stops : (n : ℕ) (journal : Content) (old mid new : BusState) (refusal : Refusal) → Allows n old mid → refusal ≡ Stopped
-    → (IsModelled mid → RestoreTells journal mid new refusal) → ShowsRestore journal n old new false
-under_stops n journal old mid new refusal allows stopped tells =
+    → (mid.honest ≡ true → RestoreGivesUp mid new refusal) → (IsModelled mid → RestoreTells journal mid new refusal) → ShowsRestore journal n old new false
+under_stops n journal old mid new refusal allows stopped gives_up tells =
     let leaves = allow_leaves n journal old mid allows in
     record {
       back = λ modelled ended first can. absurd (true≢false (sym ended));
       enough = λ modelled ended. absurd (true≢false (sym ended));
+      none_left = λ honest fails. subst (RestoreGivesUp mid new) stopped (gives_up (allows.honest ∙ honest));
       below = λ modelled fails.
           let left = allows.left modelled.honest in
           let ran = subst (RestoreTells journal mid new) stopped (tells (leaves.modelled modelled)) in
@@ -121,6 +128,7 @@ none_stopped journal stops state = record {
     nature = record { honest = refl; steady = refl };
     modelled = λ modelled. modelled;
     can = λ modelled first can. can;
+    worn = λ modelled s other. refl;
   };
   stopped = λ modelled i below. absurd (omega arith);
 }
@@ -146,8 +154,12 @@ ended_at journal stops old now new n restores before is inside shows = record {
     stopped = λ i below. before.stopped modelled i (omega arith);
     ended = λ under.
         let last : n ≡ restores + 1 - 1 = omega arith in
-        subst (λ (k : ℕ). 4 + length journal.saved ≤ slice_index stops k) last (shows.enough (before.leaves.modelled modelled) refl);
+        let enough = shows.enough (before.leaves.modelled modelled) refl in
+        subst (λ (k : ℕ). 4 + length journal.saved ≤ slice_index stops k) last (omega arith);
   };
+  last = λ modelled under.
+      let last : n ≡ restores + 1 - 1 = omega arith in
+      subst (λ (k : ℕ). new.left + (4 + length journal.saved) ≤ slice_index stops k) last (shows.enough (before.leaves.modelled modelled) refl);
   back = λ modelled first can. shows.back (before.leaves.modelled modelled) refl first (before.leaves.can modelled first can);
 }
 
@@ -161,6 +173,7 @@ ended_last journal stops old now new n restores most before is past shows = reco
     stopped = λ i below. before.stopped modelled i (omega arith);
     ended = λ under. absurd (omega arith);
   };
+  last = λ modelled under. absurd (omega arith);
   back = λ modelled first can. shows.back (before.leaves.modelled modelled) refl first (before.leaves.can modelled first can);
 }
 
@@ -195,7 +208,16 @@ undoes text stops old new journal restores reads shows = record {
   are = λ modelled saved first leads.
       subst (λ (n : ℕ). AreRestores n stops restores)
       (saved_count first.bytes saved journal (reads (head_of first) first.bytes saved leads.journal).1) (shows.are modelled);
+  last = λ modelled saved first leads.
+      subst (λ (n : ℕ). FitsLastStop n stops new.left restores)
+      (saved_count first.bytes saved journal (reads (head_of first) first.bytes saved leads.journal).1) (shows.last modelled);
 }
+
+pub undo_wears : (text : List ℕ) (old new : BusState) (journal : Content)
+    → ((head : Content) (chip : ℕ → ℕ) (saved : ℕ → Bool) → JournalSaves head chip saved text → SameHead head journal × Saves chip saved journal)
+    → LeavesRestores journal old new → WearsSaved text old new
+undo_wears text old new journal reads leaves modelled saved first leads s other =
+    leaves.worn modelled s (sym (Saves-set first.bytes saved journal s (reads (head_of first) first.bytes saved leads.journal).1) ∙ other)
 
 pub undo_refuses : (text : List ℕ) (old : BusState) (journal : Content) (refusal : Refusal)
     → ((head : Content) (chip : ℕ → ℕ) (saved : ℕ → Bool) → JournalSaves head chip saved text → SameHead head journal × Saves chip saved journal)

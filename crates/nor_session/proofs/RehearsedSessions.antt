@@ -1,23 +1,26 @@
 -- What a session under a stop comes to, and the restores after it.
-use Rattle.std.proofs.Common.{◌≡◌, ◌<◌, ◌≤◌, ◌+◌, ◌∙◌, ℕ, Bool, List, [], ◌∷◌, length, drop, true, false, refl, ap, sym, subst, arith, inl, inr}
-use Rattle.std.proofs.lemmas.Bool.{true≢false}
+use Rattle.std.proofs.Common.{◌≡◌, ◌<◌, ◌≤◌, ◌+◌, ◌/◌, ◌&&◌, ◌∙◌, ℕ, Bool, List, [], ◌∷◌, length, drop, true, false, refl, ap, sym, subst, arith, inl, inr}
+use Rattle.std.specs.Prelude.{nat_lt}
+use Rattle.std.proofs.lemmas.Bool.{true≢false, cases_Bool}
 use Rattle.nor_chip.specs.Chip.{Chip, IsChip, IsSame}
 use Rattle.nor_chip.specs.Bus.{BusState, Allows}
 use Rattle.nor_driver.specs.Looks.{Looks, IsCalm}
 use Rattle.nor_journal.specs.Vault.{VaultState}
 use Rattle.nor_apply.specs.Spending.{Spends}
 use Rattle.nor_apply.specs.Counts.{sector_count}
+use Rattle.nor_apply.specs.Content.{is_touched, is_raised}
 use Rattle.nor_save.specs.declared.report.Request.{Request}
 use Rattle.nor_save.specs.declared.report.Report.{Report}
 use Rattle.nor_save.specs.declared.refusal.Refusal.{Refusal}
 use Rattle.nor_save.specs.declared.refusal.Refusal.TheVariants.{NoChip, UnknownChip, OtherName, ImageSize, RegionOutside, NoProtection, UndefinedProtection, RangeNotOffered, StatusLocked, Protected, Vault, Stopped, Timeout, Mismatch, BadJournal, OtherChip, StatusDiffers, Memory, Output, OtherUnit}
 use Rattle.nor_save.specs.Refusal.{number_of}
-use Rattle.nor_save.specs.Request.{scanned_sectors, is_touched_by}
+use Rattle.nor_save.specs.Request.{scanned_sectors, is_touched_by, is_raised_by}
 use Rattle.nor_session.specs.Modelled.{IsModelled, most_of}
 use Rattle.nor_session.specs.Verdict.{IsAccepted}
-use Rattle.nor_session.specs.Session.{SessionTells, StopsEarly, CanBeUndone, HonestTells, Answers, IsOwnRefusal, Ends, IsDone}
-use Rattle.nor_session.specs.Rehearsal.{KeepsNature, RehearsalTells, first_allowance, least_needed, AreRestores}
-use Rattle.nor_session.specs.Rehearsing.{LeadsBack, LeavesSession, ShowsSession, RefusesSession, Undoes, RefusesUndo}
+use Rattle.nor_session.specs.Session.{wanted_of, HasWantedBits, SessionTells, StopsEarly, CanBeUndone, HonestTells, Answers, IsOwnRefusal, Ends, IsDone}
+use Rattle.nor_session.specs.Rehearsal.{KeepsNature, RehearsalTells, first_allowance, least_needed, AreRestores, FitsLastStop}
+use Rattle.nor_session.specs.Rehearsing.{LeadsBack, LeavesSession, ShowsSession, RefusesSession, Undoes, WearsSaved, RefusesUndo}
+use Rattle.nor_session.proofs.RestoredBytes.{untouched_unraised}
 use Rattle.nor_session.proofs.GivesBack.{leads_back}
 use Rattle.nor_session.proofs.RehearsedRestores.{modelled_at}
 
@@ -33,6 +36,16 @@ calm_at n old mid allows (inr idle) = inr (ap (λ (chip : Chip). chip.busy) allo
 allow_modelled : (n : ℕ) (old mid : BusState) → Allows n old mid → IsModelled old → IsModelled mid
 allow_modelled n old mid allows = modelled_at old mid allows.honest (ap (λ (chip : Chip). chip.config) allows.chip)
 
+and_weaker : (b x y : Bool) → (x ≡ false → y ≡ false) → (b && x) ≡ false → (b && y) ≡ false
+and_weaker true x y less none = less none
+and_weaker false x y less none = refl
+
+-- a sector that isn't touched isn't raised
+untouched_unraised_by : (request : Request) (image : List ℕ) (chip : Chip) (s : ℕ) → is_touched_by request image chip s ≡ false → is_raised_by request image chip s ≡ false
+untouched_unraised_by request image chip s =
+    and_weaker (nat_lt s (chip.config.size / 4096)) (is_touched chip.bytes (wanted_of request image chip) s) (is_raised chip.bytes (wanted_of request image chip) s)
+    (untouched_unraised chip.bytes (wanted_of request image chip) s)
+
 -- what a session leaves that is allowed so many transactions
 pub session_leaves : (n most few : ℕ) (request : Request) (image : List ℕ) (old mid new : BusState) (vault : VaultState) → Allows n old mid → vault.telling ≡ true
     → (mid.honest ≡ true → IsChip mid.chip) → Spends most mid new → (vault.sealed ≡ false → Looks few mid new)
@@ -46,6 +59,13 @@ session_leaves n most few request image old mid new vault allows telling reaches
       subst (λ (chip : Chip). LeadsBack (is_touched_by request image chip) chip vault.bytes new) allows.chip
       (leads_back request image mid new vault (reaches mid_modelled.honest) mid_modelled.genuine telling (undo mid_modelled sealed));
   accepted = λ modelled sealed. subst (IsAccepted request image) allows.chip (undo (allow_modelled n old mid allows modelled) sealed).accepted;
+  wears = λ modelled s other. elim (cases_Bool vault.sealed) [
+    | inl sealed ↦
+        (undo (allow_modelled n old mid allows modelled) sealed).changes.worn s
+        (untouched_unraised_by request image mid.chip s (subst (λ (chip : Chip). is_touched_by request image chip s ≡ false) (sym allows.chip) other))
+        ∙ allows.worn s
+    | inr unsealed ↦ ((looks unsealed).looked (allows.honest ∙ modelled.honest)).stays.worn s ∙ allows.worn s
+  ];
 }
 
 -- it took what it counts
@@ -66,7 +86,7 @@ seals_enough n request image mid new vault left undone = let spent = undone.spen
 -- it ended
 pub session_ends : (n : ℕ) (request : Request) (image : List ℕ) (old mid new : BusState) (vault : VaultState) (report : Report) → Allows n old mid → Ends request vault report
     → (mid.honest ≡ true → mid.left ≡ new.left + report.transactions) → (IsModelled mid → IsDone request image mid new report)
-    → (IsModelled mid → vault.sealed ≡ true → CanBeUndone request image mid new vault) → ShowsSession request image n old vault true
+    → (IsModelled mid → vault.sealed ≡ true → CanBeUndone request image mid new vault) → ShowsSession request image n old new vault true
 session_ends n request image old mid new vault report allows ends sent done undo = record {
   seals = λ ended. ends.sealed;
   can = λ modelled ended.
@@ -76,6 +96,9 @@ session_ends n request image old mid new vault report allows ends sent done undo
         enough = subst (λ (chip : Chip). least_needed request image chip ≤ n) allows.chip
             (took n request image mid new vault report (allows.left modelled.honest) ends (sent mid_modelled.honest) (done mid_modelled));
       };
+  bytes = λ modelled ended. subst (λ (chip : Chip). (a : ℕ) → new.chip.bytes a ≡ wanted_of request image chip a) allows.chip (done (allow_modelled n old mid allows modelled)).bytes;
+  bits = λ modelled ended. subst (λ (chip : Chip). HasWantedBits request.what chip new.chip) allows.chip (done (allow_modelled n old mid allows modelled)).bits;
+  none_left = λ honest never. absurd (true≢false never);
   below = λ modelled never. absurd (true≢false never);
   seal = λ modelled. record {
     enough = λ sealed.
@@ -87,11 +110,14 @@ session_ends n request image old mid new vault report allows ends sent done undo
 
 -- it was stopped
 pub session_stops : (n : ℕ) (request : Request) (image : List ℕ) (old mid new : BusState) (before after : VaultState) (refusal : Refusal) → Allows n old mid → refusal ≡ Stopped
-    → (IsModelled mid → SessionTells request image mid new before after refusal) → (IsModelled mid → after.sealed ≡ false → StopsEarly request mid refusal)
-    → (IsModelled mid → after.sealed ≡ true → CanBeUndone request image mid new after) → ShowsSession request image n old after false
-session_stops n request image old mid new before after refusal allows stopped tells early undo = record {
+    → (mid.honest ≡ true → HonestTells mid new refusal) → (IsModelled mid → SessionTells request image mid new before after refusal) → (IsModelled mid → after.sealed ≡ false → StopsEarly request mid refusal)
+    → (IsModelled mid → after.sealed ≡ true → CanBeUndone request image mid new after) → ShowsSession request image n old new after false
+session_stops n request image old mid new before after refusal allows stopped gives_up tells early undo = record {
   seals = λ ended. absurd (true≢false (sym ended));
   can = λ modelled ended. absurd (true≢false (sym ended));
+  bytes = λ modelled ended. absurd (true≢false (sym ended));
+  bits = λ modelled ended. absurd (true≢false (sym ended));
+  none_left = λ honest fails. subst (HonestTells mid new) stopped (gives_up (allows.honest ∙ honest));
   below = λ modelled fails.
       let left = allows.left modelled.honest in
       let ran = subst (SessionTells request image mid new before after) stopped (tells (allow_modelled n old mid allows modelled)) in
@@ -220,10 +246,24 @@ same_again saved bytes text stops old mid new restores nature back is undoes mod
     undoes.same (still_modelled saved bytes old mid nature (back modelled) modelled) saved old.chip
     (subst (λ (t : List ℕ). LeadsBack saved old.chip t mid) (sym is) (back modelled))
 
+-- and wear what the session touches alone
+pub worn_all : (saved : ℕ → Bool) (bytes text : List ℕ) (old mid new : BusState) → KeepsNature old mid → (IsModelled old → LeadsBack saved old.chip bytes mid) → text ≡ bytes
+    → (IsModelled old → (s : ℕ) → saved s ≡ false → mid.worn s ≡ old.worn s) → WearsSaved text mid new → IsModelled old → (s : ℕ) → saved s ≡ false → new.worn s ≡ old.worn s
+worn_all saved bytes text old mid new nature back is before after modelled s other =
+    after (still_modelled saved bytes old mid nature (back modelled) modelled) saved old.chip (subst (λ (t : List ℕ). LeadsBack saved old.chip t mid) (sym is) (back modelled)) s other
+    ∙ before modelled s other
+
 -- under the stops behind the first
 pub are_restores : (saved : ℕ → Bool) (bytes text : List ℕ) (stops later : List ℕ) (old mid new : BusState) (restores : ℕ) → KeepsNature old mid → (IsModelled old → LeadsBack saved old.chip bytes mid)
     → text ≡ bytes → later ≡ drop 1 stops → Undoes text later mid new restores → IsModelled old → AreRestores (sector_count saved) (drop 1 stops) restores
 are_restores saved bytes text stops later old mid new restores nature back is behind undoes modelled =
     subst (λ (l : List ℕ). AreRestores (sector_count saved) l restores) behind
     (undoes.are (still_modelled saved bytes old mid nature (back modelled) modelled) saved old.chip
+    (subst (λ (t : List ℕ). LeadsBack saved old.chip t mid) (sym is) (back modelled)))
+
+pub last_stop : (saved : ℕ → Bool) (bytes text : List ℕ) (stops later : List ℕ) (old mid new : BusState) (restores : ℕ) → KeepsNature old mid → (IsModelled old → LeadsBack saved old.chip bytes mid)
+    → text ≡ bytes → later ≡ drop 1 stops → Undoes text later mid new restores → IsModelled old → FitsLastStop (sector_count saved) (drop 1 stops) new.left restores
+last_stop saved bytes text stops later old mid new restores nature back is behind undoes modelled =
+    subst (λ (l : List ℕ). FitsLastStop (sector_count saved) l new.left restores) behind
+    (undoes.last (still_modelled saved bytes old mid nature (back modelled) modelled) saved old.chip
     (subst (λ (t : List ℕ). LeadsBack saved old.chip t mid) (sym is) (back modelled)))

@@ -9,6 +9,7 @@ use Rattle.nor_journal.specs.Text.{Content}
 use Rattle.nor_journal.specs.Saved.{saved_in, is_saved, saved_byte, IsSector, Saves}
 use Rattle.nor_apply.specs.Content.{is_other, must_rise, is_touched, is_raised, is_page_other, is_programmed}
 use Rattle.nor_apply.proofs.Counting.{any_below-false, any_below-same, count_below-same}
+use Rattle.nor_save.proofs.Planned.{unraised}
 use Rattle.nor_session.specs.Restore.{restored}
 use Rattle.nor_session.proofs.Rescanned.{restored_saved, untouched_other}
 
@@ -38,6 +39,12 @@ unraised_byte content aim a none =
     let b = 4096 * (a / 4096) + a % 4096 in
     let at = any_below-false 4096 (λ i. must_rise (content (4096 * (a / 4096) + i)) (aim (4096 * (a / 4096) + i))) none (a % 4096) (omega arith) in
     subst (λ (k : ℕ). bit_and (aim k) (content k) ≡ aim k) place (tested_equal (bit_and (aim b) (content b)) (aim b) at)
+
+-- one that isn't touched isn't raised
+pub untouched_unraised : (content aim : ℕ → ℕ) (s : ℕ) → is_touched content aim s ≡ false → is_raised content aim s ≡ false
+untouched_unraised content aim s none =
+    unraised content aim s
+    (λ i below. sym (untouched_byte content aim (4096 * s + i) (ap (is_touched content aim) (let e : (4096 * s + i) / 4096 ≡ s = omega arith in e) ∙ none)))
 
 -- a touched one has another byte
 pub touched_byte : (content aim : ℕ → ℕ) (s : ℕ) → is_touched content aim s ≡ true → (k : ℕ) × (k < 4096) × ¬ (content (4096 * s + k) ≡ aim (4096 * s + k))

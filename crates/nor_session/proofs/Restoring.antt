@@ -17,7 +17,7 @@ use Rattle.nor_apply.specs.Counts.{sector_count}
 use Rattle.nor_apply.specs.Content.{once_erased, is_programmed}
 use Rattle.nor_apply.specs.Change.{MayChange}
 use Rattle.nor_apply.specs.Spending.{Spends}
-use Rattle.nor_apply.specs.Applying.{touched_in, raised_in}
+use Rattle.nor_apply.specs.Applying.{touched_in, raised_in, status_writes}
 use Rattle.nor_apply.proofs.Kept.{fixed_then, kept_fixed}
 use Rattle.nor_save.specs.declared.report.Report.{Report}
 use Rattle.nor_save.specs.declared.refusal.Refusal.{Refusal}
@@ -26,9 +26,9 @@ use Rattle.nor_session.specs.declared.preparing.Prepared.{Prepared}
 use Rattle.nor_session.specs.Modelled.{IsModelled, kinds_of, most_of}
 use Rattle.nor_session.specs.Session.{IsWithinBound}
 use Rattle.nor_session.specs.Changing.{most_changed, LeavesChange, DoesChange, ChangeTells}
-use Rattle.nor_session.specs.Restore.{is_touched_from, is_raised_from, IsJudgedFirst, IsRestoreRefusal, RestoreGivesUp, RestoreTells, LeavesRestore, IsRestored, open_places, CanGiveBack}
+use Rattle.nor_session.specs.Restore.{is_touched_from, is_raised_from, NeedsStatusFrom, IsJudgedFirst, IsRestoreRefusal, RestoreGivesUp, RestoreTells, LeavesRestore, IsRestored, open_places, CanGiveBack}
 use Rattle.nor_session.specs.Preparing.{PrepareTells, IsPrepared}
-use Rattle.nor_session.proofs.Changed.{two_writes}
+use Rattle.nor_session.proofs.Changed.{two_writes, no_write}
 use Rattle.nor_session.proofs.RestoredBytes.{touched_saved, written_restored, pages_same}
 use Rattle.nor_session.proofs.GivenBack.{looked_within, change_within, given_back}
 
@@ -202,13 +202,13 @@ sum_fits journal prepared old mid new work are does =
     let writes = two_writes prepared.changes in
     omega arith
 
-pub restored_bounded : (journal : Content) (prepared : Prepared) (old mid new : BusState) (work : Work) (sent : ℕ) → AreChanged journal prepared old mid new
-    → DoesChange prepared.changes (saved_byte journal) true mid new work → sent ≡ prepared.transactions + work.transactions
-    → IsWithinBound (length journal.saved) 2 true (report_of prepared work sent)
-restored_bounded journal prepared old mid new work sent are does sum =
+-- where the status is written at most so often
+restored_within : (journal : Content) (prepared : Prepared) (old mid new : BusState) (work : Work) (sent writes : ℕ) → AreChanged journal prepared old mid new
+    → DoesChange prepared.changes (saved_byte journal) true mid new work → sent ≡ prepared.transactions + work.transactions → status_writes prepared.changes ≤ writes
+    → IsWithinBound (length journal.saved) writes true (report_of prepared work sent)
+restored_within journal prepared old mid new work sent writes are does sum fits =
     let most = are.is.most in let least = are.is.least in let few = are.is.few in let count = are.is.count in
     let erases = does.fewer_erases in let programs = does.fewer_programs in let most_sent = does.few in let least_sent = does.least in
-    let writes = two_writes prepared.changes in
     record {
       touched = few;
       erases = omega arith;
@@ -216,6 +216,19 @@ restored_bounded journal prepared old mid new work sent are does sum =
       few = omega arith;
       least = omega arith;
     }
+
+pub restored_bounded : (journal : Content) (prepared : Prepared) (old mid new : BusState) (work : Work) (sent : ℕ) → AreChanged journal prepared old mid new
+    → DoesChange prepared.changes (saved_byte journal) true mid new work → sent ≡ prepared.transactions + work.transactions
+    → IsWithinBound (length journal.saved) 2 true (report_of prepared work sent)
+restored_bounded journal prepared old mid new work sent are does sum =
+    restored_within journal prepared old mid new work sent 2 are does sum (two_writes prepared.changes)
+
+-- where no status write is needed, there is none
+pub restored_sparing : (journal : Content) (prepared : Prepared) (old mid new : BusState) (work : Work) (sent : ℕ) → AreChanged journal prepared old mid new
+    → DoesChange prepared.changes (saved_byte journal) true mid new work → sent ≡ prepared.transactions + work.transactions → IsModelled old → ¬ NeedsStatusFrom journal old.chip
+    → IsWithinBound (length journal.saved) 0 true (report_of prepared work sent)
+restored_sparing journal prepared old mid new work sent are does sum modelled none =
+    restored_within journal prepared old mid new work sent 0 are does sum (no_write prepared.changes (λ writes. none ((are.is.modelled modelled).needed writes)))
 
 pub restored_counted : (journal : Content) (prepared : Prepared) (old mid new : BusState) (work : Work) (sent : ℕ) → AreChanged journal prepared old mid new
     → DoesChange prepared.changes (saved_byte journal) true mid new work → sent ≡ prepared.transactions + work.transactions → old.honest ≡ true → old.left ≡ new.left + sent
@@ -245,6 +258,7 @@ restored_done journal prepared old mid new work sent are does modelled =
       found = for.found;
       shown = for.shown;
       status1 = for.status1;
+      told = for.told;
       touched = are.is.count ∙ ap sector_count touched;
       erases =
           does.erases

@@ -8,7 +8,7 @@ use Rattle.nor_chip.specs.declared.config.Config.{Config}
 use Rattle.nor_chip.specs.declared.status.Status.{Status}
 use Rattle.nor_chip.specs.Status.{bytes_of}
 use Rattle.nor_chip.specs.Code.{code_in}
-use Rattle.nor_chip.specs.Chip.{Chip, IsSame, is_locked}
+use Rattle.nor_chip.specs.Chip.{Chip, IsSame, is_locked, status1_of}
 use Rattle.nor_chip.specs.Guard.{code_of, is_guarded, is_unit_guarded}
 use Rattle.nor_chip.specs.Bus.{BusState}
 use Rattle.nor_chip.proofs.Guarded.{is_guarded-sector, is_guarded-no_scheme, is_guarded-same}
@@ -41,6 +41,7 @@ pub record ReadyChip (request : Request) (image image' : List ℕ) (opening : Op
   pub honest : old.honest ≡ true
   pub is : IsOpening old.chip opening
   pub shown : shown_as old.chip.config ≡ Ok (part_in opening.found)
+  pub told : old.chip.busy ≡ 0 → opening.found.status1 ≡ status1_of old.chip
   pub accepts : OpeningAccepts request (length image) old.chip code
   pub idle : mid.chip.busy ≡ 0
   pub rested : Rested old mid

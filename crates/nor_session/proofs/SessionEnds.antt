@@ -34,9 +34,10 @@ use Rattle.nor_save.specs.Keeping.{Keeps}
 use Rattle.nor_save.proofs.Planned.{wanted-kept}
 use Rattle.nor_session.specs.Modelled.{IsModelled, kinds_of}
 use Rattle.nor_session.specs.Changing.{LeavesChange, DoesChange}
-use Rattle.nor_session.specs.Session.{wanted_of, erased_of, IsDone, CanBeUndone}
-use Rattle.nor_session.proofs.Ready.{Ready, changes_of}
-use Rattle.nor_session.proofs.ReadyChip.{is_opening, shows, named}
+use Rattle.nor_session.specs.Session.{wanted_of, erased_of, IsWithinBound, IsDone, NeedsNoStatus, CanBeUndone}
+use Rattle.nor_session.proofs.Changed.{no_write}
+use Rattle.nor_session.proofs.Ready.{Ready, changes_of, bounded_by}
+use Rattle.nor_session.proofs.ReadyChip.{is_opening, told_idle, shows, named}
 use Rattle.nor_session.proofs.SessionChanges.{ReadyChip, can_apply, needs}
 
 pub ready_chip : (request : Request) (image image' : List ℕ) (opening : Opening) (status : Status) (code : ℕ) (kept : Kept) (old mid new : BusState) (vault : VaultState) → IsModelled old
@@ -52,6 +53,7 @@ ready_chip request image image' opening status code kept old mid new vault model
       honest = modelled.honest;
       is = opened;
       shown = opens.shown modelled.honest;
+      told = told_idle request.named opening old mid modelled.honest opens;
       accepts = accepts opened;
       idle = let less = again.unchanged.busy in let idle = opens.idle modelled.honest in omega arith;
       rested = rested;
@@ -217,6 +219,7 @@ done request image image' opening status code kept old mid new verify work sent 
       found = of.is.config;
       shown = of.shown;
       status1 = of.is.one;
+      told = of.told;
       touched = is.marks.count ∙ ap sector_count (fun_ext of.touched);
       erases = does.erases
           ∙ ap (λ (kinds : Kinds). fewest_erases kinds (opening.found.size / 4096) (has kept.scanned.raised)) (kinds_same opening.found.kinds old.chip.config of.is.config.k32 of.is.config.k64)
@@ -224,3 +227,14 @@ done request image image' opening status code kept old mid new verify work sent 
           ∙ ap (λ (set : ℕ → Bool). fewest_erases (kinds_of old.chip.config) (old.chip.config.size / 4096) set) (fun_ext of.raised);
       programs = does.programs honest can ∙ programs_done request image image' opening code kept old mid of;
     }
+
+-- where the request needs no status write, there is none
+pub spared : (request : Request) (image image' : List ℕ) (opening : Opening) (status : Status) (code : ℕ) (kept : Kept) (old mid new : BusState) (wanted : ℕ → ℕ) (verify : Bool) (work : Work) (sent : ℕ)
+    → sent ≡ kept.scanned.reads → Ready request opening status code kept old mid → ReadyChip request image image' opening code kept old mid → NeedsNoStatus request image old.chip
+    → DoesChange (changes_of opening kept status code) wanted verify mid new work
+    → IsWithinBound (scanned_sectors request old.chip.config.size) 0 verify
+    (record { found = opening.found; touched = kept.scanned.count; erases = work.erases; programs = work.programs; transactions = opening.transactions + sent + work.transactions })
+spared request image image' opening status code kept old mid new wanted verify work sent is_sent is of none does =
+    let never = no_write (changes_of opening kept status code) (λ writes. none code of.accepts.is_wanted (needs request image image' opening status code kept old mid is of writes)) in
+    subst (λ (n : ℕ). IsWithinBound (scanned_sectors request n) 0 verify (record { found = opening.found; touched = kept.scanned.count; erases = work.erases; programs = work.programs; transactions = opening.transactions + sent + work.transactions }))
+    of.is.config.size (bounded_by request opening status code kept old mid new wanted verify work sent 0 is_sent is never does)

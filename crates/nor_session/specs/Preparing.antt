@@ -1,6 +1,6 @@
 -- What a restore finds of a chip before it changes anything.
-use Rattle.std.specs.Prelude.{◌≡◌, ◌≢◌, ◌<◌, ◌≤◌, ◌+◌, ◌/◌, ◌⊎◌, ℕ, Bool, true, List, Result, Ok, IfErr, OnOk, OnErr, IfOk, MatchBool, length, slice_index}
-use Rattle.nor_chip.specs.Chip.{Chip, IsSame, is_locked}
+use Rattle.std.specs.Prelude.{◌≡◌, ◌≢◌, ◌<◌, ◌≤◌, ◌+◌, ◌/◌, ◌||◌, ◌⊎◌, ℕ, Bool, true, List, Result, Ok, IfErr, OnOk, OnErr, IfOk, MatchBool, length, slice_index}
+use Rattle.nor_chip.specs.Chip.{Chip, IsSame, is_locked, status1_of}
 use Rattle.nor_chip.specs.Guard.{code_of}
 use Rattle.nor_chip.specs.Bus.{BusState}
 use Rattle.nor_driver.specs.Looks.{Rested, RunsOut}
@@ -14,7 +14,7 @@ use Rattle.nor_probe.specs.declared.probes.Found.{Found}
 use Rattle.nor_probe.specs.Known.{shown_as}
 use Rattle.nor_probe.specs.Found.{IsConfigOf, part_in}
 use Rattle.nor_apply.specs.declared.changes.Changes.{Changes}
-use Rattle.nor_apply.specs.Applying.{CanApply}
+use Rattle.nor_apply.specs.Applying.{writes_code, CanApply}
 use Rattle.nor_save.specs.declared.opening.Opening.{Opening}
 use Rattle.nor_save.specs.declared.scanning.Scanned.{Scanned}
 use Rattle.nor_save.specs.declared.refusal.Refusal.{Refusal}
@@ -24,7 +24,7 @@ use Rattle.nor_save.specs.Saving.{IsOpening, NoneHeld, SomeHeld}
 use Rattle.nor_session.specs.declared.preparing.Prepared.{Prepared}
 use Rattle.nor_session.specs.Modelled.{IsModelled, most_looked, kinds_of}
 use Rattle.nor_session.specs.Changing.{touched_count}
-use Rattle.nor_session.specs.Restore.{is_touched_from, is_raised_from, code_told, IsOfKind, HasFixedTold, Fits, IsJudgedFirst, IsRestoreVerdict, IsRestorable}
+use Rattle.nor_session.specs.Restore.{is_touched_from, is_raised_from, code_told, IsOfKind, HasFixedTold, Fits, NeedsStatusFrom, IsJudgedFirst, IsRestoreVerdict, IsRestorable}
 
 -- ---- the opening
 
@@ -136,18 +136,20 @@ RefusesShut journal opening touched judged =
 -- ---- all of it
 
 -- On a modelled bus: the chip as it was before may be restored, was found as it is, and as it is now the changes that
--- the journal asks for can be made.
+-- the journal asks for can be made, which write the status only where that is needed.
 pub record IsPreparedFor (journal : Content) (old new : Chip) (prepared : Prepared) : Type 0 where
   pub accepted : IsRestorable journal old
   pub found : IsConfigOf old.config prepared.found
   pub shown : shown_as old.config ≡ Ok (part_in prepared.found)
   pub status1 : prepared.found.status1 / 4 ≡ old.kept1
+  pub told : old.busy ≡ 0 → prepared.found.status1 ≡ status1_of old
   pub kinds : prepared.changes.kinds ≡ kinds_of old.config
   pub size : prepared.changes.size ≡ old.config.size
   pub code : prepared.changes.code ≡ code_told journal
   pub touched : (s : ℕ) → has prepared.changes.touched s ≡ is_touched_from journal old s
   pub raised : (s : ℕ) → has prepared.changes.raised s ≡ is_raised_from journal old s
   pub can : CanApply prepared.changes (saved_byte journal) new
+  pub needed : (prepared.changes.unlock || writes_code prepared.changes) ≡ true → NeedsStatusFrom journal old
 
 -- All is known that a restore has to know before it changes anything.
 pub record IsPrepared (journal : Content) (old new : BusState) (prepared : Prepared) : Type 0 where

@@ -60,6 +60,11 @@ pub record AreRestores (sectors : ℕ) (stops : List ℕ) (restores : ℕ) : Typ
   pub stopped : (i : ℕ) → i + 1 < restores → slice_index stops i < most_of sectors
   pub ended : restores ≤ length stops → 4 + sectors ≤ slice_index stops (restores - 1)
 
+-- and what is left now beside these
+abbrev pub FitsLastStop : ℕ → List ℕ → ℕ → ℕ → Type 0
+FitsLastStop sectors stops left restores =
+    restores ≤ length stops → left + (4 + sectors) ≤ slice_index stops (restores - 1)
+
 -- After a refusal: bytes and kept bits are as they were, the latch is set only where it was, nothing changing was sent,
 -- and the vault isn't sealed.
 pub record LeavesRefused (old new : BusState) (vault : VaultState) : Type 0 where
@@ -81,6 +86,11 @@ RehearsalTells request image chip old new refusal = IsVerdict request image chip
 
 abbrev pub GivesAllBack : BusState → BusState → Type 0
 GivesAllBack old new = IsModelled old → IsCalm old → IsSame old.chip new.chip
+
+-- session and restores erase no sector but those that the session touches
+abbrev pub WearsTouched : Request → List ℕ → BusState → BusState → Type 0
+WearsTouched request image old new =
+    IsModelled old → (s : ℕ) → is_touched_by request image old.chip s ≡ false → new.worn s ≡ old.worn s
 
 abbrev pub RefusesRehearsal : Request → List ℕ → BusState → VaultState → VaultState → Result Rehearsal Refusal → Type 0
 RefusesRehearsal request image old vault vault' result =
@@ -121,3 +131,9 @@ abbrev pub RestoresInTurn : Request → List ℕ → List ℕ → BusState → R
 RestoresInTurn request image stops old result =
     IsModelled old → IfOk result (λ rehearsal. rehearsal.sealed ≡ true
     → AreRestores (sector_count (is_touched_by request image old.chip)) (drop 1 stops) rehearsal.restores)
+
+-- and the last of them was allowed no more than its stop
+abbrev pub KeepsLastStop : Request → List ℕ → List ℕ → BusState → BusState → Result Rehearsal Refusal → Type 0
+KeepsLastStop request image stops old new result =
+    IsModelled old → IfOk result (λ rehearsal. rehearsal.sealed ≡ true
+    → FitsLastStop (sector_count (is_touched_by request image old.chip)) (drop 1 stops) new.left rehearsal.restores)

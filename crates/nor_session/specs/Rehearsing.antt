@@ -6,7 +6,7 @@ use Rattle.nor_chip.specs.Bus.{BusState}
 use Rattle.nor_driver.specs.Looks.{IsCalm}
 use Rattle.nor_journal.specs.Text.{Content}
 use Rattle.nor_journal.specs.Vault.{VaultState}
-use Rattle.nor_journal.specs.Saved.{JournalSaves}
+use Rattle.nor_journal.specs.Saved.{is_saved, JournalSaves}
 use Rattle.nor_probe.specs.Known.{IsKnown}
 use Rattle.nor_apply.specs.Counts.{sector_count}
 use Rattle.nor_apply.specs.Within.{IsWithin, places_of}
@@ -17,8 +17,9 @@ use Rattle.nor_save.specs.Request.{is_touched_by}
 use Rattle.nor_save.specs.Saving.{head_of}
 use Rattle.nor_session.specs.Modelled.{IsModelled, most_of}
 use Rattle.nor_session.specs.Verdict.{IsAccepted}
+use Rattle.nor_session.specs.Session.{wanted_of, HasWantedBits}
 use Rattle.nor_session.specs.Restore.{CanGiveBack}
-use Rattle.nor_session.specs.Rehearsal.{KeepsNature, CanEnd, SealFits, AreRestores, LeavesRefused, BlamesVault, RehearsalTells}
+use Rattle.nor_session.specs.Rehearsal.{KeepsNature, CanEnd, SealFits, AreRestores, FitsLastStop, LeavesRefused, WearsTouched, BlamesVault, RehearsalTells}
 
 -- ---- the session
 
@@ -34,17 +35,22 @@ pub record LeadsBack (saved : ℕ → Bool) (first : Chip) (text : List ℕ) (st
   pub within : IsWithin (places_of saved) first state
 
 -- At every exit of the session: where its vault isn't sealed the chip is as it was, and else that leads back, and the
--- request is accepted.
+-- request is accepted; only touched sectors are worn.
 pub record LeavesSession (request : Request) (image : List ℕ) (old new : BusState) (vault : VaultState) : Type 0 where
   pub nature : KeepsNature old new
   pub same : IsModelled old → IsCalm old → vault.sealed ≡ false → IsSame old.chip new.chip
   pub back : IsModelled old → vault.sealed ≡ true → LeadsBack (is_touched_by request image old.chip) old.chip vault.bytes new
   pub accepted : IsModelled old → vault.sealed ≡ true → IsAccepted request image old.chip
+  pub wears : WearsTouched request image old new
 
--- It was allowed so many transactions, and ended, or was stopped since they were too few.
-pub record ShowsSession (request : Request) (image : List ℕ) (allowance : ℕ) (old : BusState) (vault : VaultState) (ended : Bool) : Type 0 where
+-- It was allowed so many transactions, and ended, and the chip is the wanted one; or it was stopped, where none is left,
+-- since they were too few.
+pub record ShowsSession (request : Request) (image : List ℕ) (allowance : ℕ) (old new : BusState) (vault : VaultState) (ended : Bool) : Type 0 where
   pub seals : ended ≡ true → vault.sealed ≡ true
   pub can : IsModelled old → ended ≡ true → CanEnd request image allowance old.chip
+  pub bytes : IsModelled old → ended ≡ true → (a : ℕ) → new.chip.bytes a ≡ wanted_of request image old.chip a
+  pub bits : IsModelled old → ended ≡ true → HasWantedBits request.what old.chip new.chip
+  pub none_left : old.honest ≡ true → ended ≡ false → new.left ≡ 0
   pub below : IsModelled old → ended ≡ false → allowance < most_of (old.chip.config.size / 4096)
   pub seal : IsModelled old → SealFits request allowance old.chip vault.sealed
 
@@ -56,18 +62,20 @@ pub record RefusesSession (request : Request) (image : List ℕ) (old new : BusS
 
 -- ---- the restores
 
--- At every exit of some restores: the bus is modelled as before, and each chip that the journal could give back it
--- still can.
+-- At every exit of some restores: the bus is modelled as before, each chip that the journal could give back it still
+-- can, and only saved sectors are worn.
 pub record LeavesRestores (journal : Content) (old new : BusState) : Type 0 where
   pub nature : KeepsNature old new
   pub modelled : IsModelled old → IsModelled new
   pub can : IsModelled old → (first : Chip) → CanGiveBack journal first old → CanGiveBack journal first new
+  pub worn : IsModelled old → (s : ℕ) → is_saved journal s ≡ false → new.worn s ≡ old.worn s
 
--- One restore was allowed so many transactions, and ended, and gave each such chip back; or it was stopped, since they
--- were too few.
+-- One restore was allowed so many transactions, and ended, and gave each such chip back; or it was stopped, where none
+-- is left, since they were too few.
 pub record ShowsRestore (journal : Content) (allowance : ℕ) (old new : BusState) (ended : Bool) : Type 0 where
   pub back : IsModelled old → ended ≡ true → (first : Chip) → CanGiveBack journal first old → IsSame first new.chip
-  pub enough : IsModelled old → ended ≡ true → 4 + length journal.saved ≤ allowance
+  pub enough : IsModelled old → ended ≡ true → new.left + (4 + length journal.saved) ≤ allowance
+  pub none_left : old.honest ≡ true → ended ≡ false → new.left ≡ 0
   pub below : IsModelled old → ended ≡ false → allowance < most_of (length journal.saved)
 
 -- Restores in turn ended, and gave each such chip back.
@@ -75,6 +83,7 @@ pub record ShowsRestores (journal : Content) (stops : List ℕ) (old new : BusSt
   pub some : 1 ≤ restores
   pub most : restores ≤ length stops + 1
   pub are : IsModelled old → AreRestores (length journal.saved) stops restores
+  pub last : IsModelled old → FitsLastStop (length journal.saved) stops new.left restores
   pub back : IsModelled old → (first : Chip) → CanGiveBack journal first old → IsSame first new.chip
 
 -- A restore was refused: never one of a chip that the journal can give back, and never by the vault.
@@ -90,6 +99,13 @@ pub record Undoes (text : List ℕ) (stops : List ℕ) (old new : BusState) (res
   pub most : restores ≤ length stops + 1
   pub same : IsModelled old → (saved : ℕ → Bool) (first : Chip) → LeadsBack saved first text old → IsSame first new.chip
   pub are : IsModelled old → (saved : ℕ → Bool) (first : Chip) → LeadsBack saved first text old → AreRestores (sector_count saved) stops restores
+  pub last : IsModelled old → (saved : ℕ → Bool) (first : Chip) → LeadsBack saved first text old
+      → FitsLastStop (sector_count saved) stops new.left restores
+
+-- at every exit only sectors are worn that the text leads back
+abbrev pub WearsSaved : List ℕ → BusState → BusState → Type 0
+WearsSaved text old new = IsModelled old → (saved : ℕ → Bool) (first : Chip) → LeadsBack saved first text old
+    → (s : ℕ) → saved s ≡ false → new.worn s ≡ old.worn s
 
 -- They were refused: never by a vault, and never where the text leads back.
 pub record RefusesUndo (text : List ℕ) (old : BusState) (refusal : Refusal) : Type 0 where

@@ -1,7 +1,7 @@
 -- What a restore wants of a chip, and what it promises.
 use Rattle.std.specs.Prelude.{◌≡◌, ◌≢◌, ◌+◌, ◌*◌, ◌/◌, ◌%◌, ◌&&◌, ◌||◌, ◌⊎◌, ℕ, Bool, true, false, not, length, slice_index, None, Result, IfOk, IfErr, IfSome, IsSomeAnd, OnOk, Ok, Err, if◌then◌else◌}
 use Rattle.nor_chip.specs.declared.config.Config.{Config}
-use Rattle.nor_chip.specs.Chip.{Chip, IsSame, is_locked}
+use Rattle.nor_chip.specs.Chip.{Chip, IsSame, is_locked, status1_of}
 use Rattle.nor_chip.specs.Guard.{code_of, is_guarded}
 use Rattle.nor_chip.specs.Bus.{BusState}
 use Rattle.nor_driver.specs.Looks.{IsCalm, Looks, RanOut}
@@ -22,6 +22,7 @@ use Rattle.nor_save.specs.declared.refusal.Refusal.TheVariants.{NoChip, UnknownC
 use Rattle.nor_save.specs.Saving.{SomeHeld}
 use Rattle.nor_session.specs.Modelled.{IsModelled, most_looked, most_of, fewest_erases_of}
 use Rattle.nor_session.specs.Verdict.{IsNamed}
+use Rattle.nor_session.specs.Session.{IsWithinBound}
 
 -- ---- what is wanted
 
@@ -161,12 +162,18 @@ pub record IsRestored (journal : Content) (old new : BusState) (report : Report)
   pub found : IsConfigOf old.chip.config report.found
   pub shown : shown_as old.chip.config ≡ Ok (part_in report.found)
   pub status1 : report.found.status1 / 4 ≡ old.chip.kept1
+  pub told : old.chip.busy ≡ 0 → report.found.status1 ≡ status1_of old.chip
   pub touched : report.touched ≡ sector_count (is_touched_from journal old.chip)
   pub erases : report.erases ≡ fewest_erases_of old.chip.config (is_raised_from journal old.chip)
   pub programs : report.programs ≡ pages_from journal old.chip
 
 abbrev pub Restores : Content → BusState → BusState → Result Report Refusal → Type 0
 Restores journal old new result = IsModelled old → IfOk result (IsRestored journal old new)
+
+-- where no status write is needed, the report has no room for one
+abbrev pub SparesStatusFrom : Content → BusState → Result Report Refusal → Type 0
+SparesStatusFrom journal old result =
+    IsModelled old → (¬ NeedsStatusFrom journal old.chip) → IfOk result (IsWithinBound (length journal.saved) 0 true)
 
 -- ---- giving a chip back
 

@@ -1,6 +1,6 @@
 -- What a session promises.
 use Rattle.std.specs.Prelude.{◌≡◌, ◌≤◌, ◌<◌, ◌+◌, ◌*◌, ◌/◌, ◌||◌, ℕ, Bool, true, false, List, Result, Ok, IfOk, IfErr, if◌then◌else◌}
-use Rattle.nor_chip.specs.Chip.{Chip, IsSame, is_locked}
+use Rattle.nor_chip.specs.Chip.{Chip, IsSame, is_locked, status1_of}
 use Rattle.nor_chip.specs.Guard.{is_unit_guarded}
 use Rattle.nor_chip.specs.Bus.{BusState}
 use Rattle.nor_driver.specs.Looks.{Looks, RanOut}
@@ -22,7 +22,7 @@ use Rattle.nor_save.specs.declared.refusal.Refusal.{Refusal}
 use Rattle.nor_save.specs.declared.refusal.Refusal.TheVariants.{Vault, Stopped, Timeout, BadJournal, OtherChip, StatusDiffers, Memory, Output, OtherUnit}
 use Rattle.nor_save.specs.Refusal.{number_of}
 use Rattle.nor_save.specs.Request.{wanted, scanned_sectors, is_touched_by, is_raised_by, IsWantedCode}
-use Rattle.nor_save.specs.Saving.{head_of}
+use Rattle.nor_save.specs.Saving.{head_of, NeedsStatus}
 use Rattle.nor_session.specs.Modelled.{IsModelled, most_looked, most_of, fewest_erases_of}
 use Rattle.nor_session.specs.Verdict.{IsVerdict, IsAccepted}
 
@@ -144,12 +144,23 @@ pub record IsDone (request : Request) (image : List ℕ) (old new : BusState) (r
   pub found : IsConfigOf old.chip.config report.found
   pub shown : shown_as old.chip.config ≡ Ok (part_in report.found)
   pub status1 : report.found.status1 / 4 ≡ old.chip.kept1
+  pub told : old.chip.busy ≡ 0 → report.found.status1 ≡ status1_of old.chip
   pub touched : report.touched ≡ sector_count (is_touched_by request image old.chip)
   pub erases : report.erases ≡ fewest_erases_of old.chip.config (is_raised_by request image old.chip)
   pub programs : report.programs ≡ pages_of request image old.chip
 
 abbrev pub Finishes : Request → List ℕ → BusState → BusState → Result Report Refusal → Type 0
 Finishes request image old new result = IsModelled old → IfOk result (IsDone request image old new)
+
+-- the request needs no status write on the chip
+abbrev pub NeedsNoStatus : Request → List ℕ → Chip → Type 0
+NeedsNoStatus request image chip =
+    (code : ℕ) → IsWantedCode request.what chip code → ¬ NeedsStatus request code (is_touched_by request image chip) chip
+
+-- where it needs none, the report has no room for one
+abbrev pub SparesStatus : Request → List ℕ → BusState → Result Report Refusal → Type 0
+SparesStatus request image old result = IsModelled old → NeedsNoStatus request image old.chip
+    → IfOk result (IsWithinBound (scanned_sectors request old.chip.config.size) 0 request.verify)
 
 -- none of these sectors is guarded
 abbrev pub AreFree : (ℕ → Bool) → Chip → Type 0

@@ -4,10 +4,10 @@ ghost use Rattle.nor_journal.specs.Vault.{IsFresh};
 ghost use Rattle.nor_journal.specs.MemVault.{held_by};
 ghost use Rattle.nor_session.specs.Modelled.{most_of};
 ghost use Rattle.nor_session.specs.Rehearsing.{LeavesSession, ShowsSession, RefusesSession, LeavesRestores, ShowsRestore, ShowsRestores};
-ghost use Rattle.nor_session.specs.Rehearsing.{Undoes, StopsRestores, RefusesUndo};
+ghost use Rattle.nor_session.specs.Rehearsing.{Undoes, WearsSaved, StopsRestores, RefusesUndo};
 ghost use Rattle.nor_session.specs.Rehearsal.{KeepsNature, IsRehearsal, BlamesVault, first_allowance};
-ghost use Rattle.nor_session.specs.Rehearsal.{GivesAllBack, StaysRefused, RefusesRehearsal, SealsAccepted, SealsJournal};
-ghost use Rattle.nor_session.specs.Rehearsal.{EndsWhereAllowed, EndsWhereEnough, SealsAsAllowed, RestoresInTurn};
+ghost use Rattle.nor_session.specs.Rehearsal.{GivesAllBack, WearsTouched, StaysRefused, RefusesRehearsal, SealsAccepted, SealsJournal};
+ghost use Rattle.nor_session.specs.Rehearsal.{EndsWhereAllowed, EndsWhereEnough, SealsAsAllowed, RestoresInTurn, KeepsLastStop};
 
 use crate::restores::restore;
 use crate::sessions::session;
@@ -49,6 +49,7 @@ pub fn rehearse<B: Meter>(
 
     // On an honest bus whose chip is what it shows itself to be.
     ensures gives_back { GivesAllBack (B.state bus.old) (B.state bus.new) }
+    ensures wears { WearsTouched request.now image.old (B.state bus.old) (B.state bus.new) }
     ensures refuses { StaysRefused (B.state bus.old) (B.state bus.new) (held_by vault.new) result }
     ensures tells { RefusesRehearsal request.now image.old (B.state bus.old) (held_by vault.old) (held_by vault.new) result }
     ensures accepts { SealsAccepted request.now image.old (B.state bus.old) (held_by vault.new) }
@@ -57,6 +58,7 @@ pub fn rehearse<B: Meter>(
     ensures stopped { EndsWhereEnough request.now image.old stops.now (B.state bus.old) result }
     ensures seal { SealsAsAllowed request.now stops.now (B.state bus.old) result }
     ensures restores { RestoresInTurn request.now image.old stops.now (B.state bus.old) result }
+    ensures last { KeepsLastStop request.now image.old stops.now (B.state bus.old) (B.state bus.new) result }
 {
     let ended = stopped_session(bus, vault, image, request, stops)?;
     if !vault.is_sealed() {
@@ -115,7 +117,7 @@ fn stopped_session<B: Meter>(
     ensures leaves { LeavesSession request.now image.old (B.state bus.old) (B.state bus.new) (held_by vault.new) }
     ensures whole { length stops.now ≡ 0 → IfOk result (λ ended. ended ≡ true) }
     ensures shows { IfOk result
-        (ShowsSession request.now image.old (first_allowance stops.now) (B.state bus.old) (held_by vault.new)) }
+        (ShowsSession request.now image.old (first_allowance stops.now) (B.state bus.old) (B.state bus.new) (held_by vault.new)) }
     ensures refuses { IfErr result
         (RefusesSession request.now image.old (B.state bus.old) (B.state bus.new) (held_by vault.old) (held_by vault.new)) }
 {
@@ -131,6 +133,7 @@ fn stopped_session<B: Meter>(
 fn undo<B: Meter>(bus: &mut B, text: &[u8], stops: &[u64]) -> Result<u32, Refusal>
     requires few { length stops.now ≤ 64 }
     ensures nature { KeepsNature (B.state bus.old) (B.state bus.new) }
+    ensures wears { WearsSaved text.now (B.state bus.old) (B.state bus.new) }
     ensures undoes { IfOk result (Undoes text.now stops.now (B.state bus.old) (B.state bus.new)) }
     ensures refuses { IfErr result (RefusesUndo text.now (B.state bus.old)) }
 {

@@ -4,7 +4,7 @@ ghost use Rattle.nor_apply.specs.Spending.{Spends};
 ghost use Rattle.nor_session.specs.Modelled.{IsModelled, most_of};
 ghost use Rattle.nor_session.specs.Session.{IsWithinBound, SentAsTold};
 ghost use Rattle.nor_session.specs.Restore.{IsRestoreRefusal, LooksUnlessBegun, StaysUnlessBegun, RefusesRestore, LeavesRestore, Restores};
-ghost use Rattle.nor_session.specs.Restore.{KeepsGivingBack, GivesBack, EndsUnlessStopped};
+ghost use Rattle.nor_session.specs.Restore.{SparesStatusFrom, KeepsGivingBack, GivesBack, EndsUnlessStopped};
 
 use crate::preparing::prepare;
 use crate::sources::Saved;
@@ -31,6 +31,7 @@ pub fn restore<B: Bus>(bus: &mut B, journal: &Journal<'_>) -> Result<Report, Ref
     ensures tells { RefusesRestore journal.now (B.state bus.old) (B.state bus.new) result }
     ensures leaves { IsModelled (B.state bus.old) → LeavesRestore journal.now (B.state bus.old) (B.state bus.new) }
     ensures done { Restores journal.now (B.state bus.old) (B.state bus.new) result }
+    ensures spares { SparesStatusFrom journal.now (B.state bus.old) result }
 
     // And for each chip that the journal saves and that the bus's chip is within.
     ensures within { KeepsGivingBack journal.now (B.state bus.old) (B.state bus.new) }

@@ -8,7 +8,7 @@ ghost use Rattle.nor_save.specs.declared.refusal.Refusal.{Refusal};
 ghost use Rattle.nor_session.specs.Verdict.{IsVerdict, IsAccepted};
 ghost use Rattle.nor_session.specs.Modelled.{most_of};
 ghost use Rattle.nor_session.specs.Session.{LooksUnsealed, Answers, Ends, GivesUp, SentAsTold};
-ghost use Rattle.nor_session.specs.Session.{FallsBySize, Refuses, Finishes, SealsOnceScanned, LeadsBackFrom};
+ghost use Rattle.nor_session.specs.Session.{FallsBySize, Refuses, Finishes, SparesStatus, SealsOnceScanned, LeadsBackFrom};
 
 use crate::states::Judged;
 use nor_chip::Bus;
@@ -45,6 +45,7 @@ pub fn session<B: Bus, V: Vault>(
     ensures falls { FallsBySize (B.state bus.old) (B.state bus.new) }
     ensures tells { Refuses request.now image.old (B.state bus.old) (B.state bus.new) (V.state vault.old) (V.state vault.new) result }
     ensures done { Finishes request.now image.old (B.state bus.old) (B.state bus.new) result }
+    ensures spares { SparesStatus request.now image.old (B.state bus.old) result }
     ensures early { SealsOnceScanned request.now (B.state bus.old) (V.state vault.new) result }
     ensures undo { LeadsBackFrom request.now image.old (B.state bus.old) (B.state bus.new) (V.state vault.new) }
 {

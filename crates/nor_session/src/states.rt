@@ -9,7 +9,7 @@ ghost use Rattle.nor_apply.specs.Applying.{most_applied};
 ghost use Rattle.nor_apply.specs.Spending.{Spends};
 ghost use Rattle.nor_session.specs.Modelled.{most_of};
 ghost use Rattle.nor_session.specs.Session.{LooksUnsealed, Answers, Ends, GivesUp, SentAsTold};
-ghost use Rattle.nor_session.specs.Session.{FallsBySize, Refuses, Finishes, SealsOnceScanned, LeadsBackFrom};
+ghost use Rattle.nor_session.specs.Session.{FallsBySize, Refuses, Finishes, SparesStatus, SealsOnceScanned, LeadsBackFrom};
 ghost use Rattle.nor_session.specs.Answering.{IsJudged, SinceOpening};
 ghost use Rattle.nor_session.specs.Changing.{touched_count, LeavesChange, DoesChange, ChangeTells, DoesCheck, CheckRefuses};
 
@@ -52,6 +52,8 @@ impl<'a, B: Bus, V: Vault> Judged<'a, B, V> {
             (V.state self.entry.vault.now) (V.state self.exit.1.0.now) result) }
         ensures done { SinceOpening self.entry.request.now.named self.entry.opening (B.state self.entry.bus.now)
             (λ first. Finishes self.entry.request.now self.entry.image.now first (B.state self.exit.0.now) result) }
+        ensures spares { SinceOpening self.entry.request.now.named self.entry.opening (B.state self.entry.bus.now)
+            (λ first. SparesStatus self.entry.request.now self.entry.image.now first result) }
         ensures early { SinceOpening self.entry.request.now.named self.entry.opening (B.state self.entry.bus.now)
             (λ first. SealsOnceScanned self.entry.request.now first (V.state self.exit.1.0.now) result) }
         ensures undo { SinceOpening self.entry.request.now.named self.entry.opening (B.state self.entry.bus.now)

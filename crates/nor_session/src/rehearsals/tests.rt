@@ -120,6 +120,21 @@ fn restores_are_run_until_one_ends(rt: HostRuntime) -> Result<(), Fail> {
     Ok(())
 }
 
+// The session is stopped behind its erase, and the restores of the 62 stops behind that one in their scan. The restore
+// that ends takes 13 transactions: under the last of the stops it ends, or is stopped and one more is run.
+#[test]
+fn the_last_of_64_stops_counts(rt: HostRuntime) -> Result<(), Fail> {
+    let alloc = rt.alloc();
+    let mut stops = [8; 64];
+    stops[0] = 25;
+    for (last, restores) in [(13, 63), (12, 64)] {
+        stops[63] = last;
+        let rehearsal = rehearse_tiny(&rt, alloc, tiny64(alloc, IDLE)?, &stops)?;
+        assert_eq!(rt; rehearsal, stopped(restores));
+    }
+    Ok(())
+}
+
 #[test]
 fn a_loss_of_power_is_undone(rt: HostRuntime) -> Result<(), Fail> {
     let alloc = rt.alloc();

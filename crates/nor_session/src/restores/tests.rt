@@ -43,6 +43,17 @@ fn save_guarded(vault: &mut MemVault) -> Result<(), VaultFault>
     writer.end()
 }
 
+// The journal of a W25Q64FV with this status, whose first sector has FFh but for its first byte, 00h.
+fn save_free(vault: &mut MemVault, status: [u8; 2]) -> Result<(), VaultFault>
+    requires { IsFresh (held_by vault.old) }
+{
+    let mut bytes = [0xFF; 4096];
+    bytes[0] = 0x00;
+    let writer = Writer::start(vault, [0xEF, 0x40, 0x17], [0; 8], status, 0x80_0000)?;
+    let writer = writer.sector(0, &bytes)?;
+    writer.end()
+}
+
 // A bus to an idle chip that is FFh but for its first byte, which lets a thousand transactions through.
 fn bus_to(
     alloc: Global,
@@ -121,6 +132,26 @@ fn protection_is_given_back(rt: HostRuntime) -> Result<(), Fail> {
     let sent =
         "05 > 00\n9f > ef4017\n35 > 00\n4b00000000 > 8 bytes\n037e0000 > 4096 bytes\n06\n010400\n05 > 04\n";
     assert!(rt; log.as_slice() == sent.as_bytes());
+    Ok(())
+}
+
+// The chip's last 128 KiB are guarded, its first sector isn't: the status is as the journal tells it, and isn't written,
+// so it may be locked too.
+#[test]
+fn a_free_sector_takes_no_status_write(rt: HostRuntime) -> Result<(), Fail> {
+    for status in [[0x04, 0x00], [0x84, 0x00]] {
+        let mut vault = MemVault::new(rt.alloc());
+        save_free(&mut vault, status)?;
+        let journal = Journal::read(vault.bytes())?;
+        let mut bus = bus_to(rt.alloc(), Config::w25q64fv(), 8_388_608, 0xFF, status)?;
+        let report = restore(&mut bus, &journal)?;
+        assert_eq!(rt;
+            (report.touched, report.programs, report.transactions),
+            (1, 1, 10)
+        );
+        assert!(rt; bus.bytes().starts_with(&[0x00, 0xFF]));
+        assert_eq!(rt; bus.status(), status);
+    }
     Ok(())
 }
 

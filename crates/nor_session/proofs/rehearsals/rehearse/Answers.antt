@@ -1,5 +1,5 @@
 use Rattle.std.proofs.Common.{◌∙◌, sym}
-use Rattle.nor_session.proofs.RehearsedSessions.{never_refused, same_again, are_restores}
+use Rattle.nor_session.proofs.RehearsedSessions.{never_refused, same_again, worn_all, are_restores, last_stop}
 use Rattle.nor_session.proofs.rehearsals.rehearse.Goals as goal
 
 pub returns-in_err-restores-clause-gives_back : goal.returns-in_err-restores-clause-gives_back
@@ -31,3 +31,21 @@ returns-clause-restores g c modelled sealed' =
     let leaves = c.stopped_session.ensures.leaves in
     let sealed = sym c.is_sealed.ensures ∙ c.if-not-is_sealed.false in
     are_restores _ _ _ c.args.stops.now _ _ _ _ _ leaves.nature (λ modelled. leaves.back modelled sealed) c.bytes.ensures c.later.ensures c.in_ok-restores.ensures.undoes modelled
+
+pub returns-clause-last : goal.returns-clause-last
+returns-clause-last g c modelled sealed' =
+    let leaves = c.stopped_session.ensures.leaves in
+    let sealed = sym c.is_sealed.ensures ∙ c.if-not-is_sealed.false in
+    last_stop _ _ _ c.args.stops.now _ _ _ _ _ leaves.nature (λ modelled. leaves.back modelled sealed) c.bytes.ensures c.later.ensures c.in_ok-restores.ensures.undoes modelled
+
+pub returns-in_err-restores-clause-wears : goal.returns-in_err-restores-clause-wears
+returns-in_err-restores-clause-wears g c modelled =
+    let leaves = c.stopped_session.ensures.leaves in
+    let sealed = sym c.is_sealed.ensures ∙ c.if-not-is_sealed.false in
+    worn_all _ _ _ (g.B.Bus.state c.args.bus.now) (g.B.Bus.state c.stopped_session.new.bus) (g.B.Bus.state c.undo.new.bus) leaves.nature (λ modelled. leaves.back modelled sealed) c.bytes.ensures leaves.wears c.undo.ensures.wears modelled
+
+pub returns-clause-wears : goal.returns-clause-wears
+returns-clause-wears g c modelled =
+    let leaves = c.stopped_session.ensures.leaves in
+    let sealed = sym c.is_sealed.ensures ∙ c.if-not-is_sealed.false in
+    worn_all _ _ _ (g.B.Bus.state c.args.bus.now) (g.B.Bus.state c.stopped_session.new.bus) (g.B.Bus.state c.undo.new.bus) leaves.nature (λ modelled. leaves.back modelled sealed) c.bytes.ensures leaves.wears c.undo.ensures.wears modelled

@@ -4,6 +4,10 @@ use Rattle.nor_session.proofs.RehearsedSessions.{session_leaves, session_refuses
 use Rattle.nor_session.proofs.rehearsals.stopped_session.Goals as goal
 use Rattle.nor_session.proofs.rehearsals.stopped_session.Goals.{then-is_stopped+else-not-is_empty, else-is_stopped}
 
+pub returns-in-Ok-clause-leaves : goal.returns-in-Ok-clause-leaves
+returns-in-Ok-clause-leaves g c =
+    session_leaves _ _ _ _ _ _ _ _ _ c.allow.ensures refl (g.met.B.Bus.reaches c.allow.new.self) c.session.ensures.spends c.session.ensures.looks c.session.ensures.undo
+
 pub returns-in-Err-clause-leaves : goal.returns-in-Err-clause-leaves
 returns-in-Err-clause-leaves g c =
     session_leaves _ _ _ _ _ _ _ _ _ c.allow.ensures refl (g.met.B.Bus.reaches c.allow.new.self) c.session.ensures.spends c.session.ensures.looks c.session.ensures.undo

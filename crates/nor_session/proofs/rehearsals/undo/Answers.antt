@@ -1,6 +1,9 @@
 use Rattle.std.proofs.lemmas.Result.{IfOk-weaker, IfErr-weaker}
-use Rattle.nor_session.proofs.RehearsedRestores.{undoes, undo_refuses}
+use Rattle.nor_session.proofs.RehearsedRestores.{undoes, undo_wears, undo_refuses}
 use Rattle.nor_session.proofs.rehearsals.undo.Goals as goal
+
+pub returns-in-Ok-clause-wears : goal.returns-in-Ok-clause-wears
+returns-in-Ok-clause-wears g c = undo_wears _ _ _ c.in-Ok.journal c.in-Ok.ensures.kept c.restore_in_turn.ensures.leaves
 
 pub returns-in-Ok-clause-undoes : goal.returns-in-Ok-clause-undoes
 returns-in-Ok-clause-undoes g c =

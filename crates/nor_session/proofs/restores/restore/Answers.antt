@@ -1,7 +1,7 @@
 use Rattle.std.proofs.Common.{◌+◌, length, rules, arith}
 use Rattle.std.proofs.lemmas.Grind.{common_steps}
 use Rattle.nor_session.specs.Modelled.{most_looked, most_of}
-use Rattle.nor_session.proofs.Restoring.{AreChanged, looks_most, looks_spend, prepare_answers, prepare_gives_up, prepare_tells, looks_leave, looks_back, changed_spends, changed_leaves, changed_back, change_answers, change_not_judged, change_gives_up, change_tells, sum_fits, restored_bounded, restored_counted, restored_done, restored_back}
+use Rattle.nor_session.proofs.Restoring.{AreChanged, looks_most, looks_spend, prepare_answers, prepare_gives_up, prepare_tells, looks_leave, looks_back, changed_spends, changed_leaves, changed_back, change_answers, change_not_judged, change_gives_up, change_tells, sum_fits, restored_bounded, restored_counted, restored_sparing, restored_done, restored_back}
 use Rattle.nor_session.proofs.GivenBack.{only_stopped}
 use Rattle.nor_session.proofs.restores.restore.Goals as goal
 
@@ -115,6 +115,12 @@ returns-clause-counted g c =
     λ honest.
     let are : AreChanged c.args.journal.now c.in_ok-prepared.prepared (g.B.Bus.state c.args.bus.now) (g.B.Bus.state c.prepare.new.bus) (g.B.Bus.state c.finish.new.self.0) = record { room = c.prepare.ensures.room; looks = c.prepare.ensures.leaves; is = c.in_ok-prepared.ensures.prepares; leaves = c.finish.ensures.leaves } in
     restored_counted c.args.journal.now c.in_ok-prepared.prepared (g.B.Bus.state c.args.bus.now) (g.B.Bus.state c.prepare.new.bus) (g.B.Bus.state c.finish.new.self.0) c.in_ok-work.work (c.in_ok-prepared.prepared.transactions + c.in_ok-work.work.transactions) are c.in_ok-work.ensures.does (omega arith) honest
+
+pub returns-clause-spares : goal.returns-clause-spares
+returns-clause-spares g c =
+    λ modelled none.
+    let are : AreChanged c.args.journal.now c.in_ok-prepared.prepared (g.B.Bus.state c.args.bus.now) (g.B.Bus.state c.prepare.new.bus) (g.B.Bus.state c.finish.new.self.0) = record { room = c.prepare.ensures.room; looks = c.prepare.ensures.leaves; is = c.in_ok-prepared.ensures.prepares; leaves = c.finish.ensures.leaves } in
+    restored_sparing c.args.journal.now c.in_ok-prepared.prepared (g.B.Bus.state c.args.bus.now) (g.B.Bus.state c.prepare.new.bus) (g.B.Bus.state c.finish.new.self.0) c.in_ok-work.work (c.in_ok-prepared.prepared.transactions + c.in_ok-work.work.transactions) are c.in_ok-work.ensures.does (omega arith) modelled none
 
 pub returns-clause-leaves : goal.returns-clause-leaves
 returns-clause-leaves g c =

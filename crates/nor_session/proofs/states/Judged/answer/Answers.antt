@@ -8,7 +8,7 @@ use Rattle.nor_session.specs.Modelled.{most_looked, most_of}
 use Rattle.nor_session.specs.Session.{CanBeUndone}
 use Rattle.nor_session.proofs.ReadyChip.{small_first, is_opening, falls_sized, not_sealed, keep_tells}
 use Rattle.nor_session.proofs.SessionChanges.{change_gives_up, change_tells}
-use Rattle.nor_session.proofs.SessionEnds.{ready_chip, can_be_undone, done}
+use Rattle.nor_session.proofs.SessionEnds.{ready_chip, can_be_undone, done, spared}
 use Rattle.nor_session.proofs.states.Judged.answer.Goals as goal
 
 pub returns-in_err-kept-clause-looks : goal.returns-in_err-kept-clause-looks
@@ -120,6 +120,15 @@ returns-clause-done g c = λ first looks opens modelled.
     let of = ready_chip c.args.self.request.now c.args.self.image.now c.keep.new.image c.args.self.opening c.status.result c.args.self.code c.in_ok-kept.kept first (g.B.Bus.state c.args.self.bus.now) (g.B.Bus.state c.keep.new.bus) _ modelled looks opens is
     (c.requires.judged.accepts first.chip) c.in_ok-kept.ensures.keeps (λ a. let fits = c.keep.type_inv in search rules) (let reached = g.met.B.Bus.reaches c.args.self.bus.now (looks.honest ∙ modelled.honest) in small_first c.args.self.request.now.named c.args.self.opening first _ modelled.honest opens reached.kept2) in
     done c.args.self.request.now c.args.self.image.now c.keep.new.image c.args.self.opening c.status.result c.args.self.code c.in_ok-kept.kept first (g.B.Bus.state c.keep.new.bus) (g.B.Bus.state c.finish.new.self.0) c.args.self.request.now.verify c.in_ok-work.work c.from.result is of c.in_ok-work.ensures.does
+
+pub returns-clause-spares : goal.returns-clause-spares
+returns-clause-spares g c = λ first looks opens modelled none.
+    let is = ready c.args.self.request.now c.args.self.opening c.status.result c.args.self.code _ c.args.self.image.now c.keep.new.image _ c.in_ok-kept.kept first (g.B.Bus.state c.args.self.bus.now) (g.B.Bus.state c.keep.new.bus)
+    looks opens c.keep.ensures.leaves c.in_ok-kept.ensures.keeps c.status.ensures c.requires.judged.same_code in
+    let of = ready_chip c.args.self.request.now c.args.self.image.now c.keep.new.image c.args.self.opening c.status.result c.args.self.code c.in_ok-kept.kept first (g.B.Bus.state c.args.self.bus.now) (g.B.Bus.state c.keep.new.bus) _ modelled looks opens is
+    (c.requires.judged.accepts first.chip) c.in_ok-kept.ensures.keeps (λ a. let fits = c.keep.type_inv in search rules) (let reached = g.met.B.Bus.reaches c.args.self.bus.now (looks.honest ∙ modelled.honest) in small_first c.args.self.request.now.named c.args.self.opening first _ modelled.honest opens reached.kept2) in
+    spared c.args.self.request.now c.args.self.image.now c.keep.new.image c.args.self.opening c.status.result c.args.self.code c.in_ok-kept.kept first (g.B.Bus.state c.keep.new.bus) (g.B.Bus.state c.finish.new.self.0) _ c.args.self.request.now.verify c.in_ok-work.work
+    c.from.result c.from.ensures is of none c.in_ok-work.ensures.does
 
 pub returns-clause-undo : goal.returns-clause-undo
 returns-clause-undo g c = λ first looks opens modelled sealed.
