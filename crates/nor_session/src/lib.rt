@@ -3,6 +3,7 @@
 //! What each call promises stands in `specs/`: `Verdict.antt`, `Session.antt`, `Restore.antt`, `Rehearsal.antt`.
 #![tactic(auto)]
 
+mod answering;
 mod preparing;
 mod rehearsals;
 mod reopening;

@@ -10,7 +10,7 @@ ghost use Rattle.nor_session.specs.Modelled.{most_of};
 ghost use Rattle.nor_session.specs.Session.{LooksUnsealed, Answers, Ends, GivesUp, SentAsTold};
 ghost use Rattle.nor_session.specs.Session.{FallsBySize, Refuses, Finishes, SparesStatus, SealsOnceScanned, LeadsBackFrom};
 
-use crate::states::Judged;
+use crate::answering::Judged;
 use nor_chip::Bus;
 use nor_journal::Vault;
 use nor_save::{Refusal, Report, Request, judge_opening, open};

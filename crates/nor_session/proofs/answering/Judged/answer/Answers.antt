@@ -9,7 +9,7 @@ use Rattle.nor_session.specs.Session.{CanBeUndone}
 use Rattle.nor_session.proofs.ReadyChip.{small_first, is_opening, falls_sized, not_sealed, keep_tells}
 use Rattle.nor_session.proofs.SessionChanges.{change_gives_up, change_tells}
 use Rattle.nor_session.proofs.SessionEnds.{ready_chip, can_be_undone, done, spared}
-use Rattle.nor_session.proofs.states.Judged.answer.Goals as goal
+use Rattle.nor_session.proofs.answering.Judged.answer.Goals as goal
 
 pub returns-in_err-kept-clause-looks : goal.returns-in_err-kept-clause-looks
 returns-in_err-kept-clause-looks g c = λ first looks opens unsealed.
