@@ -22,8 +22,8 @@ pub struct Ran {
 }
 
 impl Ran {
-    // The lines of the trace.
-    fn lines(&self) -> Result<&str, Fault> {
+    /// The lines of the trace.
+    pub fn lines(&self) -> Result<&str, Fault> {
         match str::from_utf8(self.sent.as_slice()) {
             Ok(lines) => Ok(lines),
             Err(_) => Err(Fault::Differs("a trace is text")),

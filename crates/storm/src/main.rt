@@ -6,6 +6,7 @@ mod cases;
 mod checks;
 mod chips;
 mod contents;
+mod damages;
 mod dice;
 mod fault;
 mod guards;

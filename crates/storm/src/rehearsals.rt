@@ -1,12 +1,14 @@
 //! Rehearsals of sessions that are accepted.
 
 use crate::cases::Case;
+use crate::checks::Ran;
 use crate::dice::Dice;
 use crate::fault::{Fault, agree};
 use crate::wanted::Wanted;
 use crate::{checks, lengths, stops};
-use nor_journal::MemVault;
-use nor_session::rehearse;
+use nor_chip::Meter;
+use nor_journal::{Journal, MemVault};
+use nor_session::{rehearse, restore};
 use std::alloc::Global;
 
 /// Rehearses an accepted session under three stops, the first of which is the session's.
@@ -19,7 +21,8 @@ pub fn check(alloc: Global, dice: &mut Dice, case: &Case, wanted: &Wanted) -> Re
         stops::stop_of_restore(dice, whole),
     ];
     let mut bus = case.chip.bus(alloc)?;
-    bus.lose(stops::fill_for(dice, case));
+    let fill = stops::fill_for(dice, case);
+    bus.lose(fill);
     let mut vault = MemVault::new(alloc);
     let mut image = case.image.to_vec(alloc)?;
     let image = image.as_mut_slice();
@@ -41,9 +44,36 @@ pub fn check(alloc: Global, dice: &mut Dice, case: &Case, wanted: &Wanted) -> Re
         "whether a rehearsed session sealed",
     )?;
     agree(vault.is_sealed() == sealed, "the vault of a rehearsal")?;
-    let restores = if sealed { 1..=3 } else { 0..=0 };
+    let restores = count_restores(alloc, case, stops, fill)?;
     agree(
-        restores.contains(&rehearsal.restores),
+        rehearsal.restores == restores,
         "the restores of a rehearsal",
     )
+}
+
+// How many restores are run where session and restores are called one by one.
+fn count_restores(
+    alloc: Global,
+    case: &Case,
+    stops: [u64; 3],
+    fill: Option<u8>,
+) -> Result<u32, Fault> {
+    let [first, second, third] = stops;
+    let Ran {
+        answer: _,
+        mut bus,
+        vault,
+        sent: _,
+    } = checks::run(alloc, case, first, fill)?;
+    if !vault.is_sealed() {
+        return Ok(0);
+    }
+    let journal = Journal::read(vault.bytes())?;
+    for (count, stop) in (1_u32..).zip([second, third, u64::MAX]) {
+        bus.allow(stop);
+        if restore(&mut bus, &journal).is_ok() {
+            return Ok(count);
+        }
+    }
+    Err(Fault::Differs("a restore that nothing stops"))
 }

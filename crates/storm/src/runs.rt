@@ -6,7 +6,7 @@ use crate::fault::Fault;
 use crate::tally::Tally;
 use crate::wanted::Wanted;
 use crate::words::Job;
-use crate::{checks, readings, rehearsals, restores, stops, verdicts};
+use crate::{checks, damages, readings, rehearsals, restores, stops, verdicts};
 use std::alloc::Global;
 
 /// A case that ended a run, by its number.
@@ -27,8 +27,8 @@ pub fn run(alloc: Global, job: Job) -> Result<Tally, Halt> {
     Ok(tally)
 }
 
-// Runs a session as the plain code wants it. An accepted one is stopped and given back too; some journals are restored
-// on other chips, and some chips are read.
+// Runs a session as the plain code wants it. An accepted one is stopped and given back too; some journals are damaged,
+// and restored on other chips, and some chips are read.
 fn run_case(alloc: Global, seed: u64, number: u64, tally: &mut Tally) -> Result<(), Fault> {
     let mut dice = Dice::new(seed, number);
     let case = Case::next(alloc, &mut dice)?;
@@ -54,6 +54,7 @@ fn run_case(alloc: Global, seed: u64, number: u64, tally: &mut Tally) -> Result<
         tally.count_rehearsal();
     }
     if dice.hits(1, 3) {
+        damages::check(alloc, &mut dice, ran.vault.bytes())?;
         let refusal = restores::check(alloc, &mut dice, &case, &wanted, &ran)?;
         tally.count_restore(refusal);
     }

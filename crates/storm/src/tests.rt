@@ -5,7 +5,7 @@ use crate::dice::Dice;
 use crate::fault::Fault;
 use crate::wanted::Wanted;
 use crate::words::Job;
-use crate::{checks, guards, parameters, runs};
+use crate::{checks, guards, parameters, runs, traces, verdicts};
 use nor_chip::TINY64_SFDP;
 use nor_probe::SfdpFault;
 use std::alloc::Global;
@@ -145,5 +145,56 @@ fn a_wrong_byte_is_told(rt: HostRuntime) -> Result<(), Fail> {
     }
     let told = checks::check_ended(&case, &wanted, &ran);
     assert!(rt; matches!(told, Err(Fault::Differs("the bytes at the end"))));
+    Ok(())
+}
+
+// An accepted session's trace with a line more doesn't agree: one that changes before the seal, or one that erases too
+// much.
+#[test]
+fn a_wrong_line_is_told(rt: HostRuntime) -> Result<(), Fail> {
+    let case = Case::next(rt.alloc(), &mut Dice::new(1, 0))?;
+    let wanted = Wanted::of_case(rt.alloc(), &case)?;
+    let ran = checks::run(rt.alloc(), &case, u64::MAX, None)?;
+    let lines = ran.lines()?;
+    assert!(rt; traces::check_ended(&case, &wanted, lines).is_ok());
+    let early = format!(in rt.alloc(); "06\n{lines}")?;
+    let told = traces::check_ended(&case, &wanted, early.as_str());
+    assert!(rt;
+        matches!(
+            told,
+            Err(Fault::Differs("a changing command before the seal"))
+        )
+    );
+    let wide = format!(in rt.alloc(); "{lines}c7\n")?;
+    let told = traces::check_ended(&case, &wanted, wide.as_str());
+    assert!(rt; matches!(told, Err(Fault::Differs("the sectors that are erased"))));
+    Ok(())
+}
+
+// Nor does a refused session's trace with a line more, or with one that changes.
+#[test]
+fn a_wrong_line_of_a_refusal_is_told(rt: HostRuntime) -> Result<(), Fail> {
+    let case = Case::next(rt.alloc(), &mut Dice::new(1, 18))?;
+    let refusal = verdicts::of_opening(&case).ok_or("no refusal")?;
+    let ran = checks::run(rt.alloc(), &case, u64::MAX, None)?;
+    let lines = ran.lines()?;
+    assert!(rt; traces::check_refused(&case, refusal, lines).is_ok());
+    let longer = format!(in rt.alloc(); "{lines}05 > 00\n")?;
+    let told = traces::check_refused(&case, refusal, longer.as_str());
+    assert!(rt;
+        matches!(
+            told,
+            Err(Fault::Differs("the transactions before a refusal"))
+        )
+    );
+    let (_, rest) = lines.split_once('\n').ok_or("no line")?;
+    let changing = format!(in rt.alloc(); "06\n{rest}")?;
+    let told = traces::check_refused(&case, refusal, changing.as_str());
+    assert!(rt;
+        matches!(
+            told,
+            Err(Fault::Differs("a changing command before a refusal"))
+        )
+    );
     Ok(())
 }

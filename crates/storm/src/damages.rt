@@ -1,0 +1,48 @@
+//! Journals that were damaged, which are none.
+
+use crate::dice::Dice;
+use crate::fault::{Fault, agree};
+use nor_journal::{Journal, JournalFault};
+use std::alloc::Global;
+
+/// Damages a journal, and reads it: cut off, with a byte behind it, or with a byte changed.
+pub fn check(alloc: Global, dice: &mut Dice, journal: &[u8]) -> Result<(), Fault> {
+    let mut bytes = journal.to_vec(alloc)?;
+    let at = place(dice, bytes.len());
+    match dice.below(3) {
+        0 => {
+            bytes.truncate(at);
+            let read = Journal::read(bytes.as_slice());
+            agree(
+                matches!(read, Err(JournalFault::Short)),
+                "a journal that was cut off",
+            )
+        }
+        1 => {
+            bytes.push(dice.byte())?;
+            let read = Journal::read(bytes.as_slice());
+            agree(
+                matches!(read, Err(JournalFault::Long)),
+                "a journal with a byte behind it",
+            )
+        }
+        _ => {
+            if let Some(byte) = bytes.get_mut(at) {
+                *byte ^= dice.byte() | 0x01;
+            }
+            let read = Journal::read(bytes.as_slice());
+            agree(read.is_err(), "a journal with a byte changed")
+        }
+    }
+}
+
+// A place of so many, half of the time among the last.
+fn place(dice: &mut Dice, length: usize) -> usize {
+    let length = u32::try_from(length).unwrap_or(u32::MAX);
+    let at = if dice.hits(1, 2) {
+        dice.below(length)
+    } else {
+        length.saturating_sub(dice.below(40)).saturating_sub(1)
+    };
+    at as usize
+}
