@@ -3,7 +3,7 @@ ghost use Rattle.std.specs.Prelude.{◌≤◌, length};
 
 use super::{Rehearsal, rehearse};
 use crate::{Refusal, Request, What};
-use nor_chip::{Config, Delays, Meter, SimBus};
+use nor_chip::{Config, Delays, Meter, SimBus, Spoil, SpoiltBus};
 use nor_journal::MemVault;
 use std::alloc::Global;
 use std::process::Abort;
@@ -158,6 +158,20 @@ fn another_image_is_refused(rt: HostRuntime) -> Result<(), Fail> {
     };
     assert_eq!(rt; answer, Err(refusal));
     assert!(rt; !vault.is_sealed());
+    Ok(())
+}
+
+// The session ends with the 30th transaction. From the next one on each poll shows BUSY, so the restore's first wait has
+// no end; the address of the opening is 0.
+#[test]
+fn the_refusal_of_a_restore_is_told(rt: HostRuntime) -> Result<(), Fail> {
+    let alloc = rt.alloc();
+    let mut bus = SpoiltBus::new(tiny64(alloc, IDLE)?, Spoil::BusyFrom(31));
+    let mut vault = MemVault::new(alloc);
+    let mut image = erased_but(alloc, 65_536, 0, 0x01)?;
+    let answer = rehearse(&mut bus, &mut vault, &mut image, &WRITE, &[]);
+    assert_eq!(rt; answer, Err(Refusal::Timeout { address: 0 }));
+    assert!(rt; vault.is_sealed());
     Ok(())
 }
 
