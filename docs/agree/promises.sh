@@ -2,7 +2,10 @@
 
 take_promises() {
     local defined='((pub|fn|ensures|requires|record|law|abbrev|struct|enum|trait) )+[A-Za-z][A-Za-z0-9_]*'
-    grep -rhoE "$defined" crates --exclude-dir=out --include='*.rt' --include='*.antt' | sed 's/.* //' | keep names sources
+    {
+        grep -rhoE "$defined" crates --exclude-dir=out --include='*.rt' --include='*.antt' | sed 's/.* //'
+        find crates -path '*/must-fail/*.edit' | sed 's/.*\///; s/\.edit$//'
+    } | keep names sources
     grep '^|' docs/PROMISES.md | quoted | grep -E '^[A-Za-z][A-Za-z0-9_]*$' | keep names PROMISES
     find crates -name out -prune -o -type f -print | sed 's/^crates\///' | keep files sources
     search '[a-z_]+/(must-fail|specs|src)/[A-Za-z0-9_/]+\.(edit|antt|rt)' docs/PROMISES.md | keep files PROMISES
