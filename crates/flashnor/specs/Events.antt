@@ -10,6 +10,8 @@ pub data FileEvent : Type 0 where
   Read : Text → ℕ → Option (List ℕ) → FileEvent
   -- it was made or emptied, and got just these bytes
   Written : Text → List ℕ → FileEvent
+  -- it couldn't be made, emptied or written whole
+  Failed : Text → FileEvent
   -- it was made or emptied for a vault, which starts so
   Emptied : Text → VaultState → FileEvent
   -- it was made for a vault, which starts so, and wasn't there before
@@ -46,4 +48,4 @@ IsWritten happened (Some name) is = (bytes : List ℕ) × happened (Written name
 -- it got them; or it couldn't be written, and its name is told
 abbrev pub IsPutBack : Happened → Option (Bor Text) → (List ℕ → Type 0) → Option (Bor Text) → Type 0
 IsPutBack happened name is None = IsWritten happened name is
-IsPutBack happened name is (Some failed) = name ≡ Some failed
+IsPutBack happened name is (Some failed) = (name ≡ Some failed) × happened (Failed failed.now)

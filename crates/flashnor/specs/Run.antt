@@ -1,5 +1,5 @@
 -- What a run came to.
-use Rattle.std.specs.Prelude.{◌≡◌, ◌⊎◌, ℕ, Bool, true, false, List, Option, None, Result, Ok, Err, IsSomeAnd, OnSome, ⊤}
+use Rattle.std.specs.Prelude.{◌≡◌, ◌≤◌, ◌⊎◌, ℕ, Bool, true, false, List, Option, None, Result, Ok, Err, IsSomeAnd, OnSome, ⊤}
 use Rattle.std.specs.Borrow.{Bor}
 use Rattle.nor_chip.specs.Bus.{BusState}
 use Rattle.nor_chip.specs.Chip.{Chip}
@@ -11,7 +11,7 @@ use Rattle.nor_save.specs.declared.refusal.Refusal.TheVariants.{Memory, BadJourn
 use Rattle.nor_words.specs.Text.{Text}
 use Rattle.clap.specs.Words.{IsAmong}
 use Rattle.clap.specs.declared.error.kind.ErrorKind.TheVariants as kind
-use Rattle.nor_words.specs.Words.{IsJob, IsFault, refusals_of}
+use Rattle.nor_words.specs.Words.{IsJob, IsFault, IsRefused, refusals_of}
 use Rattle.nor_words.specs.declared.job.Change.{Change}
 use Rattle.nor_words.specs.declared.job.ChipJob.{ChipJob}
 use Rattle.nor_words.specs.declared.job.Job.{Job}
@@ -181,3 +181,9 @@ all_written = record { image = None; status = None; trace = None }
 abbrev pub Succeeds : Happened → List Text → Type 0
 Succeeds happened words =
     IsAmong kind.DisplayHelp (refusals_of words) ⊎ ((found : Answer) × IsAnswer happened words (Ok found) all_written)
+
+-- The status of a run: 0 or 1; 1 where the words ask for nothing, and 0 only where it has no fault.
+pub record IsStatus (happened : Happened) (words : List Text) (status : ℕ) : Type 0 where
+  pub few : status ≤ 1
+  pub refused : IsRefused words → status ≡ 1
+  pub succeeds : status ≡ 0 → Succeeds happened words

@@ -1,10 +1,9 @@
 //! A run of the program.
 ghost use Rattle.std.specs.Prelude.{◌≡◌, ◌≤◌, ◌⊎◌, IfOk, IfErr, IsSomeAnd, OnSome, map, string_bytes};
-ghost use Rattle.nor_words.specs.Words.{IsRefused};
 ghost use Rattle.flashnor.specs.Chips.{IsReady, Opens};
 ghost use Rattle.flashnor.specs.Files.{IsLogging};
 ghost use Rattle.flashnor.specs.Events.{unseen};
-ghost use Rattle.flashnor.specs.Run.{AreLeft, Does, EndsJob, FailsBefore, FailsJob, IsAnswer, IsToldAs, Succeeds, changes_chip};
+ghost use Rattle.flashnor.specs.Run.{AreLeft, Does, EndsJob, FailsBefore, FailsJob, IsAnswer, IsStatus, IsToldAs, all_written, changes_chip};
 
 use crate::answers::Answer;
 use crate::changes::{change_chip, restore_chip};
@@ -28,9 +27,7 @@ pub fn run_words<R: Files + AllocGlobal, O: Write, E: Write>(
     output: &mut O,
     errors: &mut E,
 ) -> u8
-    ensures status { result ≤ 1 }
-    ensures refused { IsRefused (map string_bytes words.now) → result ≡ 1 }
-    ensures succeeds { result ≡ 0 → Succeeds unseen (map string_bytes words.now) }
+    ensures { IsStatus unseen (map string_bytes words.now) result }
 {
     run_over(&Disk(rt), words, output, errors)
 }
@@ -43,9 +40,7 @@ fn run_over<R: Store, O: Write, E: Write>(
     output: &mut O,
     errors: &mut E,
 ) -> u8
-    ensures status { result ≤ 1 }
-    ensures refused { IsRefused (map string_bytes words.now) → result ≡ 1 }
-    ensures succeeds { result ≡ 0 → Succeeds (R.happened rt.now) (map string_bytes words.now) }
+    ensures { IsStatus (R.happened rt.now) (map string_bytes words.now) result }
 {
     let Ended { answer, unwritten } = run(rt, words);
     let printed = match answer {
@@ -73,7 +68,8 @@ struct Ended<'a> {
 impl<'a> Ended<'a> {
     // A run without a call.
     fn before(answer: Result<Answer, Fault<'a>>) -> Ended<'a>
-        ensures { result.answer ≡ answer.entry }
+        ensures answer { result.answer ≡ answer.entry }
+        ensures none { result.unwritten ≡ all_written }
     {
         let unwritten = Unwritten {
             image: None,

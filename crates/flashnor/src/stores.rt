@@ -14,10 +14,10 @@ use std::{fs, io};
 /// Contracts see what happened to them. Nothing is known of that but by these calls, so a run that is promised to have
 /// worked on the bytes of a file has read that file, and on no others.
 pub trait Store: AllocGlobal {
-    ghost use Rattle.std.specs.Prelude.{IfOk, OnOk, option_map};
+    ghost use Rattle.std.specs.Prelude.{IfOk, OnErr, OnOk, option_map};
     ghost use Rattle.nor_journal.specs.Vault.{IsFresh};
     ghost use Rattle.flashnor.specs.Events.{FileEvent};
-    ghost use Rattle.flashnor.specs.Events.FileEvent.{Read, Written, Emptied, Made};
+    ghost use Rattle.flashnor.specs.Events.FileEvent.{Read, Written, Failed, Emptied, Made};
 
     // What happened to the files.
     ghost happened: { Self → FileEvent → Type 0 };
@@ -34,7 +34,8 @@ pub trait Store: AllocGlobal {
 
     /// Makes or empties the file of this name, and writes these bytes into it, all at once.
     fn write_named(&self, name: &str, bytes: &[u8]) -> io::Result<()>
-        ensures { OnOk result (happened self.now (Written name.now bytes.now)) };
+        ensures written { OnOk result (happened self.now (Written name.now bytes.now)) }
+        ensures failed { OnErr result (happened self.now (Failed name.now)) };
 
     /// A vault in the file of this name, which is made or emptied.
     fn vault_in(&self, name: &str) -> io::Result<Self::Kept>

@@ -1,5 +1,6 @@
 //! A simulated bus: the modelled chip in memory.
-ghost use Rattle.std.specs.Prelude.{◌≡◌, ◌≢◌, ◌≤◌, ◌<◌, ◌||◌, ◌↔◌, ℕ, true, false, OnOk, OnErr, length, slice_index_or, vec_len, IsErr, IfOk};
+ghost use Rattle.std.specs.Prelude.{◌≡◌, ◌≢◌, ◌≤◌, ◌<◌, ◌||◌, ◌↔◌, ℕ, true, false, length, slice_index_or, vec_len};
+ghost use Rattle.std.specs.Prelude.{IsErr, IfOk, OnOk, OnErr};
 ghost use Rattle.nor_chip.specs.Aim.{IsAimed};
 ghost use Rattle.nor_chip.specs.Step.{wears};
 
@@ -128,7 +129,8 @@ impl Bus for SimBus {
         ensures sends { Sends out.now (state_of self.old) (state_of self.new) }
         ensures stops { (state_of self.old).honest ≡ true → OnErr result (Stops (state_of self.old) (state_of self.new)) }
         ensures unread { (state_of self.old).honest ≡ true → OnErr result (reply.new ≡ reply.old) }
-        ensures carries { (state_of self.old).honest ≡ true → OnOk result (Carries out.now reply.new (state_of self.old) (state_of self.new)) }
+        ensures carries { (state_of self.old).honest ≡ true
+            → OnOk result (Carries out.now reply.new (state_of self.old) (state_of self.new)) }
         ensures simulates { Simulates out.now reply.new result self.old self.new }
     {
         self.stirred = is_changing(out) || self.stirred;

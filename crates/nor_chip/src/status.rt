@@ -130,7 +130,8 @@ impl Status2 {
 
     // What a status write leaves of these bits.
     fn written(self, sent: Status2) -> Status2
-        ensures { result.0 ≡ bit_or (bit_and sent.0 0b1000011) (bit_or (bit_and self.0 0b0111100) (bit_and sent.0 0b0111000)) }
+        ensures { result.0
+            ≡ bit_or (bit_and sent.0 0b1000011) (bit_or (bit_and self.0 0b0111100) (bit_and sent.0 0b0111000)) }
     {
         let held = self.intersection(Status2::HELD);
         let set = sent.intersection(Status2::LB);
@@ -200,7 +201,8 @@ impl Status {
     #[tactic(auto, using(crate::proofs::StatusBits::written_lt))]
     pub(crate) fn written(self, sent: Status) -> Status
         ensures one { result.one.0 ≡ sent.one.0 / 4 * 4 }
-        ensures two { result.two.0 ≡ bit_or (bit_and sent.two.0 0b1000011) (bit_or (bit_and self.two.0 0b0111100) (bit_and sent.two.0 0b0111000)) }
+        ensures two { result.two.0
+            ≡ bit_or (bit_and sent.two.0 0b1000011) (bit_or (bit_and self.two.0 0b0111100) (bit_and sent.two.0 0b0111000)) }
         ensures fits { result.two.0 < 128 }
     {
         Status {

@@ -1,7 +1,8 @@
 //! The options of the program.
 ghost use Rattle.std.specs.Prelude.{◌≡◌, IfOk, Some};
 ghost use Rattle.clap.specs.Words.{app_of};
-ghost use Rattle.nor_words.specs.Options.{options, with_rules, chip_rules, reader_rules, change_rules, manner_rules, help_rule, valued, flag, IsOption};
+ghost use Rattle.nor_words.specs.Options.{options, with_rules, chip_rules, reader_rules, change_rules, manner_rules};
+ghost use Rattle.nor_words.specs.Options.{help_rule, valued, flag, IsOption};
 
 use clap::{Arg, ArgAction, Command};
 use std::alloc::{AllocError, Global};

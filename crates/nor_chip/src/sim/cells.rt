@@ -8,7 +8,8 @@ pub(crate) const PAGE_LEN: usize = 256;
 // Clears the bits that aren't set in the bytes sent, from `from` on.
 fn clear_bits(bytes: &mut [u8], from: usize, sent: &[u8])
     requires { from + length sent.now ≤ length bytes.old }
-    ensures inside { (i : ℕ) → i < length sent.now → slice_index bytes.new (from + i) ≡ bit_and (slice_index bytes.old (from + i)) (slice_index sent.now i) }
+    ensures inside { (i : ℕ) → i < length sent.now
+        → slice_index bytes.new (from + i) ≡ bit_and (slice_index bytes.old (from + i)) (slice_index sent.now i) }
     ensures below { (a : ℕ) → a < from → slice_index bytes.new a ≡ slice_index bytes.old a }
     ensures above { (a : ℕ) → from + length sent.now ≤ a → slice_index bytes.new a ≡ slice_index bytes.old a }
 {
@@ -43,7 +44,8 @@ pub(crate) fn fill(bytes: &mut [u8], start: usize, len: usize, byte: u8)
 /// Reads from `at` on, and on from the first byte where the bytes end.
 pub(crate) fn read_round(bytes: &[u8], at: usize, reply: &mut [u8])
     requires { at < length bytes.now }
-    ensures { (i : ℕ) → i < length reply.new → slice_index reply.new i ≡ slice_index bytes.now ((at + i) % length bytes.now) }
+    ensures { (i : ℕ) → i < length reply.new
+        → slice_index reply.new i ≡ slice_index bytes.now ((at + i) % length bytes.now) }
 {
     let mut from = at;
     let mut done = 0;
