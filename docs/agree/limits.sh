@@ -81,9 +81,9 @@ limit_runs() {
     limit "status of a fault" "$(constant $messages 'ensures \{ result ≡ ')" 2 \
         'tandard error, (with|and the) status( is)? #'
     limit "tests of the program" "$(cat crates/flashnor/src/{,tests/}*.rt | grep -c '^#\[test\]')" 1 '# tests, each'
-    seq 0 "$(constant crates/flashnor/src/run.rt 'status \{ result ≤ ')" | keep "exit statuses" run.rt
+    seq 0 "$(constant crates/flashnor/specs/Run.antt 'pub few : status ≤ ')" | keep "exit statuses" Run.antt
     tags "EXIT STATUS" | keep "exit statuses" manual
-    same "exit statuses" run.rt manual
+    same "exit statuses" Run.antt manual
 }
 
 take_limits() {
