@@ -1,6 +1,7 @@
 //! Sessions that change a flash chip and can be undone, the restores that undo them, and rehearsals of both.
 //!
-//! What each call promises stands in `specs/`: `Verdict.antt`, `Session.antt`, `Restore.antt`, `WrittenOver.antt`, `Rehearsal.antt`.
+//! What each call promises stands in `specs/`: `Verdict.antt`, `Session.antt`, `Restore.antt`, `WrittenOver.antt`,
+//! `Rehearsal.antt`.
 #![tactic(auto)]
 
 mod answering;
