@@ -59,7 +59,12 @@ fn a_write_that_fails_loses_no_byte(rt: HostRuntime) -> Result<(), Fail> {
 fn a_half_written_image_is_given_back(rt: HostRuntime) -> Result<(), Fail> {
     let shelf = small(&rt)?.with_flaw("chip", Flaw::Room(100))?;
     let told = done(&shelf, TINY, [2, 2, 2, 37])?;
-    ends(&rt, &shelf, WRITE, (told.as_str(), "File fault 2: chip.\n", 1))?;
+    ends(
+        &rt,
+        &shelf,
+        WRITE,
+        (told.as_str(), "File fault 2: chip.\n", 1),
+    )?;
     let half = [(0, 0, 0x01), (65_535, 65_535, 0x00)];
     holds(&rt, &shelf, "chip", 65_536, &half)?;
     let rescue = Shelf::new(rt.alloc())
@@ -82,7 +87,9 @@ fn the_folder_of_a_new_journal_is_synced(rt: HostRuntime) -> Result<(), Fail> {
         changes(&rt, &shelf, WRITE, TINY, [2, 2, 2, 37])?;
         assert!(rt; !shelf.is_synced(".")?);
     }
-    let shelf = small(&rt)?.with_bytes(".", b"")?.with_flaw(".", Flaw::Sync)?;
+    let shelf = small(&rt)?
+        .with_bytes(".", b"")?
+        .with_flaw(".", Flaw::Sync)?;
     fails(&rt, &shelf, WRITE, "File fault 2: journal.")?;
     let old = [(0, 0, 0x00), (65_535, 65_535, 0x00)];
     holds(&rt, &shelf, "chip", 65_536, &old)
