@@ -1,20 +1,23 @@
 -- What may be opened from the chip's files at any moment of their being written over.
-use Rattle.std.proofs.Common.{◌≡◌, ◌≤◌, ◌<◌, ◌+◌, ◌-◌, ◌*◌, ◌/◌, ◌%◌, ◌==◌, ◌∙◌, ◌⊎◌, ◌++◌, ℕ, Bool, true, false, List, [], Option, Some, None, ap, arith, drop, get_or, inl, inr, length, refl, sym, take, true≢false}
+use Rattle.std.proofs.Common.{◌≡◌, ◌≤◌, ◌<◌, ◌+◌, ◌-◌, ◌*◌, ◌/◌, ◌%◌, ◌==◌, ◌∙◌, ◌++◌, ◌∷◌, ℕ, Bool, true, false}
+use Rattle.std.proofs.Common.{List, [], Option, Some, None, ap, arith, drop, get_or, inl, inr, length, refl, replicate, sym, take}
+use Rattle.std.proofs.Common.{true≢false}
 use Rattle.std.specs.Prelude.{IfSome, if◌then◌else◌, slice_index, unwrap_or}
 use Rattle.std.proofs.lemmas.Bool.{cases_lt}
-use Rattle.std.proofs.lemmas.List.{append-nil, get_or-append_right, get_or-drop, get_or-take, get_or_append_left, length-append, length-drop, length-take-le, take_all}
+use Rattle.std.proofs.lemmas.List.{append-nil, get_or-append_right, get_or-drop, get_or-take, get_or_append_left, get_or_past}
+use Rattle.std.proofs.lemmas.List.{length-append, length-drop, length-replicate, length-take-le, take_all}
 use Rattle.std.proofs.Math.Seq.{drop-nil}
 use Rattle.nor_chip.specs.Bus.{BusState}
-use Rattle.nor_chip.specs.Chip.{Chip, IsSame, status1_of, status2_of}
+use Rattle.nor_chip.specs.Chip.{Chip, IsSame}
+use Rattle.nor_chip.specs.Start.{AreBytesOf, status_of}
 use Rattle.nor_driver.specs.Looks.{IsCalm}
 use Rattle.nor_journal.specs.Text.{Content as Journal}
-use Rattle.nor_session.specs.Modelled.{IsModelled}
 use Rattle.nor_session.specs.Restore.{CanGiveBack}
 use Rattle.nor_session.specs.WrittenOver.{IsWrittenOver}
 use Rattle.nor_session.proofs.WrittenBack.{restore_over, same_over}
 use Rattle.nor_words.specs.declared.programmer.Programmer.{Programmer}
 use Rattle.flashnor.specs.Chips.{Opens}
-use Rattle.flashnor.specs.WrittenOver.{AreOver, IsOver, OpensAmid}
+use Rattle.flashnor.specs.WrittenOver.{AreOver, IsCutOff, IsEither, IsOver, OpensAmid}
 use Rattle.flashnor.specs.declared.chips.Content.{Content}
 
 -- ---- a beginning of new bytes over old ones
@@ -39,6 +42,11 @@ module _ (bytes had : List ℕ) (so_far : ℕ) (some : so_far ≤ length bytes) 
   over_length : length (take so_far bytes ++ drop so_far had) ≡ so_far + (length had - so_far)
   over_length = length-append (take so_far bytes) (drop so_far had) ∙ (rw (first_length, length-drop so_far had) refl)
 
+sized_or : (found : Option (List ℕ)) (missing : List ℕ) (len : ℕ) → IfSome found (λ had. length had ≡ len) → length missing ≡ len
+    → length (unwrap_or found missing) ≡ len
+sized_or None missing len sized most = most
+sized_or (Some had) missing len sized most = sized
+
 -- a file that was made for these bytes has them all, once it has as many
 made_whole : (bytes has : List ℕ) (len : ℕ) → length bytes ≡ len → IsOver bytes [] has → length has ≡ len → has ≡ bytes
 made_whole bytes has len whole over same =
@@ -46,15 +54,42 @@ made_whole bytes has len whole over same =
     let all : length bytes ≤ over.so_far = omega (arith, sized, same, whole) in
     over.is ∙ (rw (take_all over.so_far bytes all, drop-nil over.so_far) (append-nil bytes))
 
-pub old_or_new : (found : Option (List ℕ)) (missing bytes has : List ℕ) (len : ℕ) → IfSome found (λ had. length had ≡ len)
+old_or_new : (found : Option (List ℕ)) (missing bytes has : List ℕ) (len : ℕ) → IfSome found (λ had. length had ≡ len)
     → length bytes ≡ len → IsOver bytes (unwrap_or found []) has → length has ≡ len
-    → (i : ℕ) → (slice_index has i ≡ slice_index (unwrap_or found missing) i) ⊎ (slice_index has i ≡ slice_index bytes i)
+    → (i : ℕ) → IsEither (slice_index has i) (slice_index (unwrap_or found missing) i) (slice_index bytes i)
 old_or_new None missing bytes has len fits whole over same i =
     inr (ap (λ (l : List ℕ). slice_index l i) (made_whole bytes has len whole over same))
 old_or_new (Some had) missing bytes has len fits whole over same i = elim (cases_lt i over.so_far) [
   | inl below ↦ inr (ap (λ (l : List ℕ). slice_index l i) over.is ∙ front bytes had over.so_far over.some i below)
   | inr above ↦ inl (ap (λ (l : List ℕ). slice_index l i) over.is ∙ rest bytes had over.so_far over.some i above)
 ]
+
+-- of a file that is cut off
+each : (len : ℕ) (missing bytes had has : List ℕ) → length bytes ≡ len → IsCutOff len missing bytes had has
+    → (i : ℕ) → IsEither (slice_index has i) (slice_index had i) (slice_index bytes i)
+each len missing bytes had has whole cut i =
+    rw cut.stood (old_or_new cut.found missing bytes has len cut.sized whole cut.over cut.whole i)
+
+-- what stood for the file has its length
+stood_length : (len : ℕ) (missing bytes had has : List ℕ) → length missing ≡ len → IsCutOff len missing bytes had has → length had ≡ len
+stood_length len missing bytes had has most cut = rw cut.stood (sized_or cut.found missing len cut.sized most)
+
+pub cut_off : (new : Chip) (bytes : List ℕ) (had has : Content) → AreBytesOf new bytes
+    → IsCutOff new.config.size (replicate new.config.size 255) bytes had.bytes.items has.bytes.items
+    → IsCutOff 2 (0 ∷ 0 ∷ []) (status_of new) had.status has.status → AreOver new had has
+cut_off new bytes had has are image status = record {
+  bytes = λ a. elim (cases_lt a new.config.size) [
+    | inl below ↦ elim (each _ _ _ _ _ are.len image a) [
+      | inl is ↦ inl is
+      | inr is ↦ inr (is ∙ are.at a below)
+    ]
+    | inr past ↦ inl (get_or_past has.bytes.items a 0 (omega (arith, image.whole, past))
+        ∙ sym (get_or_past had.bytes.items a 0
+        (omega (arith, stood_length _ _ _ _ _ (length-replicate new.config.size 255) image, past))))
+  ];
+  one = each 2 _ _ _ _ refl status 0;
+  two = each 2 _ _ _ _ refl status 1;
+}
 
 -- ---- the chip that is opened
 

@@ -1,5 +1,5 @@
 -- A file that fails while it is read ends the run by its own fault, or for want of memory.
-use Rattle.std.proofs.Common.{◌≡◌, ℕ, inr}
+use Rattle.std.proofs.Common.{ℕ, inr}
 use Rattle.nor_words.specs.Text.{Text}
 use Rattle.flashnor.specs.Events.{Happened}
 use Rattle.flashnor.specs.Events.FileEvent.{Unread}

@@ -46,8 +46,8 @@ pub record GivesUp (request : Request) (image : List ℕ) (old new : BusState) (
   pub same : number_of refusal ≤ 11 → IsSame old.chip new.chip
   pub unused : number_of refusal ≤ 8 → vault' ≡ vault
 
--- The chip that is opened is the one from before, until the vault is sealed; from then on it is one that the journal gives
--- back which is read from the vault's bytes, where that is telling.
+-- The chip that is opened is the one from before, until the vault is sealed; from then on it is one that the journal
+-- gives back which is read from the vault's bytes, where that is telling.
 pub record IsSafe (old opened : BusState) (vault : VaultState) : Type 0 where
   pub same : vault.sealed ≡ false → IsSame old.chip opened.chip
   pub back : vault.sealed ≡ true → vault.telling ≡ true

@@ -17,7 +17,8 @@ IsUnread name _ = ⊥
 -- at most so many bytes of the file of this name are read: it isn't there, or can't be read; or memory runs out
 abbrev pub IsReading : Happened → Text → ℕ → Fault → Type 0
 IsReading happened name most (end.Refused refusal) = refusal ≡ Memory
-IsReading happened name most (end.File file.Read of) = (of.now ≡ name) × (happened (Read name most None) ⊎ happened (Unread name))
+IsReading happened name most (end.File file.Read of) =
+    (of.now ≡ name) × (happened (Read name most None) ⊎ happened (Unread name))
 IsReading happened name most _ = ⊥
 
 -- the text in the file of this name, which may have so many bytes, has more

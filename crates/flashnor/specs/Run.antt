@@ -115,7 +115,8 @@ pub record IsCalled (happened : Happened) (job : ChipJob) (unwritten : Unwritten
   pub opened : Opens job.programmer content old
   pub does : Does happened job.programmer job.named job.task old new outcome
   pub left : AreLeft (changes_chip job.task) happened job.programmer new.chip unwritten
-  pub over : (opened : BusState) → OpensAmid content old.chip new.chip opened → IsWrittenOver old.chip new.chip opened.chip
+  pub over : (opened : BusState) → OpensAmid content old.chip new.chip opened
+      → IsWrittenOver old.chip new.chip opened.chip
   pub traced : OnSome unwritten.trace (unwritten.trace ≡ job.programmer.trace)
 
 -- ---- faults from before the call
@@ -139,8 +140,10 @@ FailsToRestore happened name fault = IsReading happened name 16793662 fault
 
 -- how a task may end a run before its call is made
 abbrev pub FailsBefore : Happened → Task → Fault → Type 0
-FailsBefore happened (task.Read file regions) fault = FailsToInclude happened regions fault ⊎ IsMaking happened file.now fault
-FailsBefore happened (task.Verify file regions) fault = FailsToInclude happened regions fault ⊎ IsReading happened file.now 16777217 fault
+FailsBefore happened (task.Read file regions) fault =
+    FailsToInclude happened regions fault ⊎ IsMaking happened file.now fault
+FailsBefore happened (task.Verify file regions) fault =
+    FailsToInclude happened regions fault ⊎ IsReading happened file.now 16777217 fault
 FailsBefore happened (task.Change change) fault =
     FailsToInclude happened change.regions fault
     ⊎ (FailsToRead happened change.wanted fault ⊎ FailsToKeep happened change.keeping fault)
@@ -150,7 +153,8 @@ FailsBefore happened _ fault = ⊥
 -- how a job may end without a call: by the chip's files, by the trace's, or by those of its task
 abbrev pub FailsJob : Happened → ChipJob → Fault → Type 0
 FailsJob happened on_chip fault = FailsToOpen happened on_chip.programmer fault
-    ⊎ (IsSomeAnd on_chip.programmer.trace (λ name. IsLogging happened name.now fault) ⊎ FailsBefore happened on_chip.task fault)
+    ⊎ (IsSomeAnd on_chip.programmer.trace (λ name. IsLogging happened name.now fault)
+    ⊎ FailsBefore happened on_chip.task fault)
 
 -- ---- runs
 

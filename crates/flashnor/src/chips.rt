@@ -1,12 +1,15 @@
 //! The emulated chip: what its files tell of it, and the bus to it.
-ghost use Rattle.std.specs.Prelude.{◌≡◌, ◌∷◌, ◌⊎◌, [], ℕ, List, Option, IfOk, IfErr, IfSome, IsSomeAnd};
-ghost use Rattle.std.specs.Prelude.{length, option_map, replicate, slice_index, unwrap_or, vec_len};
+ghost use Rattle.std.specs.Prelude.{◌≡◌, ◌∷◌, [], ℕ, List, IfOk, IfErr, IfSome, IsSomeAnd, option_map, replicate};
+ghost use Rattle.std.specs.Prelude.{unwrap_or, vec_len};
+ghost use Rattle.nor_chip.specs.Chip.{Chip};
+ghost use Rattle.nor_chip.specs.Start.{AreBytesOf, status_of};
 ghost use Rattle.nor_chip.specs.Sim.{fill_of, pace_of};
 ghost use Rattle.flashnor.specs.Chips.{ArePutBack, FailsToOpen, Holds, IsConfigWith, IsContentOf, Opens};
 ghost use Rattle.flashnor.specs.Events.{AreOfFile, IsFound, IsPutBack};
 ghost use Rattle.flashnor.specs.Files.{IsOpening};
 ghost use Rattle.flashnor.specs.Found.{part_of};
-ghost use Rattle.flashnor.specs.WrittenOver.{IsOver};
+ghost use Rattle.flashnor.specs.declared.chips.Content.{Content};
+ghost use Rattle.flashnor.specs.WrittenOver.{AreOver, IsCutOff};
 
 use crate::files::reading;
 use crate::messages::{Fault, FileFault};
@@ -68,7 +71,8 @@ fn read_whole<'a, R: Store>(
 ) -> Result<Option<Vec<u8>>, Fault<'a>>
     ensures len { IfOk result (λ found. IfSome found (λ bytes. vec_len bytes ≡ len)) }
     ensures ok { IfOk result (λ found. IsFound (R.happened rt.now) name.entry len (option_map (λ bytes. bytes.items) found)) }
-    ensures err { IfErr result (λ fault. IsSomeAnd name.entry (λ given. IsOpening (R.happened rt.now) given.now len fault)) }
+    ensures err { IfErr result (λ fault.
+        IsSomeAnd name.entry (λ given. IsOpening (R.happened rt.now) given.now len fault)) }
 {
     let Some(name) = name else {
         return Ok(None);
@@ -85,13 +89,13 @@ fn read_whole<'a, R: Store>(
     Ok(Some(bytes))
 }
 
-/// While bytes are written over a chip's file, and wherever that ends: once the file has as many as before, or where it
-/// wasn't there as many as are written, each of them is the one from before or the new one. (Where it wasn't there, those
-/// from before are the missing ones.)
-pub fn old_or_new()
-    ensures { (found : Option (List ℕ)) (missing bytes has : List ℕ) (len : ℕ) → IfSome found (λ had. length had ≡ len)
-        → length bytes ≡ len → IsOver bytes (unwrap_or found []) has → length has ≡ len → (i : ℕ)
-        → (slice_index has i ≡ slice_index (unwrap_or found missing) i) ⊎ (slice_index has i ≡ slice_index bytes i) }
+/// Wherever the writing of a chip over its files is cut off, each of their bytes is the old or the new one, once they
+/// have as many as a later run asks for. A file that wasn't there before counts as an erased chip's, or as clear status
+/// bytes.
+pub fn cut_off_anywhere()
+    ensures { (new : Chip) (bytes : List ℕ) (had has : Content) → AreBytesOf new bytes
+        → IsCutOff new.config.size (replicate new.config.size 255) bytes had.bytes.items has.bytes.items
+        → IsCutOff 2 (0 ∷ 0 ∷ []) (status_of new) had.status has.status → AreOver new had has }
 {}
 
 /// The bytes of an erased chip of this size.

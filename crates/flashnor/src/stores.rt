@@ -32,24 +32,27 @@ pub trait Store: AllocGlobal {
 
     /// What there is of the file of this name, of which at most so many bytes are read.
     fn read_named(&self, name: &str, most: u64) -> io::Result<Option<Vec<u8>>>
-        ensures read { IfOk result (λ found. happened self.now (Read name.now most (option_map (λ bytes. bytes.items) found))) }
+        ensures read { IfOk result (λ found.
+            happened self.now (Read name.now most (option_map (λ bytes. bytes.items) found))) }
         ensures unread { OnErr result (happened self.now (Unread name.now)) };
 
-    /// Writes these bytes over the file of this name, which is made where it isn't there: from its front, and at last it
-    /// is cut to their length. It is never emptied, so at each moment a beginning of them stands over what it had.
+    /// Writes these bytes over the file of this name, which is made where it isn't there: from its front, and at last
+    /// it is cut to their length. It is never emptied, so at each moment a beginning of them stands over what it had.
     fn write_over(&self, name: &str, bytes: &[u8]) -> io::Result<()>
         ensures written { OnOk result (happened self.now (Written name.now bytes.now)) }
         ensures failed { OnErr result (FailsOver (happened self.now) name.now bytes.now) };
 
     /// A vault in the file of this name, which is made or emptied.
     fn vault_in(&self, name: &str) -> io::Result<Self::Kept>
-        ensures emptied { IfOk result (λ vault. IsFresh (Self.Kept.state vault) × happened self.now (Emptied name.now (Self.Kept.state vault))) }
+        ensures emptied { IfOk result (λ vault.
+            IsFresh (Self.Kept.state vault) × happened self.now (Emptied name.now (Self.Kept.state vault))) }
         ensures unmade { OnErr result (happened self.now (Unmade name.now)) };
 
-    /// A vault in the file of this name, which is made, and wasn't there before; and stays there, whatever becomes of the
-    /// machine.
+    /// A vault in the file of this name, which is made, and wasn't there before; and stays there, whatever becomes of
+    /// the machine.
     fn vault_in_new(&self, name: &str) -> io::Result<Self::Kept>
-        ensures made { IfOk result (λ vault. IsFresh (Self.Kept.state vault) × happened self.now (Made name.now (Self.Kept.state vault))) }
+        ensures made { IfOk result (λ vault.
+            IsFresh (Self.Kept.state vault) × happened self.now (Made name.now (Self.Kept.state vault))) }
         ensures unmade { IfErr result (λ error. FailsNew (happened self.now) name.now (error_kind error)) };
 
     /// The file of this name, which is made or emptied.

@@ -53,8 +53,8 @@ fn a_write_that_fails_loses_no_byte(rt: HostRuntime) -> Result<(), Fail> {
     Ok(())
 }
 
-// The image's file takes only its first 100 bytes: its first sector is the new one, its last the old one, and the journal
-// gives both back.
+// The image's file takes only its first 100 bytes: its first sector is the new one, its last the old one, and the
+// journal gives both back.
 #[test]
 fn a_half_written_image_is_given_back(rt: HostRuntime) -> Result<(), Fail> {
     let shelf = small(&rt)?.with_flaw("chip", Flaw::Room(100))?;
