@@ -1,5 +1,5 @@
 -- How calls and jobs end a run.
-use Rattle.std.proofs.Common.{◌≡◌, List, Option, None, Some, Result, Ok, Err, inl, inr, subst}
+use Rattle.std.proofs.Common.{◌≡◌, ◌<◌, List, Option, None, Some, Result, Ok, Err, inl, inr, subst}
 use Rattle.std.specs.Prelude.{IsSomeAnd, OnSome}
 use Rattle.nor_chip.specs.Bus.{BusState}
 use Rattle.nor_save.specs.declared.refusal.Refusal.{Refusal}
@@ -24,6 +24,7 @@ use Rattle.flashnor.specs.Events.{Happened}
 use Rattle.flashnor.specs.Requests.{FailsToInclude}
 use Rattle.flashnor.specs.Run.{AreLeft, Does, EndsJob, FailsBefore, FailsJob, FailsToKeep, FailsToRead, IsAnswer, IsCalled, IsToldAs}
 use Rattle.flashnor.specs.Run.{Succeeds, all_written, changes_chip}
+use Rattle.flashnor.proofs.Amid.{opened_over}
 use Rattle.flashnor.specs.declared.answers.Answer.{Answer}
 use Rattle.flashnor.specs.declared.answers.Answer.TheVariants as answer
 use Rattle.flashnor.specs.declared.chips.Content.{Content}
@@ -37,21 +38,21 @@ none_and : {T : Type 0} (P : T → Type 0) (o : Option T) → ((x : T) → P x �
 none_and P None never some = some
 none_and P (Some x) never some = never x some
 
-no_include : (regions : Option Regions) (fault : UsageFault) → FailsToInclude regions (end.Usage fault) → ⊥
-no_include None fault fails = fails
-no_include (Some regions) fault fails = fails
-
-no_read : (what : Wanted) (fault : UsageFault) → FailsToRead what (end.Usage fault) → ⊥
-no_read (wanted.Write image) fault fails = fails
-no_read wanted.Erase fault fails = cc
-no_read (wanted.Range start len) fault fails = fails
-
-no_keep : (kept : Keeping) (fault : UsageFault) → FailsToKeep kept (end.Usage fault) → ⊥
-no_keep (keeping.Journal file) fault fails = fails
-no_keep (keeping.Rehearse stops) fault fails = fails
-
 -- below: whatever happened to the files
 module _ (happened : Happened) where
+  no_include : (regions : Option Regions) (fault : UsageFault) → FailsToInclude happened regions (end.Usage fault) → ⊥
+  no_include None fault fails = fails
+  no_include (Some regions) fault fails = elim fails [ inl f ↦ f | inr f ↦ f ]
+
+  no_read : (what : Wanted) (fault : UsageFault) → FailsToRead happened what (end.Usage fault) → ⊥
+  no_read (wanted.Write image) fault fails = fails
+  no_read wanted.Erase fault fails = cc
+  no_read (wanted.Range start len) fault fails = fails
+
+  no_keep : (kept : Keeping) (fault : UsageFault) → FailsToKeep happened kept (end.Usage fault) → ⊥
+  no_keep (keeping.Journal file) fault fails = fails
+  no_keep (keeping.Rehearse stops) fault fails = fails
+
   no_before : (done : Task) (fault : UsageFault) → FailsBefore happened done (end.Usage fault) → ⊥
   no_before task.Probe fault fails = fails
   no_before task.FlashSize fault fails = fails
@@ -87,19 +88,30 @@ module _ (happened : Happened) where
       → IsContentOf happened on_chip.programmer content → Opens on_chip.programmer content old
       → (IsReady on_chip.programmer old → Does happened on_chip.programmer on_chip.named on_chip.task old new outcome)
       → AreLeft (changes_chip on_chip.task) happened on_chip.programmer new.chip unwritten
-      → OnSome unwritten.trace (unwritten.trace ≡ on_chip.programmer.trace) → IsCalled happened on_chip unwritten outcome
-  called on_chip content old new unwritten outcome read opens does left traced =
-      record { content = content; read = read; old = old; new = new; opened = opens; does = does opens.ready; left = left; traced = traced }
+      → new.chip.kept2 < 128 → OnSome unwritten.trace (unwritten.trace ≡ on_chip.programmer.trace)
+      → IsCalled happened on_chip unwritten outcome
+  called on_chip content old new unwritten outcome read opens does left small traced = record {
+    content = content;
+    read = read;
+    old = old;
+    new = new;
+    opened = opens;
+    does = does opens.ready;
+    left = left;
+    over = opened_over on_chip.programmer content old new opens small;
+    traced = traced;
+  }
 
   pub ends_called : (on_chip : ChipJob) (content : Content) (old new : BusState) (unwritten : Unwritten) (outcome : Result Answer Refusal)
       (told : Result Answer Fault) → IsContentOf happened on_chip.programmer content → Opens on_chip.programmer content old
       → (IsReady on_chip.programmer old → Does happened on_chip.programmer on_chip.named on_chip.task old new outcome)
       → AreLeft (changes_chip on_chip.task) happened on_chip.programmer new.chip unwritten
-      → OnSome unwritten.trace (unwritten.trace ≡ on_chip.programmer.trace) → IsToldAs outcome told → EndsJob happened on_chip unwritten told
-  ends_called on_chip content old new unwritten (Ok found) told read opens does left traced tells =
-      rw tells (called on_chip content old new unwritten (Ok found) read opens does left traced)
-  ends_called on_chip content old new unwritten (Err refusal) told read opens does left traced tells =
-      rw tells (inl (called on_chip content old new unwritten (Err refusal) read opens does left traced))
+      → new.chip.kept2 < 128 → OnSome unwritten.trace (unwritten.trace ≡ on_chip.programmer.trace) → IsToldAs outcome told
+      → EndsJob happened on_chip unwritten told
+  ends_called on_chip content old new unwritten (Ok found) told read opens does left small traced tells =
+      rw tells (called on_chip content old new unwritten (Ok found) read opens does left small traced)
+  ends_called on_chip content old new unwritten (Err refusal) told read opens does left small traced tells =
+      rw tells (inl (called on_chip content old new unwritten (Err refusal) read opens does left small traced))
 
   -- a fault from before the call does, too
   fails_ends : (on_chip : ChipJob) (unwritten : Unwritten) (fault : Fault) → FailsJob happened on_chip fault

@@ -2,6 +2,7 @@ pub mod Messages
 pub mod Events
 pub mod Files
 pub mod Chips
+pub mod WrittenOver
 pub mod Found
 pub mod Requests
 pub mod Readings

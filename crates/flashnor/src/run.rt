@@ -162,7 +162,8 @@ fn call_on<'a, R: Store>(
         → IfOk result (λ called. Does (R.happened rt.now) job.now.programmer job.now.named job.now.task old
         (⟦<SimBus as Bus>⟧.state called.bus) called.answer) }
     ensures lost { IfOk result (λ called. OnSome called.lost (called.lost ≡ job.now.programmer.trace)) }
-    ensures err { IfErr result (λ fault. IsSomeAnd job.now.programmer.trace (λ name. IsLogging name.now fault)
+    ensures err { IfErr result (λ fault.
+        IsSomeAnd job.now.programmer.trace (λ name. IsLogging (R.happened rt.now) name.now fault)
         ⊎ FailsBefore (R.happened rt.now) job.now.task fault) }
 {
     let Some(name) = job.programmer.trace else {

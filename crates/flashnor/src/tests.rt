@@ -6,6 +6,7 @@ mod faults;
 mod journals;
 mod kept;
 mod layouts;
+mod over;
 mod power;
 mod probing;
 mod protecting;

@@ -4,6 +4,7 @@ pub mod Changing
 pub mod Session
 pub mod Answering
 pub mod Restore
+pub mod WrittenOver
 pub mod Preparing
 pub mod Rehearsal
 pub mod Rehearsing
