@@ -114,14 +114,28 @@ differs_in() {
 
 # What was printed, of which a line `..` stands for any lines.
 same_text() {
-    local got
+    local wanted=$1 got piece
     IFS= read -rd '' got < "$2"
-    if [[ $1 == *$'\n..\n'* || $1 == $'..\n'* ]]; then
-        local front=${1%%..$'\n'*} back=${1#*..$'\n'}
-        [[ $got == "$front"*"$back" ]] && ((${#got} >= ${#front} + ${#back}))
-    else
-        [[ $got == "$1" ]]
-    fi
+    while [[ $'\n'$wanted == *$'\n..\n'* ]]; do
+        piece=$'\n'$wanted
+        piece=${piece%%$'\n..\n'*}
+        wanted=${wanted#"${piece#$'\n'}"}
+        wanted=${wanted#$'\n'}
+        wanted=${wanted#$'..\n'}
+        piece=${piece#$'\n'}
+        [[ -z $piece ]] || piece+=$'\n'
+        [[ $got == "$piece"* ]] || return 1
+        got=${got#"$piece"}
+        [[ -n $wanted ]] || return 0
+        piece=${wanted%%$'\n..\n'*}
+        [[ $piece == "$wanted" ]] || piece+=$'\n'
+        while [[ $got != "$piece"* ]]; do
+            [[ $got == *$'\n'?* ]] || return 1
+            got=${got#*$'\n'}
+        done
+        [[ $piece != "$wanted" || $got == "$wanted" ]] || { [[ $got == *"$wanted" ]]; return; }
+    done
+    [[ $got == "$wanted" ]]
 }
 
 # The file has so many lines, and those of the third one by their numbers.

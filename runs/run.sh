@@ -48,7 +48,8 @@ add() {
     fi
 }
 
-for file in "${folder:-$top/runs/cases}"/*.case; do
+cases=$(realpath "${folder:-$top/runs/cases}")
+for file in "$cases"/*.case; do
     [[ -e $file ]] && run_cases "$file"
 done
 if [[ -z $folder ]]; then
