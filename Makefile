@@ -4,7 +4,7 @@ PROGRAM := crates/flashnor/out/flashnor
 BENCH := crates/bench/out/bench
 SCRATCH := $(CURDIR)/out/demo
 WORDS := -p dummy:emulate=TINY64,image=chip.bin -w new.bin --rehearse 25
-AGAIN = cd $(SCRATCH) && $(CURDIR)/$(PROGRAM) $(WORDS)
+AGAIN = cd $(SCRATCH) && $(abspath $(PROGRAM)) $(WORDS)
 
 # Where `make install` puts things, below DESTDIR if that is given.
 PREFIX ?= /usr/local
@@ -13,7 +13,7 @@ PREFIX ?= /usr/local
 SEED := 1
 COUNT := 1000
 
-.PHONY: build demo try files bench compare storm sweep install agree check clean
+.PHONY: build demo try files bench compare storm sweep runs install agree check clean
 
 # Proves the program and everything below it, builds it, and runs it once.
 build: files
@@ -34,7 +34,7 @@ files:
 # run's own status, and says how to run again on the same files.
 demo: files
 	@if [ -x $(PROGRAM) ]; then \
-	  (cd $(SCRATCH) && $(CURDIR)/$(PROGRAM) $(WORDS)); status=$$?; \
+	  (cd $(SCRATCH) && $(abspath $(PROGRAM)) $(WORDS)); status=$$?; \
 	  echo "(again on the same files: $(AGAIN))"; exit $$status; \
 	else \
 	  $(MAKE) --no-print-directory try; \
@@ -80,6 +80,10 @@ storm:
 # Runs the program with each of its allocations refused in turn, where there is a C compiler.
 sweep:
 	@bash sweep/run.sh $(CURDIR)/$(PROGRAM)
+
+# The built program on each case of runs/cases, and on the examples of README and the manual page.
+runs: $(PROGRAM)
+	@bash runs/run.sh $(abspath $(PROGRAM))
 
 # Whether the help, README, SPECIFICATION, the manual page and the completion say what the sources say.
 agree:

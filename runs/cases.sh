@@ -220,7 +220,7 @@ end_step() {
     same_text "$errors" "$work/errors" ||
         differs "wanted on standard error: ${errors:-nothing}" "got: $(tr '\0' '@' < "$work/errors")"
     if [[ -z $broken && -z $free ]]; then
-        if [[ $command == *flashnor\ * ]]; then
+        if [[ " $command " =~ [\ \(]flashnor\  ]]; then
             take_wanted
             compare_files
         else

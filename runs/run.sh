@@ -54,7 +54,7 @@ for file in "$cases"/*.case; do
 done
 if [[ -z $folder ]]; then
     add "$(bash "$top/runs/pages.sh" "$program" 2>&1)" pages.sh
-    add "$(bash "$top/runs/self.sh" 2>&1)" self.sh
+    add "$(bash "$top/runs/self.sh" "$program" 2>&1)" self.sh
 fi
 echo "$passed passed, $failed failed"
 ((failed == 0 && passed > 0))
