@@ -5,7 +5,7 @@ PROGRAM := crates/flashnor/out/flashnor
 BENCH := crates/bench/out/bench
 SCRATCH := $(CURDIR)/out/demo
 WORDS := -p dummy:emulate=TINY64,image=chip.bin -w new.bin --rehearse 25
-AGAIN = cd $(SCRATCH) && $(CURDIR)/$(PROGRAM) $(WORDS)
+AGAIN = cd $(SCRATCH) && $(abspath $(PROGRAM)) $(WORDS)
 
 # Where `make install` puts things, below DESTDIR if that is given.
 PREFIX ?= /usr/local
@@ -18,7 +18,7 @@ DIST := out/flashnor-$(VERSION)
 SEED := 1
 COUNT := 1000
 
-.PHONY: build toolchain demo try files bench compare storm sweep install dist agree quick check clean
+.PHONY: build toolchain demo try files bench compare storm sweep runs install dist agree quick check clean
 
 # Proves the program and everything below it, builds it, and runs it once.
 build: toolchain files
@@ -46,7 +46,7 @@ files:
 # run's own status, and says how to run again on the same files.
 demo: files
 	@if [ -x $(PROGRAM) ]; then \
-	  (cd $(SCRATCH) && $(CURDIR)/$(PROGRAM) $(WORDS)); status=$$?; \
+	  (cd $(SCRATCH) && $(abspath $(PROGRAM)) $(WORDS)); status=$$?; \
 	  echo "(again on the same files: $(AGAIN))"; exit $$status; \
 	else \
 	  $(MAKE) --no-print-directory try; \
@@ -101,6 +101,10 @@ dist: $(PROGRAM) toolchain
 	@cd $(DIST) && sha256sum -- * > SHA256SUMS
 	@tar --sort=name --owner=0 --group=0 --numeric-owner -C out -czf $(DIST).tar.gz flashnor-$(VERSION)
 	@echo $(DIST).tar.gz
+
+# The built program on each case of runs/cases, and on the examples of README and the manual page.
+runs: $(PROGRAM)
+	@bash runs/run.sh $(abspath $(PROGRAM))
 
 # Whether the help, README, SPECIFICATION, the manual page and the completion say what the sources say.
 agree:

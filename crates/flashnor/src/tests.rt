@@ -1,22 +1,11 @@
-//! Runs of the program, over files in memory.
+//! Runs of the program over files in memory, which fail where those of a system seldom do, and the lines of faults that no
+//! run comes to. What runs over whole files come to is shown by the cases in runs/cases.
 
-mod erasing;
 mod failing;
-mod faults;
-mod journals;
 mod kept;
-mod layouts;
 mod over;
-mod power;
-mod probing;
-mod protecting;
-mod reading;
-mod rehearsing;
-mod restoring;
 mod shelf;
 mod texts;
-mod unlocking;
-mod writing;
 
 use crate::run_words;
 use shelf::{Shelf, filled};
@@ -68,14 +57,6 @@ fn fails(rt: &impl Abort, shelf: &Shelf, line: &str, told: &str) -> Result<(), F
     ends(rt, shelf, line, ("", told.as_str(), 1))
 }
 
-// Runs the program on each of these lines, which prints the text that stands beside it, and no fault.
-fn all_print(rt: &impl Abort, shelf: &Shelf, rows: &[(&str, &str)]) -> Result<(), Fail> {
-    for (line, told) in rows {
-        prints(rt, shelf, line, told)?;
-    }
-    Ok(())
-}
-
 // Runs the program on each of these lines, which ends with the line on standard error that stands beside it, and prints
 // nothing else.
 fn all_fail(rt: &impl Abort, shelf: &Shelf, rows: &[(&str, &str)]) -> Result<(), Fail> {
@@ -85,30 +66,8 @@ fn all_fail(rt: &impl Abort, shelf: &Shelf, rows: &[(&str, &str)]) -> Result<(),
     Ok(())
 }
 
-// How the chips are told that are found.
+// How the chip is told that is found.
 const TINY: &str = "Found SFDP (fe1010), 65536 bytes.";
-
-const LARGE: &str = "Found W25Q64FV (ef4017), 8388608 bytes.";
-
-// What a probe sends to the small chip, while it is idle.
-const PROBE: [&str; 5] = [
-    "05 > 00",
-    "9f > fe1010",
-    "5a00000000 > 8 bytes",
-    "5a00000800 > 8 bytes",
-    "5a00001000 > 36 bytes",
-];
-
-// What a session or restore sends first: a probe, and reads of status 2 and the unique ID.
-const OPENING: [&str; 7] = [
-    "05 > 00",
-    "9f > fe1010",
-    "5a00000000 > 8 bytes",
-    "5a00000800 > 8 bytes",
-    "5a00001000 > 36 bytes",
-    "35 > 00",
-    "4b00000000 > 8 bytes",
-];
 
 // The lines that tell of a change on the chip that this line tells of: its touched sectors, erases, programs and
 // transactions.
@@ -140,28 +99,5 @@ fn holds(
 ) -> Result<(), Fail> {
     let wanted = filled(shelf.alloc(), len, spans)?;
     assert!(rt; shelf.reads(name, &wanted)?, "in {name}");
-    Ok(())
-}
-
-// The trace in the file of this name has so many lines, and these from the one of this number on, the first being 1.
-fn traces(
-    rt: &impl Abort,
-    shelf: &Shelf,
-    name: &str,
-    count: usize,
-    from: usize,
-    lines: &[&str],
-) -> Result<(), Fail> {
-    let text = String::from_utf8(shelf.bytes(name)?).map_err(|_| Fail::new("no text"))?;
-    assert!(rt; text.is_empty() || text.ends_with('\n'), "in {name}");
-    assert_eq!(rt; text.lines().count(), count, "in {name}");
-    let mut traced = text.lines().skip(from.saturating_sub(1));
-    for (k, line) in lines.iter().enumerate() {
-        assert_eq!(rt;
-            traced.next(),
-            Some(*line),
-            "{k} lines behind {from} in {name}"
-        );
-    }
     Ok(())
 }
