@@ -13,7 +13,7 @@ PREFIX ?= /usr/local
 SEED := 1
 COUNT := 1000
 
-.PHONY: build demo try files bench compare storm sweep install agree check clean
+.PHONY: build demo try files bench compare storm sweep kill install agree check clean
 
 # Proves the program and everything below it, builds it, and runs it once.
 build: files
@@ -80,6 +80,10 @@ storm:
 # Runs the program with each of its allocations refused in turn, where there is a C compiler.
 sweep:
 	@bash sweep/run.sh $(CURDIR)/$(PROGRAM)
+
+# Kills the program at each of its calls on files, and makes each of them fail, where there is a C compiler.
+kill:
+	@bash kill/run.sh $(CURDIR)/$(PROGRAM)
 
 # Whether the help, README, SPECIFICATION, the manual page and the completion say what the sources say.
 agree:
