@@ -187,6 +187,7 @@ sorted() {
     done < "$1" | sort -u
 }
 
+((rounds > 0)) || fail "no round, so nothing is compared"
 make_images
 version=$(flashrom --version 2> /dev/null | sed -n '1s/^flashrom //p')
 echo "time of flashnor to that of flashrom (its version: $version), best of $rounds"
