@@ -139,23 +139,28 @@ is_given_back() {
     fi && have "${before[@]}"
 }
 
-# The run that was cut off so ended as it must. A journal that couldn't be read isn't told as one that was cut short.
+# A failure was told, and isn't one that asks a technician to delete the journal.
+is_told() { [[ $ended == 1 && -s faults && $(< faults) != "$answer" && $(< faults) != 'Error 15'* ]]; }
+
+# The run ended as it must where this call was cut off so. A failure may pass where a file is closed, and where a folder
+# can't be opened.
 ended_rightly() {
-    [[ $(< calls) == *$'\n'"cut $1"* ]] || return 1
-    case $1 in
-        part) is_own ;;
-        short | E*) [[ $ended == 1 && -s faults && $(< faults) != 'Error 15'* ]] || is_own ;;
+    [[ $(< calls) == *$'\n'"cut $2"* ]] || return 1
+    case $2,$1 in
+        part,*) is_own ;;
+        E*,close* | E*,'open .') is_own || is_told ;;
+        E*,* | short,*) is_told ;;
         *) [[ $ended == 137 ]] ;;
     esac
 }
 
 # Cuts off the call of this number so, and counts what comes of it.
 cut_off() {
-    local number=$1 how=$2 problem=''
+    local number=$1 how=$2 call=${made[$1 - 1]:-none} problem=''
     runs=$((runs + 1))
     begin
     attempt "$number" "$how" "${words[@]}"
-    ended_rightly "$how" || problem="it ended with $ended, which isn't what it must do. $(cat said faults)"
+    ended_rightly "$call" "$how" || problem="it ended with $ended, which isn't what it must do. $(cat said faults)"
     is_given_back || problem=${problem:-"the chip is lost. --restore ended with $ended. $(cat said faults)"}
     [[ -z $sealed ]] || cmp -s journal ../journal || problem=${problem:-"its journal was changed"}
     if [[ -z $problem ]]; then
@@ -163,7 +168,7 @@ cut_off() {
         return
     fi
     failed=$((failed + 1)) lost=$((lost + 1))
-    ((lost > 1)) || echo "kill: $run, call $number (${made[number - 1]}) cut off, $how: $problem
+    ((lost > 1)) || echo "kill: $run, call $number ($call) cut off, $how: $problem
 Run it again with: kill/run.sh $program $run $number $how" >&2
 }
 
@@ -187,7 +192,7 @@ cut_each() {
     [[ -n $sealed ]] || keep_journal
     [[ -z $only || $only == "$run" ]] || return 0
     for ((number = ${at:-1}; number <= ${at:-${#made[@]}}; number++)); do
-        for how in ${way:-$(ways "${made[number - 1]}")}; do cut_off "$number" "$how"; done
+        for how in ${way:-$(ways "${made[number - 1]:-none}")}; do cut_off "$number" "$how"; done
     done
     echo "$run: ${#made[@]} calls cut off in $runs runs, $lost lost"
 }
