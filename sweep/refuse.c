@@ -2,7 +2,7 @@
    REFUSE, where 0 is none; and where SPAN names a file, every one from the moment in which that file was made, or was
    closed after it was read, until the next file is opened, which a folder isn't. It asks for memory itself at the start
    of such a span, so that there is one to refuse. Where the program ends, the file that COUNTED names says how many
-   were asked for, how many were refused, and how many spans there were. */
+   were asked for, how many were refused, how many spans there were, and which file ended the last one. */
 #define _GNU_SOURCE
 #include <errno.h>
 #include <fcntl.h>
@@ -21,6 +21,7 @@ extern void *__libc_realloc(void *block, size_t size);
 static unsigned long asked, refused, spans, nth;
 static const char *span;
 static int is_span, read_from = -1;
+static char until[64] = "none";
 
 __attribute__((constructor)) static void begin(void) {
     const char *number = getenv("REFUSE");
@@ -35,7 +36,7 @@ __attribute__((destructor)) static void end(void) {
     nth = 0;
     is_span = 0;
     FILE *file = name ? fopen(name, "w") : NULL;
-    if (file && fprintf(file, "%lu %lu %lu\n", count, refused, spans) > 0) fclose(file);
+    if (file && fprintf(file, "%lu %lu %lu %s\n", count, refused, spans, until) > 0) fclose(file);
 }
 
 static int is_refused(void) {
@@ -66,7 +67,10 @@ static int is_folder(int folder, const char *name) {
 }
 
 static int opened(int folder, const char *name, int flags, mode_t mode) {
-    is_span = is_span && is_folder(folder, name);
+    if (is_span && !is_folder(folder, name)) {
+        is_span = 0;
+        snprintf(until, sizeof until, "%s", name);
+    }
     int file = (int)syscall(SYS_openat, folder, name, flags, mode);
     if (file < 0 || !span || strcmp(name, span) != 0) return file;
     if (flags & O_CREAT) begin_span();

@@ -80,15 +80,16 @@ begin() {
 }
 
 # Runs the words on the chip, and refuses the allocation of this number, and those of spans at the journal's file. What
-# was printed is then in `said` and `faults`, and what was asked for and refused in `asked`, `refused` and `spans`.
+# was printed is then in `said` and `faults`, and what was asked for and refused in `asked`, `refused`, `spans` and
+# `until`.
 attempt() {
     local number=$1 journal=$2
     shift 2
     rm -f count
-    status=0 asked=0 refused=0 spans=0
+    status=0 asked=0 refused=0 spans=0 until=none
     timeout 60 env LD_PRELOAD="$work/refuse.so" REFUSE="$number" SPAN="$journal" COUNTED=count \
         "$program" -p "$chip" "$@" > said 2> faults || status=$?
-    [[ ! -s count ]] || read -r asked refused spans < count
+    [[ ! -s count ]] || read -r asked refused spans until < count
 }
 
 # Ends the sweep with what isn't as it must be. Without a number it was refused every allocation of a span.
@@ -176,6 +177,7 @@ attempt_without_memory() {
     shift
     attempt 0 journal "$@"
     ((spans == 1)) || differs "there were $spans spans of the journal's file"
+    [[ $until == chip.bin ]] || differs "the span didn't last until the chip's file was opened, but that of $until"
     ((refused >= 1)) || differs "nothing was refused"
     is_own && cmp -s chip.bin "$bytes" && cmp -s status.bin guarding || differs "that isn't its own answer"
     passed=$((passed + 1))
