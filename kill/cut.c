@@ -2,6 +2,8 @@
    1, is in CALL; the number 0 cuts off none. HOW says in which way:
      before, after    the process is killed before the call, or after it
      one, half, most  it is killed when a write has put one byte, half of its bytes, or all but one
+     last             it is killed when a write has put the last half of its bytes and not the first, as a machine may
+                      that is lost
      ENOSPC, EIO      the call fails, and nothing was done
      short            a write puts half of its bytes, and from then on each write fails for want of room
      part             a write puts half of its bytes, and says so
@@ -57,7 +59,7 @@ static int fails(const char *what, const char *name) {
 
 /* What a call that was made answered, unless the process is killed after it. */
 static long made(long answer) {
-    if (is_cut && (is("after") || is("one") || is("half") || is("most"))) end();
+    if (is_cut && (is("after") || is("one") || is("half") || is("most") || is("last"))) end();
     return answer;
 }
 
@@ -103,7 +105,10 @@ int creat(const char *name, mode_t mode) { return opened(AT_FDCWD, name, O_WRONL
 
 ssize_t write(int file, const void *bytes, size_t size) {
     if (file <= STDERR_FILENO) return syscall(SYS_write, file, bytes, size);
-    return fails("write", name_of(file)) ? -1 : made(syscall(SYS_write, file, bytes, share(size)));
+    if (fails("write", name_of(file))) return -1;
+    size_t skipped = is_cut && is("last") ? size / 2 : 0;
+    if (skipped) syscall(SYS_lseek, file, skipped, SEEK_CUR);
+    return made(syscall(SYS_write, file, (const char *)bytes + skipped, share(size - skipped)));
 }
 
 ssize_t read(int file, void *bytes, size_t size) {

@@ -172,11 +172,15 @@ cut_off() {
 Run it again with: kill/run.sh $program $run $number $how" >&2
 }
 
-# The ways in which a call is cut off. One that reads leaves nothing, so it is only made to fail.
+# The ways in which a call is cut off. One that reads leaves nothing, so it is only made to fail. The bytes of a write
+# may come in any order into a file that has all of them already, and not into one that grows.
 ways() {
     case $1 in
         read*) echo EIO ;;
-        write*) echo before one half most after ENOSPC EIO short part ;;
+        write*)
+            echo before one half most after ENOSPC EIO short part
+            [[ $1 == *journal || ${from[0]} == - ]] || echo last
+            ;;
         *) echo before after ENOSPC EIO ;;
     esac
 }
