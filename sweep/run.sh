@@ -48,8 +48,8 @@ fail() {
 }
 
 # Memory that was taken in another way couldn't be refused.
-others=$(nm -D --undefined-only "$program" |
-    grep -owE 'mmap|mmap64|s?brk|aligned_alloc|posix_memalign|memalign|valloc|reallocarray' || true)
+nm -D --undefined-only "$program" > symbols || fail "nm tells no calls of $program"
+others=$(grep -owE 'mmap|mmap64|s?brk|aligned_alloc|posix_memalign|memalign|valloc|reallocarray' symbols || true)
 [[ -z $others ]] || fail "the program takes memory by" $others "too, which refuse.c doesn't refuse"
 
 # So many bytes, each of them this one (in octal).
@@ -168,7 +168,7 @@ span() {
     in_session=$((refused - spans))
     answer=$undone
     attempt_without_memory "$before" --restore journal
-    echo "$run: every allocation refused, $in_session of the session, $((refused - spans)) of its restore"
+    echo "$run: all allocations refused, $in_session of the session and $((refused - spans)) of its restore; no difference"
 }
 
 # Runs the words with every allocation refused while only the journal is at hand. The run comes to its own answer.
