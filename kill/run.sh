@@ -201,7 +201,7 @@ cut_each() {
     for ((number = ${at:-1}; number <= ${at:-${#made[@]}}; number++)); do
         for how in ${way:-$(ways "${made[number - 1]:-none}")}; do cut_off "$number" "$how"; done
     done
-    echo "$run: ${#made[@]} calls cut off in $runs runs, $lost lost"
+    echo "$run: ${#made[@]} calls, $runs runs, $lost lost"
 }
 
 # Keeps the journal for the restores. It and its folder must have been synced before the chip's files were opened to be

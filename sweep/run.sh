@@ -168,7 +168,7 @@ span() {
     in_session=$((refused - spans))
     answer=$undone
     attempt_without_memory "$before" --restore journal
-    echo "$run: all allocations refused, $in_session of the session and $((refused - spans)) of its restore; no difference"
+    echo "$run: each allocation refused, $in_session of the session, $((refused - spans)) of its restore; no difference"
 }
 
 # Runs the words with every allocation refused while only the journal is at hand. The run comes to its own answer.
