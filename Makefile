@@ -18,7 +18,7 @@ DIST := out/flashnor-$(VERSION)
 SEED := 1
 COUNT := 1000
 
-.PHONY: build toolchain demo try files bench compare storm sweep runs install dist agree quick check clean
+.PHONY: build toolchain demo try files bench compare storm sweep kill runs install dist agree quick check clean
 
 # Proves the program and everything below it, builds it, and runs it once.
 build: toolchain files
@@ -92,6 +92,10 @@ storm: toolchain
 # Runs the program with each of its allocations refused in turn, where there is a C compiler.
 sweep:
 	@bash sweep/run.sh $(CURDIR)/$(PROGRAM)
+
+# Kills the program at each of its calls on files, and makes each of them fail, where there is a C compiler.
+kill:
+	@bash kill/run.sh $(CURDIR)/$(PROGRAM)
 
 # An archive for who has no prover: the proved program with its pages, what it was proved with, and their sums.
 dist: $(PROGRAM) toolchain
