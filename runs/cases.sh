@@ -23,12 +23,15 @@ differs() {
     printf '    %s\n' "$@"
 }
 
+# Passes over the rest of a case that can't be tried here, and says why.
+pass_over() { broken=${broken:-"left out: ${case_file##*/}: $sentence ($1)"}; }
+
 end_case() {
     [[ -n $sentence ]] || return 0
     end_step
     [[ -n $broken ]] || ((steps > 0)) || differs "it has no step"
-    if [[ $broken == passed_over ]]; then
-        echo "left out: ${case_file##*/}: $sentence (root reads all files here, and there is no setpriv)"
+    if [[ $broken == 'left out: '* ]]; then
+        echo "$broken"
     elif [[ -n $broken ]]; then
         failed=$((failed + 1))
     else
@@ -266,7 +269,8 @@ read_line() {
     case $line in
         '$ '*)
             end_step
-            [[ $line != *'nobody '* ]] || has_nobody || broken=${broken:-passed_over}
+            [[ $line != *'nobody '* ]] || has_nobody || pass_over 'root reads all files here, and there is no setpriv'
+            [[ $line != *'writes '* || -r /proc/self/io ]] || pass_over "the system doesn't count writes"
             begin_step "${line#\$ }" ;;
         'file '*:*) split_line "$line"; place_file "$name" "$content" ;;
         'after '*:*)

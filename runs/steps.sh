@@ -15,6 +15,24 @@ nobody() {
 # Whether this machine can do that.
 has_nobody() { ((EUID != 0)) || setpriv --reuid=65534 --regid=65534 --clear-groups true 2> /dev/null; }
 
+# `writes flashnor ..`: how many calls of write the program makes, as the system counts those of a process and of its
+# children that have ended.
+writes() {
+    local before
+    count_writes
+    before=$count
+    "$@" > "$work/printed" 2>&1
+    count_writes
+    echo $((count - before))
+}
+
+count_writes() {
+    local key number
+    while read -r key number; do
+        [[ $key != syscw: ]] || count=$number
+    done < "/proc/$BASHPID/io"
+}
+
 # `make ..`: a rule of the repository's Makefile, with the program that is tried.
 make() { command make --no-print-directory -s -C "$top" PROGRAM="$program" "$@"; }
 
