@@ -3,3 +3,4 @@ pub mod Ready
 pub mod Changed
 pub mod Doing
 pub mod Ended
+pub mod Printed

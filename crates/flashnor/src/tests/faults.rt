@@ -318,8 +318,8 @@ fn results_that_cannot_be_printed_are_a_fault(rt: HostRuntime) -> Result<(), Fai
     let mut room = [0x00; 20];
     let mut output = room.as_mut_slice();
     let mut errors = Vec::new(rt.alloc());
-    let status = run_words(&shelf, words.as_slice(), &mut output, &mut errors);
-    assert_eq!(rt; status, 1);
+    let ended = run_words(&shelf, words.as_slice(), &mut output, &mut errors);
+    assert_eq!(rt; ended.status, 1);
     assert!(rt; errors.is_empty());
     assert_eq!(rt; shelf.bytes("journal")?.len(), 61);
     holds(&rt, &shelf, "chip", 65_536, &[])
