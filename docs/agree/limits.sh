@@ -78,10 +78,10 @@ limit_transactions() {
 
 # How a run ends, and how many tests show it.
 limit_runs() {
-    limit "status of a fault" "$(constant $messages 'ensures \{ result ≡ ')" 2 \
+    limit "status of a fault" "$(constant $printing '  status: ')" 2 \
         'tandard error, (with|and the) status( is)? #'
     limit "tests of the program" "$(cat crates/flashnor/src/{,tests/}*.rt | grep -c '^#\[test\]')" 1 '# tests, each'
-    seq 0 "$(constant crates/flashnor/specs/Run.antt 'pub few : status ≤ ')" | keep "exit statuses" Run.antt
+    seq 0 "$(constant crates/flashnor/specs/Run.antt 'pub few : ending\.status ≤ ')" | keep "exit statuses" Run.antt
     tags "EXIT STATUS" | keep "exit statuses" manual
     same "exit statuses" Run.antt manual
 }
