@@ -5,3 +5,4 @@ pub mod Doing
 pub mod Unread
 pub mod Amid
 pub mod Ended
+pub mod Printed

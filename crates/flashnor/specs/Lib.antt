@@ -1,4 +1,8 @@
 pub mod Messages
+pub mod Lines
+pub mod AnswerLines
+pub mod FaultLines
+pub mod Endings
 pub mod Events
 pub mod Files
 pub mod Chips

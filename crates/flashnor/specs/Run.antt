@@ -26,8 +26,10 @@ use Rattle.nor_words.specs.declared.job.Wanted.{Wanted}
 use Rattle.nor_words.specs.declared.job.Wanted.TheVariants as wanted
 use Rattle.nor_words.specs.declared.programmer.Emulated.{Emulated}
 use Rattle.nor_words.specs.declared.programmer.Programmer.{Programmer}
+use Rattle.flashnor.specs.AnswerLines.{AreLines}
 use Rattle.flashnor.specs.Changes.{HasChanged, HasRestored}
 use Rattle.flashnor.specs.Chips.{ArePutBack, FailsToOpen, IsContentOf, Opens}
+use Rattle.flashnor.specs.Endings.{HasPrinted, Prints, all_written}
 use Rattle.flashnor.specs.Events.{Happened, IsRead}
 use Rattle.flashnor.specs.Files.{IsLogging, IsMaking, IsMakingNew, IsReading}
 use Rattle.flashnor.specs.Readings.{HasFound, HasRead, HasTold, HasVerified, ListsRanges, TellsFound, TellsGuarded, TellsSize}
@@ -39,6 +41,7 @@ use Rattle.flashnor.specs.declared.chips.Content.{Content}
 use Rattle.flashnor.specs.declared.chips.Unwritten.{Unwritten}
 use Rattle.flashnor.specs.declared.messages.Fault.{Fault}
 use Rattle.flashnor.specs.declared.messages.Fault.TheVariants as end
+use Rattle.flashnor.specs.declared.printing.Ending.{Ending}
 
 -- ---- calls
 
@@ -182,17 +185,20 @@ abbrev pub IsAnswer : Happened → List Text → Result Answer Fault → Unwritt
 IsAnswer happened words (Err (end.Usage fault)) unwritten = IsFault words fault
 IsAnswer happened words outcome unwritten = (asked : Job) × IsJob words asked × Answers happened asked unwritten outcome
 
--- each file was written
-abbrev pub all_written : Unwritten
-all_written = record { image = None; status = None; trace = None }
+-- A run without a fault: the words ask for help; or for a job, which was done, each file was written, and to standard
+-- output went the lines of just this answer.
+abbrev pub Succeeds : Happened → List Text → Option (List ℕ) → Option (List ℕ) → Type 0
+Succeeds happened words out out' = IsAmong kind.DisplayHelp (refusals_of words)
+    ⊎ ((found : Answer) × IsAnswer happened words (Ok found) all_written × Prints (AreLines found) out out')
 
--- A run without a fault: the words ask for help; or for a job, which was done, and each file was written.
-abbrev pub Succeeds : Happened → List Text → Type 0
-Succeeds happened words =
-    IsAmong kind.DisplayHelp (refusals_of words) ⊎ ((found : Answer) × IsAnswer happened words (Ok found) all_written)
-
--- The status of a run: 0 or 1; 1 where the words ask for nothing, and 0 only where it has no fault.
-pub record IsStatus (happened : Happened) (words : List Text) (status : ℕ) : Type 0 where
-  pub few : status ≤ 1
-  pub refused : IsRefused words → status ≡ 1
-  pub succeeds : status ≡ 0 → Succeeds happened words
+-- How a run ended, by what standard output and standard error hold before and after, where that is known. The status is
+-- 0 or 1; 1 where the words ask for nothing, and 0 only where the run has no fault.
+pub record IsStatus (happened : Happened) (words : List Text) (out out' err err' : Option (List ℕ)) (ending : Ending) : Type 0 where
+  pub few : ending.status ≤ 1
+  pub refused : IsRefused words → ending.status ≡ 1
+  pub succeeds : ending.status ≡ 0 → Succeeds happened words out out'
+  -- what it came to, and what was printed of that
+  pub outcome : Result Answer Fault
+  pub unwritten : Unwritten
+  pub answers : IsAnswer happened words outcome unwritten
+  pub prints : HasPrinted outcome unwritten out out' err err' ending
