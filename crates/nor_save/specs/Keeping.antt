@@ -1,5 +1,6 @@
 -- What the scan with its journal leaves.
 use Rattle.std.specs.Prelude.{◌≡◌, ◌/◌, ℕ, true, List, slice_index, Result, Ok, Err}
+use Rattle.nor_journal.specs.Text.{Content, IsContent, text}
 use Rattle.nor_chip.specs.Chip.{Chip}
 use Rattle.nor_chip.specs.Bus.{BusState}
 use Rattle.nor_driver.specs.Looks.{RunsOut}
@@ -21,6 +22,16 @@ abbrev pub KeepPuts : Result Kept Refusal → VaultState → VaultState → Type
 KeepPuts (Ok kept) old new = Completed old new
 KeepPuts (Err Vault) old new = Refused old new
 KeepPuts (Err _) old new = Accepted old new
+
+-- The bytes are a journal.
+pub record IsJournal (bytes : List ℕ) : Type 0 where
+  pub content : Content
+  pub is : IsContent content
+  pub same : bytes ≡ text content
+
+-- once it is sealed a telling vault has a journal, whatever the bus
+abbrev pub HoldsJournal : VaultState → Type 0
+HoldsJournal vault = vault.sealed ≡ true → vault.telling ≡ true → IsJournal vault.bytes
 
 -- Of a chip with this opening: the marks are those of the touched and the raised sectors, nothing is refused of them,
 -- the image has what is wanted of the touched ones, and a telling vault has the journal of the chip, which saves just

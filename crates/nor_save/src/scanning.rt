@@ -8,6 +8,7 @@ ghost use Rattle.nor_journal.specs.Writer.{vault_of, vault_state, HasKept};
 ghost use Rattle.nor_plan.specs.SectorSet.{has};
 ghost use Rattle.nor_save.specs.Request.{scanned_sectors, is_data};
 ghost use Rattle.nor_save.specs.Scanning.{HasMarked, IsBlank, IsOpen, ScansSector, Scans, ScanTells, ScanPuts, never};
+ghost use Rattle.nor_save.specs.Scanning.{HasBegun, UnlessVault};
 
 use crate::{Refusal, Request, What};
 use nor_chip::{Bus, Stopped};
@@ -111,6 +112,7 @@ pub fn scan_all<B: Bus, V: Vault>(
     ensures keeps { IsOpen size (B.state bus.old) → (head : Content) → head.size ≡ size
         → HasKept V.state writer.old head (B.state bus.old).chip.bytes never 0
         → IfOk result (λ scanned. HasKept V.state writer.new head (B.state bus.old).chip.bytes (has scanned.touched) (size / 4096)) }
+    ensures writes { HasBegun V.state writer.old size 0 → UnlessVault result (HasBegun V.state writer.new size (size / 4096)) }
 {
     let mut scanned = Scanned::none();
     let mut bytes = [0; 4096];

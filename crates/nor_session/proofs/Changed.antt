@@ -1,15 +1,19 @@
 -- What the changes came to, once they were checked.
-use Rattle.std.proofs.Common.{◌≡◌, ◌≤◌, ◌%◌, ◌/◌, ◌∙◌, ℕ, Bool, true, false, ap, arith, ◌+◌, ◌||◌, refl, true≢false}
+use Rattle.std.proofs.Common.{◌≡◌, ◌<◌, ◌≤◌, ◌%◌, ◌/◌, ◌∙◌, ℕ, Bool, true, false, ap, sym, subst, arith, ◌+◌, ◌||◌, refl, true≢false}
 use Rattle.std.specs.Prelude.{if◌then◌else◌}
 use Rattle.std.proofs.lemmas.Bool.{false_from_ne_true}
+use Rattle.nor_chip.specs.declared.config.Config.{Config}
 use Rattle.nor_chip.specs.Bus.{BusState}
 use Rattle.nor_driver.specs.Looks.{Rested}
 use Rattle.nor_layout.proofs.Below.{count_below-most}
+use Rattle.nor_plan.specs.Planned.{fewest_erases, IsLeastLength}
+use Rattle.nor_plan.proofs.Fewest.{fewest_least}
 use Rattle.nor_apply.specs.declared.changes.Changes.{Changes}
 use Rattle.nor_apply.specs.declared.changes.Work.{Work}
 use Rattle.nor_apply.specs.Applying.{touched_in, raised_in, status_writes, writes_code, most_applied, HasApplied, LeavesApply, DoesApply}
 use Rattle.nor_apply.proofs.Kept.{fixed_then, kept_fixed}
 use Rattle.nor_apply.proofs.ApplyingExits.{raised_few}
+use Rattle.nor_session.specs.Modelled.{kinds_of, AreFewestErases}
 use Rattle.nor_session.specs.Changing.{touched_count, DoesCheck, DoesChange}
 
 -- ---- how much they take
@@ -46,6 +50,13 @@ fits_work changes wanted old new work inside does =
     let writes = two_writes changes in
     let few = does.few in let erases = does.fewer_erases in let programs = does.fewer_programs in
     omega arith
+
+-- as many as are planned are the fewest
+pub fewest_at : (config : Config) (sectors : ℕ → Bool) (count : ℕ) → ((s : ℕ) → sectors s ≡ true → s < config.size / 4096)
+    → count ≡ fewest_erases (kinds_of config) (config.size / 4096) sectors → AreFewestErases config sectors count
+fewest_at config sectors count below is =
+    let most = config.at_most in
+    subst (IsLeastLength (kinds_of config) (config.size / 4096) sectors) (sym is) (fewest_least (kinds_of config) (config.size / 4096) sectors (omega arith) below)
 
 -- ---- what they and their check leave
 

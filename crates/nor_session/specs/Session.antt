@@ -23,7 +23,7 @@ use Rattle.nor_save.specs.declared.refusal.Refusal.TheVariants.{Vault, Stopped, 
 use Rattle.nor_save.specs.Refusal.{number_of}
 use Rattle.nor_save.specs.Request.{wanted, scanned_sectors, is_touched_by, is_raised_by, IsWantedCode}
 use Rattle.nor_save.specs.Saving.{head_of, NeedsStatus}
-use Rattle.nor_session.specs.Modelled.{IsModelled, most_looked, most_of, fewest_erases_of}
+use Rattle.nor_session.specs.Modelled.{IsModelled, most_looked, most_of, AreFewestErases}
 use Rattle.nor_session.specs.Verdict.{IsVerdict, IsAccepted}
 
 -- ---- on every bus
@@ -74,10 +74,10 @@ LooksUnsealed old new vault = vault.sealed ≡ false → Looks (most_looked 4096
 
 -- ---- on an honest bus
 
--- A stop comes only where no transaction is left, and no timeout; after a refusal from 1 to 11 bytes and kept bits are
--- as they were.
+-- A stop comes only where no transaction is left, and fewer were than any session may send, and no timeout; after a
+-- refusal from 1 to 11 bytes and kept bits are as they were.
 abbrev pub HonestTells : BusState → BusState → Refusal → Type 0
-HonestTells old new Stopped = new.left ≡ 0
+HonestTells old new Stopped = RanOut (most_of 4096) old new
 HonestTells old new (Timeout address) = ⊥
 HonestTells old new refusal = number_of refusal ≤ 11 → IsSame old.chip new.chip
 
@@ -146,7 +146,7 @@ pub record IsDone (request : Request) (image : List ℕ) (old new : BusState) (r
   pub status1 : report.found.status1 / 4 ≡ old.chip.kept1
   pub told : old.chip.busy ≡ 0 → report.found.status1 ≡ status1_of old.chip
   pub touched : report.touched ≡ sector_count (is_touched_by request image old.chip)
-  pub erases : report.erases ≡ fewest_erases_of old.chip.config (is_raised_by request image old.chip)
+  pub erases : AreFewestErases old.chip.config (is_raised_by request image old.chip) report.erases
   pub programs : report.programs ≡ pages_of request image old.chip
 
 abbrev pub Finishes : Request → List ℕ → BusState → BusState → Result Report Refusal → Type 0

@@ -3,6 +3,7 @@
 ghost use Rattle.std.specs.Prelude.{length, IfOk, IfErr};
 ghost use Rattle.nor_journal.specs.Vault.{IsFresh};
 ghost use Rattle.nor_apply.specs.Spending.{Spends};
+ghost use Rattle.nor_save.specs.Keeping.{HoldsJournal};
 ghost use Rattle.nor_session.specs.Modelled.{most_of};
 ghost use Rattle.nor_session.specs.Session.{LooksUnsealed, Answers, Ends, GivesUp, SentAsTold};
 ghost use Rattle.nor_session.specs.Session.{FallsBySize, Refuses, Finishes, SparesStatus, SealsOnceScanned, LeadsBackFrom};
@@ -35,6 +36,7 @@ impl<'a, B: Bus, V: Vault> Judged<'a, B, V> {
         ensures spends { SinceOpening self.entry.request.now.named self.entry.opening (B.state self.entry.bus.now)
             (λ first. Spends (most_of 4096) first (B.state self.exit.0.now)) }
         ensures answers { IfErr result (Answers (V.state self.entry.vault.now) (V.state self.exit.1.0.now)) }
+        ensures holds { HoldsJournal (V.state self.exit.1.0.now) }
         ensures ends { SinceOpening self.entry.request.now.named self.entry.opening (B.state self.entry.bus.now)
             (λ first. IfOk result (Ends self.entry.request.now (V.state self.exit.1.0.now))) }
         ensures gives_up { SinceOpening self.entry.request.now.named self.entry.opening (B.state self.entry.bus.now)

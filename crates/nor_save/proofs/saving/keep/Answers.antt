@@ -10,6 +10,7 @@ use Rattle.nor_save.specs.Saving.{head_of}
 use Rattle.nor_save.specs.Scanning.{never}
 use Rattle.nor_save.specs.Keeping.{KeepTells}
 use Rattle.nor_save.proofs.KeptHeads.{same_bytes, is_open, touched_right, raised_right, merged_right, judged_tells, accepts_touched, kept_touched, head_same}
+use Rattle.nor_save.proofs.Begun.{begun_none}
 use Rattle.nor_save.proofs.saving.keep.Goals as goal
 
 pub header-requires-clause-size : goal.header-requires-clause-size
@@ -57,3 +58,10 @@ returns-clause-keeps g c =
                 search rules;
           };
     }
+
+pub returns-clause-holds : goal.returns-clause-holds
+returns-clause-holds g c = λ sealed telling.
+    let begun = begun_none g.V.Vault.state c.header.new.self c.args.opening.now.found.id _ c.bytes.result c.args.opening.now.found.size (c.in_ok-header.ensures.written c.on-writer.ensures.nothing) in
+    let scanned = c.in_ok-scanned.ensures.writes begun in
+    let done = c.in_ok-end.ensures.written scanned.content scanned.written in
+    record { content = scanned.content; is = scanned.written.is; same = search rules }
