@@ -5,5 +5,6 @@ pub mod Session
 pub mod Answering
 pub mod Restore
 pub mod Preparing
+pub mod Following
 pub mod Rehearsal
 pub mod Rehearsing

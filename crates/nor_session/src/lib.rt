@@ -4,6 +4,7 @@
 #![tactic(auto)]
 
 mod answering;
+mod following;
 mod preparing;
 mod rehearsals;
 mod reopening;
@@ -13,6 +14,7 @@ mod sessions;
 mod sources;
 mod states;
 
+pub use following::{restored_stays, undone_in_turn};
 pub use nor_save::{Refusal, Report, Request, What};
 pub use rehearsals::{Rehearsal, rehearse};
 pub use restores::restore;
