@@ -5,7 +5,7 @@ use Rattle.nor_driver.specs.Looks.{Rested, RunsOut}
 use Rattle.nor_journal.specs.declared.writer.Writer.{Writer}
 use Rattle.nor_journal.specs.Text.{Content, next_number}
 use Rattle.nor_journal.specs.Vault.{VaultState, Refused, Accepted}
-use Rattle.nor_journal.specs.Writer.{HasWritten}
+use Rattle.nor_journal.specs.Writer.{HasWritten, HasKept}
 use Rattle.nor_driver.specs.Reads.{HasRead, IsSectorOf}
 use Rattle.nor_plan.specs.declared.plan.SectorPlan.{SectorPlan}
 use Rattle.nor_plan.specs.SectorSet.{has}
@@ -95,3 +95,9 @@ pub record HasBegun {V : Type 0} (state : V → VaultState) (writer : Writer V) 
 abbrev pub UnlessVault : {T : Type 0} → Result T Refusal → Type 0 → Type 0
 UnlessVault (Ok _) promise = promise
 UnlessVault (Err refusal) promise = refusal ≢ Vault → promise
+
+-- The head went in, and of the chip's touched sectors those below some bound, of so many sectors.
+pub record HasKeptBelow {V : Type 0} (state : V → VaultState) (writer : Writer V) (head : Content) (chip : ℕ → ℕ) (touched : ℕ → Bool) (total : ℕ) : Type 0 where
+  pub bound : ℕ
+  pub inside : bound ≤ total
+  pub kept : HasKept state writer head chip (λ s. nat_lt s bound && touched s) bound

@@ -1,5 +1,5 @@
 -- What a session promises.
-use Rattle.std.specs.Prelude.{◌≡◌, ◌≤◌, ◌<◌, ◌+◌, ◌*◌, ◌/◌, ◌||◌, ℕ, Bool, true, false, List, Result, Ok, IfOk, IfErr, if◌then◌else◌}
+use Rattle.std.specs.Prelude.{◌≡◌, ◌≢◌, ◌≤◌, ◌<◌, ◌+◌, ◌*◌, ◌/◌, ◌||◌, ◌⊎◌, ℕ, Bool, true, false, List, [], Result, Ok, IfOk, IfErr, if◌then◌else◌}
 use Rattle.nor_chip.specs.Chip.{Chip, IsSame, is_locked, status1_of}
 use Rattle.nor_chip.specs.Guard.{is_unit_guarded}
 use Rattle.nor_chip.specs.Bus.{BusState}
@@ -23,6 +23,7 @@ use Rattle.nor_save.specs.declared.refusal.Refusal.TheVariants.{Vault, Stopped, 
 use Rattle.nor_save.specs.Refusal.{number_of}
 use Rattle.nor_save.specs.Request.{wanted, scanned_sectors, is_touched_by, is_raised_by, IsWantedCode}
 use Rattle.nor_save.specs.Saving.{head_of, NeedsStatus}
+use Rattle.nor_save.specs.Keeping.{BeginsJournal}
 use Rattle.nor_session.specs.Modelled.{IsModelled, most_looked, most_of, AreFewestErases}
 use Rattle.nor_session.specs.Verdict.{IsVerdict, IsAccepted}
 
@@ -112,6 +113,13 @@ StopsEarly request old _ = Unit {0}
 abbrev pub SealsOnceScanned : Request → BusState → VaultState → Result Report Refusal → Type 0
 SealsOnceScanned request old vault result =
     IsModelled old → vault.sealed ≡ false → IfErr result (StopsEarly request old)
+
+-- after a refusal that isn't the vault's a telling vault that isn't sealed is empty, or has a beginning of the one journal
+-- that it would have had
+abbrev pub BeginsUnsealed : Request → List ℕ → BusState → VaultState → Result Report Refusal → Type 0
+BeginsUnsealed request image old vault result =
+    IsModelled old → vault.sealed ≡ false → vault.telling ≡ true → IfErr result (λ refusal. refusal ≢ Vault
+    → (vault.bytes ≡ []) ⊎ BeginsJournal (head_of old.chip) old.chip.bytes (is_touched_by request image old.chip) vault.bytes)
 
 -- The wanted kept bits: the fixed ones are as they were, and the code is the wanted one.
 pub record HasWantedBits (what : What) (old new : Chip) : Type 0 where

@@ -6,7 +6,7 @@ ghost use Rattle.nor_apply.specs.Spending.{Spends};
 ghost use Rattle.nor_save.specs.Keeping.{HoldsJournal};
 ghost use Rattle.nor_session.specs.Modelled.{most_of};
 ghost use Rattle.nor_session.specs.Session.{LooksUnsealed, Answers, Ends, GivesUp, SentAsTold};
-ghost use Rattle.nor_session.specs.Session.{FallsBySize, Refuses, Finishes, SparesStatus, SealsOnceScanned, LeadsBackFrom};
+ghost use Rattle.nor_session.specs.Session.{FallsBySize, Refuses, Finishes, SparesStatus, SealsOnceScanned, BeginsUnsealed, LeadsBackFrom};
 ghost use Rattle.nor_session.specs.Answering.{IsJudged, SinceOpening};
 
 use crate::sources::Image;
@@ -54,6 +54,8 @@ impl<'a, B: Bus, V: Vault> Judged<'a, B, V> {
             (λ first. SparesStatus self.entry.request.now self.entry.image.now first result) }
         ensures early { SinceOpening self.entry.request.now.named self.entry.opening (B.state self.entry.bus.now)
             (λ first. SealsOnceScanned self.entry.request.now first (V.state self.exit.1.0.now) result) }
+        ensures begins { SinceOpening self.entry.request.now.named self.entry.opening (B.state self.entry.bus.now)
+            (λ first. BeginsUnsealed self.entry.request.now self.entry.image.now first (V.state self.exit.1.0.now) result) }
         ensures undo { SinceOpening self.entry.request.now.named self.entry.opening (B.state self.entry.bus.now)
             (λ first. LeadsBackFrom self.entry.request.now self.entry.image.now first (B.state self.exit.0.now)
             (V.state self.exit.1.0.now)) }

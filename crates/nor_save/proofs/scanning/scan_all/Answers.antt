@@ -6,7 +6,7 @@ use Rattle.nor_save.specs.Scanning.{never}
 use Rattle.nor_apply.proofs.Counting.{at_most_one}
 use Rattle.nor_save.proofs.Rests.{tells_stop}
 use Rattle.nor_save.proofs.Scans.{nothing_scanned, skipped, scanned_more, IsAt, is_at, looks_on, runs_out_at, all_scanned, HasScanned, none_to_scan}
-use Rattle.nor_save.proofs.Begun.{begun_later, begun_more, unless_any, unless_refused}
+use Rattle.nor_save.proofs.Begun.{begun_later, begun_more, kept_below, unless_any, unless_refused, unless_any_err, unless_refused_err}
 use Rattle.nor_save.proofs.Parts.{cut_out, part_long, put_back, kept_later, kept_same, marked_more, marked_none, read_before}
 use Rattle.nor_save.proofs.scanning.scan_all.Goals as goal
 use Rattle.nor_save.proofs.scanning.scan_all.Goals.{then-is_data, else-is_data, then-includes_in_sector+in_ok-plan, then-plan+in_ok-add, else-plan, else-includes_in_sector}
@@ -168,3 +168,16 @@ pub returns-clause-writes : goal.returns-clause-writes
 returns-clause-writes g c = λ begun.
     let within : c.loop-sector.sector ≤ c.args.size / 4096 = elim c.if-is_data.branch [ then-is_data w ↦ omega arith | else-is_data w ↦ omega arith ] in
     begun_later g.V.Vault.state c.loop-sector.writer c.args.size c.loop-sector.sector (c.args.size / 4096) within (c.loop-sector.invariant.begun begun)
+
+pub returns-in_err-plan-clause-begins : goal.returns-in_err-plan-clause-begins
+returns-in_err-plan-clause-begins g c = λ is_open head size kept.
+    let here = c.loop-sector.invariant in
+    let this = is_at c.args.request.now c.args.size c.loop-sector.sector c.if-is_data.sectors (option_copied c.as_ref.result) c.includes_in_sector.result true
+    c.requires.sized (here.aims (omega arith)) c.loop-sector-test.true c.as_ref.ensures.value c.includes_in_sector.ensures.test c.if-includes_in_sector.true in
+    let below = this.below in
+    unless_any_err c.from_residual.result _
+    (kept_below g.V.Vault.state c.loop-sector.writer head (g.B.Bus.state c.args.bus.now).chip.bytes _ c.loop-sector.sector (c.args.size / 4096) c.loop-sector.scanned (omega arith)
+    (here.scanned.right is_open) (here.kept is_open head size kept))
+
+pub returns-in_err-add-clause-begins : goal.returns-in_err-add-clause-begins
+returns-in_err-add-clause-begins g c = λ is_open head size kept. unless_refused_err c.from_residual-in_err-add.result _ c.from_residual-in_err-add.ensures.1
