@@ -73,6 +73,7 @@ rest_applied changes wanted old mid new applied rested =
         high = ap (λ (k : ℕ). k / 64) same.kept2 ∙ applied.has_code.high;
       };
       worn = λ s. rested.unchanged.worn s ∙ applied.worn s;
+      latch = λ set. applied.latch (rested.latch set);
       idle = let less = rested.unchanged.busy in let idle = applied.idle in omega arith;
     }
 
@@ -92,6 +93,7 @@ checked changes wanted verify old mid new written work inside leaves does checki
           let sent = does.sent honest in
           let again = checking.sent (leaves.spends.honest ∙ honest) in
           omega arith;
+      still = λ none. checking.still ∙ does.still none;
       done = λ honest can. rest_applied changes wanted old mid new (does.done honest can) (checking.rested (leaves.spends.honest ∙ honest));
       programs = λ honest can. checking.programs ∙ does.programs honest can;
     }

@@ -63,10 +63,15 @@ never_needed journal first chip saves same needs = elim needs [
 covers_none : (kinds : _) (total : ℕ) (sectors : ℕ → Bool) → ((s : ℕ) → sectors s ≡ false) → Covers kinds total [] sectors
 covers_none kinds total sectors none = record { units = λ k any below. absurd (omega arith); union = λ s. sym (none s) }
 
+none_counted : (journal : Content) (first : Chip) (old new : BusState) (report : Report) → SavesChip journal first → IsSame first old.chip → IsRestored journal old new report → report.touched ≡ 0
+none_counted journal first old new report saves same done =
+    done.touched ∙ count_below-none 4096 (is_touched_from journal old.chip) (λ s below. none_touched journal first old.chip s saves same)
+
 pub changes_nothing : (journal : Content) (first : Chip) (old new : BusState) (report : Report) → SavesChip journal first → IsSame first old.chip → IsRestored journal old new report
-    → ChangesNothing journal old.chip report
+    → ChangesNothing journal old new report
 changes_nothing journal first old new report saves same done = record {
-  touched = done.touched ∙ count_below-none 4096 (is_touched_from journal old.chip) (λ s below. none_touched journal first old.chip s saves same);
+  still = done.still (none_counted journal first old new report saves same done) (never_needed journal first old.chip saves same);
+  touched = none_counted journal first old new report saves same done;
   erases =
       let least = done.erases.least [] (covers_none _ _ (is_raised_from journal old.chip) (λ s. none_raised journal first old.chip s saves same)) in
       omega arith;

@@ -259,6 +259,7 @@ restored_done journal prepared old mid new work sent are does modelled =
       fixed = fixed_then old.chip mid.chip new.chip (kept_fixed old.chip mid.chip (same.same.kept1, same.same.kept2)) applied.fixed;
       code = subst (λ (n : ℕ). HasCode n new.chip) for.code applied.has_code;
       idle = applied.idle;
+      latch = λ set. (are.is.rested modelled.honest).latch (applied.latch set);
       worn = λ s. applied.worn s ∙ ap (λ (b : Bool). b || raised_in changes s) (same.worn s) ∙ ap (λ (b : Bool). old.worn s || b) (for.raised s);
       found = for.found;
       shown = for.shown;
@@ -277,6 +278,10 @@ restored_done journal prepared old mid new work sent are does modelled =
           ∙ ap (λ (set : ℕ → Bool). count_below 65536 (is_programmed (is_touched_from journal old.chip) (once_erased set mid.chip.bytes) (saved_byte journal))) raised
           ∙ ap (λ (content : ℕ → ℕ). count_below 65536 (is_programmed (is_touched_from journal old.chip) (once_erased (is_raised_from journal old.chip) content) (saved_byte journal))) bytes
           ∙ pages_same journal old.chip.bytes (once_erased (is_raised_from journal old.chip) old.chip.bytes) (is_touched_from journal old.chip) (touched_saved journal old.chip.bytes);
+      still = λ none never.
+          let writes = no_write changes (λ needed. never (for.needed needed)) in
+          let count = are.is.count in
+          does.still (omega arith) ∙ are.looks.stirred;
     }
 
 -- and it is the first chip again

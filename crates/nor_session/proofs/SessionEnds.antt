@@ -228,6 +228,7 @@ done request image image' opening status code kept old mid new verify work sent 
         has_code = applied.has_code;
       };
       idle = applied.idle;
+      latch = λ set. of.rested.latch (applied.latch set);
       worn = λ s. applied.worn s ∙ ap (λ (b : Bool). b || has kept.scanned.raised s) (of.rested.unchanged.worn s) ∙ ap (λ (b : Bool). old.worn s || b) (of.raised s);
       found = of.is.config;
       shown = of.shown;
@@ -239,6 +240,10 @@ done request image image' opening status code kept old mid new verify work sent 
           ∙ ap (λ (n : ℕ). fewest_erases (kinds_of old.chip.config) (n / 4096) (has kept.scanned.raised)) of.is.config.size
           ∙ ap (λ (set : ℕ → Bool). fewest_erases (kinds_of old.chip.config) (old.chip.config.size / 4096) set) (fun_ext of.raised));
       programs = does.programs honest can ∙ programs_done request image image' opening code kept old mid of;
+      still = λ none never.
+          let writes = no_write (changes_of opening kept status code) (λ needed. never code of.accepts.is_wanted (needs request image image' opening status code kept old mid is of needed)) in
+          let count = is.marks.count in
+          does.still (omega arith) ∙ is.looked.stirred;
     }
 
 -- where the request needs no status write, there is none

@@ -1,6 +1,6 @@
 -- Sessions and restores that follow one another.
 use Rattle.std.specs.Prelude.{◌≡◌, ℕ, true, List}
-use Rattle.nor_chip.specs.Chip.{Chip, IsChip}
+use Rattle.nor_chip.specs.Chip.{IsChip}
 use Rattle.nor_chip.specs.Bus.{BusState}
 use Rattle.nor_journal.specs.Text.{Content, IsContent, text}
 use Rattle.nor_journal.specs.Vault.{VaultState}
@@ -21,9 +21,11 @@ pub record LeavesJournal (request : Request) (image : List ℕ) (old new : BusSt
   pub whole : IsContent journal
   pub same : vault.bytes ≡ text journal
 
--- A restore had nothing to change: no sector was touched, nothing was erased or programmed, and no status write is needed.
-pub record ChangesNothing (journal : Content) (chip : Chip) (report : Report) : Type 0 where
+-- A restore changed nothing: nothing changing was sent, no sector was touched, nothing was erased or programmed, and no
+-- status write is needed.
+pub record ChangesNothing (journal : Content) (old new : BusState) (report : Report) : Type 0 where
+  pub still : new.stirred ≡ old.stirred
   pub touched : report.touched ≡ 0
   pub erases : report.erases ≡ 0
   pub programs : report.programs ≡ 0
-  pub spares : ¬ NeedsStatusFrom journal chip
+  pub spares : ¬ NeedsStatusFrom journal old.chip

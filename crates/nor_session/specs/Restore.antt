@@ -150,7 +150,8 @@ abbrev pub pages_from : Content → Chip → ℕ
 pages_from journal chip = count_below 65536
     (is_programmed (is_touched_from journal chip) (once_erased (is_raised_from journal chip) chip.bytes) (restored journal chip.bytes))
 
--- At the end the chip is what the journal wants, and idle, and the report counts what was done.
+-- At the end the chip is what the journal wants, idle, and its latch set only where it was; the report counts what was
+-- done; and where nothing is to be changed, nothing changing was sent.
 pub record IsRestored (journal : Content) (old new : BusState) (report : Report) : Type 0 where
   pub accepted : IsRestorable journal old.chip
   pub config : new.chip.config ≡ old.chip.config
@@ -158,6 +159,7 @@ pub record IsRestored (journal : Content) (old new : BusState) (report : Report)
   pub fixed : KeepsFixed old.chip new.chip
   pub code : HasCode (code_told journal) new.chip
   pub idle : new.chip.busy ≡ 0
+  pub latch : new.chip.latch ≡ true → old.chip.latch ≡ true
   pub worn : (s : ℕ) → new.worn s ≡ (old.worn s || is_raised_from journal old.chip s)
   pub found : IsConfigOf old.chip.config report.found
   pub shown : shown_as old.chip.config ≡ Ok (part_in report.found)
@@ -166,6 +168,7 @@ pub record IsRestored (journal : Content) (old new : BusState) (report : Report)
   pub touched : report.touched ≡ sector_count (is_touched_from journal old.chip)
   pub erases : AreFewestErases old.chip.config (is_raised_from journal old.chip) report.erases
   pub programs : report.programs ≡ pages_from journal old.chip
+  pub still : report.touched ≡ 0 → (¬ NeedsStatusFrom journal old.chip) → new.stirred ≡ old.stirred
 
 abbrev pub Restores : Content → BusState → BusState → Result Report Refusal → Type 0
 Restores journal old new result = IsModelled old → IfOk result (IsRestored journal old new)

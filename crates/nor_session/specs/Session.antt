@@ -141,13 +141,20 @@ abbrev pub pages_of : Request → List ℕ → Chip → ℕ
 pages_of request image chip = count_below 65536
     (is_programmed (is_touched_by request image chip) (erased_of request image chip) (wanted_of request image chip))
 
--- At the end the chip is the wanted one, and idle; only raised sectors were erased, by the fewest erases; and the
--- report tells the chip and counts what was done.
+-- the request needs no status write on the chip
+abbrev pub NeedsNoStatus : Request → List ℕ → Chip → Type 0
+NeedsNoStatus request image chip =
+    (code : ℕ) → IsWantedCode request.what chip code → ¬ NeedsStatus request code (is_touched_by request image chip) chip
+
+-- At the end the chip is the wanted one, idle, and its latch set only where it was; only raised sectors were erased, by
+-- the fewest erases; the report tells the chip and counts what was done; and where nothing is to be changed, nothing
+-- changing was sent.
 pub record IsDone (request : Request) (image : List ℕ) (old new : BusState) (report : Report) : Type 0 where
   pub config : new.chip.config ≡ old.chip.config
   pub bytes : (a : ℕ) → new.chip.bytes a ≡ wanted_of request image old.chip a
   pub bits : HasWantedBits request.what old.chip new.chip
   pub idle : new.chip.busy ≡ 0
+  pub latch : new.chip.latch ≡ true → old.chip.latch ≡ true
   pub worn : (s : ℕ) → new.worn s ≡ (old.worn s || is_raised_by request image old.chip s)
   pub found : IsConfigOf old.chip.config report.found
   pub shown : shown_as old.chip.config ≡ Ok (part_in report.found)
@@ -156,14 +163,10 @@ pub record IsDone (request : Request) (image : List ℕ) (old new : BusState) (r
   pub touched : report.touched ≡ sector_count (is_touched_by request image old.chip)
   pub erases : AreFewestErases old.chip.config (is_raised_by request image old.chip) report.erases
   pub programs : report.programs ≡ pages_of request image old.chip
+  pub still : report.touched ≡ 0 → NeedsNoStatus request image old.chip → new.stirred ≡ old.stirred
 
 abbrev pub Finishes : Request → List ℕ → BusState → BusState → Result Report Refusal → Type 0
 Finishes request image old new result = IsModelled old → IfOk result (IsDone request image old new)
-
--- the request needs no status write on the chip
-abbrev pub NeedsNoStatus : Request → List ℕ → Chip → Type 0
-NeedsNoStatus request image chip =
-    (code : ℕ) → IsWantedCode request.what chip code → ¬ NeedsStatus request code (is_touched_by request image chip) chip
 
 -- where it needs none, the report has no room for one
 abbrev pub SparesStatus : Request → List ℕ → BusState → Result Report Refusal → Type 0

@@ -15,7 +15,7 @@ mod tests;
 pub fn restored_stays()
     ensures { (journal : Content) (first : Chip) (old new : BusState) (report : Report)
         → SavesChip journal first → IsSame first old.chip → IsRestored journal old new report
-        → ChangesNothing journal old.chip report }
+        → ChangesNothing journal old new report }
 {}
 
 /// Two sessions, one after the other, are undone by restores from their journals in the reverse order.
