@@ -1,5 +1,5 @@
 -- What sessions and restores that follow one another come to.
-use Rattle.std.proofs.Common.{◌≡◌, ◌≢◌, ◌⊎◌, ◌<◌, ◌+◌, ◌*◌, ◌/◌, ◌%◌, ◌&&◌, ◌∙◌, ℕ, Bool, true, false, List, [], refl, ap, sym, subst, arith, true≢false, inl, inr}
+use Rattle.std.proofs.Common.{◌≡◌, ◌≢◌, ◌+◌, ◌*◌, ◌/◌, ◌%◌, ◌∙◌, ℕ, Bool, true, false, List, [], ap, sym, subst, arith, true≢false, inl, inr}
 use Rattle.std.proofs.lemmas.Bool.{cases_Bool, and_left, and_parts}
 use Rattle.std.specs.Prelude.{slice_index, ◌++◌}
 use Rattle.nor_chip.specs.Chip.{Chip, IsSame}
@@ -10,8 +10,7 @@ use Rattle.nor_journal.specs.Saved.{Saves, JournalSaves, is_saved}
 use Rattle.nor_journal.proofs.OneForm.{one_text}
 use Rattle.nor_journal.proofs.Saves.{saved_byte-is}
 use Rattle.nor_plan.specs.Erase.{Covers}
-use Rattle.nor_apply.specs.Counts.{sector_count}
-use Rattle.nor_apply.specs.Content.{is_touched, is_raised, once_erased, is_page_other, is_programmed}
+use Rattle.nor_apply.specs.Content.{once_erased, is_programmed}
 use Rattle.nor_apply.proofs.Changing.{within_then, same_within}
 use Rattle.nor_apply.proofs.Counting.{count_below-none}
 use Rattle.nor_save.specs.declared.report.Report.{Report}
@@ -19,7 +18,6 @@ use Rattle.nor_save.specs.declared.report.Request.{Request}
 use Rattle.nor_save.specs.Request.{is_touched_by}
 use Rattle.nor_save.specs.Saving.{head_of}
 use Rattle.nor_save.proofs.Planned.{untouched, unraised}
-use Rattle.nor_session.specs.Modelled.{kinds_of}
 use Rattle.nor_session.specs.Restore.{restored, is_touched_from, is_raised_from, code_told, NeedsStatusFrom, SavesChip, open_places, CanGiveBack, IsRestored}
 use Rattle.nor_session.specs.Following.{LeavesJournal, ChangesNothing}
 use Rattle.nor_session.proofs.Rescanned.{restored_saved, restored_other}

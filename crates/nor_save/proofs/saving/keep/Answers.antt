@@ -1,5 +1,5 @@
 use Rattle.std.specs.Prelude.{IfErr}
-use Rattle.std.proofs.Common.{ℕ, Bool, ◌≡◌, ◌<◌, ◌/◌, ◌*◌, ◌%◌, ◌∷◌, [], refl, sym, subst, rules, arith}
+use Rattle.std.proofs.Common.{◌≡◌, ◌<◌, ◌/◌, ◌*◌, ◌%◌, ◌∷◌, [], refl, sym, subst, rules, arith}
 use Rattle.std.proofs.lemmas.Grind.{common_steps}
 use Rattle.nor_chip.proofs.Sizes.{is_chip_size-power_of_two, is_chip_size-in_blocks}
 use Rattle.nor_journal.specs.Text.{Content, empty_content}
