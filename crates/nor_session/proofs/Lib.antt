@@ -15,5 +15,6 @@ pub mod Restoring
 pub mod SavedCounts
 pub mod GivesBack
 pub mod WrittenBack
+pub mod InTurn
 pub mod RehearsedRestores
 pub mod RehearsedSessions

@@ -6,5 +6,6 @@ pub mod Answering
 pub mod Restore
 pub mod WrittenOver
 pub mod Preparing
+pub mod Following
 pub mod Rehearsal
 pub mod Rehearsing

@@ -5,6 +5,7 @@
 #![tactic(auto)]
 
 mod answering;
+mod following;
 mod keeping;
 mod preparing;
 mod rehearsals;
@@ -15,6 +16,7 @@ mod sessions;
 mod sources;
 mod states;
 
+pub use following::{restored_stays, undone_in_turn};
 pub use keeping::{read_gives_back, restore_written_over, same_written_over, session_written_over};
 pub use nor_save::{Refusal, Report, Request, What};
 pub use rehearsals::{Rehearsal, rehearse};
