@@ -97,7 +97,8 @@ UnlessVault (Ok _) promise = promise
 UnlessVault (Err refusal) promise = refusal ≢ Vault → promise
 
 -- The head went in, and of the chip's touched sectors those below some bound, of so many sectors.
-pub record HasKeptBelow {V : Type 0} (state : V → VaultState) (writer : Writer V) (head : Content) (chip : ℕ → ℕ) (touched : ℕ → Bool) (total : ℕ) : Type 0 where
+pub record HasKeptBelow {V : Type 0} (state : V → VaultState) (writer : Writer V) (head : Content) (chip : ℕ → ℕ)
+    (touched : ℕ → Bool) (total : ℕ) : Type 0 where
   pub bound : ℕ
   pub inside : bound ≤ total
   pub kept : HasKept state writer head chip (λ s. nat_lt s bound && touched s) bound

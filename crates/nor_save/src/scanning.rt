@@ -116,9 +116,11 @@ pub fn scan_all<B: Bus, V: Vault>(
         → IfOk result (λ scanned. HasKept V.state writer.new head (B.state bus.old).chip.bytes (has scanned.touched) (size / 4096)) }
     ensures begins { IsOpen size (B.state bus.old) → (head : Content) → head.size ≡ size
         → HasKept V.state writer.old head (B.state bus.old).chip.bytes never 0
-        → IfErr result (λ refusal. refusal ≢ Refusals.Vault → HasKeptBelow V.state writer.new head (B.state bus.old).chip.bytes
-        (is_touched (B.state bus.old).chip.bytes (wanted request.now image.old size (B.state bus.old).chip.bytes)) (size / 4096)) }
-    ensures writes { HasBegun V.state writer.old size 0 → UnlessVault result (HasBegun V.state writer.new size (size / 4096)) }
+        → IfErr result (λ refusal. refusal ≢ Refusals.Vault
+        → HasKeptBelow V.state writer.new head (B.state bus.old).chip.bytes (is_touched (B.state bus.old).chip.bytes
+        (wanted request.now image.old size (B.state bus.old).chip.bytes)) (size / 4096)) }
+    ensures writes { HasBegun V.state writer.old size 0
+        → UnlessVault result (HasBegun V.state writer.new size (size / 4096)) }
 {
     let mut scanned = Scanned::none();
     let mut bytes = [0; 4096];

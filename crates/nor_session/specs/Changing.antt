@@ -29,8 +29,8 @@ read_back changes verify = if verify then touched_count changes else 0
 
 -- ---- the check alone, once all is written
 
--- At the end: so many sectors were read, which the work counts now, nothing changed or was sent that could, and each byte
--- that was read is the wanted one.
+-- At the end: so many sectors were read, which the work counts now, nothing changed or was sent that could, and each
+-- byte that was read is the wanted one.
 pub record DoesCheck (changes : Changes) (wanted : ℕ → ℕ) (verify : Bool) (written : Work) (old new : BusState) (work : Work) : Type 0 where
   pub erases : work.erases ≡ written.erases
   pub programs : work.programs ≡ written.programs

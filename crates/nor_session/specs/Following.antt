@@ -10,8 +10,8 @@ use Rattle.nor_session.specs.Modelled.{IsModelled}
 use Rattle.nor_session.specs.Session.{CanBeUndone}
 use Rattle.nor_session.specs.Restore.{NeedsStatusFrom}
 
--- A session left this journal of the chip that it began on: its vault, a telling one, has it and was sealed. The session
--- ended, or was stopped anywhere behind the seal.
+-- A session left this journal of the chip that it began on: its vault, a telling one, has it and was sealed. The
+-- session ended, or was stopped anywhere behind the seal.
 pub record LeavesJournal (request : Request) (image : List ℕ) (old new : BusState) (journal : Content) : Type 0 where
   pub modelled : IsModelled old
   pub is : IsChip old.chip

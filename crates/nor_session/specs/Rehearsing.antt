@@ -88,8 +88,8 @@ pub record ShowsRestores (journal : Content) (stops : List ℕ) (old new : BusSt
   pub last : IsModelled old → FitsLastStop (length journal.saved) stops new.left restores
   pub back : IsModelled old → (first : Chip) → CanGiveBack journal first old → IsSame first new.chip
 
--- A restore was refused as restores are: never one of a chip that the journal can give back, and on an honest bus not by
--- a stop, since a journal has no more sectors than the largest chip.
+-- A restore was refused as restores are: never one of a chip that the journal can give back, and on an honest bus not
+-- by a stop, since a journal has no more sectors than the largest chip.
 pub record StopsRestores (journal : Content) (old : BusState) (refusal : Refusal) : Type 0 where
   pub answers : IsRestoreRefusal refusal
   pub halts : length journal.saved ≤ 4096 → old.honest ≡ true → IsNoHalt refusal

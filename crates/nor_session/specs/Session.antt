@@ -114,12 +114,13 @@ abbrev pub SealsOnceScanned : Request → BusState → VaultState → Result Rep
 SealsOnceScanned request old vault result =
     IsModelled old → vault.sealed ≡ false → IfErr result (StopsEarly request old)
 
--- after a refusal that isn't the vault's a telling vault that isn't sealed is empty, or has a beginning of the one journal
--- that it would have had
+-- after a refusal that isn't the vault's a telling vault that isn't sealed is empty, or has a beginning of the one
+-- journal that it would have had
 abbrev pub BeginsUnsealed : Request → List ℕ → BusState → VaultState → Result Report Refusal → Type 0
 BeginsUnsealed request image old vault result =
     IsModelled old → vault.sealed ≡ false → vault.telling ≡ true → IfErr result (λ refusal. refusal ≢ Vault
-    → (vault.bytes ≡ []) ⊎ BeginsJournal (head_of old.chip) old.chip.bytes (is_touched_by request image old.chip) vault.bytes)
+    → (vault.bytes ≡ [])
+    ⊎ BeginsJournal (head_of old.chip) old.chip.bytes (is_touched_by request image old.chip) vault.bytes)
 
 -- The wanted kept bits: the fixed ones are as they were, and the code is the wanted one.
 pub record HasWantedBits (what : What) (old new : Chip) : Type 0 where

@@ -55,7 +55,8 @@ impl<'a, B: Bus, V: Vault> Judged<'a, B, V> {
         ensures early { SinceOpening self.entry.request.now.named self.entry.opening (B.state self.entry.bus.now)
             (λ first. SealsOnceScanned self.entry.request.now first (V.state self.exit.1.0.now) result) }
         ensures begins { SinceOpening self.entry.request.now.named self.entry.opening (B.state self.entry.bus.now)
-            (λ first. BeginsUnsealed self.entry.request.now self.entry.image.now first (V.state self.exit.1.0.now) result) }
+            (λ first. BeginsUnsealed self.entry.request.now self.entry.image.now first
+            (V.state self.exit.1.0.now) result) }
         ensures undo { SinceOpening self.entry.request.now.named self.entry.opening (B.state self.entry.bus.now)
             (λ first. LeadsBackFrom self.entry.request.now self.entry.image.now first (B.state self.exit.0.now)
             (V.state self.exit.1.0.now)) }
