@@ -10,6 +10,7 @@ mod damages;
 mod dice;
 mod fault;
 mod guards;
+mod journals;
 mod left;
 mod lengths;
 mod lines;

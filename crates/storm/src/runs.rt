@@ -2,12 +2,14 @@
 
 use crate::cases::Case;
 use crate::dice::Dice;
-use crate::fault::Fault;
+use crate::fault::{Fault, agree};
 use crate::left::Accepted;
 use crate::tally::Tally;
 use crate::wanted::Wanted;
 use crate::words::Job;
-use crate::{checks, damages, readings, rehearsals, restores, stops, transactions, verdicts};
+use crate::{
+    checks, damages, journals, readings, rehearsals, restores, stops, transactions, verdicts,
+};
 use std::alloc::Global;
 
 /// A case that ended a run, by its number.
@@ -42,12 +44,14 @@ fn run_case(alloc: Global, seed: u64, number: u64, tally: &mut Tally) -> Result<
     if let Some(refusal) = verdicts::of_opening(&case) {
         tally.count_session(Some(refusal));
         checks::check_refused(alloc, &case, refusal, &ran)?;
+        agree(ran.vault.bytes().is_empty(), "a vault that is not used")?;
         return stops::check_refused(alloc, &mut dice, &case, refusal);
     }
     let wanted = Wanted::of_case(alloc, &case)?;
     if let Some(refusal) = verdicts::of_changes(&case, &wanted) {
         tally.count_session(Some(refusal));
         checks::check_refused(alloc, &case, refusal, &ran)?;
+        journals::check_refused(alloc, &case, &wanted, ran.vault.bytes())?;
         return stops::check_refused(alloc, &mut dice, &case, refusal);
     }
     let whole = transactions::session(alloc, &case, &wanted)?;

@@ -5,7 +5,7 @@ use crate::dice::Dice;
 use crate::fault::{Fault, agree};
 use crate::left::{self, Accepted, Left};
 use crate::wanted::{Sector, Wanted};
-use crate::{checks, guards, lengths, lines, traces, transactions};
+use crate::{checks, guards, journals, lengths, lines, traces, transactions};
 use nor_chip::SimBus;
 use nor_journal::{Journal, MemVault};
 use nor_session::Refusal;
@@ -27,6 +27,7 @@ pub fn check(alloc: Global, dice: &mut Dice, accepted: Accepted<'_>) -> Result<(
         "whether a stopped session sealed",
     )?;
     if !sealed {
+        journals::check_stopped(alloc, case, wanted, stop, vault.bytes())?;
         return agree(
             checks::is_same(&left.bus, &case.chip),
             "the chip before the seal",
