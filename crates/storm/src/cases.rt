@@ -64,6 +64,15 @@ impl Case {
         }
     }
 
+    /// Some address of the sector is included by the request's ranges.
+    pub fn includes_in(&self, sector: u32) -> bool {
+        match &self.included {
+            Some(spans) => spans.iter().any(|span| span.first / 4096 <= sector
+                && sector <= span.last / 4096),
+            None => true,
+        }
+    }
+
     /// The last included address, where there are ranges.
     pub fn last_included(&self) -> Option<u32> {
         match &self.included {

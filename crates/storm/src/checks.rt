@@ -4,7 +4,7 @@ use crate::cases::Case;
 use crate::chips::Chip;
 use crate::fault::{Fault, agree};
 use crate::wanted::{Wanted, Work};
-use crate::{guards, lengths, traces, verdicts};
+use crate::{guards, lengths, traces, transactions, verdicts};
 use nor_chip::{Meter, SimBus, TraceBus};
 use nor_journal::{Journal, MemVault};
 use nor_probe::Found;
@@ -24,10 +24,7 @@ pub struct Ran {
 impl Ran {
     /// The lines of the trace.
     pub fn lines(&self) -> Result<&str, Fault> {
-        match str::from_utf8(self.sent.as_slice()) {
-            Ok(lines) => Ok(lines),
-            Err(_) => Err(Fault::Differs("a trace is text")),
-        }
+        traces::text(self.sent.as_slice())
     }
 }
 
@@ -66,16 +63,19 @@ fn is_quiet(bus: &SimBus, chip: &Chip) -> bool {
 }
 
 /// A refused session changed nothing, and sealed nothing.
-pub fn check_refused(case: &Case, refusal: Refusal, ran: &Ran) -> Result<(), Fault> {
+pub fn check_refused(alloc: Global, case: &Case, refusal: Refusal, ran: &Ran) -> Result<(), Fault> {
     agree(ran.answer == Err(refusal), "the refusal of a session")?;
     agree(is_same(&ran.bus, &case.chip), "the chip after a refusal")?;
     agree(is_quiet(&ran.bus, &case.chip), "the latch after a refusal")?;
     agree(!ran.vault.is_sealed(), "the vault after a refusal")?;
-    traces::check_refused(case, refusal, ran.lines()?)
+    traces::check_refused(case, refusal, ran.lines()?)?;
+    let lines = transactions::refused_session(alloc, case, refusal)?;
+    traces::check_lines(ran.lines()?, lines.text(), "a refused session")
 }
 
-/// An accepted session did what was wanted, with the work that is counted plainly, and saved what it touched.
-pub fn check_ended(case: &Case, wanted: &Wanted, ran: &Ran) -> Result<(), Fault> {
+/// An accepted session did what was wanted, with the work that is counted plainly, saved what it touched, and sent
+/// these lines.
+pub fn check_ended(case: &Case, wanted: &Wanted, lines: &str, ran: &Ran) -> Result<(), Fault> {
     let Ok(report) = ran.answer else {
         return Err(Fault::Differs("an accepted session ends"));
     };
@@ -88,7 +88,8 @@ pub fn check_ended(case: &Case, wanted: &Wanted, ran: &Ran) -> Result<(), Fault>
     agree(ran.vault.is_sealed(), "the vault after a session")?;
     traces::check_ended(case, wanted, ran.lines()?)?;
     let journal = Journal::read(ran.vault.bytes())?;
-    check_journal(chip, wanted, &journal)
+    check_journal(chip, wanted, &journal)?;
+    traces::check_lines(ran.lines()?, lines, "a session")
 }
 
 /// The report counts this work, on the chip that is there.

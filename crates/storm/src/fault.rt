@@ -17,6 +17,8 @@ pub enum Fault {
     Case,
     /// What was done isn't what the plain code says, in this.
     Differs(&'static str),
+    /// The first transaction of this call that isn't the one that the plain code says, counted from 1.
+    Sends(&'static str, u64),
 }
 
 /// Faults with what differs where the two don't agree.

@@ -33,18 +33,9 @@ pub fn opening(chip: &Chip) -> u64 {
 pub fn included_sectors(case: &Case) -> u64 {
     let mut sectors = 0_u64;
     for sector in 0..case.chip.sectors() {
-        sectors = sectors.saturating_add(u64::from(is_included(case, sector)));
+        sectors = sectors.saturating_add(u64::from(case.includes_in(sector)));
     }
     sectors
-}
-
-// Some address of the sector is included.
-fn is_included(case: &Case, sector: u32) -> bool {
-    match &case.included {
-        Some(spans) => spans.iter().any(|span| span.first / 4096 <= sector
-            && sector <= span.last / 4096),
-        None => true,
-    }
 }
 
 /// All that a session sends before the first changing command.

@@ -10,7 +10,11 @@ mod damages;
 mod dice;
 mod fault;
 mod guards;
+mod journals;
+mod left;
 mod lengths;
+mod lines;
+mod pace;
 mod parameters;
 mod readings;
 mod rehearsals;
@@ -21,6 +25,7 @@ mod tally;
 #[cfg(test)]
 mod tests;
 mod traces;
+mod transactions;
 mod verdicts;
 mod wanted;
 mod words;
@@ -60,6 +65,9 @@ fn tell(rt: &impl Print, seed: u64, halt: Halt) -> io::Result<()> {
     let Halt { case, fault } = halt;
     match fault {
         Fault::Differs(what) => println!(rt; "Seed {seed}, case {case} differs: {what}.")?,
+        Fault::Sends(call, number) => {
+            println!(rt; "Seed {seed}, case {case} differs: transaction {number} of {call}.")?
+        }
         fault => println!(rt; "Seed {seed}, case {case} can't be run: {fault:?}.")?,
     }
     println!(rt; "Run it again with: storm {seed} 1 {case}")

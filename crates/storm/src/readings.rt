@@ -1,61 +1,172 @@
 //! Readings of a chip, beside its bytes.
 
 use crate::cases::Case;
+use crate::dice::Dice;
 use crate::fault::{Fault, agree};
-use crate::{checks, lengths, verdicts};
-use nor_chip::Meter;
-use nor_journal::MemVault;
-use nor_read::{read_out, verify};
+use crate::lines::{self, Lines};
+use crate::pace::Pace;
+use crate::{checks, guards, lengths, traces, transactions, verdicts};
+use nor_chip::{Meter, SimBus, TraceBus};
+use nor_journal::{BrokenVault, MemVault};
+use nor_probe::probe;
+use nor_read::{Protection, read_out, verify, wp_status};
 use nor_session::{Refusal, Report};
 use std::alloc::Global;
 
-/// Reads the chip of a case out, and compares it with the image.
-pub fn check(alloc: Global, case: &Case) -> Result<(), Fault> {
-    check_copy(alloc, case)?;
-    check_comparison(alloc, case)
+/// The calls that read alone.
+#[derive(Clone, Copy, Debug, PartialEq, Eq)]
+enum Reading {
+    Probe,
+    Protection,
+    Copy,
+    Comparison,
 }
 
-fn check_copy(alloc: Global, case: &Case) -> Result<(), Fault> {
-    let mut bus = case.chip.bus(alloc)?;
-    bus.allow(u64::MAX);
-    let mut out = MemVault::new(alloc);
-    let request = &case.request;
-    let answer = read_out(&mut bus, request.included.as_ref(), request.named, &mut out);
-    agree(
-        checks::is_same(&bus, &case.chip),
-        "the chip after it was read out",
-    )?;
-    agree(!out.is_sealed(), "the copy isn't sealed")?;
-    let probe = verdicts::of_probe(&case.chip.config, request.named);
-    if let Some(refusal) = probe.or(verdicts::of_places(case)) {
-        return agree(answer == Err(refusal), "the refusal of a copy");
+/// What a reading told.
+#[derive(Drop)]
+enum Told {
+    Found,
+    Protection(Protection),
+    Copy(Report, MemVault),
+    Comparison(Report),
+}
+
+/// A reading, and what it sent.
+#[derive(Drop)]
+struct Ran {
+    answer: Result<Told, Refusal>,
+    bus: SimBus,
+    sent: Vec<u8>,
+}
+
+/// Makes each reading of a case's chip: to its end, under a stop, and a copy into a vault that refuses.
+pub fn check(alloc: Global, dice: &mut Dice, case: &Case) -> Result<(), Fault> {
+    for reading in [
+        Reading::Probe,
+        Reading::Protection,
+        Reading::Copy,
+        Reading::Comparison,
+    ] {
+        let whole = reading.lines(alloc, case)?;
+        let enough = lines::count(whole.text());
+        reading.check_under(alloc, case, whole.text(), u64::MAX)?;
+        reading.check_under(alloc, case, whole.text(), dice.up_to(enough))?;
     }
-    check_report(case, answer)?;
-    let mut copy = case.chip.bytes.to_vec(alloc)?;
-    for (address, byte) in (0_u32..).zip(copy.iter_mut()) {
-        if !case.includes(address) {
-            *byte = 0xFF;
+    check_refused_copy(alloc, dice, case)
+}
+
+impl Reading {
+    // The refusal that it comes to, if any.
+    fn refusal(self, case: &Case) -> Option<Refusal> {
+        let early = self.early_refusal(case);
+        match self {
+            Reading::Probe | Reading::Copy => early,
+            Reading::Protection if !case.chip.config.scheme => {
+                early.or(Some(Refusal::NoProtection))
+            }
+            Reading::Protection => early,
+            Reading::Comparison if early.is_none() => first_difference(case),
+            Reading::Comparison => early,
         }
     }
-    agree(out.bytes() == copy.as_slice(), "the copy")
-}
 
-fn check_comparison(alloc: Global, case: &Case) -> Result<(), Fault> {
-    let mut bus = case.chip.bus(alloc)?;
-    bus.allow(u64::MAX);
-    let request = &case.request;
-    let image = case.image.as_slice();
-    let answer = verify(&mut bus, image, request.included.as_ref(), request.named);
-    agree(
-        checks::is_same(&bus, &case.chip),
-        "the chip after it was compared",
-    )?;
-    let probe = verdicts::of_probe(&case.chip.config, request.named);
-    let asked = verdicts::of_image(case).or(verdicts::of_places(case));
-    if let Some(refusal) = probe.or(asked).or(first_difference(case)) {
-        return agree(answer == Err(refusal), "the refusal of a comparison");
+    // The refusal, if any, that is known once the chip is found.
+    fn early_refusal(self, case: &Case) -> Option<Refusal> {
+        let found = verdicts::of_probe(&case.chip.config, case.request.named);
+        match self {
+            Reading::Probe | Reading::Protection => found,
+            Reading::Copy => found.or(verdicts::of_places(case)),
+            Reading::Comparison => found
+                .or(verdicts::of_image(case))
+                .or(verdicts::of_places(case)),
+        }
     }
-    check_report(case, answer)
+
+    // What it sends where nothing stops it.
+    fn lines(self, alloc: Global, case: &Case) -> Result<Lines, Fault> {
+        let is_found = self.early_refusal(case).is_none();
+        match self {
+            Reading::Probe => transactions::probe(alloc, &case.chip),
+            Reading::Protection => transactions::protection(alloc, &case.chip, is_found),
+            Reading::Copy | Reading::Comparison => {
+                let below = if is_found { case.chip.sectors() } else { 0 };
+                transactions::reading(alloc, case, below)
+            }
+        }
+    }
+
+    // It comes to its end or its refusal where it may send all of these lines, and else it sends the first of them.
+    // Either way the chip is as it was.
+    fn check_under(
+        self,
+        alloc: Global,
+        case: &Case,
+        whole: &str,
+        allowed: u64,
+    ) -> Result<(), Fault> {
+        let Ran { answer, bus, sent } = self.run(alloc, case, allowed)?;
+        let first = lines::first(whole, allowed);
+        agree(
+            checks::is_same(&bus, &case.chip),
+            "the chip after it was read",
+        )?;
+        let pace = Pace::of(&case.chip).behind_lines(first);
+        agree(
+            bus.status()[0] & 0b0000_0011 == pace.bits(),
+            "BUSY and the latch after a reading",
+        )?;
+        let refusal = if allowed < lines::count(whole) {
+            Some(Refusal::Stopped)
+        } else {
+            self.refusal(case)
+        };
+        match answer {
+            Ok(told) => {
+                agree(refusal.is_none(), "a reading that is to be refused")?;
+                check_told(alloc, case, told)?;
+            }
+            Err(other) => agree(refusal == Some(other), "the refusal of a reading")?,
+        }
+        traces::check_lines(traces::text(sent.as_slice())?, first, "a reading")
+    }
+
+    fn run(self, alloc: Global, case: &Case, allowed: u64) -> Result<Ran, Fault> {
+        let mut sent = Vec::new(alloc);
+        let mut bus = TraceBus::new(case.chip.bus(alloc)?, &mut sent);
+        bus.allow(allowed);
+        let answer = self.call(alloc, case, &mut bus);
+        if bus.lost() {
+            return Err(Fault::Memory);
+        }
+        let bus = bus.into_inner();
+        Ok(Ran { answer, bus, sent })
+    }
+
+    fn call(
+        self,
+        alloc: Global,
+        case: &Case,
+        bus: &mut TraceBus<SimBus, &mut Vec<u8>>,
+    ) -> Result<Told, Refusal> {
+        let named = case.request.named;
+        let included = case.request.included.as_ref();
+        match self {
+            Reading::Probe => {
+                probe(bus, named)?;
+                Ok(Told::Found)
+            }
+            Reading::Protection => Ok(Told::Protection(wp_status(bus, named)?)),
+            Reading::Copy => {
+                let mut out = MemVault::new(alloc);
+                let report = read_out(bus, included, named, &mut out)?;
+                Ok(Told::Copy(report, out))
+            }
+            Reading::Comparison => {
+                let image = case.image.as_slice();
+                Ok(Told::Comparison(verify(bus, image, included, named)?))
+            }
+        }
+    }
 }
 
 // The least included address at which chip and image differ.
@@ -69,14 +180,90 @@ fn first_difference(case: &Case) -> Option<Refusal> {
     None
 }
 
-// A reading touches nothing, and reads each sector that holds an included address.
-fn check_report(case: &Case, answer: Result<Report, Refusal>) -> Result<(), Fault> {
-    let Ok(report) = answer else {
-        return Err(Fault::Differs("a reading ends"));
+fn check_told(alloc: Global, case: &Case, told: Told) -> Result<(), Fault> {
+    match told {
+        Told::Found => Ok(()),
+        Told::Protection(protection) => check_protection(case, protection),
+        Told::Comparison(report) => check_report(case, &report),
+        Told::Copy(report, out) => {
+            check_report(case, &report)?;
+            agree(!out.is_sealed(), "the copy isn't sealed")?;
+            let copy = copy_of(alloc, case)?;
+            agree(out.bytes() == copy.as_slice(), "the copy")
+        }
+    }
+}
+
+// The included bytes, and FFh for the others.
+fn copy_of(alloc: Global, case: &Case) -> Result<Vec<u8>, Fault> {
+    let mut copy = case.chip.bytes.to_vec(alloc)?;
+    for (address, byte) in (0_u32..).zip(copy.iter_mut()) {
+        if !case.includes(address) {
+            *byte = 0xFF;
+        }
+    }
+    Ok(copy)
+}
+
+// The guarded places, of which none are two zeros, and none is told where they aren't defined.
+fn check_protection(case: &Case, told: Protection) -> Result<(), Fault> {
+    let code = guards::code_of(case.chip.status);
+    let size = case.chip.config.size;
+    let places = guards::guarded_places(code, size);
+    let range = if guards::is_undefined(code) {
+        None
+    } else if places.1 == 0 {
+        Some((0, 0))
+    } else {
+        Some(places)
     };
+    agree(told.range == range, "the protected range")?;
+    let locked = guards::is_locked(case.chip.status);
+    agree(
+        told.locked == locked && told.size == size,
+        "the lock of the status",
+    )
+}
+
+// A reading touches nothing, and reads each sector that holds an included address.
+fn check_report(case: &Case, report: &Report) -> Result<(), Fault> {
     checks::check_found(&case.chip, &report.found)?;
     let idle = report.touched == 0 && report.erases == 0 && report.programs == 0;
     agree(idle, "the work of a reading")?;
     let sent = lengths::probe(&case.chip).saturating_add(lengths::included_sectors(case));
     agree(report.transactions == sent, "the transactions of a reading")
+}
+
+// A copy into a vault that refuses one of its calls tells how many bytes went in, which are the first of the copy.
+// No sector is read behind the one that holds the next.
+fn check_refused_copy(alloc: Global, dice: &mut Dice, case: &Case) -> Result<(), Fault> {
+    let mut sent = Vec::new(alloc);
+    let mut bus = TraceBus::new(case.chip.bus(alloc)?, &mut sent);
+    bus.allow(u64::MAX);
+    let nth = u64::from(dice.below(case.chip.sectors())).saturating_add(1);
+    let kept = dice.pick(0, &[1, 4095]);
+    let mut out = BrokenVault::new(MemVault::new(alloc), nth, kept);
+    let request = &case.request;
+    let answer = read_out(&mut bus, request.included.as_ref(), request.named, &mut out);
+    drop(bus);
+    let Err(Refusal::Output { written }) = answer else {
+        let refusal = Reading::Copy.refusal(case);
+        return agree(
+            refusal.is_some() && answer.err() == refusal,
+            "the refusal of a copy",
+        );
+    };
+    let copy = copy_of(alloc, case)?;
+    let went_in = usize::try_from(written).unwrap_or(usize::MAX);
+    agree(
+        Some(out.inner().bytes()) == copy.as_slice().get(..went_in),
+        "the bytes of a refused copy",
+    )?;
+    let below = u32::try_from(written / 4096).unwrap_or(u32::MAX);
+    let lines = transactions::reading(alloc, case, below.saturating_add(1))?;
+    traces::check_lines(
+        traces::text(sent.as_slice())?,
+        lines.text(),
+        "a refused copy",
+    )
 }

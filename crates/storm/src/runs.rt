@@ -2,11 +2,14 @@
 
 use crate::cases::Case;
 use crate::dice::Dice;
-use crate::fault::Fault;
+use crate::fault::{Fault, agree};
+use crate::left::Accepted;
 use crate::tally::Tally;
 use crate::wanted::Wanted;
 use crate::words::Job;
-use crate::{checks, damages, readings, rehearsals, restores, stops, verdicts};
+use crate::{
+    checks, damages, journals, readings, rehearsals, restores, stops, transactions, verdicts,
+};
 use std::alloc::Global;
 
 /// A case that ended a run, by its number.
@@ -33,24 +36,35 @@ fn run_case(alloc: Global, seed: u64, number: u64, tally: &mut Tally) -> Result<
     let mut dice = Dice::new(seed, number);
     let case = Case::next(alloc, &mut dice)?;
     if dice.hits(1, 8) {
-        readings::check(alloc, &case)?;
+        // Numbers of their own, so that the rest of the case stays what it is.
+        readings::check(alloc, &mut Dice::new(!seed, number), &case)?;
         tally.count_reading();
     }
     let ran = checks::run(alloc, &case, u64::MAX, None)?;
     if let Some(refusal) = verdicts::of_opening(&case) {
         tally.count_session(Some(refusal));
-        return checks::check_refused(&case, refusal, &ran);
+        checks::check_refused(alloc, &case, refusal, &ran)?;
+        agree(ran.vault.bytes().is_empty(), "a vault that is not used")?;
+        return stops::check_refused(alloc, &mut dice, &case, refusal);
     }
     let wanted = Wanted::of_case(alloc, &case)?;
     if let Some(refusal) = verdicts::of_changes(&case, &wanted) {
         tally.count_session(Some(refusal));
-        return checks::check_refused(&case, refusal, &ran);
+        checks::check_refused(alloc, &case, refusal, &ran)?;
+        journals::check_refused(alloc, &case, &wanted, ran.vault.bytes())?;
+        return stops::check_refused(alloc, &mut dice, &case, refusal);
     }
-    checks::check_ended(&case, &wanted, &ran)?;
+    let whole = transactions::session(alloc, &case, &wanted)?;
+    checks::check_ended(&case, &wanted, whole.text(), &ran)?;
     tally.count_session(None);
-    stops::check(alloc, &mut dice, &case, &wanted)?;
+    let accepted = Accepted {
+        case: &case,
+        wanted: &wanted,
+        lines: whole.text(),
+    };
+    stops::check(alloc, &mut dice, accepted)?;
     if dice.hits(1, 4) {
-        rehearsals::check(alloc, &mut dice, &case, &wanted)?;
+        rehearsals::check(alloc, &mut dice, accepted)?;
         tally.count_rehearsal();
     }
     if dice.hits(1, 3) {

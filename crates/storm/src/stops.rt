@@ -1,47 +1,73 @@
 //! Sessions that are stopped, and the restores that give the chip back.
 
 use crate::cases::Case;
-use crate::checks::{self, Ran};
 use crate::dice::Dice;
 use crate::fault::{Fault, agree};
+use crate::left::{self, Accepted, Left};
 use crate::wanted::{Sector, Wanted};
-use crate::{guards, lengths};
-use nor_chip::{Meter, SimBus};
-use nor_journal::Journal;
-use nor_session::{Refusal, restore};
+use crate::{checks, guards, journals, lengths, lines, traces, transactions};
+use nor_chip::SimBus;
+use nor_journal::{Journal, MemVault};
+use nor_session::Refusal;
 use std::alloc::Global;
 
 /// Stops an accepted session somewhere, and restores under stops until one restore ends.
-pub fn check(alloc: Global, dice: &mut Dice, case: &Case, wanted: &Wanted) -> Result<(), Fault> {
+pub fn check(alloc: Global, dice: &mut Dice, accepted: Accepted<'_>) -> Result<(), Fault> {
+    let Accepted {
+        case,
+        wanted,
+        lines: _,
+    } = accepted;
     let stop = stop_for(dice, case, wanted);
     let fill = fill_for(dice, case);
-    let ran = checks::run(alloc, case, stop, fill)?;
-    let ended = stop >= lengths::session(case, wanted.work(&case.chip));
-    if ended {
-        agree(
-            ran.answer.is_ok(),
-            "a session with just enough transactions",
-        )?;
-    } else {
-        agree(
-            ran.answer == Err(Refusal::Stopped),
-            "a session with too few transactions",
-        )?;
-    }
+    let (left, vault, _) = left::run(alloc, accepted, stop, fill)?;
     let sealed = stop >= lengths::saving(case);
     agree(
-        ran.vault.is_sealed() == sealed,
+        vault.is_sealed() == sealed,
         "whether a stopped session sealed",
     )?;
     if !sealed {
+        journals::check_stopped(alloc, case, wanted, stop, vault.bytes())?;
         return agree(
-            checks::is_same(&ran.bus, &case.chip),
+            checks::is_same(&left.bus, &case.chip),
             "the chip before the seal",
         );
     }
-    check_within(case, wanted, &ran.bus)?;
-    check_gentle(case, wanted, &ran.bus, fill)?;
-    give_back(dice, case, wanted, ran)
+    check_within(case, wanted, &left.bus)?;
+    check_gentle(case, wanted, &left.bus, fill)?;
+    give_back(alloc, dice, accepted, left, &vault)
+}
+
+/// Stops a refused session somewhere. It is refused only where it could send all that its refusal takes.
+pub fn check_refused(
+    alloc: Global,
+    dice: &mut Dice,
+    case: &Case,
+    refusal: Refusal,
+) -> Result<(), Fault> {
+    let whole = transactions::refused_session(alloc, case, refusal)?;
+    let enough = lines::count(whole.text());
+    let stop = dice.up_to(enough);
+    let ran = checks::run(alloc, case, stop, None)?;
+    let answer = if stop < enough {
+        Refusal::Stopped
+    } else {
+        refusal
+    };
+    agree(
+        ran.answer == Err(answer),
+        "the refusal of a stopped session",
+    )?;
+    agree(
+        !ran.vault.is_sealed(),
+        "the vault of a refused session that was stopped",
+    )?;
+    agree(
+        checks::is_same(&ran.bus, &case.chip),
+        "the chip of a refused session that was stopped",
+    )?;
+    let first = lines::first(whole.text(), stop);
+    traces::check_lines(ran.lines()?, first, "a refused session that was stopped")
 }
 
 /// Where a session is stopped: anywhere, or among the changes.
@@ -109,37 +135,31 @@ fn is_gentle(sector: Sector, old: &[u8], new: &[u8], now: &[u8]) -> bool {
 }
 
 // Restores under a few stops, and then under none.
-fn give_back(dice: &mut Dice, case: &Case, wanted: &Wanted, ran: Ran) -> Result<(), Fault> {
-    let Ran {
-        answer: _,
-        mut bus,
-        vault,
-        sent: _,
-    } = ran;
+fn give_back(
+    alloc: Global,
+    dice: &mut Dice,
+    accepted: Accepted<'_>,
+    left: Left,
+    vault: &MemVault,
+) -> Result<(), Fault> {
+    let Accepted {
+        case,
+        wanted,
+        lines: _,
+    } = accepted;
     let journal = Journal::read(vault.bytes())?;
     let most = lengths::session(case, wanted.work(&case.chip));
+    let mut left = left;
     for _ in 0..dice.below(5) {
-        bus.allow(stop_of_restore(dice, most));
-        let answer = restore(&mut bus, &journal);
-        if answer.is_ok() {
-            return agree(
-                checks::is_same(&bus, &case.chip),
-                "the chip after a restore",
-            );
+        let stop = stop_of_restore(dice, most);
+        (left, _) = left::restore(alloc, accepted, &journal, left, stop)?;
+        if left.ended {
+            return Ok(());
         }
-        agree(
-            answer == Err(Refusal::Stopped),
-            "a restore only ends or stops",
-        )?;
-        check_within(case, wanted, &bus)?;
+        check_within(case, wanted, &left.bus)?;
     }
-    bus.allow(u64::MAX);
-    let answer = restore(&mut bus, &journal);
-    agree(answer.is_ok(), "a restore that nothing stops")?;
-    agree(
-        checks::is_same(&bus, &case.chip),
-        "the chip after the last restore",
-    )
+    let (left, _) = left::restore(alloc, accepted, &journal, left, u64::MAX)?;
+    agree(left.ended, "a restore that nothing stops")
 }
 
 /// Where a restore is stopped, of which half come soon.

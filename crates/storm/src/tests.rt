@@ -5,12 +5,14 @@ use crate::dice::Dice;
 use crate::fault::Fault;
 use crate::wanted::Wanted;
 use crate::words::Job;
-use crate::{checks, guards, parameters, runs, traces, verdicts};
+use crate::{checks, guards, parameters, runs, traces, transactions, verdicts};
 use nor_chip::TINY64_SFDP;
 use nor_probe::SfdpFault;
 use std::alloc::Global;
 use std::process::Abort;
 use std::test::Fail;
+
+mod known;
 
 // Runs a sixth of the cases. Accepted ones have to be among them, and each of the ten refusals at least five times, and
 // no other.
@@ -138,12 +140,13 @@ fn parameters_have_their_faults(rt: HostRuntime) -> Result<(), Fail> {
 fn a_wrong_byte_is_told(rt: HostRuntime) -> Result<(), Fail> {
     let case = Case::next(rt.alloc(), &mut Dice::new(1, 0))?;
     let mut wanted = Wanted::of_case(rt.alloc(), &case)?;
+    let whole = transactions::session(rt.alloc(), &case, &wanted)?;
     let ran = checks::run(rt.alloc(), &case, u64::MAX, None)?;
-    assert!(rt; checks::check_ended(&case, &wanted, &ran).is_ok());
+    assert!(rt; checks::check_ended(&case, &wanted, whole.text(), &ran).is_ok());
     if let Some(byte) = wanted.bytes.as_mut_slice().first_mut() {
         *byte ^= 0x10;
     }
-    let told = checks::check_ended(&case, &wanted, &ran);
+    let told = checks::check_ended(&case, &wanted, whole.text(), &ran);
     assert!(rt; matches!(told, Err(Fault::Differs("the bytes at the end"))));
     Ok(())
 }

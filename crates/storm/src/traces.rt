@@ -9,6 +9,30 @@ use nor_session::Refusal;
 /// The opcodes after which a chip may be another, as a trace has them.
 const CHANGING: [&str; 7] = ["06", "01", "02", "20", "52", "d8", "c7"];
 
+/// The trace of a call is these lines, one by one.
+pub fn check_lines(sent: &str, wanted: &str, call: &'static str) -> Result<(), Fault> {
+    let mut number = 1_u64;
+    for (line, other) in sent.lines().zip(wanted.lines()) {
+        if line != other {
+            return Err(Fault::Sends(call, number));
+        }
+        number = number.saturating_add(1);
+    }
+    if sent.len() == wanted.len() {
+        Ok(())
+    } else {
+        Err(Fault::Sends(call, number))
+    }
+}
+
+/// A trace as text.
+pub fn text(sent: &[u8]) -> Result<&str, Fault> {
+    match str::from_utf8(sent) {
+        Ok(lines) => Ok(lines),
+        Err(_) => Err(Fault::Differs("a trace is text")),
+    }
+}
+
 /// A refused session sent what it has to know for that, and nothing that changes.
 pub fn check_refused(case: &Case, refusal: Refusal, sent: &str) -> Result<(), Fault> {
     let count = u64::try_from(sent.lines().count());

@@ -1,0 +1,138 @@
+//! Transactions one by one, each as the line that a trace has of it.
+
+use crate::chips::Chip;
+use crate::fault::Fault;
+use crate::guards::{self, Status};
+use crate::pace::Pace;
+use std::alloc::Global;
+use std::fmt::Write;
+
+/// The transactions with a chip so far, and what of the chip its replies to the next ones show.
+#[derive(Drop)]
+pub struct Lines {
+    text: String,
+    // the kept bits
+    status: Status,
+    pace: Pace,
+}
+
+impl Lines {
+    /// None yet, with a chip as it stands.
+    pub fn new(alloc: Global, chip: &Chip) -> Lines {
+        Lines {
+            text: String::new(alloc),
+            status: guards::kept(chip.status),
+            pace: Pace::of(chip),
+        }
+    }
+
+    /// A line for each transaction.
+    pub fn text(&self) -> &str {
+        self.text.as_str()
+    }
+
+    /// A wait: polls until one shows BUSY clear.
+    pub fn wait(&mut self) -> Result<(), Fault> {
+        for _ in 0..=self.pace.busy {
+            let status1 = self.status[0] | self.pace.bits();
+            writeln!(self.text, "05 > {status1:02x}")?;
+            self.pace = self.pace.behind("05");
+        }
+        Ok(())
+    }
+
+    /// The ID.
+    pub fn read_id(&mut self, id: [u8; 3]) -> Result<(), Fault> {
+        let [maker, kind, size] = id;
+        writeln!(self.text, "9f > {maker:02x}{kind:02x}{size:02x}")?;
+        Ok(())
+    }
+
+    /// So many SFDP bytes from an address on: three address bytes and a dummy byte, which is 00h.
+    pub fn read_parameters(&mut self, address: u32, count: u32) -> Result<(), Fault> {
+        writeln!(self.text, "5a{address:06x}00 > {count} bytes")?;
+        Ok(())
+    }
+
+    /// Status 2.
+    pub fn read_status2(&mut self) -> Result<(), Fault> {
+        let status2 = self.status[1];
+        writeln!(self.text, "35 > {status2:02x}")?;
+        Ok(())
+    }
+
+    /// The unique ID: four dummy bytes, which are 00h, and eight that are read.
+    pub fn read_unique(&mut self) -> Result<(), Fault> {
+        writeln!(self.text, "4b00000000 > 8 bytes")?;
+        Ok(())
+    }
+
+    /// A sector.
+    pub fn read_sector(&mut self, number: u32) -> Result<(), Fault> {
+        let address = number.saturating_mul(4096);
+        writeln!(self.text, "03{address:06x} > 4096 bytes")?;
+        Ok(())
+    }
+
+    /// An operation that erases the unit at an address, by its opcode.
+    pub fn erase(&mut self, opcode: &str, address: u32) -> Result<(), Fault> {
+        self.enable()?;
+        writeln!(self.text, "{opcode}{address:06x}")?;
+        self.finish(opcode)
+    }
+
+    /// An operation that erases the whole chip.
+    pub fn erase_chip(&mut self) -> Result<(), Fault> {
+        self.enable()?;
+        writeln!(self.text, "c7")?;
+        self.finish("c7")
+    }
+
+    /// An operation that programs bytes from an address on.
+    pub fn program(&mut self, address: u32, bytes: &[u8]) -> Result<(), Fault> {
+        self.enable()?;
+        write!(self.text, "02{address:06x}")?;
+        for byte in bytes {
+            write!(self.text, "{byte:02x}")?;
+        }
+        writeln!(self.text)?;
+        self.finish("02")
+    }
+
+    /// An operation that writes both status bytes.
+    pub fn write_status(&mut self, status: Status) -> Result<(), Fault> {
+        let [status1, status2] = status;
+        self.enable()?;
+        writeln!(self.text, "01{status1:02x}{status2:02x}")?;
+        self.status = status;
+        self.finish("01")
+    }
+
+    // Every operation begins with a write enable ..
+    fn enable(&mut self) -> Result<(), Fault> {
+        writeln!(self.text, "06")?;
+        self.pace = self.pace.behind("06");
+        Ok(())
+    }
+
+    // .. and ends with a wait.
+    fn finish(&mut self, opcode: &str) -> Result<(), Fault> {
+        self.pace = self.pace.behind(opcode);
+        self.wait()
+    }
+}
+
+/// The first so many lines.
+pub fn first(lines: &str, count: u64) -> &str {
+    let count = usize::try_from(count).unwrap_or(usize::MAX);
+    let mut end = 0_usize;
+    for line in lines.lines().take(count) {
+        end = end.saturating_add(line.len()).saturating_add(1);
+    }
+    lines.get(..end).unwrap_or(lines)
+}
+
+/// How many there are.
+pub fn count(lines: &str) -> u64 {
+    u64::try_from(lines.lines().count()).unwrap_or(u64::MAX)
+}

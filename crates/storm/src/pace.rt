@@ -1,0 +1,74 @@
+//! How long a chip is busy, and when its latch is set.
+
+use crate::chips::Chip;
+
+/// BUSY and the latch of a chip at a moment.
+#[derive(Clone, Copy, Debug, PartialEq, Eq)]
+pub struct Pace {
+    /// The polls that will still reply BUSY.
+    pub busy: u16,
+    latch: bool,
+    // the polls that reply BUSY behind each operation
+    each: u16,
+}
+
+impl Pace {
+    /// That of a chip.
+    pub fn of(chip: &Chip) -> Pace {
+        Pace {
+            busy: chip.delays.now,
+            latch: chip.status[0] & 0b0000_0010 != 0,
+            each: chip.delays.each,
+        }
+    }
+
+    /// BUSY and the latch, as status 1 has them.
+    pub fn bits(self) -> u8 {
+        u8::from(self.busy > 0) | u8::from(self.latch) << 1
+    }
+
+    /// Behind a transaction with this opcode that is carried out.
+    pub fn behind(self, opcode: &str) -> Pace {
+        match opcode {
+            "05" => self.behind_poll(),
+            "06" => Pace {
+                latch: true,
+                ..self
+            },
+            "01" | "02" | "20" | "52" | "d8" | "c7" => Pace {
+                busy: self.each,
+                latch: self.each > 0,
+                each: self.each,
+            },
+            _ => self,
+        }
+    }
+
+    // A poll of a busy chip lowers what is left. With the last one the latch is clear.
+    fn behind_poll(self) -> Pace {
+        let busy = self.busy.saturating_sub(1);
+        Pace {
+            busy,
+            latch: self.latch && (self.busy == 0 || busy > 0),
+            each: self.each,
+        }
+    }
+
+    /// Behind the transactions of a trace.
+    pub fn behind_lines(self, lines: &str) -> Pace {
+        let mut pace = self;
+        for line in lines.lines() {
+            pace = pace.behind(line.get(..2).unwrap_or(""));
+        }
+        pace
+    }
+
+    /// Behind a loss of power.
+    pub fn without_power(self) -> Pace {
+        Pace {
+            busy: 0,
+            latch: false,
+            each: self.each,
+        }
+    }
+}
