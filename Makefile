@@ -1,4 +1,5 @@
-# `make demo` runs the main job, `make check` passes the tests. Both need the toolchain's `rt` alone.
+# `make demo` runs the main job, `make quick` looks at all that needs no proof, `make check` proves and passes the tests.
+# README says how long each takes.
 
 PROGRAM := crates/flashnor/out/flashnor
 BENCH := crates/bench/out/bench
@@ -9,19 +10,30 @@ AGAIN = cd $(SCRATCH) && $(abspath $(PROGRAM)) $(WORDS)
 # Where `make install` puts things, below DESTDIR if that is given.
 PREFIX ?= /usr/local
 
+# What `make dist` packs.
+VERSION := 1.0
+DIST := out/flashnor-$(VERSION)
+
 # The cases that `make storm` runs: their seed, and how many.
 SEED := 1
 COUNT := 1000
 
-.PHONY: build demo try files bench compare storm sweep runs install agree check clean
+.PHONY: build toolchain demo try files bench compare storm sweep kill runs install dist agree quick check clean
 
 # Proves the program and everything below it, builds it, and runs it once.
-build: files
+build: toolchain files
+	@echo "This proves all that the program stands on: a quarter of an hour on four cores, and 1 to 3 GB for each."
+	@echo "('make demo' shows without a proof what it does.)"
 	cd crates/flashnor && rt run -- -p dummy:emulate=TINY64,image=$(SCRATCH)/chip.bin -w $(SCRATCH)/new.bin --rehearse 25
 	@test -x $(PROGRAM)
 
 $(PROGRAM):
 	@$(MAKE) --no-print-directory build
+
+# All that proves and compiles is the kit's.
+toolchain:
+	@command -v rt > /dev/null || \
+	  { echo "There is no 'rt': it comes with Rattle's kit, whose folder bin has to be in PATH." >&2; exit 1; }
 
 # A chip file whose byte 0 is 00h, an image whose byte 0 is 01h, and FFh in all other bytes of both.
 files:
@@ -41,7 +53,7 @@ demo: files
 	fi
 
 # The same run where the program isn't built yet. What `rt` says beside the program is shown where the run fails.
-try: files
+try: toolchain files
 	@echo "(the proved program isn't built yet: this run compiles it without its proof, and keeps none)"
 	@cd crates/flashnor && \
 	rt try --data chip.bin=$(SCRATCH)/chip.bin --data new.bin=$(SCRATCH)/new.bin -- $(WORDS) \
@@ -52,7 +64,7 @@ try: files
 
 # Measures the parts as they stand, each beside plain work of the same size in the same run. A time that is longer
 # than wanted is printed, and no failure.
-bench:
+bench: toolchain
 	@cd crates/bench && rt run > /dev/null
 	@$(BENCH) chip
 	@$(BENCH) plan
@@ -73,13 +85,26 @@ install: $(PROGRAM)
 	install -D -m 644 completion/flashnor.bash $(DESTDIR)$(PREFIX)/share/bash-completion/completions/flashnor
 
 # Sessions by chance, each beside plain code: `make storm SEED=7 COUNT=5000`. The first case proves and builds.
-storm:
+storm: toolchain
 	@cd crates/storm && rt run -- $(SEED) 1 > /dev/null
 	@crates/storm/out/storm $(SEED) $(COUNT)
 
 # Runs the program with each of its allocations refused in turn, where there is a C compiler.
 sweep:
 	@bash sweep/run.sh $(CURDIR)/$(PROGRAM)
+
+# Kills the program at each of its calls on files, and makes each of them fail, where there is a C compiler.
+kill:
+	@bash kill/run.sh $(CURDIR)/$(PROGRAM)
+
+# An archive for who has no prover: the proved program with its pages, what it was proved with, and their sums.
+dist: $(PROGRAM) toolchain
+	@rm -rf $(DIST) && mkdir -p $(DIST)
+	@cp $(PROGRAM) man/flashnor.8 completion/flashnor.bash README.md CHANGELOG.md $(DIST)
+	@rt version > $(DIST)/PROVED-WITH
+	@cd $(DIST) && sha256sum -- * > SHA256SUMS
+	@tar --sort=name --owner=0 --group=0 --numeric-owner -C out -czf $(DIST).tar.gz flashnor-$(VERSION)
+	@echo $(DIST).tar.gz
 
 # The built program on each case of runs/cases, and on the examples of README and the manual page.
 runs: $(PROGRAM)
@@ -89,8 +114,12 @@ runs: $(PROGRAM)
 agree:
 	@bash docs/agree.sh
 
+# What can be known in a few minutes without a proof: layout, pages, that all compiles, tests, the built program's cases.
+quick: toolchain
+	@bash quick/run.sh $(CURDIR)/$(PROGRAM)
+
 # The merge gate, which begins with that.
-check:
+check: toolchain
 	@bash .ci/run
 
 clean:

@@ -3,19 +3,21 @@
 #
 # Both find the chip, read it and write a random image onto one full of FFh; flashrom verifies what it wrote, and
 # flashnor does so too and keeps a journal. Then they write and erase two regions, list the protection ranges, and tell
-# the range of each status. Bytes and ranges must be the same, else the status is 1. Times are printed as ratios,
-# flashnor's to flashrom's, each the best of three rounds (or of ROUNDS). One that is longer than wanted is
-# printed, and no failure. This is no part of the gate, since it needs flashrom.
+# the range of each status. Bytes and ranges must be the same, and some of them compared, else the status is 1. Times
+# are printed as ratios, flashnor's to flashrom's, and for a reading to that of `cp` too, each the best of three rounds
+# (or of ROUNDS). One that is longer than wanted is printed, and no failure. This is no part of the gate, since it needs
+# flashrom.
 set -euo pipefail
 
 top=$(cd "$(dirname "$0")/.." && pwd)
 program=${1:-$top/crates/flashnor/out/flashnor}
 rounds=${ROUNDS:-3}
 size=16777216
+compared=0
 
 PATH=$PATH:/usr/sbin:/sbin
 if ! command -v flashrom > /dev/null; then
-    echo "flashrom isn't installed, so nothing is compared (on Debian: apt-get install flashrom)."
+    echo "skipped: compare, since flashrom isn't installed (on Debian: apt-get install flashrom)"
     exit 0
 fi
 if [[ ! -x $program ]]; then
@@ -56,7 +58,10 @@ both_hold() {
     rm -f rom.out nor.out journal
 }
 
-same() { cmp "$1" "$2" || fail "$1 and $2 differ"; }
+same() {
+    cmp "$1" "$2" || fail "$1 and $2 differ"
+    compared=$((compared + 1))
+}
 
 probe() {
     both_hold blank
@@ -75,6 +80,15 @@ read_all() {
     nor -r nor.out
     same rom.out random
     same nor.out random
+}
+
+# A reading beside a plain copy of the chip's file.
+read_and_copy() {
+    both_hold random
+    timed cp nor.bin rom.out
+    rom_took=$took
+    nor -r nor.out
+    same nor.out rom.out
 }
 
 write_all() {
@@ -138,6 +152,7 @@ ranges() {
     sorted rom.said > rom.ranges
     sorted nor.said > nor.ranges
     diff rom.ranges nor.ranges || fail "the ranges differ (< flashrom's, > flashnor's)"
+    compared=$((compared + 1))
     echo "ranges on offer: the same $(wc -l < nor.ranges)"
     codes
 }
@@ -172,15 +187,19 @@ sorted() {
     done < "$1" | sort -u
 }
 
+((rounds > 0)) || fail "no round, so nothing is compared"
 make_images
 version=$(flashrom --version 2> /dev/null | sed -n '1s/^flashrom //p')
 echo "time of flashnor to that of flashrom (its version: $version), best of $rounds"
-measure "probe" 0.05 probe
+measure "probe" 0.0625 probe
 measure "probe, flashrom by -c" "" probe -c "$chip"
 measure "read 16 MiB" 0.1667 read_all
 measure "read 16 MiB, flashrom by -c" "" read_all -c "$chip"
-measure "write 16 MiB" 0.1667 write_all
+measure "read 16 MiB, to cp" 1.3 read_and_copy
+measure "write 16 MiB" 0.1 write_all
 measure "write 16 MiB, flashrom by -c" "" write_all -c "$chip"
 restore
 regions
 ranges
+((compared > 0)) || fail "nothing was compared"
+echo "compare: $compared files and lists of ranges were the same"

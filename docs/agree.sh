@@ -7,7 +7,8 @@ set -Eeuo pipefail
 trap 'echo "DIFFERS: broke off at $BASH_COMMAND"' ERR
 export LC_ALL=C
 cd "$(dirname "$0")/.."
-words=crates/nor_words/src messages=crates/flashnor/src/messages.rt pages="README SPECIFICATION manual"
+words=crates/nor_words/src messages=crates/flashnor/src/messages.rt printing=crates/flashnor/src/printing.rt
+pages="README SPECIFICATION manual"
 work=$(mktemp -d)
 mkdir "$work/flat"
 trap 'rm -rf "$work"' EXIT

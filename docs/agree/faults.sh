@@ -6,15 +6,15 @@ refusal_lines() {
     flat $messages | sed 's/Refusal::/\n/g' |
         sed -nE 's/^([A-Za-z]+)[^"=]*=> [^"]*"([^"]*)".*/\1 \2/p' | sort > "$work/reasons"
     join -a1 -a2 "$work/numbers" "$work/reasons" | sed -E 's/^[A-Za-z]+ ([0-9]+) (.*)/Error \1: \2./
-        s/\{image\}/I/; s/\{chip\}/C/; s/\{address:#08x\}/0xA/; s/\{written\}/W/; s/\{\}/K/'
+        s/\{image\}/I/; s/\{chip\}/C/; s/\{address:06x\}/A/; s/\{written\}/W/; s/\{\}/K/'
 }
 
 # The lines of the other faults.
 fault_lines() {
     local place
     place=$(sed -nE 's/.*write!\(f, "( at line \{line\})"\).*/\1/p' $messages)
-    sed -nE 's/.*#\[error\("(\{0\})?((Usage|Layout|File) fault [^"]*)".*/\2/p' $words/words.rt $messages |
-        sed -E "s/\{\}\{\}\./K.\nLayout fault K$place./; s/\{line\}/N/; s/\{name\}/NAME/; s/\{\}|[0-9]+/K/"
+    sed -nE 's/.*write!\(f, "((Usage|Layout|File) fault [^"]*)".*/\1/p' $words/words.rt $messages |
+        sed -E "s/\{\}\{\}\./K.\nLayout fault K$place./; s/\{line\}/N/; s/\{name\}/NAME/; s/\{\}/K/"
 }
 
 # The lines of faults in the tables.
@@ -41,7 +41,7 @@ take_shown() {
 # The lines of answers, with `_` for what they tell.
 take_answers() {
     local line told='NAME|ID|SIZE|START|LENGTH|SFDP|[TEPXK]|ended|stopped|open|locked'
-    flat $messages | search 'writeln!\( ?output, "[^"]*"' | sed -E 's/.*output, "(.*)"/\1/; s/\{[^}]*\}/_/g' |
+    flat $printing | search 'writeln!\( ?output, "[^"]*"' | sed -E 's/.*output, "(.*)"/\1/; s/(0x)?\{[^}]*\}/_/g' |
         keep answers program
     table docs/SPECIFICATION.md Job | cut -d'|' -f2 | quoted > "$work/answers"
     sed -E "s/[A-Z0-9]+ [0-9a-f]{6} [0-9]+/_ _ _/; s/\b($told)\b/_/g" "$work/answers" | keep answers SPECIFICATION
@@ -55,7 +55,7 @@ take_answers() {
 # The numbers that a source's faults have: as they are written, or counted where the first one is 1.
 numbers_in() {
     awk '/^}/ { counts = 0 } /^    [A-Z][a-z]* = 1,$/ { counts = 1 } counts && /^    [A-Z]/ { print ++n }
-        match($0, /(Fault::[A-Za-z]+ => |Usage fault )[0-9]+/) { print substr($0, RSTART, RLENGTH) }' "$1" |
+        match($0, /Fault::[A-Za-z]+(\(_\))? => [0-9]+/) { print substr($0, RSTART, RLENGTH) }' "$1" |
         search '[0-9]+$'
 }
 

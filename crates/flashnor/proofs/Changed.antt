@@ -1,7 +1,7 @@
 -- What sessions, rehearsals and restores come to.
 use Rattle.std.proofs.Common.{◌≡◌, ◌≤◌, ℕ, List, Ok, Err, true, false, arith}
 use Rattle.nor_chip.specs.Bus.{BusState}
-use Rattle.nor_chip.specs.Chip.{IsSame}
+use Rattle.nor_chip.specs.Chip.{IsChip, IsSame}
 use Rattle.nor_driver.specs.Looks.{IsCalm, Looks}
 use Rattle.nor_journal.specs.Vault.{VaultState}
 use Rattle.nor_save.specs.Refusal.{number_of}
@@ -9,8 +9,11 @@ use Rattle.nor_save.specs.declared.report.Request.{Request}
 use Rattle.nor_save.specs.declared.refusal.Refusal.{Refusal}
 use Rattle.nor_save.specs.declared.refusal.Refusal.TheVariants as why
 use Rattle.nor_save.specs.declared.report.Report.{Report}
+use Rattle.nor_session.specs.Modelled.{IsModelled}
+use Rattle.nor_session.specs.WrittenOver.{IsWrittenOver}
+use Rattle.nor_session.proofs.WrittenBack.{same_over, session_over}
 use Rattle.nor_session.specs.Session.{CanBeUndone, HonestTells, IsDone, SessionTells}
-use Rattle.flashnor.specs.Changes.{HasKept}
+use Rattle.flashnor.specs.Changes.{HasKept, IsSafe}
 use Rattle.flashnor.specs.declared.answers.Answer.TheVariants as answer
 
 -- after those from 1 to 11 the chip is as before
@@ -38,14 +41,22 @@ stays old new why.OtherUnit tells early = tells early
 
 module _ (request : Request) (image : List ℕ) (old new : BusState) (vault vault' : VaultState)
     (looks : vault'.sealed ≡ false → Looks 69638 old new) (undo : vault'.sealed ≡ true → CanBeUndone request image old new vault')
-    (honest : old.honest ≡ true) (calm : IsCalm old) where
+    (modelled : IsModelled old) (is : IsChip old.chip) (calm : IsCalm old) where
   same : vault'.sealed ≡ false → IsSame old.chip new.chip
-  same unsealed = (((looks unsealed).looked honest).stays.calm calm)
+  same unsealed = (((looks unsealed).looked modelled.honest).stays.calm calm)
+
+  -- so from files that are written over
+  over : (opened : BusState) → IsWrittenOver old.chip new.chip opened.chip → IsSafe old opened vault'
+  over opened written = record {
+    same = λ unsealed. same_over old.chip new.chip opened.chip (same unsealed) written;
+    back = λ sealed telling journal sound read.
+        session_over request image old new opened vault' journal modelled is telling (undo sealed) sound read written;
+  }
 
   -- a change that ended keeps the sealed journal
   pub kept_done : (report : Report) → IsDone request image old new report → vault'.sealed ≡ true
       → HasKept request image old new vault vault' (Ok (answer.Done report))
-  kept_done report done sealed = record { told = done; sealed = λ ok. sealed; same = same; undo = undo }
+  kept_done report done sealed = record { told = done; sealed = λ ok. sealed; same = same; undo = undo; over = over }
 
   -- and one that gave up keeps it from when it was sealed on
   pub kept_refused : (refusal : Refusal) → SessionTells request image old new vault vault' refusal → HonestTells old new refusal
@@ -55,4 +66,5 @@ module _ (request : Request) (image : List ℕ) (old new : BusState) (vault vaul
     sealed = λ ok. cc;
     same = same;
     undo = undo;
+    over = over;
   }

@@ -1,13 +1,11 @@
 -- How calls and jobs end a run.
-use Rattle.std.proofs.Common.{◌≡◌, List, Option, None, Some, Result, Ok, Err, inl, inr, subst}
+use Rattle.std.proofs.Common.{◌≡◌, ◌<◌, ◌≤◌, ℕ, zero, suc, List, Option, None, Some, Result, Ok, Err, arith, inl, inr, refl, subst}
 use Rattle.std.specs.Prelude.{IsSomeAnd, OnSome}
 use Rattle.nor_chip.specs.Bus.{BusState}
 use Rattle.nor_save.specs.declared.refusal.Refusal.{Refusal}
 use Rattle.nor_words.specs.Text.{Text}
-use Rattle.clap.specs.Words.{IsAmong, kind_of}
-use Rattle.clap.specs.declared.error.Error.{Error}
-use Rattle.clap.specs.declared.error.kind.ErrorKind.TheVariants as kind
-use Rattle.nor_words.specs.Words.{IsFault, IsJob, refusals_of}
+use Rattle.clap.specs.Words.{IsAmong}
+use Rattle.nor_words.specs.Words.{IsFault, IsJob, IsRefused, refusals_of}
 use Rattle.nor_words.specs.declared.job.ChipJob.{ChipJob}
 use Rattle.nor_words.specs.declared.job.Job.TheVariants as job
 use Rattle.nor_words.specs.declared.job.Keeping.{Keeping}
@@ -20,16 +18,23 @@ use Rattle.nor_words.specs.declared.job.Wanted.TheVariants as wanted
 use Rattle.nor_words.specs.declared.words.UsageFault.{UsageFault}
 use Rattle.nor_words.specs.declared.words.UsageFault.TheVariants as usage
 use Rattle.flashnor.specs.Chips.{IsContentOf, IsReady, Opens}
+use Rattle.flashnor.specs.Endings.{HasPrinted, PrintsAnswer, all_written}
 use Rattle.flashnor.specs.Events.{Happened}
 use Rattle.flashnor.specs.Requests.{FailsToInclude}
 use Rattle.flashnor.specs.Run.{AreLeft, Does, EndsJob, FailsBefore, FailsJob, FailsToKeep, FailsToRead, IsAnswer, IsCalled, IsToldAs}
-use Rattle.flashnor.specs.Run.{Succeeds, all_written, changes_chip}
+use Rattle.flashnor.specs.Run.{IsStatus, Succeeds, changes_chip}
+use Rattle.flashnor.proofs.Amid.{opened_over}
 use Rattle.flashnor.specs.declared.answers.Answer.{Answer}
 use Rattle.flashnor.specs.declared.answers.Answer.TheVariants as answer
 use Rattle.flashnor.specs.declared.chips.Content.{Content}
 use Rattle.flashnor.specs.declared.chips.Unwritten.{Unwritten}
 use Rattle.flashnor.specs.declared.messages.Fault.{Fault}
 use Rattle.flashnor.specs.declared.messages.Fault.TheVariants as end
+use Rattle.flashnor.specs.declared.printing.Ending.{Ending}
+
+one_or : (n : ℕ) → n ≤ 1 → (n ≡ 0 → ⊥) → n ≡ 1
+one_or zero few some = absurd (some refl)
+one_or (suc n) few some = omega arith
 
 -- ---- no job ends with a usage fault
 
@@ -37,21 +42,21 @@ none_and : {T : Type 0} (P : T → Type 0) (o : Option T) → ((x : T) → P x �
 none_and P None never some = some
 none_and P (Some x) never some = never x some
 
-no_include : (regions : Option Regions) (fault : UsageFault) → FailsToInclude regions (end.Usage fault) → ⊥
-no_include None fault fails = fails
-no_include (Some regions) fault fails = fails
-
-no_read : (what : Wanted) (fault : UsageFault) → FailsToRead what (end.Usage fault) → ⊥
-no_read (wanted.Write image) fault fails = fails
-no_read wanted.Erase fault fails = cc
-no_read (wanted.Range start len) fault fails = fails
-
-no_keep : (kept : Keeping) (fault : UsageFault) → FailsToKeep kept (end.Usage fault) → ⊥
-no_keep (keeping.Journal file) fault fails = fails
-no_keep (keeping.Rehearse stops) fault fails = fails
-
 -- below: whatever happened to the files
 module _ (happened : Happened) where
+  no_include : (regions : Option Regions) (fault : UsageFault) → FailsToInclude happened regions (end.Usage fault) → ⊥
+  no_include None fault fails = fails
+  no_include (Some regions) fault fails = elim fails [ inl f ↦ f | inr f ↦ f ]
+
+  no_read : (what : Wanted) (fault : UsageFault) → FailsToRead happened what (end.Usage fault) → ⊥
+  no_read (wanted.Write image) fault fails = fails
+  no_read wanted.Erase fault fails = cc
+  no_read (wanted.Range start len) fault fails = fails
+
+  no_keep : (kept : Keeping) (fault : UsageFault) → FailsToKeep happened kept (end.Usage fault) → ⊥
+  no_keep (keeping.Journal file) fault fails = fails
+  no_keep (keeping.Rehearse stops) fault fails = fails
+
   no_before : (done : Task) (fault : UsageFault) → FailsBefore happened done (end.Usage fault) → ⊥
   no_before task.Probe fault fails = fails
   no_before task.FlashSize fault fails = fails
@@ -87,19 +92,30 @@ module _ (happened : Happened) where
       → IsContentOf happened on_chip.programmer content → Opens on_chip.programmer content old
       → (IsReady on_chip.programmer old → Does happened on_chip.programmer on_chip.named on_chip.task old new outcome)
       → AreLeft (changes_chip on_chip.task) happened on_chip.programmer new.chip unwritten
-      → OnSome unwritten.trace (unwritten.trace ≡ on_chip.programmer.trace) → IsCalled happened on_chip unwritten outcome
-  called on_chip content old new unwritten outcome read opens does left traced =
-      record { content = content; read = read; old = old; new = new; opened = opens; does = does opens.ready; left = left; traced = traced }
+      → new.chip.kept2 < 128 → OnSome unwritten.trace (unwritten.trace ≡ on_chip.programmer.trace)
+      → IsCalled happened on_chip unwritten outcome
+  called on_chip content old new unwritten outcome read opens does left small traced = record {
+    content = content;
+    read = read;
+    old = old;
+    new = new;
+    opened = opens;
+    does = does opens.ready;
+    left = left;
+    over = opened_over on_chip.programmer content old new opens small;
+    traced = traced;
+  }
 
   pub ends_called : (on_chip : ChipJob) (content : Content) (old new : BusState) (unwritten : Unwritten) (outcome : Result Answer Refusal)
       (told : Result Answer Fault) → IsContentOf happened on_chip.programmer content → Opens on_chip.programmer content old
       → (IsReady on_chip.programmer old → Does happened on_chip.programmer on_chip.named on_chip.task old new outcome)
       → AreLeft (changes_chip on_chip.task) happened on_chip.programmer new.chip unwritten
-      → OnSome unwritten.trace (unwritten.trace ≡ on_chip.programmer.trace) → IsToldAs outcome told → EndsJob happened on_chip unwritten told
-  ends_called on_chip content old new unwritten (Ok found) told read opens does left traced tells =
-      rw tells (called on_chip content old new unwritten (Ok found) read opens does left traced)
-  ends_called on_chip content old new unwritten (Err refusal) told read opens does left traced tells =
-      rw tells (inl (called on_chip content old new unwritten (Err refusal) read opens does left traced))
+      → new.chip.kept2 < 128 → OnSome unwritten.trace (unwritten.trace ≡ on_chip.programmer.trace) → IsToldAs outcome told
+      → EndsJob happened on_chip unwritten told
+  ends_called on_chip content old new unwritten (Ok found) told read opens does left small traced tells =
+      rw tells (called on_chip content old new unwritten (Ok found) read opens does left small traced)
+  ends_called on_chip content old new unwritten (Err refusal) told read opens does left small traced tells =
+      rw tells (inl (called on_chip content old new unwritten (Err refusal) read opens does left small traced))
 
   -- a fault from before the call does, too
   fails_ends : (on_chip : ChipJob) (unwritten : Unwritten) (fault : Fault) → FailsJob happened on_chip fault
@@ -139,10 +155,50 @@ module _ (happened : Happened) where
 
   -- ---- runs without a fault
 
-  pub succeeds_helped : (words : List Text) (error : Error) (unwritten : Unwritten) → kind_of error ≡ kind.DisplayHelp
-      → IsAnswer happened words (Err (end.Usage (usage.Words error))) unwritten → Succeeds happened words
-  succeeds_helped words error unwritten help answers = inl (subst (λ k. IsAmong k (refusals_of words)) help answers)
+  succeeds_by : (words : List Text) (outcome : Result Answer Fault) (out out' : Option (List ℕ))
+      → IsAnswer happened words outcome all_written → PrintsAnswer outcome out out' → Succeeds happened words out out'
+  succeeds_by words (Ok found) out out' answers prints = inr (found, answers, prints)
+  succeeds_by words (Err (end.Usage (usage.Words error))) out out' answers prints =
+      inl (subst (λ k. IsAmong k (refusals_of words)) prints answers)
+  succeeds_by words (Err (end.Usage usage.NoProgrammer)) out out' answers prints = absurd prints
+  succeeds_by words (Err (end.Usage usage.Programmer)) out out' answers prints = absurd prints
+  succeeds_by words (Err (end.Usage usage.TwoOperations)) out out' answers prints = absurd prints
+  succeeds_by words (Err (end.Usage usage.Range)) out out' answers prints = absurd prints
+  succeeds_by words (Err (end.Usage usage.Journal)) out out' answers prints = absurd prints
+  succeeds_by words (Err (end.Usage usage.Layout)) out out' answers prints = absurd prints
+  succeeds_by words (Err (end.Usage usage.Unneeded)) out out' answers prints = absurd prints
+  succeeds_by words (Err (end.Usage usage.Stops)) out out' answers prints = absurd prints
+  succeeds_by words (Err (end.Usage usage.Memory)) out out' answers prints = absurd prints
+  succeeds_by words (Err end.NoText) out out' answers prints = absurd prints
+  succeeds_by words (Err (end.Layout fault)) out out' answers prints = absurd prints
+  succeeds_by words (Err (end.File fault name)) out out' answers prints = absurd prints
+  succeeds_by words (Err (end.Refused refusal)) out out' answers prints = absurd prints
 
-  pub succeeds_done : (words : List Text) (found : Answer) (unwritten : Unwritten) → unwritten ≡ all_written
-      → IsAnswer happened words (Ok found) unwritten → Succeeds happened words
-  succeeds_done words found unwritten written answers = inr (found, subst (IsAnswer happened words (Ok found)) written answers)
+  pub succeeds : (words : List Text) (outcome : Result Answer Fault) (unwritten : Unwritten) (out out' err err' : Option (List ℕ))
+      (ending : Ending) → IsAnswer happened words outcome unwritten → HasPrinted outcome unwritten out out' err err' ending
+      → ending.status ≡ 0 → Succeeds happened words out out'
+  succeeds words outcome unwritten out out' err err' ending answers prints none =
+      let well = prints.exact.0 none in
+      succeeds_by words outcome out out' (subst (IsAnswer happened words outcome) well.1 answers) (prints.printed well.0)
+
+  -- where the words ask for nothing there is no such run
+  fails : (words : List Text) (out out' : Option (List ℕ)) → IsRefused words → Succeeds happened words out out' → ⊥
+  fails words out out' refused well = elim well [
+    | inl help ↦ refused.no_help help
+    | inr done ↦ refused.no_job done.1.0 done.1.1
+  ]
+
+  pub is_status : (words : List Text) (outcome : Result Answer Fault) (unwritten : Unwritten) (out out' err err' : Option (List ℕ))
+      (ending : Ending) → IsAnswer happened words outcome unwritten → HasPrinted outcome unwritten out out' err err' ending
+      → IsStatus happened words out out' err err' ending
+  is_status words outcome unwritten out out' err err' ending answers prints =
+      let well = succeeds words outcome unwritten out out' err err' ending answers prints in
+      record {
+        few = prints.few;
+        refused = λ refused. one_or ending.status prints.few (λ none. fails words out out' refused (well none));
+        succeeds = well;
+        outcome = outcome;
+        unwritten = unwritten;
+        answers = answers;
+        prints = prints;
+      }

@@ -21,7 +21,7 @@ use Rattle.nor_save.specs.Refusal.{of_probe}
 use Rattle.nor_save.specs.declared.refusal.Refusal.{Refusal}
 use Rattle.nor_save.specs.declared.report.Report.{Report}
 use Rattle.nor_session.specs.Modelled.{IsModelled}
-use Rattle.nor_session.specs.Restore.{IsJudgedFirst, IsRestored, RestoreTells}
+use Rattle.nor_session.specs.Restore.{CanGiveBack, IsJudgedFirst, IsRestored, RestoreTells}
 use Rattle.nor_words.specs.Programmer.{IsConfigOf}
 use Rattle.nor_words.specs.Text.{Text}
 use Rattle.nor_words.specs.declared.programmer.Emulated.{Emulated}
@@ -33,6 +33,7 @@ use Rattle.flashnor.specs.Chips.{IsConfigWith, IsReady, Holds, Opens, allowance_
 use Rattle.flashnor.specs.declared.chips.Content.{Content}
 use Rattle.flashnor.specs.Found.{IsFound, part_of, wanted}
 use Rattle.flashnor.specs.Readings.{FindRefuses}
+use Rattle.flashnor.proofs.Amid.{restored_over, unfound_over}
 use Rattle.flashnor.proofs.Shown.{ok-same, shown-emulated}
 
 -- ---- the unique ID tells nothing of what a chip is
@@ -181,20 +182,30 @@ passes_none bus modelled calm = record {
 -- ---- a restore
 
 pub restores_done : (journal : Journal) (named : Option (Bor Text)) (old found new : BusState) (report : Report)
-    → Passes named old found → IsRestored journal found new report → HasRestored journal named old new (Ok (answer.Done report))
-restores_done journal named old found new report passes restored = record
-    { found = found; same = passes.same; name = passes.name; told = restored }
+    → Passes named old found → IsRestored journal found new report
+    → ((first : Chip) → CanGiveBack journal first found → CanGiveBack journal first new)
+    → HasRestored journal named old new (Ok (answer.Done report))
+restores_done journal named old found new report passes restored keeps = record {
+  found = found;
+  same = passes.same;
+  name = passes.name;
+  told = restored;
+  over = restored_over journal old new found passes.same passes.calm keeps;
+}
 
 pub restores_refused : (journal : Journal) (named : Option (Bor Text)) (old found new : BusState) (refusal : Refusal)
-    → Passes named old found → RestoreTells journal found new refusal → (IsJudgedFirst refusal → Looks 69638 found new) →
-    HasRestored journal named old new (Err refusal)
-restores_refused journal named old found new refusal passes tells looks = record {
+    → Passes named old found → RestoreTells journal found new refusal → (IsJudgedFirst refusal → Looks 69638 found new)
+    → ((first : Chip) → CanGiveBack journal first found → CanGiveBack journal first new)
+    → HasRestored journal named old new (Err refusal)
+restores_refused journal named old found new refusal passes tells looks keeps = record {
   found = found;
   same = passes.same;
   name = tt;
   told = inl (record { refuses = tells; same = λ judged. looked_same 69638 found new (looks judged) passes.modelled.honest passes.calm });
+  over = restored_over journal old new found passes.same passes.calm keeps;
 }
 
 pub restores_unfound : (journal : Journal) (named : Option (Bor Text)) (old new : BusState) (refusal : Refusal)
     → IsSame old.chip new.chip → ProbeRefuses named old new refusal → HasRestored journal named old new (Err refusal)
-restores_unfound journal named old new refusal same refuses = record { found = new; same = same; name = tt; told = inr refuses }
+restores_unfound journal named old new refusal same refuses =
+    record { found = new; same = same; name = tt; told = inr refuses; over = unfound_over journal old new same }

@@ -6,7 +6,7 @@ use Rattle.nor_chip.specs.Bus.{BusState}
 use Rattle.nor_chip.specs.Chip.{Chip, IsSame}
 use Rattle.nor_driver.specs.Looks.{IsCalm}
 use Rattle.nor_journal.specs.Saved.{JournalSaves}
-use Rattle.nor_journal.specs.Text.{Content as Journal}
+use Rattle.nor_journal.specs.Text.{Content as Journal, IsContent, text}
 use Rattle.nor_journal.specs.Vault.{IsFresh, VaultState}
 use Rattle.nor_apply.specs.Counts.{sector_count}
 use Rattle.nor_probe.specs.Found.{Tells}
@@ -19,7 +19,8 @@ use Rattle.nor_save.specs.declared.refusal.Refusal.{Refusal}
 use Rattle.nor_session.specs.Modelled.{IsModelled, most_of}
 use Rattle.nor_session.specs.Verdict.{IsAccepted, IsNamed}
 use Rattle.nor_session.specs.Session.{CanBeUndone, IsDone, SessionTells}
-use Rattle.nor_session.specs.Restore.{IsRestored, RestoreTells, IsJudgedFirst}
+use Rattle.nor_session.specs.Restore.{CanGiveBack, IsRestored, RestoreTells, IsJudgedFirst}
+use Rattle.nor_session.specs.WrittenOver.{IsWrittenOver}
 use Rattle.nor_session.specs.Rehearsal.{AreRestores, CanEnd, IsRehearsal, RehearsalTells, SealFits, first_allowance}
 use Rattle.nor_session.specs.declared.rehearsals.Rehearsal.{Rehearsal}
 use Rattle.nor_words.specs.Text.{Text}
@@ -45,14 +46,23 @@ pub record GivesUp (request : Request) (image : List ℕ) (old new : BusState) (
   pub same : number_of refusal ≤ 11 → IsSame old.chip new.chip
   pub unused : number_of refusal ≤ 8 → vault' ≡ vault
 
+-- The chip that is opened is the one from before, until the vault is sealed; from then on it is one that the journal
+-- gives back which is read from the vault's bytes, where that is telling.
+pub record IsSafe (old opened : BusState) (vault : VaultState) : Type 0 where
+  pub same : vault.sealed ≡ false → IsSame old.chip opened.chip
+  pub back : vault.sealed ≡ true → vault.telling ≡ true
+      → (journal : Journal) → IsContent journal → vault.bytes ≡ text journal → CanGiveBack journal old.chip opened
+
 -- A change was made, or begun, with its journal in a vault: until that is sealed the chip is as before, and from then on
--- the journal leads back, at every end.
+-- the journal leads back, at every end; and so it does from files that had the old chip, at each moment of their being
+-- written over with the new one.
 pub record HasKept (request : Request) (image : List ℕ) (old new : BusState) (vault vault' : VaultState)
     (outcome : Result Answer Refusal) : Type 0 where
   pub told : MatchResult outcome (TellsDone request image old new) (GivesUp request image old new vault vault')
   pub sealed : IsOk outcome → vault'.sealed ≡ true
   pub same : vault'.sealed ≡ false → IsSame old.chip new.chip
   pub undo : vault'.sealed ≡ true → CanBeUndone request image old new vault'
+  pub over : (opened : BusState) → IsWrittenOver old.chip new.chip opened.chip → IsSafe old opened vault'
 
 -- ---- rehearsals
 
@@ -128,7 +138,8 @@ pub record Passes (named : Option (Bor Text)) (old new : BusState) : Type 0 wher
   pub calm : IsCalm new
   pub name : HasGivenName named old.chip
 
--- A restore was made on the chip, after a probe for the name that is given, if one is.
+-- A restore was made on the chip, after a probe for the name that is given, if one is. Each chip that the journal could
+-- give back before it still can, from files that had the old chip, at each moment of their being written over.
 pub record HasRestored (journal : Journal) (named : Option (Bor Text)) (old new : BusState) (outcome : Result Answer Refusal) : Type 0 where
   -- the bus after that probe, which tells that the chip has the name
   pub found : BusState
@@ -136,3 +147,5 @@ pub record HasRestored (journal : Journal) (named : Option (Bor Text)) (old new 
   pub name : OnOk outcome (HasGivenName named old.chip)
   pub told : MatchResult outcome (TellsRestored journal found new)
       (λ refusal. RestoreRefuses journal found new refusal ⊎ ProbeRefuses named old new refusal)
+  pub over : (first : Chip) (opened : BusState) → CanGiveBack journal first old
+      → IsWrittenOver old.chip new.chip opened.chip → CanGiveBack journal first opened

@@ -67,9 +67,10 @@ pub record Holds (programmer : Programmer) (content : Content) (bus : BusState) 
   pub latch : bus.chip.latch ≡ (slice_index content.status 0 / 2 % 2 == 1)
 
 -- how the opening of a chip may end a run: by one of its files, or for want of memory
-abbrev pub FailsToOpen : Programmer → Fault → Type 0
-FailsToOpen programmer fault = (fault ≡ end.Refused Memory)
-    ⊎ (IsSomeAnd programmer.image (λ name. IsOpening name.now fault) ⊎ IsSomeAnd programmer.status (λ name. IsOpening name.now fault))
+abbrev pub FailsToOpen : Happened → Programmer → Fault → Type 0
+FailsToOpen happened programmer fault = (fault ≡ end.Refused Memory)
+    ⊎ (IsSomeAnd programmer.image (λ name. IsOpening happened name.now (part_of programmer.chip).size fault)
+    ⊎ IsSomeAnd programmer.status (λ name. IsOpening happened name.now 2 fault))
 
 -- Its bytes and status bytes were written into the files that are named; or the names of those that couldn't be are these.
 pub record ArePutBack (happened : Happened) (programmer : Programmer) (chip : Chip) (image status : Option (Bor Text)) : Type 0 where

@@ -1,7 +1,12 @@
 pub mod Messages
+pub mod Lines
+pub mod AnswerLines
+pub mod FaultLines
+pub mod Endings
 pub mod Events
 pub mod Files
 pub mod Chips
+pub mod WrittenOver
 pub mod Found
 pub mod Requests
 pub mod Readings

@@ -6,6 +6,7 @@ use Rattle.nor_chip.specs.Chip.{Chip}
 use Rattle.nor_journal.specs.Fault.{HasFault}
 use Rattle.nor_journal.specs.Text.{Content as Journal, IsContent, text}
 use Rattle.nor_layout.specs.declared.ranges.Span.{Span}
+use Rattle.nor_session.specs.WrittenOver.{IsWrittenOver}
 use Rattle.nor_save.specs.declared.refusal.Refusal.{Refusal}
 use Rattle.nor_save.specs.declared.refusal.Refusal.TheVariants.{Memory, BadJournal}
 use Rattle.nor_words.specs.Text.{Text}
@@ -25,18 +26,22 @@ use Rattle.nor_words.specs.declared.job.Wanted.{Wanted}
 use Rattle.nor_words.specs.declared.job.Wanted.TheVariants as wanted
 use Rattle.nor_words.specs.declared.programmer.Emulated.{Emulated}
 use Rattle.nor_words.specs.declared.programmer.Programmer.{Programmer}
+use Rattle.flashnor.specs.AnswerLines.{AreLines}
 use Rattle.flashnor.specs.Changes.{HasChanged, HasRestored}
 use Rattle.flashnor.specs.Chips.{ArePutBack, FailsToOpen, IsContentOf, Opens}
+use Rattle.flashnor.specs.Endings.{HasPrinted, Prints, all_written}
 use Rattle.flashnor.specs.Events.{Happened, IsRead}
 use Rattle.flashnor.specs.Files.{IsLogging, IsMaking, IsMakingNew, IsReading}
 use Rattle.flashnor.specs.Readings.{HasFound, HasRead, HasTold, HasVerified, ListsRanges, TellsFound, TellsGuarded, TellsSize}
 use Rattle.flashnor.specs.Requests.{AreRangesOf, FailsToInclude, IsBufferOf, request_for}
+use Rattle.flashnor.specs.WrittenOver.{OpensAmid}
 use Rattle.flashnor.specs.declared.answers.Answer.{Answer}
 use Rattle.flashnor.specs.declared.answers.Answer.TheVariants as answer
 use Rattle.flashnor.specs.declared.chips.Content.{Content}
 use Rattle.flashnor.specs.declared.chips.Unwritten.{Unwritten}
 use Rattle.flashnor.specs.declared.messages.Fault.{Fault}
 use Rattle.flashnor.specs.declared.messages.Fault.TheVariants as end
+use Rattle.flashnor.specs.declared.printing.Ending.{Ending}
 
 -- ---- calls
 
@@ -103,7 +108,8 @@ AreLeft true happened programmer chip unwritten = ArePutBack happened programmer
 AreLeft false happened programmer chip unwritten = (unwritten.image ≡ None) × (unwritten.status ≡ None)
 
 -- The job's call was made: on a bus to the programmer's chip, as its files tell it, into which it was put back; and a
--- trace that lost a line is the programmer's.
+-- trace that lost a line is the programmer's. Whatever a later run opens from the chip's files, at any moment of their
+-- being written over and wherever that ends, is between the old chip and the new one.
 pub record IsCalled (happened : Happened) (job : ChipJob) (unwritten : Unwritten) (outcome : Result Answer Refusal) : Type 0 where
   pub content : Content
   pub read : IsContentOf happened job.programmer content
@@ -112,40 +118,46 @@ pub record IsCalled (happened : Happened) (job : ChipJob) (unwritten : Unwritten
   pub opened : Opens job.programmer content old
   pub does : Does happened job.programmer job.named job.task old new outcome
   pub left : AreLeft (changes_chip job.task) happened job.programmer new.chip unwritten
+  pub over : (opened : BusState) → OpensAmid content old.chip new.chip opened
+      → IsWrittenOver old.chip new.chip opened.chip
   pub traced : OnSome unwritten.trace (unwritten.trace ≡ job.programmer.trace)
 
 -- ---- faults from before the call
 
 -- how the reading of a change's image may end a run
-abbrev pub FailsToRead : Wanted → Fault → Type 0
-FailsToRead (wanted.Write image) fault = IsReading image.now fault
-FailsToRead wanted.Erase fault = fault ≡ end.Refused Memory
-FailsToRead (wanted.Range start len) fault = ⊥
+abbrev pub FailsToRead : Happened → Wanted → Fault → Type 0
+FailsToRead happened (wanted.Write image) fault = IsReading happened image.now 16777217 fault
+FailsToRead happened wanted.Erase fault = fault ≡ end.Refused Memory
+FailsToRead happened (wanted.Range start len) fault = ⊥
 
 -- how the making of a change's journal may end it
-abbrev pub FailsToKeep : Keeping → Fault → Type 0
-FailsToKeep (keeping.Journal file) fault = IsMakingNew file.now fault
-FailsToKeep (keeping.Rehearse stops) fault = ⊥
+abbrev pub FailsToKeep : Happened → Keeping → Fault → Type 0
+FailsToKeep happened (keeping.Journal file) fault = IsMakingNew happened file.now fault
+FailsToKeep happened (keeping.Rehearse stops) fault = ⊥
 
 -- how the reading of a journal may end it
 abbrev pub FailsToRestore : Happened → Text → Fault → Type 0
 FailsToRestore happened name (end.Refused (BadJournal fault)) =
     (bytes : List ℕ) × IsRead happened name 16793662 bytes × HasFault bytes fault
-FailsToRestore happened name fault = IsReading name fault
+FailsToRestore happened name fault = IsReading happened name 16793662 fault
 
 -- how a task may end a run before its call is made
 abbrev pub FailsBefore : Happened → Task → Fault → Type 0
-FailsBefore happened (task.Read file regions) fault = FailsToInclude regions fault ⊎ IsMaking file.now fault
-FailsBefore happened (task.Verify file regions) fault = FailsToInclude regions fault ⊎ IsReading file.now fault
+FailsBefore happened (task.Read file regions) fault =
+    FailsToInclude happened regions fault ⊎ IsMaking happened file.now fault
+FailsBefore happened (task.Verify file regions) fault =
+    FailsToInclude happened regions fault ⊎ IsReading happened file.now 16777217 fault
 FailsBefore happened (task.Change change) fault =
-    FailsToInclude change.regions fault ⊎ (FailsToRead change.wanted fault ⊎ FailsToKeep change.keeping fault)
+    FailsToInclude happened change.regions fault
+    ⊎ (FailsToRead happened change.wanted fault ⊎ FailsToKeep happened change.keeping fault)
 FailsBefore happened (task.Restore journal) fault = FailsToRestore happened journal.now fault
 FailsBefore happened _ fault = ⊥
 
 -- how a job may end without a call: by the chip's files, by the trace's, or by those of its task
 abbrev pub FailsJob : Happened → ChipJob → Fault → Type 0
-FailsJob happened on_chip fault = FailsToOpen on_chip.programmer fault
-    ⊎ (IsSomeAnd on_chip.programmer.trace (λ name. IsLogging name.now fault) ⊎ FailsBefore happened on_chip.task fault)
+FailsJob happened on_chip fault = FailsToOpen happened on_chip.programmer fault
+    ⊎ (IsSomeAnd on_chip.programmer.trace (λ name. IsLogging happened name.now fault)
+    ⊎ FailsBefore happened on_chip.task fault)
 
 -- ---- runs
 
@@ -173,17 +185,20 @@ abbrev pub IsAnswer : Happened → List Text → Result Answer Fault → Unwritt
 IsAnswer happened words (Err (end.Usage fault)) unwritten = IsFault words fault
 IsAnswer happened words outcome unwritten = (asked : Job) × IsJob words asked × Answers happened asked unwritten outcome
 
--- each file was written
-abbrev pub all_written : Unwritten
-all_written = record { image = None; status = None; trace = None }
+-- A run without a fault: the words ask for help; or for a job, which was done, each file was written, and to standard
+-- output went the lines of just this answer.
+abbrev pub Succeeds : Happened → List Text → Option (List ℕ) → Option (List ℕ) → Type 0
+Succeeds happened words out out' = IsAmong kind.DisplayHelp (refusals_of words)
+    ⊎ ((found : Answer) × IsAnswer happened words (Ok found) all_written × Prints (AreLines found) out out')
 
--- A run without a fault: the words ask for help; or for a job, which was done, and each file was written.
-abbrev pub Succeeds : Happened → List Text → Type 0
-Succeeds happened words =
-    IsAmong kind.DisplayHelp (refusals_of words) ⊎ ((found : Answer) × IsAnswer happened words (Ok found) all_written)
-
--- The status of a run: 0 or 1; 1 where the words ask for nothing, and 0 only where it has no fault.
-pub record IsStatus (happened : Happened) (words : List Text) (status : ℕ) : Type 0 where
-  pub few : status ≤ 1
-  pub refused : IsRefused words → status ≡ 1
-  pub succeeds : status ≡ 0 → Succeeds happened words
+-- How a run ended, by what standard output and standard error hold before and after, where that is known. The status is
+-- 0 or 1; 1 where the words ask for nothing, and 0 only where the run has no fault.
+pub record IsStatus (happened : Happened) (words : List Text) (out out' err err' : Option (List ℕ)) (ending : Ending) : Type 0 where
+  pub few : ending.status ≤ 1
+  pub refused : IsRefused words → ending.status ≡ 1
+  pub succeeds : ending.status ≡ 0 → Succeeds happened words out out'
+  -- what it came to, and what was printed of that
+  pub outcome : Result Answer Fault
+  pub unwritten : Unwritten
+  pub answers : IsAnswer happened words outcome unwritten
+  pub prints : HasPrinted outcome unwritten out out' err err' ending

@@ -31,8 +31,9 @@ pub fn change_chip<'a, R: Store, B: Meter>(
 ) -> Result<Result<Answer, Refusal>, Fault<'a>>
     ensures ok { IsModelled (B.state bus.old) → IsCalm (B.state bus.old)
         → IfOk result (DoesChange (R.happened rt.now) chip named.entry change.now (B.state bus.old) (B.state bus.new)) }
-    ensures err { IfErr result (λ fault. FailsToInclude change.now.regions fault
-        ⊎ (FailsToRead change.now.wanted fault ⊎ FailsToKeep change.now.keeping fault)) }
+    ensures err { IfErr result (λ fault. FailsToInclude (R.happened rt.now) change.now.regions fault
+        ⊎ (FailsToRead (R.happened rt.now) change.now.wanted fault
+        ⊎ FailsToKeep (R.happened rt.now) change.now.keeping fault)) }
 {
     let included = read_included(rt, change.regions)?;
     let request = request_for(change, named, included);
@@ -49,7 +50,7 @@ fn read_wanted<'a, R: Store>(
     wanted: Wanted<'a>,
 ) -> Result<Vec<u8>, Fault<'a>>
     ensures ok { IfOk result (λ image. IsBufferOf (R.happened rt.now) chip wanted.entry image.items) }
-    ensures err { IfErr result (FailsToRead wanted.entry) }
+    ensures err { IfErr result (FailsToRead (R.happened rt.now) wanted.entry) }
 {
     match wanted {
         Wanted::Write { image } => read_file(rt, image, MOST_IMAGE_BYTES),
@@ -70,7 +71,7 @@ fn change_with<'a, R: Store, B: Meter>(
     requires { IsFresh (⟦<MemVault as Vault>⟧.state vault.old) }
     ensures ok { IsModelled (B.state bus.old) → IsCalm (B.state bus.old)
         → IfOk result (HasChanged (R.happened rt.now) request.now image.old keeping.now (B.state bus.old) (B.state bus.new)) }
-    ensures err { IfErr result (FailsToKeep keeping.now) }
+    ensures err { IfErr result (FailsToKeep (R.happened rt.now) keeping.now) }
 {
     match keeping {
         Keeping::Journal { file } => {
@@ -88,7 +89,6 @@ fn change_with<'a, R: Store, B: Meter>(
 }
 
 // Runs the session of a request, which keeps its journal in this vault.
-#[tactic(auto, using(crate::proofs::Changed::kept_done, crate::proofs::Changed::kept_refused))]
 fn keep_change<B: Bus, V: Vault>(
     bus: &mut B,
     vault: &mut V,

@@ -1,10 +1,15 @@
 //! The emulated chip: what its files tell of it, and the bus to it.
-ghost use Rattle.std.specs.Prelude.{◌≡◌, ◌∷◌, [], IfOk, IfErr, IfSome, IsSomeAnd, option_map, replicate, unwrap_or, vec_len};
+ghost use Rattle.std.specs.Prelude.{◌≡◌, ◌∷◌, [], ℕ, List, IfOk, IfErr, IfSome, IsSomeAnd, option_map, replicate};
+ghost use Rattle.std.specs.Prelude.{unwrap_or, vec_len};
+ghost use Rattle.nor_chip.specs.Chip.{Chip};
+ghost use Rattle.nor_chip.specs.Start.{AreBytesOf, status_of};
 ghost use Rattle.nor_chip.specs.Sim.{fill_of, pace_of};
 ghost use Rattle.flashnor.specs.Chips.{ArePutBack, FailsToOpen, Holds, IsConfigWith, IsContentOf, Opens};
 ghost use Rattle.flashnor.specs.Events.{AreOfFile, IsFound, IsPutBack};
 ghost use Rattle.flashnor.specs.Files.{IsOpening};
 ghost use Rattle.flashnor.specs.Found.{part_of};
+ghost use Rattle.flashnor.specs.declared.chips.Content.{Content};
+ghost use Rattle.flashnor.specs.WrittenOver.{AreOver, IsCutOff};
 
 use crate::files::reading;
 use crate::messages::{Fault, FileFault};
@@ -24,7 +29,7 @@ pub struct Content {
 pub fn read_content<'a, R: Store>(rt: &R, programmer: &Programmer<'a>) -> Result<Content, Fault<'a>>
     ensures len { IfOk result (λ content. vec_len content.bytes ≡ (part_of programmer.now.chip).size) }
     ensures ok { IfOk result (IsContentOf (R.happened rt.now) programmer.now) }
-    ensures err { IfErr result (FailsToOpen programmer.now) }
+    ensures err { IfErr result (FailsToOpen (R.happened rt.now) programmer.now) }
 {
     let bytes = read_image(rt, programmer)?;
     let status = read_status(rt, programmer)?;
@@ -37,7 +42,7 @@ fn read_image<'a, R: Store>(rt: &R, programmer: &Programmer<'a>) -> Result<Vec<u
     ensures len { IfOk result (λ bytes. vec_len bytes ≡ (part_of programmer.now.chip).size) }
     ensures ok { let size = (part_of programmer.now.chip).size in
         IfOk result (λ bytes. AreOfFile (R.happened rt.now) programmer.now.image size (replicate size 255) bytes.items) }
-    ensures err { IfErr result (FailsToOpen programmer.now) }
+    ensures err { IfErr result (FailsToOpen (R.happened rt.now) programmer.now) }
 {
     let size = programmer.chip.config().size;
     match read_whole(rt, programmer.image, size)? {
@@ -49,7 +54,7 @@ fn read_image<'a, R: Store>(rt: &R, programmer: &Programmer<'a>) -> Result<Vec<u
 // The chip's status bytes.
 fn read_status<'a, R: Store>(rt: &R, programmer: &Programmer<'a>) -> Result<[u8; 2], Fault<'a>>
     ensures ok { IfOk result (λ status. AreOfFile (R.happened rt.now) programmer.now.status 2 (0 ∷ 0 ∷ []) status) }
-    ensures err { IfErr result (FailsToOpen programmer.now) }
+    ensures err { IfErr result (FailsToOpen (R.happened rt.now) programmer.now) }
 {
     match read_whole(rt, programmer.status, 2)? {
         Some(bytes) => Ok([bytes[0], bytes[1]]),
@@ -58,6 +63,7 @@ fn read_status<'a, R: Store>(rt: &R, programmer: &Programmer<'a>) -> Result<[u8;
 }
 
 // The bytes of a chip's file, which has so many, if one is named and there.
+#[tactic(auto, using(crate::proofs::Unread::unread_opening))]
 fn read_whole<'a, R: Store>(
     rt: &R,
     name: Option<&'a str>,
@@ -65,7 +71,8 @@ fn read_whole<'a, R: Store>(
 ) -> Result<Option<Vec<u8>>, Fault<'a>>
     ensures len { IfOk result (λ found. IfSome found (λ bytes. vec_len bytes ≡ len)) }
     ensures ok { IfOk result (λ found. IsFound (R.happened rt.now) name.entry len (option_map (λ bytes. bytes.items) found)) }
-    ensures err { IfErr result (λ fault. IsSomeAnd name.entry (λ given. IsOpening given.now fault)) }
+    ensures err { IfErr result (λ fault.
+        IsSomeAnd name.entry (λ given. IsOpening (R.happened rt.now) given.now len fault)) }
 {
     let Some(name) = name else {
         return Ok(None);
@@ -81,6 +88,15 @@ fn read_whole<'a, R: Store>(
     }
     Ok(Some(bytes))
 }
+
+/// Wherever the writing of a chip over its files is cut off, each of their bytes is the old or the new one, once they
+/// have as many as a later run asks for. A file that wasn't there before counts as an erased chip's, or as clear status
+/// bytes.
+pub fn cut_off_anywhere()
+    ensures { (new : Chip) (bytes : List ℕ) (had has : Content) → AreBytesOf new bytes
+        → IsCutOff new.config.size (replicate new.config.size 255) bytes had.bytes.items has.bytes.items
+        → IsCutOff 2 (0 ∷ 0 ∷ []) (status_of new) had.status has.status → AreOver new had has }
+{}
 
 /// The bytes of an erased chip of this size.
 pub fn erased(alloc: Global, size: u32) -> Result<Vec<u8>, AllocError>
@@ -156,7 +172,7 @@ pub fn write_back<'a, R: Store>(
 fn put_back<'a, R: Store>(rt: &R, name: Option<&'a str>, bytes: &[u8]) -> Option<&'a str>
     ensures { IsPutBack (R.happened rt.now) name.entry (λ put. put ≡ bytes.now) result }
 {
-    match rt.write_named(name?, bytes) {
+    match rt.write_over(name?, bytes) {
         Ok(()) => None,
         Err(_) => name,
     }

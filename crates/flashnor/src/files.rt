@@ -5,7 +5,7 @@ ghost use Rattle.std.specs.declared.io.ErrorKind.TheVariants as Kinds;
 ghost use Rattle.nor_journal.specs.Vault.{IsFresh};
 ghost use Rattle.flashnor.specs.Events.{IsRead};
 ghost use Rattle.flashnor.specs.Events.FileEvent.{Emptied, Made};
-ghost use Rattle.flashnor.specs.Files.{IsReading, IsMaking, IsMakingNew, IsLogging};
+ghost use Rattle.flashnor.specs.Files.{IsReading, IsMaking, IsMakingNew, IsLogging, IsUnread};
 ghost use Rattle.flashnor.specs.declared.messages.Fault.TheVariants as Faults;
 ghost use Rattle.flashnor.specs.declared.messages.FileFault.TheVariants as FileFaults;
 ghost use Rattle.nor_save.specs.declared.refusal.Refusal.TheVariants as Refusals;
@@ -14,9 +14,11 @@ use crate::messages::{Fault, FileFault};
 use crate::stores::Store;
 use nor_session::Refusal;
 use std::alloc::Global;
-use std::fs::OpenFile;
+use std::fs::{File, OpenFile};
 use std::io;
 use std::io::{BufWriter, ErrorKind, Read, Write};
+use std::path::Path;
+use std::rt::Files;
 
 /// So many bytes of an image's file are read: one more than the largest chip has, so that an image that is too long is
 /// seen to be.
@@ -29,9 +31,10 @@ pub const MOST_JOURNAL_BYTES: u64 = 16_793_662;
 pub const MOST_LAYOUT_BYTES: u64 = 16_777_216;
 
 /// The bytes of the file of this name, of which at most so many are read.
+#[tactic(auto, using(crate::proofs::Unread::unread_reading))]
 pub fn read_file<'a, R: Store>(rt: &R, name: &'a str, most: u64) -> Result<Vec<u8>, Fault<'a>>
     ensures ok { IfOk result (λ bytes. IsRead (R.happened rt.now) name.now most bytes.items) }
-    ensures err { IfErr result (IsReading name.now) }
+    ensures err { IfErr result (IsReading (R.happened rt.now) name.now most) }
 {
     match rt.read_named(name, most) {
         Ok(Some(bytes)) => Ok(bytes),
@@ -60,7 +63,7 @@ where
 
 /// The fault of a file that can't be opened or read.
 pub fn reading(error: io::Error, name: &str) -> Fault<'_>
-    ensures file { IsReading name.now result }
+    ensures file { IsUnread name.now result }
     ensures memory { result ≡ Faults.Refused Refusals.Memory ↔ error_kind error ≡ Kinds.OutOfMemory }
 {
     match error.kind() {
@@ -80,43 +83,76 @@ fn unread(name: &str) -> Fault<'_>
 /// A vault in the file of this name, which is made or emptied.
 pub fn empty<'a, R: Store>(rt: &R, name: &'a str) -> Result<R::Kept, Fault<'a>>
     ensures ok { IfOk result (λ vault. IsFresh (R.Kept.state vault) × R.happened rt.now (Emptied name.now (R.Kept.state vault))) }
-    ensures err { IfErr result (IsMaking name.now) }
+    ensures err { IfErr result (IsMaking (R.happened rt.now) name.now) }
 {
-    rt.vault_in(name).map_err(|_| writing(name))
+    rt.vault_in(name).map_err(|_| unmade(name))
 }
 
 /// A vault in the file of this name, which wasn't there before.
 pub fn make<'a, R: Store>(rt: &R, name: &'a str) -> Result<R::Kept, Fault<'a>>
     ensures ok { IfOk result (λ vault. IsFresh (R.Kept.state vault) × R.happened rt.now (Made name.now (R.Kept.state vault))) }
-    ensures err { IfErr result (IsMakingNew name.now) }
+    ensures err { IfErr result (IsMakingNew (R.happened rt.now) name.now) }
 {
-    match rt.vault_in_new(name) {
-        Ok(vault) => Ok(vault),
-        Err(error) if error.kind() == ErrorKind::AlreadyExists => {
+    let error = match rt.vault_in_new(name) {
+        Ok(vault) => return Ok(vault),
+        Err(error) => error,
+    };
+    match error.kind() {
+        ErrorKind::AlreadyExists => {
             let fault = FileFault::Exists;
             Err(Fault::File { fault, name })
         }
-        Err(_) => Err(writing(name)),
+        _ => Err(unmade(name)),
     }
 }
 
 /// The file of this name, made or emptied, with a buffer.
 pub fn create_log<'a, R: Store>(rt: &R, name: &'a str) -> Result<BufWriter<R::Log>, Fault<'a>>
-    ensures { IfErr result (IsLogging name.now) }
+    ensures { IfErr result (IsLogging (R.happened rt.now) name.now) }
 {
-    let file = rt.log_in(name).map_err(|_| writing(name))?;
+    let file = rt.log_in(name).map_err(|_| unmade(name))?;
     BufWriter::new(rt.alloc(), file).map_err(|_| Fault::Refused(Refusal::Memory))
 }
 
-/// The fault of a file that can't be made or written.
-pub fn writing(name: &str) -> Fault<'_>
-    ensures { IsMaking name.now result }
+// The fault of a file that can't be made or emptied.
+fn unmade(name: &str) -> Fault<'_>
+    ensures { result ≡ Faults.File FileFaults.Write name.entry }
 {
     let fault = FileFault::Write;
     Fault::File { fault, name }
 }
 
-/// Writes these bytes into an empty file, all at once.
-pub fn put_all<F: Write + Drop>(mut file: F, bytes: &[u8]) -> io::Result<()> {
-    file.write_all(bytes)
+/// Writes these bytes over what the file has, from its front, and cuts it to their length where it is longer.
+pub fn put_over<F: Write + OpenFile + Drop>(mut file: F, bytes: &[u8]) -> io::Result<()> {
+    file.write_all(bytes)?;
+    let len = bytes.len() as u64;
+    if file.metadata()?.len() > len {
+        file.set_len(len)?;
+    }
+    Ok(())
+}
+
+/// Syncs the folder that the file of this name stands in, so that a file that was made there stays. A folder that can't
+/// be opened, or that is of a kind that can't be synced, is left as it is.
+pub fn sync_folder<R: Files>(files: &R, name: &str) -> io::Result<()> {
+    let Ok(folder) = File::open(files, folder_of(name)) else {
+        return Ok(());
+    };
+    match folder.sync_all() {
+        Err(error) if cannot_sync(error.kind()) => Ok(()),
+        outcome => outcome,
+    }
+}
+
+/// The folder that the file of this name stands in.
+pub fn folder_of(name: &str) -> &str {
+    match Path::new(name).parent() {
+        Some(folder) if !folder.as_str().is_empty() => folder.as_str(),
+        _ => ".",
+    }
+}
+
+// What the system says of a folder that isn't for syncing.
+fn cannot_sync(kind: ErrorKind) -> bool {
+    kind == ErrorKind::InvalidInput || kind == ErrorKind::Unsupported
 }

@@ -9,6 +9,7 @@ mod changes;
 mod chips;
 mod files;
 mod messages;
+mod printing;
 mod readings;
 mod requests;
 mod run;
@@ -16,18 +17,37 @@ mod stores;
 #[cfg(test)]
 mod tests;
 
-use messages::{Fault, print_fault};
+use messages::Fault;
+use printing::print_fault;
 pub use run::run_words;
+use std::alloc::Global;
+use std::io::{LineWriter, Write};
 use std::process::ExitCode;
 use std::{env, io};
 
 fn main(rt: HostRuntime) -> ExitCode {
-    let (mut output, mut errors) = (rt.stdout(), rt.stderr());
+    let mut output = by_line(rt.alloc(), rt.stdout());
+    let mut errors = by_line(rt.alloc(), rt.stderr());
     let status = match words_of(&rt) {
-        Ok(words) => run_words(&rt, words.as_slice(), &mut output, &mut errors),
-        Err(error) => print_fault(&mut errors, Fault::of_words(&error)),
+        Ok(words) => run_words(&rt, words.as_slice(), &mut output, &mut errors).status,
+        Err(error) => {
+            print_fault(&mut errors, &Fault::of_words(&error));
+            1
+        }
     };
     ExitCode::from(status)
+}
+
+// A line of a name that a path can be fits.
+const LINE_BYTES: usize = 8192;
+
+// Each line goes out in one write, so that none is mixed with those of other programs; only where memory is refused for
+// that it goes out piece by piece.
+fn by_line<W: Write + Copy + Drop>(alloc: Global, stream: W) -> LineWriter<W> {
+    match LineWriter::with_capacity(alloc, LINE_BYTES, stream) {
+        Ok(writer) => writer,
+        Err(_) => LineWriter::with_capacity(alloc, 0, stream).unwrap(),
+    }
 }
 
 // The words after the program's name.

@@ -78,7 +78,8 @@ pub fn read_chip<'a, R: Store, B: Bus>(
     regions: Option<Regions<'a>>,
 ) -> Result<Result<Answer, Refusal>, Fault<'a>>
     ensures ok { IfOk result (DoesRead (R.happened rt.now) named.entry file.now regions.entry (B.state bus.old) (B.state bus.new)) }
-    ensures err { IfErr result (λ fault. FailsToInclude regions.entry fault ⊎ IsMaking file.now fault) }
+    ensures err { IfErr result (λ fault. FailsToInclude (R.happened rt.now) regions.entry fault
+        ⊎ IsMaking (R.happened rt.now) file.now fault) }
 {
     let included = read_included(rt, regions)?;
     let mut out = empty(rt, file)?;
@@ -97,7 +98,8 @@ pub fn verify_chip<'a, R: Store, B: Bus>(
     regions: Option<Regions<'a>>,
 ) -> Result<Result<Answer, Refusal>, Fault<'a>>
     ensures ok { IfOk result (DoesVerify (R.happened rt.now) named.entry file.now regions.entry (B.state bus.old) (B.state bus.new)) }
-    ensures err { IfErr result (λ fault. FailsToInclude regions.entry fault ⊎ IsReading file.now fault) }
+    ensures err { IfErr result (λ fault. FailsToInclude (R.happened rt.now) regions.entry fault
+        ⊎ IsReading (R.happened rt.now) file.now 16777217 fault) }
 {
     let included = read_included(rt, regions)?;
     let image = read_file(rt, file, MOST_IMAGE_BYTES)?;

@@ -25,7 +25,7 @@ pub fn read_included<'a, R: Store>(
     regions: Option<Regions<'a>>,
 ) -> Result<Option<Ranges>, Fault<'a>>
     ensures ok { IfOk result (AreRangesOf (R.happened rt.now) regions.entry) }
-    ensures err { IfErr result (FailsToInclude regions.entry) }
+    ensures err { IfErr result (FailsToInclude (R.happened rt.now) regions.entry) }
 {
     let Some(Regions { layout, names }) = regions else {
         return Ok(None);

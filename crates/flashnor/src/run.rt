@@ -3,59 +3,50 @@ ghost use Rattle.std.specs.Prelude.{◌≡◌, ◌≤◌, ◌⊎◌, IfOk, IfErr
 ghost use Rattle.flashnor.specs.Chips.{IsReady, Opens};
 ghost use Rattle.flashnor.specs.Files.{IsLogging};
 ghost use Rattle.flashnor.specs.Events.{unseen};
-ghost use Rattle.flashnor.specs.Run.{AreLeft, Does, EndsJob, FailsBefore, FailsJob, IsAnswer, IsStatus, IsToldAs, all_written, changes_chip};
+ghost use Rattle.flashnor.specs.Endings.{all_written};
+ghost use Rattle.flashnor.specs.Run.{AreLeft, Does, EndsJob, FailsBefore, FailsJob, IsAnswer, IsStatus, IsToldAs, changes_chip};
 
 use crate::answers::Answer;
 use crate::changes::{change_chip, restore_chip};
 use crate::chips::{Unwritten, read_content, start, write_back};
 use crate::files::create_log;
-use crate::messages::{Fault, print_answer, print_fault, print_unwritten};
+use crate::messages::Fault;
+use crate::printing::{Ending, print_end};
 use crate::readings::{find_chip, list_ranges, read_chip, tell_protection, tell_size, verify_chip};
 use crate::stores::{Disk, Store};
-use clap::error::ErrorKind;
 use nor_chip::{Bus, Meter, SimBus, TraceBus};
 use nor_session::Refusal;
-use nor_words::{Change, ChipJob, Job, Keeping, Task, UsageFault, request_of};
+use nor_words::{Change, ChipJob, Job, Keeping, Task, request_of};
 use std::io::Write;
 use std::rt::Files;
 
 /// Does what the words ask for, which are those after the program's name, and prints results to `output` and faults to
-/// `errors`. Answers the exit status: 0, or 1 at any fault.
+/// `errors`. Answers how it ended: the exit status is 0, or 1 at any fault.
 pub fn run_words<R: Files + AllocGlobal, O: Write, E: Write>(
     rt: &R,
     words: &[String],
     output: &mut O,
     errors: &mut E,
-) -> u8
-    ensures { IsStatus unseen (map string_bytes words.now) result }
+) -> Ending
+    ensures { IsStatus unseen (map string_bytes words.now) (O.contents output.old) (O.contents output.new)
+        (E.contents errors.old) (E.contents errors.new) result }
 {
     run_over(&Disk(rt), words, output, errors)
 }
 
 // The same over any store of files.
-#[tactic(auto, using(crate::proofs::Ended::succeeds_helped, crate::proofs::Ended::succeeds_done))]
+#[tactic(auto, using(crate::proofs::Ended::is_status))]
 fn run_over<R: Store, O: Write, E: Write>(
     rt: &R,
     words: &[String],
     output: &mut O,
     errors: &mut E,
-) -> u8
-    ensures { IsStatus (R.happened rt.now) (map string_bytes words.now) result }
+) -> Ending
+    ensures { IsStatus (R.happened rt.now) (map string_bytes words.now) (O.contents output.old) (O.contents output.new)
+        (E.contents errors.old) (E.contents errors.new) result }
 {
     let Ended { answer, unwritten } = run(rt, words);
-    let printed = match answer {
-        Ok(answer) => print_answer(output, answer),
-        Err(Fault::Usage(UsageFault::Words(text))) if text.kind() == ErrorKind::DisplayHelp => {
-            write!(output, "{text}")
-        }
-        Err(fault) => {
-            let status = print_fault(errors, fault);
-            let _ = print_unwritten(errors, unwritten);
-            return status;
-        }
-    };
-    let written = print_unwritten(errors, unwritten);
-    if printed.is_ok() && written { 0 } else { 1 }
+    print_end(output, errors, answer, unwritten)
 }
 
 // How a run ended: what it came to, and the files that couldn't be written after its call.
@@ -162,7 +153,8 @@ fn call_on<'a, R: Store>(
         → IfOk result (λ called. Does (R.happened rt.now) job.now.programmer job.now.named job.now.task old
         (⟦<SimBus as Bus>⟧.state called.bus) called.answer) }
     ensures lost { IfOk result (λ called. OnSome called.lost (called.lost ≡ job.now.programmer.trace)) }
-    ensures err { IfErr result (λ fault. IsSomeAnd job.now.programmer.trace (λ name. IsLogging name.now fault)
+    ensures err { IfErr result (λ fault.
+        IsSomeAnd job.now.programmer.trace (λ name. IsLogging (R.happened rt.now) name.now fault)
         ⊎ FailsBefore (R.happened rt.now) job.now.task fault) }
 {
     let Some(name) = job.programmer.trace else {

@@ -1,10 +1,10 @@
 //! Where the files of a run are, and what happens to each.
 ghost use Rattle.flashnor.specs.Events.{unseen};
 
-use crate::files::{put_all, read_up_to};
+use crate::files::{put_over, read_up_to, sync_folder};
 use nor_journal::{FileVault, Vault};
 use std::alloc::Global;
-use std::fs::File;
+use std::fs::{File, OpenOptions};
 use std::io::{ErrorKind, Write};
 use std::rt::Files;
 use std::{fs, io};
@@ -14,10 +14,12 @@ use std::{fs, io};
 /// Contracts see what happened to them. Nothing is known of that but by these calls, so a run that is promised to have
 /// worked on the bytes of a file has read that file, and on no others.
 pub trait Store: AllocGlobal {
-    ghost use Rattle.std.specs.Prelude.{IfOk, OnErr, OnOk, option_map};
+    ghost use Rattle.std.specs.Prelude.{IfErr, IfOk, OnErr, OnOk, option_map};
+    ghost use Rattle.std.specs.IoError.{error_kind};
     ghost use Rattle.nor_journal.specs.Vault.{IsFresh};
     ghost use Rattle.flashnor.specs.Events.{FileEvent};
-    ghost use Rattle.flashnor.specs.Events.FileEvent.{Read, Written, Failed, Emptied, Made};
+    ghost use Rattle.flashnor.specs.Events.FileEvent.{Read, Unread, Written, Emptied, Made, Unmade};
+    ghost use Rattle.flashnor.specs.Events.{FailsOver, FailsNew};
 
     // What happened to the files.
     ghost happened: { Self → FileEvent → Type 0 };
@@ -30,23 +32,32 @@ pub trait Store: AllocGlobal {
 
     /// What there is of the file of this name, of which at most so many bytes are read.
     fn read_named(&self, name: &str, most: u64) -> io::Result<Option<Vec<u8>>>
-        ensures { IfOk result (λ found. happened self.now (Read name.now most (option_map (λ bytes. bytes.items) found))) };
+        ensures read { IfOk result (λ found.
+            happened self.now (Read name.now most (option_map (λ bytes. bytes.items) found))) }
+        ensures unread { OnErr result (happened self.now (Unread name.now)) };
 
-    /// Makes or empties the file of this name, and writes these bytes into it, all at once.
-    fn write_named(&self, name: &str, bytes: &[u8]) -> io::Result<()>
+    /// Writes these bytes over the file of this name, which is made where it isn't there: from its front, and at last
+    /// it is cut to their length. It is never emptied, so at each moment a beginning of them stands over what it had.
+    fn write_over(&self, name: &str, bytes: &[u8]) -> io::Result<()>
         ensures written { OnOk result (happened self.now (Written name.now bytes.now)) }
-        ensures failed { OnErr result (happened self.now (Failed name.now)) };
+        ensures failed { OnErr result (FailsOver (happened self.now) name.now bytes.now) };
 
     /// A vault in the file of this name, which is made or emptied.
     fn vault_in(&self, name: &str) -> io::Result<Self::Kept>
-        ensures { IfOk result (λ vault. IsFresh (Self.Kept.state vault) × happened self.now (Emptied name.now (Self.Kept.state vault))) };
+        ensures emptied { IfOk result (λ vault.
+            IsFresh (Self.Kept.state vault) × happened self.now (Emptied name.now (Self.Kept.state vault))) }
+        ensures unmade { OnErr result (happened self.now (Unmade name.now)) };
 
-    /// A vault in the file of this name, which is made, and wasn't there before.
+    /// A vault in the file of this name, which is made, and wasn't there before; and stays there, whatever becomes of
+    /// the machine.
     fn vault_in_new(&self, name: &str) -> io::Result<Self::Kept>
-        ensures { IfOk result (λ vault. IsFresh (Self.Kept.state vault) × happened self.now (Made name.now (Self.Kept.state vault))) };
+        ensures made { IfOk result (λ vault.
+            IsFresh (Self.Kept.state vault) × happened self.now (Made name.now (Self.Kept.state vault))) }
+        ensures unmade { IfErr result (λ error. FailsNew (happened self.now) name.now (error_kind error)) };
 
     /// The file of this name, which is made or emptied.
-    fn log_in(&self, name: &str) -> io::Result<Self::Log>;
+    fn log_in(&self, name: &str) -> io::Result<Self::Log>
+        ensures { OnErr result (happened self.now (Unmade name.now)) };
 }
 
 /// The files of the runtime. That each call works on the file of the name that it is given is believed, and tested.
@@ -76,8 +87,14 @@ impl<R: Files + AllocGlobal> Store for Disk<'_, R> {
         }
     }
 
-    fn write_named(&self, name: &str, bytes: &[u8]) -> io::Result<()> {
-        put_all(fs::create(self.0, name)?, bytes)
+    fn write_over(&self, name: &str, bytes: &[u8]) -> io::Result<()> {
+        put_over(
+            OpenOptions::new()
+                .write(true)
+                .create(true)
+                .open(self.0, name)?,
+            bytes,
+        )
     }
 
     fn vault_in(&self, name: &str) -> io::Result<FileVault<R::File>> {
@@ -85,7 +102,9 @@ impl<R: Files + AllocGlobal> Store for Disk<'_, R> {
     }
 
     fn vault_in_new(&self, name: &str) -> io::Result<FileVault<R::File>> {
-        Ok(FileVault::new(File::create_new(self.0, name)?))
+        let file = File::create_new(self.0, name)?;
+        sync_folder(self.0, name)?;
+        Ok(FileVault::new(file))
     }
 
     fn log_in(&self, name: &str) -> io::Result<R::File> {

@@ -3,6 +3,7 @@
 
 mod failing;
 mod kept;
+mod over;
 mod shelf;
 mod texts;
 
@@ -27,9 +28,9 @@ fn run(shelf: &Shelf, line: &str) -> Result<Outcome, Fail> {
         words.push(String::from_str(alloc, word)?)?;
     }
     let (mut output, mut errors) = (Vec::new(alloc), Vec::new(alloc));
-    let status = run_words(shelf, words.as_slice(), &mut output, &mut errors);
+    let ended = run_words(shelf, words.as_slice(), &mut output, &mut errors);
     Ok(Outcome {
-        status,
+        status: ended.status,
         output,
         errors,
     })

@@ -286,6 +286,10 @@ pages_same touched x y wanted same =
     count_below-same 65536 (is_programmed touched x wanted) (is_programmed touched y wanted)
     (λ page below. ap (λ (b : Bool). touched (page / 16) && b) (page_same x y wanted same page))
 
+not_set : (b : Bool) → (if b then 1 else 0) ≤ 0 → b ≡ false
+not_set true few = absurd (omega (arith, few))
+not_set false few = refl
+
 pub does_applied : (changes : Changes) (wanted : ℕ → ℕ) (needed : Bool) (old free mid made new : BusState) (sent : ℕ) (erased programmed : Tally) (last : ℕ) (work : Work)
     → writes_code changes ≡ needed → ThirdDone changes wanted old free mid made sent erased programmed → LeavesCode changes.status changes.code needed made new
     → DoesCode changes.status changes.code needed made new last → work.erases ≡ erased.count → work.programs ≡ programmed.count
@@ -319,6 +323,14 @@ does_applied changes wanted needed old free mid made new sent erased programmed 
           let three = third.does.tallies.sent (before.honest ∙ honest) in
           let four = does.count (after.honest ∙ honest) in
           omega (arith, one, two, three, four, sum);
+      still = λ none.
+          let shut = not_set changes.unlock (omega (arith, none)) in
+          let plain : needed ≡ false = sym is ∙ not_set (writes_code changes) (omega (arith, none)) in
+          let few = raised_few changes first.inside in
+          ap (λ (state : BusState). state.stirred) (leaves.still plain)
+          ∙ third.does.still (omega (arith, none))
+          ∙ second.does.still (omega (arith, none, few, fewer_erased))
+          ∙ ap (λ (state : BusState). state.stirred) (first.leaves.still shut);
       done = λ honest can.
           applies changes wanted needed old made new last is (after.honest ∙ honest) can
           (made_then changes wanted old free mid made sent erased programmed third honest can) leaves does;

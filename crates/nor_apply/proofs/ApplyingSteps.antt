@@ -30,6 +30,7 @@ pub record Lifted (changes : Changes) (lifted : Bool) (old new : BusState) : Typ
   pub fixed : KeepsFixed old.chip new.chip
   pub worn : (s : ℕ) → new.worn s ≡ old.worn s
   pub idle : new.chip.busy ≡ 0
+  pub latch : new.chip.latch ≡ true → old.chip.latch ≡ true
   pub free : (a : ℕ) → touched_in changes (a / 4096) ≡ true → is_guarded new.chip a ≡ false
   pub code : HasCode (code_once changes lifted) new.chip
 
@@ -40,6 +41,7 @@ pub record Made (changes : Changes) (wanted : ℕ → ℕ) (lifted : Bool) (old 
   pub fixed : KeepsFixed old.chip new.chip
   pub worn : (s : ℕ) → new.worn s ≡ (old.worn s || raised_in changes s)
   pub idle : new.chip.busy ≡ 0
+  pub latch : new.chip.latch ≡ true → old.chip.latch ≡ true
   pub code : HasCode (code_once changes lifted) new.chip
 
 -- ---- the status
@@ -90,6 +92,7 @@ still_lifted changes wanted old shut can = record {
   fixed = fixed_refl old.chip;
   worn = λ s. refl;
   idle = can.idle;
+  latch = λ set. set;
   free = λ a is. can.free shut a is;
   code = has_read changes wanted old.chip can;
 }
@@ -101,6 +104,7 @@ written_lifted changes old new has idle = record {
   fixed = has.fixed;
   worn = has.worn;
   idle = idle;
+  latch = λ set. absurd (true≢false (sym set ∙ has.latch));
   free = λ a is. is_guarded-zero new.chip a (zero_code new.chip has.written);
   code = has.written;
 }
@@ -184,6 +188,7 @@ makes changes wanted lifted old free erased new can lifts erases programs = reco
       (fixed_then free.chip erased.chip new.chip (kept_fixed free.chip erased.chip erases.kept) (kept_fixed erased.chip new.chip programs.kept));
   worn = λ s. programs.worn s ∙ or_none (erased.worn s) ∙ erases.worn s ∙ ap (λ (b : Bool). b || raised_in changes s) (lifts.worn s);
   idle = programs.idle;
+  latch = λ set. lifts.latch (erases.latch (programs.latch set));
   code = record {
     low = ap (λ (n : ℕ). n % 32) (programs.kept.0 ∙ erases.kept.0) ∙ lifts.code.low;
     high = ap (λ (n : ℕ). n / 64) (programs.kept.1 ∙ erases.kept.1) ∙ lifts.code.high;
@@ -205,6 +210,7 @@ made_applied changes wanted old new is made = record {
       subst Goal (same_of (code_once changes changes.unlock) changes.code is) made.code;
   worn = made.worn;
   idle = made.idle;
+  latch = made.latch;
 }
 
 written_applied : (changes : Changes) (wanted : ℕ → ℕ) (old mid new : BusState) → Made changes wanted changes.unlock old mid → HasWrittenStatus changes.code mid new
@@ -216,6 +222,7 @@ written_applied changes wanted old mid new made has idle = record {
   has_code = has.written;
   worn = λ s. has.worn s ∙ made.worn s;
   idle = idle;
+  latch = λ set. absurd (true≢false (sym set ∙ has.latch));
 }
 
 pub applies : (changes : Changes) (wanted : ℕ → ℕ) (needed : Bool) (old mid new : BusState) (sent : ℕ) → writes_code changes ≡ needed → mid.honest ≡ true → CanApply changes wanted old.chip

@@ -26,6 +26,7 @@ pub record ErasesSoFar (kinds : Kinds) (size : ℕ) (set : ℕ → Bool) (units 
   pub honest : new.honest ≡ old.honest
   pub steady : new.steady ≡ old.steady
   pub count : tally.count ≡ length units
+  pub still : tally.count ≡ 0 → new.stirred ≡ old.stirred
   pub tallies : Tallies 0 old new tally
   pub done : old.honest ≡ true → CanEraseAll set kinds size old.chip → HasChanged (union_of (size / 4096) units) blank (union_of (size / 4096) units) old new
 
@@ -86,6 +87,7 @@ none_so_far kinds size set state tally count transactions = record {
   honest = refl;
   steady = refl;
   count = count;
+  still = λ none. refl;
   tallies = record { least = omega arith; few = omega arith; sent = λ honest. omega arith };
   done = λ honest can. changed_none (union_of (size / 4096) []) state (λ s. refl) can.can.idle;
 }
@@ -100,6 +102,7 @@ erases_more kinds size set units unit old mid new tally more sent next so leaves
   honest = leaves.stirs.honest ∙ so.honest;
   steady = leaves.stirs.steady ∙ so.steady;
   count = let same = so.count in let longer = length-append units (unit ∷ []) in omega (arith, count, same, longer);
+  still = λ none. absurd (omega (arith, count, none));
   tallies = record {
     least = let before = so.tallies.least in let step = erases.ends.least in omega (arith, before, step, count, transactions);
     few = let before = so.tallies.few in let step = erases.ends.few in omega (arith, before, step, count, transactions);
@@ -187,6 +190,7 @@ does_ended kinds size set units left old new tally plan none so =
     let count = count_is kinds size set units left old new tally plan none so in
     record {
       count = count;
+      still = so.still;
       fewer = omega (arith, count, few);
       tallies = so.tallies;
       done = λ honest can. changed_same (union_of (size / 4096) units) set old new (union_is kinds size set units left plan none) (so.done honest can);

@@ -137,6 +137,7 @@ erased_more total done both unit old mid new same joins has erased idle =
       worn = λ s. erased.worn s ∙ ap (λ b. b || is_sector_of unit mid.chip s) (has.worn s)
           ∙ or_assoc (old.worn s) (done s) (is_sector_of unit mid.chip s) ∙ ap (λ b. old.worn s || b) (sym (together s));
       idle = idle;
+      latch = λ set. absurd (true≢false (sym set ∙ erased.latch));
     }
 
 -- ---- tests that agree
@@ -148,6 +149,7 @@ changed_same p q old new same has = record {
   kept = has.kept;
   worn = λ s. has.worn s ∙ ap (λ (b : Bool). old.worn s || b) (same s);
   idle = has.idle;
+  latch = has.latch;
 }
 
 -- no erase at all
@@ -158,6 +160,7 @@ changed_none p state none idle = record {
   kept = (refl, refl);
   worn = λ s. sym (ap (λ (b : Bool). state.worn s || b) (none s) ∙ or_none (state.worn s));
   idle = idle;
+  latch = λ set. set;
 }
   where
     or_none : (b : Bool) → (b || false) ≡ b

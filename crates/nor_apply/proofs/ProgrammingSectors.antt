@@ -21,6 +21,7 @@ pub record HasLoaded (sector : ℕ) (bytes : List ℕ) (first mid : BusState) : 
   pub kept : KeptStay first.chip mid.chip
   pub worn : (s : ℕ) → mid.worn s ≡ first.worn s
   pub idle : mid.chip.busy ≡ 0
+  pub latch : mid.chip.latch ≡ true → first.chip.latch ≡ true
   pub shown : IsSectorOf mid.chip.bytes sector bytes
 
 pub has_loaded : (sector : ℕ) (wanted : List ℕ) (erased : Bool) (bytes bytes' : List ℕ) (reads : ℕ) (first mid : BusState)
@@ -37,6 +38,7 @@ has_loaded sector wanted erased bytes bytes' reads first mid blank loads honest 
             kept = (refl, refl);
             worn = λ s. refl;
             idle = can.can.idle;
+            latch = λ set. set;
             shown = record {
               byte = λ i small. ap (λ (l : List ℕ). slice_index l i) kept.0 ∙ blank i small ∙ sym (can.blank is (4096 * sector + i) (omega arith));
             };
@@ -52,6 +54,7 @@ has_loaded sector wanted erased bytes bytes' reads first mid blank loads honest 
             kept = (same.kept1, same.kept2);
             worn = λ s. read.rested.unchanged.worn s;
             idle = read.busy ∙ can.can.idle;
+            latch = read.rested.latch;
             shown = record { byte = λ i small. of.byte i small ∙ sym (same.bytes (4096 * sector + i)) };
           }
     ] refl
@@ -123,6 +126,7 @@ sector_does sector wanted erased bytes bytes' reads first mid new tally blank ho
             kept = kept_then first.chip mid.chip new.chip loaded.kept done.kept;
             worn = λ s. done.worn s ∙ ap (λ (b : Bool). b || none s) (loaded.worn s);
             idle = done.idle;
+            latch = λ set. loaded.latch (done.latch set);
           };
       counted = λ honest can.
           let loaded = has_loaded sector wanted erased bytes bytes' reads first mid blank loads honest can in

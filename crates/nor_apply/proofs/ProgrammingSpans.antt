@@ -37,6 +37,7 @@ pub record HasFilled (sector : ℕ) (wanted : List ℕ) (spans : List Span) (old
   pub kept : KeptStay old.chip new.chip
   pub worn : (s : ℕ) → new.worn s ≡ old.worn s
   pub idle : new.chip.busy ≡ 0
+  pub latch : new.chip.latch ≡ true → old.chip.latch ≡ true
 
 -- ---- sectors
 
@@ -196,6 +197,7 @@ span_filled sector old wanted spans span first now new spanned can filled progra
       kept = kept_then first.chip now.chip new.chip filled.kept programs.kept;
       worn = λ s. programs.worn s ∙ filled.worn s;
       idle = idle;
+      latch = λ set. absurd (true≢false (sym set ∙ programs.latch));
     }
 
 -- ---- where it begins, and every exit
@@ -208,6 +210,7 @@ filled_none sector wanted state idle = record {
   kept = (refl, refl);
   worn = λ s. refl;
   idle = idle;
+  latch = λ set. set;
 }
 
 old_outside : (sector : ℕ) (wanted : List ℕ) (a new old : ℕ) → (new ≡ old) ⊎ ((a / 4096 ≡ sector) × (new ≡ byte_of sector wanted a)) → only sector (a / 4096) ≡ false → new ≡ old
@@ -301,6 +304,7 @@ filled_all sector old wanted spans first new whole are can filled = record {
   kept = filled.kept;
   worn = λ s. filled.worn s ∙ or_false (first.worn s);
   idle = filled.idle;
+  latch = filled.latch;
 }
   where
     stays : (a : ℕ) → a / 4096 ≡ sector → slice_index old (a - 4096 * sector) ≡ slice_index wanted (a - 4096 * sector)

@@ -68,6 +68,7 @@ pub record SectorsSoFar (touched raised : ℕ → Bool) (wanted : ℕ → ℕ) (
   pub honest : now.honest ≡ first.honest
   pub steady : now.steady ≡ first.steady
   pub fewer : tally.count ≤ 16 * count_below n touched
+  pub still : count_below n touched ≡ 0 → now.stirred ≡ first.stirred
   pub least : 3 * tally.count ≤ tally.transactions
   pub few : tally.transactions ≤ count_below n touched + 65538 * tally.count
   pub sent : first.honest ≡ true → first.left ≡ now.left + tally.transactions
@@ -80,6 +81,7 @@ sectors_none touched raised wanted state = record {
   honest = refl;
   steady = refl;
   fewer = omega arith;
+  still = λ none. refl;
   least = omega arith;
   few = omega arith;
   sent = λ honest. omega arith;
@@ -89,6 +91,7 @@ sectors_none touched raised wanted state = record {
     kept = (refl, refl);
     worn = λ s. or_false (state.worn s);
     idle = can.can.idle;
+    latch = λ set. set;
   };
   counted = λ honest can. sym (count_below-zero (is_programmed touched state.chip.bytes wanted));
 }
@@ -115,6 +118,7 @@ sectors_skip touched raised wanted n first now tally free so_far =
       honest = so_far.honest;
       steady = so_far.steady;
       fewer = omega arith;
+      still = λ none. so_far.still (omega arith);
       least = so_far.least;
       few = omega arith;
       sent = so_far.sent;
@@ -126,6 +130,7 @@ sectors_skip touched raised wanted n first now tally free so_far =
             kept = done.kept;
             worn = done.worn;
             idle = done.idle;
+            latch = done.latch;
           };
       counted = λ honest can.
           let test = is_programmed touched first.chip.bytes wanted in
@@ -202,6 +207,7 @@ sector_joins touched wanted n bytes first now new is earlier later = record {
   kept = kept_then first.chip now.chip new.chip earlier.kept later.kept;
   worn = λ s. later.worn s ∙ sym (or_false (now.worn s)) ∙ earlier.worn s;
   idle = later.idle;
+  latch = λ set. earlier.latch (later.latch set);
 }
 
 pub sectors_more : (touched raised : ℕ → Bool) (wanted : ℕ → ℕ) (n : ℕ) (bytes : List ℕ) (erased : Bool) (first now new : BusState) (tally more : Tally) → erased ≡ raised n
@@ -216,6 +222,7 @@ sectors_more touched raised wanted n bytes erased first now new tally more erase
       honest = leaves.spends.honest ∙ so_far.honest;
       steady = leaves.spends.steady ∙ so_far.steady;
       fewer = let fewer' = does.fewer in omega arith;
+      still = λ none. absurd (omega arith);
       least = let least = so_far.least in let least' = does.tallies.least in omega arith;
       few = let few' = does.tallies.few in omega arith;
       sent = λ honest. let a = so_far.sent honest in let b = does.tallies.sent (so_far.honest ∙ honest) in omega arith;
@@ -316,6 +323,7 @@ does_ended touched raised wanted n first now tally end so_far' =
     let so_far : SectorsSoFar touched raised wanted 4096 first now tally = subst (λ (m : ℕ). SectorsSoFar touched raised wanted m first now tally) end so_far' in
     record {
       fewer = so_far.fewer;
+      still = so_far.still;
       tallies = record { least = so_far.least; few = so_far.few; sent = so_far.sent };
       done = λ honest can.
           let done = so_far.done honest can in
@@ -325,6 +333,7 @@ does_ended touched raised wanted n first now tally end so_far' =
             kept = done.kept;
             worn = done.worn;
             idle = done.idle;
+            latch = done.latch;
           };
       counted = λ honest can. so_far.counted honest can ∙ ap (λ (m : ℕ). count_below m (is_programmed touched first.chip.bytes wanted)) (let e : 16 * 4096 ≡ 65536 = omega arith in e);
     }

@@ -55,7 +55,7 @@ pub record CanApply (changes : Changes) (wanted : ℕ → ℕ) (chip : Chip) : T
   pub falls : (a : ℕ) → touched_in changes (a / 4096) ≡ true → raised_in changes (a / 4096) ≡ false → bit_and (wanted a) (chip.bytes a) ≡ wanted a
 
 -- At the end: the touched sectors have the wanted bytes, the code is the wanted one, the raised sectors are worn, all
--- else is as it was, and the chip is idle.
+-- else is as it was, the chip is idle, and its latch is set only where it was.
 pub record HasApplied (changes : Changes) (wanted : ℕ → ℕ) (old new : BusState) : Type 0 where
   pub config : new.chip.config ≡ old.chip.config
   pub bytes : (a : ℕ) → new.chip.bytes a ≡ (if touched_in changes (a / 4096) then wanted a else old.chip.bytes a)
@@ -63,6 +63,7 @@ pub record HasApplied (changes : Changes) (wanted : ℕ → ℕ) (old new : BusS
   pub has_code : HasCode changes.code new.chip
   pub worn : (s : ℕ) → new.worn s ≡ (old.worn s || raised_in changes s)
   pub idle : new.chip.busy ≡ 0
+  pub latch : new.chip.latch ≡ true → old.chip.latch ≡ true
 
 -- The most transactions: each touched sector is read once for its programs, it is erased once and has sixteen pages,
 -- and the status is written twice.
@@ -74,7 +75,7 @@ pub record LeavesApply (changes : Changes) (wanted : ℕ → ℕ) (old new : Bus
   pub spends : Spends (most_applied (sector_count (touched_in changes))) old new
   pub reached : old.honest ≡ true → CanApply changes wanted old.chip → MayChange (touched_in changes) (raised_in changes) wanted old new
 
--- At the end, with what the work came to.
+-- At the end, with what the work came to; where there is nothing to change, nothing changing was sent.
 pub record DoesApply (changes : Changes) (wanted : ℕ → ℕ) (old new : BusState) (work : Work) : Type 0 where
   pub erases : work.erases ≡ length (planned changes.kinds (changes.size / 4096) (raised_in changes))
   pub fewer_erases : work.erases ≤ sector_count (raised_in changes)
@@ -82,6 +83,7 @@ pub record DoesApply (changes : Changes) (wanted : ℕ → ℕ) (old new : BusSt
   pub few : work.transactions ≤ sector_count (touched_in changes) + 65538 * (work.erases + work.programs + status_writes changes)
   pub least : 3 * (work.erases + work.programs + status_writes changes) ≤ work.transactions
   pub sent : old.honest ≡ true → old.left ≡ new.left + work.transactions
+  pub still : sector_count (touched_in changes) + status_writes changes ≡ 0 → new.stirred ≡ old.stirred
   pub done : old.honest ≡ true → CanApply changes wanted old.chip → HasApplied changes wanted old new
   pub programs : old.honest ≡ true → CanApply changes wanted old.chip
       → work.programs ≡ count_below 65536 (is_programmed (touched_in changes) (once_erased (raised_in changes) old.chip.bytes) wanted)

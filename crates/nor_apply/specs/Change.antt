@@ -32,13 +32,15 @@ pub record MayChange (touched raised : ℕ → Bool) (wanted : ℕ → ℕ) (old
       → (new.chip.bytes a ≡ old.chip.bytes a) ⊎ (new.chip.bytes a ≡ wanted a)
   pub worn : (s : ℕ) → raised s ≡ false → new.worn s ≡ old.worn s
 
--- At the end: the sectors have the wanted bytes, all else is as it was, and the chip is idle.
+-- At the end: the sectors have the wanted bytes, all else is as it was, the chip is idle, and its latch is set only
+-- where it was.
 pub record HasChanged (sectors : ℕ → Bool) (wanted : ℕ → ℕ) (erased : ℕ → Bool) (old new : BusState) : Type 0 where
   pub config : new.chip.config ≡ old.chip.config
   pub bytes : (a : ℕ) → new.chip.bytes a ≡ (if sectors (a / 4096) then wanted a else old.chip.bytes a)
   pub kept : KeptStay old.chip new.chip
   pub worn : (s : ℕ) → new.worn s ≡ (old.worn s || erased s)
   pub idle : new.chip.busy ≡ 0
+  pub latch : new.chip.latch ≡ true → old.chip.latch ≡ true
 
 -- what an erased place holds
 abbrev pub blank : ℕ → ℕ

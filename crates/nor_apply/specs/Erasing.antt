@@ -19,9 +19,11 @@ pub record LeavesErases (sectors : ℕ → Bool) (kinds : Kinds) (size : ℕ) (o
   pub spends : Spends (65538 * sector_count sectors) old new
   pub reached : old.honest ≡ true → CanEraseAll sectors kinds size old.chip → MayChange sectors sectors blank old new
 
--- At the end. There were as many erases as the planner's list has, which is the shortest that covers the set.
+-- At the end. There were as many erases as the planner's list has, which is the shortest that covers the set; where
+-- there was none, nothing changing was sent.
 pub record DoesErases (sectors : ℕ → Bool) (kinds : Kinds) (size : ℕ) (old new : BusState) (tally : Tally) : Type 0 where
   pub count : tally.count ≡ length (planned kinds (size / 4096) sectors)
+  pub still : tally.count ≡ 0 → new.stirred ≡ old.stirred
   pub fewer : tally.count ≤ sector_count sectors
   pub tallies : Tallies 0 old new tally
   pub done : old.honest ≡ true → CanEraseAll sectors kinds size old.chip → HasChanged sectors blank sectors old new

@@ -79,9 +79,11 @@ pub record LeavesPrograms (touched raised : ℕ → Bool) (wanted : ℕ → ℕ)
   pub spends : Spends (1048609 * sector_count touched) old new
   pub reached : old.honest ≡ true → CanProgramAll touched raised wanted old.chip → MayChange touched none wanted old new
 
--- At the end: a program for each page of the touched sectors that wasn't as wanted.
+-- At the end: a program for each page of the touched sectors that wasn't as wanted; nothing changing was sent where no
+-- sector is touched.
 pub record DoesPrograms (touched raised : ℕ → Bool) (wanted : ℕ → ℕ) (old new : BusState) (tally : Tally) : Type 0 where
   pub fewer : tally.count ≤ 16 * sector_count touched
+  pub still : sector_count touched ≡ 0 → new.stirred ≡ old.stirred
   pub tallies : Tallies (sector_count touched) old new tally
   pub done : old.honest ≡ true → CanProgramAll touched raised wanted old.chip → HasChanged touched wanted none old new
   pub counted : old.honest ≡ true → CanProgramAll touched raised wanted old.chip

@@ -1,9 +1,10 @@
 -- What the scan with its journal leaves.
-use Rattle.std.specs.Prelude.{◌≡◌, ◌/◌, ℕ, true, List, slice_index, Result, Ok, Err}
+use Rattle.std.specs.Prelude.{◌≡◌, ◌≢◌, ◌/◌, ◌&&◌, ℕ, Bool, true, nat_lt, List, slice_index, Result, Ok, Err}
+use Rattle.nor_journal.specs.Text.{Content, IsContent, SameHead, front, text}
 use Rattle.nor_chip.specs.Chip.{Chip}
 use Rattle.nor_chip.specs.Bus.{BusState}
 use Rattle.nor_driver.specs.Looks.{RunsOut}
-use Rattle.nor_journal.specs.Saved.{JournalSaves}
+use Rattle.nor_journal.specs.Saved.{Saves, JournalSaves}
 use Rattle.nor_journal.specs.Vault.{VaultState, Refused, Completed, Accepted}
 use Rattle.nor_plan.specs.SectorSet.{has}
 use Rattle.nor_save.specs.declared.opening.Opening.{Opening}
@@ -21,6 +22,16 @@ abbrev pub KeepPuts : Result Kept Refusal → VaultState → VaultState → Type
 KeepPuts (Ok kept) old new = Completed old new
 KeepPuts (Err Vault) old new = Refused old new
 KeepPuts (Err _) old new = Accepted old new
+
+-- The bytes are a journal.
+pub record IsJournal (bytes : List ℕ) : Type 0 where
+  pub content : Content
+  pub is : IsContent content
+  pub same : bytes ≡ text content
+
+-- once it is sealed a telling vault has a journal, whatever the bus
+abbrev pub HoldsJournal : VaultState → Type 0
+HoldsJournal vault = vault.sealed ≡ true → vault.telling ≡ true → IsJournal vault.bytes
 
 -- Of a chip with this opening: the marks are those of the touched and the raised sectors, nothing is refused of them,
 -- the image has what is wanted of the touched ones, and a telling vault has the journal of the chip, which saves just
@@ -49,3 +60,18 @@ KeepTells request opening code image old new Vault = Unit {0}
 KeepTells request opening code image old new StatusLocked = JudgesChip request opening code image old StatusLocked
 KeepTells request opening code image old new (Protected address) = JudgesChip request opening code image old (Protected address)
 KeepTells request opening code image old new _ = ⊥
+
+-- A beginning of the journal of a chip in which these sectors are touched: its head, and the records of those that lie
+-- below some bound.
+pub record BeginsJournal (head : Content) (chip : ℕ → ℕ) (touched : ℕ → Bool) (bytes : List ℕ) : Type 0 where
+  pub content : Content
+  pub bound : ℕ
+  pub same : SameHead head content
+  pub saves : Saves chip (λ s. nat_lt s bound && touched s) content
+  pub is : bytes ≡ front content
+
+-- what a telling vault has after a refusal that isn't its own
+abbrev pub KeepBegins : Request → Opening → List ℕ → BusState → VaultState → Refusal → Type 0
+KeepBegins request opening image old vault refusal = refusal ≢ Vault → vault.telling ≡ true
+    → (chip : Chip) → IsOpening chip opening → Shows chip old
+    → BeginsJournal (head_of chip) chip.bytes (is_touched_by request image chip) vault.bytes

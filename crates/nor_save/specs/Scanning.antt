@@ -1,8 +1,11 @@
 -- What scans tell: which sectors are touched and raised.
-use Rattle.std.specs.Prelude.{◌≡◌, ◌<◌, ◌≤◌, ◌+◌, ◌*◌, ◌/◌, ◌==◌, ◌&&◌, ◌||◌, ℕ, Bool, true, false, nat_lt, Result, Err, List, slice_index, if◌then◌else◌}
+use Rattle.std.specs.Prelude.{◌≡◌, ◌≢◌, ◌<◌, ◌≤◌, ◌+◌, ◌*◌, ◌/◌, ◌==◌, ◌&&◌, ◌||◌, ℕ, Bool, true, false, nat_lt, Result, Ok, Err, List, slice_index, if◌then◌else◌}
 use Rattle.nor_chip.specs.Bus.{BusState}
 use Rattle.nor_driver.specs.Looks.{Rested, RunsOut}
+use Rattle.nor_journal.specs.declared.writer.Writer.{Writer}
+use Rattle.nor_journal.specs.Text.{Content, next_number}
 use Rattle.nor_journal.specs.Vault.{VaultState, Refused, Accepted}
+use Rattle.nor_journal.specs.Writer.{HasWritten, HasKept}
 use Rattle.nor_driver.specs.Reads.{HasRead, IsSectorOf}
 use Rattle.nor_plan.specs.declared.plan.SectorPlan.{SectorPlan}
 use Rattle.nor_plan.specs.SectorSet.{has}
@@ -80,3 +83,21 @@ ScanTells most old new _ = ⊥
 abbrev pub ScanPuts : {T : Type 0} → Result T Refusal → VaultState → VaultState → Type 0
 ScanPuts (Err Vault) old new = Refused old new
 ScanPuts _ old new = Accepted old new
+
+-- Whatever the bus: the head of a journal of a chip of this size went in, and records of sectors below n.
+pub record HasBegun {V : Type 0} (state : V → VaultState) (writer : Writer V) (size n : ℕ) : Type 0 where
+  pub content : Content
+  pub written : HasWritten state writer content
+  pub same : content.size ≡ size
+  pub next : next_number content ≤ n
+
+-- this holds, unless the vault refused
+abbrev pub UnlessVault : {T : Type 0} → Result T Refusal → Type 0 → Type 0
+UnlessVault (Ok _) promise = promise
+UnlessVault (Err refusal) promise = refusal ≢ Vault → promise
+
+-- The head went in, and of the chip's touched sectors those below some bound, of so many sectors.
+pub record HasKeptBelow {V : Type 0} (state : V → VaultState) (writer : Writer V) (head : Content) (chip : ℕ → ℕ) (touched : ℕ → Bool) (total : ℕ) : Type 0 where
+  pub bound : ℕ
+  pub inside : bound ≤ total
+  pub kept : HasKept state writer head chip (λ s. nat_lt s bound && touched s) bound

@@ -5,7 +5,7 @@ ghost use Rattle.nor_chip.specs.Chip.{Chip};
 ghost use Rattle.nor_driver.specs.Looks.{Looks};
 ghost use Rattle.nor_journal.specs.Vault.{IsFresh};
 ghost use Rattle.nor_save.specs.Request.{scanned_sectors, is_data};
-ghost use Rattle.nor_save.specs.Keeping.{Keeps, KeepTells, KeepPuts};
+ghost use Rattle.nor_save.specs.Keeping.{Keeps, KeepTells, KeepPuts, HoldsJournal, KeepBegins};
 
 use crate::judging::judge_scan;
 use crate::opening::Opening;
@@ -36,8 +36,10 @@ pub fn keep<B: Bus, V: Vault>(
     requires fresh { IsFresh (V.state vault.old) }
     ensures leaves { Looks (scanned_sectors request.now opening.now.found.size) (B.state bus.old) (B.state bus.new) }
     ensures puts { KeepPuts result (V.state vault.old) (V.state vault.new) }
+    ensures holds { HoldsJournal (V.state vault.new) }
     ensures keeps { IfOk result
         (Keeps request.now opening.now code image.old image.new (B.state bus.old) (B.state bus.new) (V.state vault.new)) }
+    ensures begins { IfErr result (KeepBegins request.now opening.now image.old (B.state bus.old) (V.state vault.new)) }
     ensures tells { IfErr result (KeepTells request.now opening.now code image.old (B.state bus.old) (B.state bus.new)) }
 {
     let size = opening.found.size;

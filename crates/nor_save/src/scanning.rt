@@ -1,13 +1,16 @@
 //! What is read before anything is changed.
-ghost use Rattle.std.specs.Prelude.{◌≡◌, ◌<◌, ◌≤◌, ◌+◌, ◌*◌, ◌/◌, ℕ, Bool, true, false, length, slice_index, IfOk, IfErr, OnOk, OnErr, IsTrue};
+ghost use Rattle.std.specs.Prelude.{◌≡◌, ◌≢◌, ◌<◌, ◌≤◌, ◌+◌, ◌*◌, ◌/◌, ℕ, Bool, true, false, length, slice_index, IfOk, IfErr, OnOk, OnErr, IsTrue};
 ghost use Rattle.nor_chip.specs.Size.{is_chip_size};
 ghost use Rattle.nor_chip.specs.Chip.{Chip};
 ghost use Rattle.nor_driver.specs.Looks.{Looks, RunsOut};
 ghost use Rattle.nor_journal.specs.Text.{Content};
 ghost use Rattle.nor_journal.specs.Writer.{vault_of, vault_state, HasKept};
 ghost use Rattle.nor_plan.specs.SectorSet.{has};
-ghost use Rattle.nor_save.specs.Request.{scanned_sectors, is_data};
+ghost use Rattle.nor_save.specs.Request.{wanted, scanned_sectors, is_data};
+ghost use Rattle.nor_apply.specs.Content.{is_touched};
 ghost use Rattle.nor_save.specs.Scanning.{HasMarked, IsBlank, IsOpen, ScansSector, Scans, ScanTells, ScanPuts, never};
+ghost use Rattle.nor_save.specs.Scanning.{HasBegun, UnlessVault, HasKeptBelow};
+ghost use Rattle.nor_save.specs.declared.refusal.Refusal.TheVariants as Refusals;
 
 use crate::{Refusal, Request, What};
 use nor_chip::{Bus, Stopped};
@@ -111,6 +114,11 @@ pub fn scan_all<B: Bus, V: Vault>(
     ensures keeps { IsOpen size (B.state bus.old) → (head : Content) → head.size ≡ size
         → HasKept V.state writer.old head (B.state bus.old).chip.bytes never 0
         → IfOk result (λ scanned. HasKept V.state writer.new head (B.state bus.old).chip.bytes (has scanned.touched) (size / 4096)) }
+    ensures begins { IsOpen size (B.state bus.old) → (head : Content) → head.size ≡ size
+        → HasKept V.state writer.old head (B.state bus.old).chip.bytes never 0
+        → IfErr result (λ refusal. refusal ≢ Refusals.Vault → HasKeptBelow V.state writer.new head (B.state bus.old).chip.bytes
+        (is_touched (B.state bus.old).chip.bytes (wanted request.now image.old size (B.state bus.old).chip.bytes)) (size / 4096)) }
+    ensures writes { HasBegun V.state writer.old size 0 → UnlessVault result (HasBegun V.state writer.new size (size / 4096)) }
 {
     let mut scanned = Scanned::none();
     let mut bytes = [0; 4096];

@@ -1,15 +1,19 @@
 -- What the changes came to, once they were checked.
-use Rattle.std.proofs.Common.{◌≡◌, ◌≤◌, ◌%◌, ◌/◌, ◌∙◌, ℕ, Bool, true, false, ap, arith, ◌+◌, ◌||◌, refl, true≢false}
+use Rattle.std.proofs.Common.{◌≡◌, ◌<◌, ◌≤◌, ◌%◌, ◌/◌, ◌∙◌, ℕ, Bool, true, false, ap, sym, subst, arith, ◌+◌, ◌||◌, refl, true≢false}
 use Rattle.std.specs.Prelude.{if◌then◌else◌}
 use Rattle.std.proofs.lemmas.Bool.{false_from_ne_true}
+use Rattle.nor_chip.specs.declared.config.Config.{Config}
 use Rattle.nor_chip.specs.Bus.{BusState}
 use Rattle.nor_driver.specs.Looks.{Rested}
 use Rattle.nor_layout.proofs.Below.{count_below-most}
+use Rattle.nor_plan.specs.Planned.{fewest_erases, IsLeastLength}
+use Rattle.nor_plan.proofs.Fewest.{fewest_least}
 use Rattle.nor_apply.specs.declared.changes.Changes.{Changes}
 use Rattle.nor_apply.specs.declared.changes.Work.{Work}
 use Rattle.nor_apply.specs.Applying.{touched_in, raised_in, status_writes, writes_code, most_applied, HasApplied, LeavesApply, DoesApply}
 use Rattle.nor_apply.proofs.Kept.{fixed_then, kept_fixed}
 use Rattle.nor_apply.proofs.ApplyingExits.{raised_few}
+use Rattle.nor_session.specs.Modelled.{kinds_of, AreFewestErases}
 use Rattle.nor_session.specs.Changing.{touched_count, DoesCheck, DoesChange}
 
 -- ---- how much they take
@@ -47,6 +51,13 @@ fits_work changes wanted old new work inside does =
     let few = does.few in let erases = does.fewer_erases in let programs = does.fewer_programs in
     omega arith
 
+-- as many as are planned are the fewest
+pub fewest_at : (config : Config) (sectors : ℕ → Bool) (count : ℕ) → ((s : ℕ) → sectors s ≡ true → s < config.size / 4096)
+    → count ≡ fewest_erases (kinds_of config) (config.size / 4096) sectors → AreFewestErases config sectors count
+fewest_at config sectors count below is =
+    let most = config.at_most in
+    subst (IsLeastLength (kinds_of config) (config.size / 4096) sectors) (sym is) (fewest_least (kinds_of config) (config.size / 4096) sectors (omega arith) below)
+
 -- ---- what they and their check leave
 
 -- readings leave what the changes came to
@@ -62,6 +73,7 @@ rest_applied changes wanted old mid new applied rested =
         high = ap (λ (k : ℕ). k / 64) same.kept2 ∙ applied.has_code.high;
       };
       worn = λ s. rested.unchanged.worn s ∙ applied.worn s;
+      latch = λ set. applied.latch (rested.latch set);
       idle = let less = rested.unchanged.busy in let idle = applied.idle in omega arith;
     }
 
@@ -81,6 +93,7 @@ checked changes wanted verify old mid new written work inside leaves does checki
           let sent = does.sent honest in
           let again = checking.sent (leaves.spends.honest ∙ honest) in
           omega arith;
+      still = λ none. checking.still ∙ does.still none;
       done = λ honest can. rest_applied changes wanted old mid new (does.done honest can) (checking.rested (leaves.spends.honest ∙ honest));
       programs = λ honest can. checking.programs ∙ does.programs honest can;
     }

@@ -14,5 +14,7 @@ pub mod GivenBack
 pub mod Restoring
 pub mod SavedCounts
 pub mod GivesBack
+pub mod WrittenBack
+pub mod InTurn
 pub mod RehearsedRestores
 pub mod RehearsedSessions

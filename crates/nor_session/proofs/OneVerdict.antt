@@ -1,7 +1,7 @@
 -- A request that is accepted is refused for nothing.
-use Rattle.std.proofs.Common.{◌≡◌, ◌≢◌, ◌∙◌, ℕ, Bool, List, Option, None, Some, Result, Ok, Err, ap, sym, subst, arith, true≢false, inl, inr}
-use Rattle.std.proofs.lemmas.Bool.{cases_Bool, cases_lt}
-use Rattle.nor_chip.specs.Chip.{Chip}
+use Rattle.std.proofs.Common.{◌≡◌, ◌≢◌, ◌⊎◌, ◌∙◌, ℕ, Bool, true, false, List, Option, None, Some, Result, Ok, Err, ap, sym, subst, arith, true≢false, inl, inr}
+use Rattle.std.proofs.lemmas.Bool.{cases_Bool, cases_eq, cases_lt}
+use Rattle.nor_chip.specs.Chip.{Chip, is_locked}
 use Rattle.nor_chip.specs.Guard.{code_of}
 use Rattle.nor_chip.specs.Offer.{IsLeastCode}
 use Rattle.nor_layout.specs.declared.ranges.Span.{Span}
@@ -17,8 +17,9 @@ use Rattle.nor_save.specs.declared.report.What.TheVariants.{Write, Erase, WpRang
 use Rattle.nor_save.specs.declared.refusal.Refusal.{Refusal}
 use Rattle.nor_save.specs.declared.refusal.Refusal.TheVariants.{NoChip, UnknownChip, OtherName, ImageSize, RegionOutside, NoProtection, UndefinedProtection, RangeNotOffered, StatusLocked, Protected}
 use Rattle.nor_save.specs.Request.{is_touched_by, IsWantedCode}
-use Rattle.nor_save.specs.Saving.{AsksForNone, NeedsCode}
-use Rattle.nor_session.specs.Verdict.{IsNamed, IsVerdict, IsAccepted}
+use Rattle.nor_save.specs.Saving.{AsksForNone, NeedsCode, NeedsStatus, NoneHeld, SomeHeld, ScanAccepts}
+use Rattle.nor_session.specs.Verdict.{IsNamed, IsVerdict, MayLift, IsAccepted}
+use Rattle.nor_session.proofs.SessionChanges.{not_locked}
 
 -- ---- the part
 
@@ -71,6 +72,19 @@ needs_same Write unlock x y touched chip first second needs = needs
 needs_same Erase unlock x y touched chip first second needs = needs
 needs_same (WpRange start len) unlock x y touched chip first second needs = subst (λ (code : ℕ). code ≢ code_of chip) (one_least chip.config.size start len x y first second) needs
 
+-- where the status is locked, one that has the wanted code and is free of guarded sectors needs no write
+held_or_free : (unlock : Bool) (touched : ℕ → Bool) (chip : Chip) → is_locked chip ≡ true → NoneHeld touched chip ⊎ ((unlock ≡ true) × (is_locked chip ≡ false)) → SomeHeld touched chip → ⊥
+held_or_free unlock touched chip locked free held = elim free [
+  | inl none ↦ absurd (true≢false (sym held.held ∙ none held.sector))
+  | inr lifts ↦ absurd (true≢false (sym locked ∙ lifts.1))
+]
+
+locked_or_free : (what : What) (unlock : Bool) (code : ℕ) (touched : ℕ → Bool) (chip : Chip) → is_locked chip ≡ true → code ≡ code_of chip → NoneHeld touched chip ⊎ ((unlock ≡ true) × (is_locked chip ≡ false))
+    → NeedsCode what unlock code touched chip → ⊥
+locked_or_free Write unlock code touched chip locked same free needs = held_or_free unlock touched chip locked free needs.1
+locked_or_free Erase unlock code touched chip locked same free needs = held_or_free unlock touched chip locked free needs.1
+locked_or_free (WpRange start len) unlock code touched chip locked same free needs = needs same
+
 -- ---- the verdict
 
 pub accepted_only : (request : Request) (image : List ℕ) (chip : Chip) (refusal : Refusal) → IsAccepted request image chip → IsVerdict request image chip refusal → ⊥
@@ -83,9 +97,30 @@ accepted_only request image chip NoProtection is verdict = absurd (true≢false 
 accepted_only request image chip UndefinedProtection is verdict = absurd (true≢false (sym verdict.1.2 ∙ is.opening.protection.defined verdict.1.1))
 accepted_only request image chip RangeNotOffered is verdict = none_or_code request.what chip is.code verdict.1.1 is.opening.is_wanted
 accepted_only request image chip StatusLocked is verdict =
-    is.scan.not_locked verdict.judges.0 (needs_same request.what request.unlock verdict.code is.code (is_touched_by request image chip) chip verdict.opening.is_wanted is.opening.is_wanted verdict.judges.1)
-accepted_only request image chip (Protected address) is verdict = elim (cases_Bool is.unlock) [
-  | inl lifted ↦ absurd (true≢false (sym (is.scan.lifts lifted).0 ∙ verdict.judges.shut))
-  | inr off ↦ absurd (true≢false (sym verdict.judges.least.is ∙ is.scan.free off verdict.judges.sector))
+    locked_or_free request.what request.unlock is.code (is_touched_by request image chip) chip verdict.judges.0 (is.same_code verdict.judges.0) is.free
+    (needs_same request.what request.unlock verdict.code is.code (is_touched_by request image chip) chip verdict.opening.is_wanted is.opening.is_wanted verdict.judges.1)
+accepted_only request image chip (Protected address) is verdict = elim is.free [
+  | inl none ↦ absurd (true≢false (sym verdict.judges.least.is ∙ none verdict.judges.sector))
+  | inr lifts ↦ absurd (true≢false (sym lifts.0 ∙ verdict.judges.shut))
 ]
 accepted_only request image chip _ is verdict = absurd verdict
+
+-- ---- what the judgement of the scan accepts
+
+-- a status that is locked has the wanted code
+pub locked_code : (what : What) (unlock : Bool) (code : ℕ) (touched : ℕ → Bool) (chip : Chip) → IsWantedCode what chip code → (is_locked chip ≡ true → ¬ NeedsCode what unlock code touched chip)
+    → is_locked chip ≡ true → code ≡ code_of chip
+locked_code Write unlock code touched chip wanted never locked = wanted
+locked_code Erase unlock code touched chip wanted never locked = wanted
+locked_code (WpRange start len) unlock code touched chip wanted never locked = elim (cases_eq code (code_of chip)) [
+  | inl same ↦ same
+  | inr differs ↦ absurd (never locked differs)
+]
+
+-- where protection is lifted it may be
+pub free_or_lifts : (request : Request) (code : ℕ) (touched : ℕ → Bool) (chip : Chip) (unlock : Bool) → ScanAccepts request code touched chip unlock → (unlock ≡ true → NeedsStatus request code touched chip)
+    → NoneHeld touched chip ⊎ MayLift request chip
+free_or_lifts request code touched chip unlock accepts needs = elim (cases_Bool unlock) [
+  | inl lifted ↦ inr ((accepts.lifts lifted).0, not_locked chip (λ locked. accepts.not_locked locked (needs lifted)))
+  | inr off ↦ inl (accepts.free off)
+]

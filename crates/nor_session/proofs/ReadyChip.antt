@@ -1,7 +1,7 @@
 -- What holds of a chip that is what it shows itself to be, once its touched sectors are saved.
-use Rattle.std.proofs.Common.{◌≡◌, ◌<◌, ◌+◌, ◌*◌, ◌/◌, ◌∙◌, ℕ, Bool, true, false, List, length, ap, refl, arith, sym}
+use Rattle.std.proofs.Common.{◌≡◌, ◌<◌, ◌≤◌, ◌+◌, ◌*◌, ◌/◌, ◌∙◌, ℕ, Bool, true, false, List, length, ap, refl, arith, sym, inr}
 use Rattle.std.specs.Prelude.{if◌then◌else◌, ◌==◌, Option, Err}
-use Rattle.nor_chip.specs.Chip.{Chip, status1_of}
+use Rattle.nor_chip.specs.Chip.{Chip, IsSame, status1_of}
 use Rattle.nor_chip.specs.Bus.{BusState}
 use Rattle.nor_driver.specs.Reads.{unique_of}
 use Rattle.nor_driver.specs.Looks.{Looks, RanOut}
@@ -13,15 +13,16 @@ use Rattle.nor_apply.specs.Spending.{Spends}
 use Rattle.nor_save.specs.declared.opening.Opening.{Opening}
 use Rattle.nor_save.specs.declared.report.Request.{Request}
 use Rattle.nor_save.specs.declared.refusal.Refusal.{Refusal}
-use Rattle.nor_save.specs.declared.refusal.Refusal.TheVariants.{Vault, Stopped, StatusLocked, Protected}
+use Rattle.nor_save.specs.declared.refusal.Refusal.TheVariants.{Vault, Stopped, Timeout, StatusLocked, Protected}
+use Rattle.nor_save.specs.Refusal.{number_of}
 use Rattle.nor_save.specs.Request.{scanned_sectors}
-use Rattle.nor_save.specs.Opening.{Opens}
+use Rattle.nor_save.specs.Opening.{Opens, OpeningTells}
 use Rattle.nor_save.specs.Saving.{IsOpening, Shows, OpeningAccepts}
 use Rattle.nor_save.specs.Keeping.{KeepPuts, KeepTells}
 use Rattle.nor_session.specs.Modelled.{IsModelled, most_of}
 use Rattle.nor_session.specs.Verdict.{IsNamed}
-use Rattle.nor_session.specs.Session.{SessionTells}
-use Rattle.nor_session.proofs.Ready.{scanned_most}
+use Rattle.nor_session.specs.Session.{SessionTells, HonestTells}
+use Rattle.nor_session.proofs.Ready.{scanned_most, scanned_few}
 
 -- ---- the opening tells the starting chip
 
@@ -87,7 +88,37 @@ ran_out_sized request opening old new config ran =
     let most = scanned_most request opening.found.size in let size = config.size in
     record { none_left = ran.none_left; below = omega arith }
 
--- ---- what a refusal of the scan tells
+-- ---- what a refusal of the opening tells, and of the scan
+
+pub opening_gives_up : (named : Option ChipName) (old new : BusState) (refusal : Refusal) → old.honest ≡ true → (number_of refusal ≤ 11 → IsSame old.chip new.chip)
+    → OpeningTells named old new refusal → HonestTells old new refusal
+opening_gives_up named old new Stopped honest same tells = let ran = tells honest in let below = ran.below in record { none_left = ran.none_left; below = omega arith }
+opening_gives_up named old new (Timeout address) honest same tells = tells.1 honest
+opening_gives_up named old new _ honest same tells = same
+
+-- a reading after the opening leaves the chip as it was
+pub still_same : (named : Option ChipName) (opening : Opening) (few : ℕ) (old mid new : BusState) → old.honest ≡ true → Looks 65542 old mid → Opens named old mid opening → Looks few mid new → IsSame old.chip new.chip
+still_same named opening few old mid new honest looks opens more =
+    let before = (opens.rested honest).unchanged.same in
+    let after = (more.looked (looks.honest ∙ honest)).stays.calm (inr (opens.idle honest)) in
+    record {
+      config = after.config ∙ before.config;
+      bytes = λ a. after.bytes a ∙ before.bytes a;
+      kept1 = after.kept1 ∙ before.kept1;
+      kept2 = after.kept2 ∙ before.kept2;
+    }
+
+pub keep_gives_up : (request : Request) (image : List ℕ) (opening : Opening) (code few : ℕ) (old mid new : BusState) (refusal : Refusal) → old.honest ≡ true → Looks 65542 old mid → Opens request.named old mid opening
+    → Looks few mid new → KeepTells request opening code image mid new refusal → HonestTells old new refusal
+keep_gives_up request image opening code few old mid new Stopped honest looks opens more tells =
+    let ran = tells (looks.honest ∙ honest) in
+    let below = ran.below in let count = opens.count honest in let most = opens.most in
+    let sectors = scanned_few request opening.found.size opens.part.at_most in
+    record { none_left = ran.none_left; below = omega arith }
+keep_gives_up request image opening code few old mid new Vault honest looks opens more tells = λ early. still_same request.named opening few old mid new honest looks opens more
+keep_gives_up request image opening code few old mid new StatusLocked honest looks opens more tells = λ early. still_same request.named opening few old mid new honest looks opens more
+keep_gives_up request image opening code few old mid new (Protected address) honest looks opens more tells = λ early. still_same request.named opening few old mid new honest looks opens more
+keep_gives_up request image opening code few old mid new _ honest looks opens more tells = absurd tells
 
 pub not_sealed : (refusal : Refusal) (old new : VaultState) → old.sealed ≡ false → KeepPuts (Err refusal) old new → new.sealed ≡ false
 not_sealed Vault old new unsealed puts = puts.sealed ∙ unsealed

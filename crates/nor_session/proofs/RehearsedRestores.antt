@@ -3,7 +3,7 @@ use Rattle.std.proofs.Common.{◌≡◌, ◌<◌, ◌≤◌, ◌+◌, ◌-◌, �
 use Rattle.std.proofs.lemmas.Bool.{true≢false, cases_eq}
 use Rattle.nor_chip.specs.Chip.{Chip, IsSame}
 use Rattle.nor_chip.specs.Bus.{BusState, Allows}
-use Rattle.nor_journal.specs.Text.{Content, SameHead}
+use Rattle.nor_journal.specs.Text.{Content, IsContent, SameHead, text}
 use Rattle.nor_journal.specs.declared.fault.JournalFault.{JournalFault}
 use Rattle.nor_journal.specs.Saved.{Saves, JournalSaves, is_saved}
 use Rattle.nor_journal.proofs.Saves.{Saves-set}
@@ -11,21 +11,19 @@ use Rattle.nor_probe.specs.Known.{IsGenuine}
 use Rattle.nor_apply.specs.Spending.{Spends}
 use Rattle.nor_save.specs.declared.report.Report.{Report}
 use Rattle.nor_save.specs.declared.refusal.Refusal.{Refusal}
-use Rattle.nor_save.specs.declared.refusal.Refusal.TheVariants.{Vault, Stopped, BadJournal}
+use Rattle.nor_save.specs.declared.refusal.Refusal.TheVariants.{Stopped, Timeout, BadJournal}
 use Rattle.nor_save.specs.Saving.{head_of}
 use Rattle.nor_session.specs.Modelled.{IsModelled, most_of}
-use Rattle.nor_session.specs.Restore.{CanGiveBack, LeavesRestore, RestoreGivesUp, RestoreTells, IsRestoreRefusal}
+use Rattle.nor_session.specs.Restore.{CanGiveBack, LeavesRestore, RestoreGivesUp, IsRestoreRefusal}
 use Rattle.nor_session.specs.Session.{IsWithinBound}
-use Rattle.nor_session.specs.Rehearsal.{AreRestores, FitsLastStop}
+use Rattle.nor_session.specs.Rehearsal.{AreRestores, FitsLastStop, IsNoHalt}
 use Rattle.nor_session.specs.Rehearsing.{LeavesRestores, ShowsRestore, ShowsRestores, StopsRestores, Undoes, WearsSaved, RefusesUndo}
 use Rattle.nor_session.proofs.Rescanned.{unraised_other}
 use Rattle.nor_session.proofs.GivesBack.{can_give_back}
+use Rattle.nor_session.proofs.SavedBytes.{saved_room}
 use Rattle.nor_session.proofs.SavedCounts.{saved_count, saved_few}
 
 -- ---- one restore
-
-stopped_isnt_vault : Stopped ≡ Vault → ⊥
-stopped_isnt_vault same = cc
 
 -- another bus with the same chip
 pub modelled_at : (old new : BusState) → new.honest ≡ old.honest → new.chip.config ≡ old.chip.config → IsModelled old → IsModelled new
@@ -91,27 +89,32 @@ under_ends n journal old mid new report allows bounded counted back =
 
 -- it was stopped
 pub under_stops : (n : ℕ) (journal : Content) (old mid new : BusState) (refusal : Refusal) → Allows n old mid → refusal ≡ Stopped
-    → (mid.honest ≡ true → RestoreGivesUp mid new refusal) → (IsModelled mid → RestoreTells journal mid new refusal) → ShowsRestore journal n old new false
-under_stops n journal old mid new refusal allows stopped gives_up tells =
-    let leaves = allow_leaves n journal old mid allows in
+    → (mid.honest ≡ true → RestoreGivesUp journal mid new refusal) → ShowsRestore journal n old new false
+under_stops n journal old mid new refusal allows stopped gives_up =
     record {
       back = λ modelled ended first can. absurd (true≢false (sym ended));
       enough = λ modelled ended. absurd (true≢false (sym ended));
-      none_left = λ honest fails. subst (RestoreGivesUp mid new) stopped (gives_up (allows.honest ∙ honest));
-      below = λ modelled fails.
-          let left = allows.left modelled.honest in
-          let ran = subst (RestoreTells journal mid new) stopped (tells (leaves.modelled modelled)) in
-          let below = ran.below in
+      none_left = λ honest fails. (subst (RestoreGivesUp journal mid new) stopped (gives_up (allows.honest ∙ honest))).none_left;
+      below = λ honest fails.
+          let left = allows.left honest in
+          let below = (subst (RestoreGivesUp journal mid new) stopped (gives_up (allows.honest ∙ honest))).below in
           omega arith;
     }
 
+-- it gave up, and wasn't stopped
+no_halt : (journal : Content) (old new : BusState) (refusal : Refusal) → (refusal ≡ Stopped → ⊥) → RestoreGivesUp journal old new refusal → IsNoHalt refusal
+no_halt journal old new Stopped never tells = never refl
+no_halt journal old new (Timeout address) never tells = tells
+no_halt journal old new _ never tells = tt
+
 -- it was refused
-pub under_refuses : (n : ℕ) (journal : Content) (old mid : BusState) (refusal : Refusal) → Allows n old mid → IsRestoreRefusal refusal → (refusal ≡ Stopped → ⊥)
-    → (IsModelled mid → (first : Chip) → CanGiveBack journal first mid → refusal ≡ Stopped) → StopsRestores journal old refusal
-under_refuses n journal old mid refusal allows answers never stops =
+pub under_refuses : (n : ℕ) (journal : Content) (old mid new : BusState) (refusal : Refusal) → Allows n old mid → IsRestoreRefusal refusal → (refusal ≡ Stopped → ⊥)
+    → (mid.honest ≡ true → RestoreGivesUp journal mid new refusal) → (IsModelled mid → (first : Chip) → CanGiveBack journal first mid → refusal ≡ Stopped) → StopsRestores journal old refusal
+under_refuses n journal old mid new refusal allows answers never gives_up stops =
     let leaves = allow_leaves n journal old mid allows in
     record {
-      blameless = λ vault. subst IsRestoreRefusal vault answers;
+      answers = answers;
+      halts = λ room honest. no_halt journal mid new refusal never (gives_up (allows.honest ∙ honest));
       never = λ modelled first can. never (stops (leaves.modelled modelled) first (leaves.can modelled first can));
     }
 
@@ -139,7 +142,7 @@ pub stopped_more : (journal : Content) (stops : List ℕ) (old now new : BusStat
 stopped_more journal stops old now new n before leaves shows = record {
   leaves = restores_then journal old now new before.leaves leaves;
   stopped = λ modelled i below. elim (cases_eq i n) [
-    | inl here ↦ subst (λ (k : ℕ). slice_index stops k < most_of (length journal.saved)) (sym here) (shows.below (before.leaves.modelled modelled) refl)
+    | inl here ↦ subst (λ (k : ℕ). slice_index stops k < most_of (length journal.saved)) (sym here) (shows.below (before.leaves.modelled modelled).honest refl)
     | inr other ↦ before.stopped modelled i (omega arith)
   ];
 }
@@ -180,31 +183,33 @@ ended_last journal stops old now new n restores most before is past shows = reco
 -- what is never refused later on isn't refused
 pub refuses_before : (journal : Content) (old mid : BusState) (refusal : Refusal) → LeavesRestores journal old mid → StopsRestores journal mid refusal → StopsRestores journal old refusal
 refuses_before journal old mid refusal leaves refuses = record {
-  blameless = refuses.blameless;
+  answers = refuses.answers;
+  halts = λ room honest. refuses.halts room (leaves.nature.honest ∙ honest);
   never = λ modelled first can. refuses.never (leaves.modelled modelled) first (leaves.can modelled first can);
 }
 
 -- under no stop no restore is stopped
 pub last_ends : (journal : Content) (now new : BusState) (most : ℕ) → most ≡ most_of 4096 → ShowsRestore journal most now new false → StopsRestores journal now Stopped
 last_ends journal now new most is shows = record {
-  blameless = λ vault. absurd (stopped_isnt_vault vault);
+  answers = tt;
+  halts = λ room honest. let below = shows.below honest refl in omega arith;
   never = λ modelled first can.
       let few = saved_few first.bytes (is_saved journal) journal can.saves.sectors in
-      let below = shows.below modelled refl in
+      let below = shows.below modelled.honest refl in
       omega arith;
 }
 
 -- ---- restores from a text
 
 -- what was read of a text that leads back can give back
-pub undoes : (text : List ℕ) (stops : List ℕ) (old new : BusState) (journal : Content) (restores : ℕ)
-    → ((head : Content) (chip : ℕ → ℕ) (saved : ℕ → Bool) → JournalSaves head chip saved text → SameHead head journal × Saves chip saved journal)
-    → ShowsRestores journal stops old new restores → Undoes text stops old new restores
-undoes text stops old new journal restores reads shows = record {
+pub undoes : (bytes : List ℕ) (stops : List ℕ) (old new : BusState) (journal : Content) (restores : ℕ)
+    → ((head : Content) (chip : ℕ → ℕ) (saved : ℕ → Bool) → JournalSaves head chip saved bytes → SameHead head journal × Saves chip saved journal)
+    → ShowsRestores journal stops old new restores → Undoes bytes stops old new restores
+undoes bytes stops old new journal restores reads shows = record {
   some = shows.some;
   most = shows.most;
   same = λ modelled saved first leads.
-      shows.back modelled first (can_give_back saved first text old journal leads (reads (head_of first) first.bytes saved leads.journal));
+      shows.back modelled first (can_give_back saved first bytes old journal leads (reads (head_of first) first.bytes saved leads.journal));
   are = λ modelled saved first leads.
       subst (λ (n : ℕ). AreRestores n stops restores)
       (saved_count first.bytes saved journal (reads (head_of first) first.bytes saved leads.journal).1) (shows.are modelled);
@@ -213,25 +218,27 @@ undoes text stops old new journal restores reads shows = record {
       (saved_count first.bytes saved journal (reads (head_of first) first.bytes saved leads.journal).1) (shows.last modelled);
 }
 
-pub undo_wears : (text : List ℕ) (old new : BusState) (journal : Content)
-    → ((head : Content) (chip : ℕ → ℕ) (saved : ℕ → Bool) → JournalSaves head chip saved text → SameHead head journal × Saves chip saved journal)
-    → LeavesRestores journal old new → WearsSaved text old new
-undo_wears text old new journal reads leaves modelled saved first leads s other =
+pub undo_wears : (bytes : List ℕ) (old new : BusState) (journal : Content)
+    → ((head : Content) (chip : ℕ → ℕ) (saved : ℕ → Bool) → JournalSaves head chip saved bytes → SameHead head journal × Saves chip saved journal)
+    → LeavesRestores journal old new → WearsSaved bytes old new
+undo_wears bytes old new journal reads leaves modelled saved first leads s other =
     leaves.worn modelled s (sym (Saves-set first.bytes saved journal s (reads (head_of first) first.bytes saved leads.journal).1) ∙ other)
 
-pub undo_refuses : (text : List ℕ) (old : BusState) (journal : Content) (refusal : Refusal)
-    → ((head : Content) (chip : ℕ → ℕ) (saved : ℕ → Bool) → JournalSaves head chip saved text → SameHead head journal × Saves chip saved journal)
-    → StopsRestores journal old refusal → RefusesUndo text old refusal
-undo_refuses text old journal refusal reads refuses = record {
-  blameless = refuses.blameless;
+pub undo_refuses : (bytes : List ℕ) (old : BusState) (journal : Content) (refusal : Refusal) → IsContent journal
+    → ((head : Content) (chip : ℕ → ℕ) (saved : ℕ → Bool) → JournalSaves head chip saved bytes → SameHead head journal × Saves chip saved journal)
+    → StopsRestores journal old refusal → RefusesUndo bytes old refusal
+undo_refuses bytes old journal refusal is reads refuses = record {
+  answers = λ whole. refuses.answers;
+  halts = refuses.halts (saved_room journal is);
   never = λ modelled saved first leads.
-      refuses.never modelled first (can_give_back saved first text old journal leads (reads (head_of first) first.bytes saved leads.journal));
+      refuses.never modelled first (can_give_back saved first bytes old journal leads (reads (head_of first) first.bytes saved leads.journal));
 }
 
--- a text that leads back is a journal
-pub unread : (text : List ℕ) (old : BusState) (fault : JournalFault) → ((head : Content) (chip : ℕ → ℕ) (saved : ℕ → Bool) → JournalSaves head chip saved text → ⊥)
-    → RefusesUndo text old (BadJournal fault)
-unread text old fault never = record {
-  blameless = λ vault. cc;
-  never = λ modelled saved first leads. never (head_of first) first.bytes saved leads.journal;
+-- a text that leads back is a journal, and a journal is read
+pub unread : (bytes : List ℕ) (old : BusState) (fault : JournalFault) → ((content : Content) → IsContent content → bytes ≡ text content → ⊥)
+    → RefusesUndo bytes old (BadJournal fault)
+unread bytes old fault never = record {
+  answers = λ whole. absurd (never whole.content whole.is whole.same);
+  halts = λ honest. tt;
+  never = λ modelled saved first leads. never leads.journal.content leads.journal.saves.is leads.journal.is;
 }

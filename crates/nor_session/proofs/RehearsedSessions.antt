@@ -15,10 +15,11 @@ use Rattle.nor_save.specs.declared.refusal.Refusal.{Refusal}
 use Rattle.nor_save.specs.declared.refusal.Refusal.TheVariants.{NoChip, UnknownChip, OtherName, ImageSize, RegionOutside, NoProtection, UndefinedProtection, RangeNotOffered, StatusLocked, Protected, Vault, Stopped, Timeout, Mismatch, BadJournal, OtherChip, StatusDiffers, Memory, Output, OtherUnit}
 use Rattle.nor_save.specs.Refusal.{number_of}
 use Rattle.nor_save.specs.Request.{scanned_sectors, is_touched_by, is_raised_by}
-use Rattle.nor_session.specs.Modelled.{IsModelled, most_of}
+use Rattle.nor_save.specs.Keeping.{IsJournal, HoldsJournal}
+use Rattle.nor_session.specs.Modelled.{IsModelled, most_of, AreFewestErases}
 use Rattle.nor_session.specs.Verdict.{IsAccepted}
-use Rattle.nor_session.specs.Session.{wanted_of, HasWantedBits, SessionTells, StopsEarly, CanBeUndone, HonestTells, Answers, IsOwnRefusal, Ends, IsDone}
-use Rattle.nor_session.specs.Rehearsal.{KeepsNature, RehearsalTells, first_allowance, least_needed, AreRestores, FitsLastStop}
+use Rattle.nor_session.specs.Session.{wanted_of, HasWantedBits, SessionTells, StopsEarly, CanBeUndone, HonestTells, Answers, Ends, IsDone}
+use Rattle.nor_session.specs.Rehearsal.{KeepsNature, IsRehearsalRefusal, IsNoHalt, RehearsalTells, first_allowance, least_needed, AreRestores, FitsLastStop}
 use Rattle.nor_session.specs.Rehearsing.{LeadsBack, LeavesSession, ShowsSession, RefusesSession, Undoes, WearsSaved, RefusesUndo}
 use Rattle.nor_session.proofs.RestoredBytes.{untouched_unraised}
 use Rattle.nor_session.proofs.GivesBack.{leads_back}
@@ -49,8 +50,8 @@ untouched_unraised_by request image chip s =
 -- what a session leaves that is allowed so many transactions
 pub session_leaves : (n most few : ℕ) (request : Request) (image : List ℕ) (old mid new : BusState) (vault : VaultState) → Allows n old mid → vault.telling ≡ true
     → (mid.honest ≡ true → IsChip mid.chip) → Spends most mid new → (vault.sealed ≡ false → Looks few mid new)
-    → (IsModelled mid → vault.sealed ≡ true → CanBeUndone request image mid new vault) → LeavesSession request image old new vault
-session_leaves n most few request image old mid new vault allows telling reaches spends looks undo = record {
+    → (IsModelled mid → vault.sealed ≡ true → CanBeUndone request image mid new vault) → HoldsJournal vault → LeavesSession request image old new vault
+session_leaves n most few request image old mid new vault allows telling reaches spends looks undo holds = record {
   nature = record { honest = spends.honest ∙ allows.honest; steady = spends.steady ∙ allows.steady };
   same = λ modelled calm unsealed.
       same_at old.chip mid.chip new.chip allows.chip (((looks unsealed).looked (allows.honest ∙ modelled.honest)).stays.calm (calm_at n old mid allows calm));
@@ -66,15 +67,15 @@ session_leaves n most few request image old mid new vault allows telling reaches
         ∙ allows.worn s
     | inr unsealed ↦ ((looks unsealed).looked (allows.honest ∙ modelled.honest)).stays.worn s ∙ allows.worn s
   ];
+  holds = holds;
 }
 
 -- it took what it counts
 took : (n : ℕ) (request : Request) (image : List ℕ) (mid new : BusState) (vault : VaultState) (report : Report) → mid.left ≡ n → Ends request vault report
-    → mid.left ≡ new.left + report.transactions → IsDone request image mid new report → least_needed request image mid.chip ≤ n
+    → mid.left ≡ new.left + report.transactions → IsDone request image mid new report → least_needed request image mid.chip report.erases ≤ n
 took n request image mid new vault report left ends sent done =
     let least = ends.bounded.least in
     let scanned : scanned_sectors request report.found.size ≡ scanned_sectors request mid.chip.config.size = ap (scanned_sectors request) done.found.size in
-    let erases = done.erases in
     let programs = done.programs in
     omega arith
 
@@ -93,7 +94,9 @@ session_ends n request image old mid new vault report allows ends sent done undo
       let mid_modelled = allow_modelled n old mid allows modelled in
       record {
         accepted = subst (IsAccepted request image) allows.chip (undo mid_modelled ends.sealed).accepted;
-        enough = subst (λ (chip : Chip). least_needed request image chip ≤ n) allows.chip
+        erases = report.erases;
+        fewest = subst (λ (chip : Chip). AreFewestErases chip.config (is_raised_by request image chip) report.erases) allows.chip (done mid_modelled).erases;
+        enough = subst (λ (chip : Chip). least_needed request image chip report.erases ≤ n) allows.chip
             (took n request image mid new vault report (allows.left modelled.honest) ends (sent mid_modelled.honest) (done mid_modelled));
       };
   bytes = λ modelled ended. subst (λ (chip : Chip). (a : ℕ) → new.chip.bytes a ≡ wanted_of request image chip a) allows.chip (done (allow_modelled n old mid allows modelled)).bytes;
@@ -117,7 +120,7 @@ session_stops n request image old mid new before after refusal allows stopped gi
   can = λ modelled ended. absurd (true≢false (sym ended));
   bytes = λ modelled ended. absurd (true≢false (sym ended));
   bits = λ modelled ended. absurd (true≢false (sym ended));
-  none_left = λ honest fails. subst (HonestTells mid new) stopped (gives_up (allows.honest ∙ honest));
+  none_left = λ honest fails. (subst (HonestTells mid new) stopped (gives_up (allows.honest ∙ honest))).none_left;
   below = λ modelled fails.
       let left = allows.left modelled.honest in
       let ran = subst (SessionTells request image mid new before after) stopped (tells (allow_modelled n old mid allows modelled)) in
@@ -139,14 +142,19 @@ session_stops n request image old mid new before after refusal allows stopped gi
 }
 
 -- with so many transactions as any call needs it isn't stopped
-never_stops : (n : ℕ) (request : Request) (image : List ℕ) (old mid new : BusState) (before after : VaultState) (refusal : Refusal) → Allows n old mid → n ≡ most_of 4096
-    → (IsModelled mid → SessionTells request image mid new before after refusal) → IsModelled old → refusal ≡ Stopped → ⊥
-never_stops n request image old mid new before after refusal allows all tells modelled stopped =
-    let left = allows.left modelled.honest in
-    let ran = subst (SessionTells request image mid new before after) stopped (tells (allow_modelled n old mid allows modelled)) in
-    let below = ran.below in
-    let most = mid.chip.config.at_most in
+never_stops : (n : ℕ) (old mid new : BusState) (refusal : Refusal) → Allows n old mid → (refusal ≡ Stopped → n ≡ most_of 4096)
+    → (mid.honest ≡ true → HonestTells mid new refusal) → old.honest ≡ true → refusal ≡ Stopped → ⊥
+never_stops n old mid new refusal allows all gives_up honest stopped =
+    let left = allows.left honest in
+    let most = all stopped in
+    let below = (subst (HonestTells mid new) stopped (gives_up (allows.honest ∙ honest))).below in
     omega arith
+
+-- it gave up, and wasn't stopped
+no_halt : (old new : BusState) (refusal : Refusal) → (refusal ≡ Stopped → ⊥) → HonestTells old new refusal → IsNoHalt refusal
+no_halt old new Stopped never tells = never refl
+no_halt old new (Timeout address) never tells = tells
+no_halt old new _ never tells = tt
 
 -- an answer of the session that isn't a stop is that of the rehearsal
 told : (request : Request) (image : List ℕ) (old new : BusState) (before after : VaultState) (refusal : Refusal) → (refusal ≡ Stopped → ⊥)
@@ -203,10 +211,11 @@ pub session_refuses : (n few : ℕ) (request : Request) (image : List ℕ) (old 
 session_refuses n few request image old mid new before after refusal allows answers looks gives_up tells all =
     let tells' : IsModelled old → RehearsalTells request image mid.chip before after refusal
     = λ modelled. told request image mid new before after refusal
-    (λ stopped. never_stops n request image old mid new before after refusal allows (all stopped) tells modelled stopped)
+    (never_stops n old mid new refusal allows all gives_up modelled.honest)
     (tells (allow_modelled n old mid allows modelled)) in
     record {
-      blames = λ vault. subst (IsOwnRefusal before after) vault answers.own;
+      answers = answers;
+      halts = λ honest. no_halt mid new refusal (never_stops n old mid new refusal allows all gives_up honest) (gives_up (allows.honest ∙ honest));
       tells = λ modelled. subst (λ (chip : Chip). RehearsalTells request image chip before after refusal) allows.chip (tells' modelled);
       leaves = λ modelled.
           let mid_modelled = allow_modelled n old mid allows modelled in
@@ -238,6 +247,12 @@ pub never_refused : (saved : ℕ → Bool) (bytes text : List ℕ) (old mid : Bu
 never_refused saved bytes text old mid refusal nature back is refuses modelled =
     refuses.never (still_modelled saved bytes old mid nature (back modelled) modelled) saved old.chip
     (subst (λ (t : List ℕ). LeadsBack saved old.chip t mid) (sym is) (back modelled))
+
+-- whatever the bus, they are refused as restores are
+pub refused_undo : (bytes : List ℕ) (vault vault' : VaultState) (mid : BusState) (refusal : Refusal) → bytes ≡ vault'.bytes → vault'.telling ≡ true → vault'.sealed ≡ true → HoldsJournal vault'
+    → RefusesUndo bytes mid refusal → IsRehearsalRefusal vault vault' refusal
+refused_undo bytes vault vault' mid refusal is telling sealed holds refuses =
+    inr (sealed, refuses.answers (subst IsJournal (sym is) (holds sealed telling)))
 
 -- and they give the chip back
 pub same_again : (saved : ℕ → Bool) (bytes text : List ℕ) (stops : List ℕ) (old mid new : BusState) (restores : ℕ) → KeepsNature old mid → (IsModelled old → LeadsBack saved old.chip bytes mid)

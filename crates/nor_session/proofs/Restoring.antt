@@ -28,7 +28,7 @@ use Rattle.nor_session.specs.Session.{IsWithinBound}
 use Rattle.nor_session.specs.Changing.{most_changed, LeavesChange, DoesChange, ChangeTells}
 use Rattle.nor_session.specs.Restore.{is_touched_from, is_raised_from, NeedsStatusFrom, IsJudgedFirst, IsRestoreRefusal, RestoreGivesUp, RestoreTells, LeavesRestore, IsRestored, open_places, CanGiveBack}
 use Rattle.nor_session.specs.Preparing.{PrepareTells, IsPrepared}
-use Rattle.nor_session.proofs.Changed.{two_writes, no_write}
+use Rattle.nor_session.proofs.Changed.{two_writes, no_write, fewest_at}
 use Rattle.nor_session.proofs.RestoredBytes.{touched_saved, written_restored, pages_same}
 use Rattle.nor_session.proofs.GivenBack.{looked_within, change_within, given_back}
 
@@ -63,10 +63,11 @@ prepare_answers journal most old new (Timeout address) tells = tt
 prepare_answers journal most old new (Mismatch address) tells = tt
 prepare_answers journal most old new _ tells = tells.judged
 
-pub prepare_gives_up : (journal : Content) (most : ℕ) (old new : BusState) (refusal : Refusal) → old.honest ≡ true → PrepareTells journal most old new refusal → RestoreGivesUp old new refusal
-prepare_gives_up journal most old new Stopped honest tells = (tells honest).none_left
-prepare_gives_up journal most old new (Timeout address) honest tells = tells honest
-prepare_gives_up journal most old new _ honest tells = λ first. tells.same honest
+pub prepare_gives_up : (journal : Content) (most : ℕ) (old new : BusState) (refusal : Refusal) → most ≤ most_of (length journal.saved) → old.honest ≡ true → PrepareTells journal most old new refusal
+    → RestoreGivesUp journal old new refusal
+prepare_gives_up journal most old new Stopped fits honest tells = let out = tells honest in let below = out.below in record { none_left = out.none_left; below = omega arith }
+prepare_gives_up journal most old new (Timeout address) fits honest tells = tells honest
+prepare_gives_up journal most old new _ fits honest tells = λ first. tells.same honest
 
 pub prepare_tells : (journal : Content) (most : ℕ) (old new : BusState) (refusal : Refusal) → most ≤ most_of (length journal.saved) → IsModelled old → PrepareTells journal most old new refusal
     → RestoreTells journal old new refusal
@@ -165,8 +166,12 @@ change_not_judged changes wanted old new (Mismatch address) tells judged = judge
 change_not_judged changes wanted old new _ tells judged = tells
 
 pub change_gives_up : (journal : Content) (prepared : Prepared) (old mid new : BusState) (refusal : Refusal) → AreChanged journal prepared old mid new → old.honest ≡ true
-    → ChangeTells prepared.changes (saved_byte journal) mid new refusal → RestoreGivesUp old new refusal
-change_gives_up journal prepared old mid new Stopped are honest tells = (tells (are.looks.honest ∙ honest)).none_left
+    → ChangeTells prepared.changes (saved_byte journal) mid new refusal → RestoreGivesUp journal old new refusal
+change_gives_up journal prepared old mid new Stopped are honest tells =
+    let out = tells (are.looks.honest ∙ honest) in let below = out.below in
+    let bound = (are.looks.looked honest).bound in
+    let fits = few_changed journal prepared old mid are.is in
+    record { none_left = out.none_left; below = omega arith }
 change_gives_up journal prepared old mid new (Timeout address) are honest tells = tells (are.looks.honest ∙ honest)
 change_gives_up journal prepared old mid new (Mismatch address) are honest tells = λ first. absurd first
 change_gives_up journal prepared old mid new _ are honest tells = absurd tells
@@ -254,23 +259,29 @@ restored_done journal prepared old mid new work sent are does modelled =
       fixed = fixed_then old.chip mid.chip new.chip (kept_fixed old.chip mid.chip (same.same.kept1, same.same.kept2)) applied.fixed;
       code = subst (λ (n : ℕ). HasCode n new.chip) for.code applied.has_code;
       idle = applied.idle;
+      latch = λ set. (are.is.rested modelled.honest).latch (applied.latch set);
       worn = λ s. applied.worn s ∙ ap (λ (b : Bool). b || raised_in changes s) (same.worn s) ∙ ap (λ (b : Bool). old.worn s || b) (for.raised s);
       found = for.found;
       shown = for.shown;
       status1 = for.status1;
       told = for.told;
       touched = are.is.count ∙ ap sector_count touched;
-      erases =
-          does.erases
+      erases = fewest_at old.chip.config (is_raised_from journal old.chip) work.erases
+          (λ s is. let inside = are.is.inside s (are.is.raised s (for.raised s ∙ is)) in let size = for.size in omega arith)
+          (does.erases
           ∙ ap (λ (k : Kinds). fewest_erases k (changes.size / 4096) (raised_in changes)) for.kinds
           ∙ ap (λ (n : ℕ). fewest_erases (kinds_of old.chip.config) (n / 4096) (raised_in changes)) for.size
-          ∙ ap (λ (set : ℕ → Bool). fewest_erases (kinds_of old.chip.config) (old.chip.config.size / 4096) set) raised;
+          ∙ ap (λ (set : ℕ → Bool). fewest_erases (kinds_of old.chip.config) (old.chip.config.size / 4096) set) raised);
       programs =
           does.programs honest for.can
           ∙ ap (λ (set : ℕ → Bool). count_below 65536 (is_programmed set (once_erased (raised_in changes) mid.chip.bytes) (saved_byte journal))) touched
           ∙ ap (λ (set : ℕ → Bool). count_below 65536 (is_programmed (is_touched_from journal old.chip) (once_erased set mid.chip.bytes) (saved_byte journal))) raised
           ∙ ap (λ (content : ℕ → ℕ). count_below 65536 (is_programmed (is_touched_from journal old.chip) (once_erased (is_raised_from journal old.chip) content) (saved_byte journal))) bytes
           ∙ pages_same journal old.chip.bytes (once_erased (is_raised_from journal old.chip) old.chip.bytes) (is_touched_from journal old.chip) (touched_saved journal old.chip.bytes);
+      still = λ none never.
+          let writes = no_write changes (λ needed. never (for.needed needed)) in
+          let count = are.is.count in
+          does.still (omega arith) ∙ are.looks.stirred;
     }
 
 -- and it is the first chip again

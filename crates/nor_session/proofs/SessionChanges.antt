@@ -16,7 +16,6 @@ use Rattle.nor_driver.specs.Looks.{Rested}
 use Rattle.nor_plan.specs.SectorSet.{has}
 use Rattle.nor_apply.specs.Content.{must_rise, is_touched, is_raised}
 use Rattle.nor_apply.specs.Within.{is_writable}
-use Rattle.nor_apply.specs.declared.changes.Changes.{Changes}
 use Rattle.nor_apply.specs.Applying.{CanApply, HasKeptBits, code_read, writes_code}
 use Rattle.nor_journal.specs.Vault.{VaultState}
 use Rattle.nor_apply.proofs.Kept.{kept_fixed, writable_same}
@@ -33,7 +32,7 @@ use Rattle.nor_save.specs.Opening.{status_read}
 use Rattle.nor_save.specs.Saving.{IsOpening, OpeningAccepts, ScanAccepts, SomeHeld, NeedsCode, NeedsStatus, is_held}
 use Rattle.nor_session.specs.Changing.{ChangeTells}
 use Rattle.nor_session.specs.Session.{HonestTells, SessionTells}
-use Rattle.nor_session.proofs.Ready.{Ready, changes_of, code_opened, lifts_none, ran_out_ready}
+use Rattle.nor_session.proofs.Ready.{Ready, changes_of, code_opened, lifts_none, ran_out_ready, scanned_few}
 use Rattle.nor_session.proofs.ReadyChip.{ran_out_sized}
 
 -- All that is known of a chip whose touched sectors are saved, where it is what it shows itself to be.
@@ -132,7 +131,7 @@ scheme_needed (WpRange start len) unlock code touched chip scheme need = scheme 
 scheme_needed Write unlock code touched chip scheme need = scheme_held touched chip need.1
 scheme_needed Erase unlock code touched chip scheme need = scheme_held touched chip need.1
 
-not_locked : (chip : Chip) → (is_locked chip ≡ true → ⊥) → is_locked chip ≡ false
+pub not_locked : (chip : Chip) → (is_locked chip ≡ true → ⊥) → is_locked chip ≡ false
 not_locked chip open_to = elim (cases_Bool (is_locked chip)) [
   | inl locked ↦ absurd (open_to locked)
   | inr free ↦ free
@@ -215,11 +214,15 @@ can_apply request image image' opening status code kept old mid is of =
 
 -- ---- what a refusal tells
 
-pub change_gives_up : (changes : Changes) (aim : ℕ → ℕ) (old mid new : BusState) (refusal : Refusal) → mid.honest ≡ true → ChangeTells changes aim mid new refusal → HonestTells old new refusal
-change_gives_up changes aim old mid new Stopped honest tells = (tells honest).none_left
-change_gives_up changes aim old mid new (Timeout address) honest tells = tells honest
-change_gives_up changes aim old mid new (Mismatch address) honest tells = λ judged. let past : 14 ≤ 11 = judged in absurd (omega arith)
-change_gives_up changes aim old mid new _ honest tells = absurd tells
+pub change_gives_up : (request : Request) (opening : Opening) (status : Status) (code : ℕ) (kept : Kept) (aim : ℕ → ℕ) (old mid new : BusState) (refusal : Refusal) → old.honest ≡ true
+    → Ready request opening status code kept old mid → ChangeTells (changes_of opening kept status code) aim mid new refusal → HonestTells old new refusal
+change_gives_up request opening status code kept aim old mid new Stopped honest is tells =
+    let ran = ran_out_ready request opening status code kept old mid new honest is (tells (is.looked.honest ∙ honest)) in
+    let below = ran.below in let few = scanned_few request opening.found.size is.part.at_most in
+    record { none_left = ran.none_left; below = omega arith }
+change_gives_up request opening status code kept aim old mid new (Timeout address) honest is tells = tells (is.looked.honest ∙ honest)
+change_gives_up request opening status code kept aim old mid new (Mismatch address) honest is tells = λ judged. let past : 14 ≤ 11 = judged in absurd (omega arith)
+change_gives_up request opening status code kept aim old mid new _ honest is tells = absurd tells
 
 pub change_tells : (request : Request) (image image' : List ℕ) (opening : Opening) (status : Status) (code : ℕ) (kept : Kept) (old mid new : BusState) (vault vault' : VaultState) (refusal : Refusal)
     → Ready request opening status code kept old mid → ReadyChip request image image' opening code kept old mid

@@ -2,7 +2,7 @@
 use Rattle.std.proofs.Common.{◌≡◌, ◌<◌, ◌+◌, ◌*◌, ◌/◌, ◌%◌, ◌&&◌, ◌∙◌, ℕ, Bool, true, false, List, length, ap, sym, refl, subst, arith, true≢false, inl, inr}
 use mathlib.Core.Path.{fun_ext}
 use Rattle.std.specs.Prelude.{if◌then◌else◌, not, ◌||◌, nat_lt, slice_index}
-use Rattle.std.proofs.lemmas.Bool.{cases_Bool, cases_eq, ne_eqb, cases_lt, le-ltb, lt-ltb}
+use Rattle.std.proofs.lemmas.Bool.{cases_Bool, cases_eq, ne_eqb, cases_lt, le-ltb, lt-ltb, ltb-true, and_parts}
 use Rattle.nor_chip.specs.declared.config.Config.{Config}
 use Rattle.nor_chip.specs.declared.status.Status.{Status}
 use Rattle.nor_chip.specs.Chip.{Chip, is_locked}
@@ -17,7 +17,7 @@ use Rattle.nor_plan.specs.Planned.{fewest_erases}
 use Rattle.nor_probe.specs.declared.sfdp.Kinds.{Kinds}
 use Rattle.nor_apply.specs.declared.changes.Work.{Work}
 use Rattle.nor_apply.specs.Counts.{sector_count}
-use Rattle.nor_apply.specs.Content.{is_other, is_touched, is_page_other, is_programmed, once_erased}
+use Rattle.nor_apply.specs.Content.{is_other, is_touched, is_raised, is_page_other, is_programmed, once_erased}
 use Rattle.nor_apply.specs.Within.{IsWithin, places_of}
 use Rattle.nor_apply.specs.Change.{MayChange}
 use Rattle.nor_apply.specs.Applying.{HasApplied, writes_code}
@@ -35,10 +35,11 @@ use Rattle.nor_save.proofs.Planned.{wanted-kept}
 use Rattle.nor_session.specs.Modelled.{IsModelled, kinds_of}
 use Rattle.nor_session.specs.Changing.{LeavesChange, DoesChange}
 use Rattle.nor_session.specs.Session.{wanted_of, erased_of, IsWithinBound, IsDone, NeedsNoStatus, CanBeUndone}
-use Rattle.nor_session.proofs.Changed.{no_write}
+use Rattle.nor_session.proofs.Changed.{no_write, fewest_at}
 use Rattle.nor_session.proofs.Ready.{Ready, changes_of, bounded_by}
 use Rattle.nor_session.proofs.ReadyChip.{is_opening, told_idle, shows, named}
 use Rattle.nor_session.proofs.SessionChanges.{ReadyChip, can_apply, needs}
+use Rattle.nor_session.proofs.OneVerdict.{free_or_lifts, locked_code}
 
 pub ready_chip : (request : Request) (image image' : List ℕ) (opening : Opening) (status : Status) (code : ℕ) (kept : Kept) (old mid new : BusState) (vault : VaultState) → IsModelled old
     → Looks 65542 old mid → Opens request.named old mid opening → Ready request opening status code kept old new
@@ -106,7 +107,14 @@ can_be_undone request image image' opening status code kept old mid ready new va
     let opened = is_opening request opening old mid modelled opens in
     let chip = keeps.chip old.chip opened (shows request opening old mid modelled looks opens) in
     record {
-      accepted = record { named = named request opening old mid modelled opens; code = code; opening = of.accepts; unlock = kept.unlock; scan = of.scan };
+      accepted = record {
+        named = named request opening old mid modelled opens;
+        code = code;
+        opening = of.accepts;
+        free = free_or_lifts request code (is_touched_by request image old.chip) old.chip kept.unlock of.scan
+            (λ lifted. needs request image image' opening status code kept old ready is of (ap (λ (b : Bool). b || writes_code (changes_of opening kept status code)) lifted));
+        same_code = locked_code request.what request.unlock code (is_touched_by request image old.chip) old.chip of.accepts.is_wanted of.scan.not_locked;
+      };
       journal = chip.journal;
       free = free_locked request image image' opening status code kept old ready is of;
       changes = may_change_wanted request image image' opening status code kept old ready new is of
@@ -197,6 +205,11 @@ programs_done request image image' opening code kept old mid of =
     ∙ ap (λ (content : ℕ → ℕ). count_below 65536 (is_programmed (is_touched_by request image old.chip) (once_erased (is_raised_by request image old.chip) content) (wanted_of request image old.chip)))
     (fun_ext of.rested.unchanged.same.bytes)
 
+-- a raised sector lies inside the chip
+raised_inside : (request : Request) (image : List ℕ) (chip : Chip) (s : ℕ) → is_raised_by request image chip s ≡ true → s < chip.config.size / 4096
+raised_inside request image chip s raised =
+    ltb-true s (chip.config.size / 4096) (and_parts (nat_lt s (chip.config.size / 4096)) (is_raised chip.bytes (wanted_of request image chip) s) raised).0
+
 pub done : (request : Request) (image image' : List ℕ) (opening : Opening) (status : Status) (code : ℕ) (kept : Kept) (old mid new : BusState) (verify : Bool) (work : Work) (sent : ℕ) → Ready request opening status code kept old mid
     → ReadyChip request image image' opening code kept old mid → DoesChange (changes_of opening kept status code) (λ a. slice_index image' a) verify mid new work
     → IsDone request image old new (record { found = opening.found; touched = kept.scanned.count; erases = work.erases; programs = work.programs; transactions = opening.transactions + sent + work.transactions })
@@ -215,17 +228,22 @@ done request image image' opening status code kept old mid new verify work sent 
         has_code = applied.has_code;
       };
       idle = applied.idle;
+      latch = λ set. of.rested.latch (applied.latch set);
       worn = λ s. applied.worn s ∙ ap (λ (b : Bool). b || has kept.scanned.raised s) (of.rested.unchanged.worn s) ∙ ap (λ (b : Bool). old.worn s || b) (of.raised s);
       found = of.is.config;
       shown = of.shown;
       status1 = of.is.one;
       told = of.told;
       touched = is.marks.count ∙ ap sector_count (fun_ext of.touched);
-      erases = does.erases
+      erases = fewest_at old.chip.config (is_raised_by request image old.chip) work.erases (raised_inside request image old.chip) (does.erases
           ∙ ap (λ (kinds : Kinds). fewest_erases kinds (opening.found.size / 4096) (has kept.scanned.raised)) (kinds_same opening.found.kinds old.chip.config of.is.config.k32 of.is.config.k64)
           ∙ ap (λ (n : ℕ). fewest_erases (kinds_of old.chip.config) (n / 4096) (has kept.scanned.raised)) of.is.config.size
-          ∙ ap (λ (set : ℕ → Bool). fewest_erases (kinds_of old.chip.config) (old.chip.config.size / 4096) set) (fun_ext of.raised);
+          ∙ ap (λ (set : ℕ → Bool). fewest_erases (kinds_of old.chip.config) (old.chip.config.size / 4096) set) (fun_ext of.raised));
       programs = does.programs honest can ∙ programs_done request image image' opening code kept old mid of;
+      still = λ none never.
+          let writes = no_write (changes_of opening kept status code) (λ needed. never code of.accepts.is_wanted (needs request image image' opening status code kept old mid is of needed)) in
+          let count = is.marks.count in
+          does.still (omega arith) ∙ is.looked.stirred;
     }
 
 -- where the request needs no status write, there is none

@@ -29,12 +29,13 @@ read_back changes verify = if verify then touched_count changes else 0
 
 -- ---- the check alone, once all is written
 
--- At the end: so many sectors were read, which the work counts now, nothing changed, and each byte that was read is the
--- wanted one.
+-- At the end: so many sectors were read, which the work counts now, nothing changed or was sent that could, and each byte
+-- that was read is the wanted one.
 pub record DoesCheck (changes : Changes) (wanted : ℕ → ℕ) (verify : Bool) (written : Work) (old new : BusState) (work : Work) : Type 0 where
   pub erases : work.erases ≡ written.erases
   pub programs : work.programs ≡ written.programs
   pub transactions : work.transactions ≡ written.transactions + read_back changes verify
+  pub still : new.stirred ≡ old.stirred
   pub sent : old.honest ≡ true → old.left ≡ new.left + read_back changes verify
   pub rested : old.honest ≡ true → Rested old new
   pub same : verify ≡ true → old.honest ≡ true → CanCheck (touched_in changes) old.chip
@@ -54,7 +55,7 @@ pub record LeavesChange (changes : Changes) (wanted : ℕ → ℕ) (old new : Bu
   pub spends : Spends (most_changed changes) old new
   pub reached : old.honest ≡ true → CanApply changes wanted old.chip → MayChange (touched_in changes) (raised_in changes) wanted old new
 
--- At the end, with what the work came to.
+-- At the end, with what the work came to; where there is nothing to change, nothing changing was sent.
 pub record DoesChange (changes : Changes) (wanted : ℕ → ℕ) (verify : Bool) (old new : BusState) (work : Work) : Type 0 where
   pub erases : work.erases ≡ fewest_erases changes.kinds (changes.size / 4096) (raised_in changes)
   pub fewer_erases : work.erases ≤ touched_count changes
@@ -63,6 +64,7 @@ pub record DoesChange (changes : Changes) (wanted : ℕ → ℕ) (verify : Bool)
       ≤ touched_count changes + read_back changes verify + 65538 * (work.erases + work.programs + status_writes changes)
   pub least : 3 * (work.erases + work.programs + status_writes changes) + read_back changes verify ≤ work.transactions
   pub sent : old.honest ≡ true → old.left ≡ new.left + work.transactions
+  pub still : touched_count changes + status_writes changes ≡ 0 → new.stirred ≡ old.stirred
   pub done : old.honest ≡ true → CanApply changes wanted old.chip → HasApplied changes wanted old new
   pub programs : old.honest ≡ true → CanApply changes wanted old.chip
       → work.programs ≡ count_below 65536 (is_programmed (touched_in changes) (once_erased (raised_in changes) old.chip.bytes) wanted)

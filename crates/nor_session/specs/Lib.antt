@@ -4,6 +4,8 @@ pub mod Changing
 pub mod Session
 pub mod Answering
 pub mod Restore
+pub mod WrittenOver
 pub mod Preparing
+pub mod Following
 pub mod Rehearsal
 pub mod Rehearsing

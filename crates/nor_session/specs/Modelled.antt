@@ -1,7 +1,7 @@
 -- The buses that promises of bytes are made for, and how many transactions a call may send.
 use Rattle.std.specs.Prelude.{◌+◌, ◌*◌, ◌/◌, ℕ, Bool}
 use Rattle.nor_chip.specs.declared.config.Config.{Config}
-use Rattle.nor_plan.specs.Planned.{fewest_erases}
+use Rattle.nor_plan.specs.Planned.{IsLeastLength}
 use Rattle.nor_probe.specs.declared.sfdp.Kinds.{Kinds}
 pub use Rattle.nor_probe.specs.Known.{IsModelled}
 
@@ -9,9 +9,9 @@ pub use Rattle.nor_probe.specs.Known.{IsModelled}
 abbrev pub kinds_of : Config → Kinds
 kinds_of config = record { k32 = config.k32; k64 = config.k64 }
 
--- the least length of a list of erases that makes just these sectors of the chip FFh
-abbrev pub fewest_erases_of : Config → (ℕ → Bool) → ℕ
-fewest_erases_of config = fewest_erases (kinds_of config) (config.size / 4096)
+-- so many erases are the fewest: some list of them makes just these sectors of the chip FFh, and no shorter one does
+abbrev pub AreFewestErases : Config → (ℕ → Bool) → ℕ → Type 0
+AreFewestErases config = IsLeastLength (kinds_of config) (config.size / 4096)
 
 -- the most transactions of an opening, and of a scan of so many sectors
 abbrev pub most_looked : ℕ → ℕ

@@ -1,5 +1,5 @@
 -- What a rehearsal promises.
-use Rattle.std.specs.Prelude.{◌≡◌, ◌≤◌, ◌<◌, ◌+◌, ◌-◌, ◌*◌, ◌/◌, max, ℕ, Bool, true, false, List, [], ◌∷◌, Result, IfOk, IfErr, OnErr, drop, length, slice_index}
+use Rattle.std.specs.Prelude.{◌≡◌, ◌≤◌, ◌<◌, ◌+◌, ◌-◌, ◌*◌, ◌/◌, ◌⊎◌, max, ℕ, Bool, true, false, List, [], ◌∷◌, Result, IfOk, IfErr, OnErr, drop, length, slice_index}
 use Rattle.nor_chip.specs.Chip.{Chip, IsSame}
 use Rattle.nor_chip.specs.Bus.{BusState}
 use Rattle.nor_driver.specs.Looks.{IsCalm}
@@ -8,13 +8,14 @@ use Rattle.nor_journal.specs.Saved.{JournalSaves}
 use Rattle.nor_apply.specs.Counts.{sector_count}
 use Rattle.nor_save.specs.declared.report.Request.{Request}
 use Rattle.nor_save.specs.declared.refusal.Refusal.{Refusal}
-use Rattle.nor_save.specs.declared.refusal.Refusal.TheVariants.{Vault}
+use Rattle.nor_save.specs.declared.refusal.Refusal.TheVariants.{Vault, Stopped, Timeout}
 use Rattle.nor_save.specs.Request.{scanned_sectors, is_touched_by, is_raised_by}
 use Rattle.nor_save.specs.Saving.{head_of}
 use Rattle.nor_session.specs.declared.rehearsals.Rehearsal.{Rehearsal}
-use Rattle.nor_session.specs.Modelled.{IsModelled, most_looked, most_of, fewest_erases_of}
+use Rattle.nor_session.specs.Modelled.{IsModelled, most_looked, most_of, AreFewestErases}
 use Rattle.nor_session.specs.Verdict.{IsVerdict, IsAccepted}
-use Rattle.nor_session.specs.Session.{pages_of}
+use Rattle.nor_session.specs.Session.{Answers, pages_of}
+use Rattle.nor_session.specs.Restore.{IsRestoreRefusal}
 
 -- the transactions that the session is allowed: without a stop the most that a session takes on a chip of 16 MiB
 abbrev pub first_allowance : List ℕ → ℕ
@@ -35,17 +36,18 @@ pub record IsRehearsal (stops : ℕ) (vault : VaultState) (rehearsal : Rehearsal
   pub none : rehearsal.sealed ≡ false → rehearsal.restores ≡ 0
   pub whole : stops ≡ 0 → rehearsal.ended ≡ true
 
--- the transactions that a session needs at least: those of the opening and the scan, and three for each erase and each
--- program
-abbrev pub least_needed : Request → List ℕ → Chip → ℕ
-least_needed request image chip =
-    4 + scanned_sectors request chip.config.size
-    + 3 * (fewest_erases_of chip.config (is_raised_by request image chip) + pages_of request image chip)
+-- the transactions that a session of so many erases needs at least: those of the opening and the scan, and three for
+-- each erase and each program
+abbrev pub least_needed : Request → List ℕ → Chip → (erases : ℕ) → ℕ
+least_needed request image chip erases =
+    4 + scanned_sectors request chip.config.size + 3 * (erases + pages_of request image chip)
 
--- A session can end on the chip: it is accepted, and so many transactions may be enough.
+-- A session can end on the chip: it is accepted, and so many transactions may be enough, with the fewest erases.
 pub record CanEnd (request : Request) (image : List ℕ) (allowance : ℕ) (chip : Chip) : Type 0 where
   pub accepted : IsAccepted request image chip
-  pub enough : least_needed request image chip ≤ allowance
+  pub erases : ℕ
+  pub fewest : AreFewestErases chip.config (is_raised_by request image chip) erases
+  pub enough : least_needed request image chip erases ≤ allowance
 
 -- What the vault tells of the first allowance: where it was sealed that was enough for the shortest opening and the scan,
 -- and where it wasn't it was less than these may take.
@@ -73,9 +75,18 @@ pub record LeavesRefused (old new : BusState) (vault : VaultState) : Type 0 wher
   pub still : new.stirred ≡ old.stirred
   pub unsealed : vault.sealed ≡ false
 
--- on every bus the vault is blamed only where it failed
-abbrev pub BlamesVault : VaultState → VaultState → Refusal → Type 0
-BlamesVault old new refusal = refusal ≡ Vault → Rose old new
+-- on every bus a refusal is the session's, or once the vault is sealed that of a restore
+abbrev pub IsRehearsalRefusal : VaultState → VaultState → Refusal → Type 0
+IsRehearsalRefusal old new refusal = Answers old new refusal ⊎ ((new.sealed ≡ true) × IsRestoreRefusal refusal)
+
+-- on an honest one it isn't that the bus stopped, and not that the chip stayed busy
+abbrev pub IsNoHalt : Refusal → Type 0
+IsNoHalt Stopped = ⊥
+IsNoHalt (Timeout address) = ⊥
+IsNoHalt _ = Unit {0}
+
+abbrev pub NeverHalts : BusState → Result Rehearsal Refusal → Type 0
+NeverHalts old result = old.honest ≡ true → IfErr result IsNoHalt
 
 -- The answer is the verdict on the session, or the vault failed; never that the bus stopped.
 abbrev pub RehearsalTells : Request → List ℕ → Chip → VaultState → VaultState → Refusal → Type 0

@@ -12,14 +12,14 @@ use Rattle.nor_apply.specs.Counts.{sector_count}
 use Rattle.nor_apply.specs.Within.{IsWithin, places_of}
 use Rattle.nor_save.specs.declared.report.Request.{Request}
 use Rattle.nor_save.specs.declared.refusal.Refusal.{Refusal}
-use Rattle.nor_save.specs.declared.refusal.Refusal.TheVariants.{Vault}
 use Rattle.nor_save.specs.Request.{is_touched_by}
 use Rattle.nor_save.specs.Saving.{head_of}
+use Rattle.nor_save.specs.Keeping.{IsJournal, HoldsJournal}
 use Rattle.nor_session.specs.Modelled.{IsModelled, most_of}
 use Rattle.nor_session.specs.Verdict.{IsAccepted}
-use Rattle.nor_session.specs.Session.{wanted_of, HasWantedBits}
-use Rattle.nor_session.specs.Restore.{CanGiveBack}
-use Rattle.nor_session.specs.Rehearsal.{KeepsNature, CanEnd, SealFits, AreRestores, FitsLastStop, LeavesRefused, WearsTouched, BlamesVault, RehearsalTells}
+use Rattle.nor_session.specs.Session.{wanted_of, HasWantedBits, Answers}
+use Rattle.nor_session.specs.Restore.{IsRestoreRefusal, CanGiveBack}
+use Rattle.nor_session.specs.Rehearsal.{KeepsNature, CanEnd, SealFits, AreRestores, FitsLastStop, LeavesRefused, WearsTouched, IsNoHalt, RehearsalTells}
 
 -- ---- the session
 
@@ -35,13 +35,14 @@ pub record LeadsBack (saved : ℕ → Bool) (first : Chip) (text : List ℕ) (st
   pub within : IsWithin (places_of saved) first state
 
 -- At every exit of the session: where its vault isn't sealed the chip is as it was, and else that leads back, and the
--- request is accepted; only touched sectors are worn.
+-- request is accepted; only touched sectors are worn. Whatever the bus, a sealed vault has a journal.
 pub record LeavesSession (request : Request) (image : List ℕ) (old new : BusState) (vault : VaultState) : Type 0 where
   pub nature : KeepsNature old new
   pub same : IsModelled old → IsCalm old → vault.sealed ≡ false → IsSame old.chip new.chip
   pub back : IsModelled old → vault.sealed ≡ true → LeadsBack (is_touched_by request image old.chip) old.chip vault.bytes new
   pub accepted : IsModelled old → vault.sealed ≡ true → IsAccepted request image old.chip
   pub wears : WearsTouched request image old new
+  pub holds : HoldsJournal vault
 
 -- It was allowed so many transactions, and ended, and the chip is the wanted one; or it was stopped, where none is left,
 -- since they were too few.
@@ -54,9 +55,10 @@ pub record ShowsSession (request : Request) (image : List ℕ) (allowance : ℕ)
   pub below : IsModelled old → ended ≡ false → allowance < most_of (old.chip.config.size / 4096)
   pub seal : IsModelled old → SealFits request allowance old.chip vault.sealed
 
--- It was refused: by the verdict, or by a vault that failed.
+-- It was refused as sessions are: by the verdict, or by a vault that failed; on an honest bus not by a stop.
 pub record RefusesSession (request : Request) (image : List ℕ) (old new : BusState) (before after : VaultState) (refusal : Refusal) : Type 0 where
-  pub blames : BlamesVault before after refusal
+  pub answers : Answers before after refusal
+  pub halts : old.honest ≡ true → IsNoHalt refusal
   pub tells : IsModelled old → RehearsalTells request image old.chip before after refusal
   pub leaves : IsModelled old → LeavesRefused old new after
 
@@ -76,7 +78,7 @@ pub record ShowsRestore (journal : Content) (allowance : ℕ) (old new : BusStat
   pub back : IsModelled old → ended ≡ true → (first : Chip) → CanGiveBack journal first old → IsSame first new.chip
   pub enough : IsModelled old → ended ≡ true → new.left + (4 + length journal.saved) ≤ allowance
   pub none_left : old.honest ≡ true → ended ≡ false → new.left ≡ 0
-  pub below : IsModelled old → ended ≡ false → allowance < most_of (length journal.saved)
+  pub below : old.honest ≡ true → ended ≡ false → allowance < most_of (length journal.saved)
 
 -- Restores in turn ended, and gave each such chip back.
 pub record ShowsRestores (journal : Content) (stops : List ℕ) (old new : BusState) (restores : ℕ) : Type 0 where
@@ -86,9 +88,11 @@ pub record ShowsRestores (journal : Content) (stops : List ℕ) (old new : BusSt
   pub last : IsModelled old → FitsLastStop (length journal.saved) stops new.left restores
   pub back : IsModelled old → (first : Chip) → CanGiveBack journal first old → IsSame first new.chip
 
--- A restore was refused: never one of a chip that the journal can give back, and never by the vault.
+-- A restore was refused as restores are: never one of a chip that the journal can give back, and on an honest bus not by
+-- a stop, since a journal has no more sectors than the largest chip.
 pub record StopsRestores (journal : Content) (old : BusState) (refusal : Refusal) : Type 0 where
-  pub blameless : refusal ≡ Vault → ⊥
+  pub answers : IsRestoreRefusal refusal
+  pub halts : length journal.saved ≤ 4096 → old.honest ≡ true → IsNoHalt refusal
   pub never : IsModelled old → (first : Chip) → CanGiveBack journal first old → ⊥
 
 -- ---- restores from a text
@@ -107,7 +111,9 @@ abbrev pub WearsSaved : List ℕ → BusState → BusState → Type 0
 WearsSaved text old new = IsModelled old → (saved : ℕ → Bool) (first : Chip) → LeadsBack saved first text old
     → (s : ℕ) → saved s ≡ false → new.worn s ≡ old.worn s
 
--- They were refused: never by a vault, and never where the text leads back.
+-- They were refused: where the text is a journal as restores are, on an honest bus not by a stop, and never where the
+-- text leads back.
 pub record RefusesUndo (text : List ℕ) (old : BusState) (refusal : Refusal) : Type 0 where
-  pub blameless : refusal ≡ Vault → ⊥
+  pub answers : IsJournal text → IsRestoreRefusal refusal
+  pub halts : old.honest ≡ true → IsNoHalt refusal
   pub never : IsModelled old → (saved : ℕ → Bool) (first : Chip) → LeadsBack saved first text old → ⊥

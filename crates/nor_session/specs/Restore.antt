@@ -20,7 +20,7 @@ use Rattle.nor_save.specs.declared.report.Report.{Report}
 use Rattle.nor_save.specs.declared.refusal.Refusal.{Refusal}
 use Rattle.nor_save.specs.declared.refusal.Refusal.TheVariants.{NoChip, UnknownChip, StatusLocked, Stopped, Timeout, Mismatch, OtherChip, OtherUnit, StatusDiffers}
 use Rattle.nor_save.specs.Saving.{SomeHeld}
-use Rattle.nor_session.specs.Modelled.{IsModelled, most_looked, most_of, fewest_erases_of}
+use Rattle.nor_session.specs.Modelled.{IsModelled, most_looked, most_of, AreFewestErases}
 use Rattle.nor_session.specs.Verdict.{IsNamed}
 use Rattle.nor_session.specs.Session.{IsWithinBound}
 
@@ -117,15 +117,15 @@ LooksUnlessBegun old new result =
 
 -- ---- on an honest bus
 
--- A stop comes only where no transaction is left, and no timeout; after a refusal that was judged first bytes and kept
--- bits are as they were.
-abbrev pub RestoreGivesUp : BusState → BusState → Refusal → Type 0
-RestoreGivesUp old new Stopped = new.left ≡ 0
-RestoreGivesUp old new (Timeout address) = ⊥
-RestoreGivesUp old new refusal = IsJudgedFirst refusal → IsSame old.chip new.chip
+-- A stop comes only where no transaction is left, and fewer were than such a restore may send, and no timeout; after a
+-- refusal that was judged first bytes and kept bits are as they were.
+abbrev pub RestoreGivesUp : Content → BusState → BusState → Refusal → Type 0
+RestoreGivesUp journal old new Stopped = RanOut (most_of (length journal.saved)) old new
+RestoreGivesUp journal old new (Timeout address) = ⊥
+RestoreGivesUp journal old new refusal = IsJudgedFirst refusal → IsSame old.chip new.chip
 
-abbrev pub StaysUnlessBegun : BusState → BusState → Result Report Refusal → Type 0
-StaysUnlessBegun old new result = old.honest ≡ true → IfErr result (RestoreGivesUp old new)
+abbrev pub StaysUnlessBegun : Content → BusState → BusState → Result Report Refusal → Type 0
+StaysUnlessBegun journal old new result = old.honest ≡ true → IfErr result (RestoreGivesUp journal old new)
 
 -- ---- on an honest bus whose chip is what it shows itself to be
 
@@ -150,7 +150,8 @@ abbrev pub pages_from : Content → Chip → ℕ
 pages_from journal chip = count_below 65536
     (is_programmed (is_touched_from journal chip) (once_erased (is_raised_from journal chip) chip.bytes) (restored journal chip.bytes))
 
--- At the end the chip is what the journal wants, and idle, and the report counts what was done.
+-- At the end the chip is what the journal wants, idle, and its latch set only where it was; the report counts what was
+-- done; and where nothing is to be changed, nothing changing was sent.
 pub record IsRestored (journal : Content) (old new : BusState) (report : Report) : Type 0 where
   pub accepted : IsRestorable journal old.chip
   pub config : new.chip.config ≡ old.chip.config
@@ -158,14 +159,16 @@ pub record IsRestored (journal : Content) (old new : BusState) (report : Report)
   pub fixed : KeepsFixed old.chip new.chip
   pub code : HasCode (code_told journal) new.chip
   pub idle : new.chip.busy ≡ 0
+  pub latch : new.chip.latch ≡ true → old.chip.latch ≡ true
   pub worn : (s : ℕ) → new.worn s ≡ (old.worn s || is_raised_from journal old.chip s)
   pub found : IsConfigOf old.chip.config report.found
   pub shown : shown_as old.chip.config ≡ Ok (part_in report.found)
   pub status1 : report.found.status1 / 4 ≡ old.chip.kept1
   pub told : old.chip.busy ≡ 0 → report.found.status1 ≡ status1_of old.chip
   pub touched : report.touched ≡ sector_count (is_touched_from journal old.chip)
-  pub erases : report.erases ≡ fewest_erases_of old.chip.config (is_raised_from journal old.chip)
+  pub erases : AreFewestErases old.chip.config (is_raised_from journal old.chip) report.erases
   pub programs : report.programs ≡ pages_from journal old.chip
+  pub still : report.touched ≡ 0 → (¬ NeedsStatusFrom journal old.chip) → new.stirred ≡ old.stirred
 
 abbrev pub Restores : Content → BusState → BusState → Result Report Refusal → Type 0
 Restores journal old new result = IsModelled old → IfOk result (IsRestored journal old new)

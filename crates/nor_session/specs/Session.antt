@@ -1,5 +1,5 @@
 -- What a session promises.
-use Rattle.std.specs.Prelude.{◌≡◌, ◌≤◌, ◌<◌, ◌+◌, ◌*◌, ◌/◌, ◌||◌, ℕ, Bool, true, false, List, Result, Ok, IfOk, IfErr, if◌then◌else◌}
+use Rattle.std.specs.Prelude.{◌≡◌, ◌≢◌, ◌≤◌, ◌<◌, ◌+◌, ◌*◌, ◌/◌, ◌||◌, ◌⊎◌, ℕ, Bool, true, false, List, [], Result, Ok, IfOk, IfErr, if◌then◌else◌}
 use Rattle.nor_chip.specs.Chip.{Chip, IsSame, is_locked, status1_of}
 use Rattle.nor_chip.specs.Guard.{is_unit_guarded}
 use Rattle.nor_chip.specs.Bus.{BusState}
@@ -23,7 +23,8 @@ use Rattle.nor_save.specs.declared.refusal.Refusal.TheVariants.{Vault, Stopped, 
 use Rattle.nor_save.specs.Refusal.{number_of}
 use Rattle.nor_save.specs.Request.{wanted, scanned_sectors, is_touched_by, is_raised_by, IsWantedCode}
 use Rattle.nor_save.specs.Saving.{head_of, NeedsStatus}
-use Rattle.nor_session.specs.Modelled.{IsModelled, most_looked, most_of, fewest_erases_of}
+use Rattle.nor_save.specs.Keeping.{BeginsJournal}
+use Rattle.nor_session.specs.Modelled.{IsModelled, most_looked, most_of, AreFewestErases}
 use Rattle.nor_session.specs.Verdict.{IsVerdict, IsAccepted}
 
 -- ---- on every bus
@@ -74,10 +75,10 @@ LooksUnsealed old new vault = vault.sealed ≡ false → Looks (most_looked 4096
 
 -- ---- on an honest bus
 
--- A stop comes only where no transaction is left, and no timeout; after a refusal from 1 to 11 bytes and kept bits are
--- as they were.
+-- A stop comes only where no transaction is left, and fewer were than any session may send, and no timeout; after a
+-- refusal from 1 to 11 bytes and kept bits are as they were.
 abbrev pub HonestTells : BusState → BusState → Refusal → Type 0
-HonestTells old new Stopped = new.left ≡ 0
+HonestTells old new Stopped = RanOut (most_of 4096) old new
 HonestTells old new (Timeout address) = ⊥
 HonestTells old new refusal = number_of refusal ≤ 11 → IsSame old.chip new.chip
 
@@ -113,6 +114,13 @@ abbrev pub SealsOnceScanned : Request → BusState → VaultState → Result Rep
 SealsOnceScanned request old vault result =
     IsModelled old → vault.sealed ≡ false → IfErr result (StopsEarly request old)
 
+-- after a refusal that isn't the vault's a telling vault that isn't sealed is empty, or has a beginning of the one journal
+-- that it would have had
+abbrev pub BeginsUnsealed : Request → List ℕ → BusState → VaultState → Result Report Refusal → Type 0
+BeginsUnsealed request image old vault result =
+    IsModelled old → vault.sealed ≡ false → vault.telling ≡ true → IfErr result (λ refusal. refusal ≢ Vault
+    → (vault.bytes ≡ []) ⊎ BeginsJournal (head_of old.chip) old.chip.bytes (is_touched_by request image old.chip) vault.bytes)
+
 -- The wanted kept bits: the fixed ones are as they were, and the code is the wanted one.
 pub record HasWantedBits (what : What) (old new : Chip) : Type 0 where
   pub fixed : KeepsFixed old new
@@ -133,29 +141,32 @@ abbrev pub pages_of : Request → List ℕ → Chip → ℕ
 pages_of request image chip = count_below 65536
     (is_programmed (is_touched_by request image chip) (erased_of request image chip) (wanted_of request image chip))
 
--- At the end the chip is the wanted one, and idle; only raised sectors were erased, by the fewest erases; and the
--- report tells the chip and counts what was done.
+-- the request needs no status write on the chip
+abbrev pub NeedsNoStatus : Request → List ℕ → Chip → Type 0
+NeedsNoStatus request image chip =
+    (code : ℕ) → IsWantedCode request.what chip code → ¬ NeedsStatus request code (is_touched_by request image chip) chip
+
+-- At the end the chip is the wanted one, idle, and its latch set only where it was; only raised sectors were erased, by
+-- the fewest erases; the report tells the chip and counts what was done; and where nothing is to be changed, nothing
+-- changing was sent.
 pub record IsDone (request : Request) (image : List ℕ) (old new : BusState) (report : Report) : Type 0 where
   pub config : new.chip.config ≡ old.chip.config
   pub bytes : (a : ℕ) → new.chip.bytes a ≡ wanted_of request image old.chip a
   pub bits : HasWantedBits request.what old.chip new.chip
   pub idle : new.chip.busy ≡ 0
+  pub latch : new.chip.latch ≡ true → old.chip.latch ≡ true
   pub worn : (s : ℕ) → new.worn s ≡ (old.worn s || is_raised_by request image old.chip s)
   pub found : IsConfigOf old.chip.config report.found
   pub shown : shown_as old.chip.config ≡ Ok (part_in report.found)
   pub status1 : report.found.status1 / 4 ≡ old.chip.kept1
   pub told : old.chip.busy ≡ 0 → report.found.status1 ≡ status1_of old.chip
   pub touched : report.touched ≡ sector_count (is_touched_by request image old.chip)
-  pub erases : report.erases ≡ fewest_erases_of old.chip.config (is_raised_by request image old.chip)
+  pub erases : AreFewestErases old.chip.config (is_raised_by request image old.chip) report.erases
   pub programs : report.programs ≡ pages_of request image old.chip
+  pub still : report.touched ≡ 0 → NeedsNoStatus request image old.chip → new.stirred ≡ old.stirred
 
 abbrev pub Finishes : Request → List ℕ → BusState → BusState → Result Report Refusal → Type 0
 Finishes request image old new result = IsModelled old → IfOk result (IsDone request image old new)
-
--- the request needs no status write on the chip
-abbrev pub NeedsNoStatus : Request → List ℕ → Chip → Type 0
-NeedsNoStatus request image chip =
-    (code : ℕ) → IsWantedCode request.what chip code → ¬ NeedsStatus request code (is_touched_by request image chip) chip
 
 -- where it needs none, the report has no room for one
 abbrev pub SparesStatus : Request → List ℕ → BusState → Result Report Refusal → Type 0

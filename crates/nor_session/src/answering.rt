@@ -3,9 +3,10 @@
 ghost use Rattle.std.specs.Prelude.{length, IfOk, IfErr};
 ghost use Rattle.nor_journal.specs.Vault.{IsFresh};
 ghost use Rattle.nor_apply.specs.Spending.{Spends};
+ghost use Rattle.nor_save.specs.Keeping.{HoldsJournal};
 ghost use Rattle.nor_session.specs.Modelled.{most_of};
 ghost use Rattle.nor_session.specs.Session.{LooksUnsealed, Answers, Ends, GivesUp, SentAsTold};
-ghost use Rattle.nor_session.specs.Session.{FallsBySize, Refuses, Finishes, SparesStatus, SealsOnceScanned, LeadsBackFrom};
+ghost use Rattle.nor_session.specs.Session.{FallsBySize, Refuses, Finishes, SparesStatus, SealsOnceScanned, BeginsUnsealed, LeadsBackFrom};
 ghost use Rattle.nor_session.specs.Answering.{IsJudged, SinceOpening};
 
 use crate::sources::Image;
@@ -35,6 +36,7 @@ impl<'a, B: Bus, V: Vault> Judged<'a, B, V> {
         ensures spends { SinceOpening self.entry.request.now.named self.entry.opening (B.state self.entry.bus.now)
             (λ first. Spends (most_of 4096) first (B.state self.exit.0.now)) }
         ensures answers { IfErr result (Answers (V.state self.entry.vault.now) (V.state self.exit.1.0.now)) }
+        ensures holds { HoldsJournal (V.state self.exit.1.0.now) }
         ensures ends { SinceOpening self.entry.request.now.named self.entry.opening (B.state self.entry.bus.now)
             (λ first. IfOk result (Ends self.entry.request.now (V.state self.exit.1.0.now))) }
         ensures gives_up { SinceOpening self.entry.request.now.named self.entry.opening (B.state self.entry.bus.now)
@@ -52,6 +54,8 @@ impl<'a, B: Bus, V: Vault> Judged<'a, B, V> {
             (λ first. SparesStatus self.entry.request.now self.entry.image.now first result) }
         ensures early { SinceOpening self.entry.request.now.named self.entry.opening (B.state self.entry.bus.now)
             (λ first. SealsOnceScanned self.entry.request.now first (V.state self.exit.1.0.now) result) }
+        ensures begins { SinceOpening self.entry.request.now.named self.entry.opening (B.state self.entry.bus.now)
+            (λ first. BeginsUnsealed self.entry.request.now self.entry.image.now first (V.state self.exit.1.0.now) result) }
         ensures undo { SinceOpening self.entry.request.now.named self.entry.opening (B.state self.entry.bus.now)
             (λ first. LeadsBackFrom self.entry.request.now self.entry.image.now first (B.state self.exit.0.now)
             (V.state self.exit.1.0.now)) }

@@ -5,7 +5,7 @@ ghost use Rattle.nor_journal.specs.MemVault.{held_by};
 ghost use Rattle.nor_session.specs.Modelled.{most_of};
 ghost use Rattle.nor_session.specs.Rehearsing.{LeavesSession, ShowsSession, RefusesSession, LeavesRestores, ShowsRestore, ShowsRestores};
 ghost use Rattle.nor_session.specs.Rehearsing.{Undoes, WearsSaved, StopsRestores, RefusesUndo};
-ghost use Rattle.nor_session.specs.Rehearsal.{KeepsNature, IsRehearsal, BlamesVault, first_allowance};
+ghost use Rattle.nor_session.specs.Rehearsal.{KeepsNature, IsRehearsal, IsRehearsalRefusal, NeverHalts, first_allowance};
 ghost use Rattle.nor_session.specs.Rehearsal.{GivesAllBack, WearsTouched, StaysRefused, RefusesRehearsal, SealsAccepted, SealsJournal};
 ghost use Rattle.nor_session.specs.Rehearsal.{EndsWhereAllowed, EndsWhereEnough, SealsAsAllowed, RestoresInTurn, KeepsLastStop};
 
@@ -45,7 +45,10 @@ pub fn rehearse<B: Meter>(
     // On every bus.
     ensures nature { KeepsNature (B.state bus.old) (B.state bus.new) }
     ensures counts { IfOk result (IsRehearsal (length stops.now) (held_by vault.new)) }
-    ensures blames { IfErr result (BlamesVault (held_by vault.old) (held_by vault.new)) }
+    ensures answers { IfErr result (IsRehearsalRefusal (held_by vault.old) (held_by vault.new)) }
+
+    // On an honest bus.
+    ensures halts { NeverHalts (B.state bus.old) result }
 
     // On an honest bus whose chip is what it shows itself to be.
     ensures gives_back { GivesAllBack (B.state bus.old) (B.state bus.new) }

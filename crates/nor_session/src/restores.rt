@@ -24,7 +24,7 @@ pub fn restore<B: Bus>(bus: &mut B, journal: &Journal<'_>) -> Result<Report, Ref
     ensures bounded { IfOk result (IsWithinBound (length journal.now.saved) 2 true) }
 
     // On an honest bus.
-    ensures gives_up { StaysUnlessBegun (B.state bus.old) (B.state bus.new) result }
+    ensures gives_up { StaysUnlessBegun journal.now (B.state bus.old) (B.state bus.new) result }
     ensures counted { SentAsTold (B.state bus.old) (B.state bus.new) result }
 
     // On an honest bus whose chip is what it shows itself to be.

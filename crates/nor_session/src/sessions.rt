@@ -5,10 +5,11 @@ ghost use Rattle.nor_journal.specs.Vault.{IsFresh};
 ghost use Rattle.nor_apply.specs.Spending.{Spends};
 ghost use Rattle.nor_save.specs.declared.report.Request.{Request};
 ghost use Rattle.nor_save.specs.declared.refusal.Refusal.{Refusal};
+ghost use Rattle.nor_save.specs.Keeping.{HoldsJournal};
 ghost use Rattle.nor_session.specs.Verdict.{IsVerdict, IsAccepted};
 ghost use Rattle.nor_session.specs.Modelled.{most_of};
 ghost use Rattle.nor_session.specs.Session.{LooksUnsealed, Answers, Ends, GivesUp, SentAsTold};
-ghost use Rattle.nor_session.specs.Session.{FallsBySize, Refuses, Finishes, SparesStatus, SealsOnceScanned, LeadsBackFrom};
+ghost use Rattle.nor_session.specs.Session.{FallsBySize, Refuses, Finishes, SparesStatus, SealsOnceScanned, BeginsUnsealed, LeadsBackFrom};
 
 use crate::answering::Judged;
 use nor_chip::Bus;
@@ -35,6 +36,7 @@ pub fn session<B: Bus, V: Vault>(
     ensures looks { LooksUnsealed (B.state bus.old) (B.state bus.new) (V.state vault.new) }
     ensures spends { Spends (most_of 4096) (B.state bus.old) (B.state bus.new) }
     ensures answers { IfErr result (Answers (V.state vault.old) (V.state vault.new)) }
+    ensures holds { HoldsJournal (V.state vault.new) }
     ensures ends { IfOk result (Ends request.now (V.state vault.new)) }
 
     // On an honest bus.
@@ -47,6 +49,7 @@ pub fn session<B: Bus, V: Vault>(
     ensures done { Finishes request.now image.old (B.state bus.old) (B.state bus.new) result }
     ensures spares { SparesStatus request.now image.old (B.state bus.old) result }
     ensures early { SealsOnceScanned request.now (B.state bus.old) (V.state vault.new) result }
+    ensures begins { BeginsUnsealed request.now image.old (B.state bus.old) (V.state vault.new) result }
     ensures undo { LeadsBackFrom request.now image.old (B.state bus.old) (B.state bus.new) (V.state vault.new) }
 {
     let opening = open(bus, request.named)?;

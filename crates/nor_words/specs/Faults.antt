@@ -1,5 +1,5 @@
--- The faults that options may have which `clap` takes.
-use Rattle.std.specs.Prelude.{◌&&◌, ◌||◌, Bool, false, Option, Some, None, List, [], ◌∷◌, is_some, nat_eq, nat_lt, not, if◌then◌else◌}
+-- The faults that words may have: those of options that `clap` takes, and the number and text of each.
+use Rattle.std.specs.Prelude.{◌&&◌, ◌||◌, ◌++◌, ℕ, Bool, false, Option, Some, None, List, [], ◌∷◌, codes, decimal, is_some, nat_eq, nat_lt, not, if◌then◌else◌}
 use Rattle.std.specs.Option.{option_map_or}
 use Rattle.nor_words.specs.Text.{Text, reads}
 use Rattle.nor_words.specs.Given.{Texts, how_many, is_change, is_new_content, operations, takes_regions}
@@ -48,3 +48,27 @@ usage_faults given =
 abbrev pub first_fault : List Case → Option UsageFault
 first_fault [] = None
 first_fault (case ∷ cases) = if case.0 then Some case.1 else first_fault cases
+
+-- ---- how they are told
+
+-- the number that a fault has in its message
+abbrev pub number_of : UsageFault → ℕ
+number_of (why.Words error) = 1
+number_of why.NoProgrammer = 2
+number_of why.Programmer = 3
+number_of why.TwoOperations = 4
+number_of why.Range = 5
+number_of why.Journal = 6
+number_of why.Layout = 7
+number_of why.Unneeded = 8
+number_of why.Stops = 9
+number_of why.Memory = 10
+
+-- the text of the fault of this number
+abbrev pub numbered : ℕ → List ℕ
+numbered number = codes "Usage fault " ++ (decimal number ++ codes ".")
+
+-- the text of a fault; before that of the first stands what `clap` says, of which nothing is known
+abbrev pub text_of : UsageFault → Option (List ℕ)
+text_of (why.Words error) = None
+text_of fault = Some (numbered (number_of fault))

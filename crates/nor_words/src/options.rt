@@ -8,34 +8,47 @@ use clap::{Arg, ArgAction, Command};
 use std::alloc::{AllocError, Global};
 
 // What stands above the options.
-const ABOUT: &str = "Programs SPI NOR flash, and can give back what it changed.";
+const ABOUT: &str = "flashnor 1.0: programs SPI NOR flash, and can give back what it changed.";
 
-// What stands below the options.
+// What stands below the options, at most 80 columns wide.
 const NOTES: &str = "\
-TEXT of -p is dummy: and then KEY=VALUE, separated by commas, each key at most once:
-  emulate=NAME  The chip, which must be named: W25Q64FV (8 MiB), W25Q128FV (16 MiB) or
-                TINY64 (64 KiB, known by its SFDP alone: its name for -c is SFDP)
+TEXT of -p is dummy: and then KEY=VALUE, between commas, each key at most once:
+  emulate=NAME  W25Q64FV (8 MiB), W25Q128FV (16 MiB) or TINY64 (64 KiB, known by
+                its SFDP alone: its name for -c is SFDP)
   image=FILE    The file of its bytes; without one the chip is erased
   status=FILE   The file of its two status bytes; without one both are 00
   stop=N        Stop after N transactions; not with --rehearse
   trace=FILE    Write a line for each transaction into this file
   unique=HEX    Its own number, 16 hexadecimal digits; without it all are 0
-  busy=N        How many polls answer BUSY after each operation, 0 to 65535; without it 0
-  power=HH      Each stop is a loss of power, and fills what was being written with this byte
+  busy=N        How many polls answer BUSY after each operation, 0 to 65535
+  power=HH      Each stop is a loss of power: what is being written becomes HH
 
-A journal holds the old content and status of all that a change touches, and --restore needs it.
+A journal holds the old content and status of all that a change touches, and
+--restore needs it.
 
-A rehearsal changes no file but the trace. The first number of --rehearse stops the change after so
-many transactions, the second stops the restore that follows, the third the next restore, and so on.
-A last restore isn't stopped, and then the chip is as it was before.
+A rehearsal changes no file but the trace. The first number of --rehearse stops
+the change after so many transactions, the second the restore that follows, the
+third the next restore, and so on. A last restore isn't stopped, and then the
+chip is as it was before.
 
-Examples:
-  Write an image, and keep a journal:
-    flashnor -p dummy:emulate=W25Q64FV,image=chip.bin -w new.bin --journal chip.journal
-  After a stop, or whenever the old content is wanted again, give it back:
-    flashnor -p dummy:emulate=W25Q64FV,image=chip.bin --restore chip.journal
-  Rehearse that, stopped after 2060 transactions, and its restore, stopped after 9:
-    flashnor -p dummy:emulate=W25Q64FV,image=chip.bin -w new.bin --rehearse 2060,9";
+Examples: write an image and keep a journal; give the old content back; rehearse
+that, stopped after 2060 transactions, and its restore, stopped after 9:
+  flashnor -p dummy:emulate=W25Q64FV,image=chip.bin -w new.bin --journal j
+  flashnor -p dummy:emulate=W25Q64FV,image=chip.bin --restore j
+  flashnor -p dummy:emulate=W25Q64FV,image=chip.bin -w new.bin --rehearse 2060,9
+
+Usage fault 1: the words aren't options, or one lacks its value
+Usage fault 2: there is no -p, which all but -L need
+Usage fault 3: the text of -p isn't dummy: with known keys, emulate= among them
+Usage fault 4: there is more than one operation
+Usage fault 5: --wp-range needs two numbers, decimal or 0x..
+Usage fault 6: -w, -E, --wp-range need exactly one of --journal, --rehearse
+Usage fault 7: -l and -i need each other, and one of -r, -w, -v, -E
+Usage fault 8: -n and --unlock need -w or -E
+Usage fault 9: --rehearse needs 1 to 64 numbers, and no stop= beside it
+Usage fault 10: out of memory
+
+The manual page, flashnor(8), says what each fault asks for.";
 
 /// The command that reads the words after the program's name.
 pub fn make_options<'a>(alloc: Global) -> Result<Command<'a>, AllocError>
@@ -64,7 +77,7 @@ fn add_chip<'a>(alloc: Global, command: Command<'a>) -> Result<Command<'a>, Allo
             'p',
             "programmer",
             "TEXT",
-            "The programmer and its chip, see below; all but -L need it",
+            "The programmer and its chip, see below",
         ))?
         .arg(short_value(alloc, 'c', "chip", "NAME", "The chip must have this name"))?
         .arg(short_flag(alloc, 'L', "list", "List the chips that are known"))?;
@@ -80,7 +93,7 @@ fn add_readers<'a>(alloc: Global, command: Command<'a>) -> Result<Command<'a>, A
         .arg(long_flag(
             alloc,
             "wp-status",
-            "Print which range is protected, and whether that is locked",
+            "Print the protected range, and whether it is locked",
         ))?
         .arg(long_flag(alloc, "wp-list", "List the ranges that can be protected"))?
         .arg(short_value(alloc, 'r', "read", "FILE", "Read the chip into the file"))?
@@ -105,7 +118,7 @@ fn add_changes<'a>(alloc: Global, command: Command<'a>) -> Result<Command<'a>, A
             alloc,
             "wp-range",
             "S,L",
-            "Protect L bytes from S on and no others; decimal, or 0x..",
+            "Protect L bytes from S on, no others; decimal or 0x..",
         ))?
         .arg(long_value(alloc, "restore", "FILE", "Give back what a journal holds"))?;
     Ok(longer)
@@ -120,7 +133,7 @@ fn add_manners<'a>(alloc: Global, command: Command<'a>) -> Result<Command<'a>, A
             alloc,
             "journal",
             "FILE",
-            "Keep the journal in this new file; with -w, -E or --wp-range",
+            "A new file for the journal; with -w, -E, --wp-range",
         ))?
         .arg(long_value(
             alloc,
@@ -133,7 +146,7 @@ fn add_manners<'a>(alloc: Global, command: Command<'a>) -> Result<Command<'a>, A
             'l',
             "layout",
             "FILE",
-            "The layout of regions; with -i, and with -r, -w, -v or -E",
+            "The layout of regions; with -i, and -r, -w, -v or -E",
         ))?
         .arg(short_value(
             alloc,

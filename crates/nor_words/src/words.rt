@@ -8,6 +8,7 @@ use crate::options::make_options;
 use clap::Error as WordsError;
 use clap::error::ErrorKind;
 use std::alloc::{AllocError, Global};
+use std::fmt;
 use thiserror::Error;
 
 /// Why the words are no job. Each has the number that its message shows, and they are tested in this order, all but
@@ -15,35 +16,61 @@ use thiserror::Error;
 #[derive(Debug, Drop, Error)]
 pub enum UsageFault {
     /// 1: `clap` refuses the words, and says why. It answers a request for help so too.
-    #[error("{0}Usage fault 1.")]
     Words(WordsError),
     /// 2: there is no `-p`, which all but `-L` need.
-    #[error("Usage fault 2.")]
     NoProgrammer,
     /// 3: the text of `-p` is no programmer's.
-    #[error("Usage fault 3.")]
     Programmer,
     /// 4: there is more than one operation.
-    #[error("Usage fault 4.")]
     TwoOperations,
     /// 5: the text of `--wp-range` is no range.
-    #[error("Usage fault 5.")]
     Range,
     /// 6: a change of the chip has not exactly one of `--journal` and `--rehearse`, or what is no change has one.
-    #[error("Usage fault 6.")]
     Journal,
     /// 7: one of `-l` and `-i` is there without the other, or with an operation that has no regions.
-    #[error("Usage fault 7.")]
     Layout,
     /// 8: `-n` or `--unlock` is there, and neither `-w` nor `-E`.
-    #[error("Usage fault 8.")]
     Unneeded,
     /// 9: the text of `--rehearse` isn't 1 to 64 numbers, or the programmer has a `stop=` beside it.
-    #[error("Usage fault 9.")]
     Stops,
     /// 10: memory ran out, which may come at any time.
-    #[error("Usage fault 10.")]
     Memory,
+}
+
+impl UsageFault {
+    ghost use Rattle.nor_words.specs.Faults.{number_of};
+
+    /// The number that its message shows.
+    pub fn number(&self) -> u8
+        ensures { result ≡ number_of self.now }
+    {
+        match self {
+            UsageFault::Words(_) => 1,
+            UsageFault::NoProgrammer => 2,
+            UsageFault::Programmer => 3,
+            UsageFault::TwoOperations => 4,
+            UsageFault::Range => 5,
+            UsageFault::Journal => 6,
+            UsageFault::Layout => 7,
+            UsageFault::Unneeded => 8,
+            UsageFault::Stops => 9,
+            UsageFault::Memory => 10,
+        }
+    }
+}
+
+// Written out, since a text that is derived has no contract.
+impl fmt::Display for UsageFault {
+    ghost use Rattle.nor_words.specs.Faults.{text_of};
+
+    ghost output = { text_of };
+
+    fn fmt<W: fmt::Write>(&self, f: &mut fmt::Formatter<W>) -> fmt::Result {
+        if let UsageFault::Words(why) = self {
+            write!(f, "{why}")?;
+        }
+        write!(f, "Usage fault {}.", self.number())
+    }
 }
 
 impl From<AllocError> for UsageFault {

@@ -24,6 +24,12 @@ pub enum Flaw {
     Room(usize),
     /// It can't be synced.
     Sync,
+    /// It is of a kind that isn't for syncing.
+    Unsynced,
+    /// Its length can't be told.
+    Length,
+    /// It can't be cut.
+    Cut,
     /// A read or a write moves one byte.
     Slow,
 }
@@ -110,17 +116,37 @@ impl Kept {
         };
         let taken = piece.len();
         let (over, behind) = piece.split_at(taken.min(bytes.len().saturating_sub(at)));
-        for (byte, place) in over.iter().zip(bytes.iter_mut().skip(at)) {
-            *place = *byte;
+        if at < bytes.len() {
+            for (byte, place) in over.iter().zip(bytes[at..].iter_mut()) {
+                *place = *byte;
+            }
         }
         bytes.extend_from_slice(behind)?;
         self.synced = false;
         Ok(taken)
     }
 
+    // How long it is.
+    fn len(&self) -> io::Result<usize> {
+        match &self.bytes {
+            Some(bytes) if self.flaw != Some(Flaw::Length) => Ok(bytes.len()),
+            _ => Err(failed()),
+        }
+    }
+
+    // Cuts it, or fills it up with zeros, to this length.
+    fn set_len(&mut self, len: usize) -> io::Result<()> {
+        match &mut self.bytes {
+            Some(bytes) if self.flaw != Some(Flaw::Cut) => Ok(bytes.resize(len, 0)?),
+            _ => Err(failed()),
+        }
+    }
+
     fn sync(&mut self) -> io::Result<()> {
-        if self.flaw == Some(Flaw::Sync) {
-            return Err(failed());
+        match self.flaw {
+            Some(Flaw::Sync) => return Err(failed()),
+            Some(Flaw::Unsynced) => return Err(io::Error::from(ErrorKind::InvalidInput)),
+            _ => {}
         }
         self.synced = true;
         Ok(())
@@ -199,11 +225,19 @@ impl Seek for Opened {
 
 impl OpenFile for Opened {
     fn metadata(&self) -> io::Result<Metadata> {
-        Err(failed())
+        let len = self.kept.try_borrow().map_err(|_| failed())?.len()?;
+        Ok(Metadata::of_file(len as u64))
     }
 
-    fn set_len(&self, _size: u64) -> io::Result<()> {
-        Err(failed())
+    fn set_len(&self, size: u64) -> io::Result<()> {
+        if !self.writes {
+            return Err(failed());
+        }
+        let len = usize::try_from(size).map_err(|_| failed())?;
+        self.kept
+            .try_borrow_mut()
+            .map_err(|_| failed())?
+            .set_len(len)
     }
 
     fn sync_all(&self) -> io::Result<()> {

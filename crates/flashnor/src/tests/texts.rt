@@ -1,6 +1,7 @@
 //! The lines that tell of faults, also of those that no run over an emulated chip comes to.
 
-use crate::messages::{Fault, print_fault};
+use crate::messages::Fault;
+use crate::printing::print_fault;
 use nor_journal::JournalFault;
 use nor_layout::LayoutFault;
 use nor_probe::SfdpFault;
@@ -81,9 +82,11 @@ const REFUSALS: [(Refusal, &str); 20] = [
 fn each_refusal_has_a_line(rt: HostRuntime) -> Result<(), Fail> {
     for (refusal, told) in REFUSALS {
         let mut errors = Vec::new(rt.alloc());
-        let status = print_fault(&mut errors, Fault::from(refusal));
+        assert!(rt;
+            print_fault(&mut errors, &Fault::from(refusal)),
+            "at {told}"
+        );
         assert_eq!(rt; errors.as_slice(), told.as_bytes(), "at {told}");
-        assert_eq!(rt; status, 1, "at {told}");
     }
     Ok(())
 }
@@ -97,9 +100,8 @@ fn want_of_memory_has_a_line(rt: HostRuntime) -> Result<(), Fail> {
         (Fault::from(LayoutFault::Memory), "Layout fault 7.\n"),
     ] {
         let mut errors = Vec::new(rt.alloc());
-        let status = print_fault(&mut errors, fault);
+        assert!(rt; print_fault(&mut errors, &fault), "at {told}");
         assert_eq!(rt; errors.as_slice(), told.as_bytes(), "at {told}");
-        assert_eq!(rt; status, 1, "at {told}");
     }
     Ok(())
 }

@@ -6,6 +6,7 @@ use Rattle.nor_save.specs.Scanning.{never}
 use Rattle.nor_apply.proofs.Counting.{at_most_one}
 use Rattle.nor_save.proofs.Rests.{tells_stop}
 use Rattle.nor_save.proofs.Scans.{nothing_scanned, skipped, scanned_more, IsAt, is_at, looks_on, runs_out_at, all_scanned, HasScanned, none_to_scan}
+use Rattle.nor_save.proofs.Begun.{begun_later, begun_more, kept_below, unless_any, unless_refused, unless_any_err, unless_refused_err}
 use Rattle.nor_save.proofs.Parts.{cut_out, part_long, put_back, kept_later, kept_same, marked_more, marked_none, read_before}
 use Rattle.nor_save.proofs.scanning.scan_all.Goals as goal
 use Rattle.nor_save.proofs.scanning.scan_all.Goals.{then-is_data, else-is_data, then-includes_in_sector+in_ok-plan, then-plan+in_ok-add, else-plan, else-includes_in_sector}
@@ -23,6 +24,7 @@ loop-sector-init g c = record {
   scanned = nothing_scanned c.args.request.now c.args.size c.args.image.now (g.B.Bus.state c.args.bus.now) c.none-scanned.result c.none-scanned.ensures;
   kept = λ is_open head size kept.
       kept_same g.V.Vault.state c.args.writer.now head (g.B.Bus.state c.args.bus.now).chip.bytes never (has c.none-scanned.result.touched) 0 c.none-scanned.ensures.touched kept;
+  begun = λ begun. begun;
 }
 
 pub loop-sector-preserved : goal.loop-sector-preserved
@@ -84,6 +86,11 @@ loop-sector-preserved g c =
                   (kept_same g.V.Vault.state c.loop-sector.writer head old.chip.bytes (has c.loop-sector.scanned.touched) (has next.touched) sector
                   (marked_none sector plan c.loop-sector.scanned next v.if-plan.false marked) (here.kept is_open head size kept)))
             ]);
+            begun = λ begun. rw w.writer-is (elim w.if-plan.branch [
+              | then-plan+in_ok-add v ↦ rw v.writer-is
+                  (begun_more g.V.Vault.state _ _ c.args.size sector _ (omega arith) v.in_ok-add.ensures.written (here.begun begun))
+              | else-plan v ↦ rw v.writer-is (begun_later g.V.Vault.state _ c.args.size sector (sector + 1) (omega arith) (here.begun begun))
+            ]);
           }
       | else-includes_in_sector w ↦ record {
         aims = here.aims;
@@ -97,6 +104,7 @@ loop-sector-preserved g c =
         kept = λ is_open head size kept. rw (w.writer-is, w.scanned-is)
             (kept_later g.V.Vault.state c.loop-sector.writer head (g.B.Bus.state c.args.bus.now).chip.bytes (has c.loop-sector.scanned.touched) c.loop-sector.sector (c.loop-sector.sector + 1) (omega arith)
             (here.kept is_open head size kept));
+        begun = λ begun. rw w.writer-is (begun_later g.V.Vault.state _ c.args.size sector (sector + 1) (omega arith) (here.begun begun));
       }
     ]
 
@@ -144,3 +152,32 @@ returns-clause-keeps g c = λ is_open head size kept.
     let within : c.loop-sector.sector ≤ c.args.size / 4096 = elim c.if-is_data.branch [ then-is_data w ↦ omega arith | else-is_data w ↦ omega arith ] in
     kept_later g.V.Vault.state c.loop-sector.writer head (g.B.Bus.state c.args.bus.now).chip.bytes (has c.loop-sector.scanned.touched) c.loop-sector.sector (c.args.size / 4096) within
     (c.loop-sector.invariant.kept is_open head size kept)
+
+pub returns-in_err-plan-clause-writes : goal.returns-in_err-plan-clause-writes
+returns-in_err-plan-clause-writes g c = λ begun.
+    let here = c.loop-sector.invariant in
+    let this = is_at c.args.request.now c.args.size c.loop-sector.sector c.if-is_data.sectors (option_copied c.as_ref.result) c.includes_in_sector.result true
+    c.requires.sized (here.aims (omega arith)) c.loop-sector-test.true c.as_ref.ensures.value c.includes_in_sector.ensures.test c.if-includes_in_sector.true in
+    let below = this.below in
+    unless_any c.from_residual.result _ (begun_later g.V.Vault.state c.loop-sector.writer c.args.size c.loop-sector.sector (c.args.size / 4096) (omega arith) (here.begun begun))
+
+pub returns-in_err-add-clause-writes : goal.returns-in_err-add-clause-writes
+returns-in_err-add-clause-writes g c = λ begun. unless_refused c.from_residual-in_err-add.result _ c.from_residual-in_err-add.ensures.1
+
+pub returns-clause-writes : goal.returns-clause-writes
+returns-clause-writes g c = λ begun.
+    let within : c.loop-sector.sector ≤ c.args.size / 4096 = elim c.if-is_data.branch [ then-is_data w ↦ omega arith | else-is_data w ↦ omega arith ] in
+    begun_later g.V.Vault.state c.loop-sector.writer c.args.size c.loop-sector.sector (c.args.size / 4096) within (c.loop-sector.invariant.begun begun)
+
+pub returns-in_err-plan-clause-begins : goal.returns-in_err-plan-clause-begins
+returns-in_err-plan-clause-begins g c = λ is_open head size kept.
+    let here = c.loop-sector.invariant in
+    let this = is_at c.args.request.now c.args.size c.loop-sector.sector c.if-is_data.sectors (option_copied c.as_ref.result) c.includes_in_sector.result true
+    c.requires.sized (here.aims (omega arith)) c.loop-sector-test.true c.as_ref.ensures.value c.includes_in_sector.ensures.test c.if-includes_in_sector.true in
+    let below = this.below in
+    unless_any_err c.from_residual.result _
+    (kept_below g.V.Vault.state c.loop-sector.writer head (g.B.Bus.state c.args.bus.now).chip.bytes _ c.loop-sector.sector (c.args.size / 4096) c.loop-sector.scanned (omega arith)
+    (here.scanned.right is_open) (here.kept is_open head size kept))
+
+pub returns-in_err-add-clause-begins : goal.returns-in_err-add-clause-begins
+returns-in_err-add-clause-begins g c = λ is_open head size kept. unless_refused_err c.from_residual-in_err-add.result _ c.from_residual-in_err-add.ensures.1

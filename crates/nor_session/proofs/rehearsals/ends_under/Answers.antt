@@ -17,5 +17,5 @@ returns-in-Err-2-clause-leaves g c = under_leaves _ _ _ _ _ _ c.allow.ensures c.
 
 pub returns-in-Err-2-clause-refuses : goal.returns-in-Err-2-clause-refuses
 returns-in-Err-2-clause-refuses g c =
-    under_refuses _ _ _ _ c.in-Err.refusal c.allow.ensures c.in-Err.ensures.answers
-    (λ stopped. true≢false (sym (c.is_stopped.ensures.1 stopped) ∙ c.if-is_stopped.false)) c.in-Err.ensures.only_stops
+    under_refuses _ _ _ _ _ c.in-Err.refusal c.allow.ensures c.in-Err.ensures.answers
+    (λ stopped. true≢false (sym (c.is_stopped.ensures.1 stopped) ∙ c.if-is_stopped.false)) c.in-Err.ensures.gives_up c.in-Err.ensures.only_stops

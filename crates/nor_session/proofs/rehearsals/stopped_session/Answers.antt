@@ -6,11 +6,15 @@ use Rattle.nor_session.proofs.rehearsals.stopped_session.Goals.{then-is_stopped+
 
 pub returns-in-Ok-clause-leaves : goal.returns-in-Ok-clause-leaves
 returns-in-Ok-clause-leaves g c =
-    session_leaves _ _ _ _ _ _ _ _ _ c.allow.ensures refl (g.met.B.Bus.reaches c.allow.new.self) c.session.ensures.spends c.session.ensures.looks c.session.ensures.undo
+    session_leaves _ _ _ _ _ _ _ _ _ c.allow.ensures refl (g.met.B.Bus.reaches c.allow.new.self) c.session.ensures.spends c.session.ensures.looks c.session.ensures.undo c.session.ensures.holds
 
 pub returns-in-Err-clause-leaves : goal.returns-in-Err-clause-leaves
 returns-in-Err-clause-leaves g c =
-    session_leaves _ _ _ _ _ _ _ _ _ c.allow.ensures refl (g.met.B.Bus.reaches c.allow.new.self) c.session.ensures.spends c.session.ensures.looks c.session.ensures.undo
+    session_leaves _ _ _ _ _ _ _ _ _ c.allow.ensures refl (g.met.B.Bus.reaches c.allow.new.self) c.session.ensures.spends c.session.ensures.looks c.session.ensures.undo c.session.ensures.holds
+
+pub returns-in-Err-2-clause-leaves : goal.returns-in-Err-2-clause-leaves
+returns-in-Err-2-clause-leaves g c =
+    session_leaves _ _ _ _ _ _ _ _ _ c.allow.ensures refl (g.met.B.Bus.reaches c.allow.new.self) c.session.ensures.spends c.session.ensures.looks c.session.ensures.undo c.session.ensures.holds
 
 pub returns-in-Err-2-clause-refuses : goal.returns-in-Err-2-clause-refuses
 returns-in-Err-2-clause-refuses g c =

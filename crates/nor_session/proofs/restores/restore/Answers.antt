@@ -23,7 +23,7 @@ returns-in_err-prepared-clause-looks g c =
 pub returns-in_err-prepared-clause-gives_up : goal.returns-in_err-prepared-clause-gives_up
 returns-in_err-prepared-clause-gives_up g c =
     λ honest.
-    let told = prepare_gives_up c.args.journal.now (65542 + length c.args.journal.now.saved) (g.B.Bus.state c.args.bus.now) (g.B.Bus.state c.prepare.new.bus) c.in_err-prepared.field-0.0 honest c.in_err-prepared.ensures.tells in
+    let told = prepare_gives_up c.args.journal.now (65542 + length c.args.journal.now.saved) (g.B.Bus.state c.args.bus.now) (g.B.Bus.state c.prepare.new.bus) c.in_err-prepared.field-0.0 (omega arith) honest c.in_err-prepared.ensures.tells in
     grind (arith, common_steps, told)
 
 pub returns-in_err-prepared-clause-tells : goal.returns-in_err-prepared-clause-tells

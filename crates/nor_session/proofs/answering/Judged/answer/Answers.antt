@@ -1,12 +1,16 @@
-use Rattle.std.proofs.Common.{rules, arith, ◌∙◌, sym, true≢false, ◌+◌, ◌*◌, length}
+use Rattle.std.proofs.Common.{rules, arith, ◌≡◌, ◌≢◌, ◌⊎◌, ◌∙◌, [], inr, sym, true≢false, ◌+◌, ◌*◌, length}
 use Rattle.std.proofs.lemmas.Bool.{lt-ltb}
 use Rattle.nor_session.proofs.Ready.{has_opened, ready, scanned_few, spends_looks, spends_more, spends_ready, bounded, touched_data}
 use Rattle.nor_save.proofs.Rests.{looks_then}
-use Rattle.nor_save.specs.Request.{scanned_sectors}
+use Rattle.nor_save.specs.Request.{scanned_sectors, is_touched_by}
+use Rattle.nor_save.specs.Saving.{head_of}
+use Rattle.nor_save.specs.Keeping.{BeginsJournal}
+use Rattle.nor_save.specs.declared.refusal.Refusal.TheVariants.{Vault}
+use Rattle.nor_save.proofs.Begun.{err_same}
 use Rattle.nor_driver.specs.Looks.{Looks}
 use Rattle.nor_session.specs.Modelled.{most_looked, most_of}
 use Rattle.nor_session.specs.Session.{CanBeUndone}
-use Rattle.nor_session.proofs.ReadyChip.{small_first, is_opening, falls_sized, not_sealed, keep_tells}
+use Rattle.nor_session.proofs.ReadyChip.{small_first, is_opening, shows, falls_sized, not_sealed, keep_gives_up, keep_tells}
 use Rattle.nor_session.proofs.SessionChanges.{change_gives_up, change_tells}
 use Rattle.nor_session.proofs.SessionEnds.{ready_chip, can_be_undone, done, spared}
 use Rattle.nor_session.proofs.answering.Judged.answer.Goals as goal
@@ -146,5 +150,22 @@ returns-in_err-kept-clause-undo g c = λ first looks opens modelled sealed.
 
 pub returns-in_err-work-clause-gives_up : goal.returns-in_err-work-clause-gives_up
 returns-in_err-work-clause-gives_up g c = λ first looks opens honest.
-    let tells = change_gives_up _ _ first _ _ c.in_err-work.field-0.0 (c.keep.ensures.leaves.honest ∙ looks.honest ∙ honest) c.in_err-work.ensures.tells in
+    let is = ready c.args.self.request.now c.args.self.opening c.status.result c.args.self.code _ c.args.self.image.now c.keep.new.image _ c.in_ok-kept.kept first (g.B.Bus.state c.args.self.bus.now) (g.B.Bus.state c.keep.new.bus)
+    looks opens c.keep.ensures.leaves c.in_ok-kept.ensures.keeps c.status.ensures c.requires.judged.same_code in
+    let tells = change_gives_up c.args.self.request.now c.args.self.opening c.status.result c.args.self.code c.in_ok-kept.kept _ first (g.B.Bus.state c.keep.new.bus) (g.B.Bus.state c.finish.new.self.0) c.in_err-work.field-0.0 honest is c.in_err-work.ensures.tells in
     search rules
+
+pub returns-in_err-kept-clause-gives_up : goal.returns-in_err-kept-clause-gives_up
+returns-in_err-kept-clause-gives_up g c = λ first looks opens honest.
+    let tells = keep_gives_up c.args.self.request.now c.args.self.image.now c.args.self.opening c.args.self.code _ first (g.B.Bus.state c.args.self.bus.now) (g.B.Bus.state c.keep.new.bus) c.in_err-kept.field-0.0
+    honest looks opens c.keep.ensures.leaves c.in_err-kept.ensures.tells in
+    search rules
+
+pub returns-in_err-kept-clause-begins : goal.returns-in_err-kept-clause-begins
+returns-in_err-kept-clause-begins g c = λ first looks opens modelled unsealed telling.
+    let opened = is_opening c.args.self.request.now c.args.self.opening first (g.B.Bus.state c.args.self.bus.now) modelled opens in
+    let shown = shows c.args.self.request.now c.args.self.opening first (g.B.Bus.state c.args.self.bus.now) modelled looks opens in
+    let vault = g.V.Vault.state c.keep.new.vault in
+    err_same c.from_residual.result c.in_err-kept.field-0.0
+    (λ refusal. refusal ≢ Vault → (vault.bytes ≡ []) ⊎ BeginsJournal (head_of first.chip) first.chip.bytes (is_touched_by c.args.self.request.now c.args.self.image.now first.chip) vault.bytes)
+    c.from_residual.ensures.1 (λ other. inr (c.in_err-kept.ensures.begins other telling first.chip opened shown))

@@ -1,0 +1,119 @@
+-- What writes print that follow one another, and numbers in hexadecimal digits.
+use Rattle.std.proofs.Common.{◌≡◌, ◌∙◌, ℕ, ◌+◌, ◌-◌, ◌^◌, ◌<◌, ◌≤◌, Bool, true, false, List, [], ◌∷◌, ◌++◌, Option, None, Some, Result, Ok, Err, IfSome, length, get_or, take, ap, append_assoc, append-nil, arith, add-one, refl, subst, sym}
+use Rattle.std.proofs.Math.Seq.{take-suc}
+use Rattle.std.proofs.lemmas.Grind.{flat_map-append}
+use Rattle.std.proofs.lemmas.List.{take_all}
+use Rattle.std.specs.Prelude.{flat_map}
+use Rattle.std.specs.Fmt.{char_count, digits, format_spec, option_append, padded_integral}
+use Rattle.std.specs.Io.KnownBytes.{Appends, Keeps}
+use Rattle.nor_probe.specs.Table.{chips}
+use Rattle.nor_probe.specs.declared.table.Part.{Part}
+use Rattle.nor_words.specs.declared.words.UsageFault.TheVariants as usage
+use Rattle.flashnor.specs.AnswerLines.{chip_line}
+use Rattle.flashnor.specs.Endings.{EndsBadly, EndsWell, HasPrinted, IsAnswered, PrintsAnswer, lines_told}
+use Rattle.flashnor.specs.FaultLines.{lines_of_unwritten}
+use Rattle.flashnor.specs.Lines.{hex_digits}
+use Rattle.flashnor.specs.declared.answers.Answer.{Answer}
+use Rattle.flashnor.specs.declared.chips.Unwritten.{Unwritten}
+use Rattle.flashnor.specs.declared.messages.Fault.{Fault}
+use Rattle.flashnor.specs.declared.messages.Fault.TheVariants as end
+use Rattle.flashnor.specs.declared.printing.Ending.{Ending}
+
+pub appends_none : (a : Option (List ℕ)) → Appends a a []
+appends_none None = tt
+appends_none (Some old) = sym (append-nil old)
+
+pub appends_then : (a b c : Option (List ℕ)) (first second : List ℕ) → Appends a b first → Appends b c second
+    → Appends a c (first ++ second)
+appends_then None b c first second one two = tt
+appends_then (Some x) None c first second one two = absurd one
+appends_then (Some x) (Some y) None first second one two = absurd two
+appends_then (Some x) (Some y) (Some z) first second one two = two ∙ ap (λ l. l ++ second) one ∙ append_assoc x first second
+
+pub appends_kept : (a b c : Option (List ℕ)) (text : List ℕ) → Appends a b text → Keeps b c → Appends a c text
+appends_kept None b c text one two = tt
+appends_kept (Some x) None c text one two = absurd one
+appends_kept (Some x) (Some y) None text one two = absurd two
+appends_kept (Some x) (Some y) (Some z) text one two = two ∙ one
+
+pub padded_hex : (width number : ℕ)
+    → padded_integral (format_spec 32 0 4 width (2 ^ 64 - 1)) false [] (digits 16 false number) ≡ hex_digits width number
+unfolding padded_integral char_count
+padded_hex width number =
+    let short : width - length (digits 16 false number) - 0 - 0 ≡ width - length (digits 16 false number) = omega arith in
+    rw (short, append-nil (digits 16 false number))
+
+-- ---- the table of chips
+
+-- the line of one more chip was printed
+pub chips_then : (a b c : Option (List ℕ)) (items : List Part) (i : ℕ) (none : Part) → items ≡ chips → i < length chips
+    → Appends a b (flat_map chip_line (take i items)) → Appends b c (chip_line (get_or items i none))
+    → Appends a c (flat_map chip_line (take (i + 1) items))
+chips_then a b c items i none same below one two =
+    let long : length items ≡ length chips = ap length same in
+    let within : i < length items = omega (arith, long, below) in
+    rw (add-one, take-suc items i none within, flat_map-append chip_line (take i items) (get_or items i none ∷ []), append-nil (chip_line (get_or items i none)))
+    (appends_then a b c (flat_map chip_line (take i items)) (chip_line (get_or items i none)) one two)
+
+-- those of all chips were
+pub chips_all : (a b : Option (List ℕ)) (items : List Part) (i : ℕ) → items ≡ chips → length chips ≤ i
+    → Appends a b (flat_map chip_line (take i items)) → Appends a b (flat_map chip_line chips)
+chips_all a b items i same above printed =
+    let long : length items ≡ length chips = ap length same in
+    let all : length items ≤ i = omega (arith, long, above) in
+    subst (λ (parts : List Part). Appends a b (flat_map chip_line parts)) (take_all i items all ∙ same) printed
+
+-- ---- ends of runs
+
+-- where a line is known, it and what follows were told
+pub tells_both : (line : Option (List ℕ)) (a b c : Option (List ℕ)) (others : List ℕ) → IfSome line (Appends a b) → Appends b c others
+    → IfSome (option_append line (Some others)) (Appends a c)
+tells_both None a b c others one two = tt
+tells_both (Some first) a b c others one two = appends_then a b c first others one two
+
+tells_well : (outcome : Result Answer Fault) (unwritten : Unwritten) (err err' : Option (List ℕ)) → IsAnswered outcome
+    → Appends err err' (lines_of_unwritten unwritten) → IfSome (lines_told outcome unwritten) (Appends err err')
+tells_well (Ok found) unwritten err err' answered told = told
+tells_well (Err (end.Usage (usage.Words error))) unwritten err err' answered told = tt
+tells_well (Err (end.Usage usage.NoProgrammer)) unwritten err err' answered told = absurd answered
+tells_well (Err (end.Usage usage.Programmer)) unwritten err err' answered told = absurd answered
+tells_well (Err (end.Usage usage.TwoOperations)) unwritten err err' answered told = absurd answered
+tells_well (Err (end.Usage usage.Range)) unwritten err err' answered told = absurd answered
+tells_well (Err (end.Usage usage.Journal)) unwritten err err' answered told = absurd answered
+tells_well (Err (end.Usage usage.Layout)) unwritten err err' answered told = absurd answered
+tells_well (Err (end.Usage usage.Unneeded)) unwritten err err' answered told = absurd answered
+tells_well (Err (end.Usage usage.Stops)) unwritten err err' answered told = absurd answered
+tells_well (Err (end.Usage usage.Memory)) unwritten err err' answered told = absurd answered
+tells_well (Err end.NoText) unwritten err err' answered told = absurd answered
+tells_well (Err (end.Layout fault)) unwritten err err' answered told = absurd answered
+tells_well (Err (end.File fault name)) unwritten err err' answered told = absurd answered
+tells_well (Err (end.Refused refusal)) unwritten err err' answered told = absurd answered
+
+-- an answer, or help
+pub printed_well : (outcome : Result Answer Fault) (unwritten : Unwritten) (out out' err err' : Option (List ℕ)) (ending : Ending)
+    (is_printed : Bool) → IsAnswered outcome → (is_printed ≡ true → PrintsAnswer outcome out out')
+    → EndsWell is_printed unwritten err err' ending → HasPrinted outcome unwritten out out' err err' ending
+printed_well outcome unwritten out out' err err' ending is_printed answered prints ends = record {
+  few = ends.few;
+  exact = (λ none. let both = ends.exact.0 none in (ends.printed ∙ both.0, both.1), λ both. ends.exact.1 (sym ends.printed ∙ both.0, both.1));
+  printed = λ is. prints (sym ends.printed ∙ is);
+  told = λ is. tells_well outcome unwritten err err' answered (ends.told is);
+  no_output = λ none. absurd (none answered);
+  silent = λ _ all. ends.silent all;
+}
+
+-- a fault that isn't help
+pub printed_badly : (fault : Fault) (unwritten : Unwritten) (out err err' : Option (List ℕ)) (ending : Ending)
+    → (IsAnswered (Err fault) → ⊥) → EndsBadly fault unwritten err err' ending
+    → HasPrinted (Err fault) unwritten out out err err' ending
+printed_badly fault unwritten out err err' ending never ends = record {
+  few = omega (arith, ends.status);
+  exact = (λ none. absurd (omega (arith, ends.status, none)), λ both. absurd (never_both (sym ends.printed ∙ both.0)));
+  printed = λ is. absurd (never_both (sym ends.printed ∙ is));
+  told = ends.told;
+  no_output = λ _. refl;
+  silent = λ answered _. absurd (never answered);
+}
+  where
+    never_both : false ≡ true → ⊥
+    never_both same = cc

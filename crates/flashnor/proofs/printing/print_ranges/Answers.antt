@@ -1,0 +1,11 @@
+use Rattle.std.proofs.Common.{refl, rules}
+use Rattle.std.specs.Prelude.{flat_map}
+use Rattle.flashnor.specs.AnswerLines.{range_line}
+use Rattle.flashnor.proofs.printing.print_ranges.Goals as goal
+
+pub returns : goal.returns
+returns g c = (
+  flat_map range_line c.loop-range.yielded,
+  (c.loop-range.yielded, (c.next.new.self, (c.loop-range.range-iterator, search rules, search rules)), refl),
+  c.loop-range.invariant,
+)

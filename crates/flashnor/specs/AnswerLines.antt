@@ -1,0 +1,102 @@
+-- The lines that tell what a job came to.
+use Rattle.std.specs.Prelude.{◌≡◌, ℕ, Bool, List, [], ◌∷◌, ◌++◌, Option, Some, None, codes, decimal, flat_map, if◌then◌else◌}
+use Rattle.std.specs.Iterator.{Drains}
+use Rattle.nor_chip.specs.Offered.{GivesNextSet}
+use Rattle.nor_chip.specs.declared.guard.walk.Offered.{Offered}
+use Rattle.nor_probe.specs.Table.{chips, text_of}
+use Rattle.nor_probe.specs.declared.probes.Found.{Found}
+use Rattle.nor_probe.specs.declared.table.ChipName.{ChipName}
+use Rattle.nor_probe.specs.declared.table.ChipName.TheVariants.{Sfdp}
+use Rattle.nor_probe.specs.declared.table.Part.{Part}
+use Rattle.nor_read.specs.declared.protection.Protection.{Protection}
+use Rattle.nor_save.specs.declared.report.Report.{Report}
+use Rattle.nor_session.specs.declared.rehearsals.Rehearsal.{Rehearsal}
+use Rattle.flashnor.specs.Lines.{hex_digits, id_digits, line}
+use Rattle.flashnor.specs.declared.answers.Answer.{Answer}
+use Rattle.flashnor.specs.declared.answers.Answer.TheVariants as answer
+
+-- a chip of the table
+abbrev pub chip_line : Part → List ℕ
+chip_line part = line (text_of part.name ∷ codes " " ∷ id_digits part.id ∷ codes " " ∷ decimal part.size ∷ [])
+
+-- a name alone
+abbrev pub name_line : ChipName → List ℕ
+name_line name = line (text_of name ∷ [])
+
+-- those of the table, and the name of what is known by its SFDP alone
+abbrev pub chip_lines : List ℕ
+chip_lines = flat_map chip_line chips ++ name_line Sfdp
+
+-- the chip that was found
+abbrev pub found_line : Found → List ℕ
+found_line found = line (codes "Found " ∷ text_of found.name ∷ codes " (" ∷ id_digits found.id ∷ codes "), "
+    ∷ decimal found.size ∷ codes " bytes." ∷ [])
+
+-- its size alone
+abbrev pub size_line : ℕ → List ℕ
+size_line size = line (decimal size ∷ [])
+
+-- it was read out
+abbrev pub read_lines : Report → List ℕ
+read_lines report = found_line report.found ++ line (codes "Read " ∷ decimal report.found.size ∷ codes " bytes." ∷ [])
+
+-- it has the bytes of the image
+abbrev pub verified_lines : Report → List ℕ
+verified_lines report = found_line report.found ++ line (codes "Verified." ∷ [])
+
+-- what a change took
+abbrev pub counts_line : Report → List ℕ
+counts_line report = line (codes "Done: touched " ∷ decimal report.touched ∷ codes ", erases " ∷ decimal report.erases
+    ∷ codes ", programs " ∷ decimal report.programs ∷ codes ", transactions " ∷ decimal report.transactions ∷ codes "." ∷ [])
+
+-- it was changed, or given back
+abbrev pub done_lines : Report → List ℕ
+done_lines report = found_line report.found ++ counts_line report
+
+-- how the session of a rehearsal went
+abbrev pub how_it_went : Bool → List ℕ
+how_it_went ended = if ended then codes "ended" else codes "stopped"
+
+abbrev pub stop_line : Bool → List ℕ
+stop_line ended = line (codes "Rehearsal: session " ∷ how_it_went ended ∷ codes "." ∷ [])
+
+-- how many restores followed
+abbrev pub restores_line : ℕ → List ℕ
+restores_line restores = line (codes "Restores: " ∷ decimal restores ∷ codes "." ∷ [])
+
+abbrev pub given_back_line : List ℕ
+given_back_line = line (codes "Chip as before." ∷ [])
+
+-- a change was rehearsed
+abbrev pub rehearsal_lines : Rehearsal → List ℕ
+rehearsal_lines rehearsal = stop_line rehearsal.ended ++ (restores_line rehearsal.restores ++ given_back_line)
+
+-- the protected places: the first, and how many there are
+abbrev pub protected_line : Option (ℕ × ℕ) → List ℕ
+protected_line (Some (start, len)) = line (codes "Range: 0x" ∷ hex_digits 6 start ∷ codes ",0x" ∷ hex_digits 6 len ∷ [])
+protected_line None = line (codes "Range: undefined" ∷ [])
+
+-- and whether that can be changed
+abbrev pub protection_lines : Protection → List ℕ
+protection_lines protection = protected_line protection.range
+    ++ line (codes "Mode: " ∷ (if protection.locked then codes "locked" else codes "open") ∷ [])
+
+-- a range that can be protected
+abbrev pub range_line : ℕ × ℕ → List ℕ
+range_line range = line (codes "0x" ∷ hex_digits 6 range.0 ∷ codes ",0x" ∷ hex_digits 6 range.1 ∷ [])
+
+-- those of a walk over the ranges, one for each until it gives no more
+abbrev pub AreRangeLines : Offered → List ℕ → Type 0
+AreRangeLines walk text = (ranges : List (ℕ × ℕ)) × Drains GivesNextSet walk ranges × (text ≡ flat_map range_line ranges)
+
+-- the lines of each answer
+abbrev pub AreLines : Answer → List ℕ → Type 0
+AreLines answer.Chips text = text ≡ chip_lines
+AreLines (answer.Found found) text = text ≡ found_line found
+AreLines (answer.Size size) text = text ≡ size_line size
+AreLines (answer.Read report) text = text ≡ read_lines report
+AreLines (answer.Verified report) text = text ≡ verified_lines report
+AreLines (answer.Done report) text = text ≡ done_lines report
+AreLines (answer.Rehearsed rehearsal) text = text ≡ rehearsal_lines rehearsal
+AreLines (answer.Protection protection) text = text ≡ protection_lines protection
+AreLines (answer.Ranges walk) text = AreRangeLines walk text

@@ -1,0 +1,347 @@
+//! What a run prints: each message is a line.
+ghost use Rattle.std.specs.Prelude.{◌≡◌, ◌↔◌, IsTrue, IsSome, IsNone, OnOk, IfSome, None, Err, flat_map};
+ghost use Rattle.std.specs.Io.KnownBytes.{Appends};
+ghost use Rattle.nor_probe.specs.Table.{chips};
+ghost use Rattle.flashnor.specs.AnswerLines.{AreLines, AreRangeLines, chip_line, chip_lines, counts_line, done_lines, found_line, given_back_line, how_it_went, name_line, protected_line, protection_lines, range_line, read_lines, rehearsal_lines, restores_line, size_line, stop_line, verified_lines};
+ghost use Rattle.flashnor.specs.Endings.{EndsBadly, EndsWell, HasPrinted, IsAnswered, Prints, all_written};
+ghost use Rattle.flashnor.specs.FaultLines.{line_of, line_of_unwritten, lines_of_unwritten};
+
+use crate::answers::Answer;
+use crate::chips::Unwritten;
+use crate::messages::{Fault, FileFault};
+use clap::Error as WordsError;
+use clap::error::ErrorKind;
+use nor_chip::Offered;
+use nor_probe::{ChipName, Found, Part, chips};
+use nor_read::Protection;
+use nor_session::{Rehearsal, Report};
+use nor_words::UsageFault;
+use std::io::Write;
+use std::{fmt, io};
+
+/// How a run ended, once all was printed that could be.
+#[derive(Clone, Copy)]
+pub struct Ending {
+    /// The exit status: 0, or 1 at any fault.
+    pub status: u8,
+    /// The answer was printed, or the help.
+    pub printed: bool,
+    /// Each line that tells of a fault was printed.
+    pub told: bool,
+}
+
+/// Prints what a run came to: its answer or the help to `output`, and to `errors` its fault and a line for each file
+/// that couldn't be written. A line that can't be printed is lost.
+#[tactic(auto, using(crate::proofs::Printed::printed_well, crate::proofs::Printed::printed_badly))]
+pub fn print_end<O: Write, E: Write>(
+    output: &mut O,
+    errors: &mut E,
+    answer: Result<Answer, Fault<'_>>,
+    unwritten: Unwritten<'_>,
+) -> Ending
+    ensures { HasPrinted answer.entry unwritten.entry (O.contents output.old) (O.contents output.new)
+        (E.contents errors.old) (E.contents errors.new) result }
+{
+    match answer {
+        Ok(answer) => {
+            let printed = print_answer(output, answer).is_ok();
+            end_well(errors, printed, unwritten)
+        }
+        Err(fault) => match help_of(&fault) {
+            Some(help) => {
+                let printed = print_help(output, help).is_ok();
+                end_well(errors, printed, unwritten)
+            }
+            None => end_badly(errors, &fault, unwritten),
+        },
+    }
+}
+
+// What the parser says, where that is help, which was asked for.
+fn help_of<'a>(fault: &'a Fault<'_>) -> Option<&'a WordsError>
+    ensures some { IsSome result → IsAnswered (Err fault.now) }
+    ensures none { IsNone result → IsAnswered (Err fault.now) → ⊥ }
+{
+    match fault {
+        Fault::Usage(UsageFault::Words(said)) => {
+            if said.kind() == ErrorKind::DisplayHelp {
+                Some(said)
+            } else {
+                None
+            }
+        }
+        _ => None,
+    }
+}
+
+// Prints the line of a fault, and those of files that couldn't be written.
+#[tactic(auto, using(crate::proofs::Printed::tells_both))]
+fn end_badly<W: Write>(errors: &mut W, fault: &Fault<'_>, unwritten: Unwritten<'_>) -> Ending
+    ensures { EndsBadly fault.now unwritten.entry (W.contents errors.old) (W.contents errors.new) result }
+{
+    let first = print_fault(errors, fault);
+    let others = print_unwritten(errors, unwritten);
+    Ending {
+        status: 1,
+        printed: false,
+        told: first && others,
+    }
+}
+
+// Prints the lines of files that couldn't be written, behind what was printed or couldn't be.
+fn end_well<W: Write>(errors: &mut W, printed: bool, unwritten: Unwritten<'_>) -> Ending
+    ensures { EndsWell printed unwritten.entry (W.contents errors.old) (W.contents errors.new) result }
+{
+    let told = print_unwritten(errors, unwritten);
+    let status = if printed && is_all_written(unwritten) {
+        0
+    } else {
+        1
+    };
+    Ending {
+        status,
+        printed,
+        told,
+    }
+}
+
+// Prints what the parser says of the options.
+fn print_help<W: Write>(output: &mut W, help: &WordsError) -> io::Result<()> {
+    write!(output, "{help}")?;
+    output.flush()
+}
+
+// Prints what a job came to.
+fn print_answer<W: Write>(output: &mut W, answer: Answer) -> io::Result<()>
+    ensures { OnOk result (Prints (AreLines answer) (W.contents output.old) (W.contents output.new)) }
+{
+    print_lines(output, answer)?;
+    output.flush()
+}
+
+fn print_lines<W: Write>(output: &mut W, answer: Answer) -> io::Result<()>
+    ensures { OnOk result (Prints (AreLines answer) (W.contents output.old) (W.contents output.new)) }
+{
+    match answer {
+        Answer::Chips => print_chips(output),
+        Answer::Found(found) => print_found(output, &found),
+        Answer::Size(size) => print_size(output, size),
+        Answer::Read(report) => print_read(output, &report),
+        Answer::Verified(report) => print_verified(output, &report),
+        Answer::Done(report) => print_done(output, &report),
+        Answer::Rehearsed(rehearsal) => print_rehearsal(output, &rehearsal),
+        Answer::Protection(protection) => print_protection(output, &protection),
+        Answer::Ranges(ranges) => print_ranges(output, ranges),
+    }
+}
+
+// The table of chips, and the name of those that are known by their SFDP alone.
+#[tactic(auto, using(crate::proofs::Printed::appends_then))]
+fn print_chips<W: Write>(output: &mut W) -> io::Result<()>
+    ensures { OnOk result (Appends (W.contents output.old) (W.contents output.new) chip_lines) }
+{
+    print_table(output)?;
+    print_name(output, ChipName::Sfdp)
+}
+
+fn print_table<W: Write>(output: &mut W) -> io::Result<()>
+    ensures { OnOk result (Appends (W.contents output.old) (W.contents output.new) (flat_map chip_line chips)) }
+{
+    for part in chips() {
+        print_chip(output, part)?;
+    }
+    Ok(())
+}
+
+#[tactic(auto, unfolding(crate::specs::Lines::line))]
+fn print_name<W: Write>(output: &mut W, name: ChipName) -> io::Result<()>
+    ensures { OnOk result (Appends (W.contents output.old) (W.contents output.new) (name_line name)) }
+{
+    let name = name.as_str();
+    writeln!(output, "{name}")
+}
+
+#[tactic(auto, unfolding(crate::specs::Lines::line))]
+fn print_chip<W: Write>(output: &mut W, part: &Part) -> io::Result<()>
+    ensures { OnOk result (Appends (W.contents output.old) (W.contents output.new) (chip_line part.now)) }
+{
+    let (name, id, size) = (part.name.as_str(), Digits(part.id), part.size);
+    writeln!(output, "{name} {id} {size}")
+}
+
+#[tactic(auto, unfolding(crate::specs::Lines::line))]
+fn print_found<W: Write>(output: &mut W, found: &Found) -> io::Result<()>
+    ensures { OnOk result (Appends (W.contents output.old) (W.contents output.new) (found_line found.now)) }
+{
+    let (name, id, size) = (found.name.as_str(), Digits(found.id), found.size);
+    writeln!(output, "Found {name} ({id}), {size} bytes.")
+}
+
+#[tactic(auto, unfolding(crate::specs::Lines::line))]
+fn print_size<W: Write>(output: &mut W, size: u32) -> io::Result<()>
+    ensures { OnOk result (Appends (W.contents output.old) (W.contents output.new) (size_line size)) }
+{
+    writeln!(output, "{size}")
+}
+
+#[tactic(auto, using(crate::proofs::Printed::appends_then), unfolding(crate::specs::Lines::line))]
+fn print_read<W: Write>(output: &mut W, report: &Report) -> io::Result<()>
+    ensures { OnOk result (Appends (W.contents output.old) (W.contents output.new) (read_lines report.now)) }
+{
+    print_found(output, &report.found)?;
+    writeln!(output, "Read {} bytes.", report.found.size)
+}
+
+#[tactic(auto, using(crate::proofs::Printed::appends_then), unfolding(crate::specs::Lines::line))]
+fn print_verified<W: Write>(output: &mut W, report: &Report) -> io::Result<()>
+    ensures { OnOk result (Appends (W.contents output.old) (W.contents output.new) (verified_lines report.now)) }
+{
+    print_found(output, &report.found)?;
+    writeln!(output, "Verified.")
+}
+
+#[tactic(auto, using(crate::proofs::Printed::appends_then))]
+fn print_done<W: Write>(output: &mut W, report: &Report) -> io::Result<()>
+    ensures { OnOk result (Appends (W.contents output.old) (W.contents output.new) (done_lines report.now)) }
+{
+    print_found(output, &report.found)?;
+    print_counts(output, report)
+}
+
+#[tactic(auto, unfolding(crate::specs::Lines::line))]
+fn print_counts<W: Write>(output: &mut W, report: &Report) -> io::Result<()>
+    ensures { OnOk result (Appends (W.contents output.old) (W.contents output.new) (counts_line report.now)) }
+{
+    writeln!(
+        output,
+        "Done: touched {}, erases {}, programs {}, transactions {}.",
+        report.touched, report.erases, report.programs, report.transactions
+    )
+}
+
+#[tactic(auto, using(crate::proofs::Printed::appends_then))]
+fn print_rehearsal<W: Write>(output: &mut W, rehearsal: &Rehearsal) -> io::Result<()>
+    ensures { OnOk result (Appends (W.contents output.old) (W.contents output.new) (rehearsal_lines rehearsal.now)) }
+{
+    print_stop(output, rehearsal.ended)?;
+    print_restores(output, rehearsal.restores)?;
+    print_given_back(output)
+}
+
+#[tactic(auto, unfolding(crate::specs::Lines::line))]
+fn print_stop<W: Write>(output: &mut W, ended: bool) -> io::Result<()>
+    ensures { OnOk result (Appends (W.contents output.old) (W.contents output.new) (stop_line ended)) }
+{
+    let how = how_it_went(ended);
+    writeln!(output, "Rehearsal: session {how}.")
+}
+
+fn how_it_went(ended: bool) -> &'static str
+    ensures { result.now ≡ how_it_went ended }
+{
+    if ended { "ended" } else { "stopped" }
+}
+
+#[tactic(auto, unfolding(crate::specs::Lines::line))]
+fn print_restores<W: Write>(output: &mut W, restores: u32) -> io::Result<()>
+    ensures { OnOk result (Appends (W.contents output.old) (W.contents output.new) (restores_line restores)) }
+{
+    writeln!(output, "Restores: {restores}.")
+}
+
+#[tactic(auto, unfolding(crate::specs::Lines::line))]
+fn print_given_back<W: Write>(output: &mut W) -> io::Result<()>
+    ensures { OnOk result (Appends (W.contents output.old) (W.contents output.new) given_back_line) }
+{
+    writeln!(output, "Chip as before.")
+}
+
+#[tactic(auto, using(crate::proofs::Printed::appends_then), unfolding(crate::specs::Lines::line))]
+fn print_protection<W: Write>(output: &mut W, protection: &Protection) -> io::Result<()>
+    ensures { OnOk result (Appends (W.contents output.old) (W.contents output.new) (protection_lines protection.now)) }
+{
+    print_range(output, protection.range)?;
+    let mode = if protection.locked { "locked" } else { "open" };
+    writeln!(output, "Mode: {mode}")
+}
+
+#[tactic(auto, using(crate::proofs::Printed::padded_hex), unfolding(crate::specs::Lines::line))]
+fn print_range<W: Write>(output: &mut W, range: Option<(u32, u32)>) -> io::Result<()>
+    ensures { OnOk result (Appends (W.contents output.old) (W.contents output.new) (protected_line range)) }
+{
+    match range {
+        Some((start, len)) => writeln!(output, "Range: 0x{start:06x},0x{len:06x}"),
+        None => writeln!(output, "Range: undefined"),
+    }
+}
+
+fn print_ranges<W: Write>(output: &mut W, ranges: Offered) -> io::Result<()>
+    ensures { OnOk result (Prints (AreRangeLines ranges) (W.contents output.old) (W.contents output.new)) }
+{
+    for range in ranges {
+        print_places(output, range)?;
+    }
+    Ok(())
+}
+
+#[tactic(auto, using(crate::proofs::Printed::padded_hex), unfolding(crate::specs::Lines::line))]
+fn print_places<W: Write>(output: &mut W, places: (u32, u32)) -> io::Result<()>
+    ensures { OnOk result (Appends (W.contents output.old) (W.contents output.new) (range_line places)) }
+{
+    let (start, len) = places;
+    writeln!(output, "0x{start:06x},0x{len:06x}")
+}
+
+// An ID, as six hexadecimal digits.
+#[derive(Drop)]
+struct Digits([u8; 3]);
+
+impl fmt::Display for Digits {
+    ghost use Rattle.std.specs.Prelude.{Some};
+    ghost use Rattle.flashnor.specs.Lines.{id_digits};
+
+    ghost output = { λ digits. Some (id_digits digits.0) };
+
+    #[tactic(auto, using(crate::proofs::Printed::padded_hex))]
+    fn fmt<W: fmt::Write>(&self, f: &mut fmt::Formatter<W>) -> fmt::Result {
+        let (maker, kind, capacity) = (self.0[0], self.0[1], self.0[2]);
+        write!(f, "{maker:02x}{kind:02x}{capacity:02x}")
+    }
+}
+
+/// Prints the line of a fault, and tells whether that was done.
+pub fn print_fault<W: Write>(errors: &mut W, fault: &Fault<'_>) -> bool
+    ensures { IsTrue result → IfSome (line_of fault.now) (Appends (W.contents errors.old) (W.contents errors.new)) }
+{
+    writeln!(errors, "{fault}").is_ok()
+}
+
+// Prints a line for each file that couldn't be written after a call, and tells whether that was done.
+fn print_unwritten<W: Write>(errors: &mut W, unwritten: Unwritten<'_>) -> bool
+    ensures told { IsTrue result → Appends (W.contents errors.old) (W.contents errors.new) (lines_of_unwritten unwritten.entry) }
+    ensures none { unwritten.entry ≡ all_written → W.contents errors.new ≡ W.contents errors.old }
+{
+    let image = print_unwritten_file(errors, unwritten.image);
+    let status = print_unwritten_file(errors, unwritten.status);
+    let trace = print_unwritten_file(errors, unwritten.trace);
+    image && status && trace
+}
+
+// Prints the line of a file that couldn't be written, if this names one.
+fn print_unwritten_file<W: Write>(errors: &mut W, name: Option<&str>) -> bool
+    ensures told { IsTrue result → Appends (W.contents errors.old) (W.contents errors.new) (line_of_unwritten name.entry) }
+    ensures none { name.entry ≡ None → W.contents errors.new ≡ W.contents errors.old }
+{
+    let Some(name) = name else {
+        return true;
+    };
+    let fault = FileFault::Write;
+    print_fault(errors, &Fault::File { fault, name })
+}
+
+// Each file was written.
+fn is_all_written(unwritten: Unwritten<'_>) -> bool
+    ensures { IsTrue result ↔ (unwritten.entry ≡ all_written) }
+{
+    unwritten.image.is_none() && unwritten.status.is_none() && unwritten.trace.is_none()
+}

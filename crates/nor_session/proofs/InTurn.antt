@@ -1,0 +1,110 @@
+-- What sessions and restores that follow one another come to.
+use Rattle.std.proofs.Common.{◌≡◌, ◌≢◌, ◌+◌, ◌*◌, ◌/◌, ◌%◌, ◌∙◌, ℕ, Bool, true, false, List, [], ap, sym, subst, arith, true≢false, inl, inr}
+use Rattle.std.proofs.lemmas.Bool.{cases_Bool, and_left, and_parts}
+use Rattle.std.specs.Prelude.{slice_index, ◌++◌}
+use Rattle.nor_chip.specs.Chip.{Chip, IsSame}
+use Rattle.nor_chip.specs.Guard.{code_of, is_unit_guarded}
+use Rattle.nor_chip.specs.Bus.{BusState}
+use Rattle.nor_journal.specs.Text.{Content, IsContent, SameHead, text}
+use Rattle.nor_journal.specs.Saved.{Saves, JournalSaves, is_saved}
+use Rattle.nor_journal.proofs.OneForm.{one_text}
+use Rattle.nor_journal.proofs.Saves.{saved_byte-is}
+use Rattle.nor_plan.specs.Erase.{Covers}
+use Rattle.nor_apply.specs.Content.{once_erased, is_programmed}
+use Rattle.nor_apply.proofs.Changing.{within_then, same_within}
+use Rattle.nor_apply.proofs.Counting.{count_below-none}
+use Rattle.nor_save.specs.declared.report.Report.{Report}
+use Rattle.nor_save.specs.declared.report.Request.{Request}
+use Rattle.nor_save.specs.Request.{is_touched_by}
+use Rattle.nor_save.specs.Saving.{head_of}
+use Rattle.nor_save.proofs.Planned.{untouched, unraised}
+use Rattle.nor_session.specs.Restore.{restored, is_touched_from, is_raised_from, code_told, NeedsStatusFrom, SavesChip, open_places, CanGiveBack, IsRestored}
+use Rattle.nor_session.specs.Following.{LeavesJournal, ChangesNothing}
+use Rattle.nor_session.proofs.Rescanned.{restored_saved, restored_other}
+use Rattle.nor_session.proofs.GivesBack.{leads_back, can_give_back}
+use Rattle.nor_session.proofs.Restoring.{restored_back}
+
+-- ---- a chip that is the saved one already
+
+-- each byte is as wanted
+as_saved : (journal : Content) (first chip : Chip) (a : ℕ) → SavesChip journal first → IsSame first chip → restored journal chip.bytes a ≡ chip.bytes a
+as_saved journal first chip a saves same = elim (cases_Bool (is_saved journal (a / 4096))) [
+  | inl is ↦ restored_saved journal chip.bytes a is ∙ saved_byte-is first.bytes (is_saved journal) journal a saves.sectors is ∙ sym (same.bytes a)
+  | inr other ↦ restored_other journal chip.bytes a other
+]
+
+none_touched : (journal : Content) (first chip : Chip) (s : ℕ) → SavesChip journal first → IsSame first chip → is_touched_from journal chip s ≡ false
+none_touched journal first chip s saves same =
+    untouched chip.bytes (restored journal chip.bytes) s (λ i below. as_saved journal first chip (4096 * s + i) saves same)
+
+none_raised : (journal : Content) (first chip : Chip) (s : ℕ) → SavesChip journal first → IsSame first chip → is_raised_from journal chip s ≡ false
+none_raised journal first chip s saves same =
+    unraised chip.bytes (restored journal chip.bytes) s (λ i below. as_saved journal first chip (4096 * s + i) saves same)
+
+-- the code is the one that the journal tells
+same_code : (journal : Content) (first chip : Chip) → SavesChip journal first → IsSame first chip → code_of chip ≡ code_told journal
+same_code journal first chip saves same =
+    let one = saves.bits.one in let two = saves.bits.two in
+    let low : chip.kept1 % 32 ≡ slice_index journal.status 0 / 4 % 32 = let e = same.kept1 in omega arith in
+    let high : chip.kept2 / 64 % 2 ≡ slice_index journal.status 1 / 64 % 2 = let e = same.kept2 in omega arith in
+    omega arith
+
+never_needed : (journal : Content) (first chip : Chip) → SavesChip journal first → IsSame first chip → ¬ NeedsStatusFrom journal chip
+never_needed journal first chip saves same needs = elim needs [
+  | inl differs ↦ differs (same_code journal first chip saves same)
+  | inr held ↦
+      let touched = and_parts (is_touched_from journal chip held.sector) (is_unit_guarded chip (4096 * held.sector) 4096) held.held in
+      absurd (true≢false (sym touched.0 ∙ none_touched journal first chip held.sector saves same))
+]
+
+-- no erases make no sector FFh
+covers_none : (kinds : _) (total : ℕ) (sectors : ℕ → Bool) → ((s : ℕ) → sectors s ≡ false) → Covers kinds total [] sectors
+covers_none kinds total sectors none = record { units = λ k any below. absurd (omega arith); union = λ s. sym (none s) }
+
+none_counted : (journal : Content) (first : Chip) (old new : BusState) (report : Report) → SavesChip journal first → IsSame first old.chip → IsRestored journal old new report → report.touched ≡ 0
+none_counted journal first old new report saves same done =
+    done.touched ∙ count_below-none 4096 (is_touched_from journal old.chip) (λ s below. none_touched journal first old.chip s saves same)
+
+pub changes_nothing : (journal : Content) (first : Chip) (old new : BusState) (report : Report) → SavesChip journal first → IsSame first old.chip → IsRestored journal old new report
+    → ChangesNothing journal old new report
+changes_nothing journal first old new report saves same done = record {
+  still = done.still (none_counted journal first old new report saves same done) (never_needed journal first old.chip saves same);
+  touched = none_counted journal first old new report saves same done;
+  erases =
+      let least = done.erases.least [] (covers_none _ _ (is_raised_from journal old.chip) (λ s. none_raised journal first old.chip s saves same)) in
+      omega arith;
+  programs = done.programs
+      ∙ count_below-none 65536 (is_programmed (is_touched_from journal old.chip) (once_erased (is_raised_from journal old.chip) old.chip.bytes) (restored journal old.chip.bytes))
+      (λ page below. and_left (is_touched_from journal old.chip (page / 16)) _ (none_touched journal first old.chip (page / 16) saves same));
+  spares = never_needed journal first old.chip saves same;
+}
+
+-- ---- one session after the other
+
+-- the journal is the one that was kept
+kept_read : (head : Content) (bytes : ℕ → ℕ) (saved : ℕ → Bool) (whole : List ℕ) (journal : Content) → JournalSaves head bytes saved whole → IsContent journal → whole ≡ text journal
+    → SameHead head journal × Saves bytes saved journal
+kept_read head bytes saved whole journal kept is same =
+    let one : kept.content ≡ journal = (one_text kept.content journal [] [] kept.saves.is is (ap (λ (l : List ℕ). l ++ []) (sym kept.is ∙ same))).0 in
+    subst (λ (c : Content). SameHead head c × Saves bytes saved c) one (kept.same, kept.saves)
+
+-- so it gives the chip back
+can_restore : (request : Request) (image : List ℕ) (old new : BusState) (journal : Content) → LeavesJournal request image old new journal → CanGiveBack journal old.chip new
+can_restore request image old new journal leaves =
+    let leads = leads_back request image old new leaves.vault leaves.is leaves.modelled.genuine leaves.telling leaves.undone in
+    can_give_back (is_touched_by request image old.chip) old.chip leaves.vault.bytes new journal leads
+    (kept_read (head_of old.chip) old.chip.bytes (is_touched_by request image old.chip) leaves.vault.bytes journal leads.journal leaves.whole leaves.same)
+
+-- it still does where the same chip is there again
+back_again : (journal : Content) (first : Chip) (old new : BusState) → CanGiveBack journal first old → IsSame old.chip new.chip → new.chip.busy ≡ 0 → CanGiveBack journal first new
+back_again journal first old new can same idle = record {
+  known = can.known;
+  saves = can.saves;
+  within = within_then (open_places journal first) first old new can.within (same_within (open_places journal first) old.chip new same idle);
+}
+
+pub both_undone : (request later : Request) (image aim : List ℕ) (old mid new back end : BusState) (journal other : Content) (report last : Report)
+    → LeavesJournal request image old mid journal → LeavesJournal later aim mid new other → IsRestored other new back report → IsRestored journal back end last → IsSame old.chip end.chip
+both_undone request later image aim old mid new back end journal other report last first second undone again =
+    let same = restored_back other mid.chip new back report (can_restore later aim mid new other second) undone in
+    restored_back journal old.chip back end last (back_again journal old.chip mid back (can_restore request image old mid journal first) same undone.idle) again

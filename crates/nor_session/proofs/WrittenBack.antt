@@ -1,0 +1,104 @@
+-- What is written over with a chip that can be given back can be given back at each moment.
+use Rattle.std.proofs.Common.{◌≡◌, ◌∙◌, ◌⊎◌, ◌/◌, ◌%◌, ℕ, Bool, List, [], true, refl, sym, inl, inr}
+use Rattle.std.proofs.lemmas.List.{append-nil}
+use Rattle.nor_chip.specs.Bus.{BusState}
+use Rattle.nor_chip.specs.Chip.{Chip, IsChip, IsSame}
+use Rattle.nor_journal.specs.Text.{Content, IsContent, SameHead, text}
+use Rattle.nor_journal.specs.Saved.{JournalSaves, Saves}
+use Rattle.nor_journal.specs.Vault.{VaultState}
+use Rattle.nor_journal.proofs.OneForm.{one_text}
+use Rattle.nor_apply.specs.Within.{IsWithin}
+use Rattle.nor_save.specs.Request.{is_touched_by}
+use Rattle.nor_save.specs.Saving.{head_of}
+use Rattle.nor_save.specs.declared.report.Request.{Request}
+use Rattle.nor_session.specs.Modelled.{IsModelled}
+use Rattle.nor_session.specs.Restore.{CanGiveBack, open_places}
+use Rattle.nor_session.specs.Session.{CanBeUndone}
+use Rattle.nor_session.specs.WrittenOver.{IsWrittenOver}
+use Rattle.nor_session.proofs.GivesBack.{can_give_back, leads_back}
+
+-- ---- one chip written over with another
+
+-- what is so of either of two numbers is so of one that is the one or the other
+either : (P : ℕ → Type 0) (x y z : ℕ) → (z ≡ x) ⊎ (z ≡ y) → P x → P y → P z
+either P x y z (inl is) one two = rw is one
+either P x y z (inr is) one two = rw is two
+
+-- both are within the same places of the first chip, so what was opened is
+pub within_both : (places : ℕ → Bool) (first : Chip) (old new opened : BusState) → IsWrittenOver old.chip new.chip opened.chip
+    → IsWithin places first old → IsWithin places first new → IsWithin places first opened
+within_both places first old new opened over before after = record {
+  config = over.config ∙ before.config;
+  bytes = λ a out. either (λ b. b ≡ first.bytes a) _ _ _ (over.bytes a) (before.bytes a out) (after.bytes a out);
+  fixed = record {
+    one = either (λ k. k / 32 ≡ first.kept1 / 32) _ _ _ over.kept1 before.fixed.one after.fixed.one;
+    two = either (λ k. k % 64 ≡ first.kept2 % 64) _ _ _ over.kept2 before.fixed.two after.fixed.two;
+  };
+  kept = λ shut.
+      let had = before.kept shut in
+      let got = after.kept shut in
+      (either (λ k. k ≡ first.kept1) _ _ _ over.kept1 had.0 got.0, either (λ k. k ≡ first.kept2) _ _ _ over.kept2 had.1 got.1);
+  runs = λ loses works. absurd (works over.idle);
+}
+
+-- so what can be given back before and after can be at each moment between
+pub restore_over : (journal : Content) (first : Chip) (old new opened : BusState) → CanGiveBack journal first old
+    → CanGiveBack journal first new → IsWrittenOver old.chip new.chip opened.chip → CanGiveBack journal first opened
+restore_over journal first old new opened before after over = record {
+  known = after.known;
+  saves = after.saves;
+  within = within_both (open_places journal first) first old new opened over before.within after.within;
+}
+
+-- and where both are the same chip, so is what was opened
+pub same_over : (old new opened : Chip) → IsSame old new → IsWrittenOver old new opened → IsSame old opened
+same_over old new opened same over = record {
+  config = over.config;
+  bytes = λ a. either (λ b. b ≡ old.bytes a) _ _ _ (over.bytes a) refl (same.bytes a);
+  kept1 = either (λ k. k ≡ old.kept1) _ _ _ over.kept1 refl same.kept1;
+  kept2 = either (λ k. k ≡ old.kept2) _ _ _ over.kept2 refl same.kept2;
+}
+
+-- ---- after a session
+
+-- a journal that was read says what the one that was kept does
+read_kept : (head : Content) (bytes : ℕ → ℕ) (saved : ℕ → Bool) (journal : Content) (kept : List ℕ) → JournalSaves head bytes saved kept
+    → IsContent journal → kept ≡ text journal → SameHead head journal × Saves bytes saved journal
+read_kept head bytes saved journal kept saves is read =
+    let same : saves.content ≡ journal =
+    (one_text saves.content journal [] [] saves.saves.is is
+    (append-nil (text saves.content) ∙ sym saves.is ∙ read ∙ sym (append-nil (text journal)))).0 in
+    (rw (← same) saves.same, rw (← same) saves.saves)
+
+pub read_back : (request : Request) (image : List ℕ) (old new : BusState) (vault : VaultState) (journal : Content)
+    → IsModelled old → IsChip old.chip → vault.telling ≡ true → CanBeUndone request image old new vault
+    → IsContent journal → vault.bytes ≡ text journal → CanGiveBack journal old.chip new
+read_back request image old new vault journal modelled is telling undone sound read =
+    can_give_back (is_touched_by request image old.chip) old.chip vault.bytes new journal
+    (leads_back request image old new vault is modelled.genuine telling undone)
+    (read_kept (head_of old.chip) old.chip.bytes _ journal vault.bytes (undone.journal telling) sound read)
+
+-- the first chip, once nothing runs on it
+abbrev idle : BusState → BusState
+idle state = record state { chip = record state.chip { busy = 0 } }
+
+pub session_over : (request : Request) (image : List ℕ) (old new opened : BusState) (vault : VaultState) (journal : Content)
+    → IsModelled old → IsChip old.chip → vault.telling ≡ true → CanBeUndone request image old new vault
+    → IsContent journal → vault.bytes ≡ text journal → IsWrittenOver old.chip new.chip opened.chip
+    → CanGiveBack journal old.chip opened
+session_over request image old new opened vault journal modelled is telling undone sound read over =
+    let after : CanGiveBack journal old.chip new = read_back request image old new vault journal modelled is telling undone sound read in
+    record {
+      known = after.known;
+      saves = after.saves;
+      within = within_both (open_places journal old.chip) old.chip (idle old) new opened
+          (record { config = over.config; bytes = over.bytes; kept1 = over.kept1; kept2 = over.kept2; idle = over.idle })
+          (record {
+            config = refl;
+            bytes = λ a out. refl;
+            fixed = record { one = refl; two = refl };
+            kept = λ shut. (refl, refl);
+            runs = λ loses works. absurd (works refl);
+          })
+          after.within;
+    }

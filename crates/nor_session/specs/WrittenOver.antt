@@ -1,0 +1,12 @@
+-- A chip that is kept in files, and what those have while they are written over.
+use Rattle.std.specs.Prelude.{◌≡◌, ◌⊎◌, ℕ}
+use Rattle.nor_chip.specs.Chip.{Chip}
+
+-- The chip that is opened from files which had the old chip, at any moment of their being written over with the new
+-- one: each byte is the old or the new one, so is what is kept of each status byte, and nothing runs on it.
+pub record IsWrittenOver (old new opened : Chip) : Type 0 where
+  pub config : opened.config ≡ old.config
+  pub bytes : (a : ℕ) → (opened.bytes a ≡ old.bytes a) ⊎ (opened.bytes a ≡ new.bytes a)
+  pub kept1 : (opened.kept1 ≡ old.kept1) ⊎ (opened.kept1 ≡ new.kept1)
+  pub kept2 : (opened.kept2 ≡ old.kept2) ⊎ (opened.kept2 ≡ new.kept2)
+  pub idle : opened.busy ≡ 0

@@ -1,0 +1,41 @@
+//! Laws for whoever keeps a chip in files, and its journal: from a session to a restore, and at each moment between.
+ghost use Rattle.std.specs.Prelude.{◌≡◌, true, ℕ, List};
+ghost use Rattle.nor_chip.specs.Bus.{BusState};
+ghost use Rattle.nor_chip.specs.Chip.{Chip, IsChip, IsSame};
+ghost use Rattle.nor_journal.specs.Text.{Content, IsContent, text};
+ghost use Rattle.nor_journal.specs.Vault.{VaultState};
+ghost use Rattle.nor_save.specs.declared.report.Request.{Request};
+ghost use Rattle.nor_session.specs.Modelled.{IsModelled};
+ghost use Rattle.nor_session.specs.Restore.{CanGiveBack};
+ghost use Rattle.nor_session.specs.Session.{CanBeUndone};
+ghost use Rattle.nor_session.specs.WrittenOver.{IsWrittenOver};
+
+/// What a session kept gives its chip back: from what it promises once its vault is sealed, and a journal that is read
+/// from the bytes of that vault, follows what a restore asks for.
+pub fn read_gives_back()
+    ensures { (request : Request) (image : List ℕ) (old new : BusState) (vault : VaultState) (journal : Content)
+        → IsModelled old → IsChip old.chip → vault.telling ≡ true → CanBeUndone request image old new vault
+        → IsContent journal → vault.bytes ≡ text journal → CanGiveBack journal old.chip new }
+{}
+
+/// So it does while files that had the chip of before the session are written over with the one after it, and wherever
+/// that ends.
+pub fn session_written_over()
+    ensures { (request : Request) (image : List ℕ) (old new opened : BusState) (vault : VaultState) (journal : Content)
+        → IsModelled old → IsChip old.chip → vault.telling ≡ true → CanBeUndone request image old new vault
+        → IsContent journal → vault.bytes ≡ text journal → IsWrittenOver old.chip new.chip opened.chip
+        → CanGiveBack journal old.chip opened }
+{}
+
+/// What a journal gives back before a restore and after it, it gives back while files are written over from the one to
+/// the other.
+pub fn restore_written_over()
+    ensures { (journal : Content) (first : Chip) (old new opened : BusState)
+        → CanGiveBack journal first old → CanGiveBack journal first new → IsWrittenOver old.chip new.chip opened.chip
+        → CanGiveBack journal first opened }
+{}
+
+/// Files that are written over with the same chip have that chip at each moment.
+pub fn same_written_over()
+    ensures { (old new opened : Chip) → IsSame old new → IsWrittenOver old new opened → IsSame old opened }
+{}

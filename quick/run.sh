@@ -1,0 +1,82 @@
+#!/usr/bin/env bash
+# quick/run.sh [PROGRAM]: what can be known in a few minutes without a proof.
+#
+# Whether the sources are laid out, the pages agree, each crate compiles and its tests pass, and, where a program is
+# built, whether it does what the cases of runs/ say. It says nothing of contracts: only the gate proves. What failed is
+# shown, the last line counts, and the status is 1 where anything failed.
+set -euo pipefail
+
+top=$(cd "$(dirname "$0")/.." && pwd)
+program=$(realpath -m "${1:-$top/crates/flashnor/out/flashnor}")
+work=$(mktemp -d)
+trap 'rm -rf "$work"' EXIT
+passed=0
+failed=0
+
+if ! command -v rt > /dev/null; then
+    echo "'rt' isn't found: it comes with Rattle's kit, whose folder bin has to be in PATH." >&2
+    exit 1
+fi
+cd "$top"
+
+# count NAME STATUS LOG: tells how a step ended, and what it said where it failed.
+count() {
+    if [[ $2 == 0 ]]; then
+        echo "$1: passed"
+        passed=$((passed + 1))
+    else
+        tail -n 40 "$3"
+        echo "$1: FAILED"
+        failed=$((failed + 1))
+    fi
+}
+
+# Runs the words as a step of this name.
+step() {
+    local name=$1 status=0
+    shift
+    "$@" > "$work/said" 2>&1 || status=$?
+    count "$name" "$status" "$work/said"
+}
+
+# The sources, laid out once more in a copy, are as they were.
+is_laid_out() {
+    local crate
+    mkdir "$work/tree"
+    git ls-files -z -- crates crates.txt | xargs -0 tar c | tar x -C "$work/tree"
+    git -C "$work/tree" init -q
+    for crate in "$work"/tree/crates/*; do (cd "$crate" && rt fmt > /dev/null); done
+    local file changed=0
+    while IFS= read -r -d '' file; do
+        cmp -s "$file" "$work/tree/$file" || { echo "$file isn't in rt fmt's layout"; changed=1; }
+    done < <(git ls-files -z -- 'crates/*.rt' 'crates/*.antt')
+    return $changed
+}
+
+# A crate's tests, with no proof; of a program without tests, that it compiles.
+try_crate() {
+    local words=()
+    cd "$top/crates/$1"
+    grep -rqs '#\[test\]' src && words=(--test)
+    timeout 280 rt try "${words[@]}" > "$2/$1.log" 2>&1 < /dev/null
+    echo $? > "$2/$1.status"
+}
+export -f try_crate
+export top
+
+step "layout of the sources" is_laid_out
+step "the pages agree" bash docs/agree.sh
+# The largest first, so that none is left alone at the end.
+du -s crates/*/src | sort -rn | sed 's|.*crates/\(.*\)/src|\1|' |
+    xargs -P "$(nproc)" -I{} bash -c "try_crate {} '$work' || true"
+for crate in crates/*; do
+    name=${crate#crates/}
+    count "tests of $name" "$(cat "$work/$name.status" 2> /dev/null || echo 1)" "$work/$name.log"
+done
+if [[ -x $program ]]; then
+    step "the built program" bash runs/run.sh "$program"
+else
+    echo "the program isn't built, so it wasn't run ('make' proves and builds it)"
+fi
+echo "quick: $passed passed, $failed failed"
+[[ $failed == 0 ]]
