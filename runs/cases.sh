@@ -6,7 +6,7 @@ kept_count=0
 # The case that is read: its file and its sentence; whether it differed already; how many steps it has; where it runs.
 begin_case() {
     sentence=$1 broken= steps=0 free=
-    command= wants_lines=/dev/null wants_text=/dev/null text_name=
+    command= output= wants_lines=/dev/null wants_text=/dev/null text_name=
     scratch=$(mktemp -d "$work/run.XXXXXX")
     chmod 777 "$scratch"
     cd "$scratch" || exit 1
@@ -286,7 +286,9 @@ read_line() {
         '! '* | '!')
             line=${line#!}
             errors+=${line# }$'\n' ;;
-        *) if [[ -n $command ]]; then output+=$line$'\n'; else differs "'$line' stands before the first step"; fi ;;
+        *)
+            [[ -n $command || -n $broken ]] || differs "'$line' stands before the first step"
+            output+=$line$'\n' ;;
     esac
 }
 
@@ -302,7 +304,8 @@ run_cases() {
             end_case
             begin_case "${line#\# }"
         elif [[ -n $line ]]; then
-            if [[ -n $sentence ]]; then read_line "$line"; else begin_case "a case without a sentence"; differs "$line"; fi
+            [[ -n $sentence ]] || { begin_case 'a case without a sentence'; differs "$line"; }
+            read_line "$line"
         fi
         before=$line
     done 3< "$case_file"

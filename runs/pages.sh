@@ -33,7 +33,10 @@ case_of() {
             if (shown == "") return
             if (shown ~ /^cat /) { print "file " substr(shown, 5) ":"; for (k = 1; k <= n; k++) print "| " said[k] }
             print "$ " shown (shown ~ /^flashnor / ? " 2>&1" : "")
-            for (k = 1; k <= n; k++) { print said[k]; if (said[k] ~ /^(Error|File fault|Layout fault|Usage fault) /) bad = 1 }
+            for (k = 1; k <= n; k++) {
+                print said[k]
+                if (said[k] ~ /^(Error|File fault|Layout fault|Usage fault) /) bad = 1
+            }
             if (bad) print "status 1"
             shown = ""; n = bad = 0
         }

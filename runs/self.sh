@@ -1,6 +1,6 @@
 #!/usr/bin/env bash
-# runs/self.sh PROGRAM: whether run.sh fails where it must: for programs that do nothing, for a folder without cases, for
-# cases that say what isn't so, and for pages of which a number was changed. The last line is `N passed, M failed`.
+# runs/self.sh PROGRAM: whether run.sh fails where it must: for programs that do nothing, for a folder without cases,
+# for cases that say what isn't so, and for pages of which a number was changed. The last line is `N passed, M failed`.
 set -uo pipefail
 export LC_ALL=C
 
@@ -90,7 +90,7 @@ ends 1 '0 passed, 1 failed' 'a case without a step' on right stepless
 ends 1 '0 passed, 1 failed' 'a content that is none' on right unknown
 ends 1 '0 passed, 0 failed' 'a folder without cases' on right empty
 
-# The pages with one number, or one word, changed: a case each, of which the other one passes.
+# The pages with one number changed: a case each, of which the other one passes.
 changed() {
     local page=$work/${1##*/}
     sed "$2" "$top/$1" > "$page"
@@ -103,10 +103,12 @@ changed() {
     fi
 }
 
-ends 1 '1 passed, 1 failed' 'transactions in README' changed README.md 's/programs 1, transactions 30\./programs 1, transactions 31./'
-ends 1 '1 passed, 1 failed' 'a stop in README' changed README.md 's/^\(\$ .*\)stop=20/\1stop=23/'
-ends 1 '1 passed, 1 failed' 'restores in README' changed README.md 's/^Restores: 1\.$/Restores: 2./'
-ends 1 '1 passed, 1 failed' 'transactions in the manual page' changed man/flashnor.8 's/^\(Done: .*\)15\.$/\116./'
-ends 1 '1 passed, 1 failed' 'a range in the manual page' changed man/flashnor.8 's/^Range: 0x7e/Range: 0x7f/'
+notices() { ends 1 '1 passed, 1 failed' "$1" changed "$2" "$3"; }
+
+notices 'transactions in README' README.md 's/programs 1, transactions 30\./programs 1, transactions 31./'
+notices 'a stop in README' README.md 's/^\(\$ .*\)stop=20/\1stop=23/'
+notices 'restores in README' README.md 's/^Restores: 1\.$/Restores: 2./'
+notices 'transactions in the manual page' man/flashnor.8 's/^\(Done: .*\)15\.$/\116./'
+notices 'a range in the manual page' man/flashnor.8 's/^Range: 0x7e/Range: 0x7f/'
 echo "$passed passed, $failed failed"
 ((failed == 0))

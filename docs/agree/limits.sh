@@ -81,8 +81,8 @@ limit_runs() {
     limit "status of a fault" "$(constant $printing '  status: ')" 2 \
         'tandard error, (with|and the) status( is)? #'
     limit "tests of the program" "$(cat crates/flashnor/src/{,tests/}*.rt | grep -c '^#\[test\]')" 1 '# tests, each'
-    limit "cases of the program" "$(awk '/^# / && !told { n++ } { told = /^# / } END { print n }' runs/cases/*.case)" 1 \
-        '# cases of the built'
+    limit "cases of the program" \
+        "$(awk '/^# / && !told { n++ } { told = /^# / } END { print n }' runs/cases/*.case)" 1 '# cases of the built'
     seq 0 "$(constant crates/flashnor/specs/Run.antt 'pub few : ending\.status ≤ ')" | keep "exit statuses" Run.antt
     tags "EXIT STATUS" | keep "exit statuses" manual
     same "exit statuses" Run.antt manual
