@@ -1,7 +1,10 @@
 -- What a run printed, and the status that it ended with.
-use Rattle.std.specs.Prelude.{◌≡◌, ◌≤◌, ◌↔◌, ℕ, Bool, true, false, ⊤, List, Option, Some, None, Result, Ok, Err, IfSome}
+use Rattle.std.specs.Prelude.{◌≡◌, ◌≢◌, ◌≤◌, ◌⊎◌, ◌↔◌, ℕ, Bool, true, false, ⊤, List, Option, Some, None, Result, Ok, Err, IfSome}
 use Rattle.std.specs.Fmt.{option_append}
 use Rattle.std.specs.Io.KnownBytes.{Appends}
+use Rattle.std.specs.IoError.{error_kind}
+use Rattle.std.specs.declared.io.Error.{Error}
+use Rattle.std.specs.declared.io.ErrorKind.TheVariants as Kinds
 use Rattle.clap.specs.Words.{kind_of}
 use Rattle.clap.specs.declared.error.kind.ErrorKind.TheVariants as kind
 use Rattle.nor_words.specs.declared.words.UsageFault.TheVariants as usage
@@ -37,6 +40,11 @@ abbrev pub lines_told : Result Answer Fault → Unwritten → Option (List ℕ)
 lines_told (Ok found) unwritten = Some (lines_of_unwritten unwritten)
 lines_told (Err fault) unwritten = option_append (line_of fault) (Some (lines_of_unwritten unwritten))
 
+-- words that can't be collected: memory ran out, or they aren't text
+abbrev pub IsOfWords : Error → Fault → Type 0
+IsOfWords error fault = ((error_kind error ≡ Kinds.OutOfMemory) × (fault ≡ end.Usage usage.Memory))
+    ⊎ ((error_kind error ≢ Kinds.OutOfMemory) × (fault ≡ end.NoText))
+
 -- Behind what was printed, or couldn't be, the lines of files were: the status is 0 where there are none.
 pub record EndsWell (is_printed : Bool) (unwritten : Unwritten) (err err' : Option (List ℕ)) (ending : Ending) : Type 0 where
   pub few : ending.status ≤ 1
@@ -63,3 +71,9 @@ pub record HasPrinted (outcome : Result Answer Fault) (unwritten : Unwritten) (o
   -- where there is no answer nothing goes to standard output, and without a fault nothing to standard error
   pub no_output : (IsAnswered outcome → ⊥) → out' ≡ out
   pub silent : IsAnswered outcome → unwritten ≡ all_written → err' ≡ err
+
+-- A run whose words couldn't be collected ended with that fault.
+pub record IsUnread (error : Error) (out out' err err' : Option (List ℕ)) (ending : Ending) : Type 0 where
+  pub fault : Fault
+  pub of_words : IsOfWords error fault
+  pub prints : HasPrinted (Err fault) all_written out out' err err' ending

@@ -17,8 +17,7 @@ mod stores;
 #[cfg(test)]
 mod tests;
 
-use messages::Fault;
-use printing::print_fault;
+use run::run_collected;
 pub use run::run_words;
 use std::alloc::Global;
 use std::io::{LineWriter, Write};
@@ -28,14 +27,8 @@ use std::{env, io};
 fn main(rt: HostRuntime) -> ExitCode {
     let mut output = by_line(rt.alloc(), rt.stdout());
     let mut errors = by_line(rt.alloc(), rt.stderr());
-    let status = match words_of(&rt) {
-        Ok(words) => run_words(&rt, words.as_slice(), &mut output, &mut errors).status,
-        Err(error) => {
-            print_fault(&mut errors, &Fault::of_words(&error));
-            1
-        }
-    };
-    ExitCode::from(status)
+    let ended = run_collected(&rt, words_of(&rt), &mut output, &mut errors);
+    ExitCode::from(ended.status)
 }
 
 // A line of a name that a path can be fits.

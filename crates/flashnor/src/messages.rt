@@ -54,8 +54,12 @@ pub enum Fault<'a> {
 }
 
 impl Fault<'_> {
+    ghost use Rattle.flashnor.specs.Endings.{IsOfWords};
+
     /// The fault of words that can't be collected.
-    pub fn of_words(error: &io::Error) -> Fault<'static> {
+    pub fn of_words(error: &io::Error) -> Fault<'static>
+        ensures { IsOfWords error.now result }
+    {
         match error.kind() {
             ErrorKind::OutOfMemory => Fault::Usage(UsageFault::Memory),
             _ => Fault::NoText,

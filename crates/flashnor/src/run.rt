@@ -3,7 +3,7 @@ ghost use Rattle.std.specs.Prelude.{◌≡◌, ◌≤◌, ◌⊎◌, IfOk, IfErr
 ghost use Rattle.flashnor.specs.Chips.{IsReady, Opens};
 ghost use Rattle.flashnor.specs.Files.{IsLogging};
 ghost use Rattle.flashnor.specs.Events.{unseen};
-ghost use Rattle.flashnor.specs.Endings.{all_written};
+ghost use Rattle.flashnor.specs.Endings.{IsUnread, all_written};
 ghost use Rattle.flashnor.specs.Run.{AreLeft, Does, EndsJob, FailsBefore, FailsJob, IsAnswer, IsStatus, IsToldAs, changes_chip};
 
 use crate::answers::Answer;
@@ -17,6 +17,7 @@ use crate::stores::{Disk, Store};
 use nor_chip::{Bus, Meter, SimBus, TraceBus};
 use nor_session::Refusal;
 use nor_words::{Change, ChipJob, Job, Keeping, Task, request_of};
+use std::io;
 use std::io::Write;
 use std::rt::Files;
 
@@ -32,6 +33,27 @@ pub fn run_words<R: Files + AllocGlobal, O: Write, E: Write>(
         (E.contents errors.old) (E.contents errors.new) result }
 {
     run_over(&Disk(rt), words, output, errors)
+}
+
+/// The same of words that perhaps couldn't be collected, which is a fault as others are.
+pub fn run_collected<R: Files + AllocGlobal, O: Write, E: Write>(
+    rt: &R,
+    words: io::Result<Vec<String>>,
+    output: &mut O,
+    errors: &mut E,
+) -> Ending
+    ensures collected { IfOk words (λ given. IsStatus unseen (map string_bytes given.items) (O.contents output.old)
+        (O.contents output.new) (E.contents errors.old) (E.contents errors.new) result) }
+    ensures unread { IfErr words (λ error. IsUnread error (O.contents output.old) (O.contents output.new)
+        (E.contents errors.old) (E.contents errors.new) result) }
+{
+    match words {
+        Ok(words) => run_words(rt, words.as_slice(), output, errors),
+        Err(error) => {
+            let Ended { answer, unwritten } = Ended::before(Err(Fault::of_words(&error)));
+            print_end(output, errors, answer, unwritten)
+        }
+    }
 }
 
 // The same over any store of files.
