@@ -83,7 +83,7 @@ fn sessions_send_these_lines(rt: HostRuntime) -> Result<(), Fail> {
         ),
         (
             write(alloc, small, 0x00, (0, 65_536, 0x00), none)?,
-            40,
+            41,
             "0300f000 > 4096 bytes\n",
         ),
         (
