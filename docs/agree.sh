@@ -1,14 +1,14 @@
 #!/usr/bin/env bash
-# docs/agree.sh: whether the help, README.md, SPECIFICATION.md, the manual page and the completion say what the sources
-# say, word for word: options and keys with the names of their values, chips, printed lines, faults by their numbers,
-# limits, examples. A line tells what was compared, how much of it and where; each difference is told with both texts,
+# docs/agree.sh: whether the help, SPECIFICATION.md, the manual page and the completion say what the sources say, word
+# for word: options and keys with the names of their values, chips, printed lines, faults by their numbers, limits,
+# examples; and whether README.md says nothing else. A line tells what was compared, how much of it and where; each difference is told with both texts,
 # and then the status is 1. What is looked for must be found, so a text that is put otherwise is told too.
 set -Eeuo pipefail
 trap 'echo "DIFFERS: broke off at $BASH_COMMAND"' ERR
 export LC_ALL=C
 cd "$(dirname "$0")/.."
 words=crates/nor_words/src messages=crates/flashnor/src/messages.rt printing=crates/flashnor/src/printing.rt
-pages="README SPECIFICATION manual"
+pages="SPECIFICATION manual"
 work=$(mktemp -d)
 mkdir "$work/flat"
 trap 'rm -rf "$work"' EXIT
@@ -73,7 +73,7 @@ take_texts() {
     sed -n '/^const HELP/,/^";/p' $words/tests/help.rt | sed '1d; $d' > "$work/help"
     flat_manual > "$work/manual"
     for text in README docs/SPECIFICATION docs/DECISIONS; do tr -d '`' < $text.md > "$work/${text#docs/}"; done
-    for text in $pages help DECISIONS; do flat "$work/$text" > "$work/flat/$text"; done
+    for text in README $pages help DECISIONS; do flat "$work/$text" > "$work/flat/$text"; done
     {
         sed -nE 's/^ +(flashnor )/\1/p' "$work/help"
         sed -nE 's/^\$ (flashnor )/\1/p' README.md

@@ -20,7 +20,6 @@ fault_lines() {
 # The lines of faults in the tables.
 take_lines() {
     { refusal_lines; fault_lines; } | keep "lines of faults" program
-    table README.md Line | cut -d'|' -f1 | quoted | keep "lines of faults" README
     table docs/SPECIFICATION.md Line | cut -d'|' -f1 | quoted | keep "lines of faults" SPECIFICATION
     { tags Refusals; cut -f2 "$work/manual" | search '"[^"]* fault K[^"]*"' | tr -d '"'; } |
         keep "lines of faults" manual
@@ -31,7 +30,7 @@ take_lines() {
 take_shown() {
     local text mark='s/ (0x[0-9a-fA-F]+|[0-9]+|[ICKW])([ .,])/ _\2/g'
     sed -E "$mark" "$work/lines of faults of program" | keep "refusals shown" program
-    for text in $pages; do
+    for text in README $pages; do
         search "Error [0-9]+: [a-zA-Z][a-zA-Z0-9 ,']*\." "$work/flat/$text" | sed -E "$mark" |
             keep "refusals shown" $text
         none_but "refusals shown" program $text
@@ -66,7 +65,6 @@ items() { tr -d '`' | sed -E 's/^(.*[.:])? *1 /1 /; s/\. .*//; s/\.? *$//' | sed
 take_kind() {
     local kind=$1 source=${2##*/}
     sed -nE "s/.*\*\*$kind faults\*\*: //p" docs/SPECIFICATION.md | items | keep "$kind faults" SPECIFICATION
-    table README.md Line | grep -iE "^[^|]*$kind fault K" | cut -d'|' -f2 | items | keep "$kind faults" README
     tags "^$kind faults" | keep "$kind faults" manual
     same "$kind faults" $pages
     numbers_in "$2" | keep "numbers of $kind faults" "$source"

@@ -6,7 +6,7 @@ constant() { sed -nE "/$2[0-9]/{s/.*$2([0-9][0-9_]*).*/\1/;s/_//g;p;q}" "$1"; }
 # Whether wherever a text has this pattern its number, the `#` in it, is this one; so many texts have it at least.
 limit() {
     local pattern=$4
-    (cd "$work/flat" && grep -oE "${pattern/\#/[0-9][0-9,]*}" $pages help DECISIONS) |
+    (cd "$work/flat" && grep -oE "${pattern/\#/[0-9][0-9,]*}" README $pages help DECISIONS) |
         name=$1 value=$2 least=$3 front="^[A-Za-z]*:${pattern%%#*}" back="${pattern#*#}\$" awk -F: '
             { number = $0; sub(ENVIRON["front"], "", number); sub(ENVIRON["back"], "", number); gsub(/,/, "", number) }
             number "" != ENVIRON["value"] "" {
@@ -30,7 +30,7 @@ limit_sizes() {
     limit "bytes of a journal" "$(constant $files 'MOST_JOURNAL_BYTES: u64 = ')" 2 'journals? up to #'
     limit "bytes of a layout" "$(constant $files 'MOST_LAYOUT_BYTES: u64 = ')" 3 \
         "layout('s file)? (has at most|of more than) #"
-    limit "regions" "$(constant $regions 'REGIONS: usize = ')" 3 \
+    limit "regions" "$(constant $regions 'REGIONS: usize = ')" 2 \
         '(more than|layout holds at most|there are at most) #( regions|\.)'
     limit "bytes of a name" "$(constant $regions 'NAME_LEN: usize = ')" 2 '1 to # visible'
     limit "bytes of a sector" "$(constant $records 'SECTOR: usize = ')" 2 \
@@ -68,7 +68,6 @@ limit_transactions() {
     limit "polls of an operation" "$polls" 1 'BUSY is clear, at most #'
     limit "transactions of a probe" "$(constant crates/nor_probe/src/probes.rt 'Looks ')" 1 \
         'command and at most # transactions'
-    limit "transactions of an opening" "$opening" 1 'unique ID, in at most # transactions'
     limit "transactions of a session without sectors" "$opening" 1 '# \+ s \+ 2t'
     limit "transactions of an operation" "$(constant crates/nor_driver/src/operations.rt 'Halts address ')" 1 \
         '\+ #\(e \+ p'

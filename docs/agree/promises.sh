@@ -6,7 +6,7 @@ take_promises() {
         grep -rhoE "$defined" crates --exclude-dir=out --include='*.rt' --include='*.antt' | sed 's/.* //'
         find crates -path '*/must-fail/*.edit' | sed 's/.*\///; s/\.edit$//'
     } | keep names sources
-    grep '^|' docs/PROMISES.md | quoted | grep -E '^[A-Za-z][A-Za-z0-9_]*$' | keep names PROMISES
+    { grep '^|' docs/PROMISES.md; table README.md Promise; } | quoted | grep -E '^[A-Za-z][A-Za-z0-9_]*$' | keep names PROMISES
     { find crates -name out -prune -o -type f -print | sed 's/^crates\///'; find runs -name '*.case'; } |
         keep files sources
     search '[a-z_]+/(must-fail|specs|src|cases)/[A-Za-z0-9_/]+\.(edit|antt|rt|case)' docs/PROMISES.md |

@@ -7,16 +7,12 @@ take_options() {
         -e "s/^(short_flag\( ?alloc, |\.short\()'(.)'.*/-\2/p" -e 's/^long_flag\( ?alloc, "([^"]*)".*/--\1/p' \
         -e 's/^long_value\( ?alloc, "([^"]*)", "([^"]*)".*/--\1 \2/p' | keep options parser
     sed -nE '/^Options:/,/^$/s/^ +(-[-a-zA-Z]+)( <([^>]*)>)? .*/\1 \3/p' "$work/help" | sed 's/ $//' | keep options help
-    replies | sed -E 's/^ *((`-[^`]*`(, )?)*).*/\1/' | quoted | keep options README
     table docs/SPECIFICATION.md Option | cut -d'|' -f1 | quoted | keep options SPECIFICATION
     tags OPTIONS | keep options manual
     awk -F'\t' '$1 == "SYNOPSIS" { print $4 }' "$work/manual" | sed 's/dummy:[^ ]*/TEXT/' |
         search '-[-a-zA-Z]+( [A-Z][A-Z,.]*)?' | keep options synopsis
     same options parser help $pages synopsis
 }
-
-# What README sets beside flashrom's options.
-replies() { table README.md flashrom | cut -d'|' -f2; }
 
 # The options of the completion: all, and those behind which it offers something, or files.
 take_completion() {
@@ -34,7 +30,7 @@ take_bare_options() {
     sed -n 's/ .*//p' "$work/options of parser" | keep "options with values" parser
     sed -n 's/ FILE$//p' "$work/options of parser" | keep "options with files" parser
     take_completion
-    { table README.md Line; cat docs/SPECIFICATION.md docs/DECISIONS.md; } | quoted |
+    { table README.md flashrom | cut -d'|' -f2; cat docs/SPECIFICATION.md docs/DECISIONS.md; } | quoted |
         search '^--?[a-zA-Z][-a-z]*' | keep "all options" pages
     search '[ (]--?[a-zA-Z][-a-z]*' "$work/manual" | tr -d ' (' | keep "all options" "manual's text"
     search ' --?[a-zA-Z][-a-z]*( [^- ])?' "$work/examples" | sed 's/^ //' > "$work/given"
@@ -54,7 +50,7 @@ take_keys() {
     sed 's/=.*//' "$work/keys with values of help" | keep keys help
     sed -n 's/=FILE$//p' "$work/keys with values of help" | keep "keys with files" help
     search 'dummy:[^ ]*' "$work/examples" | sed 's/dummy://' | tr ',' '\n' | sed 's/=.*//' | keep keys examples
-    replies | quoted | grep -E '^[a-z]+=[A-Z]+$' | keep "keys with values" README
+    table README.md flashrom | cut -d'|' -f2 | quoted | grep -E '^[a-z]+=[A-Z]+$' | keep "keys with values" README
     table docs/SPECIFICATION.md Setting | cut -d'|' -f1 | quoted | keep "keys with values" SPECIFICATION
     tags PROGRAMMER | keep "keys with values" manual
     sed -n 's/) _flashnor_files "$word" "$front.*//p' completion/flashnor.bash | tr -d ' =*' | tr '|' '\n' |
@@ -62,6 +58,7 @@ take_keys() {
     same keys parser completion help
     none_but keys parser examples
     same "keys with values" help $pages
+    none_but "keys with values" help README
     same "keys with files" help completion
 }
 
@@ -99,10 +96,9 @@ take_chips() {
 take_names() {
     sed -nE 's/^ *"([A-Z0-9]+)" => ChipName.*/\1/p' crates/nor_probe/src/table.rt | keep "names for -c" table.rt
     sed -nE 's/^ *-c\).*"\$word" (.*) ;;/\1/p' completion/flashnor.bash | tr ' ' '\n' | keep "names for -c" completion
-    replies | grep '`-c NAME`' | quoted | grep -E '^[A-Z0-9]+$' | keep "names for -c" README
     awk -F'\t' '$3 == "-c NAME" { print $4 }' "$work/manual" | search '(W25Q[A-Z0-9]+|\b[A-Z]{4})\b' | sort -u |
         keep "names for -c" manual
-    same "names for -c" table.rt completion README manual
+    same "names for -c" table.rt completion manual
 }
 
 take_words() {
