@@ -70,7 +70,7 @@ _flashnor_programmer() {
     esac
 }
 
-# The regions of the layout file that -l names on this line, behind those that -i has already.
+# The regions of the layout file that -l names on this line, but for those that -i has already, and behind them.
 _flashnor_regions() {
     local word=$1 place file='' region regions=()
     for ((place = 0; place + 1 < ${#words[@]}; place++)); do
@@ -78,17 +78,29 @@ _flashnor_regions() {
     done
     [[ -r $file ]] || return
     while read -r _ region || [[ -n $region ]]; do
-        [[ -n $region ]] && regions+=("${word%"${word##*,}"}$region")
+        [[ -z $region || ,${word%"${word##*,}"} == *",$region,"* ]] || regions+=("${word%"${word##*,}"}$region")
     done < "$file"
     compopt -o nospace 2> /dev/null
     _flashnor_answer "$word" "${regions[@]}"
 }
 
-# The options that the line doesn't have yet.
+# Whether this word is an operation, of which a line has one.
+_flashnor_is_operation() {
+    case ${1%%=*} in
+        -r | -w | -v | -E | -L | --flash-size | --wp-status | --wp-list | --wp-range | --restore) ;;
+        *) return 1 ;;
+    esac
+}
+
+# The options that the line doesn't have yet, and no second operation.
 _flashnor_options() {
-    local option rest=()
+    local option given operation='' rest=()
+    for given in "${words[@]:0:${#words[@]}-1}"; do
+        _flashnor_is_operation "$given" && operation=$given
+    done
     for option in -p -r -w -v -E --flash-size --wp-status --wp-list --wp-range --restore -L -c -l -i -n --unlock \
         --journal --rehearse -h; do
+        [[ -n $operation ]] && _flashnor_is_operation "$option" && continue
         [[ " ${words[*]:0:${#words[@]}-1} " == *" $option "* ]] || rest+=("$option")
     done
     _flashnor_answer "$1" "${rest[@]}"
