@@ -72,6 +72,10 @@ pub record HasPrinted (outcome : Result Answer Fault) (unwritten : Unwritten) (o
   pub no_output : (IsAnswered outcome → ⊥) → out' ≡ out
   pub silent : IsAnswered outcome → unwritten ≡ all_written → err' ≡ err
 
+-- a run ended in such a way, with this status
+abbrev pub EndsWith : (Ending → Type 0) → ℕ → Type 0
+EndsWith IsEnding status = (ending : Ending) × IsEnding ending × (status ≡ ending.status)
+
 -- A run whose words couldn't be collected ended with that fault.
 pub record IsUnread (error : Error) (out out' err err' : Option (List ℕ)) (ending : Ending) : Type 0 where
   pub fault : Fault

@@ -27,8 +27,8 @@ use std::{env, io};
 fn main(rt: HostRuntime) -> ExitCode {
     let mut output = by_line(rt.alloc(), rt.stdout());
     let mut errors = by_line(rt.alloc(), rt.stderr());
-    let ended = run_collected(&rt, words_of(&rt), &mut output, &mut errors);
-    ExitCode::from(ended.status)
+    let status = run_collected(&rt, words_of(&rt), &mut output, &mut errors);
+    ExitCode::from(status)
 }
 
 // A line of a name that a path can be fits.

@@ -3,7 +3,7 @@ ghost use Rattle.std.specs.Prelude.{◌≡◌, ◌≤◌, ◌⊎◌, IfOk, IfErr
 ghost use Rattle.flashnor.specs.Chips.{IsReady, Opens};
 ghost use Rattle.flashnor.specs.Files.{IsLogging};
 ghost use Rattle.flashnor.specs.Events.{unseen};
-ghost use Rattle.flashnor.specs.Endings.{IsUnread, all_written};
+ghost use Rattle.flashnor.specs.Endings.{EndsWith, IsUnread, all_written};
 ghost use Rattle.flashnor.specs.Run.{AreLeft, Does, EndsJob, FailsBefore, FailsJob, IsAnswer, IsStatus, IsToldAs, changes_chip};
 
 use crate::answers::Answer;
@@ -22,17 +22,18 @@ use std::io::Write;
 use std::rt::Files;
 
 /// Does what the words ask for, which are those after the program's name, and prints results to `output` and faults to
-/// `errors`. Answers how it ended: the exit status is 0, or 1 at any fault.
+/// `errors`. Answers the exit status: 0, or 1 at any fault.
 pub fn run_words<R: Files + AllocGlobal, O: Write, E: Write>(
     rt: &R,
     words: &[String],
     output: &mut O,
     errors: &mut E,
-) -> Ending
-    ensures { IsStatus unseen (map string_bytes words.now) (O.contents output.old) (O.contents output.new)
-        (E.contents errors.old) (E.contents errors.new) result }
+) -> u8
+    ensures { EndsWith (IsStatus unseen (map string_bytes words.now) (O.contents output.old) (O.contents output.new)
+        (E.contents errors.old) (E.contents errors.new)) result }
 {
-    run_over(&Disk(rt), words, output, errors)
+    let ending = run_over(&Disk(rt), words, output, errors);
+    ending.status
 }
 
 /// The same of words that perhaps couldn't be collected, which is a fault as others are.
@@ -41,17 +42,18 @@ pub fn run_collected<R: Files + AllocGlobal, O: Write, E: Write>(
     words: io::Result<Vec<String>>,
     output: &mut O,
     errors: &mut E,
-) -> Ending
-    ensures collected { IfOk words (λ given. IsStatus unseen (map string_bytes given.items) (O.contents output.old)
-        (O.contents output.new) (E.contents errors.old) (E.contents errors.new) result) }
-    ensures unread { IfErr words (λ error. IsUnread error (O.contents output.old) (O.contents output.new)
-        (E.contents errors.old) (E.contents errors.new) result) }
+) -> u8
+    ensures collected { IfOk words (λ given. EndsWith (IsStatus unseen (map string_bytes given.items)
+        (O.contents output.old) (O.contents output.new) (E.contents errors.old) (E.contents errors.new)) result) }
+    ensures unread { IfErr words (λ error. EndsWith (IsUnread error
+        (O.contents output.old) (O.contents output.new) (E.contents errors.old) (E.contents errors.new)) result) }
 {
     match words {
         Ok(words) => run_words(rt, words.as_slice(), output, errors),
         Err(error) => {
             let Ended { answer, unwritten } = Ended::before(Err(Fault::of_words(&error)));
-            print_end(output, errors, answer, unwritten)
+            let ending = print_end(output, errors, answer, unwritten);
+            ending.status
         }
     }
 }

@@ -28,9 +28,9 @@ fn run(shelf: &Shelf, line: &str) -> Result<Outcome, Fail> {
         words.push(String::from_str(alloc, word)?)?;
     }
     let (mut output, mut errors) = (Vec::new(alloc), Vec::new(alloc));
-    let ended = run_words(shelf, words.as_slice(), &mut output, &mut errors);
+    let status = run_words(shelf, words.as_slice(), &mut output, &mut errors);
     Ok(Outcome {
-        status: ended.status,
+        status,
         output,
         errors,
     })
