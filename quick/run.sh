@@ -3,7 +3,8 @@
 #
 # Whether the sources are laid out, the pages agree, each crate compiles and its tests pass, and, where a program is
 # built, whether it does what the cases of runs/ say. It says nothing of contracts: only the gate proves. What failed is
-# shown, the last line counts, and the status is 1 where anything failed.
+# shown, the last line counts, and the status is 1 where anything failed. Tests that run out of time in such a build are
+# named: the gate runs them.
 set -euo pipefail
 
 top=$(cd "$(dirname "$0")/.." && pwd)
@@ -12,6 +13,8 @@ work=$(mktemp -d)
 trap 'rm -rf "$work"' EXIT
 passed=0
 failed=0
+# These run for minutes, so they are compiled alone.
+slow=" rows storm "
 
 if ! command -v rt > /dev/null; then
     echo "'rt' isn't found: it comes with Rattle's kit, whose folder bin has to be in PATH." >&2
@@ -53,26 +56,34 @@ is_laid_out() {
     return $changed
 }
 
-# A crate's tests, with no proof; of a program without tests, that it compiles.
+# A crate's tests, with no proof.
 try_crate() {
-    local words=()
+    local seconds=200
     cd "$top/crates/$1"
-    grep -rqs '#\[test\]' src && words=(--test)
-    timeout 280 rt try "${words[@]}" > "$2/$1.log" 2>&1 < /dev/null
+    [[ $slow == *" $1 "* ]] && seconds=1
+    timeout 280 rt try --test --seconds "$seconds" > "$2/$1.log" 2>&1 < /dev/null
     echo $? > "$2/$1.status"
 }
 export -f try_crate
-export top
+export top slow
+
+# Tells how the tests of a crate ended: 6 is that of a try that ran out of its time.
+count_tests() {
+    local status
+    status=$(cat "$work/$1.status" 2> /dev/null || echo 1)
+    if [[ $status == 6 || $status == 124 ]]; then
+        echo "tests of $1: compiled, and too slow to be run so"
+    else
+        count "tests of $1" "$status" "$work/$1.log"
+    fi
+}
 
 step "layout of the sources" is_laid_out
 step "the pages agree" bash docs/agree.sh
 # The largest first, so that none is left alone at the end.
 du -s crates/*/src | sort -rn | sed 's|.*crates/\(.*\)/src|\1|' |
     xargs -P "$(nproc)" -I{} bash -c "try_crate {} '$work' || true"
-for crate in crates/*; do
-    name=${crate#crates/}
-    count "tests of $name" "$(cat "$work/$name.status" 2> /dev/null || echo 1)" "$work/$name.log"
-done
+for crate in crates/*; do count_tests "${crate#crates/}"; done
 if [[ -x $program ]]; then
     step "the built program" bash runs/run.sh "$program"
 else
