@@ -18,7 +18,7 @@ DIST := out/flashnor-$(VERSION)
 SEED := 1
 COUNT := 1000
 
-.PHONY: build toolchain demo try files bench compare storm sweep kill runs install dist agree quick check clean
+.PHONY: build toolchain demo try files bench compare storm sweep kill runs install dist agree quick check price clean
 
 # Proves the program and everything below it, builds it, and runs it once.
 build: toolchain files
@@ -121,6 +121,11 @@ quick: toolchain
 # The merge gate, which begins with that.
 check: toolchain
 	@bash .ci/run
+
+# What the gate costs, in processor minutes by crate: `make price COMMAND='rt must-fail nor_driver'` asks it of another
+# command.
+price: toolchain
+	@python3 price/run.py $(COMMAND)
 
 clean:
 	rm -rf out crates/*/out
