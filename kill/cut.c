@@ -4,9 +4,10 @@
      one, half, most  it is killed when a write has put one byte, half of its bytes, or all but one
      last             it is killed when a write has put the last half of its bytes and not the first, as a machine may
                       that is lost
-     ENOSPC, EIO      the call fails, and nothing was done
+     ENOSPC, EIO, ENOMEM, EINVAL
+                      the call fails, and nothing was done
      short            a write puts half of its bytes, and from then on each write fails for want of room
-     part             a write puts half of its bytes, and says so
+     part             a read or a write moves half of its bytes, and says so
    The file that CALLS names gets a line for each call, what it is and the file's name, and the line `cut` after the one
    that is cut off. Standard input, output and error are no such files. */
 #define _GNU_SOURCE
@@ -47,14 +48,19 @@ static void end(void) {
     for (;;) pause();
 }
 
+/* The error that the call fails with, or 0. */
+static int error(void) {
+    return is("ENOSPC") ? ENOSPC : is("EIO") ? EIO : is("ENOMEM") ? ENOMEM : is("EINVAL") ? EINVAL : 0;
+}
+
 /* Counts a call that is about to be made, and says whether it fails. */
 static int fails(const char *what, const char *name) {
     list(what, name);
     is_cut = ++called == nth;
     if (is_cut) list("cut", how);
     if (is_cut && is("before")) end();
-    errno = is_cut && is("EIO") ? EIO : ENOSPC;
-    return (is_cut && (is("EIO") || is("ENOSPC"))) || (is_full && strcmp(what, "write") == 0);
+    errno = is_cut && error() ? error() : ENOSPC;
+    return (is_cut && error()) || (is_full && strcmp(what, "write") == 0);
 }
 
 /* What a call that was made answered, unless the process is killed after it. */
@@ -63,7 +69,7 @@ static long made(long answer) {
     return answer;
 }
 
-/* So many of a write's bytes are put. */
+/* So many of a read's or a write's bytes are moved. */
 static size_t share(size_t size) {
     if (!is_cut || size < 2) return size;
     if (is("short")) is_full = 1;
@@ -113,7 +119,7 @@ ssize_t write(int file, const void *bytes, size_t size) {
 
 ssize_t read(int file, void *bytes, size_t size) {
     if (file <= STDERR_FILENO) return syscall(SYS_read, file, bytes, size);
-    return fails("read", name_of(file)) ? -1 : made(syscall(SYS_read, file, bytes, size));
+    return fails("read", name_of(file)) ? -1 : made(syscall(SYS_read, file, bytes, share(size)));
 }
 
 ssize_t pwrite(int file, const void *bytes, size_t size, off_t at) {

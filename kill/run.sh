@@ -5,9 +5,9 @@
 # Eight sessions, each on a chip in files of given bytes, and the restore of each, from its journal and the chip that it
 # left. Left alone they must come to their own end. Cut off they must leave what the manual page's rescue gives back:
 # `--restore` ends with 0, and both files are as before the session; or it tells that a session's journal was cut short,
-# and they are so already. A failing call must be told, unless all was done nevertheless. Of each session and restore
-# the first run that is lost is told, with the words to do it again alone, and the status is 1. This needs a C compiler,
-# and no test can kill the program.
+# and they are so already. A failing call must be told by its own line, unless all was done nevertheless. Of each
+# session and restore the first run that is lost is told, with the words to do it again alone, and the status is 1. This
+# needs a C compiler.
 set -euo pipefail
 
 top=$(cd "$(dirname "$0")/.." && pwd)
@@ -141,17 +141,41 @@ is_given_back() {
     fi && have "${before[@]}"
 }
 
-# A failure was told, and isn't one that asks a technician to delete the journal.
-is_told() { [[ $ended == 1 && -s faults && $(< faults) != "$answer" && $(< faults) != 'Error 15'* ]]; }
+# The lines that tell how a call failed. Where it was for want of room the files that are written later have none
+# either.
+lines_of() {
+    case $2,$1 in
+        ENOMEM,*) echo 'Error 18: out of memory.' ;;
+        *,open* | *,read*) echo "File fault 1: ${1#* }." ;;
+        *,'make journal' | *,'fsync .') echo 'File fault 2: journal.' ;;
+        *journal) echo 'Error 11: journal not written.' ;;
+        *) echo "File fault 2: ${1#* }." ;;
+    esac
+    case $2,$1 in
+        short,*journal) printf 'File fault 2: %s.\n' image status ;;
+        short,*image) echo 'File fault 2: status.' ;;
+    esac
+}
 
-# The run ended as it must where this call was cut off so. A failure may pass where a file is closed, and where a folder
-# can't be opened.
+# Just those lines were told, where the chip's files are written behind what the run told of its own end.
+is_told() {
+    local printed='' faults
+    faults=$(lines_of "$1" "$2")
+    case $1 in
+        open* | read* | *journal | *.) ;;
+        *) [[ $answer == Found* ]] && printed=$answer || faults=$answer$'\n'$faults ;;
+    esac
+    [[ $ended == 1 && $(< said) == "$printed" && $(< faults) == "$faults" ]]
+}
+
+# The run ended as it must where this call was cut off so. A failure may pass where a file is closed, and does where a
+# folder can't be opened, or isn't for syncing.
 ended_rightly() {
     [[ $(< calls) == *$'\n'"cut $2"* ]] || return 1
     case $2,$1 in
-        part,*) is_own ;;
-        E*,close* | E*,'open .') is_own || is_told ;;
-        E*,* | short,*) is_told ;;
+        part,* | EINVAL,'fsync .' | E*,'open .') is_own ;;
+        E*,close*) is_own || is_told "$1" "$2" ;;
+        E*,* | short,*) is_told "$1" "$2" ;;
         *) [[ $ended == 137 ]] ;;
     esac
 }
@@ -174,16 +198,19 @@ cut_off() {
 Run it again with: kill/run.sh $program $run $number $how" >&2
 }
 
-# The ways in which a call is cut off. One that reads leaves nothing, so it is only made to fail, and of the many that a
-# chip of 8 MiB takes none. The bytes of a write may come in any order into a file that has all of them already, and not
-# into one that grows.
+# The ways in which a call is cut off. One that reads leaves nothing, so it is only made to fail or to read less, and of
+# the many that a chip of 8 MiB takes those of its layout alone. The bytes of a write may come in any order into a file
+# that has all of them already, and not into one that grows.
 ways() {
     case $1 in
-        read*) [[ $chip != $on_tiny* ]] || echo EIO ;;
+        read*) [[ $chip != $on_tiny* && $1 != *layout ]] || echo EIO part ;;
         write*)
             echo before one half most after ENOSPC EIO short part
             [[ $1 == *journal || ${from[0]} == - ]] || echo last
             ;;
+        'fsync .') echo before after ENOSPC EIO EINVAL ;;
+        'open .') echo before after ENOSPC EIO ;;
+        open*) echo before after ENOSPC EIO ENOMEM ;;
         *) echo before after ENOSPC EIO ;;
     esac
 }
@@ -231,6 +258,25 @@ job() {
     cut_each
 }
 
+# The folder that is synced is the one that the journal's name stands in.
+check_folders() {
+    local name folder from=(byte_00 clear) sealed=''
+    [[ -z $only ]] || return 0
+    mkdir -p a/b
+    for name in journal ./journal ../journal a/journal a/b/journal "$PWD/journal"; do
+        folder=.
+        [[ $name != */* ]] || folder=${name%/*}
+        begin
+        rm -f "$name"
+        attempt 0 '' -p $on_tiny -w ../byte_01 --journal "$name"
+        if [[ $ended == 0 ]] && grep -qxF "fsync $folder" calls; then
+            passed=$((passed + 1))
+        else
+            tell "$name was made, and its folder not synced"
+        fi
+    done
+}
+
 # What is printed at the end of a change of a chip of 64 KiB, and of one of 8 MiB, with these counts.
 counts() { printf 'Done: touched %s, erases %s, programs %s, transactions %s.' "$@"; }
 tiny() { printf 'Found SFDP (fe1010), 65536 bytes.\n%s' "$(counts "$@")"; }
@@ -250,5 +296,6 @@ job protect $on_large 'guarded_00 clear' 'guarded_00 guarding' "$(large 0 0 0 7)
     --wp-range 0x7e0000,0x20000
 job unlock $on_large 'guarded_00 guarding' 'guarded_01 guarding' "$(large 1 1 1 49)" "$(large 1 0 1 16)" \
     -w ../guarded_01 -l ../layout -i top --unlock
+check_folders
 ((passed + failed > 0)) || fail "there is no such run or call"
 finish

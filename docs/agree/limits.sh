@@ -75,11 +75,10 @@ limit_transactions() {
     limit "MiB of the largest chip" $((2 ** $(constant $sfdp 'MOST_EXPONENT: u32 = ') >> 23)) 2 'KiB to # MiB'
 }
 
-# How a run ends, and how many tests and cases show it: a case begins with a comment.
+# How a run ends, and how many cases show it: a case begins with a comment.
 limit_runs() {
     limit "status of a fault" "$(constant $printing '  status: ')" 2 \
         'tandard error, (with|and the) status( is)? #'
-    limit "tests of the program" "$(cat crates/flashnor/src/{,tests/}*.rt | grep -c '^#\[test\]')" 1 '# tests, each'
     limit "cases of the program" \
         "$(awk '/^# / && !told { n++ } { told = /^# / } END { print n }' runs/cases/*.case)" 1 '# cases of the built'
     seq 0 "$(constant crates/flashnor/specs/Run.antt 'pub few : ending\.status ≤ ')" | keep "exit statuses" Run.antt

@@ -14,8 +14,6 @@ mod readings;
 mod requests;
 mod run;
 mod stores;
-#[cfg(test)]
-mod tests;
 
 use run::run_collected;
 pub use run::run_words;
