@@ -13,8 +13,8 @@ work=$(mktemp -d)
 trap 'rm -rf "$work"' EXIT
 passed=0
 failed=0
-# These run for minutes, so they are compiled alone.
-slow=" rows storm "
+# Its tests run for minutes, so they are compiled alone.
+slow=" rows "
 
 if ! command -v rt > /dev/null; then
     echo "'rt' isn't found: it comes with Rattle's kit, whose folder bin has to be in PATH." >&2
@@ -56,25 +56,39 @@ is_laid_out() {
     return $changed
 }
 
-# A crate's tests, with no proof.
+has_tests() { grep -rqF '#[test]' "$top/crates/$1/src"; }
+
+# A crate's tests, or a program that has none, with no proof. A library that has none is compiled with those above it.
 try_crate() {
-    local seconds=200
+    local seconds=200 words=(--test)
     cd "$top/crates/$1"
     [[ $slow == *" $1 "* ]] && seconds=1
-    timeout 280 rt try --test --seconds "$seconds" > "$2/$1.log" 2>&1 < /dev/null
+    if ! has_tests "$1"; then
+        [[ -f src/main.rt ]] || return 0
+        case $1 in
+            flashnor) words=(-- -h) ;;
+            storm) words=(-- 1 1) ;;
+            *) words=() ;;
+        esac
+    fi
+    timeout 280 rt try --seconds "$seconds" "${words[@]}" > "$2/$1.log" 2>&1 < /dev/null
     echo $? > "$2/$1.status"
 }
-export -f try_crate
+export -f has_tests try_crate
 export top slow
 
-# Tells how the tests of a crate ended: 6 is that of a try that ran out of its time.
-count_tests() {
-    local status
+# Tells how the tests of a crate ended, or a program without tests: 6 is that of a try that ran out of its time.
+count_try() {
+    local status what="tests of $1"
+    if ! has_tests "$1"; then
+        [[ -f crates/$1/src/main.rt ]] || return 0
+        what="the program $1"
+    fi
     status=$(cat "$work/$1.status" 2> /dev/null || echo 1)
     if [[ $status == 6 || $status == 124 ]]; then
-        echo "tests of $1: compiled, and too slow to be run so"
+        echo "$what: compiled, and too slow to be run so"
     else
-        count "tests of $1" "$status" "$work/$1.log"
+        count "$what" "$status" "$work/$1.log"
     fi
 }
 
@@ -83,7 +97,7 @@ step "the pages agree" bash docs/agree.sh
 # The largest first, so that none is left alone at the end.
 du -s crates/*/src | sort -rn | sed 's|.*crates/\(.*\)/src|\1|' |
     xargs -P "$(nproc)" -I{} bash -c "try_crate {} '$work' || true"
-for crate in crates/*; do count_tests "${crate#crates/}"; done
+for crate in crates/*; do count_try "${crate#crates/}"; done
 if [[ -x $program ]]; then
     step "the built program" bash runs/run.sh "$program"
 else
