@@ -83,7 +83,7 @@ fn each_refusal_has_a_line(rt: HostRuntime) -> Result<(), Fail> {
     for (refusal, told) in REFUSALS {
         let mut errors = Vec::new(rt.alloc());
         assert!(rt;
-            print_fault(&mut errors, &Fault::from(refusal)),
+            print_fault(&mut errors, &Fault::Refused(refusal)),
             "at {told}"
         );
         assert_eq!(rt; errors.as_slice(), told.as_bytes(), "at {told}");
@@ -96,7 +96,7 @@ fn each_refusal_has_a_line(rt: HostRuntime) -> Result<(), Fail> {
 fn want_of_memory_has_a_line(rt: HostRuntime) -> Result<(), Fail> {
     for (fault, told) in [
         (Fault::from(AllocError), "Error 18: out of memory.\n"),
-        (Fault::from(UsageFault::Memory), "Usage fault 10.\n"),
+        (Fault::Usage(UsageFault::Memory), "Usage fault 10.\n"),
         (Fault::from(LayoutFault::Memory), "Layout fault 7.\n"),
     ] {
         let mut errors = Vec::new(rt.alloc());
