@@ -14,11 +14,7 @@ mod tally;
 
 pub use changes::{Changes, Work, apply};
 pub use checks::{CheckFault, check_all};
-pub use erases::erase_all;
-pub use programs::program_all;
-pub use protection::write_code;
 pub use source::Source;
-pub use tally::Tally;
 
 #[cfg(test)]
 mod tests;

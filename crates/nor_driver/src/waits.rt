@@ -11,8 +11,8 @@ use nor_chip::{Bus, Status1, Stopped};
 // The opcode of a poll.
 const READ_STATUS1: u8 = 0x05;
 
-/// The most polls that a wait sends.
-pub const MOST_POLLS: u32 = 65536;
+// The most polls that a wait sends.
+const MOST_POLLS: u32 = 65536;
 
 /// Status 1, by one poll (05h).
 pub fn poll<B: Bus>(bus: &mut B) -> Result<u8, Stopped>

@@ -20,6 +20,6 @@ mod tests;
 pub use fault::{LayoutFault, LineFault};
 pub use included::{blank_excluded, fill_excluded, includes, includes_in_sector, reaches_past};
 pub use layout::Layout;
-pub use places::{Places, PlacesIn, SECTOR};
+pub use places::{Places, PlacesIn};
 pub use ranges::{Ranges, Span};
-pub use region::{NAME_LEN, REGIONS, Region};
+pub use region::Region;

@@ -10,6 +10,6 @@ pub mod set;
 
 pub use erase::{Erases, erases, fewest_is_least};
 pub use lanes::{bounds, differs, raises};
-pub use page::{PAGE, Span, Spans, spans};
+pub use page::{Span, Spans, spans};
 pub use plan::{Plan, SectorPlan};
-pub use set::{SectorSet, Sectors};
+pub use set::{SECTORS, SectorSet, Sectors};

@@ -9,12 +9,12 @@ mod report;
 mod saving;
 mod scanning;
 
-pub use judging::{first_held, judge_opening, judge_scan};
+pub use judging::{first_held, judge_opening};
 pub use opening::{Opening, open, read_on};
 pub use refusal::Refusal;
 pub use report::{Report, Request, What};
 pub use saving::{Kept, keep};
-pub use scanning::{Scanned, scan_all};
+pub use scanning::Scanned;
 
 #[cfg(test)]
 mod tests;
