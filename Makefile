@@ -1,5 +1,5 @@
 # `make demo` runs the main job, `make quick` looks at all that needs no proof, `make check` proves and passes the tests.
-# README says how long each takes.
+# README tells the times that were measured.
 
 PROGRAM := crates/flashnor/out/flashnor
 BENCH := crates/bench/out/bench

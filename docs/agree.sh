@@ -1,11 +1,14 @@
 #!/usr/bin/env bash
-# docs/agree.sh: whether the help, SPECIFICATION.md, the manual page and the completion say what the sources say, word
-# for word: options and keys with the names of their values, chips, printed lines, faults by their numbers, limits,
-# examples; and whether README.md says nothing else. A line tells what was compared, how much of it and where; each difference is told with both texts,
-# and then the status is 1. What is looked for must be found, so a text that is put otherwise is told too.
+# docs/agree.sh [PROGRAM]: whether the help, SPECIFICATION.md, the manual page and the completion say what the sources
+# say, word for word: options and keys with the names of their values, chips, printed lines, faults by their numbers,
+# limits, examples; and whether README.md says nothing else. A line tells what was compared, how much of it and where;
+# each difference is told with both texts, and then the status is 1. What is looked for must be found, so a text that is
+# put otherwise is told too. The help and the list of chips are those that the program prints; where none is given,
+# those that the sources have.
 set -Eeuo pipefail
 trap 'echo "DIFFERS: broke off at $BASH_COMMAND"' ERR
 export LC_ALL=C
+program=${1:+$(realpath "$1")}
 cd "$(dirname "$0")/.."
 words=crates/nor_words/src messages=crates/flashnor/src/messages.rt printing=crates/flashnor/src/printing.rt
 pages="SPECIFICATION manual"
@@ -70,7 +73,11 @@ flat() { tr -s ' \n' ' ' < "$1"; }
 
 # The texts as they are searched, without what only their form needs, and the command lines that they show.
 take_texts() {
-    sed -n '/^const HELP/,/^";/p' $words/tests/help.rt | sed '1d; $d' > "$work/help"
+    if [[ $program ]]; then
+        "$program" -h > "$work/help"
+    else
+        sed -n '/^const HELP/,/^";/p' $words/tests/help.rt | sed '1d; $d' > "$work/help"
+    fi
     flat_manual > "$work/manual"
     for text in README docs/SPECIFICATION docs/DECISIONS; do tr -d '`' < $text.md > "$work/${text#docs/}"; done
     for text in README $pages help DECISIONS; do flat "$work/$text" > "$work/flat/$text"; done

@@ -2,7 +2,8 @@
 # runs/run.sh [PROGRAM [FOLDER]]: the built program on each case of a folder, each case in a folder of its own.
 #
 # Without a folder these are runs/cases and the examples of README.md and the manual page (pages.sh), and it is tried
-# that a program that does nothing and an empty folder don't pass (self.sh). How a case is read stands in
+# that a program that does nothing and an empty folder don't pass (self.sh), and whether the pages say what the program
+# prints as help and as list of chips (docs/agree.sh). How a case is read stands in
 # cases/README.md. A case that fails is told, with what was wanted and what was got. The last line is
 # `N passed, M failed`, and the status is 1 where one failed or none was run. What can't be tried here is told in a line
 # that begins with `left out:`.
@@ -55,6 +56,13 @@ done
 if [[ -z $folder ]]; then
     add "$(bash "$top/runs/pages.sh" "$program" 2>&1)" pages.sh
     add "$(bash "$top/runs/self.sh" "$program" 2>&1)" self.sh
+    if agreed=$(bash "$top/docs/agree.sh" "$program" 2>&1); then
+        passed=$((passed + 1))
+    else
+        grep DIFFERS <<< "$agreed"
+        echo "FAILED: the pages don't say what the program prints"
+        failed=$((failed + 1))
+    fi
 fi
 echo "$passed passed, $failed failed"
 ((failed == 0 && passed > 0))

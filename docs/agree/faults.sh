@@ -17,20 +17,19 @@ fault_lines() {
         sed -E "s/\{\}\{\}\./K.\nLayout fault K$place./; s/\{line\}/N/; s/\{name\}/NAME/; s/\{\}/K/"
 }
 
-# The lines of faults in the tables.
+# The lines of faults in the manual page.
 take_lines() {
     { refusal_lines; fault_lines; } | keep "lines of faults" program
-    table docs/SPECIFICATION.md Line | cut -d'|' -f1 | quoted | keep "lines of faults" SPECIFICATION
     { tags Refusals; cut -f2 "$work/manual" | search '"[^"]* fault K[^"]*"' | tr -d '"'; } |
         keep "lines of faults" manual
-    same "lines of faults" program $pages
+    same "lines of faults" program manual
 }
 
 # Each refusal that a text shows anywhere, with `_` for what it tells.
 take_shown() {
     local text mark='s/ (0x[0-9a-fA-F]+|[0-9]+|[ICKW])([ .,])/ _\2/g'
     sed -E "$mark" "$work/lines of faults of program" | keep "refusals shown" program
-    for text in README $pages; do
+    for text in README manual; do
         search "Error [0-9]+: [a-zA-Z][a-zA-Z0-9 ,']*\." "$work/flat/$text" | sed -E "$mark" |
             keep "refusals shown" $text
         none_but "refusals shown" program $text
@@ -58,18 +57,13 @@ numbers_in() {
         search '[0-9]+$'
 }
 
-# A list `1 .., 2 ..` that ends with its sentence, an item a line.
-items() { tr -d '`' | sed -E 's/^(.*[.:])? *1 /1 /; s/\. .*//; s/\.? *$//' | sed -E 's/, ([0-9]+ )/\n\1/g'; }
-
-# The faults of a kind by their numbers, in the same words, and those of the source by number alone.
+# The faults of a kind by their numbers.
 take_kind() {
     local kind=$1 source=${2##*/}
-    sed -nE "s/.*\*\*$kind faults\*\*: //p" docs/SPECIFICATION.md | items | keep "$kind faults" SPECIFICATION
     tags "^$kind faults" | keep "$kind faults" manual
-    same "$kind faults" $pages
     numbers_in "$2" | keep "numbers of $kind faults" "$source"
-    cut -d' ' -f1 "$work/$kind faults of SPECIFICATION" | keep "numbers of $kind faults" SPECIFICATION
-    same "numbers of $kind faults" "$source" SPECIFICATION
+    cut -d' ' -f1 "$work/$kind faults of manual" | keep "numbers of $kind faults" manual
+    same "numbers of $kind faults" "$source" manual
 }
 
 # The options of which lines `N: ..` speak, by the lines' numbers.
@@ -84,8 +78,8 @@ options_by_number() {
 take_usage_options() {
     sed -nE 's/^ *\/\/\/ ([0-9]+: .*)/\1/p' $words/words.rt | tr -d '`' | options_by_number |
         keep "options of usage faults" words.rt
-    options_by_number < "$work/Usage faults of SPECIFICATION" | keep "options of usage faults" SPECIFICATION
-    same "options of usage faults" words.rt SPECIFICATION
+    options_by_number < "$work/Usage faults of manual" | keep "options of usage faults" manual
+    same "options of usage faults" words.rt manual
 }
 
 take_faults() {

@@ -54,7 +54,7 @@ limit_words() {
     limit "hexadecimal digits of a place" "$(constant $numbers 'read_numeral\(digits, 16, ')" 2 \
         '1 to # hexadecimal digits'
     limit "hexadecimal digits in a layout" "$(constant $layout 'DIGITS: usize = ')" 2 '1 to # hexadecimal digits'
-    limit "hexadecimal digits of unique" $((2 * $(constant $numbers 'Option<\[u8; '))) 3 \
+    limit "hexadecimal digits of unique" $((2 * $(constant $numbers 'Option<\[u8; '))) 2 \
         '(number, |reads: )# hexadecimal'
     limit "greatest busy" "$(constant $numbers 'text, 10, 20, ')" 4 '(polls from |operation, |BUSY \()0 to #'
 }

@@ -7,11 +7,10 @@ take_options() {
         -e "s/^(short_flag\( ?alloc, |\.short\()'(.)'.*/-\2/p" -e 's/^long_flag\( ?alloc, "([^"]*)".*/--\1/p' \
         -e 's/^long_value\( ?alloc, "([^"]*)", "([^"]*)".*/--\1 \2/p' | keep options parser
     sed -nE '/^Options:/,/^$/s/^ +(-[-a-zA-Z]+)( <([^>]*)>)? .*/\1 \3/p' "$work/help" | sed 's/ $//' | keep options help
-    table docs/SPECIFICATION.md Option | cut -d'|' -f1 | quoted | keep options SPECIFICATION
     tags OPTIONS | keep options manual
     awk -F'\t' '$1 == "SYNOPSIS" { print $4 }' "$work/manual" | sed 's/dummy:[^ ]*/TEXT/' |
         search '-[-a-zA-Z]+( [A-Z][A-Z,.]*)?' | keep options synopsis
-    same options parser help $pages synopsis
+    same options parser help manual synopsis
 }
 
 # The options of the completion: all, and those behind which it offers something, or files.
@@ -51,13 +50,12 @@ take_keys() {
     sed -n 's/=FILE$//p' "$work/keys with values of help" | keep "keys with files" help
     search 'dummy:[^ ]*' "$work/examples" | sed 's/dummy://' | tr ',' '\n' | sed 's/=.*//' | keep keys examples
     table README.md flashrom | cut -d'|' -f2 | quoted | grep -E '^[a-z]+=[A-Z]+$' | keep "keys with values" README
-    table docs/SPECIFICATION.md Setting | cut -d'|' -f1 | quoted | keep "keys with values" SPECIFICATION
     tags PROGRAMMER | keep "keys with values" manual
     sed -n 's/) _flashnor_files "$word" "$front.*//p' completion/flashnor.bash | tr -d ' =*' | tr '|' '\n' |
         keep "keys with files" completion
     same keys parser completion help
     none_but keys parser examples
-    same "keys with values" help $pages
+    same "keys with values" help manual
     none_but "keys with values" help README
     same "keys with files" help completion
 }
@@ -75,21 +73,21 @@ in_bytes() { awk '{ $(NF - 1) *= $NF == "MiB" ? 1048576 : 1024; NF--; print }'; 
 # The chips that are known, those that are emulated, and those that answers in the texts show.
 take_chips() {
     local text made=crates/nor_chip/src/config.rt known=crates/nor_probe/src/table.rt
-    chips_in $known | keep "known chips" table.rt
+    if [[ $program ]]; then "$program" -L | sed '/^SFDP$/d'; else chips_in $known; fi | keep "known chips" program
     table docs/SPECIFICATION.md Name | awk -F' [|] ' '{ gsub(/ /, "", $2); print $1, tolower($2), $3 }' | in_bytes |
         keep "known chips" SPECIFICATION
     search 'W25Q[0-9A-Z]+ [0-9a-f]{6} [0-9]+' "$work/SPECIFICATION" | keep "known chips" "answer of -L"
-    same "known chips" table.rt SPECIFICATION "answer of -L"
+    same "known chips" program SPECIFICATION "answer of -L"
     chips_in $made | sed 's/^TINY64/SFDP/' | keep "found chips" config.rt
     cat "$work/README" "$work/manual" | sed -nE 's/.*Found ([A-Z0-9]+) \(([0-9a-f]{6})\), ([0-9]+) .*/\1 \2 \3/p' |
         keep "found chips" examples
     none_but "found chips" config.rt examples
     chips_in $made | sed 's/ [0-9a-f]* / /' | keep "emulated chips" config.rt
-    for text in help SPECIFICATION manual; do
+    for text in help manual; do
         search '(TINY64|W25Q[0-9A-Z]+) \([0-9]+ [KM]iB' "$work/flat/$text" | tr -d '(' | in_bytes |
             keep "emulated chips" $text
     done
-    same "emulated chips" config.rt help SPECIFICATION manual
+    same "emulated chips" config.rt help manual
 }
 
 # The names that `-c` takes.

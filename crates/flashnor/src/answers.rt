@@ -3,7 +3,10 @@
 use nor_chip::Offered;
 use nor_probe::Found;
 use nor_read::Protection;
-use nor_session::{Rehearsal, Report};
+use nor_session::{Refusal, Rehearsal, Report};
+
+/// What a call came to: an answer, or its refusal.
+pub type Outcome = Result<Answer, Refusal>;
 
 /// What a job came to.
 #[derive(Drop)]

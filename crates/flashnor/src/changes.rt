@@ -8,15 +8,15 @@ ghost use Rattle.flashnor.specs.Changes.{HasChanged, HasKept, HasRehearsed, HasR
 ghost use Rattle.flashnor.specs.Requests.{FailsToInclude, IsBufferOf};
 ghost use Rattle.flashnor.specs.Run.{DoesChange, DoesRestore, FailsToKeep, FailsToRead, FailsToRestore};
 
-use crate::answers::Answer;
+use crate::answers::{Answer, Outcome};
 use crate::chips::erased;
 use crate::files::{MOST_IMAGE_BYTES, MOST_JOURNAL_BYTES, make, read_file};
 use crate::messages::Fault;
-use crate::requests::{read_included, read_name, request_for};
+use crate::readings::find;
+use crate::requests::{read_included, request_for};
 use crate::stores::Store;
 use nor_chip::{Bus, Meter};
 use nor_journal::{Journal, MemVault, Vault};
-use nor_probe::probe;
 use nor_session::{Refusal, Request, rehearse, restore, session};
 use nor_words::{Change, Emulated, Keeping, Wanted};
 
@@ -28,7 +28,7 @@ pub fn change_chip<'a, R: Store, B: Meter>(
     chip: Emulated,
     named: Option<&str>,
     change: &Change<'a>,
-) -> Result<Result<Answer, Refusal>, Fault<'a>>
+) -> Result<Outcome, Fault<'a>>
     ensures ok { IsModelled (B.state bus.old) → IsCalm (B.state bus.old)
         → IfOk result (DoesChange (R.happened rt.now) chip named.entry change.now (B.state bus.old) (B.state bus.new)) }
     ensures err { IfErr result (λ fault. FailsToInclude (R.happened rt.now) change.now.regions fault
@@ -38,9 +38,7 @@ pub fn change_chip<'a, R: Store, B: Meter>(
     let included = read_included(rt, change.regions)?;
     let request = request_for(change, named, included);
     let mut image = read_wanted(rt, chip, change.wanted)?;
-    let mut vault = MemVault::new(rt.alloc());
-    let outcome = change_with(rt, bus, &mut vault, &mut image, &request, &change.keeping)?;
-    Ok(outcome)
+    change_with(rt, bus, &mut image, &request, &change.keeping)
 }
 
 // The buffer of a session: for a write the image, for an erase as many bytes as the chip has.
@@ -59,16 +57,14 @@ fn read_wanted<'a, R: Store>(
     }
 }
 
-// Runs the session of a request with its journal in a file, or rehearses it with the journal in this vault.
+// Runs the session of a request with its journal in a file, or rehearses it with the journal in memory.
 fn change_with<'a, R: Store, B: Meter>(
     rt: &R,
     bus: &mut B,
-    vault: &mut MemVault,
     image: &mut [u8],
     request: &Request,
     keeping: &Keeping<'a>,
-) -> Result<Result<Answer, Refusal>, Fault<'a>>
-    requires { IsFresh (⟦<MemVault as Vault>⟧.state vault.old) }
+) -> Result<Outcome, Fault<'a>>
     ensures ok { IsModelled (B.state bus.old) → IsCalm (B.state bus.old)
         → IfOk result (HasChanged (R.happened rt.now) request.now image.old keeping.now (B.state bus.old) (B.state bus.new)) }
     ensures err { IfErr result (FailsToKeep (R.happened rt.now) keeping.now) }
@@ -78,13 +74,10 @@ fn change_with<'a, R: Store, B: Meter>(
             let mut journal = make(rt, *file)?;
             Ok(keep_change(bus, &mut journal, image, request))
         }
-        Keeping::Rehearse { stops } => Ok(rehearse_change(
-            bus,
-            vault,
-            image,
-            request,
-            stops.as_slice(),
-        )),
+        Keeping::Rehearse { stops } => {
+            let mut vault = MemVault::new(rt.alloc());
+            Ok(rehearse_change(bus, &mut vault, image, request, stops.as_slice()))
+        }
     }
 }
 
@@ -94,7 +87,7 @@ fn keep_change<B: Bus, V: Vault>(
     vault: &mut V,
     image: &mut [u8],
     request: &Request,
-) -> Result<Answer, Refusal>
+) -> Outcome
     requires { IsFresh (V.state vault.old) }
     ensures { IsModelled (B.state bus.old) → IsCalm (B.state bus.old)
         → HasKept request.now image.old (B.state bus.old) (B.state bus.new)
@@ -111,7 +104,7 @@ fn rehearse_change<B: Meter>(
     image: &mut [u8],
     request: &Request,
     stops: &[u64],
-) -> Result<Answer, Refusal>
+) -> Outcome
     requires few { length stops.now ≤ 64 }
     requires fresh { IsFresh (⟦<MemVault as Vault>⟧.state vault.old) }
     ensures { IsModelled (B.state bus.old) → IsCalm (B.state bus.old)
@@ -128,7 +121,7 @@ pub fn restore_chip<'a, R: Store, B: Bus>(
     bus: &mut B,
     named: Option<&str>,
     journal: &'a str,
-) -> Result<Result<Answer, Refusal>, Fault<'a>>
+) -> Result<Outcome, Fault<'a>>
     ensures ok { IsModelled (B.state bus.old) → IsCalm (B.state bus.old)
         → IfOk result (DoesRestore (R.happened rt.now) named.entry journal.now (B.state bus.old) (B.state bus.new)) }
     ensures err { IfErr result (FailsToRestore (R.happened rt.now) journal.now) }
@@ -141,11 +134,7 @@ pub fn restore_chip<'a, R: Store, B: Bus>(
 }
 
 // Makes a chip, which must have the name that is given, if one is, again what a journal says.
-fn restore_named<B: Bus>(
-    bus: &mut B,
-    named: Option<&str>,
-    journal: &Journal<'_>,
-) -> Result<Answer, Refusal>
+fn restore_named<B: Bus>(bus: &mut B, named: Option<&str>, journal: &Journal<'_>) -> Outcome
     ensures { IsModelled (B.state bus.old) → IsCalm (B.state bus.old)
         → HasRestored journal.now named.entry (B.state bus.old) (B.state bus.new) result }
 {
@@ -162,11 +151,8 @@ fn find_named<B: Bus>(bus: &mut B, named: Option<&str>) -> Result<(), Refusal>
     ensures same { IsModelled (B.state bus.old) → IsCalm (B.state bus.old) → IsSame (B.state bus.old).chip (B.state bus.new).chip }
     ensures refuses { IsModelled (B.state bus.old) → IfErr result (ProbeRefuses named.entry (B.state bus.old) (B.state bus.new)) }
 {
-    if named.is_none() {
-        return Ok(());
+    if named.is_some() {
+        find(bus, named)?;
     }
-    match probe(bus, read_name(named)) {
-        Ok(_) => Ok(()),
-        Err(fault) => Err(Refusal::from(fault)),
-    }
+    Ok(())
 }

@@ -67,16 +67,6 @@ impl Fault<'_> {
     }
 }
 
-impl From<UsageFault> for Fault<'_> {
-    ghost use Rattle.flashnor.specs.declared.messages.Fault.TheVariants.{Usage};
-
-    ghost from_gives = { λ usage fault. fault ≡ Usage usage };
-
-    fn from(fault: UsageFault) -> Self {
-        Fault::Usage(fault)
-    }
-}
-
 impl From<LayoutFault> for Fault<'_> {
     ghost use Rattle.flashnor.specs.declared.messages.Fault.TheVariants.{Layout};
 
@@ -95,16 +85,6 @@ impl From<AllocError> for Fault<'_> {
 
     fn from(_: AllocError) -> Self {
         Fault::Refused(Refusal::Memory)
-    }
-}
-
-impl From<Refusal> for Fault<'_> {
-    ghost use Rattle.flashnor.specs.declared.messages.Fault.TheVariants.{Refused};
-
-    ghost from_gives = { λ refusal fault. fault ≡ Refused refusal };
-
-    fn from(refusal: Refusal) -> Self {
-        Fault::Refused(refusal)
     }
 }
 

@@ -1,15 +1,17 @@
 //! Jobs that leave a chip as it is.
-ghost use Rattle.std.specs.Prelude.{IfOk, IfErr, MatchResult, ◌⊎◌};
+ghost use Rattle.std.specs.Prelude.{◌≡◌, ◌⊎◌, IfOk, IfErr, MatchResult, true};
 ghost use Rattle.nor_driver.specs.Looks.{Looks};
+ghost use Rattle.nor_probe.specs.Found.{Finds, IsWanted};
 ghost use Rattle.nor_words.specs.declared.programmer.Programmer.{Programmer};
+ghost use Rattle.flashnor.specs.Changes.{ProbeRefuses};
 ghost use Rattle.flashnor.specs.Chips.{IsReady};
 ghost use Rattle.flashnor.specs.Files.{IsMaking, IsReading};
-ghost use Rattle.flashnor.specs.Found.{IsFound};
+ghost use Rattle.flashnor.specs.Found.{IsFound, wanted};
 ghost use Rattle.flashnor.specs.Readings.{FindRefuses, HasFound, HasTold, ListsRanges, TellsFound, TellsGuarded, TellsSize};
 ghost use Rattle.flashnor.specs.Requests.{FailsToInclude};
 ghost use Rattle.flashnor.specs.Run.{DoesRead, DoesVerify};
 
-use crate::answers::Answer;
+use crate::answers::{Answer, Outcome};
 use crate::files::{MOST_IMAGE_BYTES, empty, read_file};
 use crate::messages::Fault;
 use crate::requests::{read_included, read_name};
@@ -21,7 +23,7 @@ use nor_session::Refusal;
 use nor_words::Regions;
 
 /// Finds the chip.
-pub fn find_chip<B: Bus>(bus: &mut B, named: Option<&str>) -> Result<Answer, Refusal>
+pub fn find_chip<B: Bus>(bus: &mut B, named: Option<&str>) -> Outcome
     ensures { (programmer : Programmer) → IsReady programmer (B.state bus.old)
         → HasFound (TellsFound programmer named.entry) programmer named.entry (B.state bus.old) (B.state bus.new) result }
 {
@@ -30,7 +32,7 @@ pub fn find_chip<B: Bus>(bus: &mut B, named: Option<&str>) -> Result<Answer, Ref
 }
 
 /// Tells the chip's size.
-pub fn tell_size<B: Bus>(bus: &mut B, named: Option<&str>) -> Result<Answer, Refusal>
+pub fn tell_size<B: Bus>(bus: &mut B, named: Option<&str>) -> Outcome
     ensures { (programmer : Programmer) → IsReady programmer (B.state bus.old)
         → HasFound (TellsSize programmer named.entry) programmer named.entry (B.state bus.old) (B.state bus.new) result }
 {
@@ -38,10 +40,13 @@ pub fn tell_size<B: Bus>(bus: &mut B, named: Option<&str>) -> Result<Answer, Ref
     Ok(Answer::Size(found.size))
 }
 
-// The chip, which must have the name that is given, if one is.
+/// The chip, which must have the name that is given, if one is.
 #[tactic(auto, using(crate::proofs::Ready::finds_ready))]
-fn find<B: Bus>(bus: &mut B, named: Option<&str>) -> Result<Found, Refusal>
+pub fn find<B: Bus>(bus: &mut B, named: Option<&str>) -> Result<Found, Refusal>
     ensures looks { Looks 65540 (B.state bus.old) (B.state bus.new) }
+    ensures wanted { IfOk result (λ found. IsWanted (wanted named.entry) found.name) }
+    ensures finds { (B.state bus.old).honest ≡ true → IfOk result (Finds (B.state bus.old) (B.state bus.new)) }
+    ensures refuses { (B.state bus.old).honest ≡ true → IfErr result (ProbeRefuses named.entry (B.state bus.old) (B.state bus.new)) }
     ensures found { (programmer : Programmer) → IsReady programmer (B.state bus.old)
         → MatchResult result (IsFound named.entry programmer.chip) (FindRefuses programmer named.entry) }
 {
@@ -52,7 +57,7 @@ fn find<B: Bus>(bus: &mut B, named: Option<&str>) -> Result<Found, Refusal>
 }
 
 /// Tells what protects the chip.
-pub fn tell_protection<B: Bus>(bus: &mut B, named: Option<&str>) -> Result<Answer, Refusal>
+pub fn tell_protection<B: Bus>(bus: &mut B, named: Option<&str>) -> Outcome
     ensures { HasTold (TellsGuarded named.entry (B.state bus.old) (B.state bus.new))
         named.entry (B.state bus.old) (B.state bus.new) result }
 {
@@ -61,7 +66,7 @@ pub fn tell_protection<B: Bus>(bus: &mut B, named: Option<&str>) -> Result<Answe
 }
 
 /// Tells which ranges of the chip can be protected.
-pub fn list_ranges<B: Bus>(bus: &mut B, named: Option<&str>) -> Result<Answer, Refusal>
+pub fn list_ranges<B: Bus>(bus: &mut B, named: Option<&str>) -> Outcome
     ensures { HasTold (ListsRanges named.entry (B.state bus.old) (B.state bus.new))
         named.entry (B.state bus.old) (B.state bus.new) result }
 {
@@ -76,7 +81,7 @@ pub fn read_chip<'a, R: Store, B: Bus>(
     named: Option<&str>,
     file: &'a str,
     regions: Option<Regions<'a>>,
-) -> Result<Result<Answer, Refusal>, Fault<'a>>
+) -> Result<Outcome, Fault<'a>>
     ensures ok { IfOk result (DoesRead (R.happened rt.now) named.entry file.now regions.entry (B.state bus.old) (B.state bus.new)) }
     ensures err { IfErr result (λ fault. FailsToInclude (R.happened rt.now) regions.entry fault
         ⊎ IsMaking (R.happened rt.now) file.now fault) }
@@ -96,7 +101,7 @@ pub fn verify_chip<'a, R: Store, B: Bus>(
     named: Option<&str>,
     file: &'a str,
     regions: Option<Regions<'a>>,
-) -> Result<Result<Answer, Refusal>, Fault<'a>>
+) -> Result<Outcome, Fault<'a>>
     ensures ok { IfOk result (DoesVerify (R.happened rt.now) named.entry file.now regions.entry (B.state bus.old) (B.state bus.new)) }
     ensures err { IfErr result (λ fault. FailsToInclude (R.happened rt.now) regions.entry fault
         ⊎ IsReading (R.happened rt.now) file.now 16777217 fault) }

@@ -6,7 +6,7 @@ ghost use Rattle.flashnor.specs.Events.{unseen};
 ghost use Rattle.flashnor.specs.Endings.{EndsWith, IsUnread, all_written};
 ghost use Rattle.flashnor.specs.Run.{AreLeft, Does, EndsJob, FailsBefore, FailsJob, IsAnswer, IsStatus, IsToldAs, changes_chip};
 
-use crate::answers::Answer;
+use crate::answers::{Answer, Outcome};
 use crate::changes::{change_chip, restore_chip};
 use crate::chips::{Unwritten, read_content, start, write_back};
 use crate::files::create_log;
@@ -15,7 +15,6 @@ use crate::printing::{Ending, print_end};
 use crate::readings::{find_chip, list_ranges, read_chip, tell_protection, tell_size, verify_chip};
 use crate::stores::{Disk, Store};
 use nor_chip::{Bus, Meter, SimBus, TraceBus};
-use nor_session::Refusal;
 use nor_words::{Change, ChipJob, Job, Keeping, Task, request_of};
 use std::io;
 use std::io::Write;
@@ -119,17 +118,17 @@ fn work_on_chip<'a, R: Store>(rt: &R, job: &ChipJob<'a>) -> Result<Ended<'a>, Fa
     let content = read_content(rt, &job.programmer)?;
     let bus = start(&job.programmer, content);
     let called = call_on(rt, bus, job)?;
-    let Called { bus, answer, lost } = called;
+    let Called { bus, outcome, lost } = called;
     let unwritten = write_after(rt, job, &bus, lost);
-    let answer = told(answer);
+    let answer = told(outcome);
     Ok(Ended { answer, unwritten })
 }
 
 // What a call came to, as a run tells it.
-fn told<'a>(answer: Result<Answer, Refusal>) -> Result<Answer, Fault<'a>>
-    ensures { IsToldAs answer result }
+fn told<'a>(outcome: Outcome) -> Result<Answer, Fault<'a>>
+    ensures { IsToldAs outcome result }
 {
-    match answer {
+    match outcome {
         Ok(answer) => Ok(answer),
         Err(refusal) => Err(Fault::Refused(refusal)),
     }
@@ -163,7 +162,7 @@ fn write_after<'a, R: Store>(
 #[derive(Drop)]
 struct Called<'a> {
     bus: SimBus,
-    answer: Result<Answer, Refusal>,
+    outcome: Outcome,
     lost: Option<&'a str>,
 }
 
@@ -175,27 +174,27 @@ fn call_on<'a, R: Store>(
 ) -> Result<Called<'a>, Fault<'a>>
     ensures ok { let old = ⟦<SimBus as Bus>⟧.state bus in IsReady job.now.programmer old
         → IfOk result (λ called. Does (R.happened rt.now) job.now.programmer job.now.named job.now.task old
-        (⟦<SimBus as Bus>⟧.state called.bus) called.answer) }
+        (⟦<SimBus as Bus>⟧.state called.bus) called.outcome) }
     ensures lost { IfOk result (λ called. OnSome called.lost (called.lost ≡ job.now.programmer.trace)) }
     ensures err { IfErr result (λ fault.
         IsSomeAnd job.now.programmer.trace (λ name. IsLogging (R.happened rt.now) name.now fault)
         ⊎ FailsBefore (R.happened rt.now) job.now.task fault) }
 {
     let Some(name) = job.programmer.trace else {
-        let answer = do_task(rt, &mut bus, job)?;
+        let outcome = do_task(rt, &mut bus, job)?;
         return Ok(Called {
             bus,
-            answer,
+            outcome,
             lost: None,
         });
     };
     let mut traced = TraceBus::new(bus, create_log(rt, name)?);
-    let answer = do_task(rt, &mut traced, job)?;
+    let outcome = do_task(rt, &mut traced, job)?;
     traced.flush();
     let lost = if traced.lost() { Some(name) } else { None };
     Ok(Called {
         bus: traced.into_inner(),
-        answer,
+        outcome,
         lost,
     })
 }
@@ -206,7 +205,7 @@ fn do_task<'a, R: Store, B: Meter>(
     rt: &R,
     bus: &mut B,
     job: &ChipJob<'a>,
-) -> Result<Result<Answer, Refusal>, Fault<'a>>
+) -> Result<Outcome, Fault<'a>>
     ensures ok { IsReady job.now.programmer (B.state bus.old)
         → IfOk result (Does (R.happened rt.now) job.now.programmer job.now.named job.now.task
         (B.state bus.old) (B.state bus.new)) }

@@ -5,7 +5,10 @@ ghost use Rattle.nor_apply.specs.Counts.{sector_count};
 ghost use Rattle.nor_apply.specs.Spending.{HaltsBelow};
 ghost use Rattle.nor_apply.specs.Applying.{LeavesApply, DoesApply, writes_code, touched_in, most_applied};
 
-use crate::{Source, erase_all, program_all, write_code};
+use crate::Source;
+use crate::erases::erase_all;
+use crate::programs::program_all;
+use crate::protection::write_code;
 use nor_chip::{Bus, Status};
 use nor_driver::Halt;
 use nor_plan::SectorSet;

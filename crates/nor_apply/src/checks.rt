@@ -10,10 +10,7 @@ ghost use Rattle.nor_apply.specs.Change.{only, byte_of};
 use crate::Source;
 use nor_chip::{Bus, Stopped};
 use nor_driver::read_sector;
-use nor_plan::{SectorSet, bounds};
-
-/// One more than the number of the last sector that a chip can have.
-const SECTORS: u32 = 4096;
+use nor_plan::{SECTORS, SectorSet, bounds};
 
 /// Why a check wasn't passed.
 #[derive(Clone, Copy, Debug, PartialEq, Eq)]

@@ -5,7 +5,7 @@ ghost use Rattle.nor_apply.specs.Counts.{sector_count};
 ghost use Rattle.nor_apply.specs.Spending.{HaltsBelow};
 ghost use Rattle.nor_apply.specs.Erasing.{LeavesErases, DoesErases};
 
-use crate::Tally;
+use crate::tally::Tally;
 use nor_chip::Bus;
 use nor_driver::{Halt, erase};
 use nor_plan::{SectorSet, erases};

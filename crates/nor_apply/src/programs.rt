@@ -5,13 +5,11 @@ ghost use Rattle.nor_apply.specs.Counts.{sector_count};
 ghost use Rattle.nor_apply.specs.Spending.{HaltsBelow};
 ghost use Rattle.nor_apply.specs.Programming.{LeavesSpans, DoesSpans, LeavesSector, DoesSector, LeavesPrograms, DoesPrograms, Loads};
 
-use crate::{Source, Tally};
+use crate::Source;
+use crate::tally::Tally;
 use nor_chip::{Bus, Stopped};
 use nor_driver::{Halt, program_page, read_sector};
-use nor_plan::{SectorSet, spans};
-
-/// One more than the number of the last sector that a chip can have.
-const SECTORS: u32 = 4096;
+use nor_plan::{SECTORS, SectorSet, spans};
 
 /// Programs the touched sectors, rising, with the bytes that are wanted of them. A raised sector was erased, and is
 /// not read again.

@@ -2,7 +2,11 @@
 ghost use Rattle.std.specs.Prelude.{◌≡◌, ◌%◌, ◌≤◌, true, slice_index};
 ghost use Rattle.nor_plan.specs.SectorSet.{LiesBelow};
 
-use crate::{CheckFault, Source, Tally, check_all, erase_all, program_all, write_code};
+use crate::erases::erase_all;
+use crate::programs::program_all;
+use crate::protection::write_code;
+use crate::tally::Tally;
+use crate::{CheckFault, Source, check_all};
 use nor_chip::{Config, Delays, Meter, SimBus, Status, TraceBus};
 use nor_plan::SectorSet;
 use nor_probe::Kinds;

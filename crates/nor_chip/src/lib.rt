@@ -1,5 +1,17 @@
 //! The modelled SPI NOR flash chip, the bus that reaches it, and a simulated bus.
 //!
+//! ```rust
+//! use nor_chip::{Bus, Config, Delays, Meter, SimBus};
+//!
+//! let idle = Delays { now: 0, each: 0 };
+//! let erased = vec![in rt.alloc(); 0xFF; 65536]?;
+//! let mut bus = SimBus::new(Config::tiny64(), erased, [0x00, 0x00], idle)?;
+//! bus.allow(1);
+//! let mut id = [0; 3];
+//! bus.transfer(&[0x9F], &mut id)?;
+//! assert_eq!(rt; id, [0xFE, 0x10, 0x10]);
+//! ```
+//!
 //! What a chip does with each transaction stands in `specs/` (`Chip`, `Guard`, `Command`, `Step`); what a
 //! bus keeps stands in `specs/Bus.antt`. All crates above speak of chips by these definitions alone.
 #![tactic(auto)]

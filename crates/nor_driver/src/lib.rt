@@ -1,6 +1,19 @@
 //! The commands that a flash chip takes, each as one function over any bus. Opcodes are sent from here alone.
 //!
-//! What a reading leaves stands in `specs/Looks.antt`, what an operation leaves in `specs/Operations.antt`.
+//! ```rust
+//! use nor_driver::{program_page, read_id, read_sector, wait};
+//!
+//! // `bus` reaches an erased TINY64 that is idle.
+//! assert_eq!(rt; wait(&mut bus, 0)?.polls, 1);
+//! assert_eq!(rt; read_id(&mut bus)?, [0xFE, 0x10, 0x10]);
+//! assert_eq!(rt; program_page(&mut bus, 0x100, &[0xA5])?, 3);
+//! let mut sector = [0; 4096];
+//! read_sector(&mut bus, 0, &mut sector)?;
+//! assert_eq!(rt; sector[0x100], 0xA5);
+//! ```
+//!
+//! What a reading leaves stands in `specs/Looks.antt`, and what it tells in `Waits` and `Reads`; what an operation
+//! leaves in `Programs`, `Erases` and `StatusWrites`.
 #![tactic(auto)]
 
 mod operations;
@@ -11,7 +24,7 @@ mod waits;
 pub use operations::{erase, program_page, write_status};
 pub use reads::{read_id, read_sector, read_sfdp, read_status2, read_unique};
 pub use units::{Erase, EraseUnit};
-pub use waits::{Halt, MOST_POLLS, Waited, poll, wait};
+pub use waits::{Halt, Waited, poll, wait};
 
 #[cfg(test)]
 mod tests;

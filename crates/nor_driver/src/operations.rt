@@ -11,6 +11,13 @@ use crate::{Erase, EraseUnit, Halt, wait};
 use arrayvec::ArrayVec;
 use nor_chip::{Bus, Status};
 
+// The opcodes of what changes a chip; those of erases stand with their units.
+const WRITE_STATUS: u8 = 0x01;
+
+const PAGE_PROGRAM: u8 = 0x02;
+
+const WRITE_ENABLE: u8 = 0x06;
+
 /// Programs a part of a page, from an address on (02h). Answers the number of transactions.
 pub fn program_page<B: Bus>(bus: &mut B, address: u32, bytes: &[u8]) -> Result<u32, Halt>
     requires reachable { address < 2 ^ 24 }
@@ -49,7 +56,7 @@ pub fn write_status<B: Bus>(bus: &mut B, status: Status, code: u8) -> Result<u32
     ensures halts { IfErr result (Halts 0 65538 (B.state bus.old) (B.state bus.new)) }
 {
     let [one, two] = with_code(status, code);
-    operation(bus, &[0x01, one, two], 0)
+    operation(bus, &[WRITE_STATUS, one, two], 0)
 }
 
 // The bytes of a status write: SRP0 is the highest bit of the first, CMP and SUS are the highest two of the second.
@@ -71,7 +78,7 @@ fn operation<B: Bus>(bus: &mut B, command: &[u8], address: u32) -> Result<u32, H
     ensures does { IfOk result (Operates command.now (B.state bus.old) (B.state bus.new)) }
     ensures halts { IfErr result (Halts address 65538 (B.state bus.old) (B.state bus.new)) }
 {
-    bus.transfer(&[0x06], &mut [])?;
+    bus.transfer(&[WRITE_ENABLE], &mut [])?;
     bus.transfer(command, &mut [])?;
     let waited = wait(bus, address)?;
     Ok(waited.polls + 2)
@@ -97,7 +104,7 @@ fn program_command(address: u32, bytes: &[u8]) -> ArrayVec<u8, 260>
 {
     let [high, middle, low] = address_bytes(address);
     let mut command = ArrayVec::new();
-    command.push(0x02);
+    command.push(PAGE_PROGRAM);
     command.push(high);
     command.push(middle);
     command.push(low);

@@ -7,6 +7,17 @@ ghost use Rattle.nor_driver.specs.Reads.{IsReading, Replies, ReadsId, ReadsStatu
 use crate::operations::address_bytes;
 use nor_chip::{Bus, Stopped};
 
+// The opcodes of what only tells.
+const READ_DATA: u8 = 0x03;
+
+const READ_STATUS2: u8 = 0x35;
+
+const READ_UNIQUE: u8 = 0x4B;
+
+const READ_SFDP: u8 = 0x5A;
+
+const READ_ID: u8 = 0x9F;
+
 /// The ID: three bytes (9Fh; W25Q64FV datasheet, Read JEDEC ID).
 pub fn read_id<B: Bus>(bus: &mut B) -> Result<[u8; 3], Stopped>
     ensures leaves { Looks 1 (B.state bus.old) (B.state bus.new) }
@@ -14,7 +25,7 @@ pub fn read_id<B: Bus>(bus: &mut B) -> Result<[u8; 3], Stopped>
     ensures halts { OnErr result (RunsOut 1 (B.state bus.old) (B.state bus.new)) }
 {
     let mut id = [0; 3];
-    read(bus, &[0x9F], &mut id)?;
+    read(bus, &[READ_ID], &mut id)?;
     Ok(id)
 }
 
@@ -25,7 +36,7 @@ pub fn read_status2<B: Bus>(bus: &mut B) -> Result<u8, Stopped>
     ensures halts { OnErr result (RunsOut 1 (B.state bus.old) (B.state bus.new)) }
 {
     let mut reply = [0];
-    read(bus, &[0x35], &mut reply)?;
+    read(bus, &[READ_STATUS2], &mut reply)?;
     Ok(reply[0])
 }
 
@@ -36,7 +47,7 @@ pub fn read_unique<B: Bus>(bus: &mut B) -> Result<[u8; 8], Stopped>
     ensures halts { OnErr result (RunsOut 1 (B.state bus.old) (B.state bus.new)) }
 {
     let mut unique = [0; 8];
-    read(bus, &[0x4B, 0, 0, 0, 0], &mut unique)?;
+    read(bus, &[READ_UNIQUE, 0, 0, 0, 0], &mut unique)?;
     Ok(unique)
 }
 
@@ -48,7 +59,7 @@ pub fn read_sfdp<B: Bus>(bus: &mut B, address: u32, bytes: &mut [u8]) -> Result<
     ensures halts { OnErr result (RunsOut 1 (B.state bus.old) (B.state bus.new)) }
 {
     let [high, middle, low] = address_bytes(address);
-    read(bus, &[0x5A, high, middle, low, 0], bytes)
+    read(bus, &[READ_SFDP, high, middle, low, 0], bytes)
 }
 
 /// The 4,096 bytes of a sector (03h).
@@ -60,7 +71,7 @@ pub fn read_sector<B: Bus>(bus: &mut B, sector: u32, bytes: &mut [u8]) -> Result
     ensures halts { OnErr result (RunsOut 1 (B.state bus.old) (B.state bus.new)) }
 {
     let [high, middle, low] = address_bytes(4096 * sector);
-    read(bus, &[0x03, high, middle, low], bytes)
+    read(bus, &[READ_DATA, high, middle, low], bytes)
 }
 
 // One transaction that changes nothing.

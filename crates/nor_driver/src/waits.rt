@@ -8,8 +8,11 @@ ghost use Rattle.nor_driver.specs.Waits.{Polls, Waits, WaitHalts};
 use bitflags::Flags;
 use nor_chip::{Bus, Status1, Stopped};
 
-/// The most polls that a wait sends.
-pub const MOST_POLLS: u32 = 65536;
+// The opcode of a poll.
+const READ_STATUS1: u8 = 0x05;
+
+// The most polls that a wait sends.
+const MOST_POLLS: u32 = 65536;
 
 /// Status 1, by one poll (05h).
 pub fn poll<B: Bus>(bus: &mut B) -> Result<u8, Stopped>
@@ -18,7 +21,7 @@ pub fn poll<B: Bus>(bus: &mut B) -> Result<u8, Stopped>
     ensures halts { OnErr result (RunsOut 1 (B.state bus.old) (B.state bus.new)) }
 {
     let mut reply = [0];
-    bus.transfer(&[0x05], &mut reply)?;
+    bus.transfer(&[READ_STATUS1], &mut reply)?;
     Ok(reply[0])
 }
 

@@ -3,6 +3,17 @@
 //! A layout file names regions of a chip, a line each: `start:end name` (flashrom's manual page, layout
 //! files). A request that gives names includes the addresses of their regions, and no other byte of the
 //! chip may change.
+//!
+//! ```rust
+//! use nor_layout::{Layout, Span};
+//!
+//! let layout = Layout::read(rt.alloc(), b"0:fff a\n800:17ff b\n1800:1fff c\n")?;
+//! let included = layout.include("b,a")?;
+//! assert_eq!(rt; included.spans(), [Span { first: 0, last: 0x17ff }].as_slice());
+//! assert!(rt; !included.contains(0x1800));
+//! ```
+//!
+//! What a text says stands in `specs/Text.antt` and, as a grammar, in `Grammar`; what names include in `Included`.
 #![tactic(auto)]
 
 mod address;
@@ -20,6 +31,6 @@ mod tests;
 pub use fault::{LayoutFault, LineFault};
 pub use included::{blank_excluded, fill_excluded, includes, includes_in_sector, reaches_past};
 pub use layout::Layout;
-pub use places::{Places, PlacesIn, SECTOR};
+pub use places::{Places, PlacesIn};
 pub use ranges::{Ranges, Span};
-pub use region::{NAME_LEN, REGIONS, Region};
+pub use region::Region;

@@ -12,7 +12,7 @@ mod iter;
 pub use iter::Spans;
 
 /// The bytes of a page, which one program can change.
-pub const PAGE: usize = 256;
+const PAGE: usize = 256;
 
 /// A run of bytes within one page, by the places of its first and its last byte.
 #[derive(Clone, Copy, Debug, PartialEq, Eq)]

@@ -1,5 +1,19 @@
 //! What a session finds and saves of a chip before it changes anything: the scan that judges each sector and puts the
-//! touched ones into the journal. Sessions are to stand on it.
+//! touched ones into the journal.
+//!
+//! ```rust
+//! use nor_save::{judge_opening, keep, open};
+//!
+//! // `bus` reaches an erased chip, `image` differs in one byte, and `request` writes it.
+//! let opening = open(&mut bus, request.named)?;
+//! let code = judge_opening(&request, &opening, image.len())?;
+//! let kept = keep(&mut bus, &mut vault, &mut image, &request, &opening, code)?;
+//! assert!(rt; kept.scanned.touched.contains(0) && !kept.scanned.raised.contains(0));
+//! assert!(rt; vault.is_sealed());
+//! ```
+//!
+//! What the opening tells stands in `specs/Opening.antt`, which requests are refused in `Judging`, and what is kept in
+//! `Keeping`.
 #![tactic(auto)]
 
 mod judging;
@@ -9,12 +23,12 @@ mod report;
 mod saving;
 mod scanning;
 
-pub use judging::{first_held, judge_opening, judge_scan};
+pub use judging::{first_held, judge_opening};
 pub use opening::{Opening, open, read_on};
 pub use refusal::Refusal;
 pub use report::{Report, Request, What};
 pub use saving::{Kept, keep};
-pub use scanning::{Scanned, scan_all};
+pub use scanning::Scanned;
 
 #[cfg(test)]
 mod tests;

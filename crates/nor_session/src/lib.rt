@@ -1,7 +1,20 @@
 //! Sessions that change a flash chip and can be undone, the restores that undo them, and rehearsals of both.
 //!
-//! What each call promises stands in `specs/`: `Verdict.antt`, `Session.antt`, `Restore.antt`, `WrittenOver.antt`,
-//! `Rehearsal.antt`.
+//! ```rust
+//! use nor_journal::{Journal, MemVault};
+//! use nor_session::{restore, session};
+//!
+//! // `request` writes `image`, which `bus` is to reach in place of what the chip has.
+//! let mut vault = MemVault::new(rt.alloc());
+//! session(&mut bus, &mut vault, &mut image, &request)?;
+//! assert_eq!(rt; bus.bytes(), image.as_slice());
+//! restore(&mut bus, &Journal::read(vault.bytes())?)?;
+//! assert_eq!(rt; bus.bytes(), before.as_slice());
+//! ```
+//!
+//! What each call promises stands in `specs/`: `Verdict.antt`, `Session.antt`, `Restore.antt`, `Rehearsal.antt`, and of
+//! which buses in `Modelled.antt`; what laws say of calls that follow one another in `Following.antt`, and of a chip
+//! that is kept in files in `WrittenOver.antt`.
 #![tactic(auto)]
 
 mod answering;

@@ -1,5 +1,5 @@
 -- What options are that have no fault.
-use Rattle.std.proofs.Common.{◌≡◌, ◌∙◌, ◌&&◌, ◌||◌, Bool, true, false, cond, [], ◌∷◌, Option, Some, None, is_some, nat_eq, nat_lt, not, ap, ap₂, refl, sym}
+use Rattle.std.proofs.Common.{◌≡◌, ◌∙◌, ◌&&◌, ◌||◌, ℕ, Bool, true, false, cond, List, [], ◌∷◌, Option, Some, None, is_some, nat_eq, nat_lt, not, ap, ap₂, option_map, refl, sym}
 use Rattle.std.specs.Prelude.{option_and_then}
 use Rattle.nor_words.specs.Text.{Text, reads}
 use Rattle.nor_words.specs.Given.{Texts, how_many, is_change, is_new_content, operations}
@@ -7,6 +7,9 @@ use Rattle.nor_words.specs.Faults.{first_fault, has_wrong_journal, has_wrong_reg
 use Rattle.nor_words.specs.Numbers.{range_of}
 use Rattle.nor_words.specs.Programmer.{has_stop, is_programmer}
 use Rattle.nor_words.specs.Stops.{stops_of}
+use Rattle.nor_words.specs.Job.{IsWanted}
+use Rattle.nor_words.specs.declared.job.Wanted.{Wanted}
+use Rattle.nor_words.specs.declared.job.Wanted.TheVariants as want
 use Rattle.nor_words.specs.declared.words.UsageFault.{UsageFault}
 
 -- No fault holds.
@@ -67,6 +70,28 @@ no_change-kept given sound journal none =
         let bad : true ≡ false = sym (ap (λ b. not (nat_eq 0 (cond b 1 0))) is) ∙ h in
         cc
     go false is h = is
+
+second_true : (a b : Bool) → b ≡ true → (a || b) ≡ true
+second_true true b h = refl
+second_true false b h = h
+
+there : {T : Type 0} (f : Text → Option T) (text : Option Text) (x : T) → option_and_then f text ≡ Some x → is_some text ≡ true
+there f None x h = cc
+there f (Some text) x h = refl
+
+-- whoever wants something of the chip asks for a change
+change-wanted : (given : Texts) (wanted : Wanted) → IsWanted given wanted → is_change given ≡ true
+change-wanted given (want.Write image) is = rw is refl
+change-wanted given want.Erase is = ap (λ b. b || is_some given.wp_range) (second_true (is_some given.write) given.erase is)
+change-wanted given (want.Range start len) is = second_true (is_new_content given) (is_some given.wp_range) (there range_of given.wp_range (start, len) is)
+
+-- and gives stops where it keeps no journal
+pub stops-kept : {T : Type 0} (view : T → List ℕ) (given : Texts) (wanted : Wanted) (stops : Option T) → Sound given → IsWanted given wanted
+    → option_and_then stops_of given.rehearse ≡ option_map view stops → given.journal ≡ None → is_some stops ≡ true
+stops-kept view given wanted (Some stops) sound is same journal = refl
+stops-kept view given wanted None sound is same journal =
+    let bad : true ≡ false = sym (change-wanted given wanted is) ∙ no_change-kept given sound journal same in
+    cc
 
 -- where there is no list of chips, there is a programmer
 pub list-lone : (given : Texts) → Sound given → is_there is_programmer given.programmer ≡ false → given.list ≡ true

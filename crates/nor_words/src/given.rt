@@ -1,5 +1,5 @@
 //! What the words give each option.
-ghost use Rattle.std.specs.Prelude.{◌≡◌, ◌&&◌, ◌||◌, None, Some, false, is_some, not, option_map, option_and_then};
+ghost use Rattle.std.specs.Prelude.{◌≡◌, ◌&&◌, ◌||◌, None, Some, false, true, is_some, not, option_map, option_and_then};
 ghost use Rattle.std.specs.Prelude.{MatchOption, MatchResult};
 ghost use Rattle.std.specs.Option.{option_map_or};
 ghost use Rattle.clap.specs.Words.{found_of, rows_of};
@@ -248,15 +248,12 @@ impl<'a> Given<'a> {
         let Some(wanted) = self.wanted(range) else {
             return self.plain_task();
         };
-        let Some(keeping) = self.keeping(stops) else {
-            return self.plain_task();
-        };
         Task::Change(Change {
             wanted,
             regions: self.regions(),
             unlock: self.unlock,
             verify: !self.no_verify,
-            keeping,
+            keeping: self.keeping(stops),
         })
     }
 
@@ -273,15 +270,17 @@ impl<'a> Given<'a> {
         }
     }
 
-    // What becomes of the journal.
-    fn keeping(&self, stops: Option<ArrayVec<u64, MOST_STOPS>>) -> Option<Keeping<'a>>
-        requires { option_and_then stops_of (texts_of self.now).rehearse ≡ option_map (λ stops. stops.items) stops }
-        ensures { MatchOption result (((texts_of self.now).journal ≡ None) × (stops ≡ None)) (IsKeeping (texts_of self.now)) }
+    // What becomes of a change's journal.
+    fn keeping(&self, stops: Option<ArrayVec<u64, MOST_STOPS>>) -> Keeping<'a>
+        requires read { option_and_then stops_of (texts_of self.now).rehearse ≡ option_map (λ stops. stops.items) stops }
+        requires kept { (texts_of self.now).journal ≡ None → is_some stops ≡ true }
+        ensures { IsKeeping (texts_of self.now) result }
     {
-        match (self.journal, stops) {
-            (Some(file), _) => Some(Keeping::Journal { file }),
-            (None, Some(stops)) => Some(Keeping::Rehearse { stops }),
-            (None, None) => None,
+        match self.journal {
+            Some(file) => Keeping::Journal { file },
+            None => Keeping::Rehearse {
+                stops: stops.unwrap(),
+            },
         }
     }
 

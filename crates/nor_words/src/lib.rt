@@ -2,6 +2,16 @@
 //!
 //! `request_of` reads them: `clap` takes the words apart, and what they give each option is a job or the first fault
 //! that the options have. Nothing is opened here, so the job tells files by the names that were given.
+//!
+//! ```rust
+//! use nor_words::{Job, UsageFault, request_of};
+//!
+//! let words = [String::from_str(rt.alloc(), "-L")?];
+//! assert!(rt; matches!(request_of(rt.alloc(), &words), Ok(Job::List)));
+//! assert!(rt; matches!(request_of(rt.alloc(), &[]), Err(UsageFault::NoProgrammer)));
+//! ```
+//!
+//! Which words are which job stands in `specs/Words.antt` and `Job`, and the faults in `Faults`.
 #![tactic(auto)]
 
 mod given;
