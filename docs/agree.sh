@@ -70,7 +70,7 @@ flat() { tr -s ' \n' ' ' < "$1"; }
 
 # The texts as they are searched, without what only their form needs, and the command lines that they show.
 take_texts() {
-    sed -n '/^const HELP/,/^";/p' $words/tests/help.rt | sed '1d; $d' > "$work/help"
+    sed -nE '/^after help:/,/^\$/s/^\| ?//p' runs/cases/help.case > "$work/help"
     flat_manual > "$work/manual"
     for text in README docs/SPECIFICATION docs/DECISIONS; do tr -d '`' < $text.md > "$work/${text#docs/}"; done
     for text in README $pages help DECISIONS; do flat "$work/$text" > "$work/flat/$text"; done
