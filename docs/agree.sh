@@ -76,7 +76,7 @@ take_texts() {
     if [[ $program ]]; then
         "$program" -h > "$work/help"
     else
-        sed -n '/^const HELP/,/^";/p' $words/tests/help.rt | sed '1d; $d' > "$work/help"
+        sed -nE '/^after help:/,/^\$/s/^\| ?//p' runs/cases/help.case > "$work/help"
     fi
     flat_manual > "$work/manual"
     for text in README docs/SPECIFICATION docs/DECISIONS; do tr -d '`' < $text.md > "$work/${text#docs/}"; done

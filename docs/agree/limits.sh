@@ -37,7 +37,8 @@ limit_sizes() {
         '(sector \(|sector is |number and its |multiple of )#'
     limit "greatest sector" $(($(constant crates/nor_plan/src/set.rt 'SECTORS: u32 = ') - 1)) 1 'a number past #'
     limit "bytes of a sector's record" "$(constant $records 'requires \{ ')" 2 'and # for each sector'
-    limit "bytes of a journal of no sector" "$(constant crates/nor_journal/src/tests.rt 'EMPTY: \[u8; ')" 2 \
+    limit "bytes of a journal of no sector" $(($(constant crates/nor_journal/src/head.rt '^const HEAD: usize = ') +
+        $(constant $records 'END_MARK: \[u8; ') + $(constant $records 'DIGEST: usize = '))) 2 \
         '#( bytes)? and 4,100 for each'
 }
 

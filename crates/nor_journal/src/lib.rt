@@ -35,6 +35,3 @@ pub use journal::{Journal, one_fault, one_record, one_text};
 pub use mem_vault::MemVault;
 pub use vault::{Vault, VaultFault};
 pub use writer::Writer;
-
-#[cfg(test)]
-mod tests;

@@ -25,8 +25,6 @@ mod merge;
 mod places;
 mod ranges;
 mod region;
-#[cfg(test)]
-mod tests;
 
 pub use fault::{LayoutFault, LineFault};
 pub use included::{blank_excluded, fill_excluded, includes, includes_in_sector, reaches_past};

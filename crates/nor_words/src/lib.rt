@@ -21,8 +21,6 @@ mod options;
 mod programmer;
 mod settings;
 mod stops;
-#[cfg(test)]
-mod tests;
 mod words;
 
 pub use job::{Change, ChipJob, Job, Keeping, Regions, Task, Wanted};

@@ -17,6 +17,8 @@ mod row;
 #[cfg(test)]
 mod runs;
 #[cfg(test)]
+mod sinks;
+#[cfg(test)]
 mod spoilt;
 #[cfg(test)]
 mod standing;
@@ -26,3 +28,5 @@ mod texts;
 mod undone;
 #[cfg(test)]
 mod vaults;
+#[cfg(test)]
+mod words;

@@ -1,0 +1,241 @@
+//! Vaults and files that take all of a journal, refuse a call, write short or can't be synced.
+ghost use Rattle.std.specs.Prelude.{take, Some};
+ghost use Rattle.nor_journal.specs.Vault.{IsFresh};
+
+use nor_journal::{
+    BrokenVault, FileVault, Journal, MemVault, Vault, VaultFault, VaultFile, Writer,
+};
+use std::alloc::Global;
+use std::cell::Cell;
+use std::fs::{Metadata, OpenFile};
+use std::io;
+use std::io::Write;
+use std::test::Fail;
+
+/// The journal of a TINY64, whose unique ID is zeros, that saves no sector. The digest is that of `sha256sum`.
+const EMPTY: [u8; 61] = [
+    0x4E, 0x4F, 0x52, 0x55, 0x4E, 0x44, 0x4F, 0x32, 0xFE, 0x10, 0x10, 0x00, 0x00, 0x00, 0x00, 0x00,
+    0x00, 0x00, 0x00, 0x00, 0x00, 0x00, 0x00, 0x01, 0x00, 0xFF, 0xFF, 0xFF, 0xFF, 0x5E, 0x7F, 0x67,
+    0xC0, 0x89, 0xBD, 0x91, 0x98, 0x34, 0xDD, 0x72, 0x0B, 0xC3, 0x25, 0xCF, 0x61, 0x40, 0xD7, 0x01,
+    0x49, 0x14, 0x8D, 0x80, 0x5E, 0xBA, 0x45, 0xE9, 0x65, 0x9B, 0xB9, 0xB3, 0xB8,
+];
+
+/// The digest of the journal of that chip whose sector 0, all FFh, is saved, by `sha256sum`.
+const DIGEST: [u8; 32] = [
+    0xD3, 0xCE, 0x40, 0xC1, 0xB1, 0xE6, 0x74, 0x4A, 0x9B, 0xAC, 0x95, 0x55, 0x42, 0xB9, 0xCC, 0xC9,
+    0x83, 0xD5, 0xFA, 0x75, 0xB9, 0xC2, 0x79, 0x2D, 0x91, 0x66, 0x46, 0xFB, 0x18, 0x8C, 0x93, 0x13,
+];
+
+/// Writes the journal of the chip that a journal tells of, whose sector 0, all FFh, is saved.
+fn save<V: Vault>(vault: &mut V, chip: &Journal<'_>) -> Result<(), VaultFault>
+    requires { IsFresh (V.state vault.old) }
+{
+    let writer = Writer::start(vault, chip.id(), [0; 8], chip.status(), chip.size())?;
+    let writer = writer.sector(0, &[0xFF; 4096])?;
+    writer.end()
+}
+
+/// Whether the bytes are that journal.
+fn is_whole(bytes: &[u8]) -> bool {
+    bytes.len() == 4161 && bytes.ends_with(&DIGEST) && Journal::read(bytes).is_ok()
+}
+
+/// With ample memory it doesn't: a vault that always refuses fails here.
+#[test]
+fn mem_vault_refuses(rt: HostRuntime) {
+    let mut vault = MemVault::new(rt.alloc());
+    assert!(rt; !vault.is_sealed());
+    assert!(rt; vault.put(b"jour").is_ok());
+    assert!(rt; vault.put(b"").is_ok());
+    assert!(rt; vault.put(b"nal").is_ok());
+    assert_eq!(rt; vault.bytes(), b"journal".as_slice());
+    assert!(rt; vault.seal().is_ok());
+    assert!(rt; vault.is_sealed());
+}
+
+// The nine calls that make the journal: five put the head, one the record, two the end mark and the digest, and the
+// last one seals. Of the piece of a refused call the vault keeps a beginning, and the refusal tells how much.
+#[test]
+fn each_call_of_a_writer_is_refused(rt: HostRuntime) -> Result<(), Fail> {
+    let chip = Journal::read(&EMPTY)?;
+    // which call, how many bytes stand before its piece, and how many the piece has
+    let calls = [
+        (1, 0, 8),
+        (2, 8, 3),
+        (3, 11, 8),
+        (4, 19, 2),
+        (5, 21, 4),
+        (6, 25, 4100),
+        (7, 4125, 4),
+        (8, 4129, 32),
+        (9, 4161, 0),
+    ];
+    for kept in [0, 1, 4095, 5000] {
+        for (nth, before, piece) in calls {
+            let mut vault = BrokenVault::new(MemVault::new(rt.alloc()), nth, kept);
+            let told = piece.min(kept);
+            assert_eq!(rt; save(&mut vault, &chip), Err(VaultFault { kept: told }));
+            assert_eq!(rt; vault.failures(), 1);
+            let held = vault.into_inner();
+            assert!(rt; !held.is_sealed());
+            assert_eq!(rt;
+                held.bytes().len().checked_sub(before),
+                Some(told),
+                "call {nth}"
+            );
+            let ends = nth == 9 || nth == 8 && told == piece;
+            assert_eq!(rt; is_whole(held.bytes()), ends, "call {nth}, {kept} bytes");
+        }
+    }
+    for nth in [0, 10] {
+        let mut vault = BrokenVault::new(MemVault::new(rt.alloc()), nth, 0);
+        assert_eq!(rt; save(&mut vault, &chip), Ok(()));
+        assert_eq!(rt; vault.failures(), 0);
+        let held = vault.into_inner();
+        assert!(rt; held.is_sealed() && is_whole(held.bytes()));
+    }
+    Ok(())
+}
+
+/// A file in memory that takes at most `most` bytes a write, and fails after `writes` of them. One of `sync_all` and
+/// `sync_data` succeeds.
+#[derive(Drop)]
+struct SmallFile {
+    bytes: Vec<u8>,
+    most: usize,
+    writes: u32,
+    syncs: bool,
+    resized: Cell<bool>,
+}
+
+impl SmallFile {
+    fn new(alloc: Global, most: usize, writes: u32, syncs: bool) -> SmallFile {
+        SmallFile {
+            bytes: Vec::new(alloc),
+            most,
+            writes,
+            syncs,
+            resized: Cell::new(false),
+        }
+    }
+}
+
+impl Write for SmallFile {
+    fn write(&mut self, buf: &[u8]) -> io::Result<usize> {
+        if self.writes == 0 {
+            return Err(io::Error::from(io::ErrorKind::Other));
+        }
+        self.writes -= 1;
+        let taken = buf.len().min(self.most);
+        self.bytes.extend_from_slice(&buf[..taken])?;
+        Ok(taken)
+    }
+
+    fn flush(&mut self) -> io::Result<()> {
+        Ok(())
+    }
+}
+
+impl OpenFile for SmallFile {
+    fn metadata(&self) -> io::Result<Metadata> {
+        Err(io::Error::from(io::ErrorKind::Unsupported))
+    }
+
+    fn set_len(&self, _size: u64) -> io::Result<()> {
+        self.resized.set(true);
+        Err(io::Error::from(io::ErrorKind::Unsupported))
+    }
+
+    fn sync_all(&self) -> io::Result<()> {
+        if self.syncs {
+            Ok(())
+        } else {
+            Err(io::Error::from(io::ErrorKind::Other))
+        }
+    }
+
+    fn sync_data(&self) -> io::Result<()> {
+        if self.syncs {
+            Err(io::Error::from(io::ErrorKind::Other))
+        } else {
+            Ok(())
+        }
+    }
+}
+
+// A write that takes nothing is a refusal too, and a sync that fails keeps nothing.
+#[test]
+fn files_that_refuse(rt: HostRuntime) -> Result<(), Fail> {
+    let chip = Journal::read(&EMPTY)?;
+    let many = u32::MAX;
+    // the most bytes of a write, how many writes there are, whether a sync succeeds; the answer, the bytes in the file
+    let rows = [
+        (1, many, true, Ok(()), 4161),
+        (4096, many, true, Ok(()), 4161),
+        (usize::MAX, 8, true, Ok(()), 4161),
+        // no write, and a write of nothing
+        (2, 0, true, Err(VaultFault { kept: 0 }), 0),
+        (0, many, true, Err(VaultFault { kept: 0 }), 0),
+        // the second write of the first piece
+        (2, 1, true, Err(VaultFault { kept: 2 }), 2),
+        // five writes are the head, and the sixth is half of the record
+        (2050, 6, true, Err(VaultFault { kept: 2050 }), 2075),
+        // the digest, and the sync
+        (usize::MAX, 7, true, Err(VaultFault { kept: 0 }), 4129),
+        (usize::MAX, 8, false, Err(VaultFault { kept: 0 }), 4161),
+    ];
+    for (most, writes, syncs, answer, length) in rows {
+        let mut vault = FileVault::new(SmallFile::new(rt.alloc(), most, writes, syncs));
+        assert_eq!(rt;
+            save(&mut vault, &chip),
+            answer,
+            "{writes} writes of {most} bytes"
+        );
+        let file = vault.into_inner();
+        assert_eq!(rt; file.bytes.len(), length, "{writes} writes of {most} bytes");
+        assert_eq!(rt; is_whole(&file.bytes), length == 4161);
+        assert!(rt; !file.resized.get());
+    }
+    Ok(())
+}
+
+/// A file in memory that knows how many of its bytes it was synced with.
+#[derive(Drop)]
+struct KnownFile {
+    bytes: Vec<u8>,
+    synced: usize,
+}
+
+impl VaultFile for KnownFile {
+    ghost contents = { λ file. Some file.bytes.items };
+
+    ghost synced = { λ file. Some (take file.synced file.bytes.items) };
+
+    fn append(&mut self, piece: &[u8]) -> io::Result<usize> {
+        self.bytes.extend_from_slice(piece)?;
+        Ok(piece.len())
+    }
+
+    fn sync(&mut self) -> io::Result<()> {
+        self.synced = self.bytes.len();
+        Ok(())
+    }
+}
+
+#[test]
+fn pieces_of_all_lengths(rt: HostRuntime) -> Result<(), Fail> {
+    for length in [1, 2, 255, 4095, 4096, 4097, 4100, 65537, 100_001, 1 << 20] {
+        let piece = vec![in rt.alloc(); 0x5A; length]?;
+        let mut memory = MemVault::new(rt.alloc());
+        memory.put(&piece)?;
+        assert!(rt; memory.bytes() == piece.as_slice(), "{length}");
+        let bytes = Vec::new(rt.alloc());
+        let mut vault = FileVault::new(KnownFile { bytes, synced: 0 });
+        vault.put(&piece)?;
+        vault.seal()?;
+        let file = vault.into_inner();
+        assert!(rt; file.bytes.as_slice() == piece.as_slice(), "{length}");
+        assert_eq!(rt; file.synced, length);
+    }
+    Ok(())
+}

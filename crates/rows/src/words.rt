@@ -1,0 +1,21 @@
+//! Words of the command line, where memory is ample.
+use nor_words::request_of;
+use std::test::Fail;
+
+// A want of memory may be the answer to any words, so no clause refuses a body that always tells it.
+#[test]
+fn words_memory(rt: HostRuntime) -> Result<(), Fail> {
+    let mut words = Vec::new(rt.alloc());
+    for word in [
+        "-p",
+        "dummy:emulate=TINY64,image=chip",
+        "-w",
+        "new",
+        "--journal",
+        "j",
+    ] {
+        words.push(String::from_str(rt.alloc(), word)?)?;
+    }
+    assert!(rt; request_of(rt.alloc(), words.as_slice()).is_ok());
+    Ok(())
+}
