@@ -19,6 +19,3 @@ pub use programs::program_all;
 pub use protection::write_code;
 pub use source::Source;
 pub use tally::Tally;
-
-#[cfg(test)]
-mod tests;

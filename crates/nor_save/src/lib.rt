@@ -15,6 +15,3 @@ pub use refusal::Refusal;
 pub use report::{Report, Request, What};
 pub use saving::{Kept, keep};
 pub use scanning::{Scanned, scan_all};
-
-#[cfg(test)]
-mod tests;
