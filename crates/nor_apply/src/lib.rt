@@ -26,6 +26,3 @@ mod tally;
 pub use changes::{Changes, Work, apply};
 pub use checks::{CheckFault, check_all};
 pub use source::Source;
-
-#[cfg(test)]
-mod tests;

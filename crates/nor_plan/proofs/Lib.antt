@@ -5,7 +5,6 @@ pub mod Counting
 pub mod Coverage
 pub mod Ends
 pub mod Fewest
-pub mod Loops
 pub mod Masks
 pub mod Members
 pub mod Places

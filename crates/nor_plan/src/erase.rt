@@ -107,6 +107,3 @@ fn is_run(set: &SectorSet, from: u32, count: u32) -> bool
 {
     (from..from + count).all(|sector| set.contains(sector))
 }
-
-#[cfg(test)]
-mod tests;

@@ -193,6 +193,3 @@ fn rising(old: &[u8], target: &[u8], at: usize) -> u64
     let kept = target & u8x32::from_slice(&old[at..]);
     kept.simd_ne(target).to_bitmask()
 }
-
-#[cfg(test)]
-mod tests;

@@ -61,6 +61,3 @@ fn span_of(old: &[u8], target: &[u8], page: usize) -> Option<Span>
         last: start + last,
     })
 }
-
-#[cfg(test)]
-mod tests;

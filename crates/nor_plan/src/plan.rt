@@ -36,18 +36,3 @@ impl Plan {
         SectorPlan { touched, raised }
     }
 }
-
-#[cfg(test)]
-mod tests {
-    use super::*;
-
-    #[test]
-    fn sectors_are_judged(rt: HostRuntime) {
-        let untouched = Plan::of(&[0xA5, 0x0F], &[0xA5, 0x0F]);
-        assert!(rt; !untouched.touched && !untouched.raised);
-        let lowered = Plan::of(&[0xFF, 0x0F], &[0xFF, 0x0E]);
-        assert!(rt; lowered.touched && !lowered.raised);
-        let raised = Plan::of(&[0xFF, 0x0E], &[0x00, 0x0F]);
-        assert!(rt; raised.touched && raised.raised);
-    }
-}

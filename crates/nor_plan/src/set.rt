@@ -127,6 +127,3 @@ impl<'a> IntoIterator for &'a SectorSet {
         self.iter()
     }
 }
-
-#[cfg(test)]
-mod tests;

@@ -12,9 +12,6 @@ use crate::{ChipName, Geometry, Kinds, Part, SfdpFault, part_of, read_sfdp};
 use nor_chip::{Bus, Stopped};
 use nor_driver::{Halt, read_id, wait};
 
-#[cfg(test)]
-mod tests;
-
 /// Why no chip was found. The first three are judged in this order.
 #[derive(Clone, Copy, Debug, PartialEq, Eq)]
 pub enum ProbeFault {

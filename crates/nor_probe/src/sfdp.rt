@@ -204,6 +204,3 @@ fn offers_at(table: &[u8; 36], exponent: u8, opcode: u8, at: usize) -> bool
 {
     table[at] == exponent && table[at + 1] == opcode
 }
-
-#[cfg(test)]
-mod tests;

@@ -23,6 +23,3 @@ mod verifying;
 pub use protection::{Protection, wp_status};
 pub use reading::read_out;
 pub use verifying::verify;
-
-#[cfg(test)]
-mod tests;

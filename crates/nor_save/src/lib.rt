@@ -29,6 +29,3 @@ pub use refusal::Refusal;
 pub use report::{Report, Request, What};
 pub use saving::{Kept, keep};
 pub use scanning::Scanned;
-
-#[cfg(test)]
-mod tests;

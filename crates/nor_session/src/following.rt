@@ -8,9 +8,6 @@ ghost use Rattle.nor_save.specs.declared.report.Request.{Request};
 ghost use Rattle.nor_session.specs.Restore.{SavesChip, IsRestored};
 ghost use Rattle.nor_session.specs.Following.{LeavesJournal, ChangesNothing};
 
-#[cfg(test)]
-mod tests;
-
 /// A restore of a chip that is the saved one already, since it was just given back, changes nothing.
 pub fn restored_stays()
     ensures { (journal : Content) (first : Chip) (old new : BusState) (report : Report)

@@ -15,9 +15,6 @@ use crate::{Refusal, Request};
 use nor_chip::{Bus, Meter};
 use nor_journal::{Journal, MemVault, Vault};
 
-#[cfg(test)]
-mod tests;
-
 /// What a rehearsal showed: whether the session ended, whether its vault was sealed, and how many restores were run,
 /// stopped ones too, until one ended.
 #[derive(Clone, Copy, Debug, PartialEq, Eq)]

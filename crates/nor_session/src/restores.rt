@@ -54,6 +54,3 @@ pub fn restore<B: Bus>(bus: &mut B, journal: &Journal<'_>) -> Result<Report, Ref
         transactions: prepared.transactions + work.transactions,
     })
 }
-
-#[cfg(test)]
-mod tests;

@@ -16,9 +16,6 @@ use nor_chip::Bus;
 use nor_journal::Vault;
 use nor_save::{Refusal, Report, Request, judge_opening, open};
 
-#[cfg(test)]
-mod tests;
-
 /// Makes the chip what the request says, having saved each sector that it will touch into the vault.
 ///
 /// The vault is empty and unsealed. `image` is the session's one buffer beside fixed arrays: for a write it has the

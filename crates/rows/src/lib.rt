@@ -11,11 +11,17 @@ mod lies;
 #[cfg(test)]
 mod power;
 #[cfg(test)]
+mod probes;
+#[cfg(test)]
+mod readings;
+#[cfg(test)]
 mod rehearsed;
 #[cfg(test)]
 mod row;
 #[cfg(test)]
 mod runs;
+#[cfg(test)]
+mod sessions;
 #[cfg(test)]
 mod sinks;
 #[cfg(test)]

@@ -1,6 +1,0 @@
-use Rattle.std.proofs.Common.{◌/◌}
-use Rattle.nor_plan.specs.SectorSet.{LiesBelow}
-use Rattle.nor_plan.proofs.erase.tests.sectors.Given as goal
-
-abbrev pub invariant-loop-sector : goal.invariant-loop-sector
-invariant-loop-sector l = LiesBelow l.set (l.fn.size / 4096)
