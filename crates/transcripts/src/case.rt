@@ -1,0 +1,125 @@
+//! The cases of a text, and how each is played.
+
+use crate::actions;
+use crate::answers::{Answers, Left};
+use crate::fault::{Fault, Halt};
+use crate::setup::Setup;
+use crate::step::Step;
+use std::alloc::Global;
+
+/// A line of a case, and its number in the text.
+#[derive(Clone, Copy)]
+struct Line<'a> {
+    number: usize,
+    step: Step<'a>,
+}
+
+/// A case: a chip, and the lines that show what it does.
+#[derive(Drop)]
+pub struct Case<'a> {
+    pub name: &'a str,
+    number: usize,
+    setup: Option<Setup>,
+    lines: Vec<Line<'a>>,
+}
+
+/// The cases of a text, or the first line that can't be read.
+pub fn cases_of<'a>(alloc: Global, text: &'a str) -> Result<Vec<Case<'a>>, Halt> {
+    let mut cases = Vec::new(alloc);
+    let mut number = 0_usize;
+    for line in text.lines() {
+        number = number.saturating_add(1);
+        at(number, read_line(alloc, &mut cases, number, line.trim()))?;
+    }
+    Ok(cases)
+}
+
+// Reads one line into the cases so far: `case` begins another, and all others belong to the last.
+fn read_line<'a>(
+    alloc: Global,
+    cases: &mut Vec<Case<'a>>,
+    number: usize,
+    line: &'a str,
+) -> Result<(), Fault> {
+    if line.is_empty() || line.starts_with('#') {
+        return Ok(());
+    }
+    let (word, rest) = line.split_once(' ').unwrap_or((line, ""));
+    if word == "case" {
+        cases.push(Case {
+            name: rest,
+            number,
+            setup: None,
+            lines: Vec::new(alloc),
+        })?;
+        return Ok(());
+    }
+    let case = cases.last_mut().ok_or(Fault::Unread)?;
+    if word == "chip" {
+        case.setup = Some(Setup::read(rest)?);
+    } else {
+        let step = Step::read(word, rest)?;
+        case.lines.push(Line { number, step })?;
+    }
+    Ok(())
+}
+
+impl Case<'_> {
+    /// Plays the case, up to the first line that doesn't hold. A case without a chip or without a line doesn't hold.
+    pub fn play(&self, alloc: Global) -> Result<(), Halt> {
+        let Some(setup) = self.setup else {
+            return at(self.number, Err(Fault::Unread));
+        };
+        if self.lines.is_empty() {
+            return at(self.number, Err(Fault::Unread));
+        }
+        let mut log = Vec::new(alloc);
+        let chip = self.act(alloc, setup, &mut log)?;
+        self.ask(alloc, Answers::new(setup.config, chip, &log))
+    }
+
+    // All that is done, and what is left of it.
+    fn act(&self, alloc: Global, setup: Setup, log: &mut Vec<u8>) -> Result<Left, Halt> {
+        let mut bus = match setup.bus(alloc, log) {
+            Ok(bus) => bus,
+            Err(fault) => return Err(Halt {
+                line: self.number,
+                fault,
+            }),
+        };
+        for line in &self.lines {
+            if let Step::Does(action) = line.step {
+                at(line.number, actions::take(alloc, &mut bus, action))?;
+            }
+        }
+        if bus.lost() {
+            return Err(Halt {
+                line: self.number,
+                fault: Fault::Lost,
+            });
+        }
+        let spoilt = bus.into_inner();
+        Ok(Left {
+            sent: spoilt.sent(),
+            chip: spoilt.into_inner(),
+        })
+    }
+
+    // All that is asked then.
+    fn ask(&self, alloc: Global, mut answers: Answers<'_>) -> Result<(), Halt> {
+        for line in &self.lines {
+            if let Step::Asks(question) = line.step {
+                at(line.number, answers.check(alloc, question))?;
+            }
+        }
+        at(self.number, answers.end(alloc))
+    }
+}
+
+// What a line came to, with its number where that is a fault.
+fn at(line: usize, outcome: Result<(), Fault>) -> Result<(), Halt> {
+    match outcome {
+        Ok(()) => Ok(()),
+        Err(fault) => Err(Halt { line, fault }),
+    }
+}

@@ -1,0 +1,44 @@
+//! Bytes and addresses as hexadecimal digits.
+
+use crate::fault::Fault;
+use hex::FromHex;
+use std::alloc::{AllocError, Global};
+
+/// The bytes of words of digits, as `02 0000fe 1122`. A word `ff*8` has its bytes eight times.
+pub fn bytes_of(alloc: Global, words: &str) -> Result<Vec<u8>, Fault> {
+    let mut bytes = Vec::new(alloc);
+    for word in words.split_whitespace() {
+        let (digits, count) = word.split_once('*').unwrap_or((word, "1"));
+        let piece = hex::decode(alloc, digits)?;
+        repeat(&mut bytes, &piece, count.parse::<u32>()?)?;
+    }
+    Ok(bytes)
+}
+
+fn repeat(bytes: &mut Vec<u8>, piece: &[u8], count: u32) -> Result<(), AllocError> {
+    for _ in 0..count {
+        bytes.extend_from_slice(piece)?;
+    }
+    Ok(())
+}
+
+/// One byte.
+pub fn byte_of(digits: &str) -> Result<u8, Fault> {
+    Ok(u8::from_str_radix(digits, 16)?)
+}
+
+/// Status 1 and status 2.
+pub fn status_of(digits: &str) -> Result<[u8; 2], Fault> {
+    Ok(<[u8; 2] as FromHex>::from_hex(digits)?)
+}
+
+/// An address, or another number in hexadecimal digits.
+pub fn address_of(digits: &str) -> Result<u32, Fault> {
+    Ok(u32::from_str_radix(digits, 16)?)
+}
+
+/// The first address of places, and the one behind them, as `7fe000..7ff000`.
+pub fn places_of(places: &str) -> Result<(u32, u32), Fault> {
+    let (start, end) = places.split_once("..").ok_or(Fault::Unread)?;
+    Ok((address_of(start)?, address_of(end)?))
+}

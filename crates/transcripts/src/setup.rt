@@ -1,0 +1,113 @@
+//! The chip of a case, and the bus to it.
+
+use crate::digits::{byte_of, status_of};
+use crate::fault::Fault;
+use hex::FromHex;
+use nor_chip::{Config, Delays, Meter, SimBus, Spoil, SpoiltBus, TraceBus};
+use std::alloc::Global;
+
+/// The bus of a case: traced, and spoilt where the case asks for it.
+pub type Way<'a> = TraceBus<SpoiltBus<SimBus>, &'a mut Vec<u8>>;
+
+/// A spoilt bus that spoils nothing, since a byte has no bit 8.
+const HONEST: Spoil = Spoil::Low(8);
+
+/// What a line `chip` says: the chip, and how it and the bus to it start.
+#[derive(Clone, Copy)]
+pub struct Setup {
+    pub config: Config,
+    start: Start,
+}
+
+// How a chip and the bus to it start.
+#[derive(Clone, Copy)]
+struct Start {
+    fill: u8,
+    status: [u8; 2],
+    unique: [u8; 8],
+    delays: Delays,
+    allowed: u64,
+    lost: Option<u8>,
+    spoil: Spoil,
+}
+
+impl Setup {
+    /// The chip of the first word, with what the words behind it set.
+    pub fn read(words: &str) -> Result<Setup, Fault> {
+        let (name, settings) = words.split_once(' ').unwrap_or((words, ""));
+        let config = config_of(name).ok_or(Fault::Unread)?;
+        let start = Start::read(settings)?;
+        Ok(Setup {
+            config: config.with_unique(start.unique),
+            start,
+        })
+    }
+
+    /// The bus as it starts, which writes its lines into this log.
+    pub fn bus<'a>(&self, alloc: Global, log: &'a mut Vec<u8>) -> Result<Way<'a>, Fault> {
+        let start = self.start;
+        let bytes = vec![in alloc; start.fill; self.config.size as usize]?;
+        let mut chip = SimBus::new(self.config, bytes, start.status, start.delays)?;
+        chip.lose(start.lost);
+        chip.allow(start.allowed);
+        Ok(TraceBus::new(SpoiltBus::new(chip, start.spoil), log))
+    }
+}
+
+impl Start {
+    fn read(settings: &str) -> Result<Start, Fault> {
+        let mut start = Start {
+            fill: 0xFF,
+            status: [0x00, 0x00],
+            unique: [0; 8],
+            delays: Delays { now: 0, each: 0 },
+            allowed: 100,
+            lost: None,
+            spoil: HONEST,
+        };
+        for setting in settings.split_whitespace() {
+            let (key, value) = setting.split_once('=').ok_or(Fault::Unread)?;
+            start.set(key, value)?;
+        }
+        Ok(start)
+    }
+
+    fn set(&mut self, key: &str, value: &str) -> Result<(), Fault> {
+        match key {
+            "of" => self.fill = byte_of(value)?,
+            "status" => self.status = status_of(value)?,
+            "unique" => self.unique = <[u8; 8] as FromHex>::from_hex(value)?,
+            "busy" => self.delays.now = value.parse::<u16>()?,
+            "each" => self.delays.each = value.parse::<u16>()?,
+            "allow" => self.allowed = value.parse::<u64>()?,
+            "lose" => self.lost = Some(byte_of(value)?),
+            _ => self.spoil = spoil_of(key, value)?,
+        }
+        Ok(())
+    }
+}
+
+// How a bus lies.
+fn spoil_of(key: &str, value: &str) -> Result<Spoil, Fault> {
+    match key {
+        "answers" => Ok(Spoil::Fill(byte_of(value)?)),
+        "busy-from" => Ok(Spoil::BusyFrom(value.parse::<u64>()?)),
+        "drops" => Ok(Spoil::Drop(value.parse::<u64>()?)),
+        "low" => Ok(Spoil::Low(value.parse::<u8>()?)),
+        _ => Err(Fault::Unread),
+    }
+}
+
+// The emulated chips, and two of 128 KiB: one whose larger units aren't the chip, and one that lacks them and has
+// the protection scheme.
+fn config_of(name: &str) -> Option<Config> {
+    let id = [0xAA, 0x11, 0x22];
+    match name {
+        "TINY64" => Some(Config::tiny64()),
+        "W25Q64FV" => Some(Config::w25q64fv()),
+        "W25Q128FV" => Some(Config::w25q128fv()),
+        "BLOCKS" => Config::new(id, 0x2_0000, true, true, false, &[]),
+        "SECTORS" => Config::new(id, 0x2_0000, false, false, true, &[0x53]),
+        _ => None,
+    }
+}
