@@ -56,6 +56,11 @@ is_laid_out() {
     return $changed
 }
 
+# The datasheet's examples, as the built program plays them.
+play_transcripts() {
+    "$top/crates/transcripts/out/transcripts" < "$top/crates/transcripts/stdin"
+}
+
 has_tests() { grep -rqF '#[test]' "$top/crates/$1/src"; }
 
 # A crate's tests, or a program that has none, with no proof. A library that has none is compiled with those above it.
@@ -102,6 +107,11 @@ if [[ -x $program ]]; then
     step "the built program" bash runs/run.sh "$program"
 else
     echo "the program isn't built, so it wasn't run ('make' proves and builds it)"
+fi
+if [[ -x $top/crates/transcripts/out/transcripts ]]; then
+    step "the transcripts" play_transcripts
+else
+    echo "the transcripts aren't built, so they weren't played ('rt run' in crates/transcripts does both)"
 fi
 echo "quick: $passed passed, $failed failed"
 [[ $failed == 0 ]]

@@ -2,9 +2,6 @@
 ghost use Rattle.std.specs.Prelude.{◌≡◌, ◌≤◌, ◌%◌, ◌-◌, ◌++◌, ◌↔◌, true, length, replicate, IsTrue, IsSome, IfSome};
 ghost use Rattle.nor_chip.specs.Size.{is_chip_size};
 
-#[cfg(test)]
-mod tests;
-
 /// The SFDP bytes that `TINY64` shows from address 0 on: the header, one parameter header and the double
 /// words 1 to 9 of the basic flash parameter table (JESD216). They are this project's own.
 pub const TINY64_SFDP: [u8; 52] = [

@@ -11,8 +11,6 @@ ghost use Rattle.nor_chip.specs.Offered.{IsStart};
 use crate::Status;
 use walk::Offered;
 
-#[cfg(test)]
-mod tests;
 pub(crate) mod walk;
 
 /// Codes of six bits: CMP, SEC, TB, BP2, BP1, BP0 from the high end.

@@ -11,8 +11,6 @@ use std::fmt;
 
 mod cells;
 mod flash;
-#[cfg(test)]
-mod tests;
 
 /// How many polls a simulated chip answers BUSY: now, and after each operation from then on.
 #[derive(Clone, Copy, Debug, PartialEq, Eq)]

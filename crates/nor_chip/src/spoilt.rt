@@ -7,9 +7,6 @@ ghost use Rattle.nor_chip.specs.Spoilt.{inner_of, spoil_of, sent_of, spoilt_stat
 
 use crate::{Bus, Meter, Stopped, is_changing};
 
-#[cfg(test)]
-mod tests;
-
 /// How a spoilt bus lies. Its transactions are counted from 1.
 #[derive(Clone, Copy, Debug, PartialEq, Eq)]
 pub enum Spoil {

@@ -6,9 +6,6 @@ ghost use Rattle.nor_chip.specs.Guard.{is_undefined};
 use crate::guard;
 use bitflags::{Flag, Flags, bitflag_items};
 
-#[cfg(test)]
-mod tests;
-
 /// Status register 1, as 05h replies it.
 #[derive(Clone, Copy, Debug, PartialEq, Eq)]
 pub struct Status1(u8);

@@ -6,10 +6,6 @@ ghost use Rattle.nor_chip.specs.Bus.{Sends, Stops, Carries, Allows};
 ghost use Rattle.nor_chip.specs.Trace.{traced_by, log_of, has_lost, line_of, Traces};
 
 use crate::{Bus, Meter, Stopped};
-
-#[cfg(test)]
-mod tests;
-
 use std::io::{self, Write};
 
 /// How many bytes of a transaction are turned into digits at once.

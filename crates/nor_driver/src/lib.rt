@@ -25,6 +25,3 @@ pub use operations::{erase, program_page, write_status};
 pub use reads::{read_id, read_sector, read_sfdp, read_status2, read_unique};
 pub use units::{Erase, EraseUnit};
 pub use waits::{Halt, Waited, poll, wait};
-
-#[cfg(test)]
-mod tests;

@@ -31,6 +31,8 @@ mod standing;
 #[cfg(test)]
 mod texts;
 #[cfg(test)]
+mod traced;
+#[cfg(test)]
 mod undone;
 #[cfg(test)]
 mod vaults;
