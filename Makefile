@@ -14,7 +14,7 @@ PREFIX ?= /usr/local
 VERSION := 1.0
 DIST := out/flashnor-$(VERSION)
 
-# The cases that `make storm` runs: their seed, and how many.
+# The cases that `make storm` runs: their seed, or the first and the last one (1-6), and how many of each.
 SEED := 1
 COUNT := 1000
 

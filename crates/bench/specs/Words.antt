@@ -2,9 +2,9 @@
 use Rattle.std.specs.Prelude.{ℕ, List, [], ◌∷◌, codes, if◌then◌else◌}
 use Rattle.std.specs.Str.{bytes_eq}
 use Rattle.bench.specs.declared.words.Request.{Request}
-use Rattle.bench.specs.declared.words.Request.TheVariants.{Usage, Chip, Plan, Journal, Session, Read, Unknown}
+use Rattle.bench.specs.declared.words.Request.TheVariants.{Usage, Chip, Plan, Journal, Session, Read, Answers, Unknown}
 
--- the measurement of this name
+-- what the word of this name asks for
 abbrev pub named : List ℕ → Request
 named word =
     if bytes_eq word (codes "chip") then Chip
@@ -12,9 +12,10 @@ named word =
     else if bytes_eq word (codes "journal") then Journal
     else if bytes_eq word (codes "session") then Session
     else if bytes_eq word (codes "read") then Read
+    else if bytes_eq word (codes "answers") then Answers
     else Unknown
 
--- no word asks for the usage, and one for the measurement of its name
+-- no word asks for the usage, and one for what it asks for
 abbrev pub request_of : List (List ℕ) → Request
 request_of [] = Usage
 request_of (word ∷ []) = named word

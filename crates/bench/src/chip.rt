@@ -54,6 +54,29 @@ pub fn measure<R: Clock + Print + AllocGlobal>(rt: &R) -> Result<u64, Fault> {
     Ok(sum)
 }
 
+/// Programs, erases and reads the whole chip once, and prints what that came to.
+pub fn answer<R: Print + AllocGlobal>(rt: &R) -> Result<(), Fault> {
+    let mut bus = open_bus(rt.alloc())?;
+    Programs { bus: &mut bus }.run()?;
+    let programmed = count(bus.bytes(), 0x5A);
+    Erases { bus: &mut bus }.run()?;
+    let erased = count(bus.bytes(), 0xFF);
+    let mut reads = Reads {
+        bus: &mut bus,
+        sector: [0; 4096],
+    };
+    let sum = reads.run()?;
+    println!(rt;
+        "chip: {programmed} bytes programmed, {erased} erased, the reads add up to {sum}"
+    )?;
+    Ok(())
+}
+
+// How many of the bytes are this one.
+fn count(bytes: &[u8], byte: u8) -> usize {
+    bytes.iter().filter(|found| **found == byte).count()
+}
+
 fn measure_reads<R: Clock + Print>(rt: &R, bus: &mut SimBus, memory: &[u8]) -> Result<u64, Fault> {
     let mut copies = CopiesOut {
         memory,
@@ -160,26 +183,5 @@ impl Work for CopiesIn<'_> {
             sector.copy_from_slice(&self.sector);
         }
         Ok(self.memory.first().map_or(0, |byte| u64::from(*byte)))
-    }
-}
-
-#[cfg(test)]
-mod tests {
-    use super::*;
-    use std::test::Fail;
-
-    #[test]
-    fn operations_are_carried_out(rt: HostRuntime) -> Result<(), Fail> {
-        let mut bus = open_bus(rt.alloc())?;
-        Programs { bus: &mut bus }.run()?;
-        assert!(rt; bus.bytes().iter().all(|byte| *byte == 0x5A));
-        Erases { bus: &mut bus }.run()?;
-        assert!(rt; bus.bytes().iter().all(|byte| *byte == 0xFF));
-        let mut reads = Reads {
-            bus: &mut bus,
-            sector: [0; 4096],
-        };
-        assert_eq!(rt; reads.run()?, 4096 * 0xFF);
-        Ok(())
     }
 }

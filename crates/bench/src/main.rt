@@ -17,12 +17,13 @@ use std::process::ExitCode;
 use words::{Request, request_of};
 
 const USAGE: &str = "\
-usage: bench chip | plan | journal | session | read
+usage: bench chip | plan | journal | session | read | answers
   chip     reads, erases and page programs of a simulated chip, beside copies
   plan     comparisons of two sectors, beside copies
   journal  a journal of 4,096 sectors, written and read, beside SHA-256
   session  sessions and a restore on a chip of 16 MiB, beside SHA-256 and copies
   read     a chip of 16 MiB, read out and verified, beside copies
+  answers  what the work of chip, plan, journal and read comes to, without its time
 ";
 
 fn main(rt: HostRuntime) -> Result<ExitCode, Fault> {
@@ -37,6 +38,10 @@ fn main(rt: HostRuntime) -> Result<ExitCode, Fault> {
         Request::Plan => plan::measure(&rt)?,
         Request::Session => session::measure(&rt)?,
         Request::Read => read::measure(&rt)?,
+        Request::Answers => {
+            answer(&rt)?;
+            return Ok(ExitCode::SUCCESS);
+        }
         Request::Unknown => {
             rt.eprint(USAGE)?;
             return Ok(ExitCode::FAILURE);
@@ -44,4 +49,13 @@ fn main(rt: HostRuntime) -> Result<ExitCode, Fault> {
     };
     println!(rt; "sum of all answers: {sum}")?;
     Ok(ExitCode::SUCCESS)
+}
+
+// What is timed was done: each piece of work once, and what it came to.
+fn answer<R: Print + AllocGlobal>(rt: &R) -> Result<(), Fault> {
+    chip::answer(rt)?;
+    plan::answer(rt)?;
+    journal::answer(rt)?;
+    read::answer(rt)?;
+    timing::answer(rt)
 }

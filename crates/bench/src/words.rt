@@ -17,6 +17,8 @@ pub enum Request {
     Session,
     /// `read`: measure the reading of a whole chip.
     Read,
+    /// `answers`: do the work once, and print what it comes to.
+    Answers,
     /// Anything else.
     Unknown,
 }
@@ -46,6 +48,8 @@ fn named(word: &str) -> Request
         Request::Session
     } else if word == "read" {
         Request::Read
+    } else if word == "answers" {
+        Request::Answers
     } else {
         Request::Unknown
     }

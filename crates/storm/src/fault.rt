@@ -19,6 +19,8 @@ pub enum Fault {
     Differs(&'static str),
     /// The first transaction of this call that isn't the one that the plain code says, counted from 1.
     Sends(&'static str, u64),
+    /// This is wrong in what a comparison was given, and it doesn't tell it.
+    Untold(&'static str),
 }
 
 /// Faults with what differs where the two don't agree.

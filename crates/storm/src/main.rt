@@ -22,23 +22,23 @@ mod restores;
 mod runs;
 mod stops;
 mod tally;
-#[cfg(test)]
-mod tests;
 mod traces;
 mod transactions;
 mod verdicts;
 mod wanted;
 mod words;
+mod wrongs;
 
 use fault::Fault;
 use runs::Halt;
+use std::env;
 use std::process::ExitCode;
-use std::{env, io};
 use words::Job;
 
 const USAGE: &str = "\
-usage: storm SEED COUNT [FIRST]
-  runs so many cases of a seed, from case FIRST on (0 where it isn't given)
+usage: storm SEED[-LAST] COUNT [FIRST]
+  runs so many cases of a seed, or of each from SEED to LAST, from case FIRST on
+  (0 where it isn't given)
 ";
 
 fn main(rt: HostRuntime) -> Result<ExitCode, Fault> {
@@ -47,21 +47,43 @@ fn main(rt: HostRuntime) -> Result<ExitCode, Fault> {
         rt.eprint(USAGE)?;
         return Ok(ExitCode::FAILURE);
     };
-    match runs::run(rt.alloc(), job) {
-        Ok(tally) => {
-            eprintln!(rt; "{tally}")?;
-            println!(rt; "{} cases, 0 differences.", job.count)?;
-            Ok(ExitCode::SUCCESS)
-        }
-        Err(halt) => {
-            tell(&rt, job.seed, halt)?;
-            Ok(ExitCode::FAILURE)
-        }
+    wrongs::check(rt.alloc())?;
+    let (mut passed, mut failed) = (0_u64, 0_u64);
+    for seed in job.seeds.0..job.seeds.1.saturating_add(1) {
+        let (agreed, told) = run(&rt, job, seed)?;
+        passed = passed.saturating_add(agreed);
+        failed = failed.saturating_add(told);
+    }
+    println!(rt; "{passed} passed, {failed} failed")?;
+    // No case shows nothing.
+    if failed == 0 && passed > 0 {
+        Ok(ExitCode::SUCCESS)
+    } else {
+        Ok(ExitCode::FAILURE)
     }
 }
 
+// Runs the cases of a seed, and answers how many agreed before the first that doesn't, and how many things it told.
+fn run(rt: &HostRuntime, job: Job, seed: u64) -> Result<(u64, u64), Fault> {
+    let (tally, halt) = runs::run(rt.alloc(), job, seed);
+    eprintln!(rt; "Seed {seed}. {tally}")?;
+    if let Some(halt) = halt {
+        let agreed = halt.case.saturating_sub(job.first);
+        tell(rt, seed, halt)?;
+        return Ok((agreed, 1));
+    }
+    if !tally.is_telling(job.count) {
+        println!(rt;
+            "Seed {seed}: a kind of case came less than {} times.",
+            tally::least(job.count)
+        )?;
+        return Ok((job.count, 1));
+    }
+    Ok((job.count, 0))
+}
+
 // Tells what ended a run, and how the case is run again alone.
-fn tell(rt: &impl Print, seed: u64, halt: Halt) -> io::Result<()> {
+fn tell(rt: &HostRuntime, seed: u64, halt: Halt) -> Result<(), Fault> {
     let Halt { case, fault } = halt;
     match fault {
         Fault::Differs(what) => println!(rt; "Seed {seed}, case {case} differs: {what}.")?,
@@ -70,5 +92,6 @@ fn tell(rt: &impl Print, seed: u64, halt: Halt) -> io::Result<()> {
         }
         fault => println!(rt; "Seed {seed}, case {case} can't be run: {fault:?}.")?,
     }
-    println!(rt; "Run it again with: storm {seed} 1 {case}")
+    println!(rt; "Run it again with: storm {seed} 1 {case}")?;
+    Ok(())
 }

@@ -19,15 +19,15 @@ pub struct Halt {
     pub fault: Fault,
 }
 
-/// Runs the cases of a job, up to the first that differs.
-pub fn run(alloc: Global, job: Job) -> Result<Tally, Halt> {
+/// Runs the cases that a job wants of a seed, up to the first that differs, and counts them.
+pub fn run(alloc: Global, job: Job, seed: u64) -> (Tally, Option<Halt>) {
     let mut tally = Tally::NONE;
     for case in job.first..job.first.saturating_add(job.count) {
-        if let Err(fault) = run_case(alloc, job.seed, case, &mut tally) {
-            return Err(Halt { case, fault });
+        if let Err(fault) = run_case(alloc, seed, case, &mut tally) {
+            return (tally, Some(Halt { case, fault }));
         }
     }
-    Ok(tally)
+    (tally, None)
 }
 
 // Runs a session as the plain code wants it. An accepted one is stopped and given back too; some journals are damaged,

@@ -3,6 +3,11 @@
 use nor_session::Refusal;
 use std::fmt;
 
+/// How often each kind of case has to come in so many cases: five times in 500 or more, and fewer may lack some.
+pub fn least(cases: u64) -> u64 {
+    if cases < 500 { 0 } else { 5 }
+}
+
 /// Cases by what they came to.
 #[derive(Clone, Copy, Debug, PartialEq, Eq)]
 pub struct Tally {
@@ -30,6 +35,21 @@ impl Tally {
         rehearsed: 0,
         read: 0,
     };
+
+    /// In so many cases each kind came often enough to say something: sessions and restores that are accepted, readings,
+    /// and each of a session's ten refusals. No other refusal came.
+    pub fn is_telling(&self, cases: u64) -> bool {
+        let least = least(cases);
+        let mut refused = self.refused.iter().enumerate();
+        self.accepted >= least
+            && self.restored >= least
+            && self.read >= least
+            && refused.all(|(number, count)| if 1 <= number && number <= 10 {
+                *count >= least
+            } else {
+                *count == 0
+            })
+    }
 
     /// Counts a session.
     pub fn count_session(&mut self, refusal: Option<Refusal>) {

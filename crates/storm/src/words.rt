@@ -3,28 +3,33 @@
 /// The cases to be run.
 #[derive(Clone, Copy, Debug, PartialEq, Eq)]
 pub struct Job {
-    pub seed: u64,
-    /// The number of the first case.
+    /// The first and the last of the seeds.
+    pub seeds: (u64, u64),
+    /// The number of each seed's first case.
     pub first: u64,
+    /// How many cases of each seed.
     pub count: u64,
 }
 
 impl Job {
-    /// `SEED COUNT` asks for so many cases from case 0 on, `SEED COUNT FIRST` from another on. Other words ask for
-    /// nothing.
+    /// `SEED COUNT` asks for so many cases from case 0 on, `SEED COUNT FIRST` from another on. `SEED-LAST` in place of a
+    /// seed asks for them of each seed from one to the other. Other words ask for nothing.
     pub fn of(words: &[String]) -> Option<Job> {
         match words {
-            [seed, count] => Job::of_numbers(seed, count, "0"),
-            [seed, count, first] => Job::of_numbers(seed, count, first.as_str()),
+            [seeds, count] => Job::of_numbers(seeds.as_str(), count.as_str(), "0"),
+            [seeds, count, first] => {
+                Job::of_numbers(seeds.as_str(), count.as_str(), first.as_str())
+            }
             _ => None,
         }
     }
 
-    fn of_numbers(seed: &String, count: &String, first: &str) -> Option<Job> {
+    fn of_numbers(seeds: &str, count: &str, first: &str) -> Option<Job> {
+        let (seed, last) = seeds.split_once('-').unwrap_or((seeds, seeds));
         Some(Job {
-            seed: seed.as_str().parse::<u64>().ok()?,
+            seeds: (seed.parse::<u64>().ok()?, last.parse::<u64>().ok()?),
             first: first.parse::<u64>().ok()?,
-            count: count.as_str().parse::<u64>().ok()?,
+            count: count.parse::<u64>().ok()?,
         })
     }
 }
