@@ -13,6 +13,7 @@ mod guards;
 mod journals;
 mod left;
 mod lengths;
+mod lies;
 mod lines;
 mod pace;
 mod parameters;
@@ -24,6 +25,7 @@ mod stops;
 mod tally;
 #[cfg(test)]
 mod tests;
+mod told;
 mod traces;
 mod transactions;
 mod verdicts;
