@@ -3,6 +3,7 @@
 use crate::cases::Case;
 use crate::chips::Chip;
 use crate::fault::{Fault, agree};
+use crate::pace::Pace;
 use crate::wanted::{Wanted, Work};
 use crate::{guards, lengths, traces, transactions, verdicts};
 use nor_chip::{Meter, SimBus, TraceBus};
@@ -109,13 +110,14 @@ pub fn check_found(chip: &Chip, found: &Found) -> Result<(), Fault> {
     let named = found.name == verdicts::name_of(config);
     let sized = found.id == config.id && found.size == config.size;
     let kinds = found.kinds.k32 == config.k32 && found.kinds.k64 == config.k64;
-    let kept = guards::kept([found.status1, 0]) == guards::kept([chip.status[0], 0]);
+    let [status1, _] = guards::kept(chip.status);
+    let seen = found.status1 == status1 | Pace::of(chip).waited().bits();
     agree(named && sized, "the chip that was found")?;
     agree(
         kinds && found.scheme == config.scheme,
         "the kinds that were found",
     )?;
-    agree(kept, "the status that was found")
+    agree(seen, "the status that was found")
 }
 
 /// The chip behind the bus is what was wanted, and idle.

@@ -54,6 +54,15 @@ impl Pace {
         }
     }
 
+    /// Behind the polls that reply BUSY.
+    pub fn waited(self) -> Pace {
+        let mut pace = self;
+        for _ in 0..self.busy {
+            pace = pace.behind_poll();
+        }
+        pace
+    }
+
     /// Behind the transactions of a trace.
     pub fn behind_lines(self, lines: &str) -> Pace {
         let mut pace = self;

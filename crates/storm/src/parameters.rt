@@ -126,7 +126,8 @@ fn wrong_density(dice: &mut Dice) -> [u8; 4] {
     dice.pick(0_u32, &wrong).to_le_bytes()
 }
 
-fn put(shown: &mut Shown, at: usize, piece: &[u8]) {
+/// Puts bytes from a place on.
+pub fn put(shown: &mut Shown, at: usize, piece: &[u8]) {
     for (place, byte) in shown.iter_mut().skip(at).zip(piece) {
         *place = *byte;
     }

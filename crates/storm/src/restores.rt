@@ -7,7 +7,7 @@ use crate::dice::Dice;
 use crate::fault::{Fault, agree};
 use crate::verdicts::{self, Saved};
 use crate::wanted::Wanted;
-use crate::{contents, guards, lengths, lines, traces, transactions};
+use crate::{contents, guards, lengths, lies, lines, traces, transactions};
 use nor_chip::{Meter, SimBus, TraceBus};
 use nor_journal::Journal;
 use nor_session::{Refusal, Report, restore};
@@ -82,7 +82,10 @@ pub fn check(
     }
     let sent = traces::text(other.sent.as_slice())?;
     traces::check_lines(sent, lines.text(), "a restore")?;
-    check_stopped(alloc, dice, &chip, &journal, (refusal, lines.text()))?;
+    let lines = lines.text();
+    check_stopped(alloc, dice, &chip, &journal, (refusal, lines))?;
+    let count = lines::count(lines);
+    lies::check_restore(alloc, dice, &chip, (&journal, saved), count)?;
     Ok(refusal)
 }
 

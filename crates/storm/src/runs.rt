@@ -8,7 +8,8 @@ use crate::tally::Tally;
 use crate::wanted::Wanted;
 use crate::words::Job;
 use crate::{
-    checks, damages, journals, readings, rehearsals, restores, stops, transactions, verdicts,
+    checks, damages, journals, lies, lines, readings, rehearsals, restores, stops, transactions,
+    verdicts,
 };
 use std::alloc::Global;
 
@@ -41,6 +42,11 @@ fn run_case(alloc: Global, seed: u64, number: u64, tally: &mut Tally) -> Result<
         tally.count_reading();
     }
     let ran = checks::run(alloc, &case, u64::MAX, None)?;
+    let mut other = Dice::new(seed, !number);
+    if other.hits(1, 4) {
+        lies::check_session(alloc, &mut other, &case, lines::count(ran.lines()?))?;
+        tally.count_lie();
+    }
     if let Some(refusal) = verdicts::of_opening(&case) {
         tally.count_session(Some(refusal));
         checks::check_refused(alloc, &case, refusal, &ran)?;

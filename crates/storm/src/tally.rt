@@ -23,6 +23,8 @@ pub struct Tally {
     pub rehearsed: u64,
     /// Chips that were read out and compared.
     pub read: u64,
+    /// Sessions that went over a bus that lies too.
+    pub lied: u64,
 }
 
 impl Tally {
@@ -34,6 +36,7 @@ impl Tally {
         kept_away: [0; 21],
         rehearsed: 0,
         read: 0,
+        lied: 0,
     };
 
     /// In so many cases each kind came often enough to say something: sessions and restores that are accepted, readings,
@@ -76,6 +79,11 @@ impl Tally {
     pub fn count_reading(&mut self) {
         self.read = self.read.wrapping_add(1);
     }
+
+    /// Counts a session on a bus that lies.
+    pub fn count_lie(&mut self) {
+        self.lied = self.lied.wrapping_add(1);
+    }
 }
 
 fn count(numbers: &mut [u64; 21], refusal: Refusal) {
@@ -91,7 +99,8 @@ impl fmt::Display for Tally {
         write!(f, "\nrestores on other chips: {} accepted", self.restored)?;
         write_numbers(f, &self.kept_away)?;
         write!(f, "\nrehearsals: {}", self.rehearsed)?;
-        write!(f, "\nchips read: {}", self.read)
+        write!(f, "\nchips read: {}", self.read)?;
+        write!(f, "\nsessions on a bus that lies: {}", self.lied)
     }
 }
 

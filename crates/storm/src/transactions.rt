@@ -163,29 +163,40 @@ fn compare(lines: &mut Lines, wanted: &Wanted) -> Result<(), Fault> {
 
 // 4 to 7: what makes a chip what is wanted.
 fn change(lines: &mut Lines, chip: &Chip, wanted: &Wanted) -> Result<(), Fault> {
-    let mut code = guards::code_of(chip.status);
-    // 4: where a touched sector is guarded an operation that clears the protection code, and nothing else.
-    if wanted.first_guarded(chip).is_some() {
-        code = 0;
-        lines.write_status(guards::with_code(chip.status, 0))?;
-    }
-    // 5: an operation for each erase.
-    if wanted.raises_all(0, chip.sectors()) {
-        lines.erase_chip()?;
-    } else {
-        erase_blocks(lines, chip, wanted)?;
-    }
+    prepare(lines, chip, wanted)?;
     // 6: the programs of each touched sector, rising.
     for number in 0..chip.sectors() {
         if wanted.touches(number) {
             program_sector(lines, chip, wanted, number)?;
         }
     }
-    // 7: an operation that sets the wanted code, where it is another now.
-    if code != guards::code_of(wanted.status) {
-        lines.write_status(wanted.status)?;
+    protect(lines, chip, wanted)
+}
+
+/// 4 and 5: what comes before the first program.
+pub fn prepare(lines: &mut Lines, chip: &Chip, wanted: &Wanted) -> Result<(), Fault> {
+    // 4: where a touched sector is guarded an operation that clears the protection code, and nothing else.
+    if wanted.first_guarded(chip).is_some() {
+        lines.write_status(guards::with_code(chip.status, 0))?;
     }
-    Ok(())
+    // 5: an operation for each erase.
+    if wanted.raises_all(0, chip.sectors()) {
+        lines.erase_chip()
+    } else {
+        erase_blocks(lines, chip, wanted)
+    }
+}
+
+/// 7: an operation that sets the wanted code, where it is another now.
+pub fn protect(lines: &mut Lines, chip: &Chip, wanted: &Wanted) -> Result<(), Fault> {
+    let code = match wanted.first_guarded(chip) {
+        Some(_) => 0,
+        None => guards::code_of(chip.status),
+    };
+    if code == guards::code_of(wanted.status) {
+        return Ok(());
+    }
+    lines.write_status(wanted.status)
 }
 
 // 5: rising, by the largest units all of whose sectors are raised: 64 KiB, 32 KiB outside these, and sectors.
@@ -215,9 +226,9 @@ fn erase_half(lines: &mut Lines, chip: &Chip, wanted: &Wanted, first: u32) -> Re
     Ok(())
 }
 
-// 6: a sector that wasn't erased is read. Then each page that isn't as wanted has one operation, from the first byte
-// that differs to the last.
-fn program_sector(
+/// 6: a sector that wasn't erased is read. Then each page that isn't as wanted has one operation, from the first byte
+/// that differs to the last.
+pub fn program_sector(
     lines: &mut Lines,
     chip: &Chip,
     wanted: &Wanted,

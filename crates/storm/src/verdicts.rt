@@ -117,24 +117,41 @@ pub struct Saved<'a> {
 
 /// The first of the refusals of a restore that holds. The wanted chip is that of the restore.
 pub fn of_restore(chip: &Chip, saved: Saved<'_>, wanted: &Wanted) -> Option<Refusal> {
-    let (new, old) = (&chip.config, &saved.chip.config);
-    if let Some(refusal) = of_probe(new, None) {
-        return Some(refusal);
+    of_probe(&chip.config, None)
+        .or(of_journal(&chip.config, saved))
+        .or(of_unit(chip, saved))
+        .or(of_lock(chip, saved, wanted))
+}
+
+/// A journal of another kind of chip.
+pub fn of_journal(config: &Config, saved: Saved<'_>) -> Option<Refusal> {
+    let old = &saved.chip.config;
+    if config.id == old.id && config.size == old.size {
+        None
+    } else {
+        Some(Refusal::OtherChip)
     }
-    if new.id != old.id || new.size != old.size {
-        return Some(Refusal::OtherChip);
-    }
-    if new.unique != old.unique {
+}
+
+/// A journal of another unit of this kind, or bits that no restore writes and that aren't as they were.
+pub fn of_unit(chip: &Chip, saved: Saved<'_>) -> Option<Refusal> {
+    if chip.config.unique != saved.chip.config.unique {
         return Some(Refusal::OtherUnit);
     }
-    let differs = if new.scheme {
+    let differs = if chip.config.scheme {
         guards::fixed(chip.status) != guards::fixed(saved.chip.status)
     } else {
         guards::kept(chip.status) != guards::kept(saved.chip.status)
     };
     if differs {
-        return Some(Refusal::StatusDiffers);
+        Some(Refusal::StatusDiffers)
+    } else {
+        None
     }
+}
+
+/// A status that a restore has to write, and can't.
+pub fn of_lock(chip: &Chip, saved: Saved<'_>, wanted: &Wanted) -> Option<Refusal> {
     let other_code = guards::code_of(chip.status) != guards::code_of(saved.chip.status);
     let writes_status = other_code || wanted.first_guarded(chip).is_some();
     if writes_status && guards::is_locked(chip.status) {

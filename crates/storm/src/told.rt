@@ -1,0 +1,300 @@
+//! A session and a restore that go by what they are told: plain code over a bus, which may lie.
+
+use crate::cases::Case;
+use crate::chips::Chip;
+use crate::fault::Fault;
+use crate::lines::Lines;
+use crate::parameters::{self, Shown};
+use crate::verdicts::{self, Saved};
+use crate::wanted::Wanted;
+use crate::{guards, restores, transactions};
+use nor_chip::{Bus, Config, Delays, SimBus, SpoiltBus, Stopped, TraceBus};
+use nor_probe::ChipName;
+use nor_session::{Refusal, Request, What};
+use std::alloc::{AllocError, AllocFailed, Global};
+
+/// A bus that lies about a chip, with the trace of all that is sent over it.
+pub type Liar<'a> = TraceBus<SpoiltBus<SimBus>, &'a mut Vec<u8>>;
+
+/// The most polls of a wait.
+const MOST_POLLS: u32 = 65_536;
+
+/// Why a call came to no end.
+#[derive(Debug, Drop)]
+pub enum Halt {
+    Refused(Refusal),
+    Failed(Fault),
+}
+
+/// A caller of a bus.
+#[derive(Drop)]
+pub struct Caller<'a> {
+    pub bus: Liar<'a>,
+    pub alloc: Global,
+}
+
+impl Caller<'_> {
+    /// A session. The chip is what it shows itself to be, and what isn't read of it is FFh.
+    pub fn session(&mut self, case: &Case) -> Result<(), Halt> {
+        let (config, status1) = self.find(case.request.named)?;
+        let chip = self.identify(config, status1)?;
+        let mut told = asked_of(self.alloc, case, chip)?;
+        refuse(verdicts::of_opening(&told))?;
+        if !matches!(case.request.what, What::WpRange { .. }) {
+            self.scan(case, &mut told.chip)?;
+        }
+        let wanted = Wanted::of_case(self.alloc, &told)?;
+        refuse(verdicts::of_changes(&told, &wanted))?;
+        self.change(&mut told.chip, &wanted)?;
+        if case.request.verify {
+            self.compare(&wanted)?;
+        }
+        Ok(())
+    }
+
+    /// A restore from a journal.
+    pub fn restore(&mut self, saved: Saved<'_>) -> Result<(), Halt> {
+        let (config, status1) = self.find(None)?;
+        refuse(verdicts::of_journal(&config, saved))?;
+        let mut chip = self.identify(config, status1)?;
+        refuse(verdicts::of_unit(&chip, saved))?;
+        for (number, sector) in (0_u32..).zip(saved.sectors) {
+            if sector.touched {
+                self.take_sector(number, &mut chip)?;
+            }
+        }
+        let wanted = restores::restored_of(self.alloc, &chip, saved)?;
+        refuse(verdicts::of_lock(&chip, saved, &wanted))?;
+        self.change(&mut chip, &wanted)?;
+        self.compare(&wanted)
+    }
+
+    // One transaction.
+    fn send(&mut self, out: &[u8], reply: &mut [u8]) -> Result<(), Halt> {
+        match self.bus.transfer(out, reply) {
+            Ok(()) => Ok(()),
+            Err(Stopped) => Err(Halt::Refused(Refusal::Stopped)),
+        }
+    }
+
+    // Polls until one shows BUSY clear. It answers that status 1, or tells the address of what is waited for.
+    fn wait(&mut self, address: u32) -> Result<u8, Halt> {
+        for _ in 0..MOST_POLLS {
+            let mut status1 = [0];
+            self.send(&[0x05], &mut status1)?;
+            if status1[0] & 0x01 == 0 {
+                return Ok(status1[0]);
+            }
+        }
+        Err(Halt::Refused(Refusal::Timeout { address }))
+    }
+
+    // A wait, and the ID: which chip it is, and its status 1.
+    fn find(&mut self, named: Option<ChipName>) -> Result<(Config, u8), Halt> {
+        let status1 = self.wait(0)?;
+        let mut id = [0; 3];
+        self.send(&[0x9F], &mut id)?;
+        let config = match id {
+            [0x00, 0x00, 0x00] | [0xFF, 0xFF, 0xFF] => {
+                return Err(Halt::Refused(Refusal::NoChip));
+            }
+            [0xEF, 0x40, 0x17] => Config::w25q64fv(),
+            [0xEF, 0x40, 0x18] => Config::w25q128fv(),
+            _ => self.find_parameters(id)?,
+        };
+        refuse(verdicts::of_probe(&config, named))?;
+        Ok((config, status1))
+    }
+
+    // The chip that SFDP bytes tell of. They are put together with the table behind the headers.
+    fn find_parameters(&mut self, id: [u8; 3]) -> Result<Config, Halt> {
+        let mut signature = [0; 8];
+        self.send(&[0x5A, 0x00, 0x00, 0x00, 0x00], &mut signature)?;
+        let mut first = [0; 8];
+        self.send(&[0x5A, 0x00, 0x00, 0x08, 0x00], &mut first)?;
+        let [.., low, middle, high, _] = first;
+        let mut table = [0; 36];
+        self.send(&[0x5A, high, middle, low, 0x00], &mut table)?;
+        let mut shown: Shown = [0xFF; 256];
+        parameters::put(&mut shown, 0, &signature);
+        parameters::put(&mut shown, 8, &first);
+        parameters::put(&mut shown, 12, &[0x10, 0x00, 0x00]);
+        parameters::put(&mut shown, 16, &table);
+        match parameters::read(&shown, 65_536) {
+            Ok(told) => match Config::new(id, told.size, told.k32, told.k64, false, &shown) {
+                Some(config) => Ok(config),
+                None => Err(Halt::Failed(Fault::Case)),
+            },
+            Err(fault) => Err(Halt::Refused(Refusal::UnknownChip(fault))),
+        }
+    }
+
+    // Status 2 and the unique ID. What the chip has isn't known yet.
+    fn identify(&mut self, config: Config, status1: u8) -> Result<Chip, Halt> {
+        let mut status2 = [0];
+        self.send(&[0x35], &mut status2)?;
+        let mut unique = [0; 8];
+        self.send(&[0x4B, 0x00, 0x00, 0x00, 0x00], &mut unique)?;
+        Ok(Chip {
+            config: config.with_unique(unique),
+            bytes: vec![in self.alloc; 0xFF; config.size as usize]?,
+            status: [status1, status2[0]],
+            delays: Delays { now: 0, each: 0 },
+        })
+    }
+
+    // Each sector that holds an included address, rising.
+    fn scan(&mut self, case: &Case, chip: &mut Chip) -> Result<(), Halt> {
+        for number in 0..chip.sectors() {
+            if case.includes_in(number) {
+                self.take_sector(number, chip)?;
+            }
+        }
+        Ok(())
+    }
+
+    // Reads a sector into what is known of the chip.
+    fn take_sector(&mut self, number: u32, chip: &mut Chip) -> Result<(), Halt> {
+        let sector = chip.bytes.chunks_mut(4096).nth(number as usize);
+        self.read_sector(number, sector.unwrap_or(&mut []))
+    }
+
+    fn read_sector(&mut self, number: u32, sector: &mut [u8]) -> Result<(), Halt> {
+        let [_, high, middle, low] = number.saturating_mul(4096).to_be_bytes();
+        self.send(&[0x03, high, middle, low], sector)
+    }
+
+    // What makes the chip what is wanted, in the order of the lists: protection is lifted, units are erased, sectors
+    // programmed, and protection is set.
+    fn change(&mut self, chip: &mut Chip, wanted: &Wanted) -> Result<(), Halt> {
+        let mut lines = Lines::new(self.alloc, chip);
+        transactions::prepare(&mut lines, chip, wanted)?;
+        self.play(&lines)?;
+        for number in 0..chip.sectors() {
+            if wanted.touches(number) {
+                self.program(chip, wanted, number)?;
+            }
+        }
+        let mut lines = Lines::new(self.alloc, chip);
+        transactions::protect(&mut lines, chip, wanted)?;
+        self.play(&lines)
+    }
+
+    // A sector that wasn't erased is read once more, and its pages are held against what it shows then.
+    fn program(&mut self, chip: &mut Chip, wanted: &Wanted, number: u32) -> Result<(), Halt> {
+        if !wanted.raises_all(number, 1) {
+            self.take_sector(number, chip)?;
+        }
+        let mut lines = Lines::new(self.alloc, chip);
+        transactions::program_sector(&mut lines, chip, wanted, number)?;
+        self.play(&lines)
+    }
+
+    // Sends the write enables and commands of a list. Behind a command it waits as long as it is told to, and so the
+    // list's own polls go, and its readings, which were made.
+    fn play(&mut self, lines: &Lines) -> Result<(), Halt> {
+        for line in lines.text().lines() {
+            if !line.contains(" > ") {
+                self.play_line(line)?;
+            }
+        }
+        Ok(())
+    }
+
+    fn play_line(&mut self, line: &str) -> Result<(), Halt> {
+        let command = bytes_of(self.alloc, line)?;
+        self.send(command.as_slice(), &mut [])?;
+        if line != "06" {
+            self.wait(address_of(command.as_slice()))?;
+        }
+        Ok(())
+    }
+
+    // Each touched sector is as wanted, rising.
+    fn compare(&mut self, wanted: &Wanted) -> Result<(), Halt> {
+        for (number, bytes) in (0_u32..).zip(wanted.bytes.chunks(4096)) {
+            if wanted.touches(number) {
+                self.compare_sector(number, bytes)?;
+            }
+        }
+        Ok(())
+    }
+
+    fn compare_sector(&mut self, number: u32, wanted: &[u8]) -> Result<(), Halt> {
+        let mut shown = [0; 4096];
+        self.read_sector(number, &mut shown)?;
+        let start = number.saturating_mul(4096);
+        for (address, (byte, new)) in (start..).zip(shown.iter().zip(wanted)) {
+            if *byte != *new {
+                return Err(Halt::Refused(Refusal::Mismatch { address }));
+            }
+        }
+        Ok(())
+    }
+}
+
+// What the case asks, of the chip as it is told.
+fn asked_of(alloc: Global, case: &Case, chip: Chip) -> Result<Case, Fault> {
+    Ok(Case {
+        chip,
+        image: case.image.to_vec(alloc)?,
+        request: Request {
+            what: case.request.what,
+            named: case.request.named,
+            included: None,
+            unlock: case.request.unlock,
+            verify: case.request.verify,
+        },
+        included: match &case.included {
+            Some(spans) => Some(spans.to_vec(alloc)?),
+            None => None,
+        },
+    })
+}
+
+fn refuse(refusal: Option<Refusal>) -> Result<(), Halt> {
+    match refusal {
+        Some(refusal) => Err(Halt::Refused(refusal)),
+        None => Ok(()),
+    }
+}
+
+// The bytes of a line without a reply.
+fn bytes_of(alloc: Global, line: &str) -> Result<Vec<u8>, Fault> {
+    let mut bytes = Vec::new(alloc);
+    for pair in line.as_bytes().chunks(2) {
+        match str::from_utf8(pair).map(|digits| u8::from_str_radix(digits, 16)) {
+            Ok(Ok(byte)) => bytes.push(byte)?,
+            _ => return Err(Fault::Case),
+        }
+    }
+    Ok(bytes)
+}
+
+// The address of a program or an erase; the whole chip and its status have 0.
+fn address_of(command: &[u8]) -> u32 {
+    match command {
+        [0x02 | 0x20 | 0x52 | 0xD8, high, middle, low, ..] => {
+            u32::from_be_bytes([0, *high, *middle, *low])
+        }
+        _ => 0,
+    }
+}
+
+impl From<Fault> for Halt {
+    fn from(fault: Fault) -> Halt {
+        Halt::Failed(fault)
+    }
+}
+
+impl From<AllocError> for Halt {
+    fn from(_: AllocError) -> Halt {
+        Halt::Failed(Fault::Memory)
+    }
+}
+
+impl<T: Drop> From<AllocFailed<T>> for Halt {
+    fn from(_: AllocFailed<T>) -> Halt {
+        Halt::Failed(Fault::Memory)
+    }
+}
