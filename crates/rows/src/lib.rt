@@ -7,7 +7,11 @@ mod bounds;
 #[cfg(test)]
 mod cuts;
 #[cfg(test)]
+mod failing;
+#[cfg(test)]
 mod lies;
+#[cfg(test)]
+mod once;
 #[cfg(test)]
 mod power;
 #[cfg(test)]
@@ -18,6 +22,8 @@ mod row;
 mod runs;
 #[cfg(test)]
 mod spoilt;
+#[cfg(test)]
+mod stages;
 #[cfg(test)]
 mod standing;
 #[cfg(test)]
