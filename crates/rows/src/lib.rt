@@ -7,7 +7,11 @@ mod bounds;
 #[cfg(test)]
 mod cuts;
 #[cfg(test)]
+mod failing;
+#[cfg(test)]
 mod lies;
+#[cfg(test)]
+mod once;
 #[cfg(test)]
 mod power;
 #[cfg(test)]
@@ -26,6 +30,8 @@ mod sessions;
 mod sinks;
 #[cfg(test)]
 mod spoilt;
+#[cfg(test)]
+mod stages;
 #[cfg(test)]
 mod standing;
 #[cfg(test)]

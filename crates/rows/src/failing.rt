@@ -1,0 +1,88 @@
+//! A bus that fails once, and would do rightly from then on.
+ghost use Rattle.std.specs.Prelude.{false};
+ghost use Rattle.std.proofs.lemmas.Bool.{false≢true};
+
+use nor_chip::{Bus, Meter, SimBus, Stopped};
+
+/// What goes wrong once.
+#[derive(Clone, Copy)]
+pub enum Fault {
+    /// The transaction is stopped.
+    Stop,
+    /// Each bit of its reply is the other one.
+    Spoil,
+}
+
+/// A bus on which one transaction goes wrong. From then on each is right.
+#[derive(Drop)]
+pub struct OnceBus {
+    pub bus: SimBus,
+    fault: Fault,
+    // how many transactions go before the one that goes wrong; none where each is right
+    behind: Option<u64>,
+    allowed: u64,
+    /// How many transactions were asked for, with the one that went wrong.
+    pub asked: u64,
+    /// How that one began.
+    pub met: [u8; 4],
+}
+
+impl OnceBus {
+    /// Allows so many transactions, of which the one behind so many goes wrong.
+    pub fn new(mut bus: SimBus, allowed: u64, fault: Fault, behind: Option<u64>) -> OnceBus {
+        bus.allow(allowed);
+        OnceBus {
+            bus,
+            fault,
+            behind,
+            allowed,
+            asked: 0,
+            met: [0; 4],
+        }
+    }
+}
+
+impl Bus for OnceBus {
+    ghost state = { λ once. record (⟦<SimBus as Bus>⟧.state once.bus) { honest = false } };
+
+    ghost reaches = { λ once honest. absurd (false≢true honest) };
+
+    fn transfer(&mut self, out: &[u8], reply: &mut [u8]) -> Result<(), Stopped> {
+        let goes_wrong = self.behind == Some(self.asked);
+        self.asked = self.asked.saturating_add(1);
+        if !goes_wrong {
+            return self.bus.transfer(out, reply);
+        }
+        self.met = beginning(out);
+        match self.fault {
+            Fault::Stop => self.bus.allow(0),
+            Fault::Spoil => {}
+        }
+        let answer = self.bus.transfer(out, reply);
+        self.bus.allow(self.allowed);
+        match self.fault {
+            Fault::Stop => {}
+            Fault::Spoil => {
+                for byte in reply.iter_mut() {
+                    *byte = !*byte;
+                }
+            }
+        }
+        answer
+    }
+}
+
+impl Meter for OnceBus {
+    fn allow(&mut self, n: u64) {
+        self.allowed = n;
+        self.bus.allow(n);
+    }
+}
+
+fn beginning(out: &[u8]) -> [u8; 4] {
+    match out {
+        [first, second, third, fourth, ..] => [*first, *second, *third, *fourth],
+        [first, ..] => [*first, 0, 0, 0],
+        [] => [0; 4],
+    }
+}

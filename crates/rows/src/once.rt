@@ -1,0 +1,206 @@
+//! After a stop nothing more is sent: each call ends with it, on a bus that would go on rightly. And nothing is read
+//! again that was spoilt once.
+use crate::failing::{Fault, OnceBus};
+use crate::row::{Start, a_bit_rises};
+use crate::spoilt::most;
+use crate::stages::{Call, Stage, on_two_blocks, on_w25q64fv};
+use nor_chip::{Config, Delays, SimBus, Status, Stopped};
+use nor_driver::{
+    Erase, EraseUnit, Halt, erase, poll, program_page, read_id, read_sector, read_sfdp,
+    read_status2, read_unique, wait, write_status,
+};
+use nor_journal::MemVault;
+use nor_session::{Refusal, Rehearsal, rehearse};
+use std::alloc::Global;
+use std::process::Abort;
+use std::test::Fail;
+
+// What nor_driver sends.
+#[derive(Clone, Copy, Debug)]
+enum Command {
+    Poll,
+    Wait,
+    Id,
+    Status2,
+    Unique,
+    Sfdp,
+    Sector,
+    Erase(EraseUnit),
+    Program,
+    WriteStatus,
+}
+
+impl Command {
+    // Sends it, and tells whether the answer is that the bus stopped.
+    fn is_stopped(self, bus: &mut OnceBus) -> bool {
+        match self {
+            Command::Poll => poll(bus) == Err(Stopped),
+            Command::Wait => wait(bus, 0) == Err(Halt::Stopped),
+            Command::Id => read_id(bus) == Err(Stopped),
+            Command::Status2 => read_status2(bus) == Err(Stopped),
+            Command::Unique => read_unique(bus) == Err(Stopped),
+            Command::Sfdp => read_sfdp(bus, 8, &mut [0; 8]) == Err(Stopped),
+            Command::Sector => read_sector(bus, 15, &mut [0; 4096]) == Err(Stopped),
+            Command::Erase(unit) => erase(bus, Erase { unit, sector: 0 }) == Err(Halt::Stopped),
+            Command::Program => program_page(bus, 0x1080, &[0xA5; 128]) == Err(Halt::Stopped),
+            Command::WriteStatus => {
+                write_status(bus, Status::of([0x04, 0x00]), 2) == Err(Halt::Stopped)
+            }
+        }
+    }
+
+    // Stops each of so many transactions in turn, on a chip with these delays; and none.
+    fn stop_at_each(
+        self,
+        rt: &impl Abort,
+        alloc: Global,
+        delays: Delays,
+        length: u64,
+    ) -> Result<(), Fail> {
+        for n in 0..=length {
+            let bytes = vec![in alloc; 0xFF; 65_536]?;
+            let bus = SimBus::new(Config::tiny64(), bytes, [0x00, 0x00], delays)?;
+            let mut bus = OnceBus::new(bus, 65_538, Fault::Stop, Some(n));
+            let asked = length.min(n.saturating_add(1));
+            assert_eq!(rt; self.is_stopped(&mut bus), n < length, "{self:?} at {n}");
+            assert_eq!(rt; bus.asked, asked, "{self:?} at {n}");
+        }
+        Ok(())
+    }
+}
+
+// The chip answers BUSY twice, at first or, where it is operated, after each operation. So a wait has three polls, and
+// an operation five transactions.
+#[test]
+fn a_stop_ends_each_command(rt: HostRuntime) -> Result<(), Fail> {
+    let commands = [
+        (Command::Poll, 1),
+        (Command::Wait, 3),
+        (Command::Id, 1),
+        (Command::Status2, 1),
+        (Command::Unique, 1),
+        (Command::Sfdp, 1),
+        (Command::Sector, 1),
+        (Command::Erase(EraseUnit::Sector), 5),
+        (Command::Erase(EraseUnit::Block32), 5),
+        (Command::Erase(EraseUnit::Block64), 5),
+        (Command::Erase(EraseUnit::Chip), 5),
+        (Command::Program, 5),
+        (Command::WriteStatus, 5),
+    ];
+    for (command, length) in commands {
+        let now = if length == 5 { 0 } else { 2 };
+        command.stop_at_each(&rt, rt.alloc(), Delays { now, each: 2 }, length)?;
+    }
+    Ok(())
+}
+
+// The chip answers BUSY once, at first and after each operation. So the opening has eight transactions where the chip
+// is known by its SFDP and five where it is in the table, with the two that a reading doesn't have, of which a look at
+// the protection has one; and an operation has four.
+//
+// On the two blocks the session scans 32 sectors, has two erases and two programs, reads two sectors to program them,
+// and 19 to compare; the restore scans these, has two erases and 17 programs, and reads 17 and 19. On the W25Q64FV
+// both scan two sectors, and read them to compare: the session has two status writes, an erase and two programs, and
+// reads one sector to program it; the restore two status writes, two erases and a program.
+#[test]
+fn a_stop_ends_each_call(rt: HostRuntime) -> Result<(), Fail> {
+    let delays = Delays { now: 1, each: 1 };
+    let lengths = [
+        (Call::Probe, 6, 3),
+        (Call::Protection, 6 + 1, 3 + 1),
+        (Call::ReadOut, 6 + 32, 3 + 2),
+        (Call::Verify, 6 + 32, 3 + 2),
+        (
+            Call::Session,
+            8 + 32 + 4 * 4 + 2 + 19,
+            5 + 2 + 4 * 5 + 1 + 2,
+        ),
+        (Call::Restore, 8 + 19 + 4 * 19 + 17 + 19, 5 + 2 + 4 * 5 + 2),
+    ];
+    let blocks = Stage::new(&rt, rt.alloc(), on_two_blocks()?, delays)?;
+    let large = Stage::new(&rt, rt.alloc(), on_w25q64fv(rt.alloc())?, delays)?;
+    for (call, on_blocks, on_large) in lengths {
+        assert_eq!(rt; blocks.stop_at_each(&rt, call)?, on_blocks, "{call:?}");
+        assert_eq!(rt; large.stop_at_each(&rt, call)?, on_large, "{call:?}");
+    }
+    Ok(())
+}
+
+// An idle chip's polls show BUSY clear, so a spoilt one is followed by another, and nothing else changes. What was read
+// to be compared is told as another byte at the sector's first address, or given out as it was read: it isn't read
+// again. Each operation has a poll, and so has the opening.
+#[test]
+fn a_spoilt_reply_is_taken_as_it_is(rt: HostRuntime) -> Result<(), Fail> {
+    let stage = Stage::new(
+        &rt,
+        rt.alloc(),
+        on_w25q64fv(rt.alloc())?,
+        Start::IDLE.delays,
+    )?;
+    let replies = [
+        (Call::ReadOut, 1 + 2),
+        (Call::Verify, 1 + 2),
+        (Call::Session, 1 + 5 + 2),
+        (Call::Restore, 1 + 5 + 2),
+    ];
+    for (call, count) in replies {
+        assert_eq!(rt; stage.spoil_each(&rt, call, 2)?, count, "{call:?}");
+    }
+    Ok(())
+}
+
+// How many transactions a restore sends behind a session, or behind a session and a restore, that sent so many: none
+// before the seal, eight where the sector is as saved, thirteen where a byte has to be programmed.
+fn restore_behind(sent: u64) -> Option<u64> {
+    match sent {
+        0..=22 => None,
+        23..=24 | 41..=42 => Some(8),
+        _ => Some(13),
+    }
+}
+
+// What a rehearsal tells where so many transactions go before a stop, and how many were asked for in all. A stop ends
+// the last call that is allowed; else a restore follows, and nothing else.
+fn rehearsed(behind: u64, stops: usize) -> (Result<Rehearsal, Refusal>, u64) {
+    let asked = behind.saturating_add(1);
+    let ended = behind >= 30;
+    if stops == 0 || ended && stops == 1 {
+        return (Err(Refusal::Stopped), asked);
+    }
+    let needed = restore_behind(behind);
+    let told = Rehearsal {
+        ended,
+        sealed: needed.is_some(),
+        restores: u32::from(needed.is_some()).saturating_add(u32::from(ended)),
+    };
+    (Ok(told), asked.saturating_add(needed.unwrap_or(0)))
+}
+
+// The session sends 30 transactions, and the restore behind it thirteen, of which the eleventh programs the byte.
+#[test]
+fn a_stop_in_a_rehearsal(rt: HostRuntime) -> Result<(), Fail> {
+    let row = a_bit_rises();
+    let all = [most(16); 2];
+    for n in 0..30 + 13 {
+        for stops in 0..3 {
+            let bus = row.bus(rt.alloc(), Start::IDLE)?;
+            let mut bus = OnceBus::new(bus, 0, Fault::Stop, Some(n));
+            let mut vault = MemVault::new(rt.alloc());
+            let mut image = row.wanted(rt.alloc())?;
+            let told = rehearse(
+                &mut bus,
+                &mut vault,
+                &mut image,
+                &row.request,
+                &all[..stops],
+            );
+            assert_eq!(rt;
+                (told, bus.asked),
+                rehearsed(n, stops),
+                "at {n}, {stops} stops"
+            );
+        }
+    }
+    Ok(())
+}
