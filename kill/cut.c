@@ -8,6 +8,7 @@
                       the call fails, and nothing was done
      short            a write puts half of its bytes, and from then on each write fails for want of room
      part             a read or a write moves half of its bytes, and says so
+     grown            somebody writes four bytes behind the file's last one before it is opened
    The file that CALLS names gets a line for each call, what it is and the file's name, and the line `cut` after the one
    that is cut off. Standard input, output and error are no such files. */
 #define _GNU_SOURCE
@@ -79,8 +80,15 @@ static size_t share(size_t size) {
 
 static const char *name_of(int file) { return file < FILES && names[file][0] ? names[file] : "?"; }
 
+/* What somebody else does to a file that is there. */
+static void grow(const char *name) {
+    int file = (int)syscall(SYS_openat, AT_FDCWD, name, O_WRONLY | O_APPEND);
+    if (file >= 0 && (syscall(SYS_write, file, "more", 4) != 4 || syscall(SYS_close, file) < 0)) abort();
+}
+
 static int opened(int folder, const char *name, int flags, mode_t mode) {
     if (fails(flags & O_ACCMODE ? "make" : "open", name)) return -1;
+    if (is_cut && is("grown")) grow(name);
     int file = (int)made(syscall(SYS_openat, folder, name, flags, mode));
     if (file >= 0 && file < FILES) snprintf(names[file], LENGTH, "%s", name);
     return file;

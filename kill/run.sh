@@ -173,7 +173,7 @@ is_told() {
 ended_rightly() {
     [[ $(< calls) == *$'\n'"cut $2"* ]] || return 1
     case $2,$1 in
-        part,* | EINVAL,'fsync .' | E*,'open .') is_own ;;
+        part,* | grown,* | EINVAL,'fsync .' | E*,'open .') is_own ;;
         E*,close*) is_own || is_told "$1" "$2" ;;
         E*,* | short,*) is_told "$1" "$2" ;;
         *) [[ $ended == 137 ]] ;;
@@ -199,7 +199,8 @@ Run it again with: kill/run.sh $program $run $number $how" >&2
 }
 
 # The ways in which a call is cut off. One that reads leaves nothing, so it is only made to fail or to read less, and of
-# the many that a chip of 8 MiB takes those of its layout alone. The bytes of a write may come in any order into a file
+# the many that a chip of 8 MiB takes those of its layout alone. A file that grew since it was read is cut to its
+# length. The bytes of a write may come in any order into a file
 # that has all of them already, and not into one that grows.
 ways() {
     case $1 in
@@ -211,6 +212,7 @@ ways() {
         'fsync .') echo before after ENOSPC EIO EINVAL ;;
         'open .') echo before after ENOSPC EIO ;;
         open*) echo before after ENOSPC EIO ENOMEM ;;
+        'make image' | 'make status') echo before after ENOSPC EIO grown ;;
         *) echo before after ENOSPC EIO ;;
     esac
 }
