@@ -9,6 +9,8 @@ mod cuts;
 #[cfg(test)]
 mod failing;
 #[cfg(test)]
+mod files;
+#[cfg(test)]
 mod lies;
 #[cfg(test)]
 mod once;

@@ -1,9 +1,10 @@
-//! Sessions and restores on buses that lie, each beside plain code on a bus that lies in the same way.
+//! Sessions, restores and readings on buses that lie, each beside plain code on a bus that lies in the same way.
 
 use crate::cases::Case;
 use crate::chips::Chip;
 use crate::dice::Dice;
 use crate::fault::{Fault, agree};
+use crate::readings::{self, Reading};
 use crate::told::{Caller, Halt, Liar};
 use crate::traces;
 use crate::verdicts::Saved;
@@ -65,6 +66,38 @@ pub fn check_restore(
         told,
         "a restore on a bus that lies",
     )
+}
+
+/// A reading on such a bus.
+pub fn check_reading(
+    alloc: Global,
+    dice: &mut Dice,
+    case: &Case,
+    reading: Reading,
+    count: u64,
+) -> Result<(), Fault> {
+    let spoil = spoil_for(dice, count);
+    let mut sent = Vec::new(alloc);
+    let mut bus = liar(alloc, &case.chip, spoil, &mut sent)?;
+    let answer = reading.call(alloc, case, &mut bus);
+    drop(bus);
+    let mut told = Vec::new(alloc);
+    let bus = liar(alloc, &case.chip, spoil, &mut told)?;
+    let mut caller = Caller { bus, alloc };
+    let wanted = caller.reading(reading, case);
+    drop(caller);
+    let sent = traces::text(sent.as_slice())?;
+    let told = traces::text(told.as_slice())?;
+    traces::check_lines(sent, told, "a reading on a bus that lies")?;
+    match (answer, wanted) {
+        (_, Err(Halt::Failed(fault))) => Err(fault),
+        (Err(refusal), Err(Halt::Refused(wanted))) => agree(
+            refusal == wanted,
+            "the refusal of a reading on a bus that lies",
+        ),
+        (Ok(answer), Ok(known)) => readings::check_known(alloc, &known, answer),
+        (_, _) => Err(Fault::Differs("whether a reading ends on a bus that lies")),
+    }
 }
 
 // The answer, with its address, is what the plain code came to, and each transaction the one that it sent.

@@ -5,8 +5,8 @@ use crate::dice::Dice;
 use crate::fault::{Fault, agree};
 use crate::lines::{self, Lines};
 use crate::pace::Pace;
-use crate::{checks, guards, lengths, traces, transactions, verdicts};
-use nor_chip::{Meter, SimBus, TraceBus};
+use crate::{checks, guards, lengths, lies, traces, transactions, verdicts};
+use nor_chip::{Bus, Meter, SimBus, TraceBus};
 use nor_journal::{BrokenVault, MemVault};
 use nor_probe::probe;
 use nor_read::{Protection, read_out, verify, wp_status};
@@ -15,7 +15,7 @@ use std::alloc::Global;
 
 /// The calls that read alone.
 #[derive(Clone, Copy, Debug, PartialEq, Eq)]
-enum Reading {
+pub enum Reading {
     Probe,
     Protection,
     Copy,
@@ -24,7 +24,7 @@ enum Reading {
 
 /// What a reading told.
 #[derive(Drop)]
-enum Told {
+pub enum Told {
     Found,
     Protection(Protection),
     Copy(Report, MemVault),
@@ -51,13 +51,14 @@ pub fn check(alloc: Global, dice: &mut Dice, case: &Case) -> Result<(), Fault> {
         let enough = lines::count(whole.text());
         reading.check_under(alloc, case, whole.text(), u64::MAX)?;
         reading.check_under(alloc, case, whole.text(), dice.up_to(enough))?;
+        lies::check_reading(alloc, dice, case, reading, enough)?;
     }
     check_refused_copy(alloc, dice, case)
 }
 
 impl Reading {
-    // The refusal that it comes to, if any.
-    fn refusal(self, case: &Case) -> Option<Refusal> {
+    /// The refusal that it comes to, if any.
+    pub fn refusal(self, case: &Case) -> Option<Refusal> {
         let early = self.early_refusal(case);
         match self {
             Reading::Probe | Reading::Copy => early,
@@ -70,8 +71,8 @@ impl Reading {
         }
     }
 
-    // The refusal, if any, that is known once the chip is found.
-    fn early_refusal(self, case: &Case) -> Option<Refusal> {
+    /// The refusal, if any, that is known once the chip is found.
+    pub fn early_refusal(self, case: &Case) -> Option<Refusal> {
         let found = verdicts::of_probe(&case.chip.config, case.request.named);
         match self {
             Reading::Probe | Reading::Protection => found,
@@ -142,12 +143,8 @@ impl Reading {
         Ok(Ran { answer, bus, sent })
     }
 
-    fn call(
-        self,
-        alloc: Global,
-        case: &Case,
-        bus: &mut TraceBus<SimBus, &mut Vec<u8>>,
-    ) -> Result<Told, Refusal> {
+    /// Makes the call.
+    pub fn call<B: Bus>(self, alloc: Global, case: &Case, bus: &mut B) -> Result<Told, Refusal> {
         let named = case.request.named;
         let included = case.request.included.as_ref();
         match self {
@@ -178,6 +175,18 @@ fn first_difference(case: &Case) -> Option<Refusal> {
         }
     }
     None
+}
+
+/// A reading on a bus that lies told what is known of the chip.
+pub fn check_known(alloc: Global, known: &Case, told: Told) -> Result<(), Fault> {
+    match told {
+        Told::Found | Told::Comparison(_) => Ok(()),
+        Told::Protection(protection) => check_protection(known, protection),
+        Told::Copy(_, out) => {
+            let copy = copy_of(alloc, known)?;
+            agree(out.bytes() == copy.as_slice(), "the copy of what is known")
+        }
+    }
 }
 
 fn check_told(alloc: Global, case: &Case, told: Told) -> Result<(), Fault> {

@@ -1,13 +1,15 @@
-//! A session and a restore that go by what they are told: plain code over a bus, which may lie.
+//! A session, a restore and readings that go by what they are told: plain code over a bus, which may lie.
 
 use crate::cases::Case;
 use crate::chips::Chip;
 use crate::fault::Fault;
+use crate::guards::Status;
 use crate::lines::Lines;
 use crate::parameters::{self, Shown};
+use crate::readings::Reading;
 use crate::verdicts::{self, Saved};
 use crate::wanted::Wanted;
-use crate::{guards, restores, transactions};
+use crate::{restores, transactions};
 use nor_chip::{Bus, Config, Delays, SimBus, SpoiltBus, Stopped, TraceBus};
 use nor_probe::ChipName;
 use nor_session::{Refusal, Request, What};
@@ -50,6 +52,21 @@ impl Caller<'_> {
             self.compare(&wanted)?;
         }
         Ok(())
+    }
+
+    /// A reading. Answers what is known of the chip then.
+    pub fn reading(&mut self, reading: Reading, case: &Case) -> Result<Case, Halt> {
+        let (config, status1) = self.find(case.request.named)?;
+        let chip = unread(self.alloc, config, [status1, 0])?;
+        let mut told = asked_of(self.alloc, case, chip)?;
+        refuse(reading.early_refusal(&told))?;
+        match reading {
+            Reading::Probe => {}
+            Reading::Protection => told.chip.status[1] = self.read_status2()?,
+            Reading::Copy | Reading::Comparison => self.scan(case, &mut told.chip)?,
+        }
+        refuse(reading.refusal(&told))?;
+        Ok(told)
     }
 
     /// A restore from a journal.
@@ -129,18 +146,19 @@ impl Caller<'_> {
         }
     }
 
-    // Status 2 and the unique ID. What the chip has isn't known yet.
+    // Status 2 and the unique ID.
     fn identify(&mut self, config: Config, status1: u8) -> Result<Chip, Halt> {
-        let mut status2 = [0];
-        self.send(&[0x35], &mut status2)?;
+        let status2 = self.read_status2()?;
         let mut unique = [0; 8];
         self.send(&[0x4B, 0x00, 0x00, 0x00, 0x00], &mut unique)?;
-        Ok(Chip {
-            config: config.with_unique(unique),
-            bytes: vec![in self.alloc; 0xFF; config.size as usize]?,
-            status: [status1, status2[0]],
-            delays: Delays { now: 0, each: 0 },
-        })
+        let config = config.with_unique(unique);
+        Ok(unread(self.alloc, config, [status1, status2])?)
+    }
+
+    fn read_status2(&mut self) -> Result<u8, Halt> {
+        let mut status2 = [0];
+        self.send(&[0x35], &mut status2)?;
+        Ok(status2[0])
     }
 
     // Each sector that holds an included address, rising.
@@ -231,6 +249,16 @@ impl Caller<'_> {
         }
         Ok(())
     }
+}
+
+// A chip of whose bytes nothing is known yet.
+fn unread(alloc: Global, config: Config, status: Status) -> Result<Chip, Fault> {
+    Ok(Chip {
+        config,
+        bytes: vec![in alloc; 0xFF; config.size as usize]?,
+        status,
+        delays: Delays { now: 0, each: 0 },
+    })
 }
 
 // What the case asks, of the chip as it is told.

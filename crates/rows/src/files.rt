@@ -1,0 +1,177 @@
+//! Vaults over files that fail once, and would take all from then on: no failure is hidden, and no call is tried again.
+ghost use Rattle.std.specs.Prelude.{None};
+
+use crate::row::{Row, Start, a_bit_rises, nine_sectors_are_erased};
+use crate::runs::Runs;
+use nor_chip::Meter;
+use nor_journal::{FileVault, Journal, Vault, VaultFault, VaultFile};
+use nor_session::{Refusal, session};
+use std::alloc::Global;
+use std::io;
+use std::process::Abort;
+use std::test::Fail;
+
+// What fails once.
+#[derive(Clone, Copy, Debug, PartialEq, Eq)]
+enum Failure {
+    // The write behind so many is an error.
+    Write(usize),
+    // The write behind so many takes no bytes.
+    Nothing(usize),
+    // The first sync is an error.
+    Sync,
+}
+
+// A file in memory. It keeps how long it was at each call, those that failed too.
+#[derive(Drop)]
+struct OnceFile {
+    failure: Option<Failure>,
+    // the most bytes that a write takes
+    most: usize,
+    bytes: Vec<u8>,
+    writes: Vec<usize>,
+    syncs: Vec<usize>,
+}
+
+impl OnceFile {
+    fn new(alloc: Global, most: usize, failure: Option<Failure>) -> OnceFile {
+        OnceFile {
+            failure,
+            most,
+            bytes: Vec::new(alloc),
+            writes: Vec::new(alloc),
+            syncs: Vec::new(alloc),
+        }
+    }
+}
+
+impl VaultFile for OnceFile {
+    ghost contents = { λ file. None };
+
+    ghost synced = { λ file. None };
+
+    fn append(&mut self, piece: &[u8]) -> io::Result<usize> {
+        let before = self.writes.len();
+        self.writes.push(self.bytes.len())?;
+        if self.failure == Some(Failure::Write(before)) {
+            return Err(io::Error::from(io::ErrorKind::Other));
+        }
+        if self.failure == Some(Failure::Nothing(before)) {
+            return Ok(0);
+        }
+        let taken = piece.len().min(self.most);
+        self.bytes.extend_from_slice(&piece[..taken])?;
+        Ok(taken)
+    }
+
+    fn sync(&mut self) -> io::Result<()> {
+        let is_first = self.syncs.is_empty();
+        self.syncs.push(self.bytes.len())?;
+        if is_first && self.failure == Some(Failure::Sync) {
+            return Err(io::Error::from(io::ErrorKind::Other));
+        }
+        Ok(())
+    }
+}
+
+// Runs a row's session whose vault is in a file that takes at most so many bytes a write. Answers the refusal, at which
+// the chip is as before, and the file.
+fn keep(
+    rt: &impl Abort,
+    alloc: Global,
+    row: &Row,
+    most: usize,
+    failure: Option<Failure>,
+) -> Result<(Option<Refusal>, OnceFile), Fail> {
+    let runs = Runs::new(alloc, row, Start::IDLE)?;
+    let mut bus = row.bus(alloc, Start::IDLE)?;
+    bus.allow(u64::MAX);
+    let mut vault = FileVault::new(OnceFile::new(alloc, most, failure));
+    let mut image = row.wanted(alloc)?;
+    let refusal = session(&mut bus, &mut vault, &mut image, &row.request).err();
+    if refusal.is_some() {
+        runs.assert_as_before(rt, &bus);
+        // The latch is clear: no write enable was sent.
+        assert_eq!(rt; bus.status(), row.status);
+    }
+    Ok((refusal, vault.into_inner()))
+}
+
+// Lets each write of a row's session fail in turn, and the sync. Answers how many writes there are, and how long the
+// journal is.
+fn fail_at_each(
+    rt: &impl Abort,
+    alloc: Global,
+    row: &Row,
+    most: usize,
+) -> Result<(usize, usize), Fail> {
+    let (refusal, right) = keep(rt, alloc, row, most, None)?;
+    assert_eq!(rt; refusal, None);
+    assert!(rt; Journal::read(&right.bytes).is_ok());
+    // One sync, of all that was written.
+    assert_eq!(rt; right.syncs.as_slice(), [right.bytes.len()].as_slice());
+    for (n, length) in right.writes.iter().enumerate() {
+        for failure in [Failure::Write(n), Failure::Nothing(n)] {
+            let (refusal, file) = keep(rt, alloc, row, most, Some(failure))?;
+            assert_eq!(rt; refusal, Some(Refusal::Vault), "{failure:?}");
+            // It was the last call, and what the file has is the journal's beginning up to it.
+            assert_eq!(rt; file.writes.len(), n.saturating_add(1), "{failure:?}");
+            assert!(rt; file.syncs.is_empty(), "{failure:?}");
+            assert!(rt;
+                right.bytes.get(0..*length) == Some(file.bytes.as_slice()),
+                "{failure:?}"
+            );
+        }
+    }
+    let (refusal, file) = keep(rt, alloc, row, most, Some(Failure::Sync))?;
+    assert_eq!(rt; refusal, Some(Refusal::Vault));
+    assert_eq!(rt; file.syncs.as_slice(), right.syncs.as_slice());
+    assert!(rt; file.bytes.as_slice() == right.bytes.as_slice());
+    Ok((right.writes.len(), right.bytes.len()))
+}
+
+// The head has five pieces, a record is one of 4,100 bytes, and the end has two.
+#[test]
+fn a_file_that_fails_once_ends_the_session(rt: HostRuntime) -> Result<(), Fail> {
+    let alloc = rt.alloc();
+    let rows = [
+        (a_bit_rises(), 5000, (5 + 1 + 2, 61 + 4100)),
+        (a_bit_rises(), 1000, (5 + 5 + 2, 61 + 4100)),
+        (
+            nine_sectors_are_erased(),
+            4096,
+            (5 + 2 * 9 + 2, 61 + 4100 * 9),
+        ),
+    ];
+    for (row, most, expected) in rows {
+        assert_eq!(rt;
+            fail_at_each(&rt, alloc, &row, most)?,
+            expected,
+            "{most} bytes"
+        );
+    }
+    Ok(())
+}
+
+// Of five bytes in writes of two the second fails. What went in before is told, and nothing is written or synced again.
+#[test]
+fn a_failure_is_told_at_once(rt: HostRuntime) {
+    for failure in [Failure::Write(1), Failure::Nothing(1)] {
+        let mut vault = FileVault::new(OnceFile::new(rt.alloc(), 2, Some(failure)));
+        assert_eq!(rt;
+            vault.put(b"piece"),
+            Err(VaultFault { kept: 2 }),
+            "{failure:?}"
+        );
+        let file = vault.into_inner();
+        assert_eq!(rt; file.writes.as_slice(), [0, 2].as_slice(), "{failure:?}");
+        assert!(rt; file.syncs.is_empty(), "{failure:?}");
+        assert_eq!(rt; file.bytes.as_slice(), b"pi".as_slice(), "{failure:?}");
+    }
+    let mut vault = FileVault::new(OnceFile::new(rt.alloc(), 5, Some(Failure::Sync)));
+    assert_eq!(rt; vault.put(b"piece"), Ok(()));
+    assert_eq!(rt; vault.seal(), Err(VaultFault { kept: 0 }));
+    let file = vault.into_inner();
+    assert_eq!(rt; file.writes.as_slice(), [0].as_slice());
+    assert_eq!(rt; file.syncs.as_slice(), [5].as_slice());
+}
