@@ -13,8 +13,8 @@ work=$(mktemp -d)
 trap 'rm -rf "$work"' EXIT
 passed=0
 failed=0
-# Its tests run for minutes, so they are compiled alone.
-slow=" rows "
+# The tests of the one and the text of the other run for minutes, so these are compiled alone.
+slow=" rows transcripts "
 
 if ! command -v rt > /dev/null; then
     echo "'rt' isn't found: it comes with Rattle's kit, whose folder bin has to be in PATH." >&2
@@ -65,7 +65,7 @@ has_tests() { grep -rqF '#[test]' "$top/crates/$1/src"; }
 
 # A crate's tests, or a program that has none, with no proof. A library that has none is compiled with those above it.
 try_crate() {
-    local seconds=200 words=(--test)
+    local seconds=200 words=(--test) input=/dev/null
     cd "$top/crates/$1"
     [[ $slow == *" $1 "* ]] && seconds=1
     if ! has_tests "$1"; then
@@ -76,7 +76,8 @@ try_crate() {
             *) words=() ;;
         esac
     fi
-    timeout 280 rt try --seconds "$seconds" "${words[@]}" > "$2/$1.log" 2>&1 < /dev/null
+    [[ -f stdin ]] && input=stdin
+    timeout 280 rt try --seconds "$seconds" "${words[@]}" > "$2/$1.log" 2>&1 < "$input"
     echo $? > "$2/$1.status"
 }
 export -f has_tests try_crate
