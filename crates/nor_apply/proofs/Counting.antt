@@ -1,6 +1,5 @@
 -- Tests of the numbers below a bound, and their count.
-use Rattle.std.proofs.Common.{◌≡◌, ◌<◌, ◌≤◌, ◌+◌, ◌||◌, ◌∙◌, ℕ, zero, suc, Bool, true, false, refl, ap, sym, arith, inl, inr, add-one}
-use Rattle.std.proofs.lemmas.Bool.{cases_eq}
+use Rattle.std.proofs.Common.{◌≡◌, ◌<◌, ◌≤◌, ◌+◌, ◌||◌, ◌∙◌, ℕ, zero, suc, Bool, true, false, refl, ap, arith, add-one}
 use Rattle.std.specs.Prelude.{if◌then◌else◌}
 use Rattle.nor_layout.specs.Below.{any_below, count_below}
 pub use Rattle.nor_layout.proofs.Below.{any_below-some, count_below-zero, count_below-more, count_below-most}

@@ -12,5 +12,6 @@ pub mod ProgrammingSectors
 pub mod ProgrammingWhole
 pub mod CheckingLooks
 pub mod CheckingSteps
+pub mod Naming
 pub mod ApplyingSteps
 pub mod ApplyingExits

@@ -1,8 +1,10 @@
 -- What the whole of the changes of a session or restore leaves: unlock, erases, programs, the status.
-use Rattle.std.specs.Prelude.{◌≡◌, ◌≤◌, ◌<◌, ◌+◌, ◌*◌, ◌/◌, ◌%◌, ◌||◌, ◌==◌, ℕ, Bool, true, false, not, length, bit_and, if◌then◌else◌}
+use Rattle.std.specs.Prelude.{◌≡◌, ◌≤◌, ◌<◌, ◌+◌, ◌*◌, ◌/◌, ◌%◌, ◌||◌, ◌⊎◌, ◌==◌, ℕ, Bool, true, false, not, length, bit_and, if◌then◌else◌}
 use Rattle.nor_chip.specs.Chip.{Chip}
 use Rattle.nor_chip.specs.Guard.{is_guarded}
 use Rattle.nor_chip.specs.Bus.{BusState}
+use Rattle.nor_driver.specs.declared.waits.Halt.{Halt}
+use Rattle.nor_driver.specs.declared.waits.Halt.TheVariants.{Stopped, Timeout}
 use Rattle.nor_driver.specs.StatusWrites.{KeepsFixed, HasCode}
 use Rattle.nor_plan.specs.Planned.{planned}
 use Rattle.nor_plan.specs.SectorSet.{has}
@@ -87,3 +89,9 @@ pub record DoesApply (changes : Changes) (wanted : ℕ → ℕ) (old new : BusSt
   pub done : old.honest ≡ true → CanApply changes wanted old.chip → HasApplied changes wanted old new
   pub programs : old.honest ≡ true → CanApply changes wanted old.chip
       → work.programs ≡ count_below 65536 (is_programmed (touched_in changes) (once_erased (raised_in changes) old.chip.bytes) wanted)
+
+-- whatever the bus, a timeout names 0, where the status is written, or an address in a touched sector
+abbrev pub NamesChange : Changes → Halt → Type 0
+NamesChange changes Stopped = Unit {0}
+NamesChange changes (Timeout address) =
+    ((1 ≤ status_writes changes) × (address ≡ 0)) ⊎ (touched_in changes (address / 4096) ≡ true)

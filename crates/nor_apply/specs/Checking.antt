@@ -30,3 +30,8 @@ abbrev pub CheckTells : (ℕ → Bool) → (ℕ → ℕ) → BusState → BusSta
 CheckTells sectors wanted old new Stopped = RunsOut (sector_count sectors) old new
 CheckTells sectors wanted old new (Mismatch address) =
     old.honest ≡ true → CanCheck sectors old.chip → IsFirstMismatch sectors wanted old.chip.bytes address
+
+-- whatever the bus, a difference lies in one of these sectors
+abbrev pub NamesDifference : (ℕ → Bool) → CheckFault → Type 0
+NamesDifference sectors Stopped = Unit {0}
+NamesDifference sectors (Mismatch address) = sectors (address / 4096) ≡ true

@@ -2,6 +2,8 @@
 use Rattle.std.specs.Prelude.{◌≡◌, ◌≤◌, ◌+◌, ℕ, Bool, true, false, if◌then◌else◌}
 use Rattle.nor_chip.specs.declared.status.Status.{Status}
 use Rattle.nor_chip.specs.Bus.{BusState}
+use Rattle.nor_driver.specs.declared.waits.Halt.{Halt}
+use Rattle.nor_driver.specs.Waits.{NamesTimeout}
 use Rattle.nor_driver.specs.StatusWrites.{CanWriteStatus, MayWriteStatus, HasWrittenStatus}
 use Rattle.nor_apply.specs.Spending.{Spends}
 
@@ -16,3 +18,8 @@ pub record DoesCode (status : Status) (code : ℕ) (needed : Bool) (old new : Bu
   pub count : old.honest ≡ true → old.left ≡ new.left + sent
   pub idle : needed ≡ true → old.honest ≡ true → new.chip.busy ≡ 0
   pub done : needed ≡ true → old.honest ≡ true → CanWriteStatus status old.chip → HasWrittenStatus code old new
+
+-- Whatever the bus, it halts only where the status is to be written, and a timeout names 0.
+pub record HaltsWriting (needed : Bool) (halt : Halt) : Type 0 where
+  pub is : needed ≡ true
+  pub names : NamesTimeout 0 halt

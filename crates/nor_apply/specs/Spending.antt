@@ -1,8 +1,8 @@
 -- How many transactions a part of a session or restore sends, and how it halts.
-use Rattle.std.specs.Prelude.{◌≡◌, ◌≤◌, ◌+◌, ◌*◌, ℕ, true}
+use Rattle.std.specs.Prelude.{◌≡◌, ◌≤◌, ◌+◌, ◌*◌, ◌/◌, ℕ, Bool, true}
 use Rattle.nor_chip.specs.Bus.{BusState}
 use Rattle.nor_driver.specs.declared.waits.Halt.{Halt}
-use Rattle.nor_driver.specs.declared.waits.Halt.TheVariants.{Stopped}
+use Rattle.nor_driver.specs.declared.waits.Halt.TheVariants.{Stopped, Timeout}
 use Rattle.nor_driver.specs.Looks.{RanOut}
 use Rattle.nor_driver.specs.Operations.{Falls}
 use Rattle.nor_apply.specs.declared.tally.Tally.{Tally}
@@ -17,6 +17,11 @@ pub record Spends (most : ℕ) (old new : BusState) : Type 0 where
 pub record HaltsBelow (needed : ℕ) (old new : BusState) (halt : Halt) : Type 0 where
   pub stopped : old.honest ≡ true → halt ≡ Stopped
   pub ran_out : old.honest ≡ true → RanOut needed old new
+
+-- whatever the bus, a timeout names an address in one of these sectors
+abbrev pub NamesSector : (ℕ → Bool) → Halt → Type 0
+NamesSector sectors Stopped = Unit {0}
+NamesSector sectors (Timeout address) = sectors (address / 4096) ≡ true
 
 -- A part succeeded, after so many operations and beside at most so many readings. On an honest bus so many
 -- transactions fewer are left.

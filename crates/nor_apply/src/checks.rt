@@ -4,7 +4,7 @@ ghost use Rattle.nor_driver.specs.Looks.{Looks};
 ghost use Rattle.nor_plan.specs.SectorSet.{has};
 ghost use Rattle.nor_apply.specs.declared.checks.CheckFault.TheVariants as Faults;
 ghost use Rattle.nor_apply.specs.Counts.{sector_count};
-ghost use Rattle.nor_apply.specs.Checking.{DoesChecks, CheckTells};
+ghost use Rattle.nor_apply.specs.Checking.{DoesChecks, CheckTells, NamesDifference};
 ghost use Rattle.nor_apply.specs.Change.{only, byte_of};
 
 use crate::Source;
@@ -40,6 +40,7 @@ pub fn check_all<B: Bus, S: Source>(
     ensures leaves { Looks (sector_count (has touched.now)) (B.state bus.old) (B.state bus.new) }
     ensures does { IfOk result (DoesChecks (has touched.now) (S.wanted source.now) (B.state bus.old) (B.state bus.new)) }
     ensures tells { IfErr result (CheckTells (has touched.now) (S.wanted source.now) (B.state bus.old) (B.state bus.new)) }
+    ensures names { IfErr result (NamesDifference (has touched.now)) }
 {
     let mut sent = 0;
     let mut bytes = [0; 4096];
@@ -64,6 +65,7 @@ fn check_sector<B: Bus>(
     ensures leaves { Looks 1 (B.state bus.old) (B.state bus.new) }
     ensures does { OnOk result (DoesChecks (only sector) (byte_of sector wanted.now) (B.state bus.old) (B.state bus.new) 1) }
     ensures tells { IfErr result (CheckTells (only sector) (byte_of sector wanted.now) (B.state bus.old) (B.state bus.new)) }
+    ensures names { IfErr result (NamesDifference (only sector)) }
 {
     read_sector(bus, sector, &mut *bytes)?;
     match bounds(&*bytes, wanted) {

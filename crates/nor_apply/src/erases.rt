@@ -2,7 +2,7 @@
 ghost use Rattle.std.specs.Prelude.{◌≡◌, ◌≤◌, ◌*◌, ◌/◌, IfOk, IfErr};
 ghost use Rattle.nor_plan.specs.SectorSet.{has, LiesBelow};
 ghost use Rattle.nor_apply.specs.Counts.{sector_count};
-ghost use Rattle.nor_apply.specs.Spending.{HaltsBelow};
+ghost use Rattle.nor_apply.specs.Spending.{HaltsBelow, NamesSector};
 ghost use Rattle.nor_apply.specs.Erasing.{LeavesErases, DoesErases};
 
 use crate::tally::Tally;
@@ -23,6 +23,7 @@ pub fn erase_all<B: Bus>(
     ensures leaves { LeavesErases (has raised.now) kinds size (B.state bus.old) (B.state bus.new) }
     ensures does { IfOk result (DoesErases (has raised.now) kinds size (B.state bus.old) (B.state bus.new)) }
     ensures halts { IfErr result (HaltsBelow (65538 * sector_count (has raised.now)) (B.state bus.old) (B.state bus.new)) }
+    ensures names { IfErr result (NamesSector (has raised.now)) }
 {
     let mut tally = Tally::NONE;
     for unit in erases(raised, kinds, size) {

@@ -1,6 +1,6 @@
 //! Protection that is lifted and given back.
 ghost use Rattle.std.specs.Prelude.{◌≡◌, ◌<◌, IfOk, IfErr};
-ghost use Rattle.nor_apply.specs.Protecting.{LeavesCode, DoesCode};
+ghost use Rattle.nor_apply.specs.Protecting.{LeavesCode, DoesCode, HaltsWriting};
 ghost use Rattle.nor_apply.specs.Spending.{HaltsBelow};
 
 use nor_chip::{Bus, Status};
@@ -13,6 +13,7 @@ pub fn write_code<B: Bus>(bus: &mut B, status: Status, code: u8, needed: bool) -
     ensures leaves { LeavesCode status code needed (B.state bus.old) (B.state bus.new) }
     ensures does { IfOk result (DoesCode status code needed (B.state bus.old) (B.state bus.new)) }
     ensures halts { IfErr result (HaltsBelow 65538 (B.state bus.old) (B.state bus.new)) }
+    ensures names { IfErr result (HaltsWriting needed) }
 {
     if !needed {
         return Ok(0);

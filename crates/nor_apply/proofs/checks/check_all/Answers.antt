@@ -3,6 +3,7 @@ use Rattle.std.proofs.lemmas.Result.{err_from_is_err_and}
 use Rattle.nor_plan.specs.SectorSet.{has}
 use Rattle.nor_apply.proofs.CheckingSteps.{checked_none, checked_with, checked_without, failed_looks, failed_tells}
 use Rattle.nor_apply.proofs.checks.check_all.Goals.{then-contains+in_ok-check_sector, else-contains}
+use Rattle.nor_apply.proofs.Naming.{difference_member}
 use Rattle.nor_apply.proofs.checks.check_all.Goals as goal
 
 pub loop-sector-init : goal.loop-sector-init
@@ -32,3 +33,9 @@ loop-sector-preserved g c = elim c.if-contains.branch [
       rw (w.bus-is, w.sent-is) (checked_without (has c.args.touched.now) (g.S.Source.wanted c.args.source.now) c.loop-sector.sector c.loop-sector.sent
       _ (g.B.Bus.state c.loop-sector.bus) (sym c.contains.ensures ∙ w.if-contains.false) c.loop-sector.invariant)
 ]
+
+pub returns-in_err-check_sector-clause-names : goal.returns-in_err-check_sector-clause-names
+returns-in_err-check_sector-clause-names g c =
+    let is : has c.args.touched.now c.loop-sector.sector ≡ true = sym c.contains.ensures ∙ c.if-contains.true in
+    let p = err_from_is_err_and c.from_residual.result c.from_residual.ensures.1 in
+    rw (p.1, p.2) (difference_member c.loop-sector.sector (has c.args.touched.now) c.in_err-check_sector.field-0.0 is c.in_err-check_sector.ensures.names)

@@ -1,6 +1,7 @@
 use Rattle.std.proofs.Common.{arith}
 use Rattle.std.proofs.lemmas.Result.{err_from_is_err_and}
 use Rattle.nor_apply.proofs.CheckingSteps.{agrees, differs, stops}
+use Rattle.nor_apply.proofs.Naming.{differs_at}
 use Rattle.nor_apply.proofs.checks.check_sector.Goals as goal
 
 pub returns-in_err-read_sector-clause-tells : goal.returns-in_err-read_sector-clause-tells
@@ -15,3 +16,9 @@ returns-in-None-clause-does g c =
 pub returns-in-Some-clause-tells : goal.returns-in-Some-clause-tells
 returns-in-Some-clause-tells g c =
     differs c.args.sector c.in-Some.first c.args.wanted.now c.read_sector.new.bytes _ _ (omega (arith, c.read_sector.auto.bytes)) c.in_ok-read_sector.ensures.does c.in-Some.ensures.first
+
+pub returns-in-Some-clause-names : goal.returns-in-Some-clause-names
+returns-in-Some-clause-names g c =
+    let long = c.read_sector.auto.bytes in
+    let within = c.in-Some.ensures.first.within in
+    differs_at c.args.sector c.in-Some.first (omega (arith, long, within))

@@ -2,6 +2,7 @@ use Rattle.std.proofs.Common.{ℕ, ◌+◌, ap, refl, arith}
 use Rattle.nor_plan.specs.Erases.{erases_left}
 use Rattle.std.proofs.lemmas.Grind.{common_steps}
 use Rattle.nor_apply.proofs.ErasingExits.{plan_begins, plan_goes_on, is_next, none_so_far, erases_more, few_units, leaves_halted, halts_below, leaves_ended, does_ended}
+use Rattle.nor_apply.proofs.Naming.{names_unit}
 use Rattle.nor_apply.proofs.erases.erase_all.Goals as goal
 
 pub loop-unit-init : goal.loop-unit-init
@@ -45,3 +46,9 @@ returns-clause-leaves g c = leaves_ended _ _ _ _ _ _ _ _ c.loop-unit.invariant.2
 
 pub returns-clause-does : goal.returns-clause-does
 returns-clause-does g c = does_ended _ _ _ _ _ _ _ _ c.loop-unit.invariant.2 c.in-None.ensures.steps.0 c.loop-unit.invariant.3
+
+pub returns-in_err-sent-clause-names : goal.returns-in_err-sent-clause-names
+returns-in_err-sent-clause-names g c =
+    let next = is_next _ _ _ _ _ _ _ c.loop-unit.invariant.2 c.in-Some.ensures.steps in
+    let names = names_unit _ _ _ _ _ c.in_err-sent.field-0.0 next c.in_err-sent.ensures.halts.told in
+    grind (arith, common_steps, names)

@@ -5,6 +5,7 @@ use Rattle.nor_plan.specs.SectorSet.{has}
 use Rattle.nor_apply.specs.Counts.{sector_count}
 use Rattle.nor_apply.specs.Spending.{HaltsBelow}
 use Rattle.nor_apply.proofs.ProgrammingWhole.{IsTouched, sectors_none, sectors_skip, sectors_more, few_sectors, leaves_halted, halts_below, does_ended, leaves_ended}
+use Rattle.nor_apply.proofs.Naming.{names_member}
 use Rattle.nor_apply.proofs.programs.program_all.Goals as goal
 
 pub loop-sector-init : goal.loop-sector-init
@@ -53,3 +54,8 @@ returns-clause-leaves g c = leaves_ended _ _ _ c.loop-sector.sector _ _ _ (omega
 
 pub returns-clause-does : goal.returns-clause-does
 returns-clause-does g c = does_ended _ _ _ c.loop-sector.sector _ _ _ (omega arith) c.loop-sector.invariant.so_far
+
+pub returns-in_err-more-clause-names : goal.returns-in_err-more-clause-names
+returns-in_err-more-clause-names g c =
+    let names = names_member c.loop-sector.sector (has c.args.touched.now) c.in_err-more.field-0.0 (sym c.contains.ensures ∙ c.if-not-contains.false) c.in_err-more.ensures.names in
+    grind (arith, common_steps, names)

@@ -2,6 +2,7 @@ use Rattle.std.proofs.Common.{arith}
 use Rattle.std.proofs.lemmas.Grind.{common_steps}
 use Rattle.nor_apply.specs.Spending.{HaltsBelow}
 use Rattle.nor_apply.proofs.ProgrammingExits.{next_all, next_each, next_span, spans_more, few_spans, leaves_halted, halts_below, all_spans, are_all, does_ended, leaves_ended}
+use Rattle.nor_apply.proofs.Naming.{names_place}
 use Rattle.nor_apply.proofs.programs.program_spans.Goals as goal
 
 pub loop-span-preserved : goal.loop-span-preserved
@@ -51,3 +52,12 @@ returns-clause-does g c =
     let here = c.loop-span.invariant in
     does_ended _ _ _ _ _ _ _ c.requires.whole (are_all c.args.old.now c.args.wanted.now _ c.spans-span-items.ensures.pages c.spans-span-items.ensures.spans)
     (all_spans c.args.old.now c.args.wanted.now c.loop-span.yielded _ here.all c.in-None.ensures.steps.0) here.so_far
+
+pub returns-in_err-sent-clause-names : goal.returns-in_err-sent-clause-names
+returns-in_err-sent-clause-names g c =
+    let here = c.loop-span.invariant in
+    let next = next_span c.args.sector c.args.old.now c.args.wanted.now c.loop-span.yielded _ _ c.in-Some.span c.requires.whole c.requires.wanted_whole here.all here.each c.in-Some.ensures.steps in
+    let order = next.spanned.is.order in
+    let last = next.spanned.is.last.0 in
+    let names = names_place c.args.sector c.in-Some.span.first c.in_err-sent.field-0.0 (omega (arith, order, last, c.requires.whole)) c.in_err-sent.ensures.halts.told in
+    grind (arith, common_steps, names)
