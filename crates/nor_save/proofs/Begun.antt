@@ -1,18 +1,20 @@
 -- What a scan has put into a journal so far, whatever the bus.
 use Rattle.std.proofs.Common.{◌≡◌, ◌≢◌, ◌<◌, ◌≤◌, ◌+◌, ◌/◌, ◌&&◌, ◌∙◌, ℕ, Bool, true, List, Option, refl, ap, sym, subst, arith, inl, inr}
 use mathlib.Core.Path.{fun_ext}
-use Rattle.std.proofs.lemmas.Bool.{cases_lt, lt-ltb, le-ltb}
+use Rattle.std.proofs.lemmas.Bool.{cases_lt, lt-ltb, le-ltb, eq-eqb, ne_eqb}
+use Rattle.std.proofs.lemmas.Bool.Decides.{eqb_tells}
 use Rattle.std.specs.Prelude.{nat_lt, Result, Ok, Err, IfErr, IsErrAnd}
+use Rattle.std.specs.Option.{is_some}
 use Rattle.nor_journal.specs.declared.writer.Writer.{Writer}
 use Rattle.nor_journal.specs.Text.{Content, MayFollow, empty_content, with_sector}
 use Rattle.nor_journal.specs.Vault.{VaultState}
-use Rattle.nor_journal.specs.Saved.{Saves}
+use Rattle.nor_journal.specs.Saved.{Saves, HasOneMore, is_saved}
 use Rattle.nor_journal.specs.Writer.{vault_state, HasWritten, HasKept}
-use Rattle.nor_journal.proofs.Saved.{next_number-empty_content, next_number-with_sector}
+use Rattle.nor_journal.proofs.Saved.{saved_in-empty_content, saved_in-with_sector, next_number-empty_content, next_number-with_sector}
 use Rattle.nor_save.specs.declared.refusal.Refusal.{Refusal}
 use Rattle.nor_save.specs.declared.refusal.Refusal.TheVariants.{Vault}
 use Rattle.nor_save.specs.declared.scanning.Scanned.{Scanned}
-use Rattle.nor_save.specs.Scanning.{AreRight, HasBegun, UnlessVault, HasKeptBelow}
+use Rattle.nor_save.specs.Scanning.{AreRight, HasBegun, HasBegunWith, UnlessVault, HasKeptBelow, never}
 use Rattle.nor_save.specs.Keeping.{BeginsJournal}
 use Rattle.nor_save.specs.Saving.{head_of}
 use Rattle.nor_save.specs.Request.{wanted, is_touched_by}
@@ -55,6 +57,44 @@ begun_more state old new size sector bytes below writes begun = record {
   next = omega (arith, next_number-with_sector begun.content sector bytes);
 }
 
+-- ---- with the sectors of its records
+
+pub with_none : {V : Type 0} (state : V → VaultState) (writer : Writer V) (id : List ℕ) (unique : Option (List ℕ)) (status : List ℕ) (size : ℕ)
+    → HasWritten state writer (empty_content id unique status size) → HasBegunWith state writer size 0 never
+unfolding begun_none
+with_none state writer id unique status size written = record {
+  begun = begun_none state writer id unique status size written;
+  saved = λ s. ap is_some (saved_in-empty_content id unique status size s);
+}
+
+pub with_later : {V : Type 0} (state : V → VaultState) (writer : Writer V) (size n m : ℕ) (sectors others : ℕ → Bool) → n ≤ m
+    → ((s : ℕ) → others s ≡ sectors s) → HasBegunWith state writer size n sectors → HasBegunWith state writer size m others
+unfolding begun_later
+with_later state writer size n m sectors others above same held = record {
+  begun = begun_later state writer size n m above held.begun;
+  saved = λ s. held.saved s ∙ sym (same s);
+}
+
+pub with_more : {V : Type 0} (state : V → VaultState) (old new : Writer V) (size sector : ℕ) (bytes : List ℕ) (sectors more : ℕ → Bool) → sector < size / 4096
+    → ((content : Content) → HasWritten state old content → MayFollow content sector → HasWritten state new (with_sector content sector bytes))
+    → HasOneMore sectors sector more → HasBegunWith state old size sector sectors → HasBegunWith state new size (sector + 1) more
+unfolding begun_more
+with_more state old new size sector bytes sectors more below writes one held = record {
+  begun = begun_more state old new size sector bytes below writes held.begun;
+  saved = λ s.
+      ap is_some (saved_in-with_sector held.begun.content sector bytes s held.begun.written.is follows)
+      ∙ elim (eqb_tells sector s) [
+        | inl hit ↦ rw (eq-eqb sector s hit.1) (sym (ap more (sym hit.1) ∙ one.here))
+        | inr miss ↦ rw (ne_eqb sector s miss.1) (held.saved s ∙ sym (one.others s (λ e. miss.1 (sym e))))
+      ];
+}
+  where
+    follows : MayFollow held.begun.content sector
+    follows = record {
+      rises = held.begun.next;
+      place = subst (λ (n : ℕ). sector < n / 4096) (sym held.begun.same) below;
+    }
+
 -- whatever the refusal, and where it is the vault's
 pub unless_any : (outcome : Result Scanned Refusal) (promise : Type 0) → promise → UnlessVault outcome promise
 unless_any (Ok scanned) promise holds = holds
@@ -79,8 +119,8 @@ pub unless_any_err : (outcome : Result Scanned Refusal) (promise : Type 0) → p
 unless_any_err (Ok scanned) promise holds = tt
 unless_any_err (Err refusal) promise holds = λ other. holds
 
-pub unless_refused_err : (outcome : Result Scanned Refusal) (promise : Type 0) → IsErrAnd outcome (λ refusal. refusal ≡ Vault) → IfErr outcome (λ refusal. refusal ≢ Vault → promise)
-unless_refused_err (Ok scanned) promise never = tt
+pub unless_refused_err : {T : Type 0} (outcome : Result T Refusal) (promise : Type 0) → IsErrAnd outcome (λ refusal. refusal ≡ Vault) → IfErr outcome (λ refusal. refusal ≢ Vault → promise)
+unless_refused_err (Ok value) promise never = tt
 unless_refused_err (Err refusal) promise is = λ other. absurd (other is)
 
 -- what holds of a refusal holds of it when it is handed on

@@ -4,7 +4,7 @@ use Rattle.nor_journal.specs.Text.{Content, IsContent, SameHead, front, text}
 use Rattle.nor_chip.specs.Chip.{Chip}
 use Rattle.nor_chip.specs.Bus.{BusState}
 use Rattle.nor_driver.specs.Looks.{RunsOut}
-use Rattle.nor_journal.specs.Saved.{Saves, JournalSaves}
+use Rattle.nor_journal.specs.Saved.{Saves, JournalSaves, is_saved}
 use Rattle.nor_journal.specs.Vault.{VaultState, Refused, Completed, Accepted}
 use Rattle.nor_plan.specs.SectorSet.{has}
 use Rattle.nor_save.specs.declared.opening.Opening.{Opening}
@@ -28,6 +28,13 @@ pub record IsJournal (bytes : List ℕ) : Type 0 where
   pub content : Content
   pub is : IsContent content
   pub same : bytes ≡ text content
+
+-- The bytes are a journal of just these sectors.
+pub record IsJournalOf (sectors : ℕ → Bool) (bytes : List ℕ) : Type 0 where
+  pub content : Content
+  pub is : IsContent content
+  pub same : bytes ≡ text content
+  pub saved : (s : ℕ) → is_saved content s ≡ sectors s
 
 -- once it is sealed a telling vault has a journal, whatever the bus
 abbrev pub HoldsJournal : VaultState → Type 0

@@ -4,6 +4,7 @@ use Rattle.nor_chip.specs.Bus.{BusState}
 use Rattle.nor_driver.specs.Looks.{Rested, RunsOut}
 use Rattle.nor_journal.specs.declared.writer.Writer.{Writer}
 use Rattle.nor_journal.specs.Text.{Content, next_number}
+use Rattle.nor_journal.specs.Saved.{is_saved}
 use Rattle.nor_journal.specs.Vault.{VaultState, Refused, Accepted}
 use Rattle.nor_journal.specs.Writer.{HasWritten, HasKept}
 use Rattle.nor_driver.specs.Reads.{HasRead, IsSectorOf}
@@ -90,6 +91,11 @@ pub record HasBegun {V : Type 0} (state : V → VaultState) (writer : Writer V) 
   pub written : HasWritten state writer content
   pub same : content.size ≡ size
   pub next : next_number content ≤ n
+
+-- And the records are those of just these sectors.
+pub record HasBegunWith {V : Type 0} (state : V → VaultState) (writer : Writer V) (size n : ℕ) (sectors : ℕ → Bool) : Type 0 where
+  pub begun : HasBegun state writer size n
+  pub saved : (s : ℕ) → is_saved begun.content s ≡ sectors s
 
 -- this holds, unless the vault refused
 abbrev pub UnlessVault : {T : Type 0} → Result T Refusal → Type 0 → Type 0

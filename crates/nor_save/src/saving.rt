@@ -4,8 +4,9 @@ ghost use Rattle.nor_chip.specs.Size.{is_chip_size};
 ghost use Rattle.nor_chip.specs.Chip.{Chip};
 ghost use Rattle.nor_driver.specs.Looks.{Looks};
 ghost use Rattle.nor_journal.specs.Vault.{IsFresh};
+ghost use Rattle.nor_plan.specs.SectorSet.{has};
 ghost use Rattle.nor_save.specs.Request.{scanned_sectors, is_data};
-ghost use Rattle.nor_save.specs.Keeping.{Keeps, KeepTells, KeepPuts, HoldsJournal, KeepBegins};
+ghost use Rattle.nor_save.specs.Keeping.{Keeps, KeepTells, KeepPuts, HoldsJournal, IsJournalOf, KeepBegins};
 
 use crate::judging::judge_scan;
 use crate::opening::Opening;
@@ -37,6 +38,8 @@ pub fn keep<B: Bus, V: Vault>(
     ensures leaves { Looks (scanned_sectors request.now opening.now.found.size) (B.state bus.old) (B.state bus.new) }
     ensures puts { KeepPuts result (V.state vault.old) (V.state vault.new) }
     ensures holds { HoldsJournal (V.state vault.new) }
+    ensures saves { IfOk result (λ kept. (V.state vault.new).telling ≡ true
+        → IsJournalOf (has kept.scanned.touched) (V.state vault.new).bytes) }
     ensures keeps { IfOk result
         (Keeps request.now opening.now code image.old image.new (B.state bus.old) (B.state bus.new) (V.state vault.new)) }
     ensures begins { IfErr result (KeepBegins request.now opening.now image.old (B.state bus.old) (V.state vault.new)) }

@@ -9,7 +9,7 @@ ghost use Rattle.nor_plan.specs.SectorSet.{has};
 ghost use Rattle.nor_save.specs.Request.{wanted, scanned_sectors, is_data};
 ghost use Rattle.nor_apply.specs.Content.{is_touched};
 ghost use Rattle.nor_save.specs.Scanning.{HasMarked, IsBlank, IsOpen, ScansSector, Scans, ScanTells, ScanPuts, never};
-ghost use Rattle.nor_save.specs.Scanning.{HasBegun, UnlessVault, HasKeptBelow};
+ghost use Rattle.nor_save.specs.Scanning.{HasBegun, HasBegunWith, UnlessVault, HasKeptBelow};
 ghost use Rattle.nor_save.specs.declared.refusal.Refusal.TheVariants as Refusals;
 
 use crate::{Refusal, Request, What};
@@ -121,6 +121,8 @@ pub fn scan_all<B: Bus, V: Vault>(
         (wanted request.now image.old size (B.state bus.old).chip.bytes)) (size / 4096)) }
     ensures writes { HasBegun V.state writer.old size 0
         → UnlessVault result (HasBegun V.state writer.new size (size / 4096)) }
+    ensures saves { HasBegunWith V.state writer.old size 0 never
+        → IfOk result (λ scanned. HasBegunWith V.state writer.new size (size / 4096) (has scanned.touched)) }
 {
     let mut scanned = Scanned::none();
     let mut bytes = [0; 4096];

@@ -12,7 +12,7 @@ use Rattle.nor_save.specs.Saving.{head_of}
 use Rattle.nor_save.specs.Scanning.{never}
 use Rattle.nor_save.specs.Keeping.{KeepTells, KeepBegins}
 use Rattle.nor_save.proofs.KeptHeads.{same_bytes, is_open, touched_right, raised_right, merged_right, judged_tells, accepts_touched, kept_touched, head_same}
-use Rattle.nor_save.proofs.Begun.{begun_none, begins_of, begins_all, err_same}
+use Rattle.nor_save.proofs.Begun.{begun_none, with_none, begins_of, begins_all, err_same, unless_refused_err}
 use Rattle.nor_save.proofs.saving.keep.Goals as goal
 
 pub header-requires-clause-size : goal.header-requires-clause-size
@@ -68,6 +68,13 @@ returns-clause-holds g c = λ sealed telling.
     let done = c.in_ok-end.ensures.written scanned.content scanned.written in
     record { content = scanned.content; is = scanned.written.is; same = search rules }
 
+pub returns-clause-saves : goal.returns-clause-saves
+returns-clause-saves g c = λ telling.
+    let begun = with_none g.V.Vault.state c.header.new.self c.args.opening.now.found.id _ c.bytes.result c.args.opening.now.found.size (c.in_ok-header.ensures.written c.on-writer.ensures.nothing) in
+    let held = c.in_ok-scanned.ensures.saves begun in
+    let done = c.in_ok-end.ensures.written held.begun.content held.begun.written in
+    record { content = held.begun.content; is = held.begun.written.is; same = search rules; saved = held.saved }
+
 pub returns-in_err-scanned-clause-begins : goal.returns-in_err-scanned-clause-begins
 returns-in_err-scanned-clause-begins g c =
     let old = g.B.Bus.state c.args.bus.now in
@@ -104,3 +111,6 @@ returns-in_err-unlock-clause-begins g c =
     = err_same c.from_residual-in_err-unlock.result c.in_err-unlock.field-0.0 (KeepBegins c.args.request.now opening c.args.image.now old (vault_state g.V.Vault.state c.scan_all.new.writer)) c.from_residual-in_err-unlock.ensures.1 begins in
     let same : vault_state g.V.Vault.state c.scan_all.new.writer ≡ g.V.Vault.state c.in_err-unlock.vault-in-Break-branch-3-1-own.given.0 = search rules in
     subst (λ (v : VaultState). IfErr c.from_residual-in_err-unlock.result (KeepBegins c.args.request.now opening c.args.image.now old v)) same told
+
+pub returns-in_err-end-clause-begins : goal.returns-in_err-end-clause-begins
+returns-in_err-end-clause-begins g c = unless_refused_err c.from_residual-in_err-end.result _ c.from_residual-in_err-end.ensures.1

@@ -6,7 +6,7 @@ use Rattle.nor_save.specs.Scanning.{never}
 use Rattle.nor_apply.proofs.Counting.{at_most_one}
 use Rattle.nor_save.proofs.Rests.{tells_stop}
 use Rattle.nor_save.proofs.Scans.{nothing_scanned, skipped, scanned_more, IsAt, is_at, looks_on, runs_out_at, all_scanned, HasScanned, none_to_scan}
-use Rattle.nor_save.proofs.Begun.{begun_later, begun_more, kept_below, unless_any, unless_refused, unless_any_err, unless_refused_err}
+use Rattle.nor_save.proofs.Begun.{begun_later, begun_more, with_later, with_more, kept_below, unless_any, unless_refused, unless_any_err, unless_refused_err}
 use Rattle.nor_save.proofs.Parts.{cut_out, part_long, put_back, kept_later, kept_same, marked_more, marked_none, read_before}
 use Rattle.nor_save.proofs.scanning.scan_all.Goals as goal
 use Rattle.nor_save.proofs.scanning.scan_all.Goals.{then-is_data, else-is_data, then-includes_in_sector+in_ok-plan, then-plan+in_ok-add, else-plan, else-includes_in_sector}
@@ -25,6 +25,8 @@ loop-sector-init g c = record {
   kept = λ is_open head size kept.
       kept_same g.V.Vault.state c.args.writer.now head (g.B.Bus.state c.args.bus.now).chip.bytes never (has c.none-scanned.result.touched) 0 c.none-scanned.ensures.touched kept;
   begun = λ begun. begun;
+  saved = λ held.
+      with_later g.V.Vault.state c.args.writer.now c.args.size 0 0 never (has c.none-scanned.result.touched) (omega arith) c.none-scanned.ensures.touched held;
 }
 
 pub loop-sector-preserved : goal.loop-sector-preserved
@@ -91,6 +93,14 @@ loop-sector-preserved g c =
                   (begun_more g.V.Vault.state _ _ c.args.size sector _ (omega arith) v.in_ok-add.ensures.written (here.begun begun))
               | else-plan v ↦ rw v.writer-is (begun_later g.V.Vault.state _ c.args.size sector (sector + 1) (omega arith) (here.begun begun))
             ]);
+            saved = λ held. rw (w.writer-is, w.scanned-is) (elim w.if-plan.branch [
+              | then-plan+in_ok-add v ↦ rw v.writer-is
+                  (with_more g.V.Vault.state _ _ c.args.size sector _ (has c.loop-sector.scanned.touched) (has next.touched) (omega arith) v.in_ok-add.ensures.written
+                  (marked_more sector plan c.loop-sector.scanned next v.if-plan.true marked) (here.saved held))
+              | else-plan v ↦ rw v.writer-is
+                  (with_later g.V.Vault.state _ c.args.size sector (sector + 1) (has c.loop-sector.scanned.touched) (has next.touched) (omega arith)
+                  (marked_none sector plan c.loop-sector.scanned next v.if-plan.false marked) (here.saved held))
+            ]);
           }
       | else-includes_in_sector w ↦ record {
         aims = here.aims;
@@ -105,6 +115,8 @@ loop-sector-preserved g c =
             (kept_later g.V.Vault.state c.loop-sector.writer head (g.B.Bus.state c.args.bus.now).chip.bytes (has c.loop-sector.scanned.touched) c.loop-sector.sector (c.loop-sector.sector + 1) (omega arith)
             (here.kept is_open head size kept));
         begun = λ begun. rw w.writer-is (begun_later g.V.Vault.state _ c.args.size sector (sector + 1) (omega arith) (here.begun begun));
+        saved = λ held. rw (w.writer-is, w.scanned-is)
+            (with_later g.V.Vault.state _ c.args.size sector (sector + 1) (has c.loop-sector.scanned.touched) (has c.loop-sector.scanned.touched) (omega arith) (λ s. refl) (here.saved held));
       }
     ]
 
@@ -168,6 +180,12 @@ pub returns-clause-writes : goal.returns-clause-writes
 returns-clause-writes g c = λ begun.
     let within : c.loop-sector.sector ≤ c.args.size / 4096 = elim c.if-is_data.branch [ then-is_data w ↦ omega arith | else-is_data w ↦ omega arith ] in
     begun_later g.V.Vault.state c.loop-sector.writer c.args.size c.loop-sector.sector (c.args.size / 4096) within (c.loop-sector.invariant.begun begun)
+
+pub returns-clause-saves : goal.returns-clause-saves
+returns-clause-saves g c = λ held.
+    let within : c.loop-sector.sector ≤ c.args.size / 4096 = elim c.if-is_data.branch [ then-is_data w ↦ omega arith | else-is_data w ↦ omega arith ] in
+    with_later g.V.Vault.state c.loop-sector.writer c.args.size c.loop-sector.sector (c.args.size / 4096) (has c.loop-sector.scanned.touched) (has c.loop-sector.scanned.touched)
+    within (λ s. refl) (c.loop-sector.invariant.saved held)
 
 pub returns-in_err-plan-clause-begins : goal.returns-in_err-plan-clause-begins
 returns-in_err-plan-clause-begins g c = λ is_open head size kept.

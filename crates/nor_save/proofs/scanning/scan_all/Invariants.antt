@@ -4,7 +4,7 @@ use Rattle.nor_journal.specs.Vault.{Accepted}
 use Rattle.nor_journal.specs.Writer.{vault_of, vault_state, HasKept}
 use Rattle.nor_plan.specs.SectorSet.{has}
 use Rattle.nor_save.specs.Request.{is_data}
-use Rattle.nor_save.specs.Scanning.{HasBegun, IsOpen, never}
+use Rattle.nor_save.specs.Scanning.{HasBegun, HasBegunWith, IsOpen, never}
 use Rattle.nor_save.proofs.Scans.{HasScanned}
 use Rattle.nor_save.proofs.scanning.scan_all.Given as goal
 
@@ -21,4 +21,6 @@ invariant-loop-sector g l =
       kept : IsOpen l.size old → (head : Content) → head.size ≡ l.size → HasKept g.V.Vault.state l.fn.writer head old.chip.bytes never 0
           → HasKept g.V.Vault.state l.writer head old.chip.bytes (has l.scanned.touched) l.sector;
       begun : HasBegun g.V.Vault.state l.fn.writer l.size 0 → HasBegun g.V.Vault.state l.writer l.size l.sector;
+      saved : HasBegunWith g.V.Vault.state l.fn.writer l.size 0 never
+          → HasBegunWith g.V.Vault.state l.writer l.size l.sector (has l.scanned.touched);
     }
