@@ -7,6 +7,7 @@ pub mod SessionEnds
 pub mod SavedBytes
 pub mod Reopened
 pub mod Rescanned
+pub mod Naming
 pub mod Judged
 pub mod RestoredBytes
 pub mod Changeable

@@ -1,5 +1,5 @@
 -- What the changes of a session or restore leave, with the check of what they came to.
-use Rattle.std.specs.Prelude.{◌≡◌, ◌≤◌, ◌+◌, ◌*◌, ◌/◌, ℕ, Bool, true, if◌then◌else◌}
+use Rattle.std.specs.Prelude.{◌≡◌, ◌≤◌, ◌+◌, ◌*◌, ◌/◌, ◌⊎◌, ℕ, Bool, true, if◌then◌else◌}
 use Rattle.nor_chip.specs.Bus.{BusState}
 use Rattle.nor_driver.specs.Looks.{Rested, RanOut, RunsOut}
 use Rattle.nor_layout.specs.Below.{count_below}
@@ -76,3 +76,11 @@ ChangeTells changes wanted old new Stopped = old.honest ≡ true → RanOut (mos
 ChangeTells changes wanted old new (Timeout address) = old.honest ≡ true → ⊥
 ChangeTells changes wanted old new (Mismatch address) = old.honest ≡ true → CanApply changes wanted old.chip → ⊥
 ChangeTells changes wanted old new _ = ⊥
+
+-- whatever the bus, a timeout names 0, where the status is written, or an address in a touched sector; and a mismatch
+-- an address in one
+abbrev pub NamesWork : Changes → Refusal → Type 0
+NamesWork changes (Timeout address) =
+    ((1 ≤ status_writes changes) × (address ≡ 0)) ⊎ (touched_in changes (address / 4096) ≡ true)
+NamesWork changes (Mismatch address) = touched_in changes (address / 4096) ≡ true
+NamesWork changes _ = Unit {0}

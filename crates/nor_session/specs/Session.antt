@@ -7,23 +7,25 @@ use Rattle.nor_driver.specs.Looks.{Looks, RanOut}
 use Rattle.nor_driver.specs.Operations.{Falls}
 use Rattle.nor_driver.specs.StatusWrites.{KeepsFixed, HasCode}
 use Rattle.nor_journal.specs.Vault.{VaultState, Rose}
-use Rattle.nor_journal.specs.Saved.{JournalSaves}
+use Rattle.nor_journal.specs.Text.{Content, IsContent, text}
+use Rattle.nor_journal.specs.Saved.{JournalSaves, is_saved}
 use Rattle.nor_layout.specs.Below.{count_below}
 use Rattle.nor_probe.specs.Known.{shown_as}
 use Rattle.nor_probe.specs.Found.{IsConfigOf, part_in}
 use Rattle.nor_apply.specs.Counts.{sector_count}
 use Rattle.nor_apply.specs.Content.{once_erased, is_programmed}
 use Rattle.nor_apply.specs.Change.{MayChange}
+use Rattle.nor_apply.specs.Spending.{Spends}
 use Rattle.nor_save.specs.declared.report.Request.{Request}
 use Rattle.nor_save.specs.declared.report.Report.{Report}
 use Rattle.nor_save.specs.declared.report.What.{What}
 use Rattle.nor_save.specs.declared.report.What.TheVariants.{WpRange}
 use Rattle.nor_save.specs.declared.refusal.Refusal.{Refusal}
-use Rattle.nor_save.specs.declared.refusal.Refusal.TheVariants.{Vault, Stopped, Timeout, BadJournal, OtherChip, StatusDiffers, Memory, Output, OtherUnit}
+use Rattle.nor_save.specs.declared.refusal.Refusal.TheVariants.{Vault, Stopped, Timeout, Mismatch, BadJournal, OtherChip, StatusDiffers, Memory, Output, OtherUnit}
 use Rattle.nor_save.specs.Refusal.{number_of}
 use Rattle.nor_save.specs.Request.{wanted, scanned_sectors, is_touched_by, is_raised_by, IsWantedCode}
 use Rattle.nor_save.specs.Saving.{head_of, NeedsStatus}
-use Rattle.nor_save.specs.Keeping.{BeginsJournal}
+use Rattle.nor_save.specs.Keeping.{BeginsJournal, HoldsJournal}
 use Rattle.nor_session.specs.Modelled.{IsModelled, most_looked, most_of, AreFewestErases}
 use Rattle.nor_session.specs.Verdict.{IsVerdict, IsAccepted}
 
@@ -45,6 +47,30 @@ pub record Answers (old new : VaultState) (refusal : Refusal) : Type 0 where
   pub own : IsOwnRefusal old new refusal
   pub unsealed : number_of refusal ≤ 11 → new.sealed ≡ false
   pub unused : number_of refusal ≤ 8 → new ≡ old
+
+-- The bytes are a journal that saves this sector.
+pub record SavesSector (sector : ℕ) (bytes : List ℕ) : Type 0 where
+  pub content : Content
+  pub is : IsContent content
+  pub same : bytes ≡ text content
+  pub saved : is_saved content sector ≡ true
+
+-- before anything is changed a timeout names 0, and nothing differs
+abbrev pub NamesNone : Refusal → Type 0
+NamesNone (Timeout address) = address ≡ 0
+NamesNone (Mismatch address) = ⊥
+NamesNone _ = Unit {0}
+
+-- a timeout names 0 or an address in a sector that this journal saves, and a mismatch an address in one
+abbrev pub NamesIn : List ℕ → Refusal → Type 0
+NamesIn bytes (Timeout address) = (address ≡ 0) ⊎ SavesSector (address / 4096) bytes
+NamesIn bytes (Mismatch address) = SavesSector (address / 4096) bytes
+NamesIn bytes _ = Unit {0}
+
+-- Which address a refusal names, before the vault was sealed and from then on.
+pub record Names (vault : VaultState) (refusal : Refusal) : Type 0 where
+  pub early : vault.sealed ≡ false → NamesNone refusal
+  pub late : vault.sealed ≡ true → vault.telling ≡ true → NamesIn vault.bytes refusal
 
 -- how often a request may write the status: for a range once, else where protection may be lifted once for that and
 -- once to give it back
@@ -69,10 +95,6 @@ pub record Ends (request : Request) (vault : VaultState) (report : Report) : Typ
   pub bounded :
       IsWithinBound (scanned_sectors request report.found.size) (most_status_writes request.what request.unlock) request.verify report
 
--- until the vault is sealed it only looks, as far as the opening and the scan of the largest chip
-abbrev pub LooksUnsealed : BusState → BusState → VaultState → Type 0
-LooksUnsealed old new vault = vault.sealed ≡ false → Looks (most_looked 4096) old new
-
 -- ---- on an honest bus
 
 -- A stop comes only where no transaction is left, and fewer were than any session may send, and no timeout; after a
@@ -82,18 +104,7 @@ HonestTells old new Stopped = RanOut (most_of 4096) old new
 HonestTells old new (Timeout address) = ⊥
 HonestTells old new refusal = number_of refusal ≤ 11 → IsSame old.chip new.chip
 
-abbrev pub GivesUp : BusState → BusState → Result Report Refusal → Type 0
-GivesUp old new result = old.honest ≡ true → IfErr result (HonestTells old new)
-
--- the report's transactions are those that were sent
-abbrev pub SentAsTold : BusState → BusState → Result Report Refusal → Type 0
-SentAsTold old new result = old.honest ≡ true → IfOk result (λ report. old.left ≡ new.left + report.transactions)
-
 -- ---- on an honest bus whose chip is what it shows itself to be
-
--- at every exit at most as many transactions were sent as the chip's size takes
-abbrev pub FallsBySize : BusState → BusState → Type 0
-FallsBySize old new = IsModelled old → Falls (most_of (old.chip.config.size / 4096)) old new
 
 -- The answer is the verdict; or the vault failed, or the bus stopped where fewer transactions were left than the bound.
 abbrev pub SessionTells : Request → List ℕ → BusState → BusState → VaultState → VaultState → Refusal → Type 0
@@ -101,26 +112,10 @@ SessionTells request image old new vault vault' Vault = Rose vault vault'
 SessionTells request image old new vault vault' Stopped = RanOut (most_of (old.chip.config.size / 4096)) old new
 SessionTells request image old new vault vault' refusal = IsVerdict request image old.chip refusal
 
-abbrev pub Refuses : Request → List ℕ → BusState → BusState → VaultState → VaultState → Result Report Refusal → Type 0
-Refuses request image old new vault vault' result =
-    IsModelled old → IfErr result (SessionTells request image old new vault vault')
-
 -- a stop before the vault was sealed came in the opening or the scan
 abbrev pub StopsEarly : Request → BusState → Refusal → Type 0
 StopsEarly request old Stopped = old.left < most_looked (scanned_sectors request old.chip.config.size)
 StopsEarly request old _ = Unit {0}
-
-abbrev pub SealsOnceScanned : Request → BusState → VaultState → Result Report Refusal → Type 0
-SealsOnceScanned request old vault result =
-    IsModelled old → vault.sealed ≡ false → IfErr result (StopsEarly request old)
-
--- after a refusal that isn't the vault's a telling vault that isn't sealed is empty, or has a beginning of the one
--- journal that it would have had
-abbrev pub BeginsUnsealed : Request → List ℕ → BusState → VaultState → Result Report Refusal → Type 0
-BeginsUnsealed request image old vault result =
-    IsModelled old → vault.sealed ≡ false → vault.telling ≡ true → IfErr result (λ refusal. refusal ≢ Vault
-    → (vault.bytes ≡ [])
-    ⊎ BeginsJournal (head_of old.chip) old.chip.bytes (is_touched_by request image old.chip) vault.bytes)
 
 -- The wanted kept bits: the fixed ones are as they were, and the code is the wanted one.
 pub record HasWantedBits (what : What) (old new : Chip) : Type 0 where
@@ -166,14 +161,6 @@ pub record IsDone (request : Request) (image : List ℕ) (old new : BusState) (r
   pub programs : report.programs ≡ pages_of request image old.chip
   pub still : report.touched ≡ 0 → NeedsNoStatus request image old.chip → new.stirred ≡ old.stirred
 
-abbrev pub Finishes : Request → List ℕ → BusState → BusState → Result Report Refusal → Type 0
-Finishes request image old new result = IsModelled old → IfOk result (IsDone request image old new)
-
--- where it needs none, the report has no room for one
-abbrev pub SparesStatus : Request → List ℕ → BusState → Result Report Refusal → Type 0
-SparesStatus request image old result = IsModelled old → NeedsNoStatus request image old.chip
-    → IfOk result (IsWithinBound (scanned_sectors request old.chip.config.size) 0 request.verify)
-
 -- none of these sectors is guarded
 abbrev pub AreFree : (ℕ → Bool) → Chip → Type 0
 AreFree sectors chip = (s : ℕ) → sectors s ≡ true → is_unit_guarded chip (4096 * s) 4096 ≡ false
@@ -190,6 +177,49 @@ pub record CanBeUndone (request : Request) (image : List ℕ) (old new : BusStat
       MayChange (is_touched_by request image old.chip) (is_raised_by request image old.chip) (wanted_of request image old.chip) old new
   pub spent : new.left + (4 + scanned_sectors request old.chip.config.size) ≤ old.left
 
-abbrev pub LeadsBackFrom : Request → List ℕ → BusState → BusState → VaultState → Type 0
-LeadsBackFrom request image old new vault =
-    IsModelled old → vault.sealed ≡ true → CanBeUndone request image old new vault
+-- ---- the promises of a session
+
+-- On every bus and every vault.
+pub record SessionAlways (request : Request) (old new : BusState) (vault vault' : VaultState)
+    (result : Result Report Refusal) : Type 0 where
+  -- until the vault is sealed it only looks, as far as the opening and the scan of the largest chip
+  pub looks : vault'.sealed ≡ false → Looks (most_looked 4096) old new
+  -- at every exit no more was sent than a session on the largest chip takes
+  pub spends : Spends (most_of 4096) old new
+  -- once it is sealed a telling vault holds a journal
+  pub holds : HoldsJournal vault'
+  -- a refusal is one that a session gives
+  pub answers : IfErr result (Answers vault vault')
+  -- and names an address that the session was at
+  pub names : IfErr result (Names vault')
+  -- at the end the vault is sealed, and the report within its bound
+  pub ends : IfOk result (Ends request vault')
+
+-- On an honest bus.
+pub record SessionHonest (old new : BusState) (result : Result Report Refusal) : Type 0 where
+  -- a refusal isn't a timeout, and a stop comes only where no transaction is left
+  pub gives_up : IfErr result (HonestTells old new)
+  -- the report's transactions are those that were sent
+  pub counted : IfOk result (λ report. old.left ≡ new.left + report.transactions)
+
+-- On an honest bus whose chip is what it shows itself to be.
+pub record SessionModelled (request : Request) (image : List ℕ) (old new : BusState) (vault vault' : VaultState)
+    (result : Result Report Refusal) : Type 0 where
+  -- at every exit at most as many transactions were sent as the chip's size takes
+  pub falls : Falls (most_of (old.chip.config.size / 4096)) old new
+  -- a refusal is the verdict, or has its own cause
+  pub tells : IfErr result (SessionTells request image old new vault vault')
+  -- at the end the chip is the wanted one
+  pub done : IfOk result (IsDone request image old new)
+  -- where the request needs no status write, the report has no room for one
+  pub spares : NeedsNoStatus request image old.chip
+      → IfOk result (IsWithinBound (scanned_sectors request old.chip.config.size) 0 request.verify)
+  -- a stop before the vault was sealed came in the opening or the scan
+  pub early : vault'.sealed ≡ false → IfErr result (StopsEarly request old)
+  -- after a refusal that isn't the vault's a telling vault that isn't sealed is empty, or has a beginning of the one
+  -- journal that it would have had
+  pub begins : vault'.sealed ≡ false → vault'.telling ≡ true → IfErr result (λ refusal. refusal ≢ Vault
+      → (vault'.bytes ≡ [])
+      ⊎ BeginsJournal (head_of old.chip) old.chip.bytes (is_touched_by request image old.chip) vault'.bytes)
+  -- once the vault is sealed its journal leads back, at every exit
+  pub undo : vault'.sealed ≡ true → CanBeUndone request image old new vault'

@@ -1,15 +1,12 @@
 //! A session: the chip is saved, and then made what is wanted.
-ghost use Rattle.std.specs.Prelude.{ℕ, List, IfOk, IfErr};
+ghost use Rattle.std.specs.Prelude.{◌≡◌, ℕ, List, true};
 ghost use Rattle.nor_chip.specs.Chip.{Chip};
 ghost use Rattle.nor_journal.specs.Vault.{IsFresh};
-ghost use Rattle.nor_apply.specs.Spending.{Spends};
 ghost use Rattle.nor_save.specs.declared.report.Request.{Request};
 ghost use Rattle.nor_save.specs.declared.refusal.Refusal.{Refusal};
-ghost use Rattle.nor_save.specs.Keeping.{HoldsJournal};
+ghost use Rattle.nor_session.specs.Modelled.{IsModelled};
 ghost use Rattle.nor_session.specs.Verdict.{IsVerdict, IsAccepted};
-ghost use Rattle.nor_session.specs.Modelled.{most_of};
-ghost use Rattle.nor_session.specs.Session.{LooksUnsealed, Answers, Ends, GivesUp, SentAsTold};
-ghost use Rattle.nor_session.specs.Session.{FallsBySize, Refuses, Finishes, SparesStatus, SealsOnceScanned, BeginsUnsealed, LeadsBackFrom};
+ghost use Rattle.nor_session.specs.Session.{SessionAlways, SessionHonest, SessionModelled};
 
 use crate::answering::Judged;
 use nor_chip::Bus;
@@ -28,26 +25,10 @@ pub fn session<B: Bus, V: Vault>(
     request: &Request,
 ) -> Result<Report, Refusal>
     requires { IsFresh (V.state vault.old) }
-
-    // On every bus and every vault.
-    ensures looks { LooksUnsealed (B.state bus.old) (B.state bus.new) (V.state vault.new) }
-    ensures spends { Spends (most_of 4096) (B.state bus.old) (B.state bus.new) }
-    ensures answers { IfErr result (Answers (V.state vault.old) (V.state vault.new)) }
-    ensures holds { HoldsJournal (V.state vault.new) }
-    ensures ends { IfOk result (Ends request.now (V.state vault.new)) }
-
-    // On an honest bus.
-    ensures gives_up { GivesUp (B.state bus.old) (B.state bus.new) result }
-    ensures counted { SentAsTold (B.state bus.old) (B.state bus.new) result }
-
-    // On an honest bus whose chip is what it shows itself to be.
-    ensures falls { FallsBySize (B.state bus.old) (B.state bus.new) }
-    ensures tells { Refuses request.now image.old (B.state bus.old) (B.state bus.new) (V.state vault.old) (V.state vault.new) result }
-    ensures done { Finishes request.now image.old (B.state bus.old) (B.state bus.new) result }
-    ensures spares { SparesStatus request.now image.old (B.state bus.old) result }
-    ensures early { SealsOnceScanned request.now (B.state bus.old) (V.state vault.new) result }
-    ensures begins { BeginsUnsealed request.now image.old (B.state bus.old) (V.state vault.new) result }
-    ensures undo { LeadsBackFrom request.now image.old (B.state bus.old) (B.state bus.new) (V.state vault.new) }
+    ensures always { SessionAlways request.now (B.state bus.old) (B.state bus.new) (V.state vault.old) (V.state vault.new) result }
+    ensures honest { (B.state bus.old).honest ≡ true → SessionHonest (B.state bus.old) (B.state bus.new) result }
+    ensures modelled { IsModelled (B.state bus.old) → SessionModelled request.now image.old
+        (B.state bus.old) (B.state bus.new) (V.state vault.old) (V.state vault.new) result }
 {
     let opening = open(bus, request.named)?;
     let code = judge_opening(request, &opening, image.len())?;

@@ -1,61 +1,21 @@
 use Rattle.std.proofs.Common.{rules, arith, ◌≡◌, ◌≢◌, ◌⊎◌, ◌∙◌, [], inr, sym, true≢false, ◌+◌, ◌*◌, length}
 use Rattle.std.proofs.lemmas.Bool.{lt-ltb}
-use Rattle.nor_session.proofs.Ready.{has_opened, ready, scanned_few, spends_looks, spends_more, spends_ready, bounded, touched_data}
-use Rattle.nor_save.proofs.Rests.{looks_then}
+use Rattle.nor_chip.specs.Bus.{BusState}
+use Rattle.nor_driver.specs.Looks.{Looks}
 use Rattle.nor_save.specs.Request.{scanned_sectors, is_touched_by}
 use Rattle.nor_save.specs.Saving.{head_of}
 use Rattle.nor_save.specs.Keeping.{BeginsJournal}
 use Rattle.nor_save.specs.declared.refusal.Refusal.TheVariants.{Vault}
+use Rattle.nor_save.proofs.Rests.{looks_then}
 use Rattle.nor_save.proofs.Begun.{err_same}
-use Rattle.nor_driver.specs.Looks.{Looks}
 use Rattle.nor_session.specs.Modelled.{most_looked, most_of}
-use Rattle.nor_session.specs.Session.{CanBeUndone}
+use Rattle.nor_session.specs.Session.{CanBeUndone, Names}
+use Rattle.nor_session.proofs.Ready.{changes_of, has_opened, ready, scanned_few, spends_looks, spends_more, spends_ready, bounded, touched_data}
 use Rattle.nor_session.proofs.ReadyChip.{small_first, is_opening, shows, falls_sized, not_sealed, keep_gives_up, keep_tells}
 use Rattle.nor_session.proofs.SessionChanges.{change_gives_up, change_tells}
 use Rattle.nor_session.proofs.SessionEnds.{ready_chip, can_be_undone, done, spared}
+use Rattle.nor_session.proofs.Naming.{keep_names, work_names}
 use Rattle.nor_session.proofs.answering.Judged.answer.Goals as goal
-
-pub returns-in_err-kept-clause-looks : goal.returns-in_err-kept-clause-looks
-returns-in_err-kept-clause-looks g c = λ first looks opens unsealed.
-    let looked = has_opened c.args.self.request.now c.args.self.opening first (g.B.Bus.state c.args.self.bus.now) looks opens in
-    let few = scanned_few c.args.self.request.now c.args.self.opening.found.size opens.part.at_most in
-    let most = opens.most in
-    looks_then c.args.self.opening.transactions (scanned_sectors c.args.self.request.now c.args.self.opening.found.size) (most_looked 4096) first (g.B.Bus.state c.args.self.bus.now) (g.B.Bus.state c.keep.new.bus)
-    (omega arith) looked c.keep.ensures.leaves
-
-pub returns-in_err-kept-clause-spends : goal.returns-in_err-kept-clause-spends
-returns-in_err-kept-clause-spends g c = λ first looks opens.
-    let looked = has_opened c.args.self.request.now c.args.self.opening first (g.B.Bus.state c.args.self.bus.now) looks opens in
-    let few = scanned_few c.args.self.request.now c.args.self.opening.found.size opens.part.at_most in
-    let most = opens.most in
-    let looked_on : Looks (most_looked 4096) first (g.B.Bus.state c.keep.new.bus) = looks_then c.args.self.opening.transactions (scanned_sectors c.args.self.request.now c.args.self.opening.found.size) (most_looked 4096) first (g.B.Bus.state c.args.self.bus.now) (g.B.Bus.state c.keep.new.bus)
-    (omega arith) looked c.keep.ensures.leaves in
-    spends_looks (most_looked 4096) 4563750922 first (g.B.Bus.state c.keep.new.bus) (omega arith) looked_on
-
-pub returns-clause-ends : goal.returns-clause-ends
-returns-clause-ends g c = λ first looks opens.
-    let is = ready c.args.self.request.now c.args.self.opening c.status.result c.args.self.code _ c.args.self.image.now c.keep.new.image _ c.in_ok-kept.kept first (g.B.Bus.state c.args.self.bus.now) (g.B.Bus.state c.keep.new.bus)
-    looks opens c.keep.ensures.leaves c.in_ok-kept.ensures.keeps c.status.ensures c.requires.judged.same_code in
-    record {
-      sealed = search rules;
-      bounded = bounded c.args.self.request.now c.args.self.opening c.status.result c.args.self.code c.in_ok-kept.kept first (g.B.Bus.state c.keep.new.bus) (g.B.Bus.state c.finish.new.self.0) _ c.args.self.request.now.verify c.in_ok-work.work
-          c.from.result c.from.ensures is c.in_ok-work.ensures.does;
-    }
-
-pub returns-in_err-kept-clause-falls : goal.returns-in_err-kept-clause-falls
-returns-in_err-kept-clause-falls g c = λ first looks opens modelled.
-    let looked = has_opened c.args.self.request.now c.args.self.opening first (g.B.Bus.state c.args.self.bus.now) looks opens in
-    let few = opens.most in
-    let looked_on : Looks (most_of (scanned_sectors c.args.self.request.now c.args.self.opening.found.size)) first (g.B.Bus.state c.keep.new.bus) =
-    looks_then c.args.self.opening.transactions (scanned_sectors c.args.self.request.now c.args.self.opening.found.size) (most_of (scanned_sectors c.args.self.request.now c.args.self.opening.found.size)) first (g.B.Bus.state c.args.self.bus.now) (g.B.Bus.state c.keep.new.bus) (omega arith) looked c.keep.ensures.leaves in
-    falls_sized c.args.self.request.now c.args.self.opening first (g.B.Bus.state c.keep.new.bus) modelled.honest (opens.genuine modelled) (spends_looks (most_of (scanned_sectors c.args.self.request.now c.args.self.opening.found.size)) (most_of (scanned_sectors c.args.self.request.now c.args.self.opening.found.size)) first (g.B.Bus.state c.keep.new.bus) (omega arith) looked_on)
-
-pub returns-in_err-kept-clause-tells : goal.returns-in_err-kept-clause-tells
-returns-in_err-kept-clause-tells g c = λ first looks opens modelled.
-    let opened = is_opening c.args.self.request.now c.args.self.opening first (g.B.Bus.state c.args.self.bus.now) modelled opens in
-    let tells = keep_tells c.args.self.request.now c.args.self.image.now c.args.self.opening c.args.self.code first (g.B.Bus.state c.args.self.bus.now) (g.B.Bus.state c.keep.new.bus) (g.V.Vault.state c.args.self.vault.now) (g.V.Vault.state c.keep.new.vault) c.in_err-kept.field-0.0
-    modelled looks opens (c.requires.judged.accepts first.chip opened) (search rules) c.in_err-kept.ensures.tells in
-    search rules
 
 pub finish-requires-clause-sourced : goal.finish-requires-clause-sourced
 finish-requires-clause-sourced g c = λ s touched.
@@ -66,106 +26,134 @@ finish-requires-clause-sourced g c = λ s touched.
     let below = scans.marks.below s touched in
     lt-ltb (4096 * s + 4095) (length c.keep.new.image) (omega arith)
 
-pub returns-in_err-work-clause-spends : goal.returns-in_err-work-clause-spends
-returns-in_err-work-clause-spends g c = λ first looks opens.
-    let is = ready c.args.self.request.now c.args.self.opening c.status.result c.args.self.code _ c.args.self.image.now c.keep.new.image _ c.in_ok-kept.kept first (g.B.Bus.state c.args.self.bus.now) (g.B.Bus.state c.keep.new.bus)
+pub returns-in_err-kept : goal.returns-in_err-kept
+returns-in_err-kept g c = λ first looks opens.
+    let request = c.args.self.request.now in let opening = c.args.self.opening in
+    let image = c.args.self.image.now in let code = c.args.self.code in
+    let mid = g.B.Bus.state c.args.self.bus.now in let new = g.B.Bus.state c.keep.new.bus in
+    let vault = g.V.Vault.state c.args.self.vault.now in let vault' = g.V.Vault.state c.keep.new.vault in
+    let refusal = c.in_err-kept.field-0.0 in
+    let looked = has_opened request opening first mid looks opens in
+    let few = scanned_few request opening.found.size opens.part.at_most in
+    let most = opens.most in
+    let looked_on : Looks (most_looked 4096) first new
+    = looks_then opening.transactions (scanned_sectors request opening.found.size) (most_looked 4096) first mid new (omega arith) looked c.keep.ensures.leaves in
+    let looked_sized : Looks (most_of (scanned_sectors request opening.found.size)) first new
+    = looks_then opening.transactions (scanned_sectors request opening.found.size) (most_of (scanned_sectors request opening.found.size)) first mid new (omega arith) looked c.keep.ensures.leaves in
+    let unsealed = not_sealed refusal vault vault' c.requires.fresh.unsealed c.in_err-kept.ensures.puts in
+    record {
+      always = record {
+        looks = λ open_vault. looked_on;
+        spends = spends_looks (most_looked 4096) (most_of 4096) first new (omega arith) looked_on;
+        holds = search rules;
+        answers = search rules;
+        names = err_same c.from_residual.result refusal (Names vault') c.from_residual.ensures.1 (record {
+          early = λ open_vault. keep_names request opening code image mid new refusal c.in_err-kept.ensures.tells;
+          late = λ sealed. absurd (true≢false (sym sealed ∙ unsealed));
+        });
+        ends = search rules;
+      };
+      honest = λ honest.
+          let tells = keep_gives_up request image opening code _ first mid new refusal honest looks opens c.keep.ensures.leaves c.in_err-kept.ensures.tells in
+          record { gives_up = search rules; counted = search rules };
+      modelled = λ modelled.
+          let opened = is_opening request opening first mid modelled opens in
+          let shown = shows request opening first mid modelled looks opens in
+          let tells = keep_tells request image opening code first mid new vault vault' refusal
+          modelled looks opens (c.requires.judged.accepts first.chip opened) (search rules) c.in_err-kept.ensures.tells in
+          record {
+            falls = falls_sized request opening first new modelled.honest (opens.genuine modelled)
+                (spends_looks (most_of (scanned_sectors request opening.found.size)) (most_of (scanned_sectors request opening.found.size)) first new (omega arith) looked_sized);
+            tells = search rules;
+            done = search rules;
+            spares = search rules;
+            early = search rules;
+            begins = λ open_vault telling.
+                err_same c.from_residual.result refusal
+                (λ refusal. refusal ≢ Vault → (vault'.bytes ≡ []) ⊎ BeginsJournal (head_of first.chip) first.chip.bytes (is_touched_by request image first.chip) vault'.bytes)
+                c.from_residual.ensures.1 (λ other. inr (c.in_err-kept.ensures.begins other telling first.chip opened shown));
+            undo = λ sealed. absurd {A = CanBeUndone request image first new vault'} (true≢false (sym sealed ∙ unsealed));
+          };
+    }
+
+pub returns-in_err-work : goal.returns-in_err-work
+returns-in_err-work g c = λ first looks opens.
+    let request = c.args.self.request.now in let opening = c.args.self.opening in
+    let image = c.args.self.image.now in let code = c.args.self.code in let kept = c.in_ok-kept.kept in
+    let start = g.B.Bus.state c.args.self.bus.now in let mid = g.B.Bus.state c.keep.new.bus in let new = g.B.Bus.state c.finish.new.self.0 in
+    let vault = g.V.Vault.state c.args.self.vault.now in let vault' = g.V.Vault.state c.keep.new.vault in
+    let refusal = c.in_err-work.field-0.0 in
+    let is = ready request opening c.status.result code _ image c.keep.new.image _ kept first start mid
     looks opens c.keep.ensures.leaves c.in_ok-kept.ensures.keeps c.status.ensures c.requires.judged.same_code in
-    let few = scanned_few c.args.self.request.now c.args.self.opening.found.size is.part.at_most in
-    let spends = spends_ready c.args.self.request.now c.args.self.opening c.status.result c.args.self.code c.in_ok-kept.kept first (g.B.Bus.state c.keep.new.bus) (g.B.Bus.state c.finish.new.self.0) is c.finish.ensures.leaves.spends in
-    spends_more (most_of (scanned_sectors c.args.self.request.now c.args.self.opening.found.size)) 4563750922 first (g.B.Bus.state c.finish.new.self.0) (omega arith) spends
+    let few = scanned_few request opening.found.size is.part.at_most in
+    let spends = spends_ready request opening c.status.result code kept first mid new is c.finish.ensures.leaves.spends in
+    record {
+      always = record {
+        looks = search rules;
+        spends = spends_more (most_of (scanned_sectors request opening.found.size)) (most_of 4096) first new (omega arith) spends;
+        holds = search rules;
+        answers = search rules;
+        names = err_same c.from_residual-in_err-work.result refusal (Names vault') c.from_residual-in_err-work.ensures.1
+            (work_names (changes_of opening kept c.status.result code) vault' refusal (search rules) c.in_ok-kept.ensures.saves c.in_err-work.ensures.names);
+        ends = search rules;
+      };
+      honest = λ honest.
+          let tells = change_gives_up request opening c.status.result code kept _ first mid new refusal honest is c.in_err-work.ensures.tells in
+          record { gives_up = search rules; counted = search rules };
+      modelled = λ modelled.
+          let of = ready_chip request image c.keep.new.image opening c.status.result code kept first start mid _ modelled looks opens is
+          (c.requires.judged.accepts first.chip) c.in_ok-kept.ensures.keeps (λ a. let fits = c.keep.type_inv in search rules)
+          (let reached = g.met.B.Bus.reaches c.args.self.bus.now (looks.honest ∙ modelled.honest) in small_first request.named opening first start modelled.honest opens reached.kept2) in
+          let tells = change_tells request image c.keep.new.image opening c.status.result code kept first mid new vault vault' refusal is of c.in_err-work.ensures.tells in
+          record {
+            falls = falls_sized request opening first new modelled.honest (opens.genuine modelled) spends;
+            tells = search rules;
+            done = search rules;
+            spares = search rules;
+            early = search rules;
+            begins = search rules;
+            undo = λ sealed. can_be_undone request image c.keep.new.image opening c.status.result code kept first start mid new vault' modelled looks
+                opens c.in_ok-kept.ensures.keeps is of c.finish.ensures.leaves;
+          };
+    }
 
-pub returns-in_err-work-clause-falls : goal.returns-in_err-work-clause-falls
-returns-in_err-work-clause-falls g c = λ first looks opens modelled.
-    let is = ready c.args.self.request.now c.args.self.opening c.status.result c.args.self.code _ c.args.self.image.now c.keep.new.image _ c.in_ok-kept.kept first (g.B.Bus.state c.args.self.bus.now) (g.B.Bus.state c.keep.new.bus)
+pub returns : goal.returns
+returns g c = λ first looks opens.
+    let request = c.args.self.request.now in let opening = c.args.self.opening in
+    let image = c.args.self.image.now in let code = c.args.self.code in let kept = c.in_ok-kept.kept in
+    let start = g.B.Bus.state c.args.self.bus.now in let mid = g.B.Bus.state c.keep.new.bus in let new = g.B.Bus.state c.finish.new.self.0 in
+    let vault = g.V.Vault.state c.args.self.vault.now in let vault' = g.V.Vault.state c.keep.new.vault in
+    let work = c.in_ok-work.work in
+    let is = ready request opening c.status.result code _ image c.keep.new.image _ kept first start mid
     looks opens c.keep.ensures.leaves c.in_ok-kept.ensures.keeps c.status.ensures c.requires.judged.same_code in
-    let few = scanned_few c.args.self.request.now c.args.self.opening.found.size is.part.at_most in
-    let spends = spends_ready c.args.self.request.now c.args.self.opening c.status.result c.args.self.code c.in_ok-kept.kept first (g.B.Bus.state c.keep.new.bus) (g.B.Bus.state c.finish.new.self.0) is c.finish.ensures.leaves.spends in
-    falls_sized c.args.self.request.now c.args.self.opening first (g.B.Bus.state c.finish.new.self.0) modelled.honest (opens.genuine modelled) spends
-
-pub returns-in_err-work-clause-tells : goal.returns-in_err-work-clause-tells
-returns-in_err-work-clause-tells g c = λ first looks opens modelled.
-    let is = ready c.args.self.request.now c.args.self.opening c.status.result c.args.self.code _ c.args.self.image.now c.keep.new.image _ c.in_ok-kept.kept first (g.B.Bus.state c.args.self.bus.now) (g.B.Bus.state c.keep.new.bus)
-    looks opens c.keep.ensures.leaves c.in_ok-kept.ensures.keeps c.status.ensures c.requires.judged.same_code in
-    let of = ready_chip c.args.self.request.now c.args.self.image.now c.keep.new.image c.args.self.opening c.status.result c.args.self.code c.in_ok-kept.kept first (g.B.Bus.state c.args.self.bus.now) (g.B.Bus.state c.keep.new.bus) _ modelled looks opens is
-    (c.requires.judged.accepts first.chip) c.in_ok-kept.ensures.keeps (λ a. let fits = c.keep.type_inv in search rules) (let reached = g.met.B.Bus.reaches c.args.self.bus.now (looks.honest ∙ modelled.honest) in small_first c.args.self.request.now.named c.args.self.opening first _ modelled.honest opens reached.kept2) in
-    let tells = change_tells c.args.self.request.now c.args.self.image.now c.keep.new.image c.args.self.opening c.status.result c.args.self.code c.in_ok-kept.kept first (g.B.Bus.state c.keep.new.bus) (g.B.Bus.state c.finish.new.self.0) (g.V.Vault.state c.args.self.vault.now) (g.V.Vault.state c.keep.new.vault) c.in_err-work.field-0.0
-    is of c.in_err-work.ensures.tells in
-    search rules
-
-pub returns-in_err-work-clause-undo : goal.returns-in_err-work-clause-undo
-returns-in_err-work-clause-undo g c = λ first looks opens modelled sealed.
-    let is = ready c.args.self.request.now c.args.self.opening c.status.result c.args.self.code _ c.args.self.image.now c.keep.new.image _ c.in_ok-kept.kept first (g.B.Bus.state c.args.self.bus.now) (g.B.Bus.state c.keep.new.bus)
-    looks opens c.keep.ensures.leaves c.in_ok-kept.ensures.keeps c.status.ensures c.requires.judged.same_code in
-    let of = ready_chip c.args.self.request.now c.args.self.image.now c.keep.new.image c.args.self.opening c.status.result c.args.self.code c.in_ok-kept.kept first (g.B.Bus.state c.args.self.bus.now) (g.B.Bus.state c.keep.new.bus) _ modelled looks opens is
-    (c.requires.judged.accepts first.chip) c.in_ok-kept.ensures.keeps (λ a. let fits = c.keep.type_inv in search rules) (let reached = g.met.B.Bus.reaches c.args.self.bus.now (looks.honest ∙ modelled.honest) in small_first c.args.self.request.now.named c.args.self.opening first _ modelled.honest opens reached.kept2) in
-    can_be_undone c.args.self.request.now c.args.self.image.now c.keep.new.image c.args.self.opening c.status.result c.args.self.code c.in_ok-kept.kept first (g.B.Bus.state c.args.self.bus.now) (g.B.Bus.state c.keep.new.bus) (g.B.Bus.state c.finish.new.self.0) (g.V.Vault.state c.keep.new.vault) modelled looks
-    opens c.in_ok-kept.ensures.keeps is of c.finish.ensures.leaves
-
-pub returns-clause-spends : goal.returns-clause-spends
-returns-clause-spends g c = λ first looks opens.
-    let is = ready c.args.self.request.now c.args.self.opening c.status.result c.args.self.code _ c.args.self.image.now c.keep.new.image _ c.in_ok-kept.kept first (g.B.Bus.state c.args.self.bus.now) (g.B.Bus.state c.keep.new.bus)
-    looks opens c.keep.ensures.leaves c.in_ok-kept.ensures.keeps c.status.ensures c.requires.judged.same_code in
-    let few = scanned_few c.args.self.request.now c.args.self.opening.found.size is.part.at_most in
-    let spends = spends_ready c.args.self.request.now c.args.self.opening c.status.result c.args.self.code c.in_ok-kept.kept first (g.B.Bus.state c.keep.new.bus) (g.B.Bus.state c.finish.new.self.0) is c.finish.ensures.leaves.spends in
-    spends_more (most_of (scanned_sectors c.args.self.request.now c.args.self.opening.found.size)) 4563750922 first (g.B.Bus.state c.finish.new.self.0) (omega arith) spends
-
-pub returns-clause-falls : goal.returns-clause-falls
-returns-clause-falls g c = λ first looks opens modelled.
-    let is = ready c.args.self.request.now c.args.self.opening c.status.result c.args.self.code _ c.args.self.image.now c.keep.new.image _ c.in_ok-kept.kept first (g.B.Bus.state c.args.self.bus.now) (g.B.Bus.state c.keep.new.bus)
-    looks opens c.keep.ensures.leaves c.in_ok-kept.ensures.keeps c.status.ensures c.requires.judged.same_code in
-    let few = scanned_few c.args.self.request.now c.args.self.opening.found.size is.part.at_most in
-    let spends = spends_ready c.args.self.request.now c.args.self.opening c.status.result c.args.self.code c.in_ok-kept.kept first (g.B.Bus.state c.keep.new.bus) (g.B.Bus.state c.finish.new.self.0) is c.finish.ensures.leaves.spends in
-    falls_sized c.args.self.request.now c.args.self.opening first (g.B.Bus.state c.finish.new.self.0) modelled.honest (opens.genuine modelled) spends
-
-pub returns-clause-done : goal.returns-clause-done
-returns-clause-done g c = λ first looks opens modelled.
-    let is = ready c.args.self.request.now c.args.self.opening c.status.result c.args.self.code _ c.args.self.image.now c.keep.new.image _ c.in_ok-kept.kept first (g.B.Bus.state c.args.self.bus.now) (g.B.Bus.state c.keep.new.bus)
-    looks opens c.keep.ensures.leaves c.in_ok-kept.ensures.keeps c.status.ensures c.requires.judged.same_code in
-    let of = ready_chip c.args.self.request.now c.args.self.image.now c.keep.new.image c.args.self.opening c.status.result c.args.self.code c.in_ok-kept.kept first (g.B.Bus.state c.args.self.bus.now) (g.B.Bus.state c.keep.new.bus) _ modelled looks opens is
-    (c.requires.judged.accepts first.chip) c.in_ok-kept.ensures.keeps (λ a. let fits = c.keep.type_inv in search rules) (let reached = g.met.B.Bus.reaches c.args.self.bus.now (looks.honest ∙ modelled.honest) in small_first c.args.self.request.now.named c.args.self.opening first _ modelled.honest opens reached.kept2) in
-    done c.args.self.request.now c.args.self.image.now c.keep.new.image c.args.self.opening c.status.result c.args.self.code c.in_ok-kept.kept first (g.B.Bus.state c.keep.new.bus) (g.B.Bus.state c.finish.new.self.0) c.args.self.request.now.verify c.in_ok-work.work c.from.result is of c.in_ok-work.ensures.does
-
-pub returns-clause-spares : goal.returns-clause-spares
-returns-clause-spares g c = λ first looks opens modelled none.
-    let is = ready c.args.self.request.now c.args.self.opening c.status.result c.args.self.code _ c.args.self.image.now c.keep.new.image _ c.in_ok-kept.kept first (g.B.Bus.state c.args.self.bus.now) (g.B.Bus.state c.keep.new.bus)
-    looks opens c.keep.ensures.leaves c.in_ok-kept.ensures.keeps c.status.ensures c.requires.judged.same_code in
-    let of = ready_chip c.args.self.request.now c.args.self.image.now c.keep.new.image c.args.self.opening c.status.result c.args.self.code c.in_ok-kept.kept first (g.B.Bus.state c.args.self.bus.now) (g.B.Bus.state c.keep.new.bus) _ modelled looks opens is
-    (c.requires.judged.accepts first.chip) c.in_ok-kept.ensures.keeps (λ a. let fits = c.keep.type_inv in search rules) (let reached = g.met.B.Bus.reaches c.args.self.bus.now (looks.honest ∙ modelled.honest) in small_first c.args.self.request.now.named c.args.self.opening first _ modelled.honest opens reached.kept2) in
-    spared c.args.self.request.now c.args.self.image.now c.keep.new.image c.args.self.opening c.status.result c.args.self.code c.in_ok-kept.kept first (g.B.Bus.state c.keep.new.bus) (g.B.Bus.state c.finish.new.self.0) _ c.args.self.request.now.verify c.in_ok-work.work
-    c.from.result c.from.ensures is of none c.in_ok-work.ensures.does
-
-pub returns-clause-undo : goal.returns-clause-undo
-returns-clause-undo g c = λ first looks opens modelled sealed.
-    let is = ready c.args.self.request.now c.args.self.opening c.status.result c.args.self.code _ c.args.self.image.now c.keep.new.image _ c.in_ok-kept.kept first (g.B.Bus.state c.args.self.bus.now) (g.B.Bus.state c.keep.new.bus)
-    looks opens c.keep.ensures.leaves c.in_ok-kept.ensures.keeps c.status.ensures c.requires.judged.same_code in
-    let of = ready_chip c.args.self.request.now c.args.self.image.now c.keep.new.image c.args.self.opening c.status.result c.args.self.code c.in_ok-kept.kept first (g.B.Bus.state c.args.self.bus.now) (g.B.Bus.state c.keep.new.bus) _ modelled looks opens is
-    (c.requires.judged.accepts first.chip) c.in_ok-kept.ensures.keeps (λ a. let fits = c.keep.type_inv in search rules) (let reached = g.met.B.Bus.reaches c.args.self.bus.now (looks.honest ∙ modelled.honest) in small_first c.args.self.request.now.named c.args.self.opening first _ modelled.honest opens reached.kept2) in
-    can_be_undone c.args.self.request.now c.args.self.image.now c.keep.new.image c.args.self.opening c.status.result c.args.self.code c.in_ok-kept.kept first (g.B.Bus.state c.args.self.bus.now) (g.B.Bus.state c.keep.new.bus) (g.B.Bus.state c.finish.new.self.0) (g.V.Vault.state c.keep.new.vault) modelled looks
-    opens c.in_ok-kept.ensures.keeps is of c.finish.ensures.leaves
-
-pub returns-in_err-kept-clause-undo : goal.returns-in_err-kept-clause-undo
-returns-in_err-kept-clause-undo g c = λ first looks opens modelled sealed.
-    let unsealed = not_sealed c.in_err-kept.field-0.0 _ _ c.requires.fresh.unsealed c.in_err-kept.ensures.puts in
-    absurd {A = CanBeUndone c.args.self.request.now c.args.self.image.now first (g.B.Bus.state c.keep.new.bus) (g.V.Vault.state c.keep.new.vault)} (true≢false (sym sealed ∙ unsealed))
-
-pub returns-in_err-work-clause-gives_up : goal.returns-in_err-work-clause-gives_up
-returns-in_err-work-clause-gives_up g c = λ first looks opens honest.
-    let is = ready c.args.self.request.now c.args.self.opening c.status.result c.args.self.code _ c.args.self.image.now c.keep.new.image _ c.in_ok-kept.kept first (g.B.Bus.state c.args.self.bus.now) (g.B.Bus.state c.keep.new.bus)
-    looks opens c.keep.ensures.leaves c.in_ok-kept.ensures.keeps c.status.ensures c.requires.judged.same_code in
-    let tells = change_gives_up c.args.self.request.now c.args.self.opening c.status.result c.args.self.code c.in_ok-kept.kept _ first (g.B.Bus.state c.keep.new.bus) (g.B.Bus.state c.finish.new.self.0) c.in_err-work.field-0.0 honest is c.in_err-work.ensures.tells in
-    search rules
-
-pub returns-in_err-kept-clause-gives_up : goal.returns-in_err-kept-clause-gives_up
-returns-in_err-kept-clause-gives_up g c = λ first looks opens honest.
-    let tells = keep_gives_up c.args.self.request.now c.args.self.image.now c.args.self.opening c.args.self.code _ first (g.B.Bus.state c.args.self.bus.now) (g.B.Bus.state c.keep.new.bus) c.in_err-kept.field-0.0
-    honest looks opens c.keep.ensures.leaves c.in_err-kept.ensures.tells in
-    search rules
-
-pub returns-in_err-kept-clause-begins : goal.returns-in_err-kept-clause-begins
-returns-in_err-kept-clause-begins g c = λ first looks opens modelled unsealed telling.
-    let opened = is_opening c.args.self.request.now c.args.self.opening first (g.B.Bus.state c.args.self.bus.now) modelled opens in
-    let shown = shows c.args.self.request.now c.args.self.opening first (g.B.Bus.state c.args.self.bus.now) modelled looks opens in
-    let vault = g.V.Vault.state c.keep.new.vault in
-    err_same c.from_residual.result c.in_err-kept.field-0.0
-    (λ refusal. refusal ≢ Vault → (vault.bytes ≡ []) ⊎ BeginsJournal (head_of first.chip) first.chip.bytes (is_touched_by c.args.self.request.now c.args.self.image.now first.chip) vault.bytes)
-    c.from_residual.ensures.1 (λ other. inr (c.in_err-kept.ensures.begins other telling first.chip opened shown))
+    let few = scanned_few request opening.found.size is.part.at_most in
+    let spends = spends_ready request opening c.status.result code kept first mid new is c.finish.ensures.leaves.spends in
+    record {
+      always = record {
+        looks = search rules;
+        spends = spends_more (most_of (scanned_sectors request opening.found.size)) (most_of 4096) first new (omega arith) spends;
+        holds = search rules;
+        answers = search rules;
+        names = search rules;
+        ends = record {
+          sealed = search rules;
+          bounded = bounded request opening c.status.result code kept first mid new _ request.verify work c.from.result c.from.ensures is c.in_ok-work.ensures.does;
+        };
+      };
+      honest = λ honest. record { gives_up = search rules; counted = search rules };
+      modelled = λ modelled.
+          let of = ready_chip request image c.keep.new.image opening c.status.result code kept first start mid _ modelled looks opens is
+          (c.requires.judged.accepts first.chip) c.in_ok-kept.ensures.keeps (λ a. let fits = c.keep.type_inv in search rules)
+          (let reached = g.met.B.Bus.reaches c.args.self.bus.now (looks.honest ∙ modelled.honest) in small_first request.named opening first start modelled.honest opens reached.kept2) in
+          record {
+            falls = falls_sized request opening first new modelled.honest (opens.genuine modelled) spends;
+            tells = search rules;
+            done = done request image c.keep.new.image opening c.status.result code kept first mid new request.verify work c.from.result is of c.in_ok-work.ensures.does;
+            spares = λ none. spared request image c.keep.new.image opening c.status.result code kept first mid new _ request.verify work
+                c.from.result c.from.ensures is of none c.in_ok-work.ensures.does;
+            early = search rules;
+            begins = search rules;
+            undo = λ sealed. can_be_undone request image c.keep.new.image opening c.status.result code kept first start mid new vault' modelled looks
+                opens c.in_ok-kept.ensures.keeps is of c.finish.ensures.leaves;
+          };
+    }
