@@ -1,7 +1,7 @@
 -- Which address a refusal names, from the parts of a session or restore to its answer.
 use Rattle.std.proofs.Common.{ℕ, ◌≡◌, ◌≤◌, ◌/◌, ◌∙◌, ◌⊎◌, Bool, true, false, List, Option, inl, inr, sym, true≢false}
 use Rattle.nor_chip.specs.Bus.{BusState}
-use Rattle.nor_journal.specs.Text.{Content}
+use Rattle.nor_journal.specs.Text.{Content, IsContent, text}
 use Rattle.nor_journal.specs.Saved.{is_saved}
 use Rattle.nor_journal.specs.Vault.{VaultState}
 use Rattle.nor_plan.specs.SectorSet.{has}
@@ -14,8 +14,11 @@ use Rattle.nor_save.specs.declared.refusal.Refusal.{Refusal}
 use Rattle.nor_save.specs.declared.refusal.Refusal.TheVariants.{Timeout, Mismatch}
 use Rattle.nor_save.specs.Keeping.{IsJournalOf, KeepTells}
 use Rattle.nor_save.specs.Opening.{OpeningTells}
+use Rattle.nor_save.specs.Judging.{IsOpeningRefusal}
 use Rattle.nor_session.specs.Changing.{NamesWork}
 use Rattle.nor_session.specs.Session.{SavesSector, NamesNone, NamesIn, Names}
+use Rattle.nor_session.specs.Preparing.{PrepareTells}
+use Rattle.nor_session.specs.Restore.{NamesSaved}
 
 -- a scan waits for nothing
 pub keep_names : (request : Request) (opening : Opening) (code : ℕ) (image : List ℕ) (old new : BusState) (refusal : Refusal)
@@ -29,6 +32,12 @@ pub opening_names : (named : Option ChipName) (old new : BusState) (refusal : Re
 opening_names named old new (Timeout address) tells = tells.0
 opening_names named old new (Mismatch address) tells = absurd tells
 opening_names named old new _ tells = tt
+
+-- its judgement needs no bus
+pub judged_names : (refusal : Refusal) → IsOpeningRefusal refusal → NamesNone refusal
+judged_names (Timeout address) is = absurd is
+judged_names (Mismatch address) is = absurd is
+judged_names _ is = tt
 
 -- a touched sector is one that the journal saves
 saves_touched : (changes : Changes) (bytes : List ℕ) (sector : ℕ) → IsJournalOf (touched_in changes) bytes → touched_in changes sector ≡ true → SavesSector sector bytes
@@ -52,3 +61,26 @@ work_names changes vault refusal sealed saves names = record {
   early = λ unsealed. absurd (true≢false (sym sealed ∙ unsealed));
   late = λ is telling. names_in changes vault.bytes refusal (saves telling) names;
 }
+
+-- ---- a restore
+
+-- what is judged first waits at 0
+pub prepare_names : (journal : Content) (most : ℕ) (old new : BusState) (refusal : Refusal) → PrepareTells journal most old new refusal → NamesSaved journal refusal
+prepare_names journal most old new (Timeout address) tells = inl tells.0
+prepare_names journal most old new (Mismatch address) tells = absurd tells.judged
+prepare_names journal most old new _ tells = tt
+
+-- only saved sectors are touched
+pub restore_names : (journal : Content) (changes : Changes) (refusal : Refusal) → ((s : ℕ) → touched_in changes s ≡ true → is_saved journal s ≡ true)
+    → NamesWork changes refusal → NamesSaved journal refusal
+restore_names journal changes (Timeout address) saved (inl at) = inl at.1
+restore_names journal changes (Timeout address) saved (inr touched) = inr (saved (address / 4096) touched)
+restore_names journal changes (Mismatch address) saved touched = saved (address / 4096) touched
+restore_names journal changes _ saved names = tt
+
+-- a saved sector is one of the text that the journal was read from
+pub saved_names : (journal : Content) (bytes : List ℕ) (refusal : Refusal) → IsContent journal → bytes ≡ text journal → NamesSaved journal refusal → NamesIn bytes refusal
+saved_names journal bytes (Timeout address) is same (inl at) = inl at
+saved_names journal bytes (Timeout address) is same (inr saved) = inr (record { content = journal; is = is; same = same; saved = saved })
+saved_names journal bytes (Mismatch address) is same saved = record { content = journal; is = is; same = same; saved = saved }
+saved_names journal bytes _ is same names = tt

@@ -14,12 +14,13 @@ use Rattle.nor_save.specs.declared.refusal.Refusal.{Refusal}
 use Rattle.nor_save.specs.declared.refusal.Refusal.TheVariants.{Stopped, Timeout, BadJournal}
 use Rattle.nor_save.specs.Saving.{head_of}
 use Rattle.nor_session.specs.Modelled.{IsModelled, most_of}
-use Rattle.nor_session.specs.Restore.{CanGiveBack, LeavesRestore, RestoreGivesUp, IsRestoreRefusal}
+use Rattle.nor_session.specs.Restore.{CanGiveBack, LeavesRestore, RestoreGivesUp, IsRestoreRefusal, NamesSaved}
 use Rattle.nor_session.specs.Session.{IsWithinBound}
 use Rattle.nor_session.specs.Rehearsal.{AreRestores, FitsLastStop, IsNoHalt}
 use Rattle.nor_session.specs.Rehearsing.{LeavesRestores, ShowsRestore, ShowsRestores, StopsRestores, Undoes, WearsSaved, RefusesUndo}
 use Rattle.nor_session.proofs.Rescanned.{unraised_other}
 use Rattle.nor_session.proofs.GivesBack.{can_give_back}
+use Rattle.nor_session.proofs.Naming.{saved_names}
 use Rattle.nor_session.proofs.SavedBytes.{saved_room}
 use Rattle.nor_session.proofs.SavedCounts.{saved_count, saved_few}
 
@@ -108,12 +109,13 @@ no_halt journal old new (Timeout address) never tells = tells
 no_halt journal old new _ never tells = tt
 
 -- it was refused
-pub under_refuses : (n : ℕ) (journal : Content) (old mid new : BusState) (refusal : Refusal) → Allows n old mid → IsRestoreRefusal refusal → (refusal ≡ Stopped → ⊥)
+pub under_refuses : (n : ℕ) (journal : Content) (old mid new : BusState) (refusal : Refusal) → Allows n old mid → IsRestoreRefusal refusal → NamesSaved journal refusal → (refusal ≡ Stopped → ⊥)
     → (mid.honest ≡ true → RestoreGivesUp journal mid new refusal) → (IsModelled mid → (first : Chip) → CanGiveBack journal first mid → refusal ≡ Stopped) → StopsRestores journal old refusal
-under_refuses n journal old mid new refusal allows answers never gives_up stops =
+under_refuses n journal old mid new refusal allows answers names never gives_up stops =
     let leaves = allow_leaves n journal old mid allows in
     record {
       answers = answers;
+      names = names;
       halts = λ room honest. no_halt journal mid new refusal never (gives_up (allows.honest ∙ honest));
       never = λ modelled first can. never (stops (leaves.modelled modelled) first (leaves.can modelled first can));
     }
@@ -184,6 +186,7 @@ ended_last journal stops old now new n restores most before is past shows = reco
 pub refuses_before : (journal : Content) (old mid : BusState) (refusal : Refusal) → LeavesRestores journal old mid → StopsRestores journal mid refusal → StopsRestores journal old refusal
 refuses_before journal old mid refusal leaves refuses = record {
   answers = refuses.answers;
+  names = refuses.names;
   halts = λ room honest. refuses.halts room (leaves.nature.honest ∙ honest);
   never = λ modelled first can. refuses.never (leaves.modelled modelled) first (leaves.can modelled first can);
 }
@@ -192,6 +195,7 @@ refuses_before journal old mid refusal leaves refuses = record {
 pub last_ends : (journal : Content) (now new : BusState) (most : ℕ) → most ≡ most_of 4096 → ShowsRestore journal most now new false → StopsRestores journal now Stopped
 last_ends journal now new most is shows = record {
   answers = tt;
+  names = tt;
   halts = λ room honest. let below = shows.below honest refl in omega arith;
   never = λ modelled first can.
       let few = saved_few first.bytes (is_saved journal) journal can.saves.sectors in
@@ -224,11 +228,12 @@ pub undo_wears : (bytes : List ℕ) (old new : BusState) (journal : Content)
 undo_wears bytes old new journal reads leaves modelled saved first leads s other =
     leaves.worn modelled s (sym (Saves-set first.bytes saved journal s (reads (head_of first) first.bytes saved leads.journal).1) ∙ other)
 
-pub undo_refuses : (bytes : List ℕ) (old : BusState) (journal : Content) (refusal : Refusal) → IsContent journal
+pub undo_refuses : (bytes : List ℕ) (old : BusState) (journal : Content) (refusal : Refusal) → IsContent journal → bytes ≡ text journal
     → ((head : Content) (chip : ℕ → ℕ) (saved : ℕ → Bool) → JournalSaves head chip saved bytes → SameHead head journal × Saves chip saved journal)
     → StopsRestores journal old refusal → RefusesUndo bytes old refusal
-undo_refuses bytes old journal refusal is reads refuses = record {
+undo_refuses bytes old journal refusal is same reads refuses = record {
   answers = λ whole. refuses.answers;
+  names = saved_names journal bytes refusal is same refuses.names;
   halts = refuses.halts (saved_room journal is);
   never = λ modelled saved first leads.
       refuses.never modelled first (can_give_back saved first bytes old journal leads (reads (head_of first) first.bytes saved leads.journal));
@@ -239,6 +244,7 @@ pub unread : (bytes : List ℕ) (old : BusState) (fault : JournalFault) → ((co
     → RefusesUndo bytes old (BadJournal fault)
 unread bytes old fault never = record {
   answers = λ whole. absurd (never whole.content whole.is whole.same);
+  names = tt;
   halts = λ honest. tt;
   never = λ modelled saved first leads. never leads.journal.content leads.journal.saves.is leads.journal.is;
 }

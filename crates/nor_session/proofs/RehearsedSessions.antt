@@ -18,7 +18,7 @@ use Rattle.nor_save.specs.Request.{scanned_sectors, is_touched_by, is_raised_by}
 use Rattle.nor_save.specs.Keeping.{IsJournal, HoldsJournal}
 use Rattle.nor_session.specs.Modelled.{IsModelled, most_of, AreFewestErases}
 use Rattle.nor_session.specs.Verdict.{IsAccepted}
-use Rattle.nor_session.specs.Session.{wanted_of, HasWantedBits, SessionTells, StopsEarly, CanBeUndone, HonestTells, Answers, Ends, IsDone}
+use Rattle.nor_session.specs.Session.{wanted_of, HasWantedBits, SessionTells, StopsEarly, CanBeUndone, HonestTells, Answers, Ends, IsDone, Names, NamesIn}
 use Rattle.nor_session.specs.Rehearsal.{KeepsNature, IsRehearsalRefusal, IsNoHalt, RehearsalTells, first_allowance, least_needed, AreRestores, FitsLastStop}
 use Rattle.nor_session.specs.Rehearsing.{LeadsBack, LeavesSession, ShowsSession, RefusesSession, Undoes, WearsSaved, RefusesUndo}
 use Rattle.nor_session.proofs.RestoredBytes.{untouched_unraised}
@@ -205,16 +205,17 @@ early request image old new before after (Output written) tells = absurd tells
 early request image old new before after OtherUnit tells = absurd tells
 
 -- it was refused, and not by a stop, unless as many transactions were allowed as any call needs
-pub session_refuses : (n few : ℕ) (request : Request) (image : List ℕ) (old mid new : BusState) (before after : VaultState) (refusal : Refusal) → Allows n old mid → Answers before after refusal
+pub session_refuses : (n few : ℕ) (request : Request) (image : List ℕ) (old mid new : BusState) (before after : VaultState) (refusal : Refusal) → Allows n old mid → Answers before after refusal → Names after refusal
     → (after.sealed ≡ false → Looks few mid new) → (mid.honest ≡ true → HonestTells mid new refusal)
     → (IsModelled mid → SessionTells request image mid new before after refusal) → (refusal ≡ Stopped → n ≡ most_of 4096) → RefusesSession request image old new before after refusal
-session_refuses n few request image old mid new before after refusal allows answers looks gives_up tells all =
+session_refuses n few request image old mid new before after refusal allows answers names looks gives_up tells all =
     let tells' : IsModelled old → RehearsalTells request image mid.chip before after refusal
     = λ modelled. told request image mid new before after refusal
     (never_stops n old mid new refusal allows all gives_up modelled.honest)
     (tells (allow_modelled n old mid allows modelled)) in
     record {
       answers = answers;
+      names = names;
       halts = λ honest. no_halt mid new refusal (never_stops n old mid new refusal allows all gives_up honest) (gives_up (allows.honest ∙ honest));
       tells = λ modelled. subst (λ (chip : Chip). RehearsalTells request image chip before after refusal) allows.chip (tells' modelled);
       leaves = λ modelled.
@@ -253,6 +254,13 @@ pub refused_undo : (bytes : List ℕ) (vault vault' : VaultState) (mid : BusStat
     → RefusesUndo bytes mid refusal → IsRehearsalRefusal vault vault' refusal
 refused_undo bytes vault vault' mid refusal is telling sealed holds refuses =
     inr (sealed, refuses.answers (subst IsJournal (sym is) (holds sealed telling)))
+
+-- and name what the sealed journal saves
+pub undo_names : (bytes : List ℕ) (vault : VaultState) (mid : BusState) (refusal : Refusal) → bytes ≡ vault.bytes → vault.sealed ≡ true → RefusesUndo bytes mid refusal → Names vault refusal
+undo_names bytes vault mid refusal is sealed refuses = record {
+  early = λ unsealed. absurd (true≢false (sym sealed ∙ unsealed));
+  late = λ again telling. subst (λ (text : List ℕ). NamesIn text refusal) is refuses.names;
+}
 
 -- and they give the chip back
 pub same_again : (saved : ℕ → Bool) (bytes text : List ℕ) (stops : List ℕ) (old mid new : BusState) (restores : ℕ) → KeepsNature old mid → (IsModelled old → LeadsBack saved old.chip bytes mid)

@@ -93,7 +93,7 @@ probe_tells journal old new (Probes.UnknownChip fault) blames tells = record {
 }
 probe_tells journal old new Probes.OtherName blames tells = absurd blames
 probe_tells journal old new Probes.Stopped blames tells = λ honest. record { none_left = (tells honest).0.none_left; below = let few = (tells honest).1 in omega arith }
-probe_tells journal old new Probes.Timeout blames tells = λ honest. tells honest
+probe_tells journal old new Probes.Timeout blames tells = (refl, λ honest. tells honest)
 
 -- those of the unit
 pub unit_tells : (journal : Content) (most : ℕ) (old new : BusState) (refusal : Refusal) → IsUnitRefusal refusal → (old.honest ≡ true → IsSame old.chip new.chip)

@@ -66,13 +66,13 @@ prepare_answers journal most old new _ tells = tells.judged
 pub prepare_gives_up : (journal : Content) (most : ℕ) (old new : BusState) (refusal : Refusal) → most ≤ most_of (length journal.saved) → old.honest ≡ true → PrepareTells journal most old new refusal
     → RestoreGivesUp journal old new refusal
 prepare_gives_up journal most old new Stopped fits honest tells = let out = tells honest in let below = out.below in record { none_left = out.none_left; below = omega arith }
-prepare_gives_up journal most old new (Timeout address) fits honest tells = tells honest
+prepare_gives_up journal most old new (Timeout address) fits honest tells = tells.1 honest
 prepare_gives_up journal most old new _ fits honest tells = λ first. tells.same honest
 
 pub prepare_tells : (journal : Content) (most : ℕ) (old new : BusState) (refusal : Refusal) → most ≤ most_of (length journal.saved) → IsModelled old → PrepareTells journal most old new refusal
     → RestoreTells journal old new refusal
 prepare_tells journal most old new Stopped fits modelled tells = let out = tells modelled.honest in let below = out.below in record { none_left = out.none_left; below = omega arith }
-prepare_tells journal most old new (Timeout address) fits modelled tells = absurd (tells modelled.honest)
+prepare_tells journal most old new (Timeout address) fits modelled tells = absurd (tells.1 modelled.honest)
 prepare_tells journal most old new _ fits modelled tells = tells.verdict modelled
 
 pub looks_leave : (journal : Content) (most : ℕ) (old new : BusState) → Looked most old new → LeavesRestore journal old new

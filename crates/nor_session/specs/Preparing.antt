@@ -65,10 +65,10 @@ pub record IsRefusedFor (journal : Content) (old new : BusState) (refusal : Refu
   pub verdict : IsModelled old → IsRestoreVerdict journal old.chip refusal
 
 -- What a refusal tells before anything is changed: the bus stopped, with fewer transactions left than these; another
--- bus than an honest one stayed busy; or it was judged.
+-- bus than an honest one stayed busy, which is told at 0; or it was judged.
 abbrev pub PrepareTells : Content → ℕ → BusState → BusState → Refusal → Type 0
 PrepareTells journal most old new Stopped = RunsOut most old new
-PrepareTells journal most old new (Timeout address) = old.honest ≡ true → ⊥
+PrepareTells journal most old new (Timeout address) = (address ≡ 0) × (old.honest ≡ true → ⊥)
 PrepareTells journal most old new refusal = IsRefusedFor journal old new refusal
 
 -- ---- the scan

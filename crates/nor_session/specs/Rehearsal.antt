@@ -14,7 +14,7 @@ use Rattle.nor_save.specs.Saving.{head_of}
 use Rattle.nor_session.specs.declared.rehearsals.Rehearsal.{Rehearsal}
 use Rattle.nor_session.specs.Modelled.{IsModelled, most_looked, most_of, AreFewestErases}
 use Rattle.nor_session.specs.Verdict.{IsVerdict, IsAccepted}
-use Rattle.nor_session.specs.Session.{Answers, pages_of}
+use Rattle.nor_session.specs.Session.{Answers, Names, pages_of}
 use Rattle.nor_session.specs.Restore.{IsRestoreRefusal}
 
 -- the transactions that the session is allowed: without a stop the most that a session takes on a chip of 16 MiB
@@ -85,66 +85,52 @@ IsNoHalt Stopped = ⊥
 IsNoHalt (Timeout address) = ⊥
 IsNoHalt _ = Unit {0}
 
-abbrev pub NeverHalts : BusState → Result Rehearsal Refusal → Type 0
-NeverHalts old result = old.honest ≡ true → IfErr result IsNoHalt
-
 -- The answer is the verdict on the session, or the vault failed; never that the bus stopped.
 abbrev pub RehearsalTells : Request → List ℕ → Chip → VaultState → VaultState → Refusal → Type 0
 RehearsalTells request image chip old new Vault = Rose old new
 RehearsalTells request image chip old new refusal = IsVerdict request image chip refusal
 
--- ---- what a rehearsal says on an honest bus whose chip is what it shows itself to be
+-- ---- the promises of a rehearsal
 
-abbrev pub GivesAllBack : BusState → BusState → Type 0
-GivesAllBack old new = IsModelled old → IsCalm old → IsSame old.chip new.chip
+-- On every bus.
+pub record RehearsalAlways (stops : List ℕ) (old new : BusState) (vault vault' : VaultState)
+    (result : Result Rehearsal Refusal) : Type 0 where
+  -- the bus stays as honest and as steady as it was
+  pub nature : KeepsNature old new
+  -- what is counted fits the vault and the stops
+  pub counts : IfOk result (IsRehearsal (length stops) vault')
+  -- a refusal is the session's, or once the vault is sealed that of a restore
+  pub answers : IfErr result (IsRehearsalRefusal vault vault')
+  -- and names an address that session or restore was at
+  pub names : IfErr result (Names vault')
 
--- session and restores erase no sector but those that the session touches
-abbrev pub WearsTouched : Request → List ℕ → BusState → BusState → Type 0
-WearsTouched request image old new =
-    IsModelled old → (s : ℕ) → is_touched_by request image old.chip s ≡ false → new.worn s ≡ old.worn s
-
-abbrev pub RefusesRehearsal : Request → List ℕ → BusState → VaultState → VaultState → Result Rehearsal Refusal → Type 0
-RefusesRehearsal request image old vault vault' result =
-    IsModelled old → IfErr result (RehearsalTells request image old.chip vault vault')
-
-abbrev pub StaysRefused : BusState → BusState → VaultState → Result Rehearsal Refusal → Type 0
-StaysRefused old new vault result = IsModelled old → OnErr result (LeavesRefused old new vault)
-
--- a vault is sealed only for a request that is accepted
-abbrev pub SealsAccepted : Request → List ℕ → BusState → VaultState → Type 0
-SealsAccepted request image old vault =
-    IsModelled old → vault.sealed ≡ true → IsAccepted request image old.chip
-
--- and has the journal of the starting chip, which saves just the touched sectors
-abbrev pub SealsJournal : Request → List ℕ → BusState → VaultState → Type 0
-SealsJournal request image old vault =
-    IsModelled old → vault.sealed ≡ true
-    → JournalSaves (head_of old.chip) old.chip.bytes (is_touched_by request image old.chip) vault.bytes
-
--- the session ends where it was allowed as many transactions as it takes at most
-abbrev pub EndsWhereAllowed : List ℕ → BusState → Result Rehearsal Refusal → Type 0
-EndsWhereAllowed stops old result =
-    IsModelled old → most_of (old.chip.config.size / 4096) ≤ first_allowance stops
-    → IfOk result (λ rehearsal. rehearsal.ended ≡ true)
-
--- and only where it was allowed as many as it takes at least
-abbrev pub EndsWhereEnough : Request → List ℕ → List ℕ → BusState → Result Rehearsal Refusal → Type 0
-EndsWhereEnough request image stops old result =
-    IsModelled old → IfOk result (λ rehearsal. rehearsal.ended ≡ true → CanEnd request image (first_allowance stops) old.chip)
-
--- the vault is sealed as the first allowance lets it
-abbrev pub SealsAsAllowed : Request → List ℕ → BusState → Result Rehearsal Refusal → Type 0
-SealsAsAllowed request stops old result =
-    IsModelled old → IfOk result (λ rehearsal. SealFits request (first_allowance stops) old.chip rehearsal.sealed)
-
--- restores are run under the later stops, until one ends
-abbrev pub RestoresInTurn : Request → List ℕ → List ℕ → BusState → Result Rehearsal Refusal → Type 0
-RestoresInTurn request image stops old result =
-    IsModelled old → IfOk result (λ rehearsal. rehearsal.sealed ≡ true
-    → AreRestores (sector_count (is_touched_by request image old.chip)) (drop 1 stops) rehearsal.restores)
-
--- and the last of them was allowed no more than its stop
-abbrev pub KeepsLastStop : Request → List ℕ → List ℕ → BusState → BusState → Result Rehearsal Refusal → Type 0
-KeepsLastStop request image stops old new result =
-    IsModelled old → IfOk result (λ rehearsal. rehearsal.sealed ≡ true
-    → FitsLastStop (sector_count (is_touched_by request image old.chip)) (drop 1 stops) new.left rehearsal.restores)
+-- On an honest bus whose chip is what it shows itself to be.
+pub record RehearsalModelled (request : Request) (image stops : List ℕ) (old new : BusState) (vault vault' : VaultState)
+    (result : Result Rehearsal Refusal) : Type 0 where
+  -- on a calm bus the chip is the same again, at every exit
+  pub gives_back : IsCalm old → IsSame old.chip new.chip
+  -- session and restores erase no sector but those that the session touches
+  pub wears : (s : ℕ) → is_touched_by request image old.chip s ≡ false → new.worn s ≡ old.worn s
+  -- after a refusal nothing changed, and the vault isn't sealed
+  pub refuses : OnErr result (LeavesRefused old new vault')
+  -- a refusal is the verdict on the session, or the vault failed
+  pub tells : IfErr result (RehearsalTells request image old.chip vault vault')
+  -- a vault is sealed only for a request that is accepted
+  pub accepts : vault'.sealed ≡ true → IsAccepted request image old.chip
+  -- and has the journal of the starting chip, which saves just the touched sectors
+  pub saves : vault'.sealed ≡ true
+      → JournalSaves (head_of old.chip) old.chip.bytes (is_touched_by request image old.chip) vault'.bytes
+  -- the session ends where it was allowed as many transactions as it takes at most
+  pub ended : most_of (old.chip.config.size / 4096) ≤ first_allowance stops
+      → IfOk result (λ rehearsal. rehearsal.ended ≡ true)
+  -- and only where it was allowed as many as it takes at least
+  pub stopped : IfOk result (λ rehearsal. rehearsal.ended ≡ true
+      → CanEnd request image (first_allowance stops) old.chip)
+  -- the vault is sealed as the first allowance lets it
+  pub seal : IfOk result (λ rehearsal. SealFits request (first_allowance stops) old.chip rehearsal.sealed)
+  -- restores are run under the later stops, until one ends
+  pub restores : IfOk result (λ rehearsal. rehearsal.sealed ≡ true
+      → AreRestores (sector_count (is_touched_by request image old.chip)) (drop 1 stops) rehearsal.restores)
+  -- and the last of them was allowed no more than its stop
+  pub last : IfOk result (λ rehearsal. rehearsal.sealed ≡ true
+      → FitsLastStop (sector_count (is_touched_by request image old.chip)) (drop 1 stops) new.left rehearsal.restores)

@@ -17,9 +17,9 @@ use Rattle.nor_save.specs.Saving.{head_of}
 use Rattle.nor_save.specs.Keeping.{IsJournal, HoldsJournal}
 use Rattle.nor_session.specs.Modelled.{IsModelled, most_of}
 use Rattle.nor_session.specs.Verdict.{IsAccepted}
-use Rattle.nor_session.specs.Session.{wanted_of, HasWantedBits, Answers}
-use Rattle.nor_session.specs.Restore.{IsRestoreRefusal, CanGiveBack}
-use Rattle.nor_session.specs.Rehearsal.{KeepsNature, CanEnd, SealFits, AreRestores, FitsLastStop, LeavesRefused, WearsTouched, IsNoHalt, RehearsalTells}
+use Rattle.nor_session.specs.Session.{wanted_of, HasWantedBits, Answers, NamesIn, Names}
+use Rattle.nor_session.specs.Restore.{IsRestoreRefusal, NamesSaved, CanGiveBack}
+use Rattle.nor_session.specs.Rehearsal.{KeepsNature, CanEnd, SealFits, AreRestores, FitsLastStop, LeavesRefused, IsNoHalt, RehearsalTells}
 
 -- ---- the session
 
@@ -41,7 +41,7 @@ pub record LeavesSession (request : Request) (image : List ℕ) (old new : BusSt
   pub same : IsModelled old → IsCalm old → vault.sealed ≡ false → IsSame old.chip new.chip
   pub back : IsModelled old → vault.sealed ≡ true → LeadsBack (is_touched_by request image old.chip) old.chip vault.bytes new
   pub accepted : IsModelled old → vault.sealed ≡ true → IsAccepted request image old.chip
-  pub wears : WearsTouched request image old new
+  pub wears : IsModelled old → (s : ℕ) → is_touched_by request image old.chip s ≡ false → new.worn s ≡ old.worn s
   pub holds : HoldsJournal vault
 
 -- It was allowed so many transactions, and ended, and the chip is the wanted one; or it was stopped, where none is left,
@@ -58,6 +58,7 @@ pub record ShowsSession (request : Request) (image : List ℕ) (allowance : ℕ)
 -- It was refused as sessions are: by the verdict, or by a vault that failed; on an honest bus not by a stop.
 pub record RefusesSession (request : Request) (image : List ℕ) (old new : BusState) (before after : VaultState) (refusal : Refusal) : Type 0 where
   pub answers : Answers before after refusal
+  pub names : Names after refusal
   pub halts : old.honest ≡ true → IsNoHalt refusal
   pub tells : IsModelled old → RehearsalTells request image old.chip before after refusal
   pub leaves : IsModelled old → LeavesRefused old new after
@@ -92,6 +93,7 @@ pub record ShowsRestores (journal : Content) (stops : List ℕ) (old new : BusSt
 -- by a stop, since a journal has no more sectors than the largest chip.
 pub record StopsRestores (journal : Content) (old : BusState) (refusal : Refusal) : Type 0 where
   pub answers : IsRestoreRefusal refusal
+  pub names : NamesSaved journal refusal
   pub halts : length journal.saved ≤ 4096 → old.honest ≡ true → IsNoHalt refusal
   pub never : IsModelled old → (first : Chip) → CanGiveBack journal first old → ⊥
 
@@ -115,5 +117,6 @@ WearsSaved text old new = IsModelled old → (saved : ℕ → Bool) (first : Chi
 -- text leads back.
 pub record RefusesUndo (text : List ℕ) (old : BusState) (refusal : Refusal) : Type 0 where
   pub answers : IsJournal text → IsRestoreRefusal refusal
+  pub names : NamesIn text refusal
   pub halts : old.honest ≡ true → IsNoHalt refusal
   pub never : IsModelled old → (saved : ℕ → Bool) (first : Chip) → LeadsBack saved first text old → ⊥

@@ -16,6 +16,7 @@ use Rattle.nor_probe.specs.Found.{IsConfigOf, part_in}
 use Rattle.nor_apply.specs.Counts.{sector_count}
 use Rattle.nor_apply.specs.Content.{is_touched, is_raised, once_erased, is_programmed}
 use Rattle.nor_apply.specs.Within.{IsWithin}
+use Rattle.nor_apply.specs.Spending.{Spends}
 use Rattle.nor_save.specs.declared.report.Report.{Report}
 use Rattle.nor_save.specs.declared.refusal.Refusal.{Refusal}
 use Rattle.nor_save.specs.declared.refusal.Refusal.TheVariants.{NoChip, UnknownChip, StatusLocked, Stopped, Timeout, Mismatch, OtherChip, OtherUnit, StatusDiffers}
@@ -110,10 +111,11 @@ IsRestoreRefusal (Timeout address) = Unit {0}
 IsRestoreRefusal (Mismatch address) = Unit {0}
 IsRestoreRefusal refusal = IsJudgedFirst refusal
 
--- until it is judged a restore only looks, as far as the opening and the scan of the largest chip
-abbrev pub LooksUnlessBegun : BusState → BusState → Result Report Refusal → Type 0
-LooksUnlessBegun old new result =
-    IfErr result (λ refusal. IsJudgedFirst refusal → Looks (most_looked 4096) old new)
+-- a timeout names 0 or an address in a saved sector, and a mismatch an address in one
+abbrev pub NamesSaved : Content → Refusal → Type 0
+NamesSaved journal (Timeout address) = (address ≡ 0) ⊎ (is_saved journal (address / 4096) ≡ true)
+NamesSaved journal (Mismatch address) = is_saved journal (address / 4096) ≡ true
+NamesSaved journal _ = Unit {0}
 
 -- ---- on an honest bus
 
@@ -124,18 +126,12 @@ RestoreGivesUp journal old new Stopped = RanOut (most_of (length journal.saved))
 RestoreGivesUp journal old new (Timeout address) = ⊥
 RestoreGivesUp journal old new refusal = IsJudgedFirst refusal → IsSame old.chip new.chip
 
-abbrev pub StaysUnlessBegun : Content → BusState → BusState → Result Report Refusal → Type 0
-StaysUnlessBegun journal old new result = old.honest ≡ true → IfErr result (RestoreGivesUp journal old new)
-
 -- ---- on an honest bus whose chip is what it shows itself to be
 
 -- The answer is the verdict; or the bus stopped where fewer transactions were left than the bound.
 abbrev pub RestoreTells : Content → BusState → BusState → Refusal → Type 0
 RestoreTells journal old new Stopped = RanOut (most_of (length journal.saved)) old new
 RestoreTells journal old new refusal = IsRestoreVerdict journal old.chip refusal
-
-abbrev pub RefusesRestore : Content → BusState → BusState → Result Report Refusal → Type 0
-RefusesRestore journal old new result = IsModelled old → IfErr result (RestoreTells journal old new)
 
 -- At every exit, whatever the journal: outside the saved sectors bytes are as they were, the fixed bits are, and only
 -- sectors with a bit that had to rise were erased.
@@ -170,14 +166,6 @@ pub record IsRestored (journal : Content) (old new : BusState) (report : Report)
   pub programs : report.programs ≡ pages_from journal old.chip
   pub still : report.touched ≡ 0 → (¬ NeedsStatusFrom journal old.chip) → new.stirred ≡ old.stirred
 
-abbrev pub Restores : Content → BusState → BusState → Result Report Refusal → Type 0
-Restores journal old new result = IsModelled old → IfOk result (IsRestored journal old new)
-
--- where no status write is needed, the report has no room for one
-abbrev pub SparesStatusFrom : Content → BusState → Result Report Refusal → Type 0
-SparesStatusFrom journal old result =
-    IsModelled old → (¬ NeedsStatusFrom journal old.chip) → IfOk result (IsWithinBound (length journal.saved) 0 true)
-
 -- ---- giving a chip back
 
 -- The journal saves this chip.
@@ -198,17 +186,41 @@ pub record CanGiveBack (journal : Content) (first : Chip) (state : BusState) : T
   pub saves : SavesChip journal first
   pub within : IsWithin (open_places journal first) first state
 
--- At every exit the bus's chip can still be made each first one that it could be made before.
-abbrev pub KeepsGivingBack : Content → BusState → BusState → Type 0
-KeepsGivingBack journal old new =
-    IsModelled old → (first : Chip) → CanGiveBack journal first old → CanGiveBack journal first new
+-- ---- the promises of a restore
 
--- a restore that ends has made it that one
-abbrev pub GivesBack : Content → BusState → BusState → Result Report Refusal → Type 0
-GivesBack journal old new result =
-    IsModelled old → (first : Chip) → CanGiveBack journal first old → OnOk result (IsSame first new.chip)
+-- On every bus.
+pub record RestoreAlways (journal : Content) (old new : BusState) (result : Result Report Refusal) : Type 0 where
+  -- at every exit no more was sent than a restore of so many sectors takes
+  pub spends : Spends (most_of (length journal.saved)) old new
+  -- a refusal is one that a restore gives
+  pub answers : IfErr result IsRestoreRefusal
+  -- and names an address that the restore was at
+  pub names : IfErr result (NamesSaved journal)
+  -- until it is judged it only looks, as far as the opening and the scan of the largest chip
+  pub looks : IfErr result (λ refusal. IsJudgedFirst refusal → Looks (most_looked 4096) old new)
+  -- at the end the report is within its bound
+  pub bounded : IfOk result (IsWithinBound (length journal.saved) 2 true)
 
--- and nothing else than a stop keeps it from ending
-abbrev pub EndsUnlessStopped : Content → BusState → Result Report Refusal → Type 0
-EndsUnlessStopped journal old result =
-    IsModelled old → (first : Chip) → CanGiveBack journal first old → IfErr result (λ refusal. refusal ≡ Stopped)
+-- On an honest bus.
+pub record RestoreHonest (journal : Content) (old new : BusState) (result : Result Report Refusal) : Type 0 where
+  -- a refusal isn't a timeout, and a stop comes only where no transaction is left
+  pub gives_up : IfErr result (RestoreGivesUp journal old new)
+  -- the report's transactions are those that were sent
+  pub counted : IfOk result (λ report. old.left ≡ new.left + report.transactions)
+
+-- On an honest bus whose chip is what it shows itself to be.
+pub record RestoreModelled (journal : Content) (old new : BusState) (result : Result Report Refusal) : Type 0 where
+  -- a refusal is the verdict, or has its own cause
+  pub tells : IfErr result (RestoreTells journal old new)
+  -- at every exit only saved sectors and the protection code may have changed
+  pub leaves : LeavesRestore journal old new
+  -- at the end the chip is what the journal wants
+  pub done : IfOk result (IsRestored journal old new)
+  -- where no status write is needed, the report has no room for one
+  pub spares : (¬ NeedsStatusFrom journal old.chip) → IfOk result (IsWithinBound (length journal.saved) 0 true)
+  -- at every exit the bus's chip can still be made each first one that it could be made before
+  pub within : (first : Chip) → CanGiveBack journal first old → CanGiveBack journal first new
+  -- a restore that ends has made it that one
+  pub back : (first : Chip) → CanGiveBack journal first old → OnOk result (IsSame first new.chip)
+  -- and nothing else than a stop keeps it from ending
+  pub only_stops : (first : Chip) → CanGiveBack journal first old → IfErr result (λ refusal. refusal ≡ Stopped)

@@ -2,12 +2,10 @@
 ghost use Rattle.std.specs.Prelude.{◌≡◌, ◌≤◌, true, length, drop, IfOk, IfErr};
 ghost use Rattle.nor_journal.specs.Vault.{IsFresh};
 ghost use Rattle.nor_journal.specs.MemVault.{held_by};
-ghost use Rattle.nor_session.specs.Modelled.{most_of};
+ghost use Rattle.nor_session.specs.Modelled.{IsModelled, most_of};
 ghost use Rattle.nor_session.specs.Rehearsing.{LeavesSession, ShowsSession, RefusesSession, LeavesRestores, ShowsRestore, ShowsRestores};
 ghost use Rattle.nor_session.specs.Rehearsing.{Undoes, WearsSaved, StopsRestores, RefusesUndo};
-ghost use Rattle.nor_session.specs.Rehearsal.{KeepsNature, IsRehearsal, IsRehearsalRefusal, NeverHalts, first_allowance};
-ghost use Rattle.nor_session.specs.Rehearsal.{GivesAllBack, WearsTouched, StaysRefused, RefusesRehearsal, SealsAccepted, SealsJournal};
-ghost use Rattle.nor_session.specs.Rehearsal.{EndsWhereAllowed, EndsWhereEnough, SealsAsAllowed, RestoresInTurn, KeepsLastStop};
+ghost use Rattle.nor_session.specs.Rehearsal.{KeepsNature, RehearsalAlways, RehearsalModelled, IsNoHalt, first_allowance};
 
 use crate::restores::restore;
 use crate::sessions::session;
@@ -38,27 +36,10 @@ pub fn rehearse<B: Meter>(
 ) -> Result<Rehearsal, Refusal>
     requires few { length stops.now ≤ 64 }
     requires fresh { IsFresh (held_by vault.old) }
-
-    // On every bus.
-    ensures nature { KeepsNature (B.state bus.old) (B.state bus.new) }
-    ensures counts { IfOk result (IsRehearsal (length stops.now) (held_by vault.new)) }
-    ensures answers { IfErr result (IsRehearsalRefusal (held_by vault.old) (held_by vault.new)) }
-
-    // On an honest bus.
-    ensures halts { NeverHalts (B.state bus.old) result }
-
-    // On an honest bus whose chip is what it shows itself to be.
-    ensures gives_back { GivesAllBack (B.state bus.old) (B.state bus.new) }
-    ensures wears { WearsTouched request.now image.old (B.state bus.old) (B.state bus.new) }
-    ensures refuses { StaysRefused (B.state bus.old) (B.state bus.new) (held_by vault.new) result }
-    ensures tells { RefusesRehearsal request.now image.old (B.state bus.old) (held_by vault.old) (held_by vault.new) result }
-    ensures accepts { SealsAccepted request.now image.old (B.state bus.old) (held_by vault.new) }
-    ensures saves { SealsJournal request.now image.old (B.state bus.old) (held_by vault.new) }
-    ensures ended { EndsWhereAllowed stops.now (B.state bus.old) result }
-    ensures stopped { EndsWhereEnough request.now image.old stops.now (B.state bus.old) result }
-    ensures seal { SealsAsAllowed request.now stops.now (B.state bus.old) result }
-    ensures restores { RestoresInTurn request.now image.old stops.now (B.state bus.old) result }
-    ensures last { KeepsLastStop request.now image.old stops.now (B.state bus.old) (B.state bus.new) result }
+    ensures always { RehearsalAlways stops.now (B.state bus.old) (B.state bus.new) (held_by vault.old) (held_by vault.new) result }
+    ensures honest { (B.state bus.old).honest ≡ true → IfErr result IsNoHalt }
+    ensures modelled { IsModelled (B.state bus.old) → RehearsalModelled request.now image.old stops.now
+        (B.state bus.old) (B.state bus.new) (held_by vault.old) (held_by vault.new) result }
 {
     let ended = stopped_session(bus, vault, image, request, stops)?;
     if !vault.is_sealed() {

@@ -1,10 +1,7 @@
 //! A restore: the chip is made again what a journal says.
-ghost use Rattle.std.specs.Prelude.{true, length, IfOk, IfErr};
-ghost use Rattle.nor_apply.specs.Spending.{Spends};
-ghost use Rattle.nor_session.specs.Modelled.{IsModelled, most_of};
-ghost use Rattle.nor_session.specs.Session.{IsWithinBound, SentAsTold};
-ghost use Rattle.nor_session.specs.Restore.{IsRestoreRefusal, LooksUnlessBegun, StaysUnlessBegun, RefusesRestore, LeavesRestore, Restores};
-ghost use Rattle.nor_session.specs.Restore.{SparesStatusFrom, KeepsGivingBack, GivesBack, EndsUnlessStopped};
+ghost use Rattle.std.specs.Prelude.{◌≡◌, true};
+ghost use Rattle.nor_session.specs.Modelled.{IsModelled};
+ghost use Rattle.nor_session.specs.Restore.{RestoreAlways, RestoreHonest, RestoreModelled};
 
 use crate::preparing::prepare;
 use crate::sources::Saved;
@@ -17,26 +14,9 @@ use nor_save::{Refusal, Report};
 ///
 /// A journal of format 1 fits any chip of its ID and size; one of format 2 its own unit alone.
 pub fn restore<B: Bus>(bus: &mut B, journal: &Journal<'_>) -> Result<Report, Refusal>
-    // On every bus.
-    ensures spends { Spends (most_of (length journal.now.saved)) (B.state bus.old) (B.state bus.new) }
-    ensures answers { IfErr result IsRestoreRefusal }
-    ensures looks { LooksUnlessBegun (B.state bus.old) (B.state bus.new) result }
-    ensures bounded { IfOk result (IsWithinBound (length journal.now.saved) 2 true) }
-
-    // On an honest bus.
-    ensures gives_up { StaysUnlessBegun journal.now (B.state bus.old) (B.state bus.new) result }
-    ensures counted { SentAsTold (B.state bus.old) (B.state bus.new) result }
-
-    // On an honest bus whose chip is what it shows itself to be.
-    ensures tells { RefusesRestore journal.now (B.state bus.old) (B.state bus.new) result }
-    ensures leaves { IsModelled (B.state bus.old) → LeavesRestore journal.now (B.state bus.old) (B.state bus.new) }
-    ensures done { Restores journal.now (B.state bus.old) (B.state bus.new) result }
-    ensures spares { SparesStatusFrom journal.now (B.state bus.old) result }
-
-    // And for each chip that the journal saves and that the bus's chip is within.
-    ensures within { KeepsGivingBack journal.now (B.state bus.old) (B.state bus.new) }
-    ensures back { GivesBack journal.now (B.state bus.old) (B.state bus.new) result }
-    ensures only_stops { EndsUnlessStopped journal.now (B.state bus.old) result }
+    ensures always { RestoreAlways journal.now (B.state bus.old) (B.state bus.new) result }
+    ensures honest { (B.state bus.old).honest ≡ true → RestoreHonest journal.now (B.state bus.old) (B.state bus.new) result }
+    ensures modelled { IsModelled (B.state bus.old) → RestoreModelled journal.now (B.state bus.old) (B.state bus.new) result }
 {
     let prepared = prepare(bus, journal)?;
     let kept = Kept {

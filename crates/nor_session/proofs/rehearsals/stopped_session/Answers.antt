@@ -6,19 +6,23 @@ use Rattle.nor_session.proofs.rehearsals.stopped_session.Goals.{then-is_stopped+
 
 pub returns-in-Ok-clause-leaves : goal.returns-in-Ok-clause-leaves
 returns-in-Ok-clause-leaves g c =
-    session_leaves _ _ _ _ _ _ _ _ _ c.allow.ensures refl (g.met.B.Bus.reaches c.allow.new.self) c.session.ensures.spends c.session.ensures.looks c.session.ensures.undo c.session.ensures.holds
+    session_leaves _ _ _ _ _ _ _ _ _ c.allow.ensures refl (g.met.B.Bus.reaches c.allow.new.self) c.session.ensures.always.spends c.session.ensures.always.looks
+    (λ modelled. (c.session.ensures.modelled modelled).undo) c.session.ensures.always.holds
 
 pub returns-in-Err-clause-leaves : goal.returns-in-Err-clause-leaves
 returns-in-Err-clause-leaves g c =
-    session_leaves _ _ _ _ _ _ _ _ _ c.allow.ensures refl (g.met.B.Bus.reaches c.allow.new.self) c.session.ensures.spends c.session.ensures.looks c.session.ensures.undo c.session.ensures.holds
+    session_leaves _ _ _ _ _ _ _ _ _ c.allow.ensures refl (g.met.B.Bus.reaches c.allow.new.self) c.session.ensures.always.spends c.session.ensures.always.looks
+    (λ modelled. (c.session.ensures.modelled modelled).undo) c.session.ensures.always.holds
 
 pub returns-in-Err-2-clause-leaves : goal.returns-in-Err-2-clause-leaves
 returns-in-Err-2-clause-leaves g c =
-    session_leaves _ _ _ _ _ _ _ _ _ c.allow.ensures refl (g.met.B.Bus.reaches c.allow.new.self) c.session.ensures.spends c.session.ensures.looks c.session.ensures.undo c.session.ensures.holds
+    session_leaves _ _ _ _ _ _ _ _ _ c.allow.ensures refl (g.met.B.Bus.reaches c.allow.new.self) c.session.ensures.always.spends c.session.ensures.always.looks
+    (λ modelled. (c.session.ensures.modelled modelled).undo) c.session.ensures.always.holds
 
 pub returns-in-Err-2-clause-refuses : goal.returns-in-Err-2-clause-refuses
 returns-in-Err-2-clause-refuses g c =
-    session_refuses _ _ _ _ _ _ _ _ _ c.in-Err.refusal c.allow.ensures c.in-Err.ensures.answers c.session.ensures.looks c.in-Err.ensures.gives_up c.in-Err.ensures.tells
+    session_refuses _ _ _ _ _ _ _ _ _ c.in-Err.refusal c.allow.ensures c.in-Err.ensures.always.answers c.in-Err.ensures.always.names c.session.ensures.always.looks
+    (λ honest. (c.in-Err.ensures.honest honest).gives_up) (λ modelled. (c.in-Err.ensures.modelled modelled).tells)
     (λ stopped. elim c.if-is_stopped.branch [
       | then-is_stopped+else-not-is_empty w ↦
           let none : length c.args.stops.now ≡ 0 = search rules in

@@ -11,7 +11,7 @@ returns-in-Ok-clause-undoes g c =
 
 pub returns-in-Ok-clause-refuses : goal.returns-in-Ok-clause-refuses
 returns-in-Ok-clause-refuses g c =
-    IfErr-weaker c.restore_in_turn.result _ _ (λ refusal refuses. undo_refuses _ _ c.in-Ok.journal refusal c.in-Ok.ensures.found.0 c.in-Ok.ensures.kept refuses) c.restore_in_turn.ensures.refuses
+    IfErr-weaker c.restore_in_turn.result _ _ (λ refusal refuses. undo_refuses _ _ c.in-Ok.journal refusal c.in-Ok.ensures.found.0 c.in-Ok.ensures.found.1 c.in-Ok.ensures.kept refuses) c.restore_in_turn.ensures.refuses
 
 pub returns-in-Err-clause-refuses : goal.returns-in-Err-clause-refuses
 returns-in-Err-clause-refuses g c = unread _ _ _ c.in-Err.ensures.only

@@ -1,147 +1,163 @@
-use Rattle.std.proofs.Common.{◌+◌, length, rules, arith}
-use Rattle.std.proofs.lemmas.Grind.{common_steps}
+use Rattle.std.proofs.Common.{◌+◌, ◌≡◌, length, rules, arith}
+use Rattle.nor_save.proofs.Begun.{err_same}
+use Rattle.nor_save.specs.declared.refusal.Refusal.TheVariants.{Stopped}
 use Rattle.nor_session.specs.Modelled.{most_looked, most_of}
+use Rattle.nor_session.specs.Restore.{IsRestoreRefusal, IsJudgedFirst, NamesSaved, RestoreGivesUp, RestoreTells}
 use Rattle.nor_session.proofs.Restoring.{AreChanged, looks_most, looks_spend, prepare_answers, prepare_gives_up, prepare_tells, looks_leave, looks_back, changed_spends, changed_leaves, changed_back, change_answers, change_not_judged, change_gives_up, change_tells, sum_fits, restored_bounded, restored_counted, restored_sparing, restored_done, restored_back}
 use Rattle.nor_session.proofs.GivenBack.{only_stopped}
+use Rattle.nor_session.proofs.Naming.{prepare_names, restore_names}
 use Rattle.nor_session.proofs.restores.restore.Goals as goal
 
-pub returns-in_err-prepared-clause-spends : goal.returns-in_err-prepared-clause-spends
-returns-in_err-prepared-clause-spends g c =
-    looks_spend (65542 + length c.args.journal.now.saved) (most_of (length c.args.journal.now.saved)) (g.B.Bus.state c.args.bus.now) (g.B.Bus.state c.prepare.new.bus) (omega arith) c.prepare.ensures.leaves
+-- ---- it was judged, or stopped before that
 
-pub returns-in_err-prepared-clause-answers : goal.returns-in_err-prepared-clause-answers
-returns-in_err-prepared-clause-answers g c =
-    let told = prepare_answers c.args.journal.now (65542 + length c.args.journal.now.saved) (g.B.Bus.state c.args.bus.now) (g.B.Bus.state c.prepare.new.bus) c.in_err-prepared.field-0.0 c.in_err-prepared.ensures.tells in
-    grind (arith, common_steps, told)
-
-pub returns-in_err-prepared-clause-looks : goal.returns-in_err-prepared-clause-looks
-returns-in_err-prepared-clause-looks g c =
+pub returns-in_err-prepared-clause-always : goal.returns-in_err-prepared-clause-always
+returns-in_err-prepared-clause-always g c =
+    let journal = c.args.journal.now in let most = 65542 + length journal.saved in
+    let old = g.B.Bus.state c.args.bus.now in let new = g.B.Bus.state c.prepare.new.bus in
+    let refusal = c.in_err-prepared.field-0.0 in
     let room = c.prepare.ensures.room in
-    let looks = looks_most (65542 + length c.args.journal.now.saved) (most_looked 4096) (g.B.Bus.state c.args.bus.now) (g.B.Bus.state c.prepare.new.bus) (omega arith) c.prepare.ensures.leaves in
-    search rules
+    record {
+      spends = looks_spend most (most_of (length journal.saved)) old new (omega arith) c.prepare.ensures.leaves;
+      answers = err_same c.from_residual.result refusal IsRestoreRefusal c.from_residual.ensures.1
+          (prepare_answers journal most old new refusal c.in_err-prepared.ensures.tells);
+      names = err_same c.from_residual.result refusal (NamesSaved journal) c.from_residual.ensures.1
+          (prepare_names journal most old new refusal c.in_err-prepared.ensures.tells);
+      looks =
+          let looks = looks_most most (most_looked 4096) old new (omega arith) c.prepare.ensures.leaves in
+          search rules;
+      bounded = search rules;
+    }
 
-pub returns-in_err-prepared-clause-gives_up : goal.returns-in_err-prepared-clause-gives_up
-returns-in_err-prepared-clause-gives_up g c =
-    λ honest.
-    let told = prepare_gives_up c.args.journal.now (65542 + length c.args.journal.now.saved) (g.B.Bus.state c.args.bus.now) (g.B.Bus.state c.prepare.new.bus) c.in_err-prepared.field-0.0 (omega arith) honest c.in_err-prepared.ensures.tells in
-    grind (arith, common_steps, told)
+pub returns-in_err-prepared-clause-honest : goal.returns-in_err-prepared-clause-honest
+returns-in_err-prepared-clause-honest g c = λ honest.
+    let journal = c.args.journal.now in let most = 65542 + length journal.saved in
+    let old = g.B.Bus.state c.args.bus.now in let new = g.B.Bus.state c.prepare.new.bus in
+    let refusal = c.in_err-prepared.field-0.0 in
+    record {
+      gives_up = err_same c.from_residual.result refusal (RestoreGivesUp journal old new) c.from_residual.ensures.1
+          (prepare_gives_up journal most old new refusal (omega arith) honest c.in_err-prepared.ensures.tells);
+      counted = search rules;
+    }
 
-pub returns-in_err-prepared-clause-tells : goal.returns-in_err-prepared-clause-tells
-returns-in_err-prepared-clause-tells g c =
-    λ modelled.
-    let told = prepare_tells c.args.journal.now (65542 + length c.args.journal.now.saved) (g.B.Bus.state c.args.bus.now) (g.B.Bus.state c.prepare.new.bus) c.in_err-prepared.field-0.0 (omega arith) modelled c.in_err-prepared.ensures.tells in
-    grind (arith, common_steps, told)
+pub returns-in_err-prepared-clause-modelled : goal.returns-in_err-prepared-clause-modelled
+returns-in_err-prepared-clause-modelled g c = λ modelled.
+    let journal = c.args.journal.now in let most = 65542 + length journal.saved in
+    let old = g.B.Bus.state c.args.bus.now in let new = g.B.Bus.state c.prepare.new.bus in
+    let refusal = c.in_err-prepared.field-0.0 in
+    let told = prepare_tells journal most old new refusal (omega arith) modelled c.in_err-prepared.ensures.tells in
+    record {
+      tells = err_same c.from_residual.result refusal (RestoreTells journal old new) c.from_residual.ensures.1 told;
+      leaves = looks_leave journal most old new (c.prepare.ensures.leaves.looked modelled.honest);
+      done = search rules;
+      spares = search rules;
+      within = λ first can. looks_back journal first most old new modelled.honest c.prepare.ensures.leaves can;
+      back = search rules;
+      only_stops = λ first can. err_same c.from_residual.result refusal (λ refusal. refusal ≡ Stopped) c.from_residual.ensures.1
+          (only_stopped journal first old new refusal can told);
+    }
 
-pub returns-in_err-prepared-clause-leaves : goal.returns-in_err-prepared-clause-leaves
-returns-in_err-prepared-clause-leaves g c =
-    λ modelled. looks_leave c.args.journal.now (65542 + length c.args.journal.now.saved) (g.B.Bus.state c.args.bus.now) (g.B.Bus.state c.prepare.new.bus) (c.prepare.ensures.leaves.looked modelled.honest)
+-- ---- the changes weren't finished
 
-pub returns-in_err-prepared-clause-within : goal.returns-in_err-prepared-clause-within
-returns-in_err-prepared-clause-within g c =
-    λ modelled first can. looks_back c.args.journal.now first (65542 + length c.args.journal.now.saved) (g.B.Bus.state c.args.bus.now) (g.B.Bus.state c.prepare.new.bus) modelled.honest c.prepare.ensures.leaves can
+pub returns-in_err-work-clause-always : goal.returns-in_err-work-clause-always
+returns-in_err-work-clause-always g c =
+    let journal = c.args.journal.now in let prepared = c.in_ok-prepared.prepared in
+    let old = g.B.Bus.state c.args.bus.now in let mid = g.B.Bus.state c.prepare.new.bus in let new = g.B.Bus.state c.finish.new.self.0 in
+    let refusal = c.in_err-work.field-0.0 in
+    let are : AreChanged journal prepared old mid new
+    = record { room = c.prepare.ensures.room; looks = c.prepare.ensures.leaves; is = c.in_ok-prepared.ensures.prepares; leaves = c.finish.ensures.leaves } in
+    record {
+      spends = changed_spends journal prepared old mid new are;
+      answers = err_same c.from_residual-in_err-work.result refusal IsRestoreRefusal c.from_residual-in_err-work.ensures.1
+          (change_answers prepared.changes _ mid new refusal c.in_err-work.ensures.tells);
+      names = err_same c.from_residual-in_err-work.result refusal (NamesSaved journal) c.from_residual-in_err-work.ensures.1
+          (restore_names journal prepared.changes refusal are.is.saved c.in_err-work.ensures.names);
+      looks =
+          let told = change_not_judged prepared.changes _ mid new refusal c.in_err-work.ensures.tells in
+          search rules;
+      bounded = search rules;
+    }
 
-pub returns-in_err-prepared-clause-only_stops : goal.returns-in_err-prepared-clause-only_stops
-returns-in_err-prepared-clause-only_stops g c =
-    λ modelled first can.
-    let told = only_stopped c.args.journal.now first (g.B.Bus.state c.args.bus.now) (g.B.Bus.state c.prepare.new.bus) c.in_err-prepared.field-0.0 can (prepare_tells c.args.journal.now (65542 + length c.args.journal.now.saved) (g.B.Bus.state c.args.bus.now) (g.B.Bus.state c.prepare.new.bus) c.in_err-prepared.field-0.0 (omega arith) modelled c.in_err-prepared.ensures.tells) in
-    grind (arith, common_steps, told)
+pub returns-in_err-work-clause-honest : goal.returns-in_err-work-clause-honest
+returns-in_err-work-clause-honest g c = λ honest.
+    let journal = c.args.journal.now in let prepared = c.in_ok-prepared.prepared in
+    let old = g.B.Bus.state c.args.bus.now in let mid = g.B.Bus.state c.prepare.new.bus in let new = g.B.Bus.state c.finish.new.self.0 in
+    let refusal = c.in_err-work.field-0.0 in
+    let are : AreChanged journal prepared old mid new
+    = record { room = c.prepare.ensures.room; looks = c.prepare.ensures.leaves; is = c.in_ok-prepared.ensures.prepares; leaves = c.finish.ensures.leaves } in
+    record {
+      gives_up = err_same c.from_residual-in_err-work.result refusal (RestoreGivesUp journal old new) c.from_residual-in_err-work.ensures.1
+          (change_gives_up journal prepared old mid new refusal are honest c.in_err-work.ensures.tells);
+      counted = search rules;
+    }
 
-pub returns-in_err-work-clause-spends : goal.returns-in_err-work-clause-spends
-returns-in_err-work-clause-spends g c =
-    let are : AreChanged c.args.journal.now c.in_ok-prepared.prepared (g.B.Bus.state c.args.bus.now) (g.B.Bus.state c.prepare.new.bus) (g.B.Bus.state c.finish.new.self.0) = record { room = c.prepare.ensures.room; looks = c.prepare.ensures.leaves; is = c.in_ok-prepared.ensures.prepares; leaves = c.finish.ensures.leaves } in
-    changed_spends c.args.journal.now c.in_ok-prepared.prepared (g.B.Bus.state c.args.bus.now) (g.B.Bus.state c.prepare.new.bus) (g.B.Bus.state c.finish.new.self.0) are
+pub returns-in_err-work-clause-modelled : goal.returns-in_err-work-clause-modelled
+returns-in_err-work-clause-modelled g c = λ modelled.
+    let journal = c.args.journal.now in let prepared = c.in_ok-prepared.prepared in
+    let old = g.B.Bus.state c.args.bus.now in let mid = g.B.Bus.state c.prepare.new.bus in let new = g.B.Bus.state c.finish.new.self.0 in
+    let refusal = c.in_err-work.field-0.0 in
+    let are : AreChanged journal prepared old mid new
+    = record { room = c.prepare.ensures.room; looks = c.prepare.ensures.leaves; is = c.in_ok-prepared.ensures.prepares; leaves = c.finish.ensures.leaves } in
+    let told = change_tells journal prepared old mid new refusal are modelled c.in_err-work.ensures.tells in
+    record {
+      tells = err_same c.from_residual-in_err-work.result refusal (RestoreTells journal old new) c.from_residual-in_err-work.ensures.1 told;
+      leaves = changed_leaves journal prepared old mid new are modelled;
+      done = search rules;
+      spares = search rules;
+      within = λ first can. changed_back journal first prepared old mid new are modelled can;
+      back = search rules;
+      only_stops = λ first can. err_same c.from_residual-in_err-work.result refusal (λ refusal. refusal ≡ Stopped) c.from_residual-in_err-work.ensures.1
+          (only_stopped journal first old new refusal can told);
+    }
 
-pub returns-in_err-work-clause-answers : goal.returns-in_err-work-clause-answers
-returns-in_err-work-clause-answers g c =
-    let told = change_answers c.in_ok-prepared.prepared.changes _ (g.B.Bus.state c.prepare.new.bus) (g.B.Bus.state c.finish.new.self.0) c.in_err-work.field-0.0 c.in_err-work.ensures.tells in
-    grind (arith, common_steps, told)
-
-pub returns-in_err-work-clause-looks : goal.returns-in_err-work-clause-looks
-returns-in_err-work-clause-looks g c =
-    let told = change_not_judged c.in_ok-prepared.prepared.changes _ (g.B.Bus.state c.prepare.new.bus) (g.B.Bus.state c.finish.new.self.0) c.in_err-work.field-0.0 c.in_err-work.ensures.tells in
-    search rules
-
-pub returns-in_err-work-clause-gives_up : goal.returns-in_err-work-clause-gives_up
-returns-in_err-work-clause-gives_up g c =
-    λ honest.
-    let are : AreChanged c.args.journal.now c.in_ok-prepared.prepared (g.B.Bus.state c.args.bus.now) (g.B.Bus.state c.prepare.new.bus) (g.B.Bus.state c.finish.new.self.0) = record { room = c.prepare.ensures.room; looks = c.prepare.ensures.leaves; is = c.in_ok-prepared.ensures.prepares; leaves = c.finish.ensures.leaves } in
-    let told = change_gives_up c.args.journal.now c.in_ok-prepared.prepared (g.B.Bus.state c.args.bus.now) (g.B.Bus.state c.prepare.new.bus) (g.B.Bus.state c.finish.new.self.0) c.in_err-work.field-0.0 are honest c.in_err-work.ensures.tells in
-    grind (arith, common_steps, told)
-
-pub returns-in_err-work-clause-tells : goal.returns-in_err-work-clause-tells
-returns-in_err-work-clause-tells g c =
-    λ modelled.
-    let are : AreChanged c.args.journal.now c.in_ok-prepared.prepared (g.B.Bus.state c.args.bus.now) (g.B.Bus.state c.prepare.new.bus) (g.B.Bus.state c.finish.new.self.0) = record { room = c.prepare.ensures.room; looks = c.prepare.ensures.leaves; is = c.in_ok-prepared.ensures.prepares; leaves = c.finish.ensures.leaves } in
-    let told = change_tells c.args.journal.now c.in_ok-prepared.prepared (g.B.Bus.state c.args.bus.now) (g.B.Bus.state c.prepare.new.bus) (g.B.Bus.state c.finish.new.self.0) c.in_err-work.field-0.0 are modelled c.in_err-work.ensures.tells in
-    grind (arith, common_steps, told)
-
-pub returns-in_err-work-clause-leaves : goal.returns-in_err-work-clause-leaves
-returns-in_err-work-clause-leaves g c =
-    λ modelled.
-    let are : AreChanged c.args.journal.now c.in_ok-prepared.prepared (g.B.Bus.state c.args.bus.now) (g.B.Bus.state c.prepare.new.bus) (g.B.Bus.state c.finish.new.self.0) = record { room = c.prepare.ensures.room; looks = c.prepare.ensures.leaves; is = c.in_ok-prepared.ensures.prepares; leaves = c.finish.ensures.leaves } in
-    changed_leaves c.args.journal.now c.in_ok-prepared.prepared (g.B.Bus.state c.args.bus.now) (g.B.Bus.state c.prepare.new.bus) (g.B.Bus.state c.finish.new.self.0) are modelled
-
-pub returns-in_err-work-clause-within : goal.returns-in_err-work-clause-within
-returns-in_err-work-clause-within g c =
-    λ modelled first can.
-    let are : AreChanged c.args.journal.now c.in_ok-prepared.prepared (g.B.Bus.state c.args.bus.now) (g.B.Bus.state c.prepare.new.bus) (g.B.Bus.state c.finish.new.self.0) = record { room = c.prepare.ensures.room; looks = c.prepare.ensures.leaves; is = c.in_ok-prepared.ensures.prepares; leaves = c.finish.ensures.leaves } in
-    changed_back c.args.journal.now first c.in_ok-prepared.prepared (g.B.Bus.state c.args.bus.now) (g.B.Bus.state c.prepare.new.bus) (g.B.Bus.state c.finish.new.self.0) are modelled can
-
-pub returns-in_err-work-clause-only_stops : goal.returns-in_err-work-clause-only_stops
-returns-in_err-work-clause-only_stops g c =
-    λ modelled first can.
-    let are : AreChanged c.args.journal.now c.in_ok-prepared.prepared (g.B.Bus.state c.args.bus.now) (g.B.Bus.state c.prepare.new.bus) (g.B.Bus.state c.finish.new.self.0) = record { room = c.prepare.ensures.room; looks = c.prepare.ensures.leaves; is = c.in_ok-prepared.ensures.prepares; leaves = c.finish.ensures.leaves } in
-    let told = only_stopped c.args.journal.now first (g.B.Bus.state c.args.bus.now) (g.B.Bus.state c.finish.new.self.0) c.in_err-work.field-0.0 can (change_tells c.args.journal.now c.in_ok-prepared.prepared (g.B.Bus.state c.args.bus.now) (g.B.Bus.state c.prepare.new.bus) (g.B.Bus.state c.finish.new.self.0) c.in_err-work.field-0.0 are modelled c.in_err-work.ensures.tells) in
-    grind (arith, common_steps, told)
+-- ---- they were
 
 pub overflow_add-result : goal.overflow_add-result
 overflow_add-result g c =
-    let are : AreChanged c.args.journal.now c.in_ok-prepared.prepared (g.B.Bus.state c.args.bus.now) (g.B.Bus.state c.prepare.new.bus) (g.B.Bus.state c.finish.new.self.0) = record { room = c.prepare.ensures.room; looks = c.prepare.ensures.leaves; is = c.in_ok-prepared.ensures.prepares; leaves = c.finish.ensures.leaves } in
-    let fits = sum_fits c.args.journal.now c.in_ok-prepared.prepared (g.B.Bus.state c.args.bus.now) (g.B.Bus.state c.prepare.new.bus) (g.B.Bus.state c.finish.new.self.0) c.in_ok-work.work are c.in_ok-work.ensures.does in
+    let journal = c.args.journal.now in let prepared = c.in_ok-prepared.prepared in
+    let old = g.B.Bus.state c.args.bus.now in let mid = g.B.Bus.state c.prepare.new.bus in let new = g.B.Bus.state c.finish.new.self.0 in
+    let are : AreChanged journal prepared old mid new
+    = record { room = c.prepare.ensures.room; looks = c.prepare.ensures.leaves; is = c.in_ok-prepared.ensures.prepares; leaves = c.finish.ensures.leaves } in
+    let fits = sum_fits journal prepared old mid new c.in_ok-work.work are c.in_ok-work.ensures.does in
     omega (arith, fits)
 
-pub returns-clause-spends : goal.returns-clause-spends
-returns-clause-spends g c =
-    let are : AreChanged c.args.journal.now c.in_ok-prepared.prepared (g.B.Bus.state c.args.bus.now) (g.B.Bus.state c.prepare.new.bus) (g.B.Bus.state c.finish.new.self.0) = record { room = c.prepare.ensures.room; looks = c.prepare.ensures.leaves; is = c.in_ok-prepared.ensures.prepares; leaves = c.finish.ensures.leaves } in
-    changed_spends c.args.journal.now c.in_ok-prepared.prepared (g.B.Bus.state c.args.bus.now) (g.B.Bus.state c.prepare.new.bus) (g.B.Bus.state c.finish.new.self.0) are
+pub returns-clause-always : goal.returns-clause-always
+returns-clause-always g c =
+    let journal = c.args.journal.now in let prepared = c.in_ok-prepared.prepared in let work = c.in_ok-work.work in
+    let old = g.B.Bus.state c.args.bus.now in let mid = g.B.Bus.state c.prepare.new.bus in let new = g.B.Bus.state c.finish.new.self.0 in
+    let are : AreChanged journal prepared old mid new
+    = record { room = c.prepare.ensures.room; looks = c.prepare.ensures.leaves; is = c.in_ok-prepared.ensures.prepares; leaves = c.finish.ensures.leaves } in
+    record {
+      spends = changed_spends journal prepared old mid new are;
+      answers = search rules;
+      names = search rules;
+      looks = search rules;
+      bounded = restored_bounded journal prepared old mid new work (prepared.transactions + work.transactions) are c.in_ok-work.ensures.does (omega arith);
+    }
 
-pub returns-clause-bounded : goal.returns-clause-bounded
-returns-clause-bounded g c =
-    let are : AreChanged c.args.journal.now c.in_ok-prepared.prepared (g.B.Bus.state c.args.bus.now) (g.B.Bus.state c.prepare.new.bus) (g.B.Bus.state c.finish.new.self.0) = record { room = c.prepare.ensures.room; looks = c.prepare.ensures.leaves; is = c.in_ok-prepared.ensures.prepares; leaves = c.finish.ensures.leaves } in
-    restored_bounded c.args.journal.now c.in_ok-prepared.prepared (g.B.Bus.state c.args.bus.now) (g.B.Bus.state c.prepare.new.bus) (g.B.Bus.state c.finish.new.self.0) c.in_ok-work.work (c.in_ok-prepared.prepared.transactions + c.in_ok-work.work.transactions) are c.in_ok-work.ensures.does (omega arith)
+pub returns-clause-honest : goal.returns-clause-honest
+returns-clause-honest g c = λ honest.
+    let journal = c.args.journal.now in let prepared = c.in_ok-prepared.prepared in let work = c.in_ok-work.work in
+    let old = g.B.Bus.state c.args.bus.now in let mid = g.B.Bus.state c.prepare.new.bus in let new = g.B.Bus.state c.finish.new.self.0 in
+    let are : AreChanged journal prepared old mid new
+    = record { room = c.prepare.ensures.room; looks = c.prepare.ensures.leaves; is = c.in_ok-prepared.ensures.prepares; leaves = c.finish.ensures.leaves } in
+    record {
+      gives_up = search rules;
+      counted = restored_counted journal prepared old mid new work (prepared.transactions + work.transactions) are c.in_ok-work.ensures.does (omega arith) honest;
+    }
 
-pub returns-clause-counted : goal.returns-clause-counted
-returns-clause-counted g c =
-    λ honest.
-    let are : AreChanged c.args.journal.now c.in_ok-prepared.prepared (g.B.Bus.state c.args.bus.now) (g.B.Bus.state c.prepare.new.bus) (g.B.Bus.state c.finish.new.self.0) = record { room = c.prepare.ensures.room; looks = c.prepare.ensures.leaves; is = c.in_ok-prepared.ensures.prepares; leaves = c.finish.ensures.leaves } in
-    restored_counted c.args.journal.now c.in_ok-prepared.prepared (g.B.Bus.state c.args.bus.now) (g.B.Bus.state c.prepare.new.bus) (g.B.Bus.state c.finish.new.self.0) c.in_ok-work.work (c.in_ok-prepared.prepared.transactions + c.in_ok-work.work.transactions) are c.in_ok-work.ensures.does (omega arith) honest
-
-pub returns-clause-spares : goal.returns-clause-spares
-returns-clause-spares g c =
-    λ modelled none.
-    let are : AreChanged c.args.journal.now c.in_ok-prepared.prepared (g.B.Bus.state c.args.bus.now) (g.B.Bus.state c.prepare.new.bus) (g.B.Bus.state c.finish.new.self.0) = record { room = c.prepare.ensures.room; looks = c.prepare.ensures.leaves; is = c.in_ok-prepared.ensures.prepares; leaves = c.finish.ensures.leaves } in
-    restored_sparing c.args.journal.now c.in_ok-prepared.prepared (g.B.Bus.state c.args.bus.now) (g.B.Bus.state c.prepare.new.bus) (g.B.Bus.state c.finish.new.self.0) c.in_ok-work.work (c.in_ok-prepared.prepared.transactions + c.in_ok-work.work.transactions) are c.in_ok-work.ensures.does (omega arith) modelled none
-
-pub returns-clause-leaves : goal.returns-clause-leaves
-returns-clause-leaves g c =
-    λ modelled.
-    let are : AreChanged c.args.journal.now c.in_ok-prepared.prepared (g.B.Bus.state c.args.bus.now) (g.B.Bus.state c.prepare.new.bus) (g.B.Bus.state c.finish.new.self.0) = record { room = c.prepare.ensures.room; looks = c.prepare.ensures.leaves; is = c.in_ok-prepared.ensures.prepares; leaves = c.finish.ensures.leaves } in
-    changed_leaves c.args.journal.now c.in_ok-prepared.prepared (g.B.Bus.state c.args.bus.now) (g.B.Bus.state c.prepare.new.bus) (g.B.Bus.state c.finish.new.self.0) are modelled
-
-pub returns-clause-done : goal.returns-clause-done
-returns-clause-done g c =
-    λ modelled.
-    let are : AreChanged c.args.journal.now c.in_ok-prepared.prepared (g.B.Bus.state c.args.bus.now) (g.B.Bus.state c.prepare.new.bus) (g.B.Bus.state c.finish.new.self.0) = record { room = c.prepare.ensures.room; looks = c.prepare.ensures.leaves; is = c.in_ok-prepared.ensures.prepares; leaves = c.finish.ensures.leaves } in
-    restored_done c.args.journal.now c.in_ok-prepared.prepared (g.B.Bus.state c.args.bus.now) (g.B.Bus.state c.prepare.new.bus) (g.B.Bus.state c.finish.new.self.0) c.in_ok-work.work (c.in_ok-prepared.prepared.transactions + c.in_ok-work.work.transactions) are c.in_ok-work.ensures.does modelled
-
-pub returns-clause-within : goal.returns-clause-within
-returns-clause-within g c =
-    λ modelled first can.
-    let are : AreChanged c.args.journal.now c.in_ok-prepared.prepared (g.B.Bus.state c.args.bus.now) (g.B.Bus.state c.prepare.new.bus) (g.B.Bus.state c.finish.new.self.0) = record { room = c.prepare.ensures.room; looks = c.prepare.ensures.leaves; is = c.in_ok-prepared.ensures.prepares; leaves = c.finish.ensures.leaves } in
-    changed_back c.args.journal.now first c.in_ok-prepared.prepared (g.B.Bus.state c.args.bus.now) (g.B.Bus.state c.prepare.new.bus) (g.B.Bus.state c.finish.new.self.0) are modelled can
-
-pub returns-clause-back : goal.returns-clause-back
-returns-clause-back g c =
-    λ modelled first can.
-    let are : AreChanged c.args.journal.now c.in_ok-prepared.prepared (g.B.Bus.state c.args.bus.now) (g.B.Bus.state c.prepare.new.bus) (g.B.Bus.state c.finish.new.self.0) = record { room = c.prepare.ensures.room; looks = c.prepare.ensures.leaves; is = c.in_ok-prepared.ensures.prepares; leaves = c.finish.ensures.leaves } in
-    restored_back c.args.journal.now first (g.B.Bus.state c.args.bus.now) (g.B.Bus.state c.finish.new.self.0) _ can (restored_done c.args.journal.now c.in_ok-prepared.prepared (g.B.Bus.state c.args.bus.now) (g.B.Bus.state c.prepare.new.bus) (g.B.Bus.state c.finish.new.self.0) c.in_ok-work.work (c.in_ok-prepared.prepared.transactions + c.in_ok-work.work.transactions) are c.in_ok-work.ensures.does modelled)
+pub returns-clause-modelled : goal.returns-clause-modelled
+returns-clause-modelled g c = λ modelled.
+    let journal = c.args.journal.now in let prepared = c.in_ok-prepared.prepared in let work = c.in_ok-work.work in
+    let old = g.B.Bus.state c.args.bus.now in let mid = g.B.Bus.state c.prepare.new.bus in let new = g.B.Bus.state c.finish.new.self.0 in
+    let are : AreChanged journal prepared old mid new
+    = record { room = c.prepare.ensures.room; looks = c.prepare.ensures.leaves; is = c.in_ok-prepared.ensures.prepares; leaves = c.finish.ensures.leaves } in
+    let restored = restored_done journal prepared old mid new work (prepared.transactions + work.transactions) are c.in_ok-work.ensures.does modelled in
+    record {
+      tells = search rules;
+      leaves = changed_leaves journal prepared old mid new are modelled;
+      done = restored;
+      spares = λ none. restored_sparing journal prepared old mid new work (prepared.transactions + work.transactions) are c.in_ok-work.ensures.does (omega arith) modelled none;
+      within = λ first can. changed_back journal first prepared old mid new are modelled can;
+      back = λ first can. restored_back journal first old new _ can restored;
+      only_stops = search rules;
+    }
