@@ -6,12 +6,12 @@ pub returns-in_err-report : goal.returns-in_err-report
 returns-in_err-report g c = λ modelled calm.
     let p = err_from_is_err_and c.from_residual.result c.from_residual.ensures.1 in
     let chip = g.met.B.Bus.reaches c.args.bus.now modelled.honest in
-    rw (p.1, p.2) (kept_refused _ _ _ _ _ _ c.in_err-report.ensures.looks (c.in_err-report.ensures.undo modelled) modelled chip calm
-    _ (c.in_err-report.ensures.tells modelled) (c.in_err-report.ensures.gives_up modelled.honest)
-    c.in_err-report.ensures.answers.unused)
+    rw (p.1, p.2) (kept_refused _ _ _ _ _ _ c.in_err-report.ensures.always.looks (c.in_err-report.ensures.modelled modelled).undo modelled chip calm
+    _ (c.in_err-report.ensures.modelled modelled).tells (c.in_err-report.ensures.honest modelled.honest).gives_up
+    c.in_err-report.ensures.always.answers.unused)
 
 pub returns : goal.returns
 returns g c = λ modelled calm.
     let chip = g.met.B.Bus.reaches c.args.bus.now modelled.honest in
-    kept_done _ _ _ _ _ _ c.in_ok-report.ensures.looks (c.in_ok-report.ensures.undo modelled) modelled chip calm
-    _ (c.in_ok-report.ensures.done modelled) c.in_ok-report.ensures.ends.sealed
+    kept_done _ _ _ _ _ _ c.in_ok-report.ensures.always.looks (c.in_ok-report.ensures.modelled modelled).undo modelled chip calm
+    _ (c.in_ok-report.ensures.modelled modelled).done c.in_ok-report.ensures.always.ends.sealed

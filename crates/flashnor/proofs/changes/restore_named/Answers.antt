@@ -13,10 +13,10 @@ returns-in_err-report g c = λ modelled calm.
     let passes = c.in_ok-find_named.ensures.passes modelled calm in
     let p = err_from_is_err_and c.from_residual-in_err-report.result c.from_residual-in_err-report.ensures.1 in
     rw (p.1, p.2) (restores_refused c.args.journal.now c.args.named _ _ _ _ passes
-    (c.in_err-report.ensures.tells passes.modelled) c.in_err-report.ensures.looks (c.in_err-report.ensures.within passes.modelled))
+    (c.in_err-report.ensures.modelled passes.modelled).tells c.in_err-report.ensures.always.looks (c.in_err-report.ensures.modelled passes.modelled).within)
 
 pub returns : goal.returns
 returns g c = λ modelled calm.
     let passes = c.in_ok-find_named.ensures.passes modelled calm in
-    restores_done c.args.journal.now c.args.named _ _ _ _ passes (c.in_ok-report.ensures.done passes.modelled)
-    (c.in_ok-report.ensures.within passes.modelled)
+    restores_done c.args.journal.now c.args.named _ _ _ _ passes (c.in_ok-report.ensures.modelled passes.modelled).done
+    (c.in_ok-report.ensures.modelled passes.modelled).within
