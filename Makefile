@@ -18,7 +18,7 @@ DIST := out/flashnor-$(VERSION)
 SEED := 1
 COUNT := 1000
 
-.PHONY: build toolchain demo try files bench compare storm sweep kill runs install dist agree quick check price clean
+.PHONY: build toolchain demo try files bench compare storm sweep kill runs install dist agree statement quick check price clean
 
 # Proves the program and everything below it, builds it, and runs it once.
 build: toolchain files
@@ -110,9 +110,15 @@ dist: $(PROGRAM) toolchain
 runs: $(PROGRAM)
 	@bash runs/run.sh $(abspath $(PROGRAM))
 
-# Whether the help, README, SPECIFICATION, the manual page and the completion say what the sources say.
+# Whether the help, README, SPECIFICATION, the manual page, the completion and STATEMENT say what the sources say.
 agree:
 	@bash docs/agree.sh
+
+# All that `session`, `restore` and `rehearse` promise, on one page that is made from the sources.
+statement:
+	@mkdir -p out
+	@python3 docs/statement.py > out/STATEMENT.md
+	@mv out/STATEMENT.md docs/STATEMENT.md
 
 # What can be known in a few minutes without a proof: layout, pages, that all compiles, tests, the built program's cases.
 quick: toolchain

@@ -1,10 +1,10 @@
 #!/usr/bin/env bash
 # docs/agree.sh [PROGRAM]: whether the help, SPECIFICATION.md, the manual page and the completion say what the sources
 # say, word for word: options and keys with the names of their values, chips, printed lines, faults by their numbers,
-# limits, examples; and whether README.md says nothing else. A line tells what was compared, how much of it and where;
-# each difference is told with both texts, and then the status is 1. What is looked for must be found, so a text that is
-# put otherwise is told too. The help and the list of chips are those that the program prints; where none is given,
-# those that the sources have.
+# limits, examples; whether README.md says nothing else; and whether STATEMENT.md is what statement.py makes of the
+# sources. A line tells what was compared, how much of it and where; each difference is told with both texts, and then
+# the status is 1. What is looked for must be found, so a text that is put otherwise is told too. The help and the list
+# of chips are those that the program prints; where none is given, those that the sources have.
 set -Eeuo pipefail
 trap 'echo "DIFFERS: broke off at $BASH_COMMAND"' ERR
 export LC_ALL=C
@@ -98,4 +98,5 @@ take_words
 take_faults
 take_limits
 take_promises
+python3 docs/statement.py --check || failed=1
 exit $failed
