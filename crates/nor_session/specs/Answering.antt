@@ -29,7 +29,8 @@ pub record IsJudged (request : Request) (image : ℕ) (opening : Opening) (code 
 
 -- this holds of every state of the bus from which the opening led to the one now
 abbrev pub SinceOpening : Option ChipName → Opening → BusState → (BusState → Type 0) → Type 0
-SinceOpening named opening now promise = (first : BusState) → Looks 65542 first now → Opens named first now opening → promise first
+SinceOpening named opening now promise =
+    (first : BusState) → Looks 65542 first now → Opens named first now opening → promise first
 
 -- All that a session promises, from one state of the bus to another.
 pub record KeepsPromise (request : Request) (image : List ℕ) (old new : BusState) (vault vault' : VaultState)

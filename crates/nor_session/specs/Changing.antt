@@ -31,7 +31,8 @@ read_back changes verify = if verify then touched_count changes else 0
 
 -- At the end: so many sectors were read, which the work counts now, nothing changed or was sent that could, and each
 -- byte that was read is the wanted one.
-pub record DoesCheck (changes : Changes) (wanted : ℕ → ℕ) (verify : Bool) (written : Work) (old new : BusState) (work : Work) : Type 0 where
+pub record DoesCheck (changes : Changes) (wanted : ℕ → ℕ) (verify : Bool) (written : Work) (old new : BusState)
+    (work : Work) : Type 0 where
   pub erases : work.erases ≡ written.erases
   pub programs : work.programs ≡ written.programs
   pub transactions : work.transactions ≡ written.transactions + read_back changes verify
@@ -45,7 +46,8 @@ pub record DoesCheck (changes : Changes) (wanted : ℕ → ℕ) (verify : Bool) 
 abbrev pub CheckRefuses : Changes → (ℕ → ℕ) → BusState → BusState → Refusal → Type 0
 CheckRefuses changes wanted old new Stopped = RunsOut (touched_count changes) old new
 CheckRefuses changes wanted old new (Mismatch address) =
-    old.honest ≡ true → CanCheck (touched_in changes) old.chip → IsFirstMismatch (touched_in changes) wanted old.chip.bytes address
+    old.honest ≡ true → CanCheck (touched_in changes) old.chip
+    → IsFirstMismatch (touched_in changes) wanted old.chip.bytes address
 CheckRefuses changes wanted old new _ = ⊥
 
 -- ---- the changes and their check
@@ -53,10 +55,12 @@ CheckRefuses changes wanted old new _ = ⊥
 -- At every exit.
 pub record LeavesChange (changes : Changes) (wanted : ℕ → ℕ) (old new : BusState) : Type 0 where
   pub spends : Spends (most_changed changes) old new
-  pub reached : old.honest ≡ true → CanApply changes wanted old.chip → MayChange (touched_in changes) (raised_in changes) wanted old new
+  pub reached : old.honest ≡ true → CanApply changes wanted old.chip
+      → MayChange (touched_in changes) (raised_in changes) wanted old new
 
 -- At the end, with what the work came to; where there is nothing to change, nothing changing was sent.
-pub record DoesChange (changes : Changes) (wanted : ℕ → ℕ) (verify : Bool) (old new : BusState) (work : Work) : Type 0 where
+pub record DoesChange (changes : Changes) (wanted : ℕ → ℕ) (verify : Bool) (old new : BusState)
+    (work : Work) : Type 0 where
   pub erases : work.erases ≡ fewest_erases changes.kinds (changes.size / 4096) (raised_in changes)
   pub fewer_erases : work.erases ≤ touched_count changes
   pub fewer_programs : work.programs ≤ 16 * touched_count changes
@@ -67,7 +71,8 @@ pub record DoesChange (changes : Changes) (wanted : ℕ → ℕ) (verify : Bool)
   pub still : touched_count changes + status_writes changes ≡ 0 → new.stirred ≡ old.stirred
   pub done : old.honest ≡ true → CanApply changes wanted old.chip → HasApplied changes wanted old new
   pub programs : old.honest ≡ true → CanApply changes wanted old.chip
-      → work.programs ≡ count_below 65536 (is_programmed (touched_in changes) (once_erased (raised_in changes) old.chip.bytes) wanted)
+      → work.programs ≡ count_below 65536
+      (is_programmed (touched_in changes) (once_erased (raised_in changes) old.chip.bytes) wanted)
 
 -- Why they weren't finished: the bus stopped, with fewer transactions left than they may take; another bus than an
 -- honest one kept the chip busy, or showed other bytes than were written.

@@ -79,7 +79,8 @@ pub record PlansSaved (sector : ℕ) (saved bytes : List ℕ) (old new : BusStat
   pub read : ReadsSector sector old new bytes
   pub whole : length bytes ≡ 4096
   pub needed : plan.raised ≡ true → plan.touched ≡ true
-  pub planned : (content wanted : ℕ → ℕ) → AreBytesOf content bytes → AreBytesOf wanted saved → IsPlan content wanted 4096 plan
+  pub planned : (content wanted : ℕ → ℕ) → AreBytesOf content bytes → AreBytesOf wanted saved
+      → IsPlan content wanted 4096 plan
 
 -- Each saved sector was read once, and marked by what was read: touched where a byte differs from the saved one,
 -- raised where a bit of it has to rise.

@@ -49,8 +49,8 @@ pub record CanEnd (request : Request) (image : List ℕ) (allowance : ℕ) (chip
   pub fewest : AreFewestErases chip.config (is_raised_by request image chip) erases
   pub enough : least_needed request image chip erases ≤ allowance
 
--- What the vault tells of the first allowance: where it was sealed that was enough for the shortest opening and the scan,
--- and where it wasn't it was less than these may take.
+-- What the vault tells of the first allowance: where it was sealed that was enough for the shortest opening and the
+-- scan, and where it wasn't it was less than these may take.
 pub record SealFits (request : Request) (allowance : ℕ) (chip : Chip) (seal : Bool) : Type 0 where
   pub enough : seal ≡ true → 4 + scanned_sectors request chip.config.size ≤ allowance
   pub below : seal ≡ false → allowance < most_looked (scanned_sectors request chip.config.size)

@@ -39,14 +39,16 @@ pub record LeadsBack (saved : ℕ → Bool) (first : Chip) (text : List ℕ) (st
 pub record LeavesSession (request : Request) (image : List ℕ) (old new : BusState) (vault : VaultState) : Type 0 where
   pub nature : KeepsNature old new
   pub same : IsModelled old → IsCalm old → vault.sealed ≡ false → IsSame old.chip new.chip
-  pub back : IsModelled old → vault.sealed ≡ true → LeadsBack (is_touched_by request image old.chip) old.chip vault.bytes new
+  pub back : IsModelled old → vault.sealed ≡ true
+      → LeadsBack (is_touched_by request image old.chip) old.chip vault.bytes new
   pub accepted : IsModelled old → vault.sealed ≡ true → IsAccepted request image old.chip
   pub wears : IsModelled old → (s : ℕ) → is_touched_by request image old.chip s ≡ false → new.worn s ≡ old.worn s
   pub holds : HoldsJournal vault
 
--- It was allowed so many transactions, and ended, and the chip is the wanted one; or it was stopped, where none is left,
--- since they were too few.
-pub record ShowsSession (request : Request) (image : List ℕ) (allowance : ℕ) (old new : BusState) (vault : VaultState) (ended : Bool) : Type 0 where
+-- It was allowed so many transactions, and ended, and the chip is the wanted one; or it was stopped, where none is
+-- left, since they were too few.
+pub record ShowsSession (request : Request) (image : List ℕ) (allowance : ℕ) (old new : BusState) (vault : VaultState)
+    (ended : Bool) : Type 0 where
   pub seals : ended ≡ true → vault.sealed ≡ true
   pub can : IsModelled old → ended ≡ true → CanEnd request image allowance old.chip
   pub bytes : IsModelled old → ended ≡ true → (a : ℕ) → new.chip.bytes a ≡ wanted_of request image old.chip a
@@ -56,7 +58,8 @@ pub record ShowsSession (request : Request) (image : List ℕ) (allowance : ℕ)
   pub seal : IsModelled old → SealFits request allowance old.chip vault.sealed
 
 -- It was refused as sessions are: by the verdict, or by a vault that failed; on an honest bus not by a stop.
-pub record RefusesSession (request : Request) (image : List ℕ) (old new : BusState) (before after : VaultState) (refusal : Refusal) : Type 0 where
+pub record RefusesSession (request : Request) (image : List ℕ) (old new : BusState) (before after : VaultState)
+    (refusal : Refusal) : Type 0 where
   pub answers : Answers before after refusal
   pub names : Names after refusal
   pub halts : old.honest ≡ true → IsNoHalt refusal
@@ -104,7 +107,8 @@ pub record Undoes (text : List ℕ) (stops : List ℕ) (old new : BusState) (res
   pub some : 1 ≤ restores
   pub most : restores ≤ length stops + 1
   pub same : IsModelled old → (saved : ℕ → Bool) (first : Chip) → LeadsBack saved first text old → IsSame first new.chip
-  pub are : IsModelled old → (saved : ℕ → Bool) (first : Chip) → LeadsBack saved first text old → AreRestores (sector_count saved) stops restores
+  pub are : IsModelled old → (saved : ℕ → Bool) (first : Chip) → LeadsBack saved first text old
+      → AreRestores (sector_count saved) stops restores
   pub last : IsModelled old → (saved : ℕ → Bool) (first : Chip) → LeadsBack saved first text old
       → FitsLastStop (sector_count saved) stops new.left restores
 

@@ -81,9 +81,11 @@ abbrev pub IsRestoreVerdict : Content → Chip → Refusal → Type 0
 IsRestoreVerdict journal chip NoChip = shown_as chip.config ≡ Err Probes.NoChip
 IsRestoreVerdict journal chip (UnknownChip fault) = shown_as chip.config ≡ Err (Probes.UnknownChip fault)
 IsRestoreVerdict journal chip OtherChip = IsNamed None chip.config × (¬ IsOfKind journal chip.config)
-IsRestoreVerdict journal chip OtherUnit = IsNamed None chip.config × IsOfKind journal chip.config × IsOfOtherUnit journal chip.config
+IsRestoreVerdict journal chip OtherUnit =
+    IsNamed None chip.config × IsOfKind journal chip.config × IsOfOtherUnit journal chip.config
 IsRestoreVerdict journal chip StatusDiffers =
-    IsNamed None chip.config × IsOfKind journal chip.config × (¬ IsOfOtherUnit journal chip.config) × (¬ HasFixedTold journal chip)
+    IsNamed None chip.config × IsOfKind journal chip.config × (¬ IsOfOtherUnit journal chip.config)
+    × (¬ HasFixedTold journal chip)
 IsRestoreVerdict journal chip StatusLocked = Fits journal chip × (is_locked chip ≡ true) × NeedsStatusFrom journal chip
 IsRestoreVerdict journal chip _ = ⊥
 
@@ -144,7 +146,8 @@ pub record LeavesRestore (journal : Content) (old new : BusState) : Type 0 where
 -- how many pages have to be programmed once the raised sectors are erased
 abbrev pub pages_from : Content → Chip → ℕ
 pages_from journal chip = count_below 65536
-    (is_programmed (is_touched_from journal chip) (once_erased (is_raised_from journal chip) chip.bytes) (restored journal chip.bytes))
+    (is_programmed (is_touched_from journal chip) (once_erased (is_raised_from journal chip) chip.bytes)
+    (restored journal chip.bytes))
 
 -- At the end the chip is what the journal wants, idle, and its latch set only where it was; the report counts what was
 -- done; and where nothing is to be changed, nothing changing was sent.

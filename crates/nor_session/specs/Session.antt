@@ -86,14 +86,17 @@ pub record IsWithinBound (scanned writes : ℕ) (verify : Bool) (report : Report
   pub erases : report.erases ≤ scanned
   pub programs : report.programs ≤ 16 * scanned
   pub few : report.transactions
-      ≤ most_looked scanned + report.touched + (if verify then report.touched else 0) + 65538 * (report.erases + report.programs + writes)
-  pub least : 4 + scanned + (if verify then report.touched else 0) + 3 * (report.erases + report.programs) ≤ report.transactions
+      ≤ most_looked scanned + report.touched + (if verify then report.touched else 0)
+      + 65538 * (report.erases + report.programs + writes)
+  pub least : 4 + scanned + (if verify then report.touched else 0) + 3 * (report.erases + report.programs)
+      ≤ report.transactions
 
 -- The session ended: the vault is sealed, and the report is within its bound.
 pub record Ends (request : Request) (vault : VaultState) (report : Report) : Type 0 where
   pub sealed : vault.sealed ≡ true
   pub bounded :
-      IsWithinBound (scanned_sectors request report.found.size) (most_status_writes request.what request.unlock) request.verify report
+      IsWithinBound (scanned_sectors request report.found.size) (most_status_writes request.what request.unlock)
+      request.verify report
 
 -- ---- on an honest bus
 
@@ -140,7 +143,8 @@ pages_of request image chip = count_below 65536
 -- the request needs no status write on the chip
 abbrev pub NeedsNoStatus : Request → List ℕ → Chip → Type 0
 NeedsNoStatus request image chip =
-    (code : ℕ) → IsWantedCode request.what chip code → ¬ NeedsStatus request code (is_touched_by request image chip) chip
+    (code : ℕ) → IsWantedCode request.what chip code
+    → ¬ NeedsStatus request code (is_touched_by request image chip) chip
 
 -- At the end the chip is the wanted one, idle, and its latch set only where it was; only raised sectors were erased, by
 -- the fewest erases; the report tells the chip and counts what was done; and where nothing is to be changed, nothing
@@ -171,10 +175,12 @@ AreFree sectors chip = (s : ℕ) → sectors s ≡ true → is_unit_guarded chip
 -- the old or the wanted one. At least the opening and the scan were sent.
 pub record CanBeUndone (request : Request) (image : List ℕ) (old new : BusState) (vault : VaultState) : Type 0 where
   pub accepted : IsAccepted request image old.chip
-  pub journal : vault.telling ≡ true → JournalSaves (head_of old.chip) old.chip.bytes (is_touched_by request image old.chip) vault.bytes
+  pub journal : vault.telling ≡ true
+      → JournalSaves (head_of old.chip) old.chip.bytes (is_touched_by request image old.chip) vault.bytes
   pub free : is_locked old.chip ≡ true → AreFree (is_touched_by request image old.chip) old.chip
   pub changes :
-      MayChange (is_touched_by request image old.chip) (is_raised_by request image old.chip) (wanted_of request image old.chip) old new
+      MayChange (is_touched_by request image old.chip) (is_raised_by request image old.chip)
+      (wanted_of request image old.chip) old new
   pub spent : new.left + (4 + scanned_sectors request old.chip.config.size) ≤ old.left
 
 -- ---- the promises of a session

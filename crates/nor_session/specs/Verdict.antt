@@ -26,11 +26,14 @@ IsVerdict request image chip (UnknownChip fault) = shown_as chip.config ≡ Err 
 IsVerdict request image chip OtherName = HasOtherName request.named chip.config
 IsVerdict request image chip (ImageSize size len) =
     IsNamed request.named chip.config × OpeningJudges request (length image) chip (ImageSize size len)
-IsVerdict request image chip RegionOutside = IsNamed request.named chip.config × OpeningJudges request (length image) chip RegionOutside
-IsVerdict request image chip NoProtection = IsNamed request.named chip.config × OpeningJudges request (length image) chip NoProtection
+IsVerdict request image chip RegionOutside =
+    IsNamed request.named chip.config × OpeningJudges request (length image) chip RegionOutside
+IsVerdict request image chip NoProtection =
+    IsNamed request.named chip.config × OpeningJudges request (length image) chip NoProtection
 IsVerdict request image chip UndefinedProtection =
     IsNamed request.named chip.config × OpeningJudges request (length image) chip UndefinedProtection
-IsVerdict request image chip RangeNotOffered = IsNamed request.named chip.config × OpeningJudges request (length image) chip RangeNotOffered
+IsVerdict request image chip RangeNotOffered =
+    IsNamed request.named chip.config × OpeningJudges request (length image) chip RangeNotOffered
 IsVerdict request image chip StatusLocked = IsScanVerdict request image chip StatusLocked
 IsVerdict request image chip (Protected address) = IsScanVerdict request image chip (Protected address)
 IsVerdict request image chip _ = ⊥

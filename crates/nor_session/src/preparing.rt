@@ -30,7 +30,8 @@ pub(crate) fn prepare<B: Bus>(bus: &mut B, journal: &Journal<'_>) -> Result<Prep
     ensures room { length journal.now.saved ≤ 4096 }
     ensures leaves { Looks (most_looked (length journal.now.saved)) (B.state bus.old) (B.state bus.new) }
     ensures prepares { IfOk result (IsPrepared journal.now (B.state bus.old) (B.state bus.new)) }
-    ensures tells { IfErr result (PrepareTells journal.now (most_looked (length journal.now.saved)) (B.state bus.old) (B.state bus.new)) }
+    ensures tells { IfErr result
+        (PrepareTells journal.now (most_looked (length journal.now.saved)) (B.state bus.old) (B.state bus.new)) }
 {
     let sectors = journal.count();
     let opening = open_saved(bus, journal)?;

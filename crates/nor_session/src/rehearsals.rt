@@ -36,7 +36,8 @@ pub fn rehearse<B: Meter>(
 ) -> Result<Rehearsal, Refusal>
     requires few { length stops.now ≤ 64 }
     requires fresh { IsFresh (held_by vault.old) }
-    ensures always { RehearsalAlways stops.now (B.state bus.old) (B.state bus.new) (held_by vault.old) (held_by vault.new) result }
+    ensures always { RehearsalAlways stops.now (B.state bus.old) (B.state bus.new) (held_by vault.old)
+        (held_by vault.new) result }
     ensures honest { (B.state bus.old).honest ≡ true → IfErr result IsNoHalt }
     ensures modelled { IsModelled (B.state bus.old) → RehearsalModelled request.now image.old stops.now
         (B.state bus.old) (B.state bus.new) (held_by vault.old) (held_by vault.new) result }
@@ -98,9 +99,11 @@ fn stopped_session<B: Meter>(
     ensures leaves { LeavesSession request.now image.old (B.state bus.old) (B.state bus.new) (held_by vault.new) }
     ensures whole { length stops.now ≡ 0 → IfOk result (λ ended. ended ≡ true) }
     ensures shows { IfOk result
-        (ShowsSession request.now image.old (first_allowance stops.now) (B.state bus.old) (B.state bus.new) (held_by vault.new)) }
+        (ShowsSession request.now image.old (first_allowance stops.now) (B.state bus.old) (B.state bus.new)
+        (held_by vault.new)) }
     ensures refuses { IfErr result
-        (RefusesSession request.now image.old (B.state bus.old) (B.state bus.new) (held_by vault.old) (held_by vault.new)) }
+        (RefusesSession request.now image.old (B.state bus.old) (B.state bus.new) (held_by vault.old)
+        (held_by vault.new)) }
 {
     bus.allow(first_allowed(stops));
     match session(bus, vault, image, request) {

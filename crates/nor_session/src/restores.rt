@@ -15,8 +15,10 @@ use nor_save::{Refusal, Report};
 /// A journal of format 1 fits any chip of its ID and size; one of format 2 its own unit alone.
 pub fn restore<B: Bus>(bus: &mut B, journal: &Journal<'_>) -> Result<Report, Refusal>
     ensures always { RestoreAlways journal.now (B.state bus.old) (B.state bus.new) result }
-    ensures honest { (B.state bus.old).honest ≡ true → RestoreHonest journal.now (B.state bus.old) (B.state bus.new) result }
-    ensures modelled { IsModelled (B.state bus.old) → RestoreModelled journal.now (B.state bus.old) (B.state bus.new) result }
+    ensures honest { (B.state bus.old).honest ≡ true
+        → RestoreHonest journal.now (B.state bus.old) (B.state bus.new) result }
+    ensures modelled { IsModelled (B.state bus.old)
+        → RestoreModelled journal.now (B.state bus.old) (B.state bus.new) result }
 {
     let prepared = prepare(bus, journal)?;
     let kept = Kept {

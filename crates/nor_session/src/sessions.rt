@@ -25,7 +25,8 @@ pub fn session<B: Bus, V: Vault>(
     request: &Request,
 ) -> Result<Report, Refusal>
     requires { IsFresh (V.state vault.old) }
-    ensures always { SessionAlways request.now (B.state bus.old) (B.state bus.new) (V.state vault.old) (V.state vault.new) result }
+    ensures always { SessionAlways request.now (B.state bus.old) (B.state bus.new) (V.state vault.old)
+        (V.state vault.new) result }
     ensures honest { (B.state bus.old).honest ≡ true → SessionHonest (B.state bus.old) (B.state bus.new) result }
     ensures modelled { IsModelled (B.state bus.old) → SessionModelled request.now image.old
         (B.state bus.old) (B.state bus.new) (V.state vault.old) (V.state vault.new) result }

@@ -83,8 +83,10 @@ impl<'a, B: Bus, S: Source> Done<'a, B, S> {
     fn check(self, verify: bool) -> Result<Work, Refusal>
         requires fits { self.work.transactions ≤ most_applied 4096 }
         requires sourced { (s : ℕ) → has self.changes.now.touched s ≡ true → S.has self.source.now s ≡ true }
-        ensures leaves { Looks (touched_count self.entry.changes.now) (B.state self.entry.bus.now) (B.state self.exit.0.now) }
-        ensures does { IfOk result (DoesCheck self.entry.changes.now (S.wanted self.entry.source.now) verify self.entry.work
+        ensures leaves { Looks (touched_count self.entry.changes.now) (B.state self.entry.bus.now)
+            (B.state self.exit.0.now) }
+        ensures does { IfOk result
+            (DoesCheck self.entry.changes.now (S.wanted self.entry.source.now) verify self.entry.work
             (B.state self.entry.bus.now) (B.state self.exit.0.now)) }
         ensures tells { IfErr result (CheckRefuses self.entry.changes.now (S.wanted self.entry.source.now)
             (B.state self.entry.bus.now) (B.state self.exit.0.now)) }
