@@ -67,7 +67,7 @@ limit_transactions() {
     opening=$(constant crates/nor_save/src/opening.rt 'Looks ')
     limit "polls" "$polls" 2 '# (polls in a row|polls, after)'
     limit "polls of an operation" "$polls" 1 'BUSY is clear, at most #'
-    limit "transactions of a probe" "$(constant crates/nor_probe/src/probes.rt 'Looks ')" 1 \
+    limit "transactions of a probe" "$(constant crates/nor_probe/specs/Found.antt 'Looks ')" 1 \
         'command and at most # transactions'
     limit "transactions of a session without sectors" "$opening" 1 '# \+ s \+ 2t'
     limit "transactions of an operation" "$(constant crates/nor_driver/src/operations.rt 'Halts address ')" 1 \

@@ -1,15 +1,16 @@
 -- What the calls of the jobs come to, with what is asked of them.
-use Rattle.std.proofs.Common.{◌≡◌, ℕ, List, Option, Result, Ok, Err, subst}
+use Rattle.std.proofs.Common.{◌≡◌, ℕ, true, List, Option, Result, subst}
 use Rattle.std.specs.Borrow.{Bor}
 use Rattle.nor_chip.specs.Bus.{BusState}
-use Rattle.nor_driver.specs.Looks.{Looks}
 use Rattle.nor_journal.specs.Text.{Content as Journal, IsContent, text}
-use Rattle.nor_journal.specs.Vault.{Accepted, IsFresh, VaultState}
+use Rattle.nor_journal.specs.Vault.{IsFresh, VaultState}
 use Rattle.nor_layout.specs.declared.ranges.Span.{Span}
 use Rattle.nor_probe.specs.declared.table.ChipName.{ChipName}
-use Rattle.nor_read.specs.Finding.{most_of}
-use Rattle.nor_read.specs.Reading.{ReadPuts, ReadsOut, ReadTells}
-use Rattle.nor_read.specs.Verifying.{Verifies, VerifyTells}
+use Rattle.nor_probe.specs.Known.{IsModelled}
+use Rattle.nor_read.specs.Protecting.{ProtectionAlways, ProtectionHonest, ProtectionModelled}
+use Rattle.nor_read.specs.Reading.{ReadOutAlways, ReadOutHonest, ReadOutModelled}
+use Rattle.nor_read.specs.Verifying.{VerifyAlways, VerifyHonest, VerifyModelled}
+use Rattle.nor_read.specs.declared.protection.Protection.{Protection}
 use Rattle.nor_save.specs.declared.refusal.Refusal.{Refusal}
 use Rattle.nor_save.specs.declared.report.Report.{Report}
 use Rattle.nor_save.specs.declared.report.Request.{Request}
@@ -22,10 +23,10 @@ use Rattle.flashnor.specs.Changes.{HasChanged, HasDone, HasRestored, IsVaultOf}
 use Rattle.flashnor.specs.Events.{Happened, IsRead}
 use Rattle.flashnor.specs.Events.FileEvent.{Emptied}
 use Rattle.flashnor.specs.Found.{wanted}
+use Rattle.flashnor.specs.Readings.{HasTold, IsAnswer, TellsRead, TellsVerified}
 use Rattle.flashnor.specs.Requests.{AreRangesOf, IsBufferOf, request_for}
 use Rattle.flashnor.specs.Run.{DoesChange, DoesRead, DoesRestore, DoesVerify}
 use Rattle.flashnor.specs.declared.answers.Answer.{Answer}
-use Rattle.flashnor.specs.declared.answers.Answer.TheVariants as answer
 
 pub does_change : (happened : Happened) (chip : Emulated) (named : Option (Bor Text)) (change : Change) (request : Request)
     (ranges : Option (List Span)) (image : List ℕ) (old new : BusState) (outcome : Result Answer Refusal)
@@ -56,66 +57,61 @@ does_restore happened journal named file bytes old new outcome sound same read r
   restored = restored;
 }
 
+-- the protection is asked for
+pub does_tell : (tells : Protection → Answer → Type 0) (named : Option (Bor Text)) (asked : Option ChipName) (old new : BusState)
+    (result : Result Protection Refusal) (outcome : Result Answer Refusal) → asked ≡ wanted named → ProtectionAlways old new result
+    → (old.honest ≡ true → ProtectionHonest asked old new result) → (IsModelled old → ProtectionModelled asked old result)
+    → IsAnswer tells result outcome → HasTold tells named old new outcome
+does_tell tells named asked old new result outcome same always honest modelled told = record {
+  result = result;
+  always = always;
+  honest = λ is. subst (λ (a : Option ChipName). ProtectionHonest a old new result) same (honest is);
+  modelled = λ is. subst (λ (a : Option ChipName). ProtectionModelled a old result) same (modelled is);
+  told = told;
+}
+
 module _ (happened : Happened) (named : Option (Bor Text)) (asked : Option ChipName) (same : asked ≡ wanted named) (file : Text)
     (regions : Option Regions) (ranges given : Option (List Span)) (included : AreRangesOf happened regions ranges) (lent : given ≡ ranges)
-    (old new : BusState) (looks : Looks (most_of 16777216) old new) where
-  pub reads_done : (vault vault' : VaultState) (report : Report) → happened (Emptied file vault) → Accepted vault vault'
-      → ReadsOut asked given old new vault vault' report → DoesRead happened named file regions old new (Ok (answer.Read report))
-  reads_done vault vault' report emptied accepted reads = record {
+    (old new : BusState) where
+  -- what is promised of the name and the ranges that the call was given
+  of_given : (P : Option ChipName → Option (List Span) → Type 0) → P asked given → P (wanted named) ranges
+  of_given P is = subst (λ (r : Option (List Span)). P (wanted named) r) lent (subst (λ (a : Option ChipName). P a given) same is)
+
+  pub does_read : (vault vault' : VaultState) (result : Result Report Refusal) (outcome : Result Answer Refusal)
+      → happened (Emptied file vault) → ReadOutAlways asked given old new vault vault' result
+      → (old.honest ≡ true → ReadOutHonest asked given old new result)
+      → (IsModelled old → ReadOutModelled asked given old new vault vault' result)
+      → IsAnswer TellsRead result outcome → DoesRead happened named file regions old new outcome
+  does_read vault vault' result outcome emptied always honest modelled told = record {
     ranges = ranges;
     included = included;
     read = record {
-      looks = looks;
       empty = vault;
       filled = vault';
       emptied = emptied;
-      puts = accepted;
-      told = subst (λ (r : Option (List Span)). ReadsOut (wanted named) r old new vault vault' report) lent
-          (subst (λ (a : Option ChipName). ReadsOut a given old new vault vault' report) same reads);
+      result = result;
+      always = of_given (λ a r. ReadOutAlways a r old new vault vault' result) always;
+      honest = λ is. of_given (λ a r. ReadOutHonest a r old new result) (honest is);
+      modelled = λ is. of_given (λ a r. ReadOutModelled a r old new vault vault' result) (modelled is);
+      told = told;
     };
   }
 
-  pub reads_refused : (vault vault' : VaultState) (refusal : Refusal) → happened (Emptied file vault)
-      → ReadPuts {T = Answer} (Err refusal) vault vault' → ReadTells asked given old new vault vault' refusal → DoesRead
-      happened named file regions old new (Err refusal)
-  reads_refused vault vault' refusal emptied puts tells = record {
-    ranges = ranges;
-    included = included;
-    read = record {
-      looks = looks;
-      empty = vault;
-      filled = vault';
-      emptied = emptied;
-      puts = puts;
-      told = subst (λ (r : Option (List Span)). ReadTells (wanted named) r old new vault vault' refusal) lent
-          (subst (λ (a : Option ChipName). ReadTells a given old new vault vault' refusal) same tells);
-    };
-  }
-
-  pub verifies_done : (image : List ℕ) (report : Report) → IsRead happened file 16777217 image → Verifies asked given image old new report
-      → DoesVerify happened named file regions old new (Ok (answer.Verified report))
-  verifies_done image report read verifies = record {
+  pub does_verify : (image : List ℕ) (result : Result Report Refusal) (outcome : Result Answer Refusal)
+      → IsRead happened file 16777217 image → VerifyAlways asked given image old new result
+      → (old.honest ≡ true → VerifyHonest asked given old new result)
+      → (IsModelled old → VerifyModelled asked given image old new result)
+      → IsAnswer TellsVerified result outcome → DoesVerify happened named file regions old new outcome
+  does_verify image result outcome read always honest modelled told = record {
     ranges = ranges;
     included = included;
     image = image;
     read = read;
     verified = record {
-      looks = looks;
-      told = subst (λ (r : Option (List Span)). Verifies (wanted named) r image old new report) lent
-          (subst (λ (a : Option ChipName). Verifies a given image old new report) same verifies);
-    };
-  }
-
-  pub verifies_refused : (image : List ℕ) (refusal : Refusal) → IsRead happened file 16777217 image
-      → VerifyTells asked given image old new refusal → DoesVerify happened named file regions old new (Err refusal)
-  verifies_refused image refusal read tells = record {
-    ranges = ranges;
-    included = included;
-    image = image;
-    read = read;
-    verified = record {
-      looks = looks;
-      told = subst (λ (r : Option (List Span)). VerifyTells (wanted named) r image old new refusal) lent
-          (subst (λ (a : Option ChipName). VerifyTells a given image old new refusal) same tells);
+      result = result;
+      always = of_given (λ a r. VerifyAlways a r image old new result) always;
+      honest = λ is. of_given (λ a r. VerifyHonest a r old new result) (honest is);
+      modelled = λ is. of_given (λ a r. VerifyModelled a r image old new result) (modelled is);
+      told = told;
     };
   }

@@ -1,18 +1,19 @@
 -- What the jobs come to that leave a chip as it is.
-use Rattle.std.specs.Prelude.{◌≡◌, ◌<◌, ℕ, List, Option, Result, MatchResult}
+use Rattle.std.specs.Prelude.{◌≡◌, ◌<◌, ℕ, true, List, Option, Result, Ok, Err, MatchResult}
 use Rattle.std.specs.Borrow.{Bor}
 use Rattle.nor_chip.specs.Bus.{BusState}
 use Rattle.nor_chip.specs.Offered.{IsStart}
 use Rattle.nor_driver.specs.Looks.{Looks}
 use Rattle.nor_journal.specs.Vault.{VaultState}
 use Rattle.nor_layout.specs.declared.ranges.Span.{Span}
-use Rattle.nor_read.specs.Finding.{most_of}
-use Rattle.nor_read.specs.Protecting.{TellsProtection, StatusTells}
-use Rattle.nor_read.specs.Reading.{ReadPuts, ReadsOut, ReadTells}
-use Rattle.nor_read.specs.Verifying.{Verifies, VerifyTells}
+use Rattle.nor_probe.specs.Known.{IsModelled}
+use Rattle.nor_read.specs.Protecting.{ProtectionAlways, ProtectionHonest, ProtectionModelled}
+use Rattle.nor_read.specs.Reading.{ReadOutAlways, ReadOutHonest, ReadOutModelled}
+use Rattle.nor_read.specs.Verifying.{VerifyAlways, VerifyHonest, VerifyModelled}
 use Rattle.nor_read.specs.declared.protection.Protection.{Protection}
 use Rattle.nor_save.specs.declared.refusal.Refusal.{Refusal}
 use Rattle.nor_save.specs.declared.refusal.Refusal.TheVariants.{OtherName, Stopped}
+use Rattle.nor_save.specs.declared.report.Report.{Report}
 use Rattle.nor_words.specs.Text.{Text}
 use Rattle.nor_words.specs.declared.programmer.Programmer.{Programmer}
 use Rattle.flashnor.specs.Chips.{allowance_of}
@@ -39,32 +40,40 @@ abbrev pub TellsSize : Programmer → Option (Bor Text) → Answer → Type 0
 TellsSize programmer named (answer.Size size) = HasName named programmer.chip × (size ≡ (part_of programmer.chip).size)
 TellsSize programmer named _ = ⊥
 
--- what protects it
-abbrev pub TellsGuarded : Option (Bor Text) → BusState → BusState → Answer → Type 0
-TellsGuarded named old new (answer.Protection protection) = TellsProtection (wanted named) old new protection
-TellsGuarded named old new _ = ⊥
+-- What a job answers of what its call came to: it tells it, or passes the refusal on.
+abbrev pub IsAnswer : {T : Type 0} → (T → Answer → Type 0) → Result T Refusal → Result Answer Refusal → Type 0
+IsAnswer tells (Ok told) (Ok answer) = tells told answer
+IsAnswer tells (Err refusal) (Err passed) = passed ≡ refusal
+IsAnswer tells _ _ = ⊥
+
+-- the protection itself
+abbrev pub TellsGuarded : Protection → Answer → Type 0
+TellsGuarded protection (answer.Protection told) = told ≡ protection
+TellsGuarded protection _ = ⊥
 
 -- the ranges that can be protected, all of them, of a chip of its size
-abbrev pub ListsRanges : Option (Bor Text) → BusState → BusState → Answer → Type 0
-ListsRanges named old new (answer.Ranges ranges) =
-    (protection : Protection) × TellsProtection (wanted named) old new protection × IsStart protection.size ranges
-ListsRanges named old new _ = ⊥
+abbrev pub ListsRanges : Protection → Answer → Type 0
+ListsRanges protection (answer.Ranges ranges) = IsStart protection.size ranges
+ListsRanges protection _ = ⊥
 
--- it was read out
-abbrev pub TellsRead : Option (Bor Text) → Option (List Span) → BusState → BusState → VaultState → VaultState → Answer → Type 0
-TellsRead named ranges old new vault vault' (answer.Read report) = ReadsOut (wanted named) ranges old new vault vault' report
-TellsRead named ranges old new vault vault' _ = ⊥
+-- the report of a chip that was read out
+abbrev pub TellsRead : Report → Answer → Type 0
+TellsRead report (answer.Read told) = told ≡ report
+TellsRead report _ = ⊥
 
--- its bytes are those of the image
-abbrev pub TellsVerified : Option (Bor Text) → Option (List Span) → List ℕ → BusState → BusState → Answer → Type 0
-TellsVerified named ranges image old new (answer.Verified report) = Verifies (wanted named) ranges image old new report
-TellsVerified named ranges image old new _ = ⊥
+-- the report of a chip that was verified
+abbrev pub TellsVerified : Report → Answer → Type 0
+TellsVerified report (answer.Verified told) = told ≡ report
+TellsVerified report _ = ⊥
 
--- The chip's protection is told, or refused, and the chip only looked at.
-pub record HasTold (tells : Answer → Type 0) (named : Option (Bor Text)) (old new : BusState)
+-- The chip's protection was asked for, and told or refused.
+pub record HasTold (tells : Protection → Answer → Type 0) (named : Option (Bor Text)) (old new : BusState)
     (outcome : Result Answer Refusal) : Type 0 where
-  pub looks : Looks 65541 old new
-  pub told : MatchResult outcome tells (StatusTells (wanted named) old new)
+  pub result : Result Protection Refusal
+  pub always : ProtectionAlways old new result
+  pub honest : old.honest ≡ true → ProtectionHonest (wanted named) old new result
+  pub modelled : IsModelled old → ProtectionModelled (wanted named) old result
+  pub told : IsAnswer tells result outcome
 
 -- The chip was found, or not, and only looked at.
 pub record HasFound (tells : Answer → Type 0) (programmer : Programmer) (named : Option (Bor Text))
@@ -72,18 +81,23 @@ pub record HasFound (tells : Answer → Type 0) (programmer : Programmer) (named
   pub looks : Looks 65540 old new
   pub told : MatchResult outcome tells (FindRefuses programmer named)
 
--- The chip was read out, in these ranges, into a vault in the file of this name.
+-- The chip was read out, in these ranges, into a vault in the file of this name, or the reading refused.
 pub record HasRead (happened : Happened) (named : Option (Bor Text)) (file : Text) (ranges : Option (List Span))
     (old new : BusState) (outcome : Result Answer Refusal) : Type 0 where
-  pub looks : Looks (most_of 16777216) old new
   pub empty : VaultState
   pub filled : VaultState
   pub emptied : happened (Emptied file empty)
-  pub puts : ReadPuts outcome empty filled
-  pub told : MatchResult outcome (TellsRead named ranges old new empty filled) (ReadTells (wanted named) ranges old new empty filled)
+  pub result : Result Report Refusal
+  pub always : ReadOutAlways (wanted named) ranges old new empty filled result
+  pub honest : old.honest ≡ true → ReadOutHonest (wanted named) ranges old new result
+  pub modelled : IsModelled old → ReadOutModelled (wanted named) ranges old new empty filled result
+  pub told : IsAnswer TellsRead result outcome
 
--- The chip was compared with this image, in these ranges.
+-- The chip was compared with this image, in these ranges, or the comparison refused.
 pub record HasVerified (named : Option (Bor Text)) (ranges : Option (List Span)) (image : List ℕ)
     (old new : BusState) (outcome : Result Answer Refusal) : Type 0 where
-  pub looks : Looks (most_of 16777216) old new
-  pub told : MatchResult outcome (TellsVerified named ranges image old new) (VerifyTells (wanted named) ranges image old new)
+  pub result : Result Report Refusal
+  pub always : VerifyAlways (wanted named) ranges image old new result
+  pub honest : old.honest ≡ true → VerifyHonest (wanted named) ranges old new result
+  pub modelled : IsModelled old → VerifyModelled (wanted named) ranges image old new result
+  pub told : IsAnswer TellsVerified result outcome

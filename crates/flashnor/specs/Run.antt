@@ -88,8 +88,8 @@ pub record DoesRestore (happened : Happened) (named : Option (Bor Text)) (file :
 abbrev pub Does : Happened → Programmer → Option (Bor Text) → Task → BusState → BusState → Result Answer Refusal → Type 0
 Does happened programmer named task.Probe old new outcome = HasFound (TellsFound programmer named) programmer named old new outcome
 Does happened programmer named task.FlashSize old new outcome = HasFound (TellsSize programmer named) programmer named old new outcome
-Does happened programmer named task.WpStatus old new outcome = HasTold (TellsGuarded named old new) named old new outcome
-Does happened programmer named task.WpList old new outcome = HasTold (ListsRanges named old new) named old new outcome
+Does happened programmer named task.WpStatus old new outcome = HasTold TellsGuarded named old new outcome
+Does happened programmer named task.WpList old new outcome = HasTold ListsRanges named old new outcome
 Does happened programmer named (task.Read file regions) old new outcome = DoesRead happened named file.now regions old new outcome
 Does happened programmer named (task.Verify file regions) old new outcome = DoesVerify happened named file.now regions old new outcome
 Does happened programmer named (task.Change change) old new outcome = DoesChange happened programmer.chip named change old new outcome

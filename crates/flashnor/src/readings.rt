@@ -58,8 +58,7 @@ pub fn find<B: Bus>(bus: &mut B, named: Option<&str>) -> Result<Found, Refusal>
 
 /// Tells what protects the chip.
 pub fn tell_protection<B: Bus>(bus: &mut B, named: Option<&str>) -> Outcome
-    ensures { HasTold (TellsGuarded named.entry (B.state bus.old) (B.state bus.new))
-        named.entry (B.state bus.old) (B.state bus.new) result }
+    ensures { HasTold TellsGuarded named.entry (B.state bus.old) (B.state bus.new) result }
 {
     let protection = wp_status(bus, read_name(named))?;
     Ok(Answer::Protection(protection))
@@ -67,8 +66,7 @@ pub fn tell_protection<B: Bus>(bus: &mut B, named: Option<&str>) -> Outcome
 
 /// Tells which ranges of the chip can be protected.
 pub fn list_ranges<B: Bus>(bus: &mut B, named: Option<&str>) -> Outcome
-    ensures { HasTold (ListsRanges named.entry (B.state bus.old) (B.state bus.new))
-        named.entry (B.state bus.old) (B.state bus.new) result }
+    ensures { HasTold ListsRanges named.entry (B.state bus.old) (B.state bus.new) result }
 {
     let protection = wp_status(bus, read_name(named))?;
     Ok(Answer::Ranges(offered(protection.size)))

@@ -1,5 +1,5 @@
 -- What a probe tells of the chip.
-use Rattle.std.specs.Prelude.{◌≡◌, ◌+◌, ◌%◌, ◌≤◌, ◌<◌, ◌⊎◌, ℕ, true, false, Option, None, Some, Ok, Err, List, if◌then◌else◌}
+use Rattle.std.specs.Prelude.{◌≡◌, ◌+◌, ◌%◌, ◌≤◌, ◌<◌, ◌⊎◌, ℕ, true, false, Option, None, Some, Result, Ok, Err, List, IfOk, IfErr, if◌then◌else◌}
 use Rattle.nor_chip.specs.declared.config.Config.{Config}
 use Rattle.nor_chip.specs.Chip.{Chip, status1_of}
 use Rattle.nor_chip.specs.Size.{is_chip_size}
@@ -12,7 +12,7 @@ use Rattle.nor_probe.specs.declared.probes.Probed.{Probed}
 use Rattle.nor_probe.specs.declared.probes.ProbeFault.{ProbeFault}
 use Rattle.nor_probe.specs.declared.probes.ProbeFault.TheVariants.{NoChip, UnknownChip, OtherName, Stopped, Timeout}
 use Rattle.nor_probe.specs.Table.{part_of}
-use Rattle.nor_driver.specs.Looks.{Rested, RanOut}
+use Rattle.nor_driver.specs.Looks.{Looks, Rested, RanOut}
 use Rattle.nor_driver.specs.Waits.{latch_when_idle}
 use Rattle.nor_probe.specs.Known.{id_of, is_no_chip, shown_as, IsKnown}
 
@@ -51,10 +51,14 @@ pub record IsPart (found : Found) : Type 0 where
   pub at_most : found.size ≤ 16777216
   pub in_blocks : found.size % 65536 ≡ 0
 
--- Whatever the bus: so many transactions a probe takes.
-pub record IsCounted (probed : Probed) : Type 0 where
+-- How many transactions a probe that found a chip sent.
+pub record IsCounted (old : BusState) (probed : Probed) : Type 0 where
+  -- one poll and the reads at least
   pub least : 1 + reads_of probed.found.id ≤ probed.transactions
+  -- 65,536 polls and four reads at most
   pub most : probed.transactions ≤ 65540
+  -- on an honest bus as many as the chip needs
+  pub sent : old.honest ≡ true → probed.transactions ≡ needed old.chip
 
 -- On an honest bus: the part is what the chip shows itself as, the chip is idle, and the status is the chip's. The
 -- chip's bytes, kept bits and worn sectors are as they were, since it was only looked at.
@@ -99,3 +103,28 @@ Tells named old new (UnknownChip fault) = (shown_as old.chip.config ≡ Err (Unk
 Tells named old new OtherName = HasOtherName named old.chip.config × HasProbed old new
 Tells named old new Stopped = RanOut (needed old.chip) old new × (old.left < 65540)
 Tells named old new Timeout = ⊥
+
+-- ---- what a probe promises
+
+-- On every bus.
+pub record ProbeAlways (named : Option ChipName) (old new : BusState) (result : Result Found ProbeFault) : Type 0 where
+  -- nothing changing was sent, and at most 65,540 transactions
+  pub looks : Looks 65540 old new
+  -- what was found is a row of the table, or a part by SFDP, of a size that a chip may have
+  pub part : IfOk result IsPart
+  -- it has the name that is wanted, if one is
+  pub wanted : IfOk result (λ found. IsWanted named found.name)
+  -- another name is told only where a name is wanted
+  pub blames : IfErr result (BlamesName named)
+
+-- On an honest bus.
+pub record ProbeHonest (named : Option ChipName) (old new : BusState) (result : Result Found ProbeFault) : Type 0 where
+  -- what was found is what the chip shows itself as; the chip, which is idle now, was only looked at
+  pub finds : IfOk result (Finds old new)
+  -- a fault tells why the chip is none that is wanted, or that too few transactions were left; it is never a timeout
+  pub tells : IfErr result (Tells named old new)
+
+-- the chip that was found, without the count of transactions
+abbrev pub found_in : Result Probed ProbeFault → Result Found ProbeFault
+found_in (Ok probed) = Ok probed.found
+found_in (Err fault) = Err fault

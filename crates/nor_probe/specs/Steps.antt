@@ -3,6 +3,7 @@ use Rattle.std.specs.Prelude.{◌≡◌, ◌+◌, ◌<◌, ◌⊎◌, ℕ, true,
 use Rattle.nor_chip.specs.declared.config.Config.{Config}
 use Rattle.nor_chip.specs.Size.{is_chip_size}
 use Rattle.nor_chip.specs.Bus.{BusState}
+use Rattle.nor_probe.specs.declared.sfdp.Geometry.{Geometry}
 use Rattle.nor_probe.specs.declared.table.ChipName.{ChipName}
 use Rattle.nor_probe.specs.declared.table.ChipName.TheVariants.{Sfdp}
 use Rattle.nor_probe.specs.declared.table.Part.{Part}
@@ -40,6 +41,20 @@ pub record IsIdentified (of_id : List ℕ) (part : Part) : Type 0 where
   pub sized : is_chip_size part.size ≡ true
   pub reads : reads_under part.name ≡ reads_of of_id
 
+-- On an honest bus: the parts of the SFDP were read, by three transactions, and nothing changed.
+pub record ReadsParameters (old new : BusState) (parameters : Parameters) : Type 0 where
+  pub rested : Rested old new
+  pub count : old.left ≡ new.left + 3
+  -- an idle chip replied its own
+  pub shown : old.chip.busy ≡ 0 → AreParameters old.chip.config parameters
+
+-- On an honest bus: the SFDP was read, by three transactions, and nothing changed.
+pub record ReadsGeometry (old new : BusState) (geometry : Geometry) : Type 0 where
+  pub rested : Rested old new
+  pub count : old.left ≡ new.left + 3
+  -- an idle chip said so of itself
+  pub says : old.chip.busy ≡ 0 → chip_says old.chip.config ≡ Ok geometry
+
 -- what a fault tells of an idle chip, of which the SFDP alone was read
 abbrev pub GeometryTells : BusState → BusState → ProbeFault → Type 0
 GeometryTells old new (UnknownChip fault) = (chip_says old.chip.config ≡ Err fault) × (old.left ≡ new.left + 3) × Rested old new
@@ -63,4 +78,5 @@ pub record Identifies (old new : BusState) (part : Part) : Type 0 where
 -- what a fault tells of such a chip
 abbrev pub IdentityTells : BusState → BusState → ProbeFault → Type 0
 IdentityTells old new Stopped = (new.left ≡ 0) × (old.left + 1 < reads_of (id_of old.chip.config))
-IdentityTells old new fault = (shown_as old.chip.config ≡ Err fault) × (old.left + 1 ≡ new.left + reads_of (id_of old.chip.config)) × Rested old new
+IdentityTells old new fault =
+    (shown_as old.chip.config ≡ Err fault) × (old.left + 1 ≡ new.left + reads_of (id_of old.chip.config)) × Rested old new

@@ -1,12 +1,13 @@
 //! Which chip is on the bus.
 
-ghost use Rattle.std.specs.Prelude.{◌≡◌, ◌<◌, ◌+◌, ◌^◌, ◌↔◌, true, Ok, IsTrue, IfOk, IfErr, OnOk, OnErr};
+ghost use Rattle.std.specs.Prelude.{◌≡◌, ◌<◌, ◌^◌, ◌↔◌, true, IsTrue, IfOk, IfErr, OnErr};
 ghost use Rattle.nor_chip.specs.Size.{is_chip_size};
 ghost use Rattle.nor_probe.specs.declared.probes.ProbeFault.TheVariants as Faults;
-ghost use Rattle.nor_driver.specs.Looks.{Looks, Rested, RunsOut};
-ghost use Rattle.nor_probe.specs.Known.{id_of, pointer_in, chip_says, is_no_chip, IsModelled};
-ghost use Rattle.nor_probe.specs.Found.{BlamesName, needed, Finds, IsConfigOf, IsCounted, IsPart, IsWanted, Tells};
-ghost use Rattle.nor_probe.specs.Steps.{AreParameters, Identifies, GeometryTells, IdentityTells, IsIdentified, IsIdentityFault, reads_under, fault_of};
+ghost use Rattle.nor_driver.specs.Looks.{Looks, RunsOut};
+ghost use Rattle.nor_probe.specs.Known.{id_of, pointer_in, is_no_chip, IsModelled};
+ghost use Rattle.nor_probe.specs.Found.{found_in, part_in, IsConfigOf, IsCounted, IsWanted, ProbeAlways, ProbeHonest};
+ghost use Rattle.nor_probe.specs.Steps.{Identifies, IdentityTells, IsIdentified, IsIdentityFault};
+ghost use Rattle.nor_probe.specs.Steps.{GeometryTells, ReadsGeometry, ReadsParameters, reads_under, fault_of};
 
 use crate::{ChipName, Geometry, Kinds, Part, SfdpFault, part_of, read_sfdp};
 use nor_chip::{Bus, Stopped};
@@ -53,13 +54,11 @@ pub struct Probed {
 /// Tells which chip is on the bus: waits until it is idle, reads its ID, and where that isn't in the table also
 /// its SFDP. Where a name is given the chip must have it.
 pub fn probe<B: Bus>(bus: &mut B, named: Option<ChipName>) -> Result<Found, ProbeFault>
-    ensures leaves { Looks 65540 (B.state bus.old) (B.state bus.new) }
-    ensures part { IfOk result IsPart }
-    ensures wanted { IfOk result (λ found. IsWanted named found.name) }
-
-    ensures finds { (B.state bus.old).honest ≡ true → IfOk result (Finds (B.state bus.old) (B.state bus.new)) }
-    ensures genuine { IsModelled (B.state bus.old) → IfOk result (IsConfigOf (B.state bus.old).chip.config) }
-    ensures tells { (B.state bus.old).honest ≡ true → IfErr result (Tells named (B.state bus.old) (B.state bus.new)) }
+    ensures always { ProbeAlways named (B.state bus.old) (B.state bus.new) result }
+    ensures honest { (B.state bus.old).honest ≡ true
+        → ProbeHonest named (B.state bus.old) (B.state bus.new) result }
+    ensures modelled { IsModelled (B.state bus.old)
+        → IfOk result (IsConfigOf (B.state bus.old).chip.config) }
 {
     let probed = probe_counted(bus, named)?;
     Ok(probed.found)
@@ -68,16 +67,12 @@ pub fn probe<B: Bus>(bus: &mut B, named: Option<ChipName>) -> Result<Found, Prob
 /// The same, for a caller that goes on: it tells how many transactions were sent, too.
 #[tactic(auto, using(crate::proofs::Sizes::size_at_least, crate::proofs::Sizes::size_at_most, crate::proofs::Sizes::size_in_blocks))]
 pub fn probe_counted<B: Bus>(bus: &mut B, named: Option<ChipName>) -> Result<Probed, ProbeFault>
-    ensures leaves { Looks 65540 (B.state bus.old) (B.state bus.new) }
-    ensures part { IfOk result (λ probed. IsPart probed.found) }
-    ensures counted { IfOk result IsCounted }
-    ensures wanted { IfOk result (λ probed. IsWanted named probed.found.name) }
-    ensures blames { IfErr result (BlamesName named) }
-
-    ensures finds { (B.state bus.old).honest ≡ true → IfOk result (λ probed. Finds (B.state bus.old) (B.state bus.new) probed.found) }
-    ensures sent { (B.state bus.old).honest ≡ true → IfOk result (λ probed. probed.transactions ≡ needed (B.state bus.old).chip) }
-    ensures genuine { IsModelled (B.state bus.old) → IfOk result (λ probed. IsConfigOf (B.state bus.old).chip.config probed.found) }
-    ensures tells { (B.state bus.old).honest ≡ true → IfErr result (Tells named (B.state bus.old) (B.state bus.new)) }
+    ensures always { ProbeAlways named (B.state bus.old) (B.state bus.new) (found_in result) }
+    ensures honest { (B.state bus.old).honest ≡ true
+        → ProbeHonest named (B.state bus.old) (B.state bus.new) (found_in result) }
+    ensures modelled { IsModelled (B.state bus.old)
+        → IfOk (found_in result) (IsConfigOf (B.state bus.old).chip.config) }
+    ensures counted { IfOk result (IsCounted (B.state bus.old)) }
 {
     let waited = wait(bus, 0)?;
     let id = read_id(bus)?;
@@ -85,26 +80,34 @@ pub fn probe_counted<B: Bus>(bus: &mut B, named: Option<ChipName>) -> Result<Pro
     if !is_wanted(named, part.name) {
         return Err(ProbeFault::OtherName);
     }
-    let Part {
-        name,
-        id,
-        size,
-        kinds,
-        scheme,
-    } = part;
-    let found = Found {
-        name,
-        id,
-        size,
-        kinds,
-        scheme,
-        status1: waited.status1,
-    };
-    let transactions = u64::from(waited.polls) + reads_of(name);
     Ok(Probed {
-        found,
-        transactions,
+        found: part.found(waited.status1),
+        transactions: u64::from(waited.polls) + reads_of(part.name),
     })
+}
+
+impl Part {
+    // What is found where the last poll of a chip of this part replied this status.
+    fn found(self, status1: u8) -> Found
+        ensures part { part_in result ≡ self }
+        ensures status1 { result.status1 ≡ status1 }
+    {
+        let Part {
+            name,
+            id,
+            size,
+            kinds,
+            scheme,
+        } = self;
+        Found {
+            name,
+            id,
+            size,
+            kinds,
+            scheme,
+            status1,
+        }
+    }
 }
 
 // The part that an idle chip with this ID is.
@@ -113,10 +116,10 @@ fn identify<B: Bus>(bus: &mut B, id: [u8; 3]) -> Result<Part, ProbeFault>
     ensures part { IfOk result (IsIdentified id) }
     ensures faults { IfErr result IsIdentityFault }
 
-    ensures shown { (B.state bus.old).honest ≡ true → (B.state bus.old).chip.busy ≡ 0 → id ≡ id_of (B.state bus.old).chip.config
-        → IfOk result (Identifies (B.state bus.old) (B.state bus.new)) }
-    ensures tells { (B.state bus.old).honest ≡ true → (B.state bus.old).chip.busy ≡ 0 → id ≡ id_of (B.state bus.old).chip.config
-        → IfErr result (IdentityTells (B.state bus.old) (B.state bus.new)) }
+    ensures shown { (B.state bus.old).honest ≡ true → (B.state bus.old).chip.busy ≡ 0
+        → id ≡ id_of (B.state bus.old).chip.config → IfOk result (Identifies (B.state bus.old) (B.state bus.new)) }
+    ensures tells { (B.state bus.old).honest ≡ true → (B.state bus.old).chip.busy ≡ 0
+        → id ≡ id_of (B.state bus.old).chip.config → IfErr result (IdentityTells (B.state bus.old) (B.state bus.new)) }
 {
     if is_no_chip(id) {
         return Err(ProbeFault::NoChip);
@@ -147,10 +150,8 @@ fn read_geometry<B: Bus>(bus: &mut B) -> Result<Geometry, ProbeFault>
     ensures sized { IfOk result (λ geometry. is_chip_size geometry.size ≡ true) }
     ensures faults { IfErr result IsIdentityFault }
 
-    ensures says { (B.state bus.old).honest ≡ true → (B.state bus.old).chip.busy ≡ 0
-        → IfOk result (λ geometry. chip_says (B.state bus.old).chip.config ≡ Ok geometry) }
-    ensures rested { (B.state bus.old).honest ≡ true → OnOk result (Rested (B.state bus.old) (B.state bus.new)) }
-    ensures count { (B.state bus.old).honest ≡ true → OnOk result ((B.state bus.old).left ≡ (B.state bus.new).left + 3) }
+    ensures reads { (B.state bus.old).honest ≡ true
+        → IfOk result (ReadsGeometry (B.state bus.old) (B.state bus.new)) }
     ensures tells { (B.state bus.old).honest ≡ true → (B.state bus.old).chip.busy ≡ 0
         → IfErr result (GeometryTells (B.state bus.old) (B.state bus.new)) }
 {
@@ -170,10 +171,8 @@ struct Parameters {
 // The header, the first parameter header and the table that it points to, of an idle chip.
 fn read_parameters<B: Bus>(bus: &mut B) -> Result<Parameters, Stopped>
     ensures leaves { Looks 3 (B.state bus.old) (B.state bus.new) }
-    ensures rested { (B.state bus.old).honest ≡ true → OnOk result (Rested (B.state bus.old) (B.state bus.new)) }
-    ensures shown { (B.state bus.old).honest ≡ true → (B.state bus.old).chip.busy ≡ 0
-        → IfOk result (AreParameters (B.state bus.old).chip.config) }
-    ensures count { (B.state bus.old).honest ≡ true → OnOk result ((B.state bus.old).left ≡ (B.state bus.new).left + 3) }
+    ensures reads { (B.state bus.old).honest ≡ true
+        → IfOk result (ReadsParameters (B.state bus.old) (B.state bus.new)) }
     ensures halts { OnErr result (RunsOut 3 (B.state bus.old) (B.state bus.new)) }
 {
     let mut header = [0; 8];

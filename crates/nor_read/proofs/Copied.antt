@@ -8,12 +8,26 @@ use Rattle.nor_driver.specs.Looks.{Looks}
 use Rattle.nor_journal.specs.Vault.{VaultState, Accepted, Took}
 use Rattle.nor_layout.specs.declared.ranges.Span.{Span}
 use Rattle.nor_layout.specs.Below.{count_below}
-use Rattle.nor_layout.specs.Sectors.{includes, has_in_sector}
+use Rattle.nor_layout.specs.Sectors.{includes, has_in_sector, sectors_included}
 use Rattle.nor_layout.proofs.Below.{count_below-zero}
 use Rattle.nor_save.specs.Scanning.{IsOpen}
 use Rattle.nor_save.proofs.Rests.{HasLooked, has_looked-none}
-use Rattle.nor_read.specs.Reading.{copied, Copies, ReadsPart}
+use Rattle.nor_read.specs.Reading.{copied, Grows, Copies, ReadsPart, ReadsAll}
 use Rattle.nor_read.proofs.Onward.{looked_on, counted_on, at_most, open_on}
+
+-- So many bytes went into a vault; where something is known of the bus, they are the first ones of the copy.
+pub record CopiesIf (known : Type 0) (included : Option (List Span)) (content : ℕ → ℕ) (count : ℕ) (old new : VaultState) : Type 0 where
+  pub bytes : List ℕ
+  pub long : length bytes ≡ count
+  pub grown : new.bytes ≡ old.bytes ++ bytes
+  pub right : known → (a : ℕ) → a < count → slice_index bytes a ≡ copied included content a
+
+pub grows_if : (known : Type 0) (included : Option (List Span)) (content : ℕ → ℕ) (count : ℕ) (old new : VaultState) → CopiesIf known included content count old new → Grows count old new
+grows_if known included content count old new copies = record { bytes = copies.bytes; long = copies.long; grown = copies.grown }
+
+pub copies_if : (known : Type 0) (included : Option (List Span)) (content : ℕ → ℕ) (count : ℕ) (old new : VaultState) → CopiesIf known included content count old new → known
+    → Copies included content count old new
+copies_if known included content count old new copies is = record { bytes = copies.bytes; long = copies.long; grown = copies.grown; right = copies.right is }
 
 -- The sectors below n were copied.
 pub record HasCopied (included : Option (List Span)) (size n : ℕ) (old new : BusState) (vault vault' : VaultState) (reads : ℕ) : Type 0 where
@@ -21,7 +35,7 @@ pub record HasCopied (included : Option (List Span)) (size n : ℕ) (old new : B
   pub counted : reads ≡ count_below n (has_in_sector (includes included))
   pub looked : HasLooked reads old new
   pub accepted : Accepted vault vault'
-  pub copy : vault.telling ≡ true → Copies (IsOpen size old) included old.chip.bytes (4096 * n) vault vault'
+  pub copy : vault.telling ≡ true → CopiesIf (IsOpen size old) included old.chip.bytes (4096 * n) vault vault'
 
 pub copied_none : (included : Option (List Span)) (size : ℕ) (state : BusState) (vault : VaultState) → HasCopied included size 0 state state vault vault 0
 copied_none included size state vault = record {
@@ -39,8 +53,8 @@ copied_none included size state vault = record {
 
 -- so many bytes more
 pub copies_more : (known : Type 0) (included : Option (List Span)) (content : ℕ → ℕ) (m k : ℕ) (part : List ℕ) (vault mid new : VaultState)
-    → Copies known included content m vault mid → length part ≡ k → new.bytes ≡ mid.bytes ++ part
-    → (known → (i : ℕ) → i < k → slice_index part i ≡ copied included content (m + i)) → Copies known included content (m + k) vault new
+    → CopiesIf known included content m vault mid → length part ≡ k → new.bytes ≡ mid.bytes ++ part
+    → (known → (i : ℕ) → i < k → slice_index part i ≡ copied included content (m + i)) → CopiesIf known included content (m + k) vault new
 copies_more known included content m k part vault mid new has long grown right = record {
   bytes = has.bytes ++ part;
   long = let before = has.long in length-append has.bytes part ∙ (omega arith);
@@ -77,7 +91,25 @@ copied_more included size n reads more bytes old mid new vault now later below l
   };
   copy = λ telling.
       let e : 4096 * n + 4096 ≡ 4096 * (n + 1) = omega arith in
-      subst (λ (k : ℕ). Copies (IsOpen size old) included old.chip.bytes k vault later) e
+      subst (λ (k : ℕ). CopiesIf (IsOpen size old) included old.chip.bytes k vault later) e
       (copies_more (IsOpen size old) included old.chip.bytes (4096 * n) 4096 bytes vault now later (has.copy telling) long (took.bytes (has.accepted.telling ∙ telling))
       (part_right included size n reads more bytes old mid new below has.looked part));
 }
+
+-- all of them
+pub copied_all : (included : Option (List Span)) (size n reads : ℕ) (old new : BusState) (vault vault' : VaultState) → 4096 * n ≡ size
+    → HasCopied included size n old new vault vault' reads → reads ≡ sectors_included included size
+    → ReadsAll included size old new vault vault' reads
+copied_all included size n reads old new vault vault' whole has counted =
+    let all : vault.telling ≡ true → CopiesIf (IsOpen size old) included old.chip.bytes size vault vault' =
+    λ telling. subst (λ (k : ℕ). CopiesIf (IsOpen size old) included old.chip.bytes k vault vault') whole (has.copy telling) in
+    record {
+      counted = counted;
+      rested = has.looked.rested;
+      fell = has.looked.sent;
+      took = record {
+        accepted = has.accepted;
+        grows = λ telling. grows_if (IsOpen size old) included old.chip.bytes size vault vault' (all telling);
+      };
+      copy = λ is_open telling. copies_if (IsOpen size old) included old.chip.bytes size vault vault' (all telling) is_open;
+    }

@@ -1,31 +1,42 @@
 -- Where the vault refuses a part of the copy.
-use Rattle.std.proofs.Common.{◌≡◌, ◌<◌, ◌+◌, ◌*◌, ◌∙◌, ℕ, List, length, take, Option, subst, sym, arith}
+use Rattle.std.proofs.Common.{◌≡◌, ◌<◌, ◌+◌, ◌*◌, ◌∙◌, ℕ, true, List, length, take, Option, ap, subst, sym, arith}
 use Rattle.std.specs.Prelude.{◌/◌}
 use Rattle.std.proofs.lemmas.List.{get_or-take, length-take-le}
 use Rattle.nor_chip.specs.Bus.{BusState}
-use Rattle.nor_journal.specs.Vault.{VaultState, PutRefused}
+use Rattle.nor_journal.specs.Vault.{VaultState, PutRefused, one_more}
 use Rattle.nor_layout.specs.declared.ranges.Span.{Span}
 use Rattle.nor_save.specs.Scanning.{IsOpen}
 use Rattle.nor_save.specs.declared.refusal.Refusal.{Refusal}
 use Rattle.nor_save.specs.declared.refusal.Refusal.TheVariants.{Output}
-use Rattle.nor_read.specs.Reading.{Copies, ReadsPart, BreaksCopy, CopyTells, PutTells}
+use Rattle.nor_read.specs.Reading.{ReadsPart, BreaksCopy, CopyTells, PutTells}
 use Rattle.nor_driver.specs.Looks.{Looks}
 use Rattle.nor_read.proofs.Onward.{looked_on}
-use Rattle.nor_read.proofs.Copied.{HasCopied, copies_more, part_right}
+use Rattle.nor_read.proofs.Copied.{CopiesIf, HasCopied, copies_if, copies_more, grows_if, part_right}
 
 pub copy_breaks : (included : Option (List Span)) (size n reads more kept written : ℕ) (bytes : List ℕ) (old mid new : BusState) (vault now later : VaultState) → n < size / 4096 → length bytes ≡ 4096
     → HasCopied included size n old mid vault now reads → Looks 1 mid new → ReadsPart included n bytes mid new more → PutRefused now bytes kept later → written ≡ 4096 * n + kept
     → BreaksCopy included size written old new vault later
 copy_breaks included size n reads more kept written bytes old mid new vault now later below long has looks part put told =
     let within = put.within in
+    let refused = put.refused in
+    let so_far : vault.telling ≡ true → CopiesIf (IsOpen size old) included old.chip.bytes written vault later =
+    λ telling.
+    subst (λ (k : ℕ). CopiesIf (IsOpen size old) included old.chip.bytes k vault later) (sym told)
+    (copies_more (IsOpen size old) included old.chip.bytes (4096 * n) kept (take kept bytes) vault now later (has.copy telling)
+    (length-take-le kept bytes within) (put.bytes (has.accepted.telling ∙ telling))
+    (λ is_open i small. get_or-take kept bytes i 0 small ∙ part_right included size n reads more bytes old mid new below has.looked part is_open i (omega arith))) in
     record {
       rested = (looked_on reads more old mid new has.looked looks part.rested part.fell).rested;
       within = omega arith;
-      copy = λ telling.
-          subst (λ (k : ℕ). Copies (IsOpen size old) included old.chip.bytes k vault later) (sym told)
-          (copies_more (IsOpen size old) included old.chip.bytes (4096 * n) kept (take kept bytes) vault now later (has.copy telling)
-          (length-take-le kept bytes within) (put.bytes (has.accepted.telling ∙ telling))
-          (λ is_open i small. get_or-take kept bytes i 0 small ∙ part_right included size n reads more bytes old mid new below has.looked part is_open i (omega arith)));
+      took = record {
+        refused = record {
+          telling = refused.telling ∙ has.accepted.telling;
+          sealed = refused.sealed ∙ has.accepted.sealed;
+          failures = refused.failures ∙ ap one_more has.accepted.failures;
+        };
+        grows = λ telling. grows_if (IsOpen size old) included old.chip.bytes written vault later (so_far telling);
+      };
+      copy = λ is_open telling. copies_if (IsOpen size old) included old.chip.bytes written vault later (so_far telling) is_open;
     }
 
 -- a refusal of the vault tells where

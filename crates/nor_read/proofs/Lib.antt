@@ -6,3 +6,4 @@ pub mod Borders
 pub mod Whole
 pub mod Guards
 pub mod Compared
+pub mod ReadOut

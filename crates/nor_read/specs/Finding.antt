@@ -1,8 +1,9 @@
--- What every reading begins with: which chip is there, and how many transactions that took.
+-- What every reading begins with, which chip is there and how many transactions that took; and how it ends, with its
+-- report or a refusal.
 use Rattle.std.specs.Prelude.{◌≡◌, ◌≤◌, ◌+◌, ◌/◌, ℕ, true, Option, Ok, List}
 use Rattle.nor_chip.specs.declared.config.Config.{Config}
 use Rattle.nor_chip.specs.Bus.{BusState}
-use Rattle.nor_driver.specs.Looks.{Looks, Rested, RanOut, RunsOut}
+use Rattle.nor_driver.specs.Looks.{Rested, RanOut, RunsOut}
 use Rattle.nor_layout.specs.declared.ranges.Span.{Span}
 use Rattle.nor_layout.specs.Sectors.{ReachesPast, FitsInto}
 use Rattle.nor_probe.specs.declared.table.ChipName.{ChipName}
@@ -63,29 +64,53 @@ pub record IsTaken (named : Option ChipName) (included : Option (List Span)) (co
 abbrev pub most_of : ℕ → ℕ
 most_of size = 65540 + size / 4096
 
--- On a modelled bus that many of this chip's size.
-abbrev pub LooksBySize : BusState → BusState → Type 0
-LooksBySize old new = IsModelled old → Looks (most_of old.chip.config.size) old new
+-- ---- what a reading reports
 
--- A stop tells that fewer transactions were left than a reading of the largest chip takes, or on a modelled bus of
--- this chip.
-pub record StopsReading (old new : BusState) : Type 0 where
-  pub largest : RunsOut (most_of 16777216) old new
-  pub own : IsModelled old → RanOut (most_of old.chip.config.size) old new
-
--- Whatever refuses but a stop, nothing changed on an honest bus. (What a stop leaves, `Looks` says.)
-abbrev pub Rests : BusState → BusState → Refusal → Type 0
-Rests old new Stopped = Unit {0}
-Rests old new _ = old.honest ≡ true → Rested old new
-
--- A reading with so many reads of sectors succeeded, and reports it: no sector is touched, and nothing changed.
-pub record Reports (named : Option ChipName) (reads : ℕ) (old new : BusState) (report : Report) : Type 0 where
-  pub is : IsFound named old report.found
+-- On every bus: a part with the name that is wanted, of which nothing was touched.
+pub record ReportsPart (named : Option ChipName) (report : Report) : Type 0 where
+  -- the part is a row of the table, or one by SFDP, of a size that a chip may have
+  pub part : IsPart report.found
+  -- it has the name that is wanted, if one is
+  pub has_name : IsWanted named report.found.name
+  -- no sector was touched, and nothing erased or programmed
   pub touched : report.touched ≡ 0
   pub erases : report.erases ≡ 0
   pub programs : report.programs ≡ 0
+  -- no more transactions are told than a chip of this size takes
   pub most : report.transactions ≤ most_of report.found.size
-  pub rested : old.honest ≡ true → Rested old new
-  pub idle : old.honest ≡ true → new.chip.busy ≡ 0
-  pub count : old.honest ≡ true → report.transactions ≡ needed old.chip + reads
-  pub fell : old.honest ≡ true → old.left ≡ new.left + report.transactions
+
+-- On an honest bus, with so many reads of sectors: what the chip shows itself as, which was only looked at.
+pub record ReportsReads (reads : ℕ) (old new : BusState) (report : Report) : Type 0 where
+  -- the part is what the chip shows itself as
+  pub shown : shown_as old.chip.config ≡ Ok (part_in report.found)
+  -- the kept bits of status 1 are the chip's
+  pub status1 : report.found.status1 / 4 ≡ old.chip.kept1
+  -- nothing changed
+  pub rested : Rested old new
+  -- the chip is idle
+  pub idle : new.chip.busy ≡ 0
+  -- the transactions are those of the probe and of the reads
+  pub count : report.transactions ≡ needed old.chip + reads
+  -- so many were sent
+  pub fell : old.left ≡ new.left + report.transactions
+
+-- ---- what a refusal tells
+
+-- a refusal that finding a chip gives, on every bus; a timeout is told at address 0
+abbrev pub IsFindRefusal : Refusal → Type 0
+IsFindRefusal NoChip = Unit {0}
+IsFindRefusal (UnknownChip fault) = Unit {0}
+IsFindRefusal OtherName = Unit {0}
+IsFindRefusal Stopped = Unit {0}
+IsFindRefusal (Timeout address) = address ≡ 0
+IsFindRefusal _ = ⊥
+
+-- On an honest bus: a refusal of the probe tells why the chip is none that is wanted; a stop, that fewer transactions
+-- than so many were left; there is no timeout; and after any refusal but a stop nothing changed.
+abbrev pub ReadingTells : ℕ → Option ChipName → BusState → BusState → Refusal → Type 0
+ReadingTells most named old new NoChip = Tells named old new Probes.NoChip
+ReadingTells most named old new (UnknownChip fault) = Tells named old new (Probes.UnknownChip fault)
+ReadingTells most named old new OtherName = Tells named old new Probes.OtherName
+ReadingTells most named old new Stopped = RanOut most old new
+ReadingTells most named old new (Timeout address) = ⊥
+ReadingTells most named old new _ = Rested old new

@@ -1,16 +1,16 @@
 -- What is told of a chip's block protection.
-use Rattle.std.specs.Prelude.{◌≡◌, ◌<◌, ◌≤◌, ◌+◌, ◌↔◌, ℕ, true, false, not, Option, MatchOption}
+use Rattle.std.specs.Prelude.{◌≡◌, ◌<◌, ◌≤◌, ◌+◌, ◌↔◌, ℕ, true, false, not, Option, MatchOption, Result, IfOk, IfErr, OnOk}
 use Rattle.nor_chip.specs.Chip.{Chip, is_locked}
 use Rattle.nor_chip.specs.Guard.{code_of, guarded_by, is_guarded, is_undefined}
 use Rattle.nor_chip.specs.Offer.{GuardsExactly}
 use Rattle.nor_chip.specs.Size.{is_chip_size}
 use Rattle.nor_chip.specs.Bus.{BusState}
-use Rattle.nor_driver.specs.Looks.{Rested, RunsOut}
+use Rattle.nor_driver.specs.Looks.{Looks, Rested}
 use Rattle.nor_probe.specs.declared.table.ChipName.{ChipName}
 use Rattle.nor_save.specs.declared.refusal.Refusal.{Refusal}
-use Rattle.nor_save.specs.declared.refusal.Refusal.TheVariants.{NoChip, UnknownChip, OtherName, NoProtection, Stopped, Timeout}
+use Rattle.nor_save.specs.declared.refusal.Refusal.TheVariants.{NoProtection}
 use Rattle.nor_read.specs.declared.protection.Protection.{Protection}
-use Rattle.nor_read.specs.Finding.{IsModelled, IsNamed, ProbeTells}
+use Rattle.nor_read.specs.Finding.{IsNamed, IsFindRefusal, ReadingTells}
 
 -- The code is defined, and the guarded places are so many from `start` on. Where there are none, they start at 0.
 pub record IsGuardedRange (chip : Chip) (start len : ℕ) : Type 0 where
@@ -26,23 +26,45 @@ pub record IsProtection (chip : Chip) (protection : Protection) : Type 0 where
   pub lock : protection.locked ≡ is_locked chip
   pub chip_size : protection.size ≡ chip.config.size
 
--- The protection was told. On an honest bus nothing changed, and the chip, which has the wanted name, is idle.
-pub record TellsProtection (named : Option ChipName) (old new : BusState) (protection : Protection) : Type 0 where
-  pub sized : is_chip_size protection.size ≡ true
-  pub rested : old.honest ≡ true → Rested old new
-  pub idle : old.honest ≡ true → new.chip.busy ≡ 0
-  pub is : old.honest ≡ true → IsNamed named old.chip.config
-  pub told : IsModelled old → IsProtection old.chip protection
+-- ---- what telling the protection promises
 
--- what a refusal tells, on every bus
-abbrev pub StatusTells : Option ChipName → BusState → BusState → Refusal → Type 0
-StatusTells named old new NoChip = ProbeTells named old new NoChip
-StatusTells named old new (UnknownChip fault) = ProbeTells named old new (UnknownChip fault)
-StatusTells named old new OtherName = ProbeTells named old new OtherName
-StatusTells named old new NoProtection = IsModelled old → IsNamed named old.chip.config × (old.chip.config.scheme ≡ false)
-StatusTells named old new Stopped = RunsOut 65541 old new
-StatusTells named old new (Timeout address) = ProbeTells named old new (Timeout address)
-StatusTells named old new _ = ⊥
+-- a refusal that telling the protection gives, on every bus
+abbrev pub IsProtectionRefusal : Refusal → Type 0
+IsProtectionRefusal NoProtection = Unit {0}
+IsProtectionRefusal refusal = IsFindRefusal refusal
+
+-- On every bus.
+pub record ProtectionAlways (old new : BusState) (result : Result Protection Refusal) : Type 0 where
+  -- nothing changing was sent, and at most 65,541 transactions
+  pub looks : Looks 65541 old new
+  -- the size is one that a chip may have
+  pub sized : IfOk result (λ protection. is_chip_size protection.size ≡ true)
+  -- a refusal is one that telling the protection gives
+  pub refuses : IfErr result IsProtectionRefusal
+
+-- On an honest bus.
+pub record ProtectionHonest (named : Option ChipName) (old new : BusState) (result : Result Protection Refusal) : Type 0 where
+  -- nothing changed
+  pub rested : OnOk result (Rested old new)
+  -- the chip is idle
+  pub idle : OnOk result (new.chip.busy ≡ 0)
+  -- it has the name that is wanted
+  pub is : OnOk result (IsNamed named old.chip.config)
+  -- a refusal tells why the chip is none that is wanted, or a stop; but for a stop nothing changed
+  pub tells : IfErr result (ReadingTells 65541 named old new)
+
+-- What a refusal tells of a chip that is what it shows itself to be: refusal 6, that it has no block protection, and has
+-- the wanted name. (Those of the probe: `ReadingTells`.)
+abbrev pub ProtectionTells : Option ChipName → Chip → Refusal → Type 0
+ProtectionTells named chip NoProtection = IsNamed named chip.config × (chip.config.scheme ≡ false)
+ProtectionTells named chip _ = Unit {0}
+
+-- On an honest bus whose chip is what it shows itself to be.
+pub record ProtectionModelled (named : Option ChipName) (old : BusState) (result : Result Protection Refusal) : Type 0 where
+  -- what is told is the chip's protection
+  pub told : IfOk result (IsProtection old.chip)
+  -- refusal 6 tells that it has none
+  pub tells : IfErr result (ProtectionTells named old.chip)
 
 -- ---- by the status bytes
 

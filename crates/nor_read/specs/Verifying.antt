@@ -1,18 +1,19 @@
 -- What a comparison of a chip with an image tells.
-use Rattle.std.specs.Prelude.{◌≡◌, ◌≢◌, ◌≤◌, ◌<◌, ◌+◌, ◌*◌, ℕ, true, Option, List, length, slice_index, MatchOption, if◌then◌else◌}
+use Rattle.std.specs.Prelude.{◌≡◌, ◌≢◌, ◌≤◌, ◌<◌, ◌+◌, ◌*◌, ℕ, true, Option, Result, IfOk, IfErr, List, length, slice_index, MatchOption, if◌then◌else◌}
 use Rattle.nor_chip.specs.declared.config.Config.{Config}
 use Rattle.nor_chip.specs.Chip.{Chip}
 use Rattle.nor_chip.specs.Bus.{BusState}
-use Rattle.nor_driver.specs.Looks.{Rested}
+use Rattle.nor_driver.specs.Looks.{Looks, Rested, RanOut}
 use Rattle.nor_layout.specs.declared.ranges.Span.{Span}
 use Rattle.nor_layout.specs.Sectors.{includes, has_in_sector, sectors_included, FitsInto}
 use Rattle.nor_probe.specs.declared.table.ChipName.{ChipName}
+use Rattle.nor_probe.specs.Found.{IsConfigOf}
 use Rattle.nor_save.specs.declared.refusal.Refusal.{Refusal}
-use Rattle.nor_save.specs.declared.refusal.Refusal.TheVariants.{NoChip, UnknownChip, OtherName, ImageSize, RegionOutside, Stopped, Timeout, Mismatch}
+use Rattle.nor_save.specs.declared.refusal.Refusal.TheVariants.{ImageSize, RegionOutside, Stopped, Mismatch}
 use Rattle.nor_save.specs.declared.report.Report.{Report}
 use Rattle.nor_save.specs.Scanning.{IsOpen}
 use Rattle.nor_read.specs.declared.verifying.Compared.{Compared}
-use Rattle.nor_read.specs.Finding.{IsModelled, IsNamed, IsPassed, IsTaken, ProbeTells, StopsReading, Reports}
+use Rattle.nor_read.specs.Finding.{IsNamed, IsPassed, IsTaken, ReportsPart, ReportsReads, IsFindRefusal, ReadingTells, most_of}
 
 -- each included byte from one address up to another is the image's
 abbrev pub AgreeIn : Option (List Span) → List ℕ → (ℕ → ℕ) → ℕ → ℕ → Type 0
@@ -25,14 +26,6 @@ pub record IsFirstOther (included : Option (List Span)) (image : List ℕ) (cont
   pub is_included : includes included address ≡ true
   pub differs : slice_index image address ≢ content address
   pub before : AgreeIn included image content from address
-
--- The image is as long as the chip, and each included byte is the image's; no included address is past the chip's end,
--- and each sector that holds one was read once.
-pub record Verifies (named : Option ChipName) (included : Option (List Span)) (image : List ℕ) (old new : BusState) (report : Report) : Type 0 where
-  pub reports : Reports named (sectors_included included report.found.size) old new report
-  pub whole : length image ≡ report.found.size
-  pub fits : FitsInto included report.found.size
-  pub equal : IsModelled old → AgreeIn included image old.chip.bytes 0 old.chip.config.size
 
 -- The chip has the wanted name, and another size than the image, which are both told.
 pub record IsOtherSize (named : Option ChipName) (image : List ℕ) (config : Config) (chip_size image_size : ℕ) : Type 0 where
@@ -47,17 +40,58 @@ pub record IsMismatch (named : Option ChipName) (included : Option (List Span)) 
   pub whole : length image ≡ chip.config.size
   pub first : IsFirstOther included image chip.bytes 0 chip.config.size address
 
--- what a refusal tells, on every bus
+-- ---- what verifying promises
+
+-- a refusal that verifying gives, on every bus
+abbrev pub IsVerifyRefusal : Refusal → Type 0
+IsVerifyRefusal (ImageSize chip len) = Unit {0}
+IsVerifyRefusal RegionOutside = Unit {0}
+IsVerifyRefusal (Mismatch address) = Unit {0}
+IsVerifyRefusal refusal = IsFindRefusal refusal
+
+-- On every bus.
+pub record VerifyAlways (named : Option ChipName) (included : Option (List Span)) (image : List ℕ) (old new : BusState)
+    (result : Result Report Refusal) : Type 0 where
+  -- nothing changing was sent, and no more than the largest chip takes
+  pub looks : Looks (most_of 16777216) old new
+  -- the report tells a part with the name that is wanted, of which nothing was touched
+  pub reports : IfOk result (ReportsPart named)
+  -- no included address is past its end
+  pub fits : IfOk result (λ report. FitsInto included report.found.size)
+  -- the image is as long as it
+  pub whole : IfOk result (λ report. length image ≡ report.found.size)
+  -- a refusal is one that verifying gives
+  pub refuses : IfErr result IsVerifyRefusal
+
+-- On an honest bus.
+pub record VerifyHonest (named : Option ChipName) (included : Option (List Span)) (old new : BusState)
+    (result : Result Report Refusal) : Type 0 where
+  -- each sector that holds an included address was read once; the chip, which is idle now, was only looked at
+  pub reports : IfOk result (λ report. ReportsReads (sectors_included included report.found.size) old new report)
+  -- a refusal tells why the chip is none that is wanted, or a stop; but for a stop nothing changed
+  pub tells : IfErr result (ReadingTells (most_of 16777216) named old new)
+
+-- What a refusal tells of a chip that is what it shows itself to be. (Those of the probe: `ReadingTells`.)
 abbrev pub VerifyTells : Option ChipName → Option (List Span) → List ℕ → BusState → BusState → Refusal → Type 0
-VerifyTells named included image old new NoChip = ProbeTells named old new NoChip
-VerifyTells named included image old new (UnknownChip fault) = ProbeTells named old new (UnknownChip fault)
-VerifyTells named included image old new OtherName = ProbeTells named old new OtherName
-VerifyTells named included image old new (ImageSize chip len) = IsModelled old → IsOtherSize named image old.chip.config chip len
-VerifyTells named included image old new RegionOutside = IsModelled old → IsPassed named included old.chip.config × (length image ≡ old.chip.config.size)
-VerifyTells named included image old new Stopped = StopsReading old new
-VerifyTells named included image old new (Timeout address) = ProbeTells named old new (Timeout address)
-VerifyTells named included image old new (Mismatch address) = IsModelled old → IsMismatch named included image old.chip address
-VerifyTells named included image old new _ = ⊥
+VerifyTells named included image old new (ImageSize chip len) = IsOtherSize named image old.chip.config chip len
+VerifyTells named included image old new RegionOutside =
+    IsPassed named included old.chip.config × (length image ≡ old.chip.config.size)
+VerifyTells named included image old new Stopped = RanOut (most_of old.chip.config.size) old new
+VerifyTells named included image old new (Mismatch address) = IsMismatch named included image old.chip address
+VerifyTells named included image old new _ = Unit {0}
+
+-- On an honest bus whose chip is what it shows itself to be.
+pub record VerifyModelled (named : Option ChipName) (included : Option (List Span)) (image : List ℕ)
+    (old new : BusState) (result : Result Report Refusal) : Type 0 where
+  -- no more was sent than a chip of this size takes
+  pub looks : Looks (most_of old.chip.config.size) old new
+  -- the report tells the chip's configuration
+  pub config : IfOk result (λ report. IsConfigOf old.chip.config report.found)
+  -- each included byte is the image's
+  pub equal : IfOk result (λ report. AgreeIn included image old.chip.bytes 0 old.chip.config.size)
+  -- a refusal tells of another size, of addresses that aren't on the chip, of too few transactions, or the first
+  -- included byte that differs
+  pub tells : IfErr result (VerifyTells named included image old new)
 
 -- ---- sector by sector
 

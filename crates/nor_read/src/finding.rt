@@ -1,7 +1,7 @@
 //! How every reading begins and ends: the chip is found, and reported.
 ghost use Rattle.std.specs.Prelude.{◌≡◌, ◌≤◌, ◌+◌, IfOk, IfErr};
 ghost use Rattle.nor_driver.specs.Looks.{Looks};
-ghost use Rattle.nor_read.specs.Finding.{HasFound, ProbeTells, Rests};
+ghost use Rattle.nor_read.specs.Finding.{HasFound, ProbeTells};
 
 use nor_chip::Bus;
 use nor_probe::{ChipName, Probed, probe_counted};
@@ -10,7 +10,6 @@ use nor_save::{Refusal, Report};
 /// Tells which chip is on the bus.
 pub fn find<B: Bus>(bus: &mut B, named: Option<ChipName>) -> Result<Probed, Refusal>
     ensures leaves { Looks 65540 (B.state bus.old) (B.state bus.new) }
-    ensures rests { IfErr result (Rests (B.state bus.old) (B.state bus.new)) }
     ensures finds { IfOk result (HasFound named (B.state bus.old) (B.state bus.new)) }
     ensures tells { IfErr result (ProbeTells named (B.state bus.old) (B.state bus.new)) }
 {

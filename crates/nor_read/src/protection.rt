@@ -1,12 +1,11 @@
 //! Tells which places of a chip are protected.
-ghost use Rattle.std.specs.Prelude.{◌≡◌, true, IfOk, IfErr, IsTrue, MatchOption};
+ghost use Rattle.std.specs.Prelude.{◌≡◌, true, IsTrue, MatchOption};
 ghost use Rattle.nor_chip.specs.Size.{is_chip_size};
 ghost use Rattle.nor_chip.specs.Code.{code_in};
 ghost use Rattle.nor_chip.specs.Guard.{is_undefined};
 ghost use Rattle.nor_chip.specs.Status.{bytes_of};
-ghost use Rattle.nor_driver.specs.Looks.{Looks};
-ghost use Rattle.nor_read.specs.Finding.{Rests};
-ghost use Rattle.nor_read.specs.Protecting.{TellsProtection, StatusTells, IsRangeOf, IsBorder};
+ghost use Rattle.nor_read.specs.Finding.{IsModelled};
+ghost use Rattle.nor_read.specs.Protecting.{ProtectionAlways, ProtectionHonest, ProtectionModelled, IsRangeOf, IsBorder};
 
 use crate::finding::find;
 use nor_chip::{Bus, Status, protected};
@@ -31,10 +30,10 @@ pub struct Protection {
 
 /// Tells which places of the chip are protected, and whether that can be changed.
 pub fn wp_status<B: Bus>(bus: &mut B, named: Option<ChipName>) -> Result<Protection, Refusal>
-    ensures leaves { Looks 65541 (B.state bus.old) (B.state bus.new) }
-    ensures rests { IfErr result (Rests (B.state bus.old) (B.state bus.new)) }
-    ensures reads { IfOk result (TellsProtection named (B.state bus.old) (B.state bus.new)) }
-    ensures tells { IfErr result (StatusTells named (B.state bus.old) (B.state bus.new)) }
+    ensures always { ProtectionAlways (B.state bus.old) (B.state bus.new) result }
+    ensures honest { (B.state bus.old).honest ≡ true
+        → ProtectionHonest named (B.state bus.old) (B.state bus.new) result }
+    ensures modelled { IsModelled (B.state bus.old) → ProtectionModelled named (B.state bus.old) result }
 {
     let found = find(bus, named)?.found;
     let status2 = read_status2(bus)?;

@@ -1,10 +1,11 @@
 //! Reads a chip out into a vault.
-ghost use Rattle.std.specs.Prelude.{◌≡◌, ◌<◌, ◌≤◌, ◌/◌, false, IfOk, IfErr, OnOk, OnErr, IsTrue, option_copied};
+ghost use Rattle.std.specs.Prelude.{◌≡◌, ◌<◌, ◌/◌, true, false, IfOk, IfErr, OnOk, OnErr, IsTrue, option_copied};
 ghost use Rattle.nor_chip.specs.Size.{is_chip_size};
 ghost use Rattle.nor_driver.specs.Looks.{Looks, RunsOut};
 ghost use Rattle.nor_journal.specs.Vault.{Took};
-ghost use Rattle.nor_read.specs.Finding.{Rests, LooksBySize, most_of};
-ghost use Rattle.nor_read.specs.Reading.{ReadsOut, ReadTells, ReadPuts, ReadsPart, ReadsAll, CopyTells, PutTells};
+ghost use Rattle.nor_read.specs.Finding.{IsModelled};
+ghost use Rattle.nor_read.specs.Reading.{ReadOutAlways, ReadOutHonest, ReadOutModelled};
+ghost use Rattle.nor_read.specs.Reading.{ReadsPart, ReadsAll, CopyTells, PutTells};
 
 use crate::finding::{find, report};
 use nor_chip::{Bus, Stopped};
@@ -23,14 +24,12 @@ pub fn read_out<B: Bus, V: Vault>(
     out: &mut V,
 ) -> Result<Report, Refusal>
     requires unsealed { (V.state out.old).sealed ≡ false }
-    ensures leaves { Looks (most_of 16777216) (B.state bus.old) (B.state bus.new) }
-    ensures bound { LooksBySize (B.state bus.old) (B.state bus.new) }
-    ensures rests { IfErr result (Rests (B.state bus.old) (B.state bus.new)) }
-    ensures puts { ReadPuts result (V.state out.old) (V.state out.new) }
-    ensures reads { IfOk result
-        (ReadsOut named (option_copied included.entry) (B.state bus.old) (B.state bus.new) (V.state out.old) (V.state out.new)) }
-    ensures tells { IfErr result
-        (ReadTells named (option_copied included.entry) (B.state bus.old) (B.state bus.new) (V.state out.old) (V.state out.new)) }
+    ensures always { ReadOutAlways named (option_copied included.entry)
+        (B.state bus.old) (B.state bus.new) (V.state out.old) (V.state out.new) result }
+    ensures honest { (B.state bus.old).honest ≡ true → ReadOutHonest named (option_copied included.entry)
+        (B.state bus.old) (B.state bus.new) result }
+    ensures modelled { IsModelled (B.state bus.old) → ReadOutModelled named (option_copied included.entry)
+        (B.state bus.old) (B.state bus.new) (V.state out.old) (V.state out.new) result }
 {
     let probed = find(bus, named)?;
     if reaches_past(included, probed.found.size) {
@@ -50,11 +49,10 @@ fn copy_all<B: Bus, V: Vault>(
     requires sized { IsTrue (is_chip_size size) }
     requires unsealed { (V.state out.old).sealed ≡ false }
     ensures leaves { Looks (size / 4096) (B.state bus.old) (B.state bus.new) }
-    ensures puts { ReadPuts result (V.state out.old) (V.state out.new) }
-    ensures reads { IfOk result
-        (ReadsAll (option_copied included.entry) size (B.state bus.old) (B.state bus.new) (V.state out.old) (V.state out.new)) }
-    ensures tells { IfErr result
-        (CopyTells (option_copied included.entry) size (B.state bus.old) (B.state bus.new) (V.state out.old) (V.state out.new)) }
+    ensures reads { IfOk result (ReadsAll (option_copied included.entry) size
+        (B.state bus.old) (B.state bus.new) (V.state out.old) (V.state out.new)) }
+    ensures tells { IfErr result (CopyTells (option_copied included.entry) size
+        (B.state bus.old) (B.state bus.new) (V.state out.old) (V.state out.new)) }
 {
     let mut reads = 0;
     let mut bytes = [0; 4096];
@@ -74,7 +72,8 @@ fn read_part<B: Bus>(
 ) -> Result<u32, Stopped>
     requires { sector < 4096 }
     ensures leaves { Looks 1 (B.state bus.old) (B.state bus.new) }
-    ensures reads { IfOk result (ReadsPart (option_copied included.entry) sector bytes.new (B.state bus.old) (B.state bus.new)) }
+    ensures reads { IfOk result
+        (ReadsPart (option_copied included.entry) sector bytes.new (B.state bus.old) (B.state bus.new)) }
     ensures stops { OnErr result (RunsOut 1 (B.state bus.old) (B.state bus.new)) }
 {
     if !includes_in_sector(included, sector) {

@@ -1,10 +1,10 @@
 //! Compares a chip with an image.
-ghost use Rattle.std.specs.Prelude.{◌≡◌, ◌<◌, ◌≤◌, ◌+◌, ◌*◌, ◌/◌, ℕ, length, IfOk, IfErr, OnErr, IsTrue, option_copied};
+ghost use Rattle.std.specs.Prelude.{◌≡◌, ◌<◌, ◌≤◌, ◌+◌, ◌*◌, ◌/◌, ℕ, true, length, IfOk, OnErr, IsTrue, option_copied};
 ghost use Rattle.nor_chip.specs.Size.{is_chip_size};
 ghost use Rattle.nor_driver.specs.Looks.{Looks, RunsOut};
 ghost use Rattle.nor_layout.specs.Sectors.{AreOfSector};
-ghost use Rattle.nor_read.specs.Finding.{Rests, LooksBySize, most_of};
-ghost use Rattle.nor_read.specs.Verifying.{Verifies, VerifyTells, ComparesPart, ComparesAll, TellsFirst};
+ghost use Rattle.nor_read.specs.Finding.{IsModelled};
+ghost use Rattle.nor_read.specs.Verifying.{VerifyAlways, VerifyHonest, VerifyModelled, ComparesPart, ComparesAll, TellsFirst};
 
 use crate::finding::{find, report};
 use nor_chip::{Bus, Stopped};
@@ -29,11 +29,12 @@ pub fn verify<B: Bus>(
     included: Option<&Ranges>,
     named: Option<ChipName>,
 ) -> Result<Report, Refusal>
-    ensures leaves { Looks (most_of 16777216) (B.state bus.old) (B.state bus.new) }
-    ensures bound { LooksBySize (B.state bus.old) (B.state bus.new) }
-    ensures rests { IfErr result (Rests (B.state bus.old) (B.state bus.new)) }
-    ensures verifies { IfOk result (Verifies named (option_copied included.entry) image.now (B.state bus.old) (B.state bus.new)) }
-    ensures tells { IfErr result (VerifyTells named (option_copied included.entry) image.now (B.state bus.old) (B.state bus.new)) }
+    ensures always { VerifyAlways named (option_copied included.entry) image.now
+        (B.state bus.old) (B.state bus.new) result }
+    ensures honest { (B.state bus.old).honest ≡ true → VerifyHonest named (option_copied included.entry)
+        (B.state bus.old) (B.state bus.new) result }
+    ensures modelled { IsModelled (B.state bus.old) → VerifyModelled named (option_copied included.entry) image.now
+        (B.state bus.old) (B.state bus.new) result }
 {
     let probed = find(bus, named)?;
     let size = probed.found.size;
@@ -63,7 +64,8 @@ fn compare_all<B: Bus>(
     requires sized { IsTrue (is_chip_size size) }
     requires whole { length image.now ≡ size }
     ensures leaves { Looks (size / 4096) (B.state bus.old) (B.state bus.new) }
-    ensures compares { IfOk result (ComparesAll (option_copied included.entry) image.now size (B.state bus.old) (B.state bus.new)) }
+    ensures compares { IfOk result
+        (ComparesAll (option_copied included.entry) image.now size (B.state bus.old) (B.state bus.new)) }
     ensures stops { OnErr result (RunsOut (size / 4096) (B.state bus.old) (B.state bus.new)) }
 {
     let mut first = None;
@@ -88,7 +90,8 @@ fn compare_part<B: Bus>(
     requires reachable { sector < 4096 }
     requires inside { 4096 * sector + 4096 ≤ length image.now }
     ensures leaves { Looks 1 (B.state bus.old) (B.state bus.new) }
-    ensures compares { IfOk result (ComparesPart (option_copied included.entry) image.now sector (B.state bus.old) (B.state bus.new)) }
+    ensures compares { IfOk result
+        (ComparesPart (option_copied included.entry) image.now sector (B.state bus.old) (B.state bus.new)) }
     ensures stops { OnErr result (RunsOut 1 (B.state bus.old) (B.state bus.new)) }
 {
     if !includes_in_sector(included, sector) {

@@ -5,10 +5,19 @@ use Rattle.nor_probe.proofs.probes.read_geometry.Goals as goal
 
 pub returns-in_err-geometry-clause-tells : goal.returns-in_err-geometry-clause-tells
 returns-in_err-geometry-clause-tells g c honest idle =
-    let says = parameters_say (g.B.Bus.state c.args.bus.now).chip.config c.in_ok-parameters.parameters (c.in_ok-parameters.ensures.shown honest idle) ∙ sym c.read_sfdp.ensures.says ∙ c.in_err-geometry.was in
-    let count = c.in_ok-parameters.ensures.count honest in
+    let read = c.in_ok-parameters.ensures.reads honest in
+    let says = parameters_say (g.B.Bus.state c.args.bus.now).chip.config c.in_ok-parameters.parameters (read.shown idle)
+    ∙ sym c.read_sfdp.ensures.says ∙ c.in_err-geometry.was in
+    let count = read.count in
     grind (arith, common_steps, says, count)
 
-pub returns-clause-says : goal.returns-clause-says
-returns-clause-says g c honest idle =
-    parameters_say (g.B.Bus.state c.args.bus.now).chip.config c.in_ok-parameters.parameters (c.in_ok-parameters.ensures.shown honest idle) ∙ sym c.read_sfdp.ensures.says ∙ c.in_ok-geometry.was
+pub returns-clause-reads : goal.returns-clause-reads
+returns-clause-reads g c honest =
+    let read = c.in_ok-parameters.ensures.reads honest in
+    record {
+      rested = read.rested;
+      count = read.count;
+      says = λ idle.
+          parameters_say (g.B.Bus.state c.args.bus.now).chip.config c.in_ok-parameters.parameters (read.shown idle)
+          ∙ sym c.read_sfdp.ensures.says ∙ c.in_ok-geometry.was;
+    }

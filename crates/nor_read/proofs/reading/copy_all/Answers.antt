@@ -1,7 +1,10 @@
-use Rattle.std.proofs.Common.{◌≡◌, length, option_copied, arith}
+use Rattle.std.proofs.Common.{◌≡◌, ◌∙◌, ◌/◌, ℕ, length, option_copied, ap, arith}
 use Rattle.std.proofs.lemmas.Grind.{common_steps}
+use Rattle.nor_chip.proofs.Sizes.{is_chip_size-in_blocks}
+use Rattle.nor_layout.specs.Below.{count_below}
+use Rattle.nor_layout.specs.Sectors.{includes, has_in_sector}
 use Rattle.nor_read.specs.Reading.{CopyTells}
-use Rattle.nor_read.proofs.Copied.{copied_none, copied_more}
+use Rattle.nor_read.proofs.Copied.{copied_none, copied_more, copied_all}
 use Rattle.nor_read.proofs.CopyExits.{copy_fails}
 use Rattle.nor_read.proofs.reading.copy_all.Goals as goal
 
@@ -26,3 +29,12 @@ returns-in_err-put_part-clause-tells g c =
     (g.V.Vault.state c.args.out.now) (g.V.Vault.state c.loop-sector.out) (g.V.Vault.state c.put_part.new.out)
     (omega arith) long c.loop-sector.invariant c.read_part.ensures.leaves c.in_ok-reads.ensures.reads c.in_err-put_part.ensures.tells in
     grind (arith, common_steps, before)
+
+pub returns-clause-reads : goal.returns-clause-reads
+returns-clause-reads g c =
+    let included = option_copied c.args.included in let size = c.args.size in
+    let blocks = (is_chip_size-in_blocks size c.requires.sized).blocks in
+    let last : c.loop-sector.sector ≡ size / 4096 = omega arith in
+    copied_all included size c.loop-sector.sector c.loop-sector.reads (g.B.Bus.state c.args.bus.now) (g.B.Bus.state c.loop-sector.bus)
+    (g.V.Vault.state c.args.out.now) (g.V.Vault.state c.loop-sector.out) (omega arith) c.loop-sector.invariant
+    (c.loop-sector.invariant.counted ∙ ap (λ (n : ℕ). count_below n (has_in_sector (includes included))) last)

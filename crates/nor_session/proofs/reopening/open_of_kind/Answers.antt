@@ -6,13 +6,14 @@ use Rattle.nor_session.proofs.reopening.open_of_kind.Goals as goal
 
 pub returns-in_err-probed-clause-tells : goal.returns-in_err-probed-clause-tells
 returns-in_err-probed-clause-tells g c =
-    let told = probe_tells c.args.journal.now (g.B.Bus.state c.args.bus.now) (g.B.Bus.state c.probe_counted.new.bus) c.in_err-probed.field-0.0 c.in_err-probed.ensures.blames c.in_err-probed.ensures.tells in
+    let told = probe_tells c.args.journal.now (g.B.Bus.state c.args.bus.now) (g.B.Bus.state c.probe_counted.new.bus) c.in_err-probed.field-0.0 c.in_err-probed.ensures.always.blames
+    (λ honest. (c.in_err-probed.ensures.honest honest).tells) in
     grind (arith, common_steps, told)
 
 pub returns-in_err-opening-clause-leaves : goal.returns-in_err-opening-clause-leaves
 returns-in_err-opening-clause-leaves g c =
-    looks_then 65540 2 (g.B.Bus.state c.args.bus.now) (g.B.Bus.state c.probe_counted.new.bus) (g.B.Bus.state c.read_on.new.bus) c.probe_counted.ensures.leaves c.read_on.ensures.leaves
+    looks_then 65540 2 (g.B.Bus.state c.args.bus.now) (g.B.Bus.state c.probe_counted.new.bus) (g.B.Bus.state c.read_on.new.bus) c.probe_counted.ensures.always.looks c.read_on.ensures.leaves
 
 pub returns-clause-leaves : goal.returns-clause-leaves
 returns-clause-leaves g c =
-    looks_then 65540 2 (g.B.Bus.state c.args.bus.now) (g.B.Bus.state c.probe_counted.new.bus) (g.B.Bus.state c.read_on.new.bus) c.probe_counted.ensures.leaves c.read_on.ensures.leaves
+    looks_then 65540 2 (g.B.Bus.state c.args.bus.now) (g.B.Bus.state c.probe_counted.new.bus) (g.B.Bus.state c.read_on.new.bus) c.probe_counted.ensures.always.looks c.read_on.ensures.leaves
