@@ -37,15 +37,15 @@ impl Reading {
         }
     }
 
-    // Reads. What is answered is left open.
-    fn read(self, bus: &mut SpoiltBus<SimBus>, out: &mut MemVault, image: &[u8])
+    // Reads, and answers whether it ended. That is left open.
+    fn ends(self, bus: &mut SpoiltBus<SimBus>, out: &mut MemVault, image: &[u8]) -> bool
         requires { (⟦<MemVault as Vault>⟧.state out.old).sealed ≡ false }
     {
         match self {
-            Reading::Probe => drop(probe(bus, None)),
-            Reading::Protection => drop(wp_status(bus, None)),
-            Reading::ReadOut => drop(read_out(bus, None, None, out)),
-            Reading::Verify => drop(verify(bus, image, None, None)),
+            Reading::Probe => probe(bus, None).is_ok(),
+            Reading::Protection => wp_status(bus, None).is_ok(),
+            Reading::ReadOut => read_out(bus, None, None, out).is_ok(),
+            Reading::Verify => verify(bus, image, None, None).is_ok(),
         }
     }
 
@@ -54,9 +54,21 @@ impl Reading {
         let mut bus = spoilt(row.bus(rt, alloc, Start::IDLE), spoil);
         let mut out = MemVault::new(alloc);
         let image = row.wanted(rt, alloc);
-        self.read(&mut bus, &mut out, &image);
+        let _ = self.ends(&mut bus, &mut out, &image);
         bus.sent()
     }
+}
+
+// Each reading keeps its bound on this bus. Answers how many there are.
+fn read_each(rt: &impl Abort, alloc: Global, row: &Row, spoil: Spoil) -> u64 {
+    let mut runs: u64 = 0;
+    for reading in READINGS {
+        let sent = reading.sent(rt, alloc, row, spoil);
+        let keeps_bound = 0 < sent && sent <= reading.most(16);
+        assert!(rt; keeps_bound, "{reading:?}, {spoil:?}: {sent}");
+        runs = runs.saturating_add(1);
+    }
+    runs
 }
 
 // A reading of the whole chip sends 21 transactions.
@@ -66,12 +78,7 @@ fn readings_on_buses_that_lie(rt: HostRuntime) {
     let mut runs: u64 = 0;
     for n in 0..=22 {
         for spoil in lies(n) {
-            for reading in READINGS {
-                let sent = reading.sent(&rt, rt.alloc(), &row, spoil);
-                let keeps_bound = 0 < sent && sent <= reading.most(16);
-                assert!(rt; keeps_bound, "{reading:?}, {spoil:?}: {sent}");
-                runs = runs.saturating_add(1);
-            }
+            runs = runs.saturating_add(read_each(&rt, rt.alloc(), &row, spoil));
         }
     }
     assert_eq!(rt; runs, 23 * 4 * 4);
@@ -92,6 +99,17 @@ fn sessions_on_buses_that_lie(rt: HostRuntime) {
     assert_eq!(rt; runs, 2 * 59 * 4);
 }
 
+// The restore behind the session's tenth transaction keeps its bound on each bus that lies with this number. Answers
+// how many there are.
+fn restore_each(rt: &impl Abort, stopped: &Runs, n: u8) -> u64 {
+    let mut runs: u64 = 0;
+    for spoil in lies(n) {
+        let _ = Lied::restore(rt, stopped.cut(rt, 10), spoil);
+        runs = runs.saturating_add(1);
+    }
+    runs
+}
+
 // The session was stopped behind its erase, so that the restore sends 58 transactions.
 #[test]
 fn restores_on_buses_that_lie(rt: HostRuntime) {
@@ -99,10 +117,7 @@ fn restores_on_buses_that_lie(rt: HostRuntime) {
     let stopped = Runs::new(&rt, rt.alloc(), &row, Start::IDLE);
     let mut runs: u64 = 0;
     for n in 0..=59 {
-        for spoil in lies(n) {
-            let _ = Lied::restore(&rt, stopped.cut(&rt, 10), spoil);
-            runs = runs.saturating_add(1);
-        }
+        runs = runs.saturating_add(restore_each(&rt, &stopped, n));
     }
     assert_eq!(rt; runs, 60 * 4);
 }

@@ -121,51 +121,58 @@ fn fail_sync(rt: &impl Abort, alloc: Global, row: &Row, right: &OnceFile) {
     assert!(rt; file.bytes.as_slice() == right.bytes.as_slice());
 }
 
-// The head has five pieces, a record is one of 4,100 bytes, and the end has two. Where nothing fails there is one sync,
-// of all that was written.
+// Lets each write fail in turn, and the sync. Where nothing fails there are so many writes, and one sync, of all that
+// was written.
+fn fail_at_each(rt: &impl Abort, alloc: Global, row: &Row, most: usize, counted: (usize, usize)) {
+    let (writes, length) = counted;
+    let (refusal, right) = keep(rt, alloc, row, most, None);
+    let told = (refusal, right.writes.len(), right.bytes.len());
+    assert_eq!(rt; told, (None, writes, length), "{most} bytes");
+    assert_eq!(rt; right.syncs.as_slice(), [length].as_slice());
+    assert!(rt; Journal::read(&right.bytes).is_ok());
+    for n in 0..writes {
+        fail_write(rt, alloc, row, &right, Failure::Write(n), n);
+        fail_write(rt, alloc, row, &right, Failure::Nothing(n), n);
+    }
+    fail_sync(rt, alloc, row, &right);
+}
+
+// The head has five pieces, a record is one of 4,100 bytes, and the end has two.
 #[test]
 fn a_file_that_fails_once_ends_the_session(rt: HostRuntime) {
-    let alloc = rt.alloc();
     let rows = [
-        (a_bit_rises(), 5000, 5 + 1 + 2, 61 + 4100),
-        (a_bit_rises(), 1000, 5 + 5 + 2, 61 + 4100),
+        (a_bit_rises(), 5000, (5 + 1 + 2, 61 + 4100)),
+        (a_bit_rises(), 1000, (5 + 5 + 2, 61 + 4100)),
         (
             nine_sectors_are_erased(),
             4096,
-            5 + 2 * 9 + 2,
-            61 + 4100 * 9,
+            (5 + 2 * 9 + 2, 61 + 4100 * 9),
         ),
     ];
-    for (row, most, writes, length) in rows {
-        let (refusal, right) = keep(&rt, alloc, &row, most, None);
-        let told = (refusal, right.writes.len(), right.bytes.len());
-        assert_eq!(rt; told, (None, writes, length), "{most} bytes");
-        assert_eq!(rt; right.syncs.as_slice(), [length].as_slice());
-        assert!(rt; Journal::read(&right.bytes).is_ok());
-        for n in 0..writes {
-            for failure in [Failure::Write(n), Failure::Nothing(n)] {
-                fail_write(&rt, alloc, &row, &right, failure, n);
-            }
-        }
-        fail_sync(&rt, alloc, &row, &right);
+    for (row, most, counted) in rows {
+        fail_at_each(&rt, rt.alloc(), &row, most, counted);
     }
 }
 
-// Of five bytes in writes of two the second fails. What went in before is told, and nothing is written or synced again.
+// Puts five bytes into a file that takes two a write and fails at the second. What went in before is told, and nothing
+// is written or synced again.
+fn put_half(rt: &impl Abort, alloc: Global, failure: Failure) {
+    let mut vault = FileVault::new(OnceFile::new(alloc, 2, Some(failure)));
+    let told = vault.put(b"piece");
+    let file = vault.into_inner();
+    assert_eq!(rt;
+        (told, file.syncs.len()),
+        (Err(VaultFault { kept: 2 }), 0),
+        "{failure:?}"
+    );
+    assert_eq!(rt; file.writes.as_slice(), [0, 2].as_slice(), "{failure:?}");
+    assert_eq!(rt; file.bytes.as_slice(), b"pi".as_slice(), "{failure:?}");
+}
+
 #[test]
 fn a_failure_is_told_at_once(rt: HostRuntime) {
-    for failure in [Failure::Write(1), Failure::Nothing(1)] {
-        let mut vault = FileVault::new(OnceFile::new(rt.alloc(), 2, Some(failure)));
-        let told = vault.put(b"piece");
-        let file = vault.into_inner();
-        assert_eq!(rt;
-            (told, file.syncs.len()),
-            (Err(VaultFault { kept: 2 }), 0),
-            "{failure:?}"
-        );
-        assert_eq!(rt; file.writes.as_slice(), [0, 2].as_slice(), "{failure:?}");
-        assert_eq!(rt; file.bytes.as_slice(), b"pi".as_slice(), "{failure:?}");
-    }
+    put_half(&rt, rt.alloc(), Failure::Write(1));
+    put_half(&rt, rt.alloc(), Failure::Nothing(1));
     let mut vault = FileVault::new(OnceFile::new(rt.alloc(), 5, Some(Failure::Sync)));
     assert_eq!(rt; vault.put(b"piece"), Ok(()));
     assert_eq!(rt; vault.seal(), Err(VaultFault { kept: 0 }));

@@ -80,6 +80,16 @@ fn bus_to(rt: &impl Abort, alloc: Global, config: Config, delays: Delays, allowe
     bus
 }
 
+// What a probe answers on a chip of no name in the table, whose SFDP bytes are a TINY64's but for a run of them.
+fn answer_to(rt: &impl Abort, alloc: Global, at: usize, run: &[u8]) -> Answer {
+    let mut sfdp = TINY64_SFDP;
+    for (place, byte) in sfdp.iter_mut().skip(at).zip(run) {
+        *place = *byte;
+    }
+    let config = chip(rt, [0xAA, 0x11, 0x22], &sfdp);
+    probe_counted(&mut bus_to(rt, alloc, config, Start::IDLE.delays, 5), None)
+}
+
 // Each row changes a run of a TINY64's SFDP bytes. From 0 on they are the header, with the major revision at 5; from 8
 // on the parameter header, with its revision at 0Ah, the length at 0Bh and the pointer at 0Ch; from 10h on the table,
 // with pages and address bytes in double word 1, the size in 2 (14h) and the erase types in 8 and 9 (2Ch).
@@ -130,13 +140,8 @@ fn sfdp_says_a_geometry_or_its_first_fault(rt: HostRuntime) {
         ),
     ];
     for (at, run, answer) in cases {
-        let mut sfdp = TINY64_SFDP;
-        for (place, byte) in sfdp.iter_mut().skip(at).zip(run) {
-            *place = *byte;
-        }
-        let config = chip(&rt, [0xAA, 0x11, 0x22], &sfdp);
-        let mut bus = bus_to(&rt, rt.alloc(), config, Start::IDLE.delays, 5);
-        assert_eq!(rt; probe_counted(&mut bus, None), answer, "{run:?} at {at}");
+        let told = answer_to(&rt, rt.alloc(), at, run);
+        assert_eq!(rt; told, answer, "{run:?} at {at}");
     }
 }
 
@@ -150,6 +155,20 @@ const SILENT_SENT: &str = "05 > 04\n9f > aa1122\n\
 const W25Q64FV_SENT: &str = "05 > 04\n9f > ef4017\n";
 
 const W25Q128FV_SENT: &str = "05 > 04\n9f > ef4018\n";
+
+// What a probe by a name answers, and whether it sent just that.
+fn probed(
+    rt: &impl Abort,
+    alloc: Global,
+    config: Config,
+    name: Option<&str>,
+    sent: &str,
+) -> (Answer, bool) {
+    let mut log = Vec::new(alloc);
+    let bus = bus_to(rt, alloc, config, Start::IDLE.delays, 100);
+    let told = probe_counted(&mut TraceBus::new(bus, &mut log), name.map(ChipName::of));
+    (told, log.as_slice() == sent.as_bytes())
+}
 
 // An ID of the table is believed, whatever the chip's SFDP says; names are compared letter by letter; nothing drives a
 // bus whose ID has equal bits throughout.
@@ -187,11 +206,8 @@ fn probes_find_the_chips_that_are_known(rt: HostRuntime) {
         (zeros, Some("W25Q64FV"), none, "05 > 04\n9f > 000000\n"),
     ];
     for (config, name, answer, sent) in cases {
-        let mut log = Vec::new(rt.alloc());
-        let bus = bus_to(&rt, rt.alloc(), config, Start::IDLE.delays, 100);
-        let told = probe_counted(&mut TraceBus::new(bus, &mut log), name.map(ChipName::of));
-        let is_sent = log.as_slice() == sent.as_bytes();
-        assert_eq!(rt; (told, is_sent), (answer, true), "{name:?}: {sent}");
+        let told = probed(&rt, rt.alloc(), config, name, sent);
+        assert_eq!(rt; told, (answer, true), "{name:?}: {sent}");
     }
 }
 

@@ -63,6 +63,12 @@ impl Start {
         }
     }
 
+    // The status of a chip that has these kept bits.
+    fn status(self, kept: [u8; 2]) -> [u8; 2] {
+        let [one, two] = kept;
+        if self.latch { [one | 0x02, two] } else { kept }
+    }
+
     /// An idle chip that answers BUSY twice after each operation, and loses its power at a stop.
     pub const fn losing(fill: u8) -> Start {
         Start {
@@ -117,10 +123,9 @@ impl Row {
 
     /// A bus to the row's chip.
     pub fn bus(&self, rt: &impl Abort, alloc: Global, start: Start) -> SimBus {
-        let [one, two] = self.status;
-        let latch = if start.latch { 0x02 } else { 0x00 };
         let bytes = self.before(rt, alloc);
-        let mut bus = SimBus::new(self.config, bytes, [one | latch, two], start.delays).expect(
+        let status = start.status(self.status);
+        let mut bus = SimBus::new(self.config, bytes, status, start.delays).expect(
             rt,
             "as many bytes as the chip has",
         );

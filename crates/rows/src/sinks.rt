@@ -238,18 +238,23 @@ impl VaultFile for KnownFile {
     }
 }
 
+// A vault in memory and one in a file take a piece of this length, and the file is synced with it.
+fn assert_taken(rt: &impl Abort, alloc: Global, length: usize) {
+    let piece = vec![in alloc; 0x5A; length].expect(rt, "memory");
+    let mut memory = MemVault::new(alloc);
+    let bytes = Vec::new(alloc);
+    let mut vault = FileVault::new(KnownFile { bytes, synced: 0 });
+    let told = [memory.put(&piece), vault.put(&piece), vault.seal()];
+    assert_eq!(rt; told, [Ok(()); 3], "{length}");
+    let file = vault.into_inner();
+    assert!(rt; memory.bytes() == piece.as_slice(), "{length}");
+    assert!(rt; file.bytes.as_slice() == piece.as_slice(), "{length}");
+    assert_eq!(rt; file.synced, length);
+}
+
 #[test]
 fn pieces_of_all_lengths(rt: HostRuntime) {
     for length in [1, 2, 255, 4095, 4096, 4097, 4100, 65537, 100_001, 1 << 20] {
-        let piece = vec![in rt.alloc(); 0x5A; length].expect(&rt, "memory");
-        let mut memory = MemVault::new(rt.alloc());
-        let bytes = Vec::new(rt.alloc());
-        let mut vault = FileVault::new(KnownFile { bytes, synced: 0 });
-        let told = (memory.put(&piece), vault.put(&piece), vault.seal());
-        assert_eq!(rt; told, (Ok(()), Ok(()), Ok(())), "{length}");
-        let file = vault.into_inner();
-        let has_piece = memory.bytes() == piece.as_slice()
-            && file.bytes.as_slice() == piece.as_slice();
-        assert_eq!(rt; (has_piece, file.synced), (true, length));
+        assert_taken(&rt, rt.alloc(), length);
     }
 }

@@ -40,6 +40,21 @@ fn bus(rt: &impl Abort, alloc: Global) -> SimBus {
     bus
 }
 
+// Sends a transaction, with a log that takes so many writes. Answers whether its line is lost, and what the log has.
+fn sent(rt: &impl Abort, alloc: Global, out: &[u8], reply: &mut [u8], good: u8) -> (bool, Vec<u8>) {
+    let mut lines = Vec::new(alloc);
+    let log = Failing {
+        lines: &mut lines,
+        good,
+        flushes: false,
+    };
+    let mut bus = TraceBus::new(bus(rt, alloc), log);
+    assert_eq!(rt; bus.transfer(out, reply), Ok(()));
+    let lost = bus.lost();
+    drop(bus);
+    (lost, lines)
+}
+
 // Whichever write of it fails, a line is lost exactly where it isn't whole. What comes in is the same.
 #[test]
 fn a_line_is_lost_exactly_where_it_is_not_whole(rt: HostRuntime) {
@@ -50,17 +65,8 @@ fn a_line_is_lost_exactly_where_it_is_not_whole(rt: HostRuntime) {
     ];
     for (out, expected, whole) in forms {
         for good in 0..8u8 {
-            let mut lines = Vec::new(rt.alloc());
-            let log = Failing {
-                lines: &mut lines,
-                good,
-                flushes: false,
-            };
-            let mut bus = TraceBus::new(bus(&rt, rt.alloc()), log);
             let mut reply = vec![in rt.alloc(); 0xAA; expected.len()].expect(&rt, "memory");
-            assert_eq!(rt; bus.transfer(out, &mut reply), Ok(()));
-            let lost = bus.lost();
-            drop(bus);
+            let (lost, lines) = sent(&rt, rt.alloc(), out, &mut reply, good);
             assert_eq!(rt; reply.as_slice(), expected);
             assert_eq!(rt; lost, lines.as_slice() != whole);
             assert!(rt; (lost || good > 1) && (!lost || good < 7), "{good}");

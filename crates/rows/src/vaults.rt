@@ -30,29 +30,35 @@ fn refuse(
     (refusal, vault.failures(), held.is_sealed(), holds_journal)
 }
 
+// Refuses each of so many calls, and one more that doesn't come. From some call on the journal is whole already.
+fn refuse_each(
+    rt: &impl Abort,
+    alloc: Global,
+    row: &Row,
+    calls: u64,
+    kept: usize,
+    whole_from: u64,
+) {
+    for nth in 1..=calls {
+        let left = refuse(rt, alloc, row, nth, kept);
+        let told = (Some(Refusal::Vault), 1, false, nth >= whole_from);
+        assert_eq!(rt; left, told, "call {nth}, {kept} bytes");
+    }
+    let left = refuse(rt, alloc, row, calls.saturating_add(1), kept);
+    assert_eq!(rt; left, (None, 0, true, true), "{kept} bytes");
+}
+
 // The head has five pieces, each record is one, the end has two; the last call is the seal. The piece before it is
 // shorter than 4,095 bytes, so where so many are kept of it the journal is whole already.
 #[test]
 fn each_call_of_a_vault_is_refused(rt: HostRuntime) {
-    for (row, calls) in [
+    let rows = [
         (a_bit_rises(), 5 + 1 + 2 + 1),
         (nine_sectors_are_erased(), 5 + 9 + 2 + 1),
-    ] {
-        for (kept, whole_from) in [(0, calls), (1, calls), (4095, calls - 1)] {
-            for nth in 1..=calls {
-                let told = (Some(Refusal::Vault), 1, false, nth >= whole_from);
-                assert_eq!(rt;
-                    refuse(&rt, rt.alloc(), &row, nth, kept),
-                    told,
-                    "call {nth}, {kept} bytes"
-                );
-            }
-            let told = (None, 0, true, true);
-            assert_eq!(rt;
-                refuse(&rt, rt.alloc(), &row, calls + 1, kept),
-                told,
-                "{kept} bytes"
-            );
-        }
+    ];
+    for (row, calls) in rows {
+        refuse_each(&rt, rt.alloc(), &row, calls, 0, calls);
+        refuse_each(&rt, rt.alloc(), &row, calls, 1, calls);
+        refuse_each(&rt, rt.alloc(), &row, calls, 4095, calls - 1);
     }
 }
