@@ -1,13 +1,15 @@
 //! No call sends more transactions than it says: on a bus that lies, and on the slowest chip.
+ghost use Rattle.std.specs.Prelude.{◌≡◌, false};
+
 use crate::row::{Row, Start, a_bit_rises, each_page_is_programmed, the_rest_of_a_sector_stays};
 use crate::runs::Runs;
-use crate::spoilt::{Lied, most, spoilt};
-use nor_chip::Spoil;
-use nor_journal::MemVault;
+use crate::spoilt::{Lied, lies, most, spoilt};
+use nor_chip::{SimBus, Spoil, SpoiltBus};
+use nor_journal::{MemVault, Vault};
 use nor_probe::probe;
 use nor_read::{read_out, verify, wp_status};
 use std::alloc::Global;
-use std::test::Fail;
+use std::process::Abort;
 
 // The calls that read alone.
 #[derive(Clone, Copy, Debug)]
@@ -35,97 +37,104 @@ impl Reading {
         }
     }
 
-    // How many transactions it sends on a bus that lies. What it answers is left open.
-    fn sent(self, alloc: Global, row: &Row, spoil: Spoil) -> Result<u64, Fail> {
-        let mut bus = spoilt(row.bus(alloc, Start::IDLE)?, spoil);
+    // Reads, and answers whether it ended. That is left open.
+    fn ends(self, bus: &mut SpoiltBus<SimBus>, out: &mut MemVault, image: &[u8]) -> bool
+        requires { (⟦<MemVault as Vault>⟧.state out.old).sealed ≡ false }
+    {
         match self {
-            Reading::Probe => drop(probe(&mut bus, None)),
-            Reading::Protection => drop(wp_status(&mut bus, None)),
-            Reading::ReadOut => drop(read_out(&mut bus, None, None, &mut MemVault::new(alloc))),
-            Reading::Verify => drop(verify(&mut bus, &row.wanted(alloc)?, None, None)),
+            Reading::Probe => probe(bus, None).is_ok(),
+            Reading::Protection => wp_status(bus, None).is_ok(),
+            Reading::ReadOut => read_out(bus, None, None, out).is_ok(),
+            Reading::Verify => verify(bus, image, None, None).is_ok(),
         }
-        Ok(bus.sent())
+    }
+
+    // How many transactions it sends on a bus that lies.
+    fn sent(self, rt: &impl Abort, alloc: Global, row: &Row, spoil: Spoil) -> u64 {
+        let mut bus = spoilt(row.bus(rt, alloc, Start::IDLE), spoil);
+        let mut out = MemVault::new(alloc);
+        let image = row.wanted(rt, alloc);
+        let _ = self.ends(&mut bus, &mut out, &image);
+        bus.sent()
     }
 }
 
-// The four ways to lie, with this number.
-fn lies(n: u64) -> Result<[Spoil; 4], Fail> {
-    let byte = u8::try_from(n)?;
-    Ok([
-        Spoil::Fill(byte),
-        Spoil::BusyFrom(n),
-        Spoil::Drop(n),
-        Spoil::Low(byte),
-    ])
+// Each reading keeps its bound on this bus. Answers how many there are.
+fn read_each(rt: &impl Abort, alloc: Global, row: &Row, spoil: Spoil) -> u64 {
+    let mut runs: u64 = 0;
+    for reading in READINGS {
+        let sent = reading.sent(rt, alloc, row, spoil);
+        let keeps_bound = 0 < sent && sent <= reading.most(16);
+        assert!(rt; keeps_bound, "{reading:?}, {spoil:?}: {sent}");
+        runs = runs.saturating_add(1);
+    }
+    runs
 }
 
 // A reading of the whole chip sends 21 transactions.
 #[test]
-fn readings_on_buses_that_lie(rt: HostRuntime) -> Result<(), Fail> {
+fn readings_on_buses_that_lie(rt: HostRuntime) {
     let row = a_bit_rises();
     let mut runs: u64 = 0;
     for n in 0..=22 {
-        for spoil in lies(n)? {
-            for reading in READINGS {
-                let sent = reading.sent(rt.alloc(), &row, spoil)?;
-                assert!(rt;
-                    0 < sent && sent <= reading.most(16),
-                    "{reading:?}, {spoil:?}: {sent}"
-                );
-                runs = runs.checked_add(1).ok_or("too many runs")?;
-            }
+        for spoil in lies(n) {
+            runs = runs.saturating_add(read_each(&rt, rt.alloc(), &row, spoil));
         }
     }
     assert_eq!(rt; runs, 23 * 4 * 4);
-    Ok(())
 }
 
 // The sessions send 30 and 57 transactions. Each run compares what it sent with its bound.
 #[test]
-fn sessions_on_buses_that_lie(rt: HostRuntime) -> Result<(), Fail> {
+fn sessions_on_buses_that_lie(rt: HostRuntime) {
     let mut runs: u64 = 0;
-    for row in [a_bit_rises(), the_rest_of_a_sector_stays(rt.alloc())?] {
+    for row in [a_bit_rises(), the_rest_of_a_sector_stays()] {
         for n in 0..=58 {
-            for spoil in lies(n)? {
-                Lied::session(&rt, rt.alloc(), &row, spoil)?;
-                runs = runs.checked_add(1).ok_or("too many runs")?;
+            for spoil in lies(n) {
+                let _ = Lied::session(&rt, rt.alloc(), &row, spoil);
+                runs = runs.saturating_add(1);
             }
         }
     }
     assert_eq!(rt; runs, 2 * 59 * 4);
-    Ok(())
+}
+
+// The restore behind the session's tenth transaction keeps its bound on each bus that lies with this number. Answers
+// how many there are.
+fn restore_each(rt: &impl Abort, stopped: &Runs, n: u8) -> u64 {
+    let mut runs: u64 = 0;
+    for spoil in lies(n) {
+        let _ = Lied::restore(rt, stopped.cut(rt, 10), spoil);
+        runs = runs.saturating_add(1);
+    }
+    runs
 }
 
 // The session was stopped behind its erase, so that the restore sends 58 transactions.
 #[test]
-fn restores_on_buses_that_lie(rt: HostRuntime) -> Result<(), Fail> {
-    let row = the_rest_of_a_sector_stays(rt.alloc())?;
-    let stopped = Runs::new(rt.alloc(), &row, Start::IDLE)?;
+fn restores_on_buses_that_lie(rt: HostRuntime) {
+    let row = the_rest_of_a_sector_stays();
+    let stopped = Runs::new(&rt, rt.alloc(), &row, Start::IDLE);
     let mut runs: u64 = 0;
     for n in 0..=59 {
-        for spoil in lies(n)? {
-            Lied::restore(&rt, stopped.cut(&rt, 10)?, spoil)?;
-            runs = runs.checked_add(1).ok_or("too many runs")?;
-        }
+        runs = runs.saturating_add(restore_each(&rt, &stopped, n));
     }
     assert_eq!(rt; runs, 60 * 4);
-    Ok(())
 }
 
 // Both come near their bound: 271 and 241 of the 274 operations that it allows are sent, each with its 65,536 polls.
 // The restore opens with seven transactions, reads sixteen sectors, fifteen of them again before their programs, and
 // all of them at its end; it erases the last sector and programs the 240 pages of the others.
 #[test]
-fn the_slowest_session_and_its_restore(rt: HostRuntime) -> Result<(), Fail> {
-    let row = each_page_is_programmed()?;
-    let runs = Runs::new(rt.alloc(), &row, Start::SLOWEST)?;
+fn the_slowest_session_and_its_restore(rt: HostRuntime) {
+    let row = each_page_is_programmed(&rt);
+    let runs = Runs::new(&rt, rt.alloc(), &row, Start::SLOWEST);
     let length = row.ends_at(Start::SLOWEST);
     assert_eq!(rt; length, 65_542 + 16 + 271 * 65_538 + 1 + 16);
-    let mut cut = runs.cut(&rt, length)?;
-    assert!(rt; cut.bus.bytes() == row.wanted(rt.alloc())?.as_slice());
+    let mut cut = runs.cut(&rt, length);
+    assert!(rt; cut.bus.bytes() == row.wanted(&rt, rt.alloc()).as_slice());
     let restored = 7 + 16 + 241 * 65_538 + 15 + 16;
-    assert_eq!(rt; cut.restore(u64::MAX)?, Some(restored));
+    assert_eq!(rt; cut.restore(&rt, u64::MAX), Some(restored));
     runs.assert_as_before(&rt, &cut.bus);
     assert!(rt; restored < length && length < most(16));
-    Ok(())
 }

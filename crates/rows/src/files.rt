@@ -2,14 +2,13 @@
 ghost use Rattle.std.specs.Prelude.{None};
 
 use crate::row::{Row, Start, a_bit_rises, nine_sectors_are_erased};
-use crate::runs::Runs;
+use crate::runs::{self, assert_untouched};
 use nor_chip::Meter;
 use nor_journal::{FileVault, Journal, Vault, VaultFault, VaultFile};
-use nor_session::{Refusal, session};
+use nor_session::Refusal;
 use std::alloc::Global;
 use std::io;
 use std::process::Abort;
-use std::test::Fail;
 
 // What fails once.
 #[derive(Clone, Copy, Debug, PartialEq, Eq)]
@@ -82,58 +81,65 @@ fn keep(
     row: &Row,
     most: usize,
     failure: Option<Failure>,
-) -> Result<(Option<Refusal>, OnceFile), Fail> {
-    let runs = Runs::new(alloc, row, Start::IDLE)?;
-    let mut bus = row.bus(alloc, Start::IDLE)?;
+) -> (Option<Refusal>, OnceFile) {
+    let mut bus = row.bus(rt, alloc, Start::IDLE);
     bus.allow(u64::MAX);
     let mut vault = FileVault::new(OnceFile::new(alloc, most, failure));
-    let mut image = row.wanted(alloc)?;
-    let refusal = session(&mut bus, &mut vault, &mut image, &row.request).err();
+    let refusal = runs::keep(rt, alloc, row, &mut bus, &mut vault).err();
     if refusal.is_some() {
-        runs.assert_as_before(rt, &bus);
-        // The latch is clear: no write enable was sent.
-        assert_eq!(rt; bus.status(), row.status);
+        assert_untouched(rt, alloc, row, &bus);
     }
-    Ok((refusal, vault.into_inner()))
+    (refusal, vault.into_inner())
 }
 
-// Lets each write of a row's session fail in turn, and the sync. Answers how many writes there are, and how long the
-// journal is.
-fn fail_at_each(
+// Lets the write behind so many fail. It was the last call, and what the file has is the journal's beginning up to it.
+fn fail_write(
     rt: &impl Abort,
     alloc: Global,
     row: &Row,
-    most: usize,
-) -> Result<(usize, usize), Fail> {
-    let (refusal, right) = keep(rt, alloc, row, most, None)?;
-    assert_eq!(rt; refusal, None);
-    assert!(rt; Journal::read(&right.bytes).is_ok());
-    // One sync, of all that was written.
-    assert_eq!(rt; right.syncs.as_slice(), [right.bytes.len()].as_slice());
-    for (n, length) in right.writes.iter().enumerate() {
-        for failure in [Failure::Write(n), Failure::Nothing(n)] {
-            let (refusal, file) = keep(rt, alloc, row, most, Some(failure))?;
-            assert_eq!(rt; refusal, Some(Refusal::Vault), "{failure:?}");
-            // It was the last call, and what the file has is the journal's beginning up to it.
-            assert_eq!(rt; file.writes.len(), n.saturating_add(1), "{failure:?}");
-            assert!(rt; file.syncs.is_empty(), "{failure:?}");
-            assert!(rt;
-                right.bytes.get(0..*length) == Some(file.bytes.as_slice()),
-                "{failure:?}"
-            );
-        }
-    }
-    let (refusal, file) = keep(rt, alloc, row, most, Some(Failure::Sync))?;
+    right: &OnceFile,
+    failure: Failure,
+    n: usize,
+) {
+    let (refusal, file) = keep(rt, alloc, row, right.most, Some(failure));
+    let told = (refusal, file.writes.len(), file.syncs.len());
+    assert_eq!(rt;
+        told,
+        (Some(Refusal::Vault), n.saturating_add(1), 0),
+        "{failure:?}"
+    );
+    let before = right.writes.get(n).copied().expect(rt, "a write");
+    let beginning = right.bytes.get(0..before);
+    assert!(rt; beginning == Some(file.bytes.as_slice()), "{failure:?}");
+}
+
+// Lets the sync fail. It isn't tried again, and all was written before it.
+fn fail_sync(rt: &impl Abort, alloc: Global, row: &Row, right: &OnceFile) {
+    let (refusal, file) = keep(rt, alloc, row, right.most, Some(Failure::Sync));
     assert_eq!(rt; refusal, Some(Refusal::Vault));
     assert_eq!(rt; file.syncs.as_slice(), right.syncs.as_slice());
     assert!(rt; file.bytes.as_slice() == right.bytes.as_slice());
-    Ok((right.writes.len(), right.bytes.len()))
+}
+
+// Lets each write fail in turn, and the sync. Where nothing fails there are so many writes, and one sync, of all that
+// was written.
+fn fail_at_each(rt: &impl Abort, alloc: Global, row: &Row, most: usize, counted: (usize, usize)) {
+    let (writes, length) = counted;
+    let (refusal, right) = keep(rt, alloc, row, most, None);
+    let told = (refusal, right.writes.len(), right.bytes.len());
+    assert_eq!(rt; told, (None, writes, length), "{most} bytes");
+    assert_eq!(rt; right.syncs.as_slice(), [length].as_slice());
+    assert!(rt; Journal::read(&right.bytes).is_ok());
+    for n in 0..writes {
+        fail_write(rt, alloc, row, &right, Failure::Write(n), n);
+        fail_write(rt, alloc, row, &right, Failure::Nothing(n), n);
+    }
+    fail_sync(rt, alloc, row, &right);
 }
 
 // The head has five pieces, a record is one of 4,100 bytes, and the end has two.
 #[test]
-fn a_file_that_fails_once_ends_the_session(rt: HostRuntime) -> Result<(), Fail> {
-    let alloc = rt.alloc();
+fn a_file_that_fails_once_ends_the_session(rt: HostRuntime) {
     let rows = [
         (a_bit_rises(), 5000, (5 + 1 + 2, 61 + 4100)),
         (a_bit_rises(), 1000, (5 + 5 + 2, 61 + 4100)),
@@ -143,31 +149,30 @@ fn a_file_that_fails_once_ends_the_session(rt: HostRuntime) -> Result<(), Fail> 
             (5 + 2 * 9 + 2, 61 + 4100 * 9),
         ),
     ];
-    for (row, most, expected) in rows {
-        assert_eq!(rt;
-            fail_at_each(&rt, alloc, &row, most)?,
-            expected,
-            "{most} bytes"
-        );
+    for (row, most, counted) in rows {
+        fail_at_each(&rt, rt.alloc(), &row, most, counted);
     }
-    Ok(())
 }
 
-// Of five bytes in writes of two the second fails. What went in before is told, and nothing is written or synced again.
+// Puts five bytes into a file that takes two a write and fails at the second. What went in before is told, and nothing
+// is written or synced again.
+fn put_half(rt: &impl Abort, alloc: Global, failure: Failure) {
+    let mut vault = FileVault::new(OnceFile::new(alloc, 2, Some(failure)));
+    let told = vault.put(b"piece");
+    let file = vault.into_inner();
+    assert_eq!(rt;
+        (told, file.syncs.len()),
+        (Err(VaultFault { kept: 2 }), 0),
+        "{failure:?}"
+    );
+    assert_eq!(rt; file.writes.as_slice(), [0, 2].as_slice(), "{failure:?}");
+    assert_eq!(rt; file.bytes.as_slice(), b"pi".as_slice(), "{failure:?}");
+}
+
 #[test]
 fn a_failure_is_told_at_once(rt: HostRuntime) {
-    for failure in [Failure::Write(1), Failure::Nothing(1)] {
-        let mut vault = FileVault::new(OnceFile::new(rt.alloc(), 2, Some(failure)));
-        assert_eq!(rt;
-            vault.put(b"piece"),
-            Err(VaultFault { kept: 2 }),
-            "{failure:?}"
-        );
-        let file = vault.into_inner();
-        assert_eq!(rt; file.writes.as_slice(), [0, 2].as_slice(), "{failure:?}");
-        assert!(rt; file.syncs.is_empty(), "{failure:?}");
-        assert_eq!(rt; file.bytes.as_slice(), b"pi".as_slice(), "{failure:?}");
-    }
+    put_half(&rt, rt.alloc(), Failure::Write(1));
+    put_half(&rt, rt.alloc(), Failure::Nothing(1));
     let mut vault = FileVault::new(OnceFile::new(rt.alloc(), 5, Some(Failure::Sync)));
     assert_eq!(rt; vault.put(b"piece"), Ok(()));
     assert_eq!(rt; vault.seal(), Err(VaultFault { kept: 0 }));

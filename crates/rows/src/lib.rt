@@ -35,8 +35,6 @@ mod spoilt;
 #[cfg(test)]
 mod stages;
 #[cfg(test)]
-mod standing;
-#[cfg(test)]
 mod texts;
 #[cfg(test)]
 mod traced;

@@ -1,10 +1,10 @@
 //! After a stop nothing more is sent: each call ends with it, on a bus that would go on rightly. And nothing is read
 //! again that was spoilt once.
 use crate::failing::{Fault, OnceBus};
-use crate::row::{Start, a_bit_rises};
+use crate::row::{Start, a_bit_rises, erased};
 use crate::spoilt::most;
 use crate::stages::{Call, Stage, on_two_blocks, on_w25q64fv};
-use nor_chip::{Config, Delays, SimBus, Status, Stopped};
+use nor_chip::{Config, Delays, Status, Stopped};
 use nor_driver::{
     Erase, EraseUnit, Halt, erase, poll, program_page, read_id, read_sector, read_sfdp,
     read_status2, read_unique, wait, write_status,
@@ -13,7 +13,6 @@ use nor_journal::MemVault;
 use nor_session::{Refusal, Rehearsal, rehearse};
 use std::alloc::Global;
 use std::process::Abort;
-use std::test::Fail;
 
 // What nor_driver sends.
 #[derive(Clone, Copy, Debug)]
@@ -50,29 +49,25 @@ impl Command {
     }
 
     // Stops each of so many transactions in turn, on a chip with these delays; and none.
-    fn stop_at_each(
-        self,
-        rt: &impl Abort,
-        alloc: Global,
-        delays: Delays,
-        length: u64,
-    ) -> Result<(), Fail> {
+    fn stop_at_each(self, rt: &impl Abort, alloc: Global, delays: Delays, length: u64) {
         for n in 0..=length {
-            let bytes = vec![in alloc; 0xFF; 65_536]?;
-            let bus = SimBus::new(Config::tiny64(), bytes, [0x00, 0x00], delays)?;
+            let bus = erased(rt, alloc, Config::tiny64(), [0x00, 0x00], delays);
             let mut bus = OnceBus::new(bus, 65_538, Fault::Stop, Some(n));
+            let is_stopped = self.is_stopped(&mut bus);
             let asked = length.min(n.saturating_add(1));
-            assert_eq!(rt; self.is_stopped(&mut bus), n < length, "{self:?} at {n}");
-            assert_eq!(rt; bus.asked, asked, "{self:?} at {n}");
+            assert_eq!(rt;
+                (is_stopped, bus.asked),
+                (n < length, asked),
+                "{self:?} at {n}"
+            );
         }
-        Ok(())
     }
 }
 
 // The chip answers BUSY twice, at first or, where it is operated, after each operation. So a wait has three polls, and
 // an operation five transactions.
 #[test]
-fn a_stop_ends_each_command(rt: HostRuntime) -> Result<(), Fail> {
+fn a_stop_ends_each_command(rt: HostRuntime) {
     let commands = [
         (Command::Poll, 1),
         (Command::Wait, 3),
@@ -90,9 +85,8 @@ fn a_stop_ends_each_command(rt: HostRuntime) -> Result<(), Fail> {
     ];
     for (command, length) in commands {
         let now = if length == 5 { 0 } else { 2 };
-        command.stop_at_each(&rt, rt.alloc(), Delays { now, each: 2 }, length)?;
+        command.stop_at_each(&rt, rt.alloc(), Delays { now, each: 2 }, length);
     }
-    Ok(())
 }
 
 // The chip answers BUSY once, at first and after each operation. So the opening has eight transactions where the chip
@@ -104,7 +98,7 @@ fn a_stop_ends_each_command(rt: HostRuntime) -> Result<(), Fail> {
 // both scan two sectors, and read them to compare: the session has two status writes, an erase and two programs, and
 // reads one sector to program it; the restore two status writes, two erases and a program.
 #[test]
-fn a_stop_ends_each_call(rt: HostRuntime) -> Result<(), Fail> {
+fn a_stop_ends_each_call(rt: HostRuntime) {
     let delays = Delays { now: 1, each: 1 };
     let lengths = [
         (Call::Probe, 6, 3),
@@ -118,26 +112,23 @@ fn a_stop_ends_each_call(rt: HostRuntime) -> Result<(), Fail> {
         ),
         (Call::Restore, 8 + 19 + 4 * 19 + 17 + 19, 5 + 2 + 4 * 5 + 2),
     ];
-    let blocks = Stage::new(&rt, rt.alloc(), on_two_blocks()?, delays)?;
-    let large = Stage::new(&rt, rt.alloc(), on_w25q64fv(rt.alloc())?, delays)?;
+    let blocks = Stage::new(&rt, rt.alloc(), on_two_blocks(&rt), delays);
+    let large = Stage::new(&rt, rt.alloc(), on_w25q64fv(), delays);
     for (call, on_blocks, on_large) in lengths {
-        assert_eq!(rt; blocks.stop_at_each(&rt, call)?, on_blocks, "{call:?}");
-        assert_eq!(rt; large.stop_at_each(&rt, call)?, on_large, "{call:?}");
+        let sent = (
+            blocks.stop_at_each(&rt, call),
+            large.stop_at_each(&rt, call),
+        );
+        assert_eq!(rt; sent, (on_blocks, on_large), "{call:?}");
     }
-    Ok(())
 }
 
 // An idle chip's polls show BUSY clear, so a spoilt one is followed by another, and nothing else changes. What was read
 // to be compared is told as another byte at the sector's first address, or given out as it was read: it isn't read
 // again. Each operation has a poll, and so has the opening.
 #[test]
-fn a_spoilt_reply_is_taken_as_it_is(rt: HostRuntime) -> Result<(), Fail> {
-    let stage = Stage::new(
-        &rt,
-        rt.alloc(),
-        on_w25q64fv(rt.alloc())?,
-        Start::IDLE.delays,
-    )?;
+fn a_spoilt_reply_is_taken_as_it_is(rt: HostRuntime) {
+    let stage = Stage::new(&rt, rt.alloc(), on_w25q64fv(), Start::IDLE.delays);
     let replies = [
         (Call::ReadOut, 1 + 2),
         (Call::Verify, 1 + 2),
@@ -145,9 +136,8 @@ fn a_spoilt_reply_is_taken_as_it_is(rt: HostRuntime) -> Result<(), Fail> {
         (Call::Restore, 1 + 5 + 2),
     ];
     for (call, count) in replies {
-        assert_eq!(rt; stage.spoil_each(&rt, call, 2)?, count, "{call:?}");
+        assert_eq!(rt; stage.spoil_each(&rt, call, 2), count, "{call:?}");
     }
-    Ok(())
 }
 
 // How many transactions a restore sends behind a session, or behind a session and a restore, that sent so many: none
@@ -179,22 +169,17 @@ fn rehearsed(behind: u64, stops: usize) -> (Result<Rehearsal, Refusal>, u64) {
 
 // The session sends 30 transactions, and the restore behind it thirteen, of which the eleventh programs the byte.
 #[test]
-fn a_stop_in_a_rehearsal(rt: HostRuntime) -> Result<(), Fail> {
+fn a_stop_in_a_rehearsal(rt: HostRuntime) {
     let row = a_bit_rises();
+    let request = row.request(&rt, rt.alloc());
     let all = [most(16); 2];
     for n in 0..30 + 13 {
         for stops in 0..3 {
-            let bus = row.bus(rt.alloc(), Start::IDLE)?;
+            let bus = row.bus(&rt, rt.alloc(), Start::IDLE);
             let mut bus = OnceBus::new(bus, 0, Fault::Stop, Some(n));
             let mut vault = MemVault::new(rt.alloc());
-            let mut image = row.wanted(rt.alloc())?;
-            let told = rehearse(
-                &mut bus,
-                &mut vault,
-                &mut image,
-                &row.request,
-                &all[..stops],
-            );
+            let mut image = row.wanted(&rt, rt.alloc());
+            let told = rehearse(&mut bus, &mut vault, &mut image, &request, &all[..stops]);
             assert_eq!(rt;
                 (told, bus.asked),
                 rehearsed(n, stops),
@@ -202,5 +187,4 @@ fn a_stop_in_a_rehearsal(rt: HostRuntime) -> Result<(), Fail> {
             );
         }
     }
-    Ok(())
 }

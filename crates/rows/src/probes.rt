@@ -1,11 +1,9 @@
 //! Probes of chips, by what SFDP bytes say (JESD216), which chips are found, what is sent and how long is waited.
-use crate::row::Start;
-use nor_chip::{Bus, Config, Delays, Meter, SimBus, Spoil, SpoiltBus, TINY64_SFDP, TraceBus};
-use nor_probe::{
-    ChipName, Found, Geometry, Kinds, ProbeFault, Probed, SfdpFault, probe_counted, read_sfdp,
-};
+use crate::row::{Start, erased};
+use nor_chip::{Config, Delays, Meter, SimBus, Spoil, SpoiltBus, TINY64_SFDP, TraceBus};
+use nor_probe::{ChipName, Found, Kinds, ProbeFault, Probed, SfdpFault, probe_counted};
 use std::alloc::Global;
-use std::test::Fail;
+use std::process::Abort;
 
 const ALL: Kinds = Kinds {
     k32: true,
@@ -71,25 +69,39 @@ const fn refuses(fault: SfdpFault) -> Answer {
 }
 
 // A chip of 64 KiB with this ID and these SFDP bytes.
-fn chip(id: [u8; 3], sfdp: &[u8]) -> Result<Config, Fail> {
-    Ok(Config::new(id, 65_536, true, true, false, sfdp).ok_or("no such size")?)
+fn chip(rt: &impl Abort, id: [u8; 3], sfdp: &[u8]) -> Config {
+    Config::new(id, 65_536, true, true, false, sfdp).expect(rt, "a size")
 }
 
 // A bus to an erased chip whose BP0 is set.
-fn bus_to(alloc: Global, config: Config, delays: Delays, allowed: u64) -> Result<SimBus, Fail> {
-    let bytes = vec![in alloc; 0xFF; config.size as usize]?;
-    let mut bus = SimBus::new(config, bytes, [0x04, 0x00], delays)?;
+fn bus_to(rt: &impl Abort, alloc: Global, config: Config, delays: Delays, allowed: u64) -> SimBus {
+    let mut bus = erased(rt, alloc, config, [0x04, 0x00], delays);
     bus.allow(allowed);
-    Ok(bus)
+    bus
+}
+
+// What a probe answers on a chip of no name in the table, whose SFDP bytes are a TINY64's but for a run of them.
+fn answer_to(rt: &impl Abort, alloc: Global, at: usize, run: &[u8]) -> Answer {
+    let mut sfdp = TINY64_SFDP;
+    for (place, byte) in sfdp.iter_mut().skip(at).zip(run) {
+        *place = *byte;
+    }
+    let config = chip(rt, [0xAA, 0x11, 0x22], &sfdp);
+    probe_counted(&mut bus_to(rt, alloc, config, Start::IDLE.delays, 5), None)
 }
 
 // Each row changes a run of a TINY64's SFDP bytes. From 0 on they are the header, with the major revision at 5; from 8
 // on the parameter header, with its revision at 0Ah, the length at 0Bh and the pointer at 0Ch; from 10h on the table,
 // with pages and address bytes in double word 1, the size in 2 (14h) and the erase types in 8 and 9 (2Ch).
+//
+// A table at FFFFFFh lies past the SFDP bytes, so each of its bytes is FFh; one at 0 is the header, which begins with
+// 53 46 44 50. As double word 1, both have a 2 or a 3 where they tell how many address bytes there are.
 #[test]
-fn sfdp_says_a_geometry_or_its_first_fault(rt: HostRuntime) -> Result<(), Fail> {
-    let cases: [(usize, &[u8], Answer); 17] = [
+fn sfdp_says_a_geometry_or_its_first_fault(rt: HostRuntime) {
+    let cases: [(usize, &[u8], Answer); 19] = [
         (0x00, &[], says(65_536, ALL)),
+        (0x0C, &[0xFF, 0xFF, 0xFF], refuses(SfdpFault::Address)),
+        (0x0C, &[0x00, 0x00, 0x00], refuses(SfdpFault::Address)),
         (0x05, &[0x02], refuses(SfdpFault::Major)),
         (
             0x00,
@@ -128,44 +140,9 @@ fn sfdp_says_a_geometry_or_its_first_fault(rt: HostRuntime) -> Result<(), Fail> 
         ),
     ];
     for (at, run, answer) in cases {
-        let mut sfdp = TINY64_SFDP;
-        for (place, byte) in sfdp.iter_mut().skip(at).zip(run) {
-            *place = *byte;
-        }
-        let config = chip([0xAA, 0x11, 0x22], &sfdp)?;
-        let mut bus = bus_to(rt.alloc(), config, Start::IDLE.delays, 5)?;
-        assert_eq!(rt; probe_counted(&mut bus, None), answer, "{run:?} at {at}");
+        let told = answer_to(&rt, rt.alloc(), at, run);
+        assert_eq!(rt; told, answer, "{run:?} at {at}");
     }
-    Ok(())
-}
-
-// The bytes as JESD216 lays them out: only the size in bits less one differs.
-#[test]
-fn emulated_chips_show_their_sfdp(rt: HostRuntime) -> Result<(), Fail> {
-    let cases = [
-        (Config::tiny64(), [0xFF, 0xFF, 0x07, 0x00], 65_536),
-        (Config::w25q64fv(), [0xFF, 0xFF, 0xFF, 0x03], 8_388_608),
-        (Config::w25q128fv(), [0xFF, 0xFF, 0xFF, 0x07], 16_777_216),
-    ];
-    for (config, [a, b, c, d], size) in cases {
-        let mut bus = bus_to(rt.alloc(), config, Start::IDLE.delays, 3)?;
-        let mut header = [0; 8];
-        let mut first = [0; 8];
-        let mut table = [0; 36];
-        bus.transfer(&[0x5A, 0x00, 0x00, 0x00, 0x00], &mut header)?;
-        bus.transfer(&[0x5A, 0x00, 0x00, 0x08, 0x00], &mut first)?;
-        bus.transfer(&[0x5A, 0x00, 0x00, 0x10, 0x00], &mut table)?;
-        assert_eq!(rt; header, [0x53, 0x46, 0x44, 0x50, 0x00, 0x01, 0x00, 0xFF]);
-        assert_eq!(rt; first, [0x00, 0x00, 0x01, 0x09, 0x10, 0x00, 0x00, 0xFF]);
-        let expected = [
-            0x05, 0x20, 0x00, 0x00, a, b, c, d, 0, 0, 0, 0, 0, 0, 0, 0, 0, 0, 0, 0, 0, 0, 0, 0, 0,
-            0, 0, 0, 0x0C, 0x20, 0x0F, 0x52, 0x10, 0xD8, 0x00, 0x00,
-        ];
-        assert_eq!(rt; table, expected);
-        let said = Geometry { size, kinds: ALL };
-        assert_eq!(rt; read_sfdp(&header, &first, &table), Ok(said));
-    }
-    Ok(())
 }
 
 const TINY64_SENT: &str = "05 > 04\n9f > fe1010\n\
@@ -179,17 +156,31 @@ const W25Q64FV_SENT: &str = "05 > 04\n9f > ef4017\n";
 
 const W25Q128FV_SENT: &str = "05 > 04\n9f > ef4018\n";
 
+// What a probe by a name answers, and whether it sent just that.
+fn probed(
+    rt: &impl Abort,
+    alloc: Global,
+    config: Config,
+    name: Option<&str>,
+    sent: &str,
+) -> (Answer, bool) {
+    let mut log = Vec::new(alloc);
+    let bus = bus_to(rt, alloc, config, Start::IDLE.delays, 100);
+    let told = probe_counted(&mut TraceBus::new(bus, &mut log), name.map(ChipName::of));
+    (told, log.as_slice() == sent.as_bytes())
+}
+
 // An ID of the table is believed, whatever the chip's SFDP says; names are compared letter by letter; nothing drives a
 // bus whose ID has equal bits throughout.
 #[test]
-fn probes_find_the_chips_that_are_known(rt: HostRuntime) -> Result<(), Fail> {
+fn probes_find_the_chips_that_are_known(rt: HostRuntime) {
     let small = Config::w25q64fv();
     let large = Config::w25q128fv();
     let by_sfdp = Config::tiny64();
-    let believed = chip([0xEF, 0x40, 0x17], &TINY64_SFDP)?;
-    let silent = chip([0xAA, 0x11, 0x22], &[])?;
-    let ones = chip([0xFF; 3], &[])?;
-    let zeros = chip([0x00; 3], &[])?;
+    let believed = chip(&rt, [0xEF, 0x40, 0x17], &TINY64_SFDP);
+    let silent = chip(&rt, [0xAA, 0x11, 0x22], &[]);
+    let ones = chip(&rt, [0xFF; 3], &[]);
+    let zeros = chip(&rt, [0x00; 3], &[]);
     let other = Err(ProbeFault::OtherName);
     let none = Err(ProbeFault::NoChip);
     let unknown = refuses(SfdpFault::Signature);
@@ -215,21 +206,15 @@ fn probes_find_the_chips_that_are_known(rt: HostRuntime) -> Result<(), Fail> {
         (zeros, Some("W25Q64FV"), none, "05 > 04\n9f > 000000\n"),
     ];
     for (config, name, answer, sent) in cases {
-        let mut log = Vec::new(rt.alloc());
-        let bus = bus_to(rt.alloc(), config, Start::IDLE.delays, 100)?;
-        let mut bus = TraceBus::new(bus, &mut log);
-        let named = name.map(ChipName::of);
-        assert_eq!(rt; probe_counted(&mut bus, named), answer, "{name:?}: {sent}");
-        drop(bus);
-        assert!(rt; log.as_slice() == sent.as_bytes(), "{name:?}: {sent}");
+        let told = probed(&rt, rt.alloc(), config, name, sent);
+        assert_eq!(rt; told, (answer, true), "{name:?}: {sent}");
     }
-    Ok(())
 }
 
 // A bus that lies from the last of all transactions on is honest. No clause tells a stop from a timeout on a bus that
 // lies, so that is shown here.
 #[test]
-fn the_longest_wait_and_one_transaction_too_few(rt: HostRuntime) -> Result<(), Fail> {
+fn the_longest_wait_and_one_transaction_too_few(rt: HostRuntime) {
     let honest = Spoil::BusyFrom(u64::MAX);
     let stuck = Spoil::BusyFrom(1);
     let stopped = Err(ProbeFault::Stopped);
@@ -243,9 +228,8 @@ fn the_longest_wait_and_one_transaction_too_few(rt: HostRuntime) -> Result<(), F
     ];
     for (now, spoil, allowed, answer) in cases {
         let delays = Delays { now, each: 0 };
-        let bus = bus_to(rt.alloc(), Config::tiny64(), delays, allowed)?;
+        let bus = bus_to(&rt, rt.alloc(), Config::tiny64(), delays, allowed);
         let mut bus = SpoiltBus::new(bus, spoil);
         assert_eq!(rt; probe_counted(&mut bus, None), answer, "{allowed}");
     }
-    Ok(())
 }

@@ -5,30 +5,30 @@ use nor_chip::Meter;
 use nor_journal::{BrokenVault, MemVault};
 use nor_read::{Protection, read_out, verify, wp_status};
 use nor_session::{Refusal, Report};
-use std::test::Fail;
 
 // The chip's sixteen sectors are a piece each, so that there is no seventeenth call. The refused piece is kept up to
 // some byte.
 #[test]
-fn a_vault_that_refuses_ends_the_reading(rt: HostRuntime) -> Result<(), Fail> {
+fn a_vault_that_refuses_ends_the_reading(rt: HostRuntime) {
     let row = a_bit_rises();
-    let refused = |written| Some(Refusal::Output { written });
     let cases = [
-        (1, 0, refused(0), 0),
-        (2, 904, refused(5000), 5000),
-        (16, 4095, refused(65_535), 65_535),
+        (1, 0, Some(Refusal::Output { written: 0 }), 0),
+        (2, 904, Some(Refusal::Output { written: 5000 }), 5000),
+        (16, 4095, Some(Refusal::Output { written: 65_535 }), 65_535),
         (17, 0, None, 65_536),
     ];
     for (nth, kept, refusal, held) in cases {
-        let mut bus = row.bus(rt.alloc(), Start::IDLE)?;
+        let mut bus = row.bus(&rt, rt.alloc(), Start::IDLE);
         bus.allow(AMPLE);
         let mut out = BrokenVault::new(MemVault::new(rt.alloc()), nth, kept);
-        let answer = read_out(&mut bus, None, None, &mut out);
-        assert_eq!(rt; answer.err(), refusal, "{nth}");
-        assert_eq!(rt; out.inner().bytes().len(), held, "{nth}");
-        assert_eq!(rt; out.failures(), u64::from(refusal.is_some()), "{nth}");
+        let answer = read_out(&mut bus, None, None, &mut out).err();
+        let told = (answer, out.inner().bytes().len(), out.failures());
+        assert_eq!(rt;
+            told,
+            (refusal, held, u64::from(refusal.is_some())),
+            "{nth}"
+        );
     }
-    Ok(())
 }
 
 // How many transactions a reading sent.
@@ -36,12 +36,12 @@ fn sent(answer: Result<Report, Refusal>) -> Result<u64, Refusal> {
     Ok(answer?.transactions)
 }
 
-// A reading of a TINY64 sends 21 transactions. Its protection is asked for with 6, that of a W25Q64FV with 3.
+// A reading of a TINY64 sends 21 transactions.
 #[test]
-fn any_stop_is_told(rt: HostRuntime) -> Result<(), Fail> {
+fn any_stop_is_told(rt: HostRuntime) {
     let row = a_bit_rises();
-    let before = row.before(rt.alloc())?;
-    let mut bus = row.bus(rt.alloc(), Start::IDLE)?;
+    let before = row.before(&rt, rt.alloc());
+    let mut bus = row.bus(&rt, rt.alloc(), Start::IDLE);
     for left in 0..=21 {
         let wanted = if left < 21 {
             Err(Refusal::Stopped)
@@ -50,22 +50,28 @@ fn any_stop_is_told(rt: HostRuntime) -> Result<(), Fail> {
         };
         bus.allow(left);
         let mut out = MemVault::new(rt.alloc());
-        assert_eq!(rt; sent(read_out(&mut bus, None, None, &mut out)), wanted);
+        let read = sent(read_out(&mut bus, None, None, &mut out));
         bus.allow(left);
-        assert_eq!(rt; sent(verify(&mut bus, &before, None, None)), wanted);
+        let verified = sent(verify(&mut bus, &before, None, None));
+        assert_eq!(rt; (read, verified), (wanted, wanted));
         assert!(rt; bus.bytes() == before.as_slice());
     }
+}
+
+// The protection of a TINY64 is asked for with 6 transactions, that of a W25Q64FV with 3.
+#[test]
+fn any_stop_of_a_look_at_the_protection_is_told(rt: HostRuntime) {
     let protection = Protection {
         range: Some((0x7E_0000, 0x2_0000)),
         locked: false,
         size: 8_388_608,
     };
     let cases = [
-        (row, 6, Err(Refusal::NoProtection)),
+        (a_bit_rises(), 6, Err(Refusal::NoProtection)),
         (a_byte_below_the_guard_is_programmed(), 3, Ok(protection)),
     ];
     for (row, needed, told) in cases {
-        let mut bus = row.bus(rt.alloc(), Start::IDLE)?;
+        let mut bus = row.bus(&rt, rt.alloc(), Start::IDLE);
         for left in 0..=needed {
             bus.allow(left);
             let wanted = if left < needed {
@@ -76,5 +82,4 @@ fn any_stop_is_told(rt: HostRuntime) -> Result<(), Fail> {
             assert_eq!(rt; wp_status(&mut bus, None), wanted);
         }
     }
-    Ok(())
 }

@@ -1,9 +1,9 @@
 //! The sessions that are stopped, spoilt and refused: each on its chip, with its image and its request.
 use nor_chip::{Config, Delays, SimBus, TINY64_SFDP};
-use nor_layout::Layout;
+use nor_layout::{Layout, Ranges};
 use nor_session::{Request, What};
 use std::alloc::Global;
-use std::test::Fail;
+use std::process::Abort;
 
 /// The bytes of a whole chip: FFh, but for a run of others from one address on.
 #[derive(Clone, Copy)]
@@ -13,12 +13,12 @@ pub struct Bytes {
 }
 
 impl Bytes {
-    fn whole(self, alloc: Global, size: usize) -> Result<Vec<u8>, Fail> {
-        let mut whole = vec![in alloc; 0xFF; size]?;
+    fn whole(self, rt: &impl Abort, alloc: Global, size: usize) -> Vec<u8> {
+        let mut whole = vec![in alloc; 0xFF; size].expect(rt, "memory");
         for (place, byte) in whole.iter_mut().skip(self.at).zip(self.run) {
             *place = *byte;
         }
-        Ok(whole)
+        whole
     }
 }
 
@@ -63,6 +63,12 @@ impl Start {
         }
     }
 
+    // The status of a chip that has these kept bits.
+    fn status(self, kept: [u8; 2]) -> [u8; 2] {
+        let [one, two] = kept;
+        if self.latch { [one | 0x02, two] } else { kept }
+    }
+
     /// An idle chip that answers BUSY twice after each operation, and loses its power at a stop.
     pub const fn losing(fill: u8) -> Start {
         Start {
@@ -73,15 +79,18 @@ impl Start {
     }
 }
 
-/// A session on a chip, with what it sends where nothing stops it.
-#[derive(Drop)]
+/// A session that writes to a chip, with what it sends where nothing stops it. It owns nothing, so that a table of
+/// rows costs its proof little.
+#[derive(Clone, Copy)]
 pub struct Row {
     pub config: Config,
     /// The kept bits alone.
     pub status: [u8; 2],
     pub old: Bytes,
     pub image: Bytes,
-    pub request: Request,
+    /// The line of a layout whose region `part` is included; without one that is the whole chip.
+    pub part: Option<&'static [u8]>,
+    pub unlock: bool,
     /// How many transactions go before the seal, on a chip without delays.
     pub sealed: u32,
     /// How many there are in all, on a chip without delays.
@@ -92,23 +101,36 @@ pub struct Row {
 
 impl Row {
     /// The chip's bytes at the start.
-    pub fn before(&self, alloc: Global) -> Result<Vec<u8>, Fail> {
-        self.old.whole(alloc, self.config.size as usize)
+    pub fn before(&self, rt: &impl Abort, alloc: Global) -> Vec<u8> {
+        self.old.whole(rt, alloc, self.config.size as usize)
     }
 
     /// The session's image.
-    pub fn wanted(&self, alloc: Global) -> Result<Vec<u8>, Fail> {
-        self.image.whole(alloc, self.config.size as usize)
+    pub fn wanted(&self, rt: &impl Abort, alloc: Global) -> Vec<u8> {
+        self.image.whole(rt, alloc, self.config.size as usize)
+    }
+
+    /// The session's request.
+    pub fn request(&self, rt: &impl Abort, alloc: Global) -> Request {
+        Request {
+            what: What::Write,
+            named: None,
+            included: included(rt, alloc, self.part),
+            unlock: self.unlock,
+            verify: true,
+        }
     }
 
     /// A bus to the row's chip.
-    pub fn bus(&self, alloc: Global, start: Start) -> Result<SimBus, Fail> {
-        let [one, two] = self.status;
-        let latch = if start.latch { 0x02 } else { 0x00 };
-        let bytes = self.before(alloc)?;
-        let mut bus = SimBus::new(self.config, bytes, [one | latch, two], start.delays)?;
+    pub fn bus(&self, rt: &impl Abort, alloc: Global, start: Start) -> SimBus {
+        let bytes = self.before(rt, alloc);
+        let status = start.status(self.status);
+        let mut bus = SimBus::new(self.config, bytes, status, start.delays).expect(
+            rt,
+            "as many bytes as the chip has",
+        );
         bus.lose(start.fill);
-        Ok(bus)
+        bus
     }
 
     /// The fewest transactions with which the vault is sealed.
@@ -127,13 +149,23 @@ impl Row {
 
 const ZEROS: &[u8] = &[0x00; 65_536];
 
-const WRITE: Request = Request {
-    what: What::Write,
-    named: None,
-    included: None,
-    unlock: false,
-    verify: true,
-};
+/// A bus to an erased chip.
+pub fn erased(
+    rt: &impl Abort,
+    alloc: Global,
+    config: Config,
+    status: [u8; 2],
+    delays: Delays,
+) -> SimBus {
+    let bytes = vec![in alloc; 0xFF; config.size as usize].expect(rt, "memory");
+    SimBus::new(config, bytes, status, delays).expect(rt, "as many bytes as the chip has")
+}
+
+/// What the region `part` of a layout includes; without a layout nothing is told of it.
+pub fn included(rt: &impl Abort, alloc: Global, layout: Option<&[u8]>) -> Option<Ranges> {
+    let layout = Layout::read(alloc, layout?).expect(rt, "a layout");
+    Some(layout.include("part").expect(rt, "a region"))
+}
 
 const ERASED: Bytes = Bytes { at: 0, run: &[] };
 
@@ -148,7 +180,8 @@ fn on_tiny64(old: Bytes, image: Bytes, length: u32, operations: u32) -> Row {
         status: [0x00, 0x00],
         old,
         image,
-        request: WRITE,
+        part: None,
+        unlock: false,
         sealed: 23,
         length,
         operations,
@@ -187,27 +220,23 @@ pub fn the_chip_is_erased() -> Row {
 
 /// One page of a cleared sector is included and becomes FFh, so the other fifteen are programmed again. The scan has
 /// one transaction.
-pub fn the_rest_of_a_sector_stays(alloc: Global) -> Result<Row, Fail> {
-    let layout = Layout::read(alloc, b"0x800:0x8ff bios")?;
-    let request = Request {
-        included: Some(layout.include("bios")?),
-        ..WRITE
-    };
-    Ok(Row {
+pub fn the_rest_of_a_sector_stays() -> Row {
+    Row {
+        part: Some(b"0x800:0x8ff part"),
         sealed: 8,
-        request,
         ..on_tiny64(run(0, &[0x00; 4096]), ERASED, 57, 16)
-    })
+    }
 }
 
 // A write on an erased W25Q64FV whose last 128 KiB are guarded. The opening has four transactions, the scan 2,048.
-fn on_w25q64fv(image: Bytes, request: Request, length: u32, operations: u32) -> Row {
+fn on_w25q64fv(image: Bytes, unlock: bool, length: u32, operations: u32) -> Row {
     Row {
         config: Config::w25q64fv(),
         status: [0x04, 0x00],
         old: ERASED,
         image,
-        request,
+        part: None,
+        unlock,
         sealed: 2052,
         length,
         operations,
@@ -216,30 +245,26 @@ fn on_w25q64fv(image: Bytes, request: Request, length: u32, operations: u32) -> 
 
 /// The byte below the guarded places is programmed.
 pub fn a_byte_below_the_guard_is_programmed() -> Row {
-    on_w25q64fv(run(0x7D_FFFF, &[0x00]), WRITE, 2057, 1)
+    on_w25q64fv(run(0x7D_FFFF, &[0x00]), false, 2057, 1)
 }
 
 /// The first guarded byte is programmed, with protection lifted and given back.
 pub fn a_guarded_byte_is_programmed() -> Row {
-    let request = Request {
-        unlock: true,
-        ..WRITE
-    };
-    on_w25q64fv(run(0x7E_0000, &[0x00]), request, 2063, 3)
+    on_w25q64fv(run(0x7E_0000, &[0x00]), true, 2063, 3)
 }
 
 /// All of a TINY64 with no erases but those of sectors and of the whole chip is changed: fifteen sectors are erased,
 /// and of all sixteen each page is programmed.
-pub fn each_page_is_programmed() -> Result<Row, Fail> {
+pub fn each_page_is_programmed(rt: &impl Abort) -> Row {
     let mut sfdp = TINY64_SFDP;
     sfdp[0x2E] = 0x00;
     sfdp[0x30] = 0x00;
     let id = [0xFE, 0x10, 0x10];
-    let config = Config::new(id, 65_536, false, false, false, &sfdp).ok_or("no such size")?;
+    let config = Config::new(id, 65_536, false, false, false, &sfdp).expect(rt, "a size");
     // Behind opening and scan: three for each operation, one for the sector that isn't erased, sixteen to compare.
     let operations = 15 + 16 * 16;
     let length = 23 + 3 * operations + 1 + 16;
-    Ok(Row {
+    Row {
         config,
         ..on_tiny64(
             run(0, &[0x00; 61_440]),
@@ -247,5 +272,5 @@ pub fn each_page_is_programmed() -> Result<Row, Fail> {
             length,
             operations,
         )
-    })
+    }
 }

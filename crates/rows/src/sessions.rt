@@ -1,34 +1,34 @@
 //! Sessions, and a rehearsal, on chips and buses that no file of a chip gives.
-use crate::row::{Start, a_bit_rises, nine_sectors_are_erased};
-use crate::spoilt::Lied;
+use crate::row::{Start, a_bit_rises};
 use nor_chip::{Config, Delays, Meter, SimBus, Spoil, SpoiltBus, TINY64_SFDP};
 use nor_journal::MemVault;
 use nor_session::{Refusal, Rehearsal, Report, rehearse, session};
 use std::alloc::Global;
-use std::test::Fail;
+use std::process::Abort;
 
 // A session that writes FFh everywhere. The chip has FFh, but 00h in so many bytes from 8000h on.
 fn blank(
+    rt: &impl Abort,
     alloc: Global,
     config: Config,
     cleared: usize,
     status: [u8; 2],
     delays: Delays,
-) -> Result<Report, Fail> {
-    let mut image = vec![in alloc; 0xFF; config.size as usize]?;
-    let mut bytes = vec![in alloc; 0xFF; config.size as usize]?;
+) -> Report {
+    let mut image = vec![in alloc; 0xFF; config.size as usize].expect(rt, "memory");
+    let mut bytes = image.to_vec(alloc).expect(rt, "memory");
     for byte in bytes.iter_mut().skip(0x8000).take(cleared) {
         *byte = 0x00;
     }
-    let mut bus = SimBus::new(config, bytes, status, delays)?;
+    let mut bus = SimBus::new(config, bytes, status, delays).expect(rt, "as many bytes");
     bus.allow(u64::MAX);
     let mut vault = MemVault::new(alloc);
-    let row = a_bit_rises();
-    Ok(session(&mut bus, &mut vault, &mut image, &row.request)?)
+    let request = a_bit_rises().request(rt, alloc);
+    session(&mut bus, &mut vault, &mut image, &request).expect(rt, "the session ends")
 }
 
 // A chip of 256 KiB that is known by its SFDP, with these erase kinds.
-fn chip_by_sfdp(k32: bool, k64: bool) -> Result<Config, Fail> {
+fn chip_by_sfdp(rt: &impl Abort, k32: bool, k64: bool) -> Config {
     let mut sfdp = TINY64_SFDP;
     sfdp[0x16] = 0x1F;
     if !k32 {
@@ -37,13 +37,12 @@ fn chip_by_sfdp(k32: bool, k64: bool) -> Result<Config, Fail> {
     if !k64 {
         sfdp[0x30] = 0x00;
     }
-    let config = Config::new([0xAA, 0x11, 0x22], 262_144, k32, k64, false, &sfdp);
-    Ok(config.ok_or("no such size")?)
+    Config::new([0xAA, 0x11, 0x22], 262_144, k32, k64, false, &sfdp).expect(rt, "a size")
 }
 
 // Sectors 8 to 39. Beside the erases' three each, seven transactions open, 64 scan and 32 check.
 #[test]
-fn sectors_are_erased_by_the_largest_units(rt: HostRuntime) -> Result<(), Fail> {
+fn sectors_are_erased_by_the_largest_units(rt: HostRuntime) {
     let cases = [
         (false, true, 17, 154),
         (true, false, 4, 115),
@@ -51,56 +50,36 @@ fn sectors_are_erased_by_the_largest_units(rt: HostRuntime) -> Result<(), Fail> 
         (true, true, 3, 112),
     ];
     for (k32, k64, erases, transactions) in cases {
-        let config = chip_by_sfdp(k32, k64)?;
-        let report = blank(
-            rt.alloc(),
-            config,
-            131_072,
-            [0x00, 0x00],
-            Start::IDLE.delays,
-        )?;
+        let config = chip_by_sfdp(&rt, k32, k64);
+        let idle = Start::IDLE.delays;
+        let report = blank(&rt, rt.alloc(), config, 131_072, [0x00, 0x00], idle);
         assert_eq!(rt; (report.touched, report.programs), (32, 0));
         assert_eq!(rt;
             (report.erases, report.transactions),
             (erases, transactions)
         );
     }
-    Ok(())
 }
 
 // A session on a TINY64 that has nothing to change sends 23 transactions. The latch of the operation that runs at first
 // is clear behind it.
 #[test]
-fn a_busy_chip_is_waited_for(rt: HostRuntime) -> Result<(), Fail> {
+fn a_busy_chip_is_waited_for(rt: HostRuntime) {
     let busy = Delays {
         now: 65_535,
         each: 0,
     };
-    let report = blank(rt.alloc(), Config::tiny64(), 0, [0x02, 0x00], busy)?;
+    let report = blank(&rt, rt.alloc(), Config::tiny64(), 0, [0x02, 0x00], busy);
     assert_eq!(rt; (report.transactions, report.found.status1), (65_558, 0x00));
-    Ok(())
-}
-
-// Behind the readings 25 erases sectors 0 to 7, 28 sector 8, and 30 to 38 read them again. The erase that is dropped
-// leaves its sectors as they were.
-#[test]
-fn a_check_ends_at_the_first_difference(rt: HostRuntime) -> Result<(), Fail> {
-    let row = nine_sectors_are_erased();
-    for (dropped, address, sent) in [(25, 0, 30), (28, 0x8000, 38)] {
-        let lied = Lied::session(&rt, rt.alloc(), &row, Spoil::Drop(dropped))?;
-        let mismatch = Refusal::Mismatch { address };
-        assert_eq!(rt; (lied.refusal, lied.sent), (Some(mismatch), sent));
-        lied.assert_given_back(&rt, rt.alloc(), &row)?;
-    }
-    Ok(())
 }
 
 // Without a stop the session ends, with its 30th transaction, and its restore gives the chip back. Where each poll from
 // the next one on shows BUSY, the restore's first wait has no end; the address of the opening is 0.
 #[test]
-fn the_refusal_of_a_restore_is_told(rt: HostRuntime) -> Result<(), Fail> {
+fn the_refusal_of_a_restore_is_told(rt: HostRuntime) {
     let row = a_bit_rises();
-    let before = row.before(rt.alloc())?;
+    let before = row.before(&rt, rt.alloc());
+    let request = row.request(&rt, rt.alloc());
     let ended = Rehearsal {
         ended: true,
         sealed: true,
@@ -111,16 +90,13 @@ fn the_refusal_of_a_restore_is_told(rt: HostRuntime) -> Result<(), Fail> {
         (31, Err(Refusal::Timeout { address: 0 }), false),
     ];
     for (busy_from, answer, given_back) in cases {
-        let bus = row.bus(rt.alloc(), Start::IDLE)?;
+        let bus = row.bus(&rt, rt.alloc(), Start::IDLE);
         let mut bus = SpoiltBus::new(bus, Spoil::BusyFrom(busy_from));
         let mut vault = MemVault::new(rt.alloc());
-        let mut image = row.wanted(rt.alloc())?;
-        let told = rehearse(&mut bus, &mut vault, &mut image, &row.request, &[]);
+        let mut image = row.wanted(&rt, rt.alloc());
+        let told = rehearse(&mut bus, &mut vault, &mut image, &request, &[]);
         let is_as_before = bus.into_inner().bytes() == before.as_slice();
-        assert_eq!(rt;
-            (told, vault.is_sealed(), is_as_before),
-            (answer, true, given_back)
-        );
+        let left = (told, vault.is_sealed(), is_as_before);
+        assert_eq!(rt; left, (answer, true, given_back));
     }
-    Ok(())
 }

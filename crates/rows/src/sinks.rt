@@ -10,7 +10,7 @@ use std::cell::Cell;
 use std::fs::{Metadata, OpenFile};
 use std::io;
 use std::io::Write;
-use std::test::Fail;
+use std::process::Abort;
 
 /// The journal of a TINY64, whose unique ID is zeros, that saves no sector. The digest is that of `sha256sum`.
 const EMPTY: [u8; 61] = [
@@ -44,59 +44,73 @@ fn is_whole(bytes: &[u8]) -> bool {
 #[test]
 fn mem_vault_refuses(rt: HostRuntime) {
     let mut vault = MemVault::new(rt.alloc());
-    assert!(rt; !vault.is_sealed());
-    assert!(rt; vault.put(b"jour").is_ok());
-    assert!(rt; vault.put(b"").is_ok());
-    assert!(rt; vault.put(b"nal").is_ok());
+    let at_first = vault.is_sealed();
+    let puts = [
+        vault.put(b"jour"),
+        vault.put(b""),
+        vault.put(b"nal"),
+        vault.seal(),
+    ];
+    assert_eq!(rt;
+        (at_first, puts, vault.is_sealed()),
+        (false, [Ok(()); 4], true)
+    );
     assert_eq!(rt; vault.bytes(), b"journal".as_slice());
-    assert!(rt; vault.seal().is_ok());
-    assert!(rt; vault.is_sealed());
 }
 
 // The nine calls that make the journal: five put the head, one the record, two the end mark and the digest, and the
-// last one seals. Of the piece of a refused call the vault keeps a beginning, and the refusal tells how much: what it
-// holds is a beginning of the one journal.
+// last one seals. Each has its number, how many bytes stand before its piece, and how many the piece has.
+const CALLS: [(u64, usize, usize); 9] = [
+    (1, 0, 8),
+    (2, 8, 3),
+    (3, 11, 8),
+    (4, 19, 2),
+    (5, 21, 4),
+    (6, 25, 4100),
+    (7, 4125, 4),
+    (8, 4129, 32),
+    (9, 4161, 0),
+];
+
+// Writes the journal into a vault that refuses one call, after so many bytes of its piece. It refuses as told, as often
+// as told and is then sealed or not; it holds the beginning of the right journal up to some byte.
+fn assert_broken(
+    rt: &impl Abort,
+    alloc: Global,
+    broken: (u64, usize),
+    told: (Result<(), VaultFault>, u64, bool),
+    beginning: Option<&[u8]>,
+) {
+    let chip = Journal::read(&EMPTY).expect(rt, "a journal");
+    let (nth, kept) = broken;
+    let mut vault = BrokenVault::new(MemVault::new(alloc), nth, kept);
+    let answer = save(&mut vault, &chip);
+    let held = vault.inner();
+    let left = (answer, vault.failures(), held.is_sealed());
+    assert_eq!(rt; left, told, "call {nth}, {kept} bytes");
+    assert!(rt; beginning == Some(held.bytes()), "call {nth}, {kept} bytes");
+}
+
+// Of the piece of a refused call the vault keeps a beginning, and the refusal tells how much: what it holds is a
+// beginning of the one journal. A call that doesn't come refuses nothing.
 #[test]
-fn each_call_of_a_writer_is_refused(rt: HostRuntime) -> Result<(), Fail> {
-    let chip = Journal::read(&EMPTY)?;
-    let mut right = MemVault::new(rt.alloc());
-    save(&mut right, &chip)?;
-    assert!(rt; right.is_sealed() && is_whole(right.bytes()));
-    // which call, how many bytes stand before its piece, and how many the piece has
-    let calls = [
-        (1, 0, 8),
-        (2, 8, 3),
-        (3, 11, 8),
-        (4, 19, 2),
-        (5, 21, 4),
-        (6, 25, 4100),
-        (7, 4125, 4),
-        (8, 4129, 32),
-        (9, 4161, 0),
-    ];
+fn each_call_of_a_writer_is_refused(rt: HostRuntime) {
+    let chip = Journal::read(&EMPTY).expect(&rt, "a journal");
+    let mut vault = MemVault::new(rt.alloc());
+    assert_eq!(rt; save(&mut vault, &chip), Ok(()));
+    let right = vault.bytes();
+    assert!(rt; vault.is_sealed() && is_whole(right));
     for kept in [0, 1, 4095, 5000] {
-        for (nth, before, piece) in calls {
-            let mut vault = BrokenVault::new(MemVault::new(rt.alloc()), nth, kept);
-            let told = piece.min(kept);
-            assert_eq!(rt; save(&mut vault, &chip), Err(VaultFault { kept: told }));
-            assert_eq!(rt; vault.failures(), 1);
-            let held = vault.into_inner();
-            assert!(rt; !held.is_sealed());
-            let end = told.saturating_add(before);
-            assert!(rt;
-                right.bytes().get(0..end) == Some(held.bytes()),
-                "call {nth}, {kept} bytes"
-            );
+        for (nth, before, piece) in CALLS {
+            let put = piece.min(kept);
+            let told = (Err(VaultFault { kept: put }), 1, false);
+            let beginning = right.get(0..put.saturating_add(before));
+            assert_broken(&rt, rt.alloc(), (nth, kept), told, beginning);
         }
     }
     for nth in [0, 10] {
-        let mut vault = BrokenVault::new(MemVault::new(rt.alloc()), nth, 0);
-        assert_eq!(rt; save(&mut vault, &chip), Ok(()));
-        assert_eq!(rt; vault.failures(), 0);
-        let held = vault.into_inner();
-        assert!(rt; held.is_sealed() && is_whole(held.bytes()));
+        assert_broken(&rt, rt.alloc(), (nth, 0), (Ok(()), 0, true), Some(right));
     }
-    Ok(())
 }
 
 /// A file in memory that takes at most `most` bytes a write, and fails after `writes` of them. One of `sync_all` and
@@ -167,8 +181,8 @@ impl OpenFile for SmallFile {
 
 // A write that takes nothing is a refusal too, and a sync that fails keeps nothing.
 #[test]
-fn files_that_refuse(rt: HostRuntime) -> Result<(), Fail> {
-    let chip = Journal::read(&EMPTY)?;
+fn files_that_refuse(rt: HostRuntime) {
+    let chip = Journal::read(&EMPTY).expect(&rt, "a journal");
     let many = u32::MAX;
     // the most bytes of a write, how many writes there are, whether a sync succeeds; the answer, the bytes in the file
     let rows = [
@@ -188,17 +202,17 @@ fn files_that_refuse(rt: HostRuntime) -> Result<(), Fail> {
     ];
     for (most, writes, syncs, answer, length) in rows {
         let mut vault = FileVault::new(SmallFile::new(rt.alloc(), most, writes, syncs));
-        assert_eq!(rt;
-            save(&mut vault, &chip),
-            answer,
-            "{writes} writes of {most} bytes"
-        );
+        let told = save(&mut vault, &chip);
         let file = vault.into_inner();
-        assert_eq!(rt; file.bytes.len(), length, "{writes} writes of {most} bytes");
-        assert_eq!(rt; is_whole(&file.bytes), length == 4161);
-        assert!(rt; !file.resized.get());
+        let left = (
+            told,
+            file.bytes.len(),
+            is_whole(&file.bytes),
+            file.resized.get(),
+        );
+        let wanted = (answer, length, length == 4161, false);
+        assert_eq!(rt; left, wanted, "{writes} writes of {most} bytes");
     }
-    Ok(())
 }
 
 /// A file in memory that knows how many of its bytes it was synced with.
@@ -224,20 +238,23 @@ impl VaultFile for KnownFile {
     }
 }
 
+// A vault in memory and one in a file take a piece of this length, and the file is synced with it.
+fn assert_taken(rt: &impl Abort, alloc: Global, length: usize) {
+    let piece = vec![in alloc; 0x5A; length].expect(rt, "memory");
+    let mut memory = MemVault::new(alloc);
+    let bytes = Vec::new(alloc);
+    let mut vault = FileVault::new(KnownFile { bytes, synced: 0 });
+    let told = [memory.put(&piece), vault.put(&piece), vault.seal()];
+    assert_eq!(rt; told, [Ok(()); 3], "{length}");
+    let file = vault.into_inner();
+    assert!(rt; memory.bytes() == piece.as_slice(), "{length}");
+    assert!(rt; file.bytes.as_slice() == piece.as_slice(), "{length}");
+    assert_eq!(rt; file.synced, length);
+}
+
 #[test]
-fn pieces_of_all_lengths(rt: HostRuntime) -> Result<(), Fail> {
+fn pieces_of_all_lengths(rt: HostRuntime) {
     for length in [1, 2, 255, 4095, 4096, 4097, 4100, 65537, 100_001, 1 << 20] {
-        let piece = vec![in rt.alloc(); 0x5A; length]?;
-        let mut memory = MemVault::new(rt.alloc());
-        memory.put(&piece)?;
-        assert!(rt; memory.bytes() == piece.as_slice(), "{length}");
-        let bytes = Vec::new(rt.alloc());
-        let mut vault = FileVault::new(KnownFile { bytes, synced: 0 });
-        vault.put(&piece)?;
-        vault.seal()?;
-        let file = vault.into_inner();
-        assert!(rt; file.bytes.as_slice() == piece.as_slice(), "{length}");
-        assert_eq!(rt; file.synced, length);
+        assert_taken(&rt, rt.alloc(), length);
     }
-    Ok(())
 }

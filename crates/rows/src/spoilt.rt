@@ -1,12 +1,11 @@
 //! Sessions and restores on a bus that lies in one way, and what may be asked of them all the same.
 use crate::row::{Row, Start};
-use crate::runs::{AMPLE, Cut, Runs};
+use crate::runs::{AMPLE, Cut, Runs, keep};
 use nor_chip::{Meter, SimBus, Spoil, SpoiltBus};
 use nor_journal::{Journal, MemVault};
-use nor_session::{Refusal, restore, session};
+use nor_session::{Refusal, restore};
 use std::alloc::Global;
 use std::process::Abort;
-use std::test::Fail;
 
 /// The most transactions of a session on a chip of so many sectors, and of a restore that so many are saved for: an
 /// opening of 65,542, three readings of each sector, and for each sector an erase and sixteen programs, and two status
@@ -14,6 +13,17 @@ use std::test::Fail;
 pub fn most(sectors: u32) -> u64 {
     let sectors = u64::from(sectors);
     65_542 + 3 * sectors + 65_538 * (17 * sectors + 2)
+}
+
+/// The four ways to lie, with this number.
+pub fn lies(n: u8) -> [Spoil; 4] {
+    let first = u64::from(n);
+    [
+        Spoil::Fill(n),
+        Spoil::BusyFrom(first),
+        Spoil::Drop(first),
+        Spoil::Low(n),
+    ]
 }
 
 /// The bus, spoilt, under any number of transactions.
@@ -32,46 +42,40 @@ pub struct Lied {
 
 impl Lied {
     /// The row's session, which keeps its bound.
-    pub fn session(rt: &impl Abort, alloc: Global, row: &Row, spoil: Spoil) -> Result<Lied, Fail> {
-        let mut bus = spoilt(row.bus(alloc, Start::IDLE)?, spoil);
+    pub fn session(rt: &impl Abort, alloc: Global, row: &Row, spoil: Spoil) -> Lied {
+        let mut bus = spoilt(row.bus(rt, alloc, Start::IDLE), spoil);
         let mut vault = MemVault::new(alloc);
-        let mut image = row.wanted(alloc)?;
-        let refusal = session(&mut bus, &mut vault, &mut image, &row.request).err();
+        let refusal = keep(rt, alloc, row, &mut bus, &mut vault).err();
         let sent = bus.sent();
         assert!(rt;
             0 < sent && sent <= most(row.config.size / 4096),
             "{spoil:?}: {sent}"
         );
         let bus = bus.into_inner();
-        let cut = Cut {
-            bus,
-            vault,
-            ended: None,
-        };
-        Ok(Lied { refusal, sent, cut })
+        let cut = Cut { bus, vault };
+        Lied { refusal, sent, cut }
     }
 
     /// The restore behind a session that was stopped on the honest bus. It keeps its bound.
-    pub fn restore(rt: &impl Abort, cut: Cut, spoil: Spoil) -> Result<Lied, Fail> {
-        let Cut { bus, vault, ended } = cut;
+    pub fn restore(rt: &impl Abort, cut: Cut, spoil: Spoil) -> Lied {
+        let Cut { bus, vault } = cut;
         let mut bus = spoilt(bus, spoil);
-        let journal = Journal::read(vault.bytes())?;
-        let saved = u32::try_from(journal.count())?;
+        let journal = Journal::read(vault.bytes()).expect(rt, "a journal");
+        let saved = u32::try_from(journal.count()).expect(rt, "a count of sectors");
         let refusal = restore(&mut bus, &journal).err();
         let sent = bus.sent();
         assert!(rt; 0 < sent && sent <= most(saved), "{spoil:?}: {sent}");
         let bus = bus.into_inner();
-        let cut = Cut { bus, vault, ended };
-        Ok(Lied { refusal, sent, cut })
+        let cut = Cut { bus, vault };
+        Lied { refusal, sent, cut }
     }
 
     /// Restores on the honest bus, where the vault was sealed. The chip is as before.
-    pub fn assert_given_back(self, rt: &impl Abort, alloc: Global, row: &Row) -> Result<(), Fail> {
+    pub fn assert_given_back(self, rt: &impl Abort, alloc: Global, row: &Row) {
         let Lied { mut cut, .. } = self;
         if cut.vault.is_sealed() {
-            assert!(rt; cut.restore(AMPLE)?.is_some());
+            cut.restore(rt, AMPLE).expect(rt, "the restore ends");
         }
-        Runs::new(alloc, row, Start::IDLE)?.assert_as_before(rt, &cut.bus);
-        Ok(())
+        Runs::new(rt, alloc, row, Start::IDLE).assert_as_before(rt, &cut.bus);
     }
 }

@@ -1,19 +1,20 @@
 //! Jobs whose calls are run on a bus that fails once, at each of their transactions in turn.
+ghost use Rattle.nor_journal.specs.Vault.{IsFresh};
+
 use crate::failing::{Fault, OnceBus};
+use crate::row::included;
 use crate::spoilt::most;
 use nor_chip::{Config, Delays, SimBus, TINY64_SFDP};
-use nor_journal::{Journal, MemVault};
-use nor_layout::{Layout, Ranges};
+use nor_journal::{Journal, MemVault, Vault};
 use nor_probe::probe;
 use nor_read::{read_out, verify, wp_status};
-use nor_session::{Refusal, Request, What, restore, session};
+use nor_session::{Refusal, Report, Request, What, restore, session};
 use std::alloc::Global;
 use std::process::Abort;
-use std::test::Fail;
 
 /// A session on a chip that is all FFh, but that a byte of each of some sectors is 00h. It is to be all FFh, but for
 /// four bytes from one address on.
-#[derive(Drop)]
+#[derive(Clone, Copy)]
 pub struct Job {
     config: Config,
     // the kept bits alone
@@ -21,44 +22,64 @@ pub struct Job {
     // where the first of these bytes is, and how many there are
     cleared: (usize, usize),
     written: usize,
-    request: Request,
+    // the line of a layout whose region `part` is included
+    part: Option<&'static [u8]>,
 }
 
 /// A chip of two blocks. A sector and a block of 64 KiB are erased, and the bytes lie in the two sectors before them.
-pub fn on_two_blocks() -> Result<Job, Fail> {
+pub fn on_two_blocks(rt: &impl Abort) -> Job {
     let mut sfdp = TINY64_SFDP;
     // of two to the 20th bits, minus one
     sfdp[0x16] = 0x0F;
     let id = [0xFE, 0x10, 0x11];
-    Ok(Job {
-        config: Config::new(id, 131_072, true, true, false, &sfdp).ok_or("no such size")?,
+    Job {
+        config: Config::new(id, 131_072, true, true, false, &sfdp).expect(rt, "a size"),
         status: [0x00, 0x00],
         cleared: (0xF010, 17),
         written: 0xDFFE,
-        request: request(None),
-    })
+        part: None,
+    }
 }
 
 /// Protection of the last 128 KiB is lifted and given back. Two of the bytes lie in the first sector of these, two in
 /// the next one, which is erased.
-pub fn on_w25q64fv(alloc: Global) -> Result<Job, Fail> {
-    let layout = Layout::read(alloc, b"7e0000:7e1fff end")?;
-    Ok(Job {
+pub fn on_w25q64fv() -> Job {
+    Job {
         config: Config::w25q64fv(),
         status: [0x04, 0x00],
         cleared: (0x7E_1010, 1),
         written: 0x7E_0FFE,
-        request: request(Some(layout.include("end")?)),
-    })
+        part: Some(b"7e0000:7e1fff part"),
+    }
 }
 
-fn request(included: Option<Ranges>) -> Request {
-    Request {
-        what: What::Write,
-        named: None,
-        included,
-        unlock: true,
-        verify: true,
+impl Job {
+    fn before(&self, rt: &impl Abort, alloc: Global) -> Vec<u8> {
+        let mut bytes = vec![in alloc; 0xFF; self.config.size as usize].expect(rt, "memory");
+        let (first, count) = self.cleared;
+        for byte in bytes.iter_mut().skip(first).step_by(4096).take(count) {
+            *byte = 0x00;
+        }
+        bytes
+    }
+
+    fn image(&self, rt: &impl Abort, alloc: Global) -> Vec<u8> {
+        let mut image = vec![in alloc; 0xFF; self.config.size as usize].expect(rt, "memory");
+        let written = [0x11, 0x22, 0x33, 0x44];
+        for (place, byte) in image.iter_mut().skip(self.written).zip(written) {
+            *place = byte;
+        }
+        image
+    }
+
+    fn request(&self, rt: &impl Abort, alloc: Global) -> Request {
+        Request {
+            what: What::Write,
+            named: None,
+            included: included(rt, alloc, self.part),
+            unlock: true,
+            verify: true,
+        }
     }
 }
 
@@ -81,126 +102,141 @@ pub struct Stage {
     delays: Delays,
     old: Vec<u8>,
     image: Vec<u8>,
+    request: Request,
     journal: Vec<u8>,
 }
 
 impl Stage {
     /// Runs the session of the job, for its journal.
-    pub fn new(rt: &impl Abort, alloc: Global, job: Job, delays: Delays) -> Result<Stage, Fail> {
-        let mut old = vec![in alloc; 0xFF; job.config.size as usize]?;
-        let mut image = vec![in alloc; 0xFF; job.config.size as usize]?;
-        let (first, count) = job.cleared;
-        for byte in old.iter_mut().skip(first).step_by(4096).take(count) {
-            *byte = 0x00;
-        }
-        for (place, byte) in image
-            .iter_mut()
-            .skip(job.written)
-            .zip([0x11, 0x22, 0x33, 0x44])
-        {
-            *place = byte;
-        }
+    pub fn new(rt: &impl Abort, alloc: Global, job: Job, delays: Delays) -> Stage {
         let mut stage = Stage {
             alloc,
             job,
             delays,
-            old,
-            image,
+            old: job.before(rt, alloc),
+            image: job.image(rt, alloc),
+            request: job.request(rt, alloc),
             journal: Vec::new(alloc),
         };
-        let mut bus = stage.bus(Call::Session, Fault::Stop, None)?;
-        let mut vault = MemVault::new(alloc);
-        let mut image = stage.image.to_vec(alloc)?;
-        session(&mut bus, &mut vault, &mut image, &stage.job.request)?;
-        assert!(rt; bus.bus.bytes() == stage.image.as_slice());
-        stage.journal = vault.bytes().to_vec(alloc)?;
-        Ok(stage)
+        stage.journal = stage.kept(rt);
+        stage
+    }
+
+    // The journal of a session that ends.
+    fn kept(&self, rt: &impl Abort) -> Vec<u8> {
+        let mut bus = self.bus(rt, Call::Session, Fault::Stop, None);
+        let mut vault = MemVault::new(self.alloc);
+        let answer = self.session(rt, &mut bus, &mut vault);
+        assert!(rt; answer.is_ok() && bus.bus.bytes() == self.image.as_slice());
+        vault.bytes().to_vec(self.alloc).expect(rt, "memory")
     }
 
     // A bus to the chip, which for a restore is as the session left it. It allows what a session takes at most.
-    fn bus(&self, call: Call, fault: Fault, behind: Option<u64>) -> Result<OnceBus, Fail> {
+    fn bus(&self, rt: &impl Abort, call: Call, fault: Fault, behind: Option<u64>) -> OnceBus {
         let bytes = if call == Call::Restore {
             &self.image
         } else {
             &self.old
         };
-        let Job { config, status, .. } = &self.job;
-        let bus = SimBus::new(*config, bytes.to_vec(self.alloc)?, *status, self.delays)?;
-        Ok(OnceBus::new(bus, most(config.size / 4096), fault, behind))
+        let bytes = bytes.to_vec(self.alloc).expect(rt, "memory");
+        let bus = SimBus::new(self.job.config, bytes, self.job.status, self.delays).expect(
+            rt,
+            "as many bytes as the chip has",
+        );
+        OnceBus::new(bus, most(self.job.config.size / 4096), fault, behind)
+    }
+
+    fn session(
+        &self,
+        rt: &impl Abort,
+        bus: &mut OnceBus,
+        vault: &mut MemVault,
+    ) -> Result<Report, Refusal>
+        requires { IsFresh (⟦<MemVault as Vault>⟧.state vault.old) }
+    {
+        let mut image = self.image.to_vec(self.alloc).expect(rt, "memory");
+        session(bus, vault, &mut image, &self.request)
     }
 
     // What a call answers. A comparison is one with the chip's own bytes.
-    fn refusal(&self, call: Call, bus: &mut OnceBus) -> Result<Option<Refusal>, Fail> {
-        let request = &self.job.request;
-        let included = request.included.as_ref();
+    fn refusal(&self, rt: &impl Abort, call: Call, bus: &mut OnceBus) -> Option<Refusal> {
+        let included = self.request.included.as_ref();
         let mut vault = MemVault::new(self.alloc);
-        let mut image = self.image.to_vec(self.alloc)?;
-        Ok(match call {
-            Call::Probe => match probe(bus, None) {
-                Ok(_) => None,
-                Err(fault) => Some(Refusal::from(fault)),
-            },
+        match call {
+            Call::Probe => probe(bus, None).err().map(Refusal::from),
             Call::Protection => wp_status(bus, None).err(),
             Call::ReadOut => read_out(bus, included, None, &mut vault).err(),
             Call::Verify => verify(bus, &self.old, included, None).err(),
-            Call::Session => session(bus, &mut vault, &mut image, request).err(),
-            Call::Restore => restore(bus, &Journal::read(&self.journal)?).err(),
-        })
+            Call::Session => self.session(rt, bus, &mut vault).err(),
+            Call::Restore => {
+                let journal = Journal::read(&self.journal).expect(rt, "a journal");
+                restore(bus, &journal).err()
+            }
+        }
     }
 
     // What a call answers where nothing goes wrong, and how many transactions it sends.
-    fn right(&self, call: Call) -> Result<(Option<Refusal>, u64), Fail> {
-        let mut bus = self.bus(call, Fault::Stop, None)?;
-        let refusal = self.refusal(call, &mut bus)?;
-        Ok((refusal, bus.asked))
+    fn right(&self, rt: &impl Abort, call: Call) -> (Option<Refusal>, u64) {
+        let mut bus = self.bus(rt, call, Fault::Stop, None);
+        let refusal = self.refusal(rt, call, &mut bus);
+        (refusal, bus.asked)
     }
 
     /// Stops each transaction of a call in turn. Answers how many there are.
-    pub fn stop_at_each(&self, rt: &impl Abort, call: Call) -> Result<u64, Fail> {
-        let (right, length) = self.right(call)?;
+    pub fn stop_at_each(&self, rt: &impl Abort, call: Call) -> u64 {
+        let (right, length) = self.right(rt, call);
         for n in 0..=length {
-            let mut bus = self.bus(call, Fault::Stop, Some(n))?;
-            let refusal = self.refusal(call, &mut bus)?;
+            let mut bus = self.bus(rt, call, Fault::Stop, Some(n));
+            let refusal = self.refusal(rt, call, &mut bus);
             let told = if n < length {
                 Some(Refusal::Stopped)
             } else {
                 right
             };
-            assert_eq!(rt; refusal, told, "{call:?} at {n}");
-            assert_eq!(rt;
-                bus.asked,
-                length.min(n.saturating_add(1)),
-                "{call:?} at {n}"
-            );
+            let asked = length.min(n.saturating_add(1));
+            assert_eq!(rt; (refusal, bus.asked), (told, asked), "{call:?} at {n}");
         }
-        Ok(length)
+        length
     }
 
     /// Spoils the replies of a call, each in turn, where that is a poll, or reads a sector to compare it or to give it
     /// out. Answers how many there were.
-    pub fn spoil_each(&self, rt: &impl Abort, call: Call, touched: u64) -> Result<u64, Fail> {
-        let (right, length) = self.right(call)?;
+    pub fn spoil_each(&self, rt: &impl Abort, call: Call, touched: u64) -> u64 {
+        let right = self.right(rt, call);
         let mut spoilt: u64 = 0;
-        for n in 0..length {
-            let mut bus = self.bus(call, Fault::Spoil, Some(n))?;
-            let refusal = self.refusal(call, &mut bus)?;
-            let asked = n.saturating_add(1);
-            let [opcode, high, middle, low] = bus.met;
-            let address = u32::from_be_bytes([0, high, middle, low]);
-            let told = match (opcode, call) {
-                // the chip seems busy, and is polled again
-                (0x05, _) => (right, length.saturating_add(1)),
-                (0x03, Call::ReadOut) => (right, length),
-                // all are read before the first difference is told
-                (0x03, Call::Verify) => (Some(Refusal::Mismatch { address }), length),
-                (0x03, _) if n >= length.saturating_sub(touched) => {
-                    (Some(Refusal::Mismatch { address }), asked)
-                }
-                _ => continue,
-            };
-            assert_eq!(rt; (refusal, bus.asked), told, "{call:?} at {n}");
-            spoilt = spoilt.checked_add(1).ok_or("too many replies")?;
+        for n in 0..right.1 {
+            let mut bus = self.bus(rt, call, Fault::Spoil, Some(n));
+            let refusal = self.refusal(rt, call, &mut bus);
+            if let Some(told) = told_of_spoilt(call, touched, right, n, bus.met) {
+                assert_eq!(rt; (refusal, bus.asked), told, "{call:?} at {n}");
+                spoilt = spoilt.saturating_add(1);
+            }
         }
-        Ok(spoilt)
+        spoilt
+    }
+}
+
+// What a call answers, and how many transactions it asks for, where the reply of the one behind so many is spoilt,
+// which began so. Another reply than that of a poll, or of a sector that is compared or given out, isn't looked at.
+fn told_of_spoilt(
+    call: Call,
+    touched: u64,
+    right: (Option<Refusal>, u64),
+    n: u64,
+    met: [u8; 4],
+) -> Option<(Option<Refusal>, u64)> {
+    let (refusal, length) = right;
+    let [opcode, high, middle, low] = met;
+    let mismatch = Some(Refusal::Mismatch {
+        address: u32::from_be_bytes([0, high, middle, low]),
+    });
+    match (opcode, call) {
+        // the chip seems busy, and is polled again
+        (0x05, _) => Some((refusal, length.saturating_add(1))),
+        (0x03, Call::ReadOut) => Some((refusal, length)),
+        // all are read before the first difference is told
+        (0x03, Call::Verify) => Some((mismatch, length)),
+        (0x03, _) if n >= length.saturating_sub(touched) => Some((mismatch, n.saturating_add(1))),
+        _ => None,
     }
 }
