@@ -3,6 +3,8 @@ use Rattle.std.proofs.Common.{ℕ, ◌≡◌, ◌<◌, ◌≤◌, ◌+◌, ◌*�
 use Rattle.std.specs.Prelude.{◌&&◌, ◌||◌, ◌==◌, not, bit_and, if◌then◌else◌}
 use Rattle.std.proofs.lemmas.Nat.{and_mask}
 use Rattle.std.proofs.lemmas.Bool.Decides.{nat_tests}
+use Rattle.nor_chip.specs.Code.{code_in}
+use Rattle.nor_chip.specs.Status.{bytes_of}
 use Rattle.nor_chip.specs.declared.config.Config.{Config}
 use Rattle.nor_chip.specs.Chip.{Chip, is_locked}
 use Rattle.nor_chip.specs.Guard.{is_guarded, code_of}
@@ -16,12 +18,12 @@ use Rattle.nor_apply.specs.Change.{HasChanged, blank, none}
 use Rattle.nor_apply.specs.Protecting.{LeavesCode, DoesCode}
 use Rattle.nor_apply.specs.Erasing.{CanEraseAll}
 use Rattle.nor_apply.specs.Programming.{CanProgramAll}
-use Rattle.nor_apply.specs.Applying.{touched_in, raised_in, code_read, writes_code, CanApply, HasApplied}
+use Rattle.nor_apply.specs.Applying.{touched_in, raised_in, writes_code, CanApply, HasApplied}
 use Rattle.nor_apply.proofs.Kept.{fixed_refl, fixed_then, kept_fixed, locked_same}
 
 -- the code once protection is lifted, where that is asked
 abbrev pub code_once : Changes → Bool → ℕ
-code_once changes lifted = if lifted then 0 else code_read changes
+code_once changes lifted = if lifted then 0 else code_in (bytes_of changes.status)
 
 -- Protection was lifted where that was asked: nothing but the code changed, and no touched place is guarded.
 pub record Lifted (changes : Changes) (lifted : Bool) (old new : BusState) : Type 0 where
@@ -80,7 +82,7 @@ zero_code : (chip : Chip) → HasCode 0 chip → code_of chip ≡ 0
 zero_code chip has = let low = has.low in let high = has.high in omega (arith, low, high)
 
 -- the code that was read is the chip's
-has_read : (changes : Changes) (wanted : ℕ → ℕ) (chip : Chip) → CanApply changes wanted chip → HasCode (code_read changes) chip
+has_read : (changes : Changes) (wanted : ℕ → ℕ) (chip : Chip) → CanApply changes wanted chip → HasCode (code_in (bytes_of changes.status)) chip
 has_read changes wanted chip can =
     let one = can.kept.one in let two = can.kept.two in
     record { low = omega (arith, one); high = omega (arith, two) }

@@ -1,5 +1,7 @@
 -- What the whole of the changes of a session or restore leaves: unlock, erases, programs, the status.
 use Rattle.std.specs.Prelude.{◌≡◌, ◌≤◌, ◌<◌, ◌+◌, ◌*◌, ◌/◌, ◌%◌, ◌||◌, ◌⊎◌, ◌==◌, ℕ, Bool, true, false, not, length, bit_and, if◌then◌else◌}
+use Rattle.nor_chip.specs.Code.{code_in}
+use Rattle.nor_chip.specs.Status.{bytes_of}
 use Rattle.nor_chip.specs.Chip.{Chip}
 use Rattle.nor_chip.specs.Guard.{is_guarded}
 use Rattle.nor_chip.specs.Bus.{BusState}
@@ -24,13 +26,9 @@ touched_in changes = has changes.touched
 abbrev pub raised_in : Changes → ℕ → Bool
 raised_in changes = has changes.raised
 
--- the protection code that the status has which was read
-abbrev pub code_read : Changes → ℕ
-code_read changes = 32 * (changes.status.two.0 / 64 % 2) + changes.status.one.0 / 4 % 32
-
--- the status is written at the end: the code bits now, none where protection was lifted, aren't the wanted ones
+-- the status is written at the end: the code bits of the status that was read, none where protection was lifted, aren't the wanted ones
 abbrev pub writes_code : Changes → Bool
-writes_code changes = not ((if changes.unlock then 0 else code_read changes) == changes.code)
+writes_code changes = not ((if changes.unlock then 0 else code_in (bytes_of changes.status)) == changes.code)
 
 -- how many status writes there are
 abbrev pub status_writes : Changes → ℕ

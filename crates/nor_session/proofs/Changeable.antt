@@ -3,6 +3,8 @@ use Rattle.std.proofs.Common.{◌≡◌, ◌<◌, ◌+◌, ◌-◌, ◌*◌, ◌
 use Rattle.std.specs.Prelude.{if◌then◌else◌, not, bit_and, None}
 use Rattle.std.proofs.lemmas.Bool.{cases_Bool, and_parts, or_cases, both_ways, eq-eqb, false_from_ne_true}
 use mathlib.Core.Path.{fun_ext}
+use Rattle.nor_chip.specs.Code.{code_in}
+use Rattle.nor_chip.specs.Status.{bytes_of}
 use Rattle.nor_chip.specs.declared.config.Config.{Config}
 use Rattle.nor_chip.specs.Chip.{Chip, is_locked}
 use Rattle.nor_chip.specs.Guard.{code_of, is_guarded, is_unit_guarded}
@@ -18,7 +20,7 @@ use Rattle.nor_apply.specs.declared.changes.Changes.{Changes}
 use Rattle.nor_apply.specs.Counts.{sector_count}
 use Rattle.nor_apply.specs.Content.{is_touched, is_raised}
 use Rattle.nor_apply.specs.Within.{is_writable}
-use Rattle.nor_apply.specs.Applying.{code_read, writes_code}
+use Rattle.nor_apply.specs.Applying.{writes_code}
 use Rattle.nor_apply.proofs.Kept.{writable_same, kept_fixed}
 use Rattle.nor_save.specs.declared.opening.Opening.{Opening}
 use Rattle.nor_save.specs.declared.scanning.Scanned.{Scanned}
@@ -28,7 +30,7 @@ use Rattle.nor_save.specs.Scanning.{IsOpen}
 use Rattle.nor_save.specs.Saving.{IsOpening, NoneHeld, SomeHeld, is_held}
 use Rattle.nor_save.proofs.Rests.{rested_then}
 use Rattle.nor_session.specs.Modelled.{IsModelled, kinds_of}
-use Rattle.nor_session.specs.Restore.{restored, is_touched_from, is_raised_from, code_told, Fits}
+use Rattle.nor_session.specs.Restore.{restored, is_touched_from, is_raised_from, Fits}
 use Rattle.nor_session.specs.Preparing.{IsOfKindFound, FitsOpening, PrepareTells, ScansSaved, NeedsCodeFrom, AreChanges, MayChangeStatus, IsShut, IsPreparedFor, IsPrepared}
 use Rattle.nor_session.proofs.ReadyChip.{told_idle}
 use Rattle.nor_session.proofs.Reopened.{opening_of}
@@ -116,12 +118,12 @@ free_place touched chip a none hit below =
     (false_from_ne_true (is_unit_guarded chip (4096 * (a / 4096)) 4096) (λ guarded. both_ways (is_held touched chip (a / 4096)) (none (a / 4096)) (cc)))
 
 -- the code that was read
-code_of_read : (changes : Changes) (chip : Chip) → changes.status.one.0 / 4 ≡ chip.kept1 → changes.status.two.0 ≡ chip.kept2 → code_read changes ≡ code_of chip
+code_of_read : (changes : Changes) (chip : Chip) → changes.status.one.0 / 4 ≡ chip.kept1 → changes.status.two.0 ≡ chip.kept2 → code_in (bytes_of changes.status) ≡ code_of chip
 code_of_read changes chip one two =
     ap (λ (n : ℕ). 32 * (n / 64 % 2) + changes.status.one.0 / 4 % 32) two ∙ ap (λ (n : ℕ). 32 * (chip.kept2 / 64 % 2) + n % 32) one
 
 -- without block protection the code is the journal's
-code_fixed : (journal : Content) (chip : Chip) → Fits journal chip → chip.config.scheme ≡ false → code_of chip ≡ code_told journal
+code_fixed : (journal : Content) (chip : Chip) → Fits journal chip → chip.config.scheme ≡ false → code_of chip ≡ code_in journal.status
 code_fixed journal chip fits none =
     let bits = fits.fixed.all none in
     let one = bits.one in let two = bits.two in
@@ -147,12 +149,12 @@ needs_either : (lift write : Bool) → (lift || write) ≡ true → (lift ≡ tr
 needs_either true write hit = inl refl
 needs_either false write hit = inr (refl, hit)
 
-writes_other : (changes : Changes) (code : ℕ) → changes.unlock ≡ false → writes_code changes ≡ true → code_read changes ≡ code → ¬ (code ≡ changes.code)
+writes_other : (changes : Changes) (code : ℕ) → changes.unlock ≡ false → writes_code changes ≡ true → code_in (bytes_of changes.status) ≡ code → ¬ (code ≡ changes.code)
 writes_other changes code plain writes read same =
-    let e : (if changes.unlock then 0 else code_read changes) ≡ changes.code = ap (λ (b : Bool). if b then 0 else code_read changes) plain ∙ read ∙ same in
-    both_ways (writes_code changes) (ap (λ (b : Bool). not b) (eq-eqb (if changes.unlock then 0 else code_read changes) changes.code e)) writes
+    let e : (if changes.unlock then 0 else code_in (bytes_of changes.status)) ≡ changes.code = ap (λ (b : Bool). if b then 0 else code_in (bytes_of changes.status)) plain ∙ read ∙ same in
+    both_ways (writes_code changes) (ap (λ (b : Bool). not b) (eq-eqb (if changes.unlock then 0 else code_in (bytes_of changes.status)) changes.code e)) writes
 
-status_needed : (journal : Content) (touched : ℕ → Bool) (chip : Chip) (changes : Changes) → (changes.unlock ≡ true → SomeHeld touched chip) → changes.code ≡ code_told journal → code_read changes ≡ code_of chip
+status_needed : (journal : Content) (touched : ℕ → Bool) (chip : Chip) (changes : Changes) → (changes.unlock ≡ true → SomeHeld touched chip) → changes.code ≡ code_in journal.status → code_in (bytes_of changes.status) ≡ code_of chip
     → (changes.unlock || writes_code changes) ≡ true → NeedsCodeFrom journal touched chip
 status_needed journal touched chip changes lifts code read hit =
     elim (needs_either changes.unlock (writes_code changes) hit) [

@@ -3,6 +3,7 @@ use Rattle.std.proofs.Common.{◌≡◌, ◌<◌, ◌+◌, ◌-◌, ◌*◌, ◌
 use Rattle.std.specs.Prelude.{◌≢◌, if◌then◌else◌, not, nat_lt, nat_le, Option, Some, None, Result, Ok, Err, IsOk, IfSome, IsSomeAnd}
 use Rattle.std.proofs.lemmas.Option.{same_Some}
 use Rattle.std.proofs.lemmas.Bool.{cases_Bool, cases_eq, cases_lt, and_left, and_parts, or_cases, both_ways, false_from_ne_true, lt-ltb, le-ltb, lt-leb, le-leb}
+use Rattle.nor_chip.specs.Code.{code_in}
 use Rattle.nor_chip.specs.declared.config.Config.{Config}
 use Rattle.nor_chip.specs.declared.running.Running.{Running}
 use Rattle.nor_chip.specs.declared.running.Running.TheVariants.{Program, Erase, StatusWrite, Unknown}
@@ -29,7 +30,7 @@ use Rattle.nor_apply.proofs.Changing.{within_then, within_wider}
 use Rattle.nor_save.specs.declared.refusal.Refusal.{Refusal}
 use Rattle.nor_save.specs.declared.refusal.Refusal.TheVariants.{NoChip, UnknownChip, StatusLocked, Stopped, OtherChip, OtherUnit, StatusDiffers}
 use Rattle.nor_save.specs.Saving.{SomeHeld}
-use Rattle.nor_session.specs.Restore.{restored, is_touched_from, code_told, IsOfKind, IsOfOtherUnit, HasBitsTold, HasFixedTold, RestoreTells, SavesChip, open_places, CanGiveBack}
+use Rattle.nor_session.specs.Restore.{restored, is_touched_from, IsOfKind, IsOfOtherUnit, HasBitsTold, HasFixedTold, RestoreTells, SavesChip, open_places, CanGiveBack}
 use Rattle.nor_session.proofs.Rescanned.{restored_saved, restored_other}
 use Rattle.nor_session.proofs.RestoredBytes.{touched_byte, touched_saved, first_byte}
 
@@ -181,7 +182,7 @@ change_within journal first touched raised wanted old mid new can within right c
 -- ---- the end gives it back
 
 pub given_back : (journal : Content) (first old new : Chip) → SavesChip journal first → old.config ≡ first.config → KeepsFixed first old → ((a : ℕ) → open_places journal first a ≡ false → old.bytes a ≡ first.bytes a)
-    → new.config ≡ old.config → ((a : ℕ) → new.bytes a ≡ restored journal old.bytes a) → KeepsFixed old new → HasCode (code_told journal) new → IsSame first new
+    → new.config ≡ old.config → ((a : ℕ) → new.bytes a ≡ restored journal old.bytes a) → KeepsFixed old new → HasCode (code_in journal.status) new → IsSame first new
 given_back journal first old new saves config fixed within config_now bytes fixed_now code =
     let one = saves.bits.one in let two = saves.bits.two in
     let one_old = fixed.one in let two_old = fixed.two in
@@ -217,7 +218,7 @@ and_not true c is = ap (λ (x : Bool). not x) is
 and_not false c is = refl
 
 -- the code of a locked chip is the journal's
-code_locked : (journal : Content) (first chip : Chip) → HasBitsTold journal first → KeptStay first chip → code_of chip ≡ code_told journal
+code_locked : (journal : Content) (first chip : Chip) → HasBitsTold journal first → KeptStay first chip → code_of chip ≡ code_in journal.status
 code_locked journal first chip bits stay =
     let one = bits.one in let two = bits.two in let low = stay.0 in let high = stay.1 in
     omega (arith, one, two, low, high)

@@ -2,6 +2,7 @@
 use Rattle.std.proofs.Common.{◌≡◌, ◌≢◌, ◌+◌, ◌*◌, ◌/◌, ◌%◌, ◌∙◌, ℕ, Bool, true, false, List, [], ap, sym, subst, arith, true≢false, inl, inr}
 use Rattle.std.proofs.lemmas.Bool.{cases_Bool, and_left, and_parts}
 use Rattle.std.specs.Prelude.{slice_index, ◌++◌}
+use Rattle.nor_chip.specs.Code.{code_in}
 use Rattle.nor_chip.specs.Chip.{Chip, IsSame}
 use Rattle.nor_chip.specs.Guard.{code_of, is_unit_guarded}
 use Rattle.nor_chip.specs.Bus.{BusState}
@@ -18,7 +19,7 @@ use Rattle.nor_save.specs.declared.report.Request.{Request}
 use Rattle.nor_save.specs.Request.{is_touched_by}
 use Rattle.nor_save.specs.Saving.{head_of}
 use Rattle.nor_save.proofs.Planned.{untouched, unraised}
-use Rattle.nor_session.specs.Restore.{restored, is_touched_from, is_raised_from, code_told, NeedsStatusFrom, SavesChip, open_places, CanGiveBack, IsRestored}
+use Rattle.nor_session.specs.Restore.{restored, is_touched_from, is_raised_from, NeedsStatusFrom, SavesChip, open_places, CanGiveBack, IsRestored}
 use Rattle.nor_session.specs.Following.{LeavesJournal, ChangesNothing}
 use Rattle.nor_session.proofs.Rescanned.{restored_saved, restored_other}
 use Rattle.nor_session.proofs.GivesBack.{leads_back, can_give_back}
@@ -42,7 +43,7 @@ none_raised journal first chip s saves same =
     unraised chip.bytes (restored journal chip.bytes) s (λ i below. as_saved journal first chip (4096 * s + i) saves same)
 
 -- the code is the one that the journal tells
-same_code : (journal : Content) (first chip : Chip) → SavesChip journal first → IsSame first chip → code_of chip ≡ code_told journal
+same_code : (journal : Content) (first chip : Chip) → SavesChip journal first → IsSame first chip → code_of chip ≡ code_in journal.status
 same_code journal first chip saves same =
     let one = saves.bits.one in let two = saves.bits.two in
     let low : chip.kept1 % 32 ≡ slice_index journal.status 0 / 4 % 32 = let e = same.kept1 in omega arith in

@@ -14,7 +14,7 @@ use Rattle.nor_probe.specs.Found.{IsPart}
 use Rattle.nor_apply.specs.declared.changes.Changes.{Changes}
 use Rattle.nor_apply.specs.declared.changes.Work.{Work}
 use Rattle.nor_apply.specs.Spending.{Spends}
-use Rattle.nor_apply.specs.Applying.{status_writes, writes_code, code_read}
+use Rattle.nor_apply.specs.Applying.{status_writes, writes_code}
 use Rattle.nor_apply.proofs.ProgrammingWhole.{room}
 use Rattle.nor_save.specs.declared.opening.Opening.{Opening}
 use Rattle.nor_save.specs.declared.saving.Kept.{Kept}
@@ -149,10 +149,10 @@ ran_out_ready request opening status code kept old mid new honest is ran =
 
 -- ---- how often the status is written
 
-writes_none : (changes : Changes) → changes.unlock ≡ false → code_read changes ≡ changes.code → status_writes changes ≡ 0
+writes_none : (changes : Changes) → changes.unlock ≡ false → code_in (bytes_of changes.status) ≡ changes.code → status_writes changes ≡ 0
 writes_none changes off same =
-    let now : (if changes.unlock then 0 else code_read changes) ≡ changes.code = ap (λ (b : Bool). if b then 0 else code_read changes) off ∙ same in
-    let still : writes_code changes ≡ false = ap not (eq-eqb (if changes.unlock then 0 else code_read changes) changes.code now) in
+    let now : (if changes.unlock then 0 else code_in (bytes_of changes.status)) ≡ changes.code = ap (λ (b : Bool). if b then 0 else code_in (bytes_of changes.status)) off ∙ same in
+    let still : writes_code changes ≡ false = ap not (eq-eqb (if changes.unlock then 0 else code_in (bytes_of changes.status)) changes.code now) in
     ap (λ (b : Bool). (if b then 1 else 0) + (if writes_code changes then 1 else 0)) off ∙ ap (λ (b : Bool). 0 + (if b then 1 else 0)) still
 
 at_most_one : (b : Bool) → (if b then 1 else 0) ≤ 1
@@ -166,7 +166,7 @@ writes_one changes off =
     omega arith
 
 -- the code that was read is that of the opening
-pub code_opened : (opening : Opening) (kept : Kept) (status : Status) (code : ℕ) → bytes_of status ≡ status_read opening → code_read (changes_of opening kept status code) ≡ code_in (status_read opening)
+pub code_opened : (opening : Opening) (kept : Kept) (status : Status) (code : ℕ) → bytes_of status ≡ status_read opening → code_in (bytes_of (changes_of opening kept status code).status) ≡ code_in (status_read opening)
 code_opened opening kept status code is_status = ap code_in is_status
 
 -- what is touched was scanned, so the request is about bytes

@@ -16,7 +16,7 @@ use Rattle.nor_driver.specs.Looks.{Rested}
 use Rattle.nor_plan.specs.SectorSet.{has}
 use Rattle.nor_apply.specs.Content.{must_rise, is_touched, is_raised}
 use Rattle.nor_apply.specs.Within.{is_writable}
-use Rattle.nor_apply.specs.Applying.{CanApply, HasKeptBits, code_read, writes_code}
+use Rattle.nor_apply.specs.Applying.{CanApply, HasKeptBits, writes_code}
 use Rattle.nor_journal.specs.Vault.{VaultState}
 use Rattle.nor_apply.proofs.Kept.{kept_fixed, writable_same}
 use Rattle.nor_apply.proofs.Counting.{any_below-false}
@@ -104,13 +104,13 @@ needs request image image' opening status code kept old mid is of writes = elim 
     | inl lifted ↦ needs_lift request.what request.unlock kept.unlock code (is_touched_by request image old.chip) old.chip about_bytes lifted of.scan.lifts
     | inr off ↦
         let write : writes_code (changes_of opening kept status code) ≡ true = ap (λ (b : Bool). b || writes_code (changes_of opening kept status code)) (sym off) ∙ writes in
-        absurd (differs kept.unlock (code_read (changes_of opening kept status code)) code off write (code_opened opening kept status code is.is_status ∙ sym (is.same_code about_bytes)))
+        absurd (differs kept.unlock (code_in (bytes_of (changes_of opening kept status code).status)) code off write (code_opened opening kept status code is.is_status ∙ sym (is.same_code about_bytes)))
   ]
   | inr other ↦
       let off = lifts_none request opening status code kept old mid is other in
       let write : writes_code (changes_of opening kept status code) ≡ true = ap (λ (b : Bool). b || writes_code (changes_of opening kept status code)) (sym off) ∙ writes in
       needs_code request.what request.unlock code (is_touched_by request image old.chip) old.chip other
-      (λ same. absurd (differs kept.unlock (code_read (changes_of opening kept status code)) code off write (code_opened opening kept status code is.is_status ∙ code_is request opening old.chip of.is ∙ sym same)))
+      (λ same. absurd (differs kept.unlock (code_in (bytes_of (changes_of opening kept status code).status)) code off write (code_opened opening kept status code is.is_status ∙ code_is request opening old.chip of.is ∙ sym same)))
 ]
 
 -- a chip with a guarded place has block protection

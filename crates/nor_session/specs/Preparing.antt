@@ -1,5 +1,6 @@
 -- What a restore finds of a chip before it changes anything.
 use Rattle.std.specs.Prelude.{◌≡◌, ◌≢◌, ◌<◌, ◌≤◌, ◌+◌, ◌/◌, ◌||◌, ◌⊎◌, ℕ, Bool, true, List, Result, Ok, IfErr, OnOk, OnErr, IfOk, MatchBool, length, slice_index}
+use Rattle.nor_chip.specs.Code.{code_in}
 use Rattle.nor_chip.specs.Chip.{Chip, IsSame, is_locked, status1_of}
 use Rattle.nor_chip.specs.Guard.{code_of}
 use Rattle.nor_chip.specs.Bus.{BusState}
@@ -24,7 +25,7 @@ use Rattle.nor_save.specs.Saving.{IsOpening, NoneHeld, SomeHeld}
 use Rattle.nor_session.specs.declared.preparing.Prepared.{Prepared}
 use Rattle.nor_session.specs.Modelled.{IsModelled, most_looked, kinds_of}
 use Rattle.nor_session.specs.Changing.{touched_count}
-use Rattle.nor_session.specs.Restore.{is_touched_from, is_raised_from, code_told, IsOfKind, HasFixedTold, Fits, NeedsStatusFrom, IsJudgedFirst, IsRestoreVerdict, IsRestorable}
+use Rattle.nor_session.specs.Restore.{is_touched_from, is_raised_from, IsOfKind, HasFixedTold, Fits, NeedsStatusFrom, IsJudgedFirst, IsRestoreVerdict, IsRestorable}
 
 -- ---- the opening
 
@@ -100,7 +101,7 @@ pub record ScansSaved (journal : Content) (old new : BusState) (scanned : Scanne
 
 -- the code differs from the journal's, or one of these sectors is guarded
 abbrev pub NeedsCodeFrom : Content → (ℕ → Bool) → Chip → Type 0
-NeedsCodeFrom journal touched chip = (code_of chip ≢ code_told journal) ⊎ SomeHeld touched chip
+NeedsCodeFrom journal touched chip = (code_of chip ≢ code_in journal.status) ⊎ SomeHeld touched chip
 
 -- The changes are those that the scan found, to the journal's code.
 pub record AreChanges (journal : Content) (opening : Opening) (scanned : Scanned) (changes : Changes) : Type 0 where
@@ -110,7 +111,7 @@ pub record AreChanges (journal : Content) (opening : Opening) (scanned : Scanned
   pub size : changes.size ≡ opening.found.size
   pub one : changes.status.one.0 ≡ opening.found.status1
   pub two : changes.status.two.0 ≡ opening.status2
-  pub code : changes.code ≡ code_told journal
+  pub code : changes.code ≡ code_in journal.status
   pub six_bits : changes.code < 64
 
 -- Protection is lifted just where a touched sector is guarded, and a status that is locked isn't written.
@@ -146,7 +147,7 @@ pub record IsPreparedFor (journal : Content) (old new : Chip) (prepared : Prepar
   pub told : old.busy ≡ 0 → prepared.found.status1 ≡ status1_of old
   pub kinds : prepared.changes.kinds ≡ kinds_of old.config
   pub size : prepared.changes.size ≡ old.config.size
-  pub code : prepared.changes.code ≡ code_told journal
+  pub code : prepared.changes.code ≡ code_in journal.status
   pub touched : (s : ℕ) → has prepared.changes.touched s ≡ is_touched_from journal old s
   pub raised : (s : ℕ) → has prepared.changes.raised s ≡ is_raised_from journal old s
   pub can : CanApply prepared.changes (saved_byte journal) new

@@ -1,5 +1,6 @@
 -- What a restore wants of a chip, and what it promises.
 use Rattle.std.specs.Prelude.{◌≡◌, ◌≢◌, ◌+◌, ◌*◌, ◌/◌, ◌%◌, ◌&&◌, ◌||◌, ◌⊎◌, ℕ, Bool, true, false, not, length, slice_index, None, Result, IfOk, IfErr, IfSome, IsSomeAnd, OnOk, Ok, Err, if◌then◌else◌}
+use Rattle.nor_chip.specs.Code.{code_in}
 use Rattle.nor_chip.specs.declared.config.Config.{Config}
 use Rattle.nor_chip.specs.Chip.{Chip, IsSame, is_locked, status1_of}
 use Rattle.nor_chip.specs.Guard.{code_of, is_guarded}
@@ -39,10 +40,6 @@ is_touched_from journal chip = is_touched chip.bytes (restored journal chip.byte
 abbrev pub is_raised_from : Content → Chip → ℕ → Bool
 is_raised_from journal chip = is_raised chip.bytes (restored journal chip.bytes)
 
--- the protection code that the journal tells
-abbrev pub code_told : Content → ℕ
-code_told journal = 32 * (slice_index journal.status 1 / 64 % 2) + slice_index journal.status 0 / 4 % 32
-
 -- ---- the verdict
 
 -- The journal has this ID and this size.
@@ -74,7 +71,7 @@ pub record Fits (journal : Content) (chip : Chip) : Type 0 where
 
 -- a status write is needed: the code differs from the journal's, or a sector that must change is guarded
 abbrev pub NeedsStatusFrom : Content → Chip → Type 0
-NeedsStatusFrom journal chip = (code_of chip ≢ code_told journal) ⊎ SomeHeld (is_touched_from journal chip) chip
+NeedsStatusFrom journal chip = (code_of chip ≢ code_in journal.status) ⊎ SomeHeld (is_touched_from journal chip) chip
 
 -- The refusal is the verdict: the first of 1, 2, 16, 20, 17 and 9 that holds.
 abbrev pub IsRestoreVerdict : Content → Chip → Refusal → Type 0
@@ -156,7 +153,7 @@ pub record IsRestored (journal : Content) (old new : BusState) (report : Report)
   pub config : new.chip.config ≡ old.chip.config
   pub bytes : (a : ℕ) → new.chip.bytes a ≡ restored journal old.chip.bytes a
   pub fixed : KeepsFixed old.chip new.chip
-  pub code : HasCode (code_told journal) new.chip
+  pub code : HasCode (code_in journal.status) new.chip
   pub idle : new.chip.busy ≡ 0
   pub latch : new.chip.latch ≡ true → old.chip.latch ≡ true
   pub worn : (s : ℕ) → new.worn s ≡ (old.worn s || is_raised_from journal old.chip s)

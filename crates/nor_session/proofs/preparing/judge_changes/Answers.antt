@@ -4,7 +4,6 @@ use Rattle.nor_chip.specs.Code.{code_in, is_lock_set}
 use Rattle.nor_chip.specs.Guard.{code_of}
 use Rattle.nor_plan.specs.SectorSet.{has}
 use Rattle.nor_save.proofs.Held.{lock_same}
-use Rattle.nor_session.specs.Restore.{code_told}
 use Rattle.nor_session.proofs.Judged.{some_held, some_or_none, none_needed, code_opened}
 use Rattle.nor_session.proofs.preparing.judge_changes.Goals as goal
 use Rattle.nor_session.proofs.preparing.judge_changes.Goals.{then-unlock, else-unlock, else-writes-via-then-writes+else-is_locked, else-writes-via-else-writes}
@@ -26,7 +25,7 @@ returns-clause-accepts c = λ chip is.
           | then-unlock v ↦ absurd (let hit = v.writes-is in let lifted = v.if-unlock.true in let none = w.if-writes.false in cc)
           | else-unlock v ↦
               let read : v.code.result ≡ code_of chip = v.code.ensures ∙ ap code_in v.status-else-unlock.ensures ∙ code_opened chip c.args.opening.now is in
-              let wanted : c.code-code.result ≡ code_told c.args.journal.now = c.code-code.ensures ∙ ap code_in c.of.ensures ∙ ap code_in c.status.ensures.value in
+              let wanted : c.code-code.result ≡ code_in c.args.journal.now.status = c.code-code.ensures ∙ ap code_in c.of.ensures ∙ ap code_in c.status.ensures.value in
               let same : v.code.result ≡ c.code-code.result = (let writes = v.writes-is in let none = w.if-writes.false in search rules) in
               none_needed c.args.journal.now touched chip c.first_held.result held (sym told ∙ v.if-unlock.false) (sym read ∙ same ∙ wanted)
         ]
