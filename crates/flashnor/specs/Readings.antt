@@ -51,8 +51,10 @@ ListsRanges named old new (answer.Ranges ranges) =
 ListsRanges named old new _ = ⊥
 
 -- it was read out
-abbrev pub TellsRead : Option (Bor Text) → Option (List Span) → BusState → BusState → VaultState → VaultState → Answer → Type 0
-TellsRead named ranges old new vault vault' (answer.Read report) = ReadsOut (wanted named) ranges old new vault vault' report
+abbrev pub TellsRead : Option (Bor Text) → Option (List Span)
+    → BusState → BusState → VaultState → VaultState → Answer → Type 0
+TellsRead named ranges old new vault vault' (answer.Read report) =
+    ReadsOut (wanted named) ranges old new vault vault' report
 TellsRead named ranges old new vault vault' _ = ⊥
 
 -- its bytes are those of the image
@@ -80,10 +82,12 @@ pub record HasRead (happened : Happened) (named : Option (Bor Text)) (file : Tex
   pub filled : VaultState
   pub emptied : happened (Emptied file empty)
   pub puts : ReadPuts outcome empty filled
-  pub told : MatchResult outcome (TellsRead named ranges old new empty filled) (ReadTells (wanted named) ranges old new empty filled)
+  pub told : MatchResult outcome (TellsRead named ranges old new empty filled)
+      (ReadTells (wanted named) ranges old new empty filled)
 
 -- The chip was compared with this image, in these ranges.
 pub record HasVerified (named : Option (Bor Text)) (ranges : Option (List Span)) (image : List ℕ)
     (old new : BusState) (outcome : Result Answer Refusal) : Type 0 where
   pub looks : Looks (most_of 16777216) old new
-  pub told : MatchResult outcome (TellsVerified named ranges image old new) (VerifyTells (wanted named) ranges image old new)
+  pub told : MatchResult outcome (TellsVerified named ranges image old new)
+      (VerifyTells (wanted named) ranges image old new)

@@ -61,7 +61,8 @@ pub fn apply<B: Bus, S: Source>(bus: &mut B, source: &S, changes: &Changes) -> R
     requires sourced { (s : ℕ) → has changes.now.touched s ≡ true → S.has source.now s ≡ true }
     ensures leaves { LeavesApply changes.now (S.wanted source.now) (B.state bus.old) (B.state bus.new) }
     ensures does { IfOk result (DoesApply changes.now (S.wanted source.now) (B.state bus.old) (B.state bus.new)) }
-    ensures halts { IfErr result (HaltsBelow (most_applied (sector_count (touched_in changes.now))) (B.state bus.old) (B.state bus.new)) }
+    ensures halts { IfErr result
+        (HaltsBelow (most_applied (sector_count (touched_in changes.now))) (B.state bus.old) (B.state bus.new)) }
 {
     let lifted = write_code(bus, changes.status, 0, changes.unlock)?;
     let erased = erase_all(bus, &changes.raised, changes.kinds, changes.size)?;

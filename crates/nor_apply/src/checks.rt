@@ -38,8 +38,10 @@ pub fn check_all<B: Bus, S: Source>(
 ) -> Result<u64, CheckFault>
     requires sourced { (s : ℕ) → has touched.now s ≡ true → S.has source.now s ≡ true }
     ensures leaves { Looks (sector_count (has touched.now)) (B.state bus.old) (B.state bus.new) }
-    ensures does { IfOk result (DoesChecks (has touched.now) (S.wanted source.now) (B.state bus.old) (B.state bus.new)) }
-    ensures tells { IfErr result (CheckTells (has touched.now) (S.wanted source.now) (B.state bus.old) (B.state bus.new)) }
+    ensures does { IfOk result
+        (DoesChecks (has touched.now) (S.wanted source.now) (B.state bus.old) (B.state bus.new)) }
+    ensures tells { IfErr result
+        (CheckTells (has touched.now) (S.wanted source.now) (B.state bus.old) (B.state bus.new)) }
 {
     let mut sent = 0;
     let mut bytes = [0; 4096];
@@ -62,8 +64,10 @@ fn check_sector<B: Bus>(
     requires reachable { sector < 4096 }
     requires whole { length wanted.now ≡ 4096 }
     ensures leaves { Looks 1 (B.state bus.old) (B.state bus.new) }
-    ensures does { OnOk result (DoesChecks (only sector) (byte_of sector wanted.now) (B.state bus.old) (B.state bus.new) 1) }
-    ensures tells { IfErr result (CheckTells (only sector) (byte_of sector wanted.now) (B.state bus.old) (B.state bus.new)) }
+    ensures does { OnOk result
+        (DoesChecks (only sector) (byte_of sector wanted.now) (B.state bus.old) (B.state bus.new) 1) }
+    ensures tells { IfErr result
+        (CheckTells (only sector) (byte_of sector wanted.now) (B.state bus.old) (B.state bus.new)) }
 {
     read_sector(bus, sector, &mut *bytes)?;
     match bounds(&*bytes, wanted) {

@@ -20,9 +20,12 @@ pub fn program_all<B: Bus, S: Source>(
     raised: &SectorSet,
 ) -> Result<Tally, Halt>
     requires sourced { (s : ℕ) → has touched.now s ≡ true → S.has source.now s ≡ true }
-    ensures leaves { LeavesPrograms (has touched.now) (has raised.now) (S.wanted source.now) (B.state bus.old) (B.state bus.new) }
-    ensures does { IfOk result (DoesPrograms (has touched.now) (has raised.now) (S.wanted source.now) (B.state bus.old) (B.state bus.new)) }
-    ensures halts { IfErr result (HaltsBelow (1048609 * sector_count (has touched.now)) (B.state bus.old) (B.state bus.new)) }
+    ensures leaves { LeavesPrograms (has touched.now) (has raised.now) (S.wanted source.now)
+        (B.state bus.old) (B.state bus.new) }
+    ensures does { IfOk result
+        (DoesPrograms (has touched.now) (has raised.now) (S.wanted source.now) (B.state bus.old) (B.state bus.new)) }
+    ensures halts { IfErr result
+        (HaltsBelow (1048609 * sector_count (has touched.now)) (B.state bus.old) (B.state bus.new)) }
 {
     let mut tally = Tally::NONE;
     for sector in 0..SECTORS {

@@ -50,8 +50,8 @@ impl Flags for Status1 {
 
     ghost exact = { ⊤ };
 
-    ghost table = { (codes "BUSY", 0x01) ∷ (codes "WEL", 0x02) ∷ (codes "BP0", 0x04) ∷ (codes "BP1", 0x08) ∷ (codes "BP2", 0x10)
-        ∷ (codes "TB", 0x20) ∷ (codes "SEC", 0x40) ∷ (codes "SRP0", 0x80) ∷ [] };
+    ghost table = { (codes "BUSY", 0x01) ∷ (codes "WEL", 0x02) ∷ (codes "BP0", 0x04) ∷ (codes "BP1", 0x08)
+        ∷ (codes "BP2", 0x10) ∷ (codes "TB", 0x20) ∷ (codes "SEC", 0x40) ∷ (codes "SRP0", 0x80) ∷ [] };
 
     ghost set_of = { λ s. s.0 };
 
@@ -73,8 +73,8 @@ impl Flags for Status2 {
 
     ghost exact = { ⊤ };
 
-    ghost table = { (codes "SRP1", 0x01) ∷ (codes "QE", 0x02) ∷ (codes "LB1", 0x08) ∷ (codes "LB2", 0x10) ∷ (codes "LB3", 0x20)
-        ∷ (codes "CMP", 0x40) ∷ (codes "SUS", 0x80) ∷ [] };
+    ghost table = { (codes "SRP1", 0x01) ∷ (codes "QE", 0x02) ∷ (codes "LB1", 0x08) ∷ (codes "LB2", 0x10)
+        ∷ (codes "LB3", 0x20) ∷ (codes "CMP", 0x40) ∷ (codes "SUS", 0x80) ∷ [] };
 
     ghost set_of = { λ s. s.0 };
 
@@ -199,7 +199,8 @@ impl Status {
     pub(crate) fn written(self, sent: Status) -> Status
         ensures one { result.one.0 ≡ sent.one.0 / 4 * 4 }
         ensures two { result.two.0
-            ≡ bit_or (bit_and sent.two.0 0b1000011) (bit_or (bit_and self.two.0 0b0111100) (bit_and sent.two.0 0b0111000)) }
+            ≡ bit_or (bit_and sent.two.0 0b1000011)
+            (bit_or (bit_and self.two.0 0b0111100) (bit_and sent.two.0 0b0111000)) }
         ensures fits { result.two.0 < 128 }
     {
         Status {

@@ -15,7 +15,8 @@ abbrev pub status_to_send : Status → ℕ → List ℕ
 status_to_send status code =
     (128 * (status.one.0 / 128) + 4 * (code % 32)) ∷ (status.two.0 % 64 + 64 * (code / 32)) ∷ []
 
--- The fixed bits, all kept ones but those of the code, are as they were: SRP0; SRP1, QE, the reserved bit and the LB bits.
+-- The fixed bits, all kept ones but those of the code, are as they were: SRP0; SRP1, QE, the reserved bit and the LB
+-- bits.
 pub record KeepsFixed (old new : Chip) : Type 0 where
   pub one : new.kept1 / 32 ≡ old.kept1 / 32
   pub two : new.kept2 % 64 ≡ old.kept2 % 64

@@ -27,7 +27,8 @@ const SECTOR: u32 = 4096;
 pub fn erases(set: &SectorSet, kinds: Kinds, size: u32) -> Erases
     requires { LiesBelow set.now (size / 4096) }
     ensures covers { Covers kinds (size / 4096) (erases_left result) (has set.now) }
-    ensures fewest { (others : List Erase) → Covers kinds (size / 4096) others (has set.now) → length (erases_left result) ≤ length others }
+    ensures fewest { (others : List Erase) → Covers kinds (size / 4096) others (has set.now)
+        → length (erases_left result) ≤ length others }
     ensures few { length (erases_left result) ≤ member_count set.now }
     ensures counted { (count : ℕ → ℕ) (end : ℕ) → IsCount (has set.now) count
         → LiesBelow set.now end → length (erases_left result) ≤ count end }
