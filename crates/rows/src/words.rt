@@ -1,5 +1,5 @@
 //! Words of the command line, where memory is ample.
-use nor_words::request_of;
+use nor_words::job_of;
 use std::test::Fail;
 
 // A want of memory may be the answer to any words, so no clause refuses a body that always tells it.
@@ -16,6 +16,6 @@ fn words_memory(rt: HostRuntime) -> Result<(), Fail> {
     ] {
         words.push(String::from_str(rt.alloc(), word)?)?;
     }
-    assert!(rt; request_of(rt.alloc(), words.as_slice()).is_ok());
+    assert!(rt; job_of(rt.alloc(), words.as_slice()).is_ok());
     Ok(())
 }
