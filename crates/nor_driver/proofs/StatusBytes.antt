@@ -2,6 +2,7 @@
 use Rattle.std.proofs.Common.{◌≡◌, ◌<◌, ◌+◌, ◌*◌, ◌/◌, ◌%◌, ◌&&◌, ◌∙◌, ℕ, zero, suc, Bool, true, false, not, cond, List, [], ◌∷◌, slice_index, ap, refl, subst, arith, inl, inr}
 use Rattle.std.specs.Prelude.{◌==◌, bit_and, bit_or}
 use Rattle.std.proofs.lemmas.Bool.Decides.{eqb_tells}
+use Rattle.std.proofs.Math.Bool.{or-false, and-true}
 use Rattle.nor_chip.specs.declared.command.Command.{Command}
 use Rattle.nor_chip.specs.declared.command.Command.TheVariants.{WriteStatus, Ignored}
 use Rattle.nor_chip.specs.declared.status.Status.{Status}
@@ -9,7 +10,7 @@ use Rattle.nor_chip.specs.Chip.{Chip, is_locked}
 use Rattle.nor_chip.specs.Status.{bytes_with_code}
 use Rattle.nor_chip.specs.Step.{is_idle, is_operation}
 use Rattle.nor_chip.specs.Bus.{BusState}
-use Rattle.nor_driver.proofs.Bools.{or_false, and_true, left_of, right_of, tested}
+use Rattle.nor_driver.proofs.Bools.{left_of, right_of, tested}
 use Rattle.nor_driver.specs.Operations.{operation_of, IsOperation, MayOperate, HasOperated, LeavesOperation, Operates}
 use Rattle.nor_driver.specs.StatusWrites.{KeepsFixed, HasCode, HasFixed, CanWriteStatus, takes_status, MayWriteStatus, HasWrittenStatus, LeavesStatusWrite, WritesStatus}
 
@@ -63,7 +64,7 @@ module _ (status : Status) (code : ℕ) (below : code < 64) where
 
   -- 01h writes the status, where the chip takes it
   command : (chip : Chip) → operation_of chip (1 ∷ one ∷ two ∷ []) ≡ cond (takes_status chip) (WriteStatus one two) Ignored
-  command chip = ap (λ (b : Bool). cond (b && not (is_locked chip)) (WriteStatus one two) Ignored) (and_true (is_idle chip))
+  command chip = ap (λ (b : Bool). cond (b && not (is_locked chip)) (WriteStatus one two) Ignored) (and-true (is_idle chip))
 
   module _ (old new : BusState) where
     taken : CanWriteStatus status old.chip → operation_of old.chip (1 ∷ one ∷ two ∷ []) ≡ WriteStatus one two
@@ -105,7 +106,7 @@ module _ (status : Status) (code : ℕ) (below : code < 64) where
         bytes = has.bytes;
         fixed = fixed_stay has.kept1 has.kept2;
         written = code_there has.kept1 has.kept2;
-        worn = λ s. has.worn s ∙ or_false (old.worn s);
+        worn = λ s. has.worn s ∙ or-false (old.worn s);
         latch = has.latch;
       }
 
