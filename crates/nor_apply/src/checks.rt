@@ -8,9 +8,9 @@ ghost use Rattle.nor_apply.specs.Checking.{DoesChecks, CheckTells};
 ghost use Rattle.nor_apply.specs.Change.{only, byte_of};
 
 use crate::Source;
-use nor_chip::{Bus, Stopped};
+use nor_chip::{Bus, MOST_SECTORS, Stopped};
 use nor_driver::read_sector;
-use nor_plan::{SECTORS, SectorSet, bounds};
+use nor_plan::{SectorSet, bounds};
 
 /// Why a check wasn't passed.
 #[derive(Clone, Copy, Debug, PartialEq, Eq)]
@@ -45,7 +45,7 @@ pub fn check_all<B: Bus, S: Source>(
 {
     let mut sent = 0;
     let mut bytes = [0; 4096];
-    for sector in 0..SECTORS {
+    for sector in 0..MOST_SECTORS {
         if touched.contains(sector) {
             check_sector(bus, sector, source.sector(sector), &mut bytes)?;
             sent += 1;

@@ -7,9 +7,9 @@ ghost use Rattle.nor_apply.specs.Programming.{LeavesSpans, DoesSpans, LeavesSect
 
 use crate::Source;
 use crate::tally::Tally;
-use nor_chip::{Bus, Stopped};
+use nor_chip::{Bus, MOST_SECTORS, Stopped};
 use nor_driver::{Halt, program_page, read_sector};
-use nor_plan::{SECTORS, SectorSet, spans};
+use nor_plan::{SectorSet, spans};
 
 /// Programs the touched sectors, rising, with the bytes that are wanted of them. A raised sector was erased, and is
 /// not read again.
@@ -28,7 +28,7 @@ pub fn program_all<B: Bus, S: Source>(
         (HaltsBelow (1048609 * sector_count (has touched.now)) (B.state bus.old) (B.state bus.new)) }
 {
     let mut tally = Tally::NONE;
-    for sector in 0..SECTORS {
+    for sector in 0..MOST_SECTORS {
         if !touched.contains(sector) {
             continue;
         }

@@ -4,7 +4,9 @@ ghost use Rattle.std.specs.Prelude.{IsErr, IfOk, OnOk, OnErr};
 ghost use Rattle.nor_chip.specs.Aim.{IsAimed};
 ghost use Rattle.nor_chip.specs.Step.{wears};
 
-use crate::{Bus, Command, Config, Meter, Running, Status, Status1, Stopped, is_changing};
+use crate::{
+    Bus, Command, Config, MOST_SECTORS, Meter, Running, Status, Status1, Stopped, is_changing,
+};
 use bitflags::Flags;
 use flash::Flash;
 use std::fmt;
@@ -39,7 +41,7 @@ pub struct SimBus {
     left: u64,
     fill: Option<u8>,
     stirred: bool,
-    worn: [bool; 4096],
+    worn: [bool; MOST_SECTORS as usize],
 }
 
 impl SimBus {
@@ -79,7 +81,7 @@ impl SimBus {
             left: 0,
             fill: None,
             stirred: false,
-            worn: [false; 4096],
+            worn: [false; MOST_SECTORS as usize],
         })
     }
 

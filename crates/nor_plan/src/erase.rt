@@ -9,7 +9,8 @@ ghost use Rattle.nor_plan.specs.Planned.{holds_block, holds_run, unit_at, planne
 ghost use Rattle.nor_plan.specs.Erases.{erases_left};
 ghost use Rattle.nor_plan.specs.SectorSet.{has, LiesBelow, member_count};
 
-use crate::set::{SECTORS, SectorSet};
+use crate::set::SectorSet;
+use nor_chip::MOST_SECTORS;
 use nor_driver::{Erase, EraseUnit};
 use nor_probe::Kinds;
 
@@ -49,7 +50,7 @@ pub fn fewest_is_least()
 fn next_erase(set: &SectorSet, kinds: Kinds, whole: bool, from: u32) -> Option<(Erase, u32)>
     ensures { HeadsPlanned whole kinds (has set.now) from result }
 {
-    for sector in from..SECTORS {
+    for sector in from..MOST_SECTORS {
         if set.contains(sector) {
             let unit = unit_of(set, kinds, whole, sector);
             if begins_at(unit, sector) {
