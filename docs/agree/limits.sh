@@ -35,7 +35,7 @@ limit_sizes() {
     limit "bytes of a name" "$(constant $regions 'NAME_LEN: usize = ')" 2 '1 to # visible'
     limit "bytes of a sector" "$(constant $records 'SECTOR: usize = ')" 2 \
         '(sector \(|sector is |number and its |multiple of )#'
-    limit "greatest sector" $(($(constant crates/nor_plan/src/set.rt 'SECTORS: u32 = ') - 1)) 1 'a number past #'
+    limit "greatest sector" $(($(constant crates/nor_chip/src/config.rt 'MOST_SECTORS: u32 = ') - 1)) 1 'a number past #'
     limit "bytes of a sector's record" "$(constant $records 'requires \{ ')" 2 'and # for each sector'
     limit "bytes of a journal of no sector" $(($(constant crates/nor_journal/src/head.rt '^const HEAD: usize = ') +
         $(constant $records 'END_MARK: \[u8; ') + $(constant $records 'DIGEST: usize = '))) 2 \

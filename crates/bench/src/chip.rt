@@ -3,16 +3,13 @@ ghost use Rattle.std.specs.Prelude.{◌≡◌, IfOk, vec_len};
 
 use crate::fault::Fault;
 use crate::timing::{Aim, Work, compare, look_at};
-use nor_chip::{Config, Delays, Meter, SimBus};
+use nor_chip::{Config, Delays, MOST_SECTORS, Meter, SimBus};
 use nor_driver::{Erase, EraseUnit, erase, program_page, read_sector};
 use std::alloc::{AllocError, Global};
 use std::rt::Clock;
 
-/// The bytes of the chip.
+/// The bytes of the chip, which has the most sectors, and how many pages it has.
 const CHIP: usize = 16777216;
-
-/// How many sectors it has, and how many pages.
-const SECTORS: u16 = 4096;
 
 const PAGES: u32 = 65536;
 
@@ -115,8 +112,8 @@ struct Reads<'a> {
 impl Work for Reads<'_> {
     fn run(&mut self) -> Result<u64, Fault> {
         let mut sum = 0u64;
-        for sector in 0..SECTORS {
-            read_sector(self.bus, u32::from(sector), &mut self.sector)?;
+        for sector in 0..MOST_SECTORS {
+            read_sector(self.bus, sector, &mut self.sector)?;
             sum = look_at(&self.sector, sum);
         }
         Ok(sum)
@@ -130,8 +127,9 @@ struct Erases<'a> {
 
 impl Work for Erases<'_> {
     fn run(&mut self) -> Result<u64, Fault> {
-        for sector in 0..SECTORS {
+        for sector in 0..MOST_SECTORS {
             let unit = EraseUnit::Sector;
+            let sector = sector as u16;
             erase(self.bus, Erase { unit, sector })?;
         }
         Ok(u64::from(self.bus.bytes()[0]))

@@ -5,15 +5,14 @@ ghost use Rattle.nor_journal.specs.Vault.{IsFresh};
 
 use crate::fault::Fault;
 use crate::timing::{Aim, Work, compare};
+use nor_chip::MOST_SECTORS;
 use nor_journal::{Journal, MemVault, Vault, VaultFault, Writer};
 use sha2::{Digest, Sha256};
 use std::alloc::Global;
 use std::rt::Clock;
 
-/// The bytes of the chip, and how many sectors it has.
+/// The bytes of the chip, which has the most sectors.
 const CHIP: u32 = 16777216;
-
-const SECTORS: u32 = 4096;
 
 const WRITING: Aim = Aim {
     what: "a journal written",
@@ -58,7 +57,7 @@ fn write<V: Vault>(vault: &mut V) -> Result<(), VaultFault>
 {
     let sector = [0x5A; 4096];
     let mut writer = Writer::start(vault, [0xEF, 0x40, 0x18], [0; 8], [0, 0], CHIP)?;
-    for number in 0..SECTORS {
+    for number in 0..MOST_SECTORS {
         writer.add(number, &sector)?;
     }
     writer.end()

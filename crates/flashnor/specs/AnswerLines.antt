@@ -47,7 +47,8 @@ verified_lines report = found_line report.found ++ line (codes "Verified." ∷ [
 -- what a change took
 abbrev pub counts_line : Report → List ℕ
 counts_line report = line (codes "Done: touched " ∷ decimal report.touched ∷ codes ", erases " ∷ decimal report.erases
-    ∷ codes ", programs " ∷ decimal report.programs ∷ codes ", transactions " ∷ decimal report.transactions ∷ codes "." ∷ [])
+    ∷ codes ", programs " ∷ decimal report.programs
+    ∷ codes ", transactions " ∷ decimal report.transactions ∷ codes "." ∷ [])
 
 -- it was changed, or given back
 abbrev pub done_lines : Report → List ℕ
@@ -87,7 +88,8 @@ range_line range = line (codes "0x" ∷ hex_digits 6 range.0 ∷ codes ",0x" ∷
 
 -- those of a walk over the ranges, one for each until it gives no more
 abbrev pub AreRangeLines : Offered → List ℕ → Type 0
-AreRangeLines walk text = (ranges : List (ℕ × ℕ)) × Drains GivesNextSet walk ranges × (text ≡ flat_map range_line ranges)
+AreRangeLines walk text =
+    (ranges : List (ℕ × ℕ)) × Drains GivesNextSet walk ranges × (text ≡ flat_map range_line ranges)
 
 -- the lines of each answer
 abbrev pub AreLines : Answer → List ℕ → Type 0

@@ -41,7 +41,8 @@ TellsDone request image old new _ = ⊥
 
 -- A change was refused, or its journal or the bus failed; after refusals from 1 to 11 the chip is as before, and after
 -- those from 1 to 8 the vault too.
-pub record GivesUp (request : Request) (image : List ℕ) (old new : BusState) (vault vault' : VaultState) (refusal : Refusal) : Type 0 where
+pub record GivesUp (request : Request) (image : List ℕ) (old new : BusState)
+    (vault vault' : VaultState) (refusal : Refusal) : Type 0 where
   pub refuses : SessionTells request image old new vault vault' refusal
   pub same : number_of refusal ≤ 11 → IsSame old.chip new.chip
   pub unused : number_of refusal ≤ 8 → vault' ≡ vault
@@ -53,9 +54,9 @@ pub record IsSafe (old opened : BusState) (vault : VaultState) : Type 0 where
   pub back : vault.sealed ≡ true → vault.telling ≡ true
       → (journal : Journal) → IsContent journal → vault.bytes ≡ text journal → CanGiveBack journal old.chip opened
 
--- A change was made, or begun, with its journal in a vault: until that is sealed the chip is as before, and from then on
--- the journal leads back, at every end; and so it does from files that had the old chip, at each moment of their being
--- written over with the new one.
+-- A change was made, or begun, with its journal in a vault: until that is sealed the chip is as before, and from then
+-- on the journal leads back, at every end; and so it does from files that had the old chip, at each moment of their
+-- being written over with the new one.
 pub record HasKept (request : Request) (image : List ℕ) (old new : BusState) (vault vault' : VaultState)
     (outcome : Result Answer Refusal) : Type 0 where
   pub told : MatchResult outcome (TellsDone request image old new) (GivesUp request image old new vault vault')
@@ -67,28 +68,34 @@ pub record HasKept (request : Request) (image : List ℕ) (old new : BusState) (
 -- ---- rehearsals
 
 -- What a rehearsal under these stops showed, whose vault ends so.
-pub record IsRehearsed (request : Request) (image stops : List ℕ) (chip : Chip) (vault : VaultState) (rehearsal : Rehearsal) : Type 0 where
+pub record IsRehearsed (request : Request) (image stops : List ℕ) (chip : Chip)
+    (vault : VaultState) (rehearsal : Rehearsal) : Type 0 where
   pub counts : IsRehearsal (length stops) vault rehearsal
-  -- The session ended if it was allowed as much as any session on such a chip needs, and only if as much as this one does.
+  -- The session ended if it was allowed as much as any session on such a chip needs, and only if as much as this one
+  -- does.
   pub ended : most_of (chip.config.size / 4096) ≤ first_allowance stops → rehearsal.ended ≡ true
   pub enough : rehearsal.ended ≡ true → CanEnd request image (first_allowance stops) chip
   -- Its journal was sealed if that was as much as opening and scan may take, and only if it was as much as they take,
   -- where the request is accepted; and it saves the touched sectors.
   pub fits : SealFits request (first_allowance stops) chip rehearsal.sealed
   pub accepted : rehearsal.sealed ≡ true → IsAccepted request image chip
-  pub saves : rehearsal.sealed ≡ true → JournalSaves (head_of chip) chip.bytes (is_touched_by request image chip) vault.bytes
+  pub saves : rehearsal.sealed ≡ true
+      → JournalSaves (head_of chip) chip.bytes (is_touched_by request image chip) vault.bytes
   -- The restores were run under the other stops in turn.
-  pub restores : rehearsal.sealed ≡ true → AreRestores (sector_count (is_touched_by request image chip)) (drop 1 stops) rehearsal.restores
+  pub restores : rehearsal.sealed ≡ true
+      → AreRestores (sector_count (is_touched_by request image chip)) (drop 1 stops) rehearsal.restores
 
 abbrev pub TellsRehearsed : Request → List ℕ → List ℕ → Chip → VaultState → Answer → Type 0
-TellsRehearsed request image stops chip vault (answer.Rehearsed rehearsal) = IsRehearsed request image stops chip vault rehearsal
+TellsRehearsed request image stops chip vault (answer.Rehearsed rehearsal) =
+    IsRehearsed request image stops chip vault rehearsal
 TellsRehearsed request image stops chip vault _ = ⊥
 
 -- A rehearsal leaves the chip as before, at every end.
 pub record HasRehearsed (request : Request) (image stops : List ℕ) (old new : BusState) (vault vault' : VaultState)
     (outcome : Result Answer Refusal) : Type 0 where
   pub same : IsSame old.chip new.chip
-  pub told : MatchResult outcome (TellsRehearsed request image stops old.chip vault') (RehearsalTells request image old.chip vault vault')
+  pub told : MatchResult outcome (TellsRehearsed request image stops old.chip vault')
+      (RehearsalTells request image old.chip vault vault')
 
 -- the vault that a journal is kept in: one in the file that is named; for a rehearsal one in memory
 abbrev pub IsVaultOf : Happened → Keeping → VaultState → Type 0
@@ -96,8 +103,10 @@ IsVaultOf happened (keeping.Journal file) vault = happened (Made file.now vault)
 IsVaultOf happened (keeping.Rehearse stops) vault = vault.telling ≡ true
 
 -- what a change came to, whose vault starts and ends so
-abbrev pub HasDone : Request → List ℕ → Keeping → BusState → BusState → VaultState → VaultState → Result Answer Refusal → Type 0
-HasDone request image (keeping.Journal file) old new vault vault' outcome = HasKept request image old new vault vault' outcome
+abbrev pub HasDone : Request → List ℕ → Keeping → BusState → BusState → VaultState
+    → VaultState → Result Answer Refusal → Type 0
+HasDone request image (keeping.Journal file) old new vault vault' outcome =
+    HasKept request image old new vault vault' outcome
 HasDone request image (keeping.Rehearse stops) old new vault vault' outcome =
     HasRehearsed request image stops.items old new vault vault' outcome
 
@@ -119,7 +128,8 @@ TellsRestored journal old new _ = ⊥
 
 -- a probe refused, for the name or before
 abbrev pub ProbeRefuses : Option (Bor Text) → BusState → BusState → Refusal → Type 0
-ProbeRefuses named old new refusal = (fault : ProbeFault) × (refusal ≡ of_probe fault) × Tells (wanted named) old new fault
+ProbeRefuses named old new refusal =
+    (fault : ProbeFault) × (refusal ≡ of_probe fault) × Tells (wanted named) old new fault
 
 -- A restore refused: for its verdict on the chip, which is as before then, or since the bus stopped.
 pub record RestoreRefuses (journal : Journal) (old new : BusState) (refusal : Refusal) : Type 0 where
@@ -140,7 +150,8 @@ pub record Passes (named : Option (Bor Text)) (old new : BusState) : Type 0 wher
 
 -- A restore was made on the chip, after a probe for the name that is given, if one is. Each chip that the journal could
 -- give back before it still can, from files that had the old chip, at each moment of their being written over.
-pub record HasRestored (journal : Journal) (named : Option (Bor Text)) (old new : BusState) (outcome : Result Answer Refusal) : Type 0 where
+pub record HasRestored (journal : Journal) (named : Option (Bor Text)) (old new : BusState)
+    (outcome : Result Answer Refusal) : Type 0 where
   -- the bus after that probe, which tells that the chip has the name
   pub found : BusState
   pub same : IsSame old.chip found.chip

@@ -21,7 +21,8 @@ use Rattle.flashnor.specs.declared.messages.Fault.TheVariants as end
 -- the configuration of an emulated chip, with this unique ID in place of eight zeros, if one is given
 abbrev pub IsConfigWith : Emulated → Option (List ℕ) → Config → Type 0
 IsConfigWith chip None config = IsConfigOf chip config
-IsConfigWith chip (Some unique) config = IsConfigOf chip (record config { unique = replicate 8 0 }) × (config.unique ≡ unique)
+IsConfigWith chip (Some unique) config =
+    IsConfigOf chip (record config { unique = replicate 8 0 }) × (config.unique ≡ unique)
 
 -- how many transactions are allowed; without `stop=` the most that can be
 abbrev pub allowance_of : Programmer → ℕ
@@ -72,7 +73,9 @@ FailsToOpen happened programmer fault = (fault ≡ end.Refused Memory)
     ⊎ (IsSomeAnd programmer.image (λ name. IsOpening happened name.now (part_of programmer.chip).size fault)
     ⊎ IsSomeAnd programmer.status (λ name. IsOpening happened name.now 2 fault))
 
--- Its bytes and status bytes were written into the files that are named; or the names of those that couldn't be are these.
-pub record ArePutBack (happened : Happened) (programmer : Programmer) (chip : Chip) (image status : Option (Bor Text)) : Type 0 where
+-- Its bytes and status bytes were written into the files that are named; or the names of those that couldn't be are
+-- these.
+pub record ArePutBack (happened : Happened) (programmer : Programmer) (chip : Chip)
+    (image status : Option (Bor Text)) : Type 0 where
   pub image_put : IsPutBack happened programmer.image (AreBytesOf chip) image
   pub status_put : IsPutBack happened programmer.status (λ bytes. bytes ≡ status_of chip) status

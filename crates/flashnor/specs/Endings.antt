@@ -46,7 +46,8 @@ IsOfWords error fault = ((error_kind error ≡ Kinds.OutOfMemory) × (fault ≡ 
     ⊎ ((error_kind error ≢ Kinds.OutOfMemory) × (fault ≡ end.NoText))
 
 -- Behind what was printed, or couldn't be, the lines of files were: the status is 0 where there are none.
-pub record EndsWell (is_printed : Bool) (unwritten : Unwritten) (err err' : Option (List ℕ)) (ending : Ending) : Type 0 where
+pub record EndsWell (is_printed : Bool) (unwritten : Unwritten) (err err' : Option (List ℕ))
+    (ending : Ending) : Type 0 where
   pub few : ending.status ≤ 1
   pub exact : (ending.status ≡ 0) ↔ ((is_printed ≡ true) × (unwritten ≡ all_written))
   pub printed : ending.printed ≡ is_printed
@@ -54,7 +55,8 @@ pub record EndsWell (is_printed : Bool) (unwritten : Unwritten) (err err' : Opti
   pub silent : unwritten ≡ all_written → err' ≡ err
 
 -- The line of a fault was told, and those of files.
-pub record EndsBadly (fault : Fault) (unwritten : Unwritten) (err err' : Option (List ℕ)) (ending : Ending) : Type 0 where
+pub record EndsBadly (fault : Fault) (unwritten : Unwritten) (err err' : Option (List ℕ))
+    (ending : Ending) : Type 0 where
   pub status : ending.status ≡ 1
   pub printed : ending.printed ≡ false
   pub told : ending.told ≡ true → IfSome (lines_told (Err fault) unwritten) (Appends err err')

@@ -85,15 +85,23 @@ pub record DoesRestore (happened : Happened) (named : Option (Bor Text)) (file :
   pub restored : HasRestored journal named old new outcome
 
 -- what the call for a task came to, on a bus to the programmer's chip
-abbrev pub Does : Happened → Programmer → Option (Bor Text) → Task → BusState → BusState → Result Answer Refusal → Type 0
-Does happened programmer named task.Probe old new outcome = HasFound (TellsFound programmer named) programmer named old new outcome
-Does happened programmer named task.FlashSize old new outcome = HasFound (TellsSize programmer named) programmer named old new outcome
-Does happened programmer named task.WpStatus old new outcome = HasTold TellsGuarded named old new outcome
+abbrev pub Does : Happened → Programmer → Option (Bor Text) → Task
+    → BusState → BusState → Result Answer Refusal → Type 0
+Does happened programmer named task.Probe old new outcome =
+    HasFound (TellsFound programmer named) programmer named old new outcome
+Does happened programmer named task.FlashSize old new outcome =
+    HasFound (TellsSize programmer named) programmer named old new outcome
+Does happened programmer named task.WpStatus old new outcome =
+    HasTold TellsGuarded named old new outcome
 Does happened programmer named task.WpList old new outcome = HasTold ListsRanges named old new outcome
-Does happened programmer named (task.Read file regions) old new outcome = DoesRead happened named file.now regions old new outcome
-Does happened programmer named (task.Verify file regions) old new outcome = DoesVerify happened named file.now regions old new outcome
-Does happened programmer named (task.Change change) old new outcome = DoesChange happened programmer.chip named change old new outcome
-Does happened programmer named (task.Restore journal) old new outcome = DoesRestore happened named journal.now old new outcome
+Does happened programmer named (task.Read file regions) old new outcome =
+    DoesRead happened named file.now regions old new outcome
+Does happened programmer named (task.Verify file regions) old new outcome =
+    DoesVerify happened named file.now regions old new outcome
+Does happened programmer named (task.Change change) old new outcome =
+    DoesChange happened programmer.chip named change old new outcome
+Does happened programmer named (task.Restore journal) old new outcome =
+    DoesRestore happened named journal.now old new outcome
 
 -- after the call the chip is written into its files: it was changed, and that was no rehearsal
 abbrev pub changes_chip : Task → Bool
@@ -110,7 +118,8 @@ AreLeft false happened programmer chip unwritten = (unwritten.image ≡ None) ×
 -- The job's call was made: on a bus to the programmer's chip, as its files tell it, into which it was put back; and a
 -- trace that lost a line is the programmer's. Whatever a later run opens from the chip's files, at any moment of their
 -- being written over and wherever that ends, is between the old chip and the new one.
-pub record IsCalled (happened : Happened) (job : ChipJob) (unwritten : Unwritten) (outcome : Result Answer Refusal) : Type 0 where
+pub record IsCalled (happened : Happened) (job : ChipJob) (unwritten : Unwritten)
+    (outcome : Result Answer Refusal) : Type 0 where
   pub content : Content
   pub read : IsContentOf happened job.programmer content
   pub old : BusState
@@ -193,7 +202,8 @@ Succeeds happened words out out' = IsAmong kind.DisplayHelp (refusals_of words)
 
 -- How a run ended, by what standard output and standard error hold before and after, where that is known. The status is
 -- 0 or 1; 1 where the words ask for nothing, and 0 only where the run has no fault.
-pub record IsStatus (happened : Happened) (words : List Text) (out out' err err' : Option (List ℕ)) (ending : Ending) : Type 0 where
+pub record IsStatus (happened : Happened) (words : List Text) (out out' err err' : Option (List ℕ))
+    (ending : Ending) : Type 0 where
   pub few : ending.status ≤ 1
   pub refused : IsRefused words → ending.status ≡ 1
   pub succeeds : ending.status ≡ 0 → Succeeds happened words out out'

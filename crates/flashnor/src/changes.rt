@@ -66,7 +66,8 @@ fn change_with<'a, R: Store, B: Meter>(
     keeping: &Keeping<'a>,
 ) -> Result<Outcome, Fault<'a>>
     ensures ok { IsModelled (B.state bus.old) → IsCalm (B.state bus.old)
-        → IfOk result (HasChanged (R.happened rt.now) request.now image.old keeping.now (B.state bus.old) (B.state bus.new)) }
+        → IfOk result
+        (HasChanged (R.happened rt.now) request.now image.old keeping.now (B.state bus.old) (B.state bus.new)) }
     ensures err { IfErr result (FailsToKeep (R.happened rt.now) keeping.now) }
 {
     match keeping {
@@ -148,8 +149,10 @@ fn restore_named<B: Bus>(bus: &mut B, named: Option<&str>, journal: &Journal<'_>
 fn find_named<B: Bus>(bus: &mut B, named: Option<&str>) -> Result<(), Refusal>
     ensures passes { IsModelled (B.state bus.old) → IsCalm (B.state bus.old)
         → OnOk result (Passes named.entry (B.state bus.old) (B.state bus.new)) }
-    ensures same { IsModelled (B.state bus.old) → IsCalm (B.state bus.old) → IsSame (B.state bus.old).chip (B.state bus.new).chip }
-    ensures refuses { IsModelled (B.state bus.old) → IfErr result (ProbeRefuses named.entry (B.state bus.old) (B.state bus.new)) }
+    ensures same { IsModelled (B.state bus.old) → IsCalm (B.state bus.old)
+        → IsSame (B.state bus.old).chip (B.state bus.new).chip }
+    ensures refuses { IsModelled (B.state bus.old)
+        → IfErr result (ProbeRefuses named.entry (B.state bus.old) (B.state bus.new)) }
 {
     if named.is_some() {
         find(bus, named)?;

@@ -41,7 +41,8 @@ pub fn read_content<'a, R: Store>(rt: &R, programmer: &Programmer<'a>) -> Result
 fn read_image<'a, R: Store>(rt: &R, programmer: &Programmer<'a>) -> Result<Vec<u8>, Fault<'a>>
     ensures len { IfOk result (λ bytes. vec_len bytes ≡ (part_of programmer.now.chip).size) }
     ensures ok { let size = (part_of programmer.now.chip).size in
-        IfOk result (λ bytes. AreOfFile (R.happened rt.now) programmer.now.image size (replicate size 255) bytes.items) }
+        IfOk result (λ bytes. AreOfFile (R.happened rt.now) programmer.now.image size
+        (replicate size 255) bytes.items) }
     ensures err { IfErr result (FailsToOpen (R.happened rt.now) programmer.now) }
 {
     let size = programmer.chip.config().size;
@@ -70,7 +71,8 @@ fn read_whole<'a, R: Store>(
     len: u32,
 ) -> Result<Option<Vec<u8>>, Fault<'a>>
     ensures len { IfOk result (λ found. IfSome found (λ bytes. vec_len bytes ≡ len)) }
-    ensures ok { IfOk result (λ found. IsFound (R.happened rt.now) name.entry len (option_map (λ bytes. bytes.items) found)) }
+    ensures ok { IfOk result (λ found. IsFound (R.happened rt.now) name.entry len
+        (option_map (λ bytes. bytes.items) found)) }
     ensures err { IfErr result (λ fault.
         IsSomeAnd name.entry (λ given. IsOpening (R.happened rt.now) given.now len fault)) }
 {

@@ -318,7 +318,8 @@ pub fn print_fault<W: Write>(errors: &mut W, fault: &Fault<'_>) -> bool
 
 // Prints a line for each file that couldn't be written after a call, and tells whether that was done.
 fn print_unwritten<W: Write>(errors: &mut W, unwritten: Unwritten<'_>) -> bool
-    ensures told { IsTrue result → Appends (W.contents errors.old) (W.contents errors.new) (lines_of_unwritten unwritten.entry) }
+    ensures told { IsTrue result
+        → Appends (W.contents errors.old) (W.contents errors.new) (lines_of_unwritten unwritten.entry) }
     ensures none { unwritten.entry ≡ all_written → W.contents errors.new ≡ W.contents errors.old }
 {
     let image = print_unwritten_file(errors, unwritten.image);
@@ -329,7 +330,8 @@ fn print_unwritten<W: Write>(errors: &mut W, unwritten: Unwritten<'_>) -> bool
 
 // Prints the line of a file that couldn't be written, if this names one.
 fn print_unwritten_file<W: Write>(errors: &mut W, name: Option<&str>) -> bool
-    ensures told { IsTrue result → Appends (W.contents errors.old) (W.contents errors.new) (line_of_unwritten name.entry) }
+    ensures told { IsTrue result
+        → Appends (W.contents errors.old) (W.contents errors.new) (line_of_unwritten name.entry) }
     ensures none { name.entry ≡ None → W.contents errors.new ≡ W.contents errors.old }
 {
     let Some(name) = name else {

@@ -25,7 +25,8 @@ use nor_words::Regions;
 /// Finds the chip.
 pub fn find_chip<B: Bus>(bus: &mut B, named: Option<&str>) -> Outcome
     ensures { (programmer : Programmer) → IsReady programmer (B.state bus.old)
-        → HasFound (TellsFound programmer named.entry) programmer named.entry (B.state bus.old) (B.state bus.new) result }
+        → HasFound (TellsFound programmer named.entry) programmer named.entry
+        (B.state bus.old) (B.state bus.new) result }
 {
     let found = find(bus, named)?;
     Ok(Answer::Found(found))
@@ -34,7 +35,8 @@ pub fn find_chip<B: Bus>(bus: &mut B, named: Option<&str>) -> Outcome
 /// Tells the chip's size.
 pub fn tell_size<B: Bus>(bus: &mut B, named: Option<&str>) -> Outcome
     ensures { (programmer : Programmer) → IsReady programmer (B.state bus.old)
-        → HasFound (TellsSize programmer named.entry) programmer named.entry (B.state bus.old) (B.state bus.new) result }
+        → HasFound (TellsSize programmer named.entry) programmer named.entry
+        (B.state bus.old) (B.state bus.new) result }
 {
     let found = find(bus, named)?;
     Ok(Answer::Size(found.size))
@@ -46,7 +48,8 @@ pub fn find<B: Bus>(bus: &mut B, named: Option<&str>) -> Result<Found, Refusal>
     ensures looks { Looks 65540 (B.state bus.old) (B.state bus.new) }
     ensures wanted { IfOk result (λ found. IsWanted (wanted named.entry) found.name) }
     ensures finds { (B.state bus.old).honest ≡ true → IfOk result (Finds (B.state bus.old) (B.state bus.new)) }
-    ensures refuses { (B.state bus.old).honest ≡ true → IfErr result (ProbeRefuses named.entry (B.state bus.old) (B.state bus.new)) }
+    ensures refuses { (B.state bus.old).honest ≡ true
+        → IfErr result (ProbeRefuses named.entry (B.state bus.old) (B.state bus.new)) }
     ensures found { (programmer : Programmer) → IsReady programmer (B.state bus.old)
         → MatchResult result (IsFound named.entry programmer.chip) (FindRefuses programmer named.entry) }
 {
@@ -80,7 +83,8 @@ pub fn read_chip<'a, R: Store, B: Bus>(
     file: &'a str,
     regions: Option<Regions<'a>>,
 ) -> Result<Outcome, Fault<'a>>
-    ensures ok { IfOk result (DoesRead (R.happened rt.now) named.entry file.now regions.entry (B.state bus.old) (B.state bus.new)) }
+    ensures ok { IfOk result
+        (DoesRead (R.happened rt.now) named.entry file.now regions.entry (B.state bus.old) (B.state bus.new)) }
     ensures err { IfErr result (λ fault. FailsToInclude (R.happened rt.now) regions.entry fault
         ⊎ IsMaking (R.happened rt.now) file.now fault) }
 {
@@ -100,7 +104,8 @@ pub fn verify_chip<'a, R: Store, B: Bus>(
     file: &'a str,
     regions: Option<Regions<'a>>,
 ) -> Result<Outcome, Fault<'a>>
-    ensures ok { IfOk result (DoesVerify (R.happened rt.now) named.entry file.now regions.entry (B.state bus.old) (B.state bus.new)) }
+    ensures ok { IfOk result
+        (DoesVerify (R.happened rt.now) named.entry file.now regions.entry (B.state bus.old) (B.state bus.new)) }
     ensures err { IfErr result (λ fault. FailsToInclude (R.happened rt.now) regions.entry fault
         ⊎ IsReading (R.happened rt.now) file.now 16777217 fault) }
 {

@@ -26,6 +26,9 @@ count_below-next (suc n) k test below passes = elim (cases_eq k n) [
 pub only-same : (sector : ℕ) → only sector sector ≡ true
 only-same sector = grind (arith, nat_tests)
 
+pub only-here : (sector s : ℕ) → s ≡ sector → only sector s ≡ true
+only-here sector s same = ap (only sector) same ∙ only-same sector
+
 pub only-is : (sector s : ℕ) → only sector s ≡ true → s ≡ sector
 only-is sector s is = grind (arith, nat_tests)
 

@@ -2,7 +2,9 @@
 use Rattle.std.proofs.Common.{ℕ, ◌≡◌, ◌<◌, ◌≤◌, ◌+◌, ◌*◌, ◌/◌, ◌%◌, Bool, true, false, refl, sym, ap, subst, ◌∙◌, arith, true≢false}
 use Rattle.std.specs.Prelude.{◌&&◌, ◌||◌, ◌==◌, not, bit_and, if◌then◌else◌}
 use Rattle.std.proofs.lemmas.Nat.{and_mask}
+use Rattle.std.proofs.lemmas.Bool.{or_right}
 use Rattle.std.proofs.lemmas.Bool.Decides.{nat_tests}
+use Rattle.std.proofs.Math.Bool.{or-false}
 use Rattle.nor_chip.specs.Code.{code_in}
 use Rattle.nor_chip.specs.Status.{bytes_of}
 use Rattle.nor_chip.specs.declared.config.Config.{Config}
@@ -69,10 +71,6 @@ can_write changes wanted old new can fixed idle writable =
 
 pub writable_lifted : (changes : Changes) (wanted : ℕ → ℕ) (chip : Chip) → CanApply changes wanted chip → changes.unlock ≡ true → is_writable chip ≡ true
 writable_lifted changes wanted chip can lifts = can.writable (ap (λ (b : Bool). b || writes_code changes) lifts)
-
-or_right : (b c : Bool) → c ≡ true → (b || c) ≡ true
-or_right true c is = refl
-or_right false c is = is
 
 pub writable_last : (changes : Changes) (wanted : ℕ → ℕ) (chip : Chip) → CanApply changes wanted chip → writes_code changes ≡ true → is_writable chip ≡ true
 writable_last changes wanted chip can writes = can.writable (or_right changes.unlock (writes_code changes) writes)
@@ -170,10 +168,6 @@ can_program_all changes wanted lifted old mid new can free erased = record {
       (can.bytes a touched) (can.falls a touched);
 }
 
-or_none : (b : Bool) → (b || false) ≡ b
-or_none true = refl
-or_none false = refl
-
 made_byte : (t r : Bool) (w x y z : ℕ) → (r ≡ true → t ≡ true) → y ≡ (if r then 255 else x) → z ≡ (if t then w else y) → z ≡ (if t then w else x)
 made_byte true r w x y z inside before after = after
 made_byte false true w x y z inside before after = absurd (true≢false (sym (inside refl)))
@@ -188,7 +182,7 @@ makes changes wanted lifted old free erased new can lifts erases programs = reco
       (can.raised (a / 4096)) (bytes_erased changes lifted old free erased lifts erases a) (programs.bytes a);
   fixed = fixed_then old.chip free.chip new.chip lifts.fixed
       (fixed_then free.chip erased.chip new.chip (kept_fixed free.chip erased.chip erases.kept) (kept_fixed erased.chip new.chip programs.kept));
-  worn = λ s. programs.worn s ∙ or_none (erased.worn s) ∙ erases.worn s ∙ ap (λ (b : Bool). b || raised_in changes s) (lifts.worn s);
+  worn = λ s. programs.worn s ∙ or-false (erased.worn s) ∙ erases.worn s ∙ ap (λ (b : Bool). b || raised_in changes s) (lifts.worn s);
   idle = programs.idle;
   latch = λ set. lifts.latch (erases.latch (programs.latch set));
   code = record {

@@ -49,7 +49,7 @@ works_wider p q first running wider works = record {
 }
 
 -- what holds in a wider set's terms fails in a narrower one's
-narrower : (b c : Bool) → (b ≡ true → c ≡ true) → c ≡ false → b ≡ false
+pub narrower : (b c : Bool) → (b ≡ true → c ≡ true) → c ≡ false → b ≡ false
 narrower true c wider out = sym (wider refl) ∙ out
 narrower false c wider out = refl
 

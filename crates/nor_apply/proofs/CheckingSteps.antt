@@ -14,8 +14,8 @@ use Rattle.nor_apply.specs.Checking.{CanCheck, DoesChecks, CheckTells}
 use Rattle.nor_apply.specs.declared.checks.CheckFault.{CheckFault}
 use Rattle.nor_apply.specs.declared.checks.CheckFault.TheVariants.{Stopped, Mismatch}
 use Rattle.nor_driver.proofs.Readings.{looked_after, looked_more, rested_none, rested_then}
-use Rattle.nor_apply.proofs.Counting.{count_below-zero, count_below-more}
-use Rattle.nor_apply.proofs.Alone.{count_below-next, only-same, only-is, sector_count-only}
+use Rattle.nor_apply.proofs.Counting.{count_below-zero, count_below-with, count_below-without}
+use Rattle.nor_apply.proofs.Alone.{count_below-next, only-here, only-is, only-same, sector_count-only}
 
 -- ---- a sector
 
@@ -97,15 +97,6 @@ checked_none t w state = record {
   same = λ honest can a below is. absurd (omega arith);
 }
 
--- how many there are up to a sector
-counted_with : (t : ℕ → Bool) (n : ℕ) → t n ≡ true → count_below (n + 1) t ≡ count_below n t + 1
-counted_with t n is = count_below-more n t ∙ ap (λ (b : Bool). count_below n t + (if b then 1 else 0)) is
-
-counted_without : (t : ℕ → Bool) (n : ℕ) → t n ≡ false → count_below (n + 1) t ≡ count_below n t
-counted_without t n not =
-    let step : count_below (n + 1) t ≡ count_below n t + 0 = count_below-more n t ∙ ap (λ (b : Bool). count_below n t + (if b then 1 else 0)) not in
-    omega arith
-
 -- a sector that isn't in the set is passed over
 other_sector : (t : ℕ → Bool) (n s : ℕ) → t n ≡ false → t s ≡ true → s < n + 1 → s < n
 other_sector t n s not is below = elim (cases_eq s n) [
@@ -119,7 +110,7 @@ checked_without t w n sent old new not has = record {
   steady = has.steady;
   stirred = has.stirred;
   few = let few = has.few in omega arith;
-  counted = has.counted ∙ sym (counted_without t n not);
+  counted = has.counted ∙ sym (count_below-without n t not);
   count = has.count;
   rested = has.rested;
   same = λ honest can a below is. has.same honest can a (other_sector t n (a / 4096) not is below) is;
@@ -140,9 +131,6 @@ wanted_at w n a bytes are in_sector =
     let at = place n a in_sector in
     are.byte (a - 4096 * n) at.1 ∙ ap w at.0
 
-only_here : (n s : ℕ) → s ≡ n → only n s ≡ true
-only_here n s same = ap (only n) same ∙ only-same n
-
 pub checked_with : (t : ℕ → Bool) (w : ℕ → ℕ) (n sent : ℕ) (bytes : List ℕ) (old mid new : BusState) → t n ≡ true → AreWanted w n bytes
     → HasChecked t w n old mid sent → Looks 1 mid new → DoesChecks (only n) (byte_of n bytes) mid new 1 → HasChecked t w (n + 1) old new (sent + 1)
 checked_with t w n sent bytes old mid new is are has looks does = record {
@@ -150,7 +138,7 @@ checked_with t w n sent bytes old mid new is are has looks does = record {
   steady = looks.steady ∙ has.steady;
   stirred = looks.stirred ∙ has.stirred;
   few = let few = has.few in omega arith;
-  counted = let counted = has.counted in let more = counted_with t n is in omega arith;
+  counted = let counted = has.counted in let more = count_below-with n t is in omega arith;
   count = λ honest. let before = has.count honest in let after = does.count (has.honest ∙ honest) in omega arith;
   rested = λ honest. rested_then old mid new (has.rested honest) (does.rested (has.honest ∙ honest));
   same = λ honest can a below in_set.
@@ -158,7 +146,7 @@ checked_with t w n sent bytes old mid new is are has looks does = record {
       elim (cases_eq (a / 4096) n) [
         | inl here ↦
             sym (rested.unchanged.same.bytes a)
-            ∙ does.same (has.honest ∙ honest) (can_one t n old mid is rested can) a (only_here n (a / 4096) here)
+            ∙ does.same (has.honest ∙ honest) (can_one t n old mid is rested can) a (only-here n (a / 4096) here)
             ∙ wanted_at w n a bytes are here
         | inr other ↦ has.same honest can a (omega arith) in_set
       ];
@@ -194,7 +182,7 @@ failed_tells t w n sent bytes old mid new (Mismatch address) below is are has te
       in_sector = ap t here ∙ is;
       differs = λ same. first.differs (rested.unchanged.same.bytes address ∙ same ∙ sym (wanted_at w n address bytes are here));
       before = λ a less in_set. elim (cases_eq (a / 4096) n) [
-        | inl at ↦ sym (rested.unchanged.same.bytes a) ∙ first.before a less (only_here n (a / 4096) at) ∙ wanted_at w n a bytes are at
+        | inl at ↦ sym (rested.unchanged.same.bytes a) ∙ first.before a less (only-here n (a / 4096) at) ∙ wanted_at w n a bytes are at
         | inr other ↦ has.same honest can a (omega arith) in_set
       ];
     }

@@ -4,9 +4,14 @@ use Rattle.std.specs.Prelude.{if◌then◌else◌}
 use Rattle.nor_layout.specs.Below.{any_below, count_below}
 pub use Rattle.nor_layout.proofs.Below.{any_below-some, count_below-zero, count_below-more, count_below-most}
 
-or_true : (b : Bool) → (b || true) ≡ true
-or_true true = refl
-or_true false = refl
+-- how many there are with a number that passes, or with one that doesn't
+pub count_below-with : (n : ℕ) (test : ℕ → Bool) → test n ≡ true → count_below (n + 1) test ≡ count_below n test + 1
+count_below-with n test passes = count_below-more n test ∙ ap (λ (b : Bool). count_below n test + (if b then 1 else 0)) passes
+
+pub count_below-without : (n : ℕ) (test : ℕ → Bool) → test n ≡ false → count_below (n + 1) test ≡ count_below n test
+count_below-without n test fails =
+    let step : count_below (n + 1) test ≡ count_below n test + 0 = count_below-more n test ∙ ap (λ (b : Bool). count_below n test + (if b then 1 else 0)) fails in
+    omega arith
 
 -- one number more
 pub any_below-more : (n : ℕ) (test : ℕ → Bool) → any_below (n + 1) test ≡ (any_below n test || test n)

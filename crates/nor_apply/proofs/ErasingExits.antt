@@ -1,6 +1,5 @@
 -- What holds while the erases of a plan are carried out, and what follows from it at each exit.
-use Rattle.std.proofs.Common.{ℕ, zero, suc, ◌≡◌, ◌<◌, ◌≤◌, ◌+◌, ◌*◌, ◌/◌, Bool, true, false, List, [], ◌∷◌, ◌++◌, length, refl, sym, ap, subst, ◌∙◌, arith}
-use Rattle.std.specs.Prelude.{if◌then◌else◌}
+use Rattle.std.proofs.Common.{ℕ, ◌≡◌, ◌<◌, ◌≤◌, ◌+◌, ◌*◌, ◌/◌, Bool, true, List, [], ◌∷◌, ◌++◌, length, refl, sym, ap, subst, ◌∙◌, arith}
 use Rattle.std.proofs.lemmas.List.{length-append, append_assoc, append-nil}
 use Rattle.nor_chip.specs.declared.config.Config.{Config}
 use Rattle.nor_chip.specs.Bus.{BusState}
@@ -12,12 +11,12 @@ use Rattle.nor_driver.specs.Erases.{sectors_of, LeavesErase, Erases}
 use Rattle.nor_plan.specs.Erase.{Covers}
 use Rattle.nor_plan.specs.Planned.{planned}
 use Rattle.nor_apply.specs.declared.tally.Tally.{Tally}
-use Rattle.nor_layout.specs.Below.{count_below}
 use Rattle.nor_apply.specs.Counts.{sector_count}
 use Rattle.nor_apply.specs.Change.{MayChange, HasChanged, blank}
 use Rattle.nor_apply.specs.Spending.{HaltsBelow, Tallies}
 use Rattle.nor_apply.specs.Erasing.{CanEraseAll, LeavesErases, DoesErases}
 use Rattle.nor_apply.proofs.Changing.{has_may, change_then, change_wider}
+use Rattle.nor_apply.proofs.Counting.{count_below-most}
 use Rattle.nor_apply.proofs.ErasingUnits.{union_of, IsOfPlan, union_more, planned_few, next_of_plan, union_of_plan, next_few}
 use Rattle.nor_apply.proofs.ErasingSteps.{can_erase, erase_change, erased_more, changed_same, changed_none}
 
@@ -72,13 +71,6 @@ is_next kinds size set units left unit rest plan first =
       before = union_of_plan kinds (size / 4096) set units (unit ∷ rest) plan.covers split;
       few = next_few kinds (size / 4096) set units unit rest split;
     }
-
-pub count_most : (n : ℕ) (test : ℕ → Bool) → count_below n test ≤ n
-unfolding count_below
-count_most zero test = omega arith
-count_most (suc n) test =
-    let rest : count_below n test ≤ n = count_most n test in
-    elim (test n) as (λ b. count_below n test + (if b then 1 else 0) ≤ suc n) [ true ↦ omega arith | false ↦ omega arith ]
 
 -- ---- the loop
 
@@ -200,4 +192,4 @@ does_ended kinds size set units left old new tally plan none so =
 pub few_units : (kinds : Kinds) (size : ℕ) (set : ℕ → Bool) (units : List Erase) (unit : Erase) (old new : BusState) (tally : Tally)
     → IsNext kinds size set units unit → ErasesSoFar kinds size set units old new tally → tally.count < 4096
 few_units kinds size set units unit old new tally next so =
-    let few = next.few in let count = so.count in let all = count_most 4096 set in omega (arith, few, count, all)
+    let few = next.few in let count = so.count in let all = count_below-most 4096 set in omega (arith, few, count, all)

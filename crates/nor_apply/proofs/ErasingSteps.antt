@@ -2,6 +2,7 @@
 use Rattle.std.proofs.Common.{ℕ, ◌≡◌, ◌<◌, ◌≤◌, ◌+◌, ◌-◌, ◌*◌, ◌/◌, ◌%◌, ◌⊎◌, inl, inr, Bool, true, false, true≢false, ◌||◌, ◌&&◌, refl, sym, ap, subst, ◌∙◌, arith}
 use Rattle.std.specs.Prelude.{if◌then◌else◌}
 use Rattle.std.proofs.lemmas.Bool.{and_parts, and_from, le-leb, lt-ltb, leb-true, ltb-true}
+use Rattle.std.proofs.Math.Bool.{or-false, or_assoc}
 use Rattle.nor_chip.specs.declared.config.Config.{Config}
 use Rattle.nor_chip.specs.declared.running.Running.{Running}
 use Rattle.nor_chip.specs.declared.running.Running.TheVariants as Runs
@@ -19,6 +20,7 @@ use Rattle.nor_plan.specs.Erase.{is_offered}
 use Rattle.nor_apply.specs.Within.{WorksIn, places_of}
 use Rattle.nor_apply.specs.Change.{MayChange, HasChanged, blank}
 use Rattle.nor_apply.specs.Erasing.{CanEraseAll}
+use Rattle.nor_apply.proofs.Changing.{narrower}
 use Rattle.nor_apply.proofs.Kept.{kept_fixed, kept_then}
 use Rattle.nor_apply.proofs.ErasingUnits.{IsOfPlan}
 
@@ -71,10 +73,6 @@ can_erase kinds size set done unit old mid plan can has =
 
 -- ---- what it leaves at every exit
 
-absent : (p q : Bool) → (p ≡ true → q ≡ true) → q ≡ false → p ≡ false
-absent true q wider out = absurd (true≢false (sym (wider refl) ∙ out))
-absent false q wider out = refl
-
 untouched : (x y : ℕ) (p q : Bool) (R : Type 0) → (p ≡ true → q ≡ true) → q ≡ false → (x ≡ y) ⊎ ((p ≡ true) × R) → x ≡ y
 untouched x y p q R wider out (inl same) = same
 untouched x y p q R wider out (inr change) = absurd (true≢false (sym (wider change.0) ∙ out))
@@ -110,7 +108,7 @@ erase_change kinds total set unit mid new same plan may =
             (λ s low high. wider s (in_unit (sectors_of mid.chip) s unit low high)) (may.runs works);
       };
       gentle = λ steady a plain. inl (outside a plain);
-      worn = λ s spared. may.worn s (absent _ _ (wider s) spared);
+      worn = λ s spared. may.worn s (narrower _ _ (wider s) spared);
     }
 
 -- ---- what it leaves at its end
@@ -120,10 +118,6 @@ more_bytes true true d new mid old wanted both after before = after ∙ ap (λ (
 more_bytes false true d new mid old wanted both after before = after ∙ ap (λ (e : Bool). if e then wanted else old) (sym both)
 more_bytes true false d new mid old wanted both after before = after ∙ before ∙ ap (λ (e : Bool). if e then wanted else old) (sym both)
 more_bytes false false d new mid old wanted both after before = after ∙ before ∙ ap (λ (e : Bool). if e then wanted else old) (sym both)
-
-or_assoc : (a b c : Bool) → ((a || b) || c) ≡ (a || (b || c))
-or_assoc true b c = refl
-or_assoc false b c = refl
 
 pub erased_more : (total : ℕ) (done both : ℕ → Bool) (unit : Erase) (old mid new : BusState)
     → sectors_of mid.chip ≡ total → ((s : ℕ) → both s ≡ (done s || erases_sector total s unit))
@@ -158,11 +152,7 @@ changed_none p state none idle = record {
   config = refl;
   bytes = λ a. ap (λ (b : Bool). if b then 255 else state.chip.bytes a) (sym (none (a / 4096)));
   kept = (refl, refl);
-  worn = λ s. sym (ap (λ (b : Bool). state.worn s || b) (none s) ∙ or_none (state.worn s));
+  worn = λ s. sym (ap (λ (b : Bool). state.worn s || b) (none s) ∙ or-false (state.worn s));
   idle = idle;
   latch = λ set. set;
 }
-  where
-    or_none : (b : Bool) → (b || false) ≡ b
-    or_none true = refl
-    or_none false = refl

@@ -6,6 +6,7 @@ use Rattle.std.proofs.lemmas.Bool.{cases_Bool}
 use Rattle.std.proofs.lemmas.List.{length-append, length-map}
 use Rattle.std.proofs.lemmas.List.Elements.{All-head, All-tail}
 use Rattle.std.proofs.lemmas.List.Folds.{list_any-append}
+use Rattle.std.proofs.Math.Bool.{or-false, or-true}
 use Rattle.nor_probe.specs.declared.sfdp.Kinds.{Kinds}
 use Rattle.nor_driver.specs.declared.units.Erase.{Erase}
 use Rattle.nor_driver.specs.declared.units.EraseUnit.{EraseUnit}
@@ -33,22 +34,14 @@ all_middle : {X : Type 0} (P : X → Type 0) (xs : List X) (x : X) (rest : List 
 all_middle P [] x rest all = All-head P x rest all
 all_middle P (y ∷ ys) x rest all = all_middle P ys x rest (All-tail P y (ys ++ x ∷ rest) all)
 
-or_right : (b : Bool) → (b || true) ≡ true
-or_right true = refl
-or_right false = refl
-
 any_middle : {X : Type 0} (p : X → Bool) (xs : List X) (x : X) (rest : List X) → p x ≡ true → list_any p (xs ++ x ∷ rest) ≡ true
 any_middle p [] x rest here = ap (λ b. b || list_any p rest) here
-any_middle p (y ∷ ys) x rest here = ap (λ b. p y || b) (any_middle p ys x rest here) ∙ or_right (p y)
-
-or_false : (b : Bool) → (b || false) ≡ b
-or_false true = refl
-or_false false = refl
+any_middle p (y ∷ ys) x rest here = ap (λ b. p y || b) (any_middle p ys x rest here) ∙ or-true (p y)
 
 -- one erase more
 pub union_more : (total : ℕ) (units : List Erase) (unit : Erase) (s : ℕ) → union_of total (units ++ unit ∷ []) s ≡ (union_of total units s || erases_sector total s unit)
 union_more total units unit s =
-    list_any-append (erases_sector total s) units (unit ∷ []) ∙ ap (λ b. union_of total units s || b) (or_false (erases_sector total s unit))
+    list_any-append (erases_sector total s) units (unit ∷ []) ∙ ap (λ b. union_of total units s || b) (or-false (erases_sector total s unit))
 
 -- ---- counts
 

@@ -2,6 +2,7 @@
 use Rattle.std.proofs.Common.{◌≡◌, ◌<◌, ◌≤◌, ◌+◌, ◌-◌, ◌*◌, ◌∙◌, ℕ, zero, suc, Bool, true, false, List, ◌∷◌, Option, Some, None, length, slice_index, refl, ap, sym, arith}
 use Rattle.std.specs.Prelude.{◌==◌, ◌||◌, not, min, filter, if◌then◌else◌}
 use Rattle.std.specs.List.{filter_map, cons_option, range_with_len}
+use Rattle.std.proofs.Math.Bool.{or-false, or_assoc}
 use Rattle.nor_plan.specs.Span.{ends, page_span, spans_in, spans_of, pages_of}
 use Rattle.nor_driver.specs.Reads.{IsSectorOf}
 use Rattle.nor_layout.specs.Below.{any_below, count_below}
@@ -13,18 +14,10 @@ abbrev is_some : {A : Type 0} → Option A → Bool
 is_some None = false
 is_some (Some x) = true
 
-or_false : (b : Bool) → (b || false) ≡ b
-or_false true = refl
-or_false false = refl
-
-or_assoc : (a b c : Bool) → ((a || b) || c) ≡ (a || (b || c))
-or_assoc true b c = refl
-or_assoc false b c = refl
-
 -- the first number, and the others
 any_below-first : (n : ℕ) (test : ℕ → Bool) → any_below (suc n) test ≡ (test 0 || any_below n (λ i. test (i + 1)))
 unfolding any_below
-any_below-first zero test = sym (or_false (test 0))
+any_below-first zero test = sym (or-false (test 0))
 any_below-first (suc n) test =
     ap (λ (b : Bool). b || test (suc n)) (any_below-first n test)
     ∙ or_assoc (test 0) (any_below n (λ i. test (i + 1))) (test (suc n))

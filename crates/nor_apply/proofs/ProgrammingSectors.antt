@@ -10,9 +10,10 @@ use Rattle.nor_apply.specs.Content.{is_other, is_page_other}
 use Rattle.nor_apply.specs.Change.{only, none, byte_of}
 use Rattle.nor_apply.specs.Programming.{CanProgramSpans, LeavesSpans, DoesSpans, CanProgramSector, LoadsOk, Loads, LeavesSector, DoesSector}
 use Rattle.nor_apply.proofs.Kept.{kept_then}
+use Rattle.nor_apply.proofs.Alone.{only-here}
 use Rattle.nor_apply.proofs.Changing.{looks_change, change_then}
 use Rattle.nor_apply.proofs.Counting.{any_below-same, count_below-same}
-use Rattle.nor_apply.proofs.ProgrammingSpans.{guarded_same, only_same}
+use Rattle.nor_apply.proofs.ProgrammingSpans.{guarded_same}
 
 -- A sector's bytes are known, and the chip is as it was.
 pub record HasLoaded (sector : ℕ) (bytes : List ℕ) (first mid : BusState) : Type 0 where
@@ -28,7 +29,7 @@ pub has_loaded : (sector : ℕ) (wanted : List ℕ) (erased : Bool) (bytes bytes
     → ((i : ℕ) → i < 4096 → slice_index bytes i ≡ 255) → LoadsOk sector erased bytes bytes' reads first mid
     → first.honest ≡ true → CanProgramSector sector wanted erased first.chip → HasLoaded sector bytes' first mid
 has_loaded sector wanted erased bytes bytes' reads first mid blank loads honest can =
-    let inside = can.can.inside sector (only_same sector sector refl) in
+    let inside = can.can.inside sector (only-here sector sector refl) in
     elim erased as (λ b. erased ≡ b → HasLoaded sector bytes' first mid) [
       | true ↦ λ is.
           let kept = loads.kept is in
@@ -88,7 +89,7 @@ can_spans sector wanted erased bytes' first mid can loaded = record {
   falls = λ i small.
       let offset : 4096 * sector + i - 4096 * sector ≡ i = omega arith in
       let fall = subst (λ (k : ℕ). bit_and (slice_index wanted k) (first.chip.bytes (4096 * sector + i)) ≡ slice_index wanted k) offset
-      (can.falls (4096 * sector + i) (only_same sector ((4096 * sector + i) / 4096) (omega arith))) in
+      (can.falls (4096 * sector + i) (only-here sector ((4096 * sector + i) / 4096) (omega arith))) in
       ap (λ (b : ℕ). bit_and (slice_index wanted i) b) (loaded.shown.byte i small ∙ loaded.same (4096 * sector + i)) ∙ fall;
 }
 

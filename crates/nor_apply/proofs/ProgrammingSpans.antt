@@ -1,6 +1,6 @@
 -- What the programs of some spans of a sector leave, one after another.
 use Rattle.std.proofs.Common.{◌≡◌, ◌≢◌, ◌<◌, ◌≤◌, ◌+◌, ◌-◌, ◌*◌, ◌/◌, ◌%◌, ◌⊎◌, inl, inr, ◌∙◌, ℕ, Bool, true, false, List, [], ◌∷◌, ◌++◌, length, take, drop, slice_index, refl, ap, sym, subst, arith, length-take, length-drop, true≢false}
-use Rattle.std.specs.Prelude.{◌&&◌, ◌||◌, bit_and, if◌then◌else◌}
+use Rattle.std.specs.Prelude.{◌&&◌, bit_and, if◌then◌else◌}
 use Rattle.std.specs.List.{All}
 use Rattle.std.specs.Int.Bits.{and_self}
 use Rattle.std.proofs.lemmas.Nat.{and_comm}
@@ -8,6 +8,7 @@ use Rattle.std.proofs.lemmas.List.{get_or-take, get_or-drop}
 use Rattle.std.proofs.lemmas.List.Elements.{All-push}
 use Rattle.std.proofs.lemmas.Bool.Decides.{nat_tests}
 use Rattle.std.proofs.lemmas.Bool.{cases_eq, cases_lt}
+use Rattle.std.proofs.Math.Bool.{or-false}
 use Rattle.nor_chip.specs.declared.config.Config.{Config}
 use Rattle.nor_chip.specs.declared.running.Running.{Running}
 use Rattle.nor_chip.specs.declared.running.Running.TheVariants as Runs
@@ -23,6 +24,7 @@ use Rattle.nor_plan.specs.SpanFacts.{IsSpan, AreSpans}
 use Rattle.nor_apply.specs.Change.{MayChange, HasChanged, none, only, byte_of}
 use Rattle.nor_apply.specs.Programming.{CanProgramSpans}
 use Rattle.nor_apply.proofs.Kept.{kept_fixed, kept_then}
+use Rattle.nor_apply.proofs.Alone.{only-here, only-is}
 use Rattle.nor_apply.proofs.Changing.{change_then}
 
 -- the places of a span have the wanted bytes
@@ -41,18 +43,8 @@ pub record HasFilled (sector : ℕ) (wanted : List ℕ) (spans : List Span) (old
 
 -- ---- sectors
 
-pub only_same : (sector s : ℕ) → s ≡ sector → only sector s ≡ true
-only_same sector s same = grind (arith, nat_tests)
-
 pub only_other : (sector s : ℕ) → only sector s ≡ false → s ≢ sector
-only_other sector s out same = true≢false (sym (only_same sector s same) ∙ out)
-
-pub only_is : (sector s : ℕ) → only sector s ≡ true → s ≡ sector
-only_is sector s is = grind (arith, nat_tests)
-
-pub or_false : (b : Bool) → b ≡ (b || false)
-or_false true = refl
-or_false false = refl
+only_other sector s out same = true≢false (sym (only-here sector s same) ∙ out)
 
 -- the old byte at a place of the sector
 pub old_byte : (sector : ℕ) (old : List ℕ) (content : ℕ → ℕ) (a : ℕ) → a / 4096 ≡ sector → IsSectorOf content sector old → content a ≡ slice_index old (a - 4096 * sector)
@@ -113,13 +105,13 @@ can_span sector old wanted spans span first now spanned can filled =
     let room = within_page sector old wanted span spanned in
     let order = room.0 in let last = room.1 in
     let long = length-part wanted span order (let w = spanned.wanted_whole in omega arith) in
-    let inside = can.can.inside sector (only_same sector sector refl) in
+    let inside = can.can.inside sector (only-here sector sector refl) in
     let size : now.chip.config.size ≡ first.chip.config.size = ap (λ (c : Config). c.size) filled.config in
     record {
       idle = filled.idle;
       inside = omega arith;
       free = guarded_same first.chip now.chip (4096 * sector + span.first) filled.config filled.kept
-          ∙ can.can.free (4096 * sector + span.first) (only_same sector ((4096 * sector + span.first) / 4096) (omega arith));
+          ∙ can.can.free (4096 * sector + span.first) (only-here sector ((4096 * sector + span.first) / 4096) (omega arith));
     }
 
 -- each byte as a span's program leaves it: in the span as wanted, else as it was
@@ -260,7 +252,7 @@ program_may sector wanted span now new small bytes may =
             record {
               known = ap is_known is;
               inside = λ a in_work.
-                  only_same sector (a / 4096) (in_page_sector sector (4096 * sector + span.first) a at_sector (sym (ap (λ (r : Running). is_in_work r a) is) ∙ in_work));
+                  only-here sector (a / 4096) (in_page_sector sector (4096 * sector + span.first) a at_sector (sym (ap (λ (r : Running). is_in_work r a) is) ∙ in_work));
               status = λ one two runs. absurd (true≢false (sym (ap is_write runs) ∙ ap is_write is));
             };
       };
@@ -298,11 +290,11 @@ pub filled_all : (sector : ℕ) (old wanted : List ℕ) (spans : List Span) (fir
 filled_all sector old wanted spans first new whole are can filled = record {
   config = filled.config;
   bytes = λ a. elim (only sector (a / 4096)) as (λ b. only sector (a / 4096) ≡ b → new.chip.bytes a ≡ (if b then byte_of sector wanted a else first.chip.bytes a)) [
-    | true ↦ λ inside. within a (only_is sector (a / 4096) inside)
+    | true ↦ λ inside. within a (only-is sector (a / 4096) inside)
     | false ↦ λ outside. old_outside sector wanted a _ _ (filled.bytes a) outside
   ] refl;
   kept = filled.kept;
-  worn = λ s. filled.worn s ∙ or_false (first.worn s);
+  worn = λ s. filled.worn s ∙ sym (or-false (first.worn s));
   idle = filled.idle;
   latch = filled.latch;
 }

@@ -1,7 +1,9 @@
 -- The loop over all sectors: what holds after those below a number, and what follows at each exit.
 use Rattle.std.proofs.Common.{◌≡◌, ◌≢◌, ◌<◌, ◌≤◌, ◌+◌, ◌-◌, ◌*◌, ◌/◌, ◌⊎◌, inl, ◌∙◌, ℕ, Bool, true, false, List, slice_index, refl, ap, sym, subst, arith}
 use Rattle.std.specs.Prelude.{◌&&◌, nat_lt, bit_and, if◌then◌else◌}
+use Rattle.std.proofs.lemmas.Bool.{and_parts}
 use Rattle.std.proofs.lemmas.Bool.Decides.{nat_tests}
+use Rattle.std.proofs.Math.Bool.{and-false, or-false}
 use Rattle.nor_chip.specs.declared.config.Config.{Config}
 use Rattle.nor_chip.specs.Bus.{BusState}
 use Rattle.nor_driver.specs.declared.waits.Halt.{Halt}
@@ -14,26 +16,15 @@ use Rattle.nor_apply.specs.Change.{MayChange, HasChanged, only, none, byte_of}
 use Rattle.nor_apply.specs.Spending.{HaltsBelow}
 use Rattle.nor_apply.specs.Programming.{CanProgramSector, LeavesSector, DoesSector, CanProgramAll, LeavesPrograms, DoesPrograms}
 use Rattle.nor_apply.proofs.Kept.{kept_then}
+use Rattle.nor_apply.proofs.Alone.{only-is}
 use Rattle.nor_apply.proofs.Changing.{change_then, change_wider, within_wider, has_may}
-use Rattle.nor_apply.proofs.Counting.{count_below-zero, count_below-more, count_below-add, count_below-same, count_below-none, count_below-most}
-use Rattle.nor_apply.proofs.ProgrammingSpans.{guarded_same, only_is, only_other, or_false}
+use Rattle.nor_apply.proofs.Counting.{count_below-zero, count_below-with, count_below-without, count_below-add, count_below-same, count_below-none, count_below-most}
+use Rattle.nor_apply.proofs.ProgrammingSpans.{guarded_same, only_other}
 use Rattle.nor_apply.proofs.ProgrammingSectors.{pages_same}
 
 -- the touched sectors below a number
 abbrev pub before : (ℕ → Bool) → ℕ → ℕ → Bool
 before touched n s = touched s && nat_lt s n
-
-and_false : (b : Bool) → (b && false) ≡ false
-and_false true = refl
-and_false false = refl
-
-and_true : (b : Bool) → (b && true) ≡ b
-and_true true = refl
-and_true false = refl
-
-and_left : (b c : Bool) → (b && c) ≡ true → b ≡ true
-and_left true c both = refl
-and_left false c both = both
 
 lt_true : (s n : ℕ) → s < n → nat_lt s n ≡ true
 lt_true s n less = grind (arith, nat_tests)
@@ -46,7 +37,7 @@ lt_next s n other = grind (arith, nat_tests)
 
 -- a sector isn't before itself, and the others are as before
 before_self : (touched : ℕ → Bool) (n s : ℕ) → n ≤ s → before touched n s ≡ false
-before_self touched n s past = ap (λ (b : Bool). touched s && b) (lt_false s n past) ∙ and_false (touched s)
+before_self touched n s past = ap (λ (b : Bool). touched s && b) (lt_false s n past) ∙ and-false (touched s)
 
 before_here : (touched : ℕ → Bool) (n : ℕ) → touched n ≡ true → before touched (n + 1) n ≡ true
 before_here touched n is = ap (λ (b : Bool). b && nat_lt n (n + 1)) is ∙ lt_true n (n + 1) (omega arith)
@@ -58,7 +49,7 @@ before_skip : (touched : ℕ → Bool) (n s : ℕ) → touched n ≡ false → b
 before_skip touched n s free =
     elim (only n s) as (λ b. only n s ≡ b → before touched (n + 1) s ≡ before touched n s) [
       | true ↦ λ is.
-          let here : touched s ≡ false = ap touched (only_is n s is) ∙ free in
+          let here : touched s ≡ false = ap touched (only-is n s is) ∙ free in
           ap (λ (b : Bool). b && nat_lt s (n + 1)) here ∙ sym (ap (λ (b : Bool). b && nat_lt s n) here)
       | false ↦ λ out. before_other touched n s (only_other n s out)
     ] refl
@@ -89,7 +80,7 @@ sectors_none touched raised wanted state = record {
     config = refl;
     bytes = λ a. sym (ap (λ (b : Bool). if b then wanted a else state.chip.bytes a) (before_self touched 0 (a / 4096) (omega arith)));
     kept = (refl, refl);
-    worn = λ s. or_false (state.worn s);
+    worn = λ s. sym (or-false (state.worn s));
     idle = can.can.idle;
     latch = λ set. set;
   };
@@ -103,17 +94,11 @@ page_of n page small = omega arith
 pages_more : (n : ℕ) (test : ℕ → Bool) → count_below (16 * (n + 1)) test ≡ count_below (16 * n) test + count_below 16 (λ page. test (16 * n + page))
 pages_more n test = ap (λ (m : ℕ). count_below m test) (let e : 16 * (n + 1) ≡ 16 * n + 16 = omega arith in e) ∙ count_below-add (16 * n) 16 test
 
-counts_one : (touched : ℕ → Bool) (n : ℕ) → touched n ≡ true → count_below (n + 1) touched ≡ count_below n touched + 1
-counts_one touched n is = count_below-more n touched ∙ ap (λ (b : Bool). count_below n touched + (if b then 1 else 0)) is
-
-counts_none : (touched : ℕ → Bool) (n : ℕ) → touched n ≡ false → count_below (n + 1) touched ≡ count_below n touched
-counts_none touched n free = count_below-more n touched ∙ ap (λ (b : Bool). count_below n touched + (if b then 1 else 0)) free ∙ (let e : count_below n touched + 0 ≡ count_below n touched = omega arith in e)
-
 -- a sector that isn't touched
 pub sectors_skip : (touched raised : ℕ → Bool) (wanted : ℕ → ℕ) (n : ℕ) (first now : BusState) (tally : Tally) → touched n ≡ false
     → SectorsSoFar touched raised wanted n first now tally → SectorsSoFar touched raised wanted (n + 1) first now tally
 sectors_skip touched raised wanted n first now tally free so_far =
-    let count = counts_none touched n free in let fewer = so_far.fewer in let few = so_far.few in
+    let count = count_below-without n touched free in let fewer = so_far.fewer in let few = so_far.few in
     record {
       honest = so_far.honest;
       steady = so_far.steady;
@@ -169,16 +154,16 @@ can_sector touched raised wanted n bytes first now is can done =
       can = record {
         idle = done.idle;
         inside = λ s here.
-            let inside = can.can.inside s (touched_at s (only_is n s here)) in
+            let inside = can.can.inside s (touched_at s (only-is n s here)) in
             let size : now.chip.config.size ≡ first.chip.config.size = ap (λ (c : Config). c.size) done.config in
             omega arith;
-        free = λ a here. guarded_same first.chip now.chip a done.config done.kept ∙ can.can.free a (touched_at (a / 4096) (only_is n (a / 4096) here));
+        free = λ a here. guarded_same first.chip now.chip a done.config done.kept ∙ can.can.free a (touched_at (a / 4096) (only-is n (a / 4096) here));
       };
       blank = λ was a here.
           still_old touched raised wanted n a first now done here
           ∙ can.blank a (touched_at (a / 4096) here) (ap raised here ∙ was);
       falls = λ a here.
-          let in_sector = only_is n (a / 4096) here in
+          let in_sector = only-is n (a / 4096) here in
           let byte = wanted_byte touched wanted n bytes a is in_sector in
           ap (λ (b : ℕ). bit_and b (now.chip.bytes a)) byte
           ∙ ap (λ (b : ℕ). bit_and (wanted a) b) (still_old touched raised wanted n a first now done in_sector)
@@ -191,7 +176,7 @@ join_byte : (touched : ℕ → Bool) (wanted : ℕ → ℕ) (n a : ℕ) (bytes :
 join_byte touched wanted n a bytes new now old is made was =
     elim (only n (a / 4096)) as (λ b. only n (a / 4096) ≡ b → new ≡ (if before touched (n + 1) (a / 4096) then wanted a else old)) [
       | true ↦ λ here.
-          let in_sector = only_is n (a / 4096) here in
+          let in_sector = only-is n (a / 4096) here in
           made ∙ ap (λ (b : Bool). if b then byte_of n bytes a else now) here ∙ wanted_byte touched wanted n bytes a is in_sector
           ∙ sym (ap (λ (b : Bool). if b then wanted a else old) (ap (before touched (n + 1)) in_sector ∙ before_here touched n is.is))
       | false ↦ λ out.
@@ -205,7 +190,7 @@ sector_joins touched wanted n bytes first now new is earlier later = record {
   config = later.config ∙ earlier.config;
   bytes = λ a. join_byte touched wanted n a bytes _ _ _ is (later.bytes a) (earlier.bytes a);
   kept = kept_then first.chip now.chip new.chip earlier.kept later.kept;
-  worn = λ s. later.worn s ∙ sym (or_false (now.worn s)) ∙ earlier.worn s;
+  worn = λ s. later.worn s ∙ or-false (now.worn s) ∙ earlier.worn s;
   idle = later.idle;
   latch = λ set. earlier.latch (later.latch set);
 }
@@ -215,7 +200,7 @@ pub sectors_more : (touched raised : ℕ → Bool) (wanted : ℕ → ℕ) (n : �
     → LeavesSector n bytes erased now new → DoesSector n bytes erased now new more
     → SectorsSoFar touched raised wanted (n + 1) first new (record { count = tally.count + more.count; transactions = tally.transactions + more.transactions })
 sectors_more touched raised wanted n bytes erased first now new tally more erased_is is so_far leaves does =
-    let count = counts_one touched n is.is in let fewer = so_far.fewer in let few = so_far.few in
+    let count = count_below-with n touched is.is in let fewer = so_far.fewer in let few = so_far.few in
     let can_now : CanProgramAll touched raised wanted first.chip → HasChanged (before touched n) wanted none first now → CanProgramSector n bytes erased now.chip =
     λ can done. subst (λ (b : Bool). CanProgramSector n bytes b now.chip) (sym erased_is) (can_sector touched raised wanted n bytes first now is can done) in
     record {
@@ -249,7 +234,7 @@ count_within n k test = let add = count_below-add n k test in omega (arith, add)
 -- a sector that is touched and comes next counts among all
 pub room : (touched : ℕ → Bool) (n : ℕ) → n < 4096 → touched n ≡ true → count_below n touched + 1 ≤ sector_count touched
 room touched n below is =
-    let one = counts_one touched n is in
+    let one = count_below-with n touched is in
     let within : count_below (n + 1) touched ≤ count_below (n + 1 + (4095 - n)) touched = count_within (n + 1) (4095 - n) touched in
     let all : count_below (n + 1 + (4095 - n)) touched ≡ count_below 4096 touched = ap (λ (m : ℕ). count_below m touched) (let e : n + 1 + (4095 - n) ≡ 4096 = omega arith in e) in
     omega (arith, one, within, all)
@@ -264,10 +249,10 @@ few_sectors touched raised wanted n first now tally below so_far =
 sector_may : (touched : ℕ → Bool) (wanted : ℕ → ℕ) (n : ℕ) (bytes : List ℕ) (now new : BusState) → IsTouched touched wanted n bytes
     → MayChange (only n) none (byte_of n bytes) now new → MayChange touched none wanted now new
 sector_may touched wanted n bytes now new is may = record {
-  within = within_wider (places_of (only n)) (places_of touched) now.chip new (λ a here. ap touched (only_is n (a / 4096) here) ∙ is.is) may.within;
+  within = within_wider (places_of (only n)) (places_of touched) now.chip new (λ a here. ap touched (only-is n (a / 4096) here) ∙ is.is) may.within;
   gentle = λ steady a plain.
       elim (only n (a / 4096)) as (λ b. only n (a / 4096) ≡ b → (new.chip.bytes a ≡ now.chip.bytes a) ⊎ (new.chip.bytes a ≡ wanted a)) [
-        | true ↦ λ here. subst (λ (b : ℕ). (new.chip.bytes a ≡ now.chip.bytes a) ⊎ (new.chip.bytes a ≡ b)) (wanted_byte touched wanted n bytes a is (only_is n (a / 4096) here)) (may.gentle steady a plain)
+        | true ↦ λ here. subst (λ (b : ℕ). (new.chip.bytes a ≡ now.chip.bytes a) ⊎ (new.chip.bytes a ≡ b)) (wanted_byte touched wanted n bytes a is (only-is n (a / 4096) here)) (may.gentle steady a plain)
         | false ↦ λ out. inl (may.within.bytes a out)
       ] refl;
   worn = λ s spared. may.worn s spared;
@@ -291,7 +276,7 @@ leaves_halted touched raised wanted n bytes erased first now new tally erased_is
           let done = so_far.done honest can in
           let can_now = subst (λ (b : Bool). CanProgramSector n bytes b now.chip) (sym erased_is) (can_sector touched raised wanted n bytes first now is can done) in
           change_then touched none wanted first now new so_far.steady
-          (change_wider (before touched n) none touched none wanted first now (λ s here. and_left (touched s) (nat_lt s n) here) (λ s no_sector. no_sector)
+          (change_wider (before touched n) none touched none wanted first now (λ s here. (and_parts (touched s) (nat_lt s n) here).0) (λ s no_sector. no_sector)
           (has_may (before touched n) none wanted first now done))
           (sector_may touched wanted n bytes now new is (leaves.reached (so_far.honest ∙ honest) can_now));
     }

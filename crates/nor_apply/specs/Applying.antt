@@ -52,7 +52,8 @@ pub record CanApply (changes : Changes) (wanted : ℕ → ℕ) (chip : Chip) : T
   pub writable : (changes.unlock || writes_code changes) ≡ true → is_writable chip ≡ true
   pub raised : (s : ℕ) → raised_in changes s ≡ true → touched_in changes s ≡ true
   pub bytes : (a : ℕ) → touched_in changes (a / 4096) ≡ true → wanted a < 256
-  pub falls : (a : ℕ) → touched_in changes (a / 4096) ≡ true → raised_in changes (a / 4096) ≡ false → bit_and (wanted a) (chip.bytes a) ≡ wanted a
+  pub falls : (a : ℕ) → touched_in changes (a / 4096) ≡ true → raised_in changes (a / 4096) ≡ false
+      → bit_and (wanted a) (chip.bytes a) ≡ wanted a
 
 -- At the end: the touched sectors have the wanted bytes, the code is the wanted one, the raised sectors are worn, all
 -- else is as it was, the chip is idle, and its latch is set only where it was.
@@ -73,20 +74,23 @@ most_applied touched = touched + 65538 * (17 * touched + 2)
 -- At every exit.
 pub record LeavesApply (changes : Changes) (wanted : ℕ → ℕ) (old new : BusState) : Type 0 where
   pub spends : Spends (most_applied (sector_count (touched_in changes))) old new
-  pub reached : old.honest ≡ true → CanApply changes wanted old.chip → MayChange (touched_in changes) (raised_in changes) wanted old new
+  pub reached : old.honest ≡ true → CanApply changes wanted old.chip
+      → MayChange (touched_in changes) (raised_in changes) wanted old new
 
 -- At the end, with what the work came to; where there is nothing to change, nothing changing was sent.
 pub record DoesApply (changes : Changes) (wanted : ℕ → ℕ) (old new : BusState) (work : Work) : Type 0 where
   pub erases : work.erases ≡ length (planned changes.kinds (changes.size / 4096) (raised_in changes))
   pub fewer_erases : work.erases ≤ sector_count (raised_in changes)
   pub fewer_programs : work.programs ≤ 16 * sector_count (touched_in changes)
-  pub few : work.transactions ≤ sector_count (touched_in changes) + 65538 * (work.erases + work.programs + status_writes changes)
+  pub few : work.transactions
+      ≤ sector_count (touched_in changes) + 65538 * (work.erases + work.programs + status_writes changes)
   pub least : 3 * (work.erases + work.programs + status_writes changes) ≤ work.transactions
   pub sent : old.honest ≡ true → old.left ≡ new.left + work.transactions
   pub still : sector_count (touched_in changes) + status_writes changes ≡ 0 → new.stirred ≡ old.stirred
   pub done : old.honest ≡ true → CanApply changes wanted old.chip → HasApplied changes wanted old new
   pub programs : old.honest ≡ true → CanApply changes wanted old.chip
-      → work.programs ≡ count_below 65536 (is_programmed (touched_in changes) (once_erased (raised_in changes) old.chip.bytes) wanted)
+      → work.programs ≡ count_below 65536
+      (is_programmed (touched_in changes) (once_erased (raised_in changes) old.chip.bytes) wanted)
 
 -- whatever the bus, a timeout names 0, where the status is written, or an address in a touched sector
 abbrev pub NamesChange : Changes → Halt → Type 0

@@ -23,7 +23,8 @@ pub record DoesChecks (sectors : ℕ → Bool) (wanted : ℕ → ℕ) (old new :
   pub reads : sent ≡ sector_count sectors
   pub count : old.honest ≡ true → old.left ≡ new.left + sent
   pub rested : old.honest ≡ true → Rested old new
-  pub same : old.honest ≡ true → CanCheck sectors old.chip → (a : ℕ) → sectors (a / 4096) ≡ true → old.chip.bytes a ≡ wanted a
+  pub same : old.honest ≡ true → CanCheck sectors old.chip
+      → (a : ℕ) → sectors (a / 4096) ≡ true → old.chip.bytes a ≡ wanted a
 
 -- A check wasn't passed: the bus stopped, with fewer transactions than sectors, or this is the first difference.
 abbrev pub CheckTells : (ℕ → Bool) → (ℕ → ℕ) → BusState → BusState → CheckFault → Type 0

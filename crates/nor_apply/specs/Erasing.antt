@@ -21,7 +21,8 @@ pub record LeavesErases (sectors : ℕ → Bool) (kinds : Kinds) (size : ℕ) (o
 
 -- At the end. There were as many erases as the planner's list has, which is the shortest that covers the set; where
 -- there was none, nothing changing was sent.
-pub record DoesErases (sectors : ℕ → Bool) (kinds : Kinds) (size : ℕ) (old new : BusState) (tally : Tally) : Type 0 where
+pub record DoesErases (sectors : ℕ → Bool) (kinds : Kinds) (size : ℕ) (old new : BusState)
+    (tally : Tally) : Type 0 where
   pub count : tally.count ≡ length (planned kinds (size / 4096) sectors)
   pub still : tally.count ≡ 0 → new.stirred ≡ old.stirred
   pub fewer : tally.count ≤ sector_count sectors

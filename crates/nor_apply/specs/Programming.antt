@@ -22,13 +22,15 @@ pub record CanProgramSpans (sector : ℕ) (old wanted : List ℕ) (chip : Chip) 
 
 pub record LeavesSpans (sector : ℕ) (bytes wanted : List ℕ) (old new : BusState) : Type 0 where
   pub spends : Spends 1048608 old new
-  pub reached : old.honest ≡ true → CanProgramSpans sector bytes wanted old.chip → MayChange (only sector) none (byte_of sector wanted) old new
+  pub reached : old.honest ≡ true → CanProgramSpans sector bytes wanted old.chip
+      → MayChange (only sector) none (byte_of sector wanted) old new
 
 -- At the end: a program for each page of the sector that isn't as wanted.
 pub record DoesSpans (sector : ℕ) (bytes wanted : List ℕ) (old new : BusState) (tally : Tally) : Type 0 where
   pub fewer : tally.count ≤ 16
   pub tallies : Tallies 0 old new tally
-  pub done : old.honest ≡ true → CanProgramSpans sector bytes wanted old.chip → HasChanged (only sector) (byte_of sector wanted) none old new
+  pub done : old.honest ≡ true → CanProgramSpans sector bytes wanted old.chip
+      → HasChanged (only sector) (byte_of sector wanted) none old new
   pub counted : old.honest ≡ true → CanProgramSpans sector bytes wanted old.chip
       → tally.count ≡ count_below 16 (λ page. is_page_other old.chip.bytes (byte_of sector wanted) (16 * sector + page))
 
@@ -45,24 +47,28 @@ pub record LoadsOk (sector : ℕ) (erased : Bool) (bytes bytes' : List ℕ) (rea
   pub reads_once : reads ≡ (if erased then 0 else 1)
   pub kept : erased ≡ true → (bytes' ≡ bytes) × (new ≡ old)
   pub read : erased ≡ false → old.honest ≡ true → HasRead old new
-  pub told : erased ≡ false → old.honest ≡ true → old.chip.busy ≡ 0 → 4096 * (sector + 1) ≤ old.chip.config.size → IsSectorOf old.chip.bytes sector bytes'
+  pub told : erased ≡ false → old.honest ≡ true → old.chip.busy ≡ 0 → 4096 * (sector + 1) ≤ old.chip.config.size
+      → IsSectorOf old.chip.bytes sector bytes'
 
 abbrev pub LoadEnds : ℕ → Bool → List ℕ → List ℕ → Result ℕ Stopped → BusState → BusState → Type 0
 LoadEnds sector erased bytes bytes' (Ok reads) old new = LoadsOk sector erased bytes bytes' reads old new
 LoadEnds sector erased bytes bytes' (Err stopped) old new = RunsOut 1 old new
 
-pub record Loads (sector : ℕ) (erased : Bool) (bytes bytes' : List ℕ) (outcome : Result ℕ Stopped) (old new : BusState) : Type 0 where
+pub record Loads (sector : ℕ) (erased : Bool) (bytes bytes' : List ℕ) (outcome : Result ℕ Stopped)
+    (old new : BusState) : Type 0 where
   pub looks : Looks 1 old new
   pub ends : LoadEnds sector erased bytes bytes' outcome old new
 
 pub record LeavesSector (sector : ℕ) (wanted : List ℕ) (erased : Bool) (old new : BusState) : Type 0 where
   pub spends : Spends 1048609 old new
-  pub reached : old.honest ≡ true → CanProgramSector sector wanted erased old.chip → MayChange (only sector) none (byte_of sector wanted) old new
+  pub reached : old.honest ≡ true → CanProgramSector sector wanted erased old.chip
+      → MayChange (only sector) none (byte_of sector wanted) old new
 
 pub record DoesSector (sector : ℕ) (wanted : List ℕ) (erased : Bool) (old new : BusState) (tally : Tally) : Type 0 where
   pub fewer : tally.count ≤ 16
   pub tallies : Tallies 1 old new tally
-  pub done : old.honest ≡ true → CanProgramSector sector wanted erased old.chip → HasChanged (only sector) (byte_of sector wanted) none old new
+  pub done : old.honest ≡ true → CanProgramSector sector wanted erased old.chip
+      → HasChanged (only sector) (byte_of sector wanted) none old new
   pub counted : old.honest ≡ true → CanProgramSector sector wanted erased old.chip
       → tally.count ≡ count_below 16 (λ page. is_page_other old.chip.bytes (byte_of sector wanted) (16 * sector + page))
 

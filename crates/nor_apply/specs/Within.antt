@@ -16,7 +16,8 @@ is_writable chip = chip.config.scheme && not (is_locked chip)
 pub record WorksIn (places : ℕ → Bool) (first : Chip) (running : Running) : Type 0 where
   pub known : is_known running ≡ true
   pub inside : (a : ℕ) → is_in_work running a ≡ true → places a ≡ true
-  pub status : (one two : ℕ) → running ≡ StatusWrite one two → (is_writable first ≡ true) × (one / 32 ≡ first.kept1 / 32) × (two % 64 ≡ first.kept2 % 64)
+  pub status : (one two : ℕ) → running ≡ StatusWrite one two
+      → (is_writable first ≡ true) × (one / 32 ≡ first.kept1 / 32) × (two % 64 ≡ first.kept2 % 64)
 
 -- The bus's chip is within these places of the first one: outside them its bytes are those of the first, the fixed
 -- bits are, and where the status can't be written all kept bits. Inside them, and for the code bits elsewhere,

@@ -8,9 +8,9 @@ ghost use Rattle.nor_apply.specs.Checking.{DoesChecks, CheckTells, NamesDifferen
 ghost use Rattle.nor_apply.specs.Change.{only, byte_of};
 
 use crate::Source;
-use nor_chip::{Bus, Stopped};
+use nor_chip::{Bus, MOST_SECTORS, Stopped};
 use nor_driver::read_sector;
-use nor_plan::{SECTORS, SectorSet, bounds};
+use nor_plan::{SectorSet, bounds};
 
 /// Why a check wasn't passed.
 #[derive(Clone, Copy, Debug, PartialEq, Eq)]
@@ -38,13 +38,15 @@ pub fn check_all<B: Bus, S: Source>(
 ) -> Result<u64, CheckFault>
     requires sourced { (s : ℕ) → has touched.now s ≡ true → S.has source.now s ≡ true }
     ensures leaves { Looks (sector_count (has touched.now)) (B.state bus.old) (B.state bus.new) }
-    ensures does { IfOk result (DoesChecks (has touched.now) (S.wanted source.now) (B.state bus.old) (B.state bus.new)) }
-    ensures tells { IfErr result (CheckTells (has touched.now) (S.wanted source.now) (B.state bus.old) (B.state bus.new)) }
+    ensures does { IfOk result
+        (DoesChecks (has touched.now) (S.wanted source.now) (B.state bus.old) (B.state bus.new)) }
+    ensures tells { IfErr result
+        (CheckTells (has touched.now) (S.wanted source.now) (B.state bus.old) (B.state bus.new)) }
     ensures names { IfErr result (NamesDifference (has touched.now)) }
 {
     let mut sent = 0;
     let mut bytes = [0; 4096];
-    for sector in 0..SECTORS {
+    for sector in 0..MOST_SECTORS {
         if touched.contains(sector) {
             check_sector(bus, sector, source.sector(sector), &mut bytes)?;
             sent += 1;
@@ -63,8 +65,10 @@ fn check_sector<B: Bus>(
     requires reachable { sector < 4096 }
     requires whole { length wanted.now ≡ 4096 }
     ensures leaves { Looks 1 (B.state bus.old) (B.state bus.new) }
-    ensures does { OnOk result (DoesChecks (only sector) (byte_of sector wanted.now) (B.state bus.old) (B.state bus.new) 1) }
-    ensures tells { IfErr result (CheckTells (only sector) (byte_of sector wanted.now) (B.state bus.old) (B.state bus.new)) }
+    ensures does { OnOk result
+        (DoesChecks (only sector) (byte_of sector wanted.now) (B.state bus.old) (B.state bus.new) 1) }
+    ensures tells { IfErr result
+        (CheckTells (only sector) (byte_of sector wanted.now) (B.state bus.old) (B.state bus.new)) }
     ensures names { IfErr result (NamesDifference (only sector)) }
 {
     read_sector(bus, sector, &mut *bytes)?;

@@ -22,7 +22,8 @@ pub fn erase_all<B: Bus>(
     requires small { size ≤ 16777216 }
     ensures leaves { LeavesErases (has raised.now) kinds size (B.state bus.old) (B.state bus.new) }
     ensures does { IfOk result (DoesErases (has raised.now) kinds size (B.state bus.old) (B.state bus.new)) }
-    ensures halts { IfErr result (HaltsBelow (65538 * sector_count (has raised.now)) (B.state bus.old) (B.state bus.new)) }
+    ensures halts { IfErr result
+        (HaltsBelow (65538 * sector_count (has raised.now)) (B.state bus.old) (B.state bus.new)) }
     ensures names { IfErr result (NamesSector (has raised.now)) }
 {
     let mut tally = Tally::NONE;

@@ -8,9 +8,9 @@ ghost use Rattle.nor_apply.specs.Programming.{LeavesSpans, DoesSpans, LeavesSect
 
 use crate::Source;
 use crate::tally::Tally;
-use nor_chip::{Bus, Stopped};
+use nor_chip::{Bus, MOST_SECTORS, Stopped};
 use nor_driver::{Halt, program_page, read_sector};
-use nor_plan::{SECTORS, SectorSet, spans};
+use nor_plan::{SectorSet, spans};
 
 /// Programs the touched sectors, rising, with the bytes that are wanted of them. A raised sector was erased, and is
 /// not read again.
@@ -21,13 +21,16 @@ pub fn program_all<B: Bus, S: Source>(
     raised: &SectorSet,
 ) -> Result<Tally, Halt>
     requires sourced { (s : ℕ) → has touched.now s ≡ true → S.has source.now s ≡ true }
-    ensures leaves { LeavesPrograms (has touched.now) (has raised.now) (S.wanted source.now) (B.state bus.old) (B.state bus.new) }
-    ensures does { IfOk result (DoesPrograms (has touched.now) (has raised.now) (S.wanted source.now) (B.state bus.old) (B.state bus.new)) }
-    ensures halts { IfErr result (HaltsBelow (1048609 * sector_count (has touched.now)) (B.state bus.old) (B.state bus.new)) }
+    ensures leaves { LeavesPrograms (has touched.now) (has raised.now) (S.wanted source.now)
+        (B.state bus.old) (B.state bus.new) }
+    ensures does { IfOk result
+        (DoesPrograms (has touched.now) (has raised.now) (S.wanted source.now) (B.state bus.old) (B.state bus.new)) }
+    ensures halts { IfErr result
+        (HaltsBelow (1048609 * sector_count (has touched.now)) (B.state bus.old) (B.state bus.new)) }
     ensures names { IfErr result (NamesSector (has touched.now)) }
 {
     let mut tally = Tally::NONE;
-    for sector in 0..SECTORS {
+    for sector in 0..MOST_SECTORS {
         if !touched.contains(sector) {
             continue;
         }

@@ -3,8 +3,8 @@ use Rattle.std.proofs.Common.{◌≡◌, ℕ, ◌+◌, ◌*◌, ◌/◌, ◌%◌
 use Rattle.std.specs.Prelude.{bit_and, bit_or, ◌==◌}
 use Rattle.std.proofs.lemmas.Bool.{eq-eqb, ne_eqb}
 use Rattle.std.proofs.lemmas.Bool.Decides.{eqb_tells}
-use Rattle.std.proofs.lemmas.Nat.{or_disjoint, or_lt, and_le_r}
-use Rattle.std.proofs.lemmas.Nat.Bits.{and_pow, and_high_mask}
+use Rattle.std.proofs.lemmas.Nat.{and_le_r, and_mask, or_comm, or_disjoint, or_lt, or_shifted}
+use Rattle.std.proofs.lemmas.Nat.Bits.{and_high, and_high_mask, and_pow}
 
 -- to set WEL and BUSY where they are clear adds them
 pub or_latch : (n : ℕ) → n % 4 ≡ 0 → bit_or n 2 ≡ n + 2
@@ -31,3 +31,29 @@ wel_set n = elim (eqb_tells (n / 2 % 2) 1) [
   | inl set ↦ let bit = and_pow n 1 in let is = set.1 in eq-eqb (bit_and n 2) 2 (omega arith) ∙ sym set.0
   | inr clear ↦ let bit = and_pow n 1 in let is = clear.1 in ne_eqb (bit_and n 2) 2 (λ all. is (omega arith)) ∙ sym clear.0
 ]
+
+-- the protection code: bit 6 of status 2 above bits 6 to 2 of status 1
+pub code_bits : (one two : ℕ) → bit_or (bit_and two 64 / 2) (bit_and one 124 / 4) ≡ 32 * (two / 64 % 2) + one / 4 % 32
+code_bits one two =
+    let low : bit_and one 124 / 4 ≡ one / 4 % 32 = omega (arith, and_high one 5 2) in
+    let high : bit_and two 64 / 2 ≡ two / 64 % 2 * 32 = omega (arith, and_pow two 6) in
+    rw (low, high) (or_shifted (two / 64 % 2) 5 (one / 4 % 32) (omega arith) ∙ omega arith)
+
+-- the fixed bits: bit 7 of status 1, and the low six of status 2
+pub fixed_one : (n : ℕ) → n < 256 → bit_and n 128 ≡ 128 * (n / 128)
+fixed_one n small = omega (arith, and_pow n 7)
+
+pub fixed_two : (n : ℕ) → bit_and n 63 ≡ n % 64
+fixed_two n = and_mask n 6
+
+-- those with another code
+pub coded_one : (fixed code : ℕ) → code < 64 → bit_or (128 * fixed) (bit_and (code * 4 % 256) 124) ≡ 128 * fixed + 4 * (code % 32)
+coded_one fixed code small =
+    let low : bit_and (code * 4 % 256) 124 ≡ 4 * (code % 32) = omega (arith, and_high (code * 4 % 256) 5 2) in
+    let place : 128 * fixed ≡ fixed * 128 = omega arith in
+    rw (low, place) (or_shifted fixed 7 (4 * (code % 32)) (omega arith))
+
+pub coded_two : (fixed code : ℕ) → fixed < 64 → code < 64 → bit_or fixed (bit_and (code * 2 % 256) 64) ≡ fixed + 64 * (code / 32)
+coded_two fixed code low small =
+    let high : bit_and (code * 2 % 256) 64 ≡ code / 32 * 64 = omega (arith, and_pow (code * 2 % 256) 6) in
+    rw high (or_comm fixed (code / 32 * 64) ∙ or_shifted (code / 32) 6 fixed low ∙ omega arith)

@@ -5,7 +5,8 @@ use Rattle.nor_chip.specs.Step.{last_for, lowered}
 -- the page that holds `at` is programmed with the bytes sent, and all else stays
 abbrev pub IsProgrammed : ℕ → List ℕ → List ℕ → List ℕ → Type 0
 IsProgrammed at sent old new =
-    (a : ℕ) → slice_index new a ≡ (if a / 256 == at / 256 then lowered (slice_index old a) (last_for at sent a) else slice_index old a)
+    (a : ℕ) → slice_index new a
+    ≡ (if a / 256 == at / 256 then lowered (slice_index old a) (last_for at sent a) else slice_index old a)
 
 -- so many places from `start` on are this byte, and all else stays
 abbrev pub IsFilled : ℕ → ℕ → ℕ → List ℕ → List ℕ → Type 0

@@ -50,7 +50,8 @@ command_of config (opcode ∷ x ∷ y ∷ z ∷ fifth ∷ sixth ∷ rest) replie
 -- the opcodes that may change a chip or ready it for a change: write enable, write status, program and erases
 abbrev pub is_changing_opcode : ℕ → Bool
 is_changing_opcode opcode =
-    opcode == 0x06 || opcode == 0x01 || opcode == 0x02 || opcode == 0x20 || opcode == 0x52 || opcode == 0xD8 || opcode == 0xC7
+    opcode == 0x06 || opcode == 0x01 || opcode == 0x02
+    || opcode == 0x20 || opcode == 0x52 || opcode == 0xD8 || opcode == 0xC7
 
 -- a transaction begins with such an opcode
 abbrev pub begins_change : List ℕ → Bool

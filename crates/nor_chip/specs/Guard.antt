@@ -30,7 +30,9 @@ abbrev pub named_length : ℕ → ℕ → ℕ
 named_length size code =
     if bp_of code == 0 then 0
     else (if bp_of code == 7 then size
-    else (if is_sector code then (if bp_of code == 1 then 4096 else (if bp_of code == 2 then 8192 else (if bp_of code == 3 then 16384 else 32768)))
+    else (if is_sector code
+    then (if bp_of code == 1 then 4096
+    else (if bp_of code == 2 then 8192 else (if bp_of code == 3 then 16384 else 32768)))
     else size / 2 ^ (7 - bp_of code)))
 
 -- the places that a code names: the first ones of the chip (bottom) or the last ones
@@ -41,7 +43,8 @@ is_named size code a =
 -- The places that a code guards: those that it names, or with the complement set all others.
 unfoldable pub guarded_by : ℕ → ℕ → ℕ → Bool
 guarded_by size code a =
-    nat_lt a size && (is_undefined code || (if is_complement code then not (is_named size code a) else is_named size code a))
+    nat_lt a size
+    && (is_undefined code || (if is_complement code then not (is_named size code a) else is_named size code a))
 
 -- a place of this chip is guarded; on a chip without a scheme none is
 abbrev pub is_guarded : Chip → ℕ → Bool

@@ -4,7 +4,8 @@ use Rattle.nor_chip.specs.declared.config.Config.{Config}
 use Rattle.nor_chip.specs.Sfdp.{sfdp_of}
 
 -- A configuration of these parts, with FFh behind the SFDP bytes and the unique ID zero.
-pub record IsMade (with_id : List ℕ) (with_size : ℕ) (with_k32 with_k64 with_scheme : Bool) (with_sfdp : List ℕ) (config : Config) : Type 0 where
+pub record IsMade (with_id : List ℕ) (with_size : ℕ) (with_k32 with_k64 with_scheme : Bool) (with_sfdp : List ℕ)
+    (config : Config) : Type 0 where
   pub id : config.id ≡ with_id
   pub size : config.size ≡ with_size
   pub k32 : config.k32 ≡ with_k32

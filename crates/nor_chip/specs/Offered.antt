@@ -17,7 +17,8 @@ pub record IsNextSet (old : Offered) (start len : ℕ) (new : Offered) : Type 0 
   pub not_passed : next_code old ≤ code
   pub least : IsLeastCode (size_of old) start len code
   pub plain : len ≡ 0 → start ≡ 0
-  pub no_other : (other start' len' : ℕ) → next_code old ≤ other → other < code → ¬ IsLeastCode (size_of old) start' len' other
+  pub no_other : (other start' len' : ℕ) → next_code old ≤ other → other < code
+      → ¬ IsLeastCode (size_of old) start' len' other
   pub passed : next_code new ≡ code + 1
   pub size : size_of new ≡ size_of old
 

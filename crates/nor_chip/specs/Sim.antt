@@ -32,5 +32,8 @@ pace_of bus = bus.flash.each
 pub record Simulates (out answer : List ℕ) (outcome : Result Unit Stopped) (old new : SimBus) : Type 0 where
   pub fill : fill_of new ≡ fill_of old
   pub pace : pace_of new ≡ pace_of old
-  pub paced : OnOk outcome (is_operation (done_of (chip_of old.flash) out (length answer)) ≡ true → new.flash.busy ≡ pace_of old)
-  pub cut : OnErr outcome (MatchOption (fill_of old) (chip_of new.flash ≡ chip_of old.flash) (λ fill. CutBy fill (chip_of old.flash) (chip_of new.flash)))
+  pub paced : OnOk outcome
+      (is_operation (done_of (chip_of old.flash) out (length answer)) ≡ true → new.flash.busy ≡ pace_of old)
+  pub cut : OnErr outcome
+      (MatchOption (fill_of old) (chip_of new.flash ≡ chip_of old.flash)
+      (λ fill. CutBy fill (chip_of old.flash) (chip_of new.flash)))

@@ -18,7 +18,10 @@ sent_of bus = bus.sent
 
 -- it isn't honest; all else is as the bus inside, and a changing opcode stirs it that doesn't get there
 abbrev pub spoilt_state : {B : Type 0} → (B → BusState) → SpoiltBus B → BusState
-spoilt_state state bus = record (state bus.bus) { honest = false; stirred = if bus.stirred then true else (state bus.bus).stirred }
+spoilt_state state bus = record (state bus.bus) {
+  honest = false;
+  stirred = if bus.stirred then true else (state bus.bus).stirred;
+}
 
 -- the one byte that a transaction replies which isn't carried out: every transaction, or the one behind so many
 abbrev pub kept_back : Spoil → ℕ → Option ℕ
@@ -44,7 +47,8 @@ spoilt_byte (Drop number) sent out byte = byte
 spoilt_byte (Low bit) sent out byte = if nat_lt bit 8 then bit_and byte (255 - 2 ^ bit) else byte
 
 -- Not carried out: the bus inside stays as it is, and each reply byte is this one.
-pub record IsKeptBack {B : Type 0} (byte : ℕ) (asked answer : List ℕ) (outcome : Result Unit Stopped) (old new : B) : Type 0 where
+pub record IsKeptBack {B : Type 0} (byte : ℕ) (asked answer : List ℕ) (outcome : Result Unit Stopped)
+    (old new : B) : Type 0 where
   pub answered : IsOk outcome
   pub inner : new ≡ old
   pub replies : answer ≡ replicate (length asked) byte
@@ -62,9 +66,12 @@ GoesThrough byte_for out asked answer (Ok done) old new = IsPassedOn byte_for ou
 GoesThrough byte_for out asked answer (Err stopped) old new = old.honest ≡ true → (answer ≡ asked) × Stops old new
 
 -- What a transaction of a spoilt bus does. One that the bus inside stops isn't counted.
-pub record Spoils {B : Type 0} (state : B → BusState) (out asked answer : List ℕ) (outcome : Result Unit Stopped) (old new : SpoiltBus B) : Type 0 where
+pub record Spoils {B : Type 0} (state : B → BusState) (out asked answer : List ℕ) (outcome : Result Unit Stopped)
+    (old new : SpoiltBus B) : Type 0 where
   pub spoil : spoil_of new ≡ spoil_of old
   pub counted : OnOk outcome (sent_of new ≡ min (sent_of old + 1) (2 ^ 64 - 1))
   pub uncounted : OnErr outcome (sent_of new ≡ sent_of old)
   pub kept_back : IfSome (kept_back_of old) (λ byte. IsKeptBack byte asked answer outcome (inner_of old) (inner_of new))
-  pub passed_on : IfNone (kept_back_of old) (GoesThrough (spoilt_byte (spoil_of old) (sent_of old) out) out asked answer outcome (state (inner_of old)) (state (inner_of new)))
+  pub passed_on : IfNone (kept_back_of old)
+      (GoesThrough (spoilt_byte (spoil_of old) (sent_of old) out) out asked answer outcome
+      (state (inner_of old)) (state (inner_of new)))

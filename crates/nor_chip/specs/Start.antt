@@ -7,8 +7,8 @@ use Rattle.nor_chip.specs.Chip.{Chip, status1_of, status2_of}
 use Rattle.nor_chip.specs.Bus.{BusState}
 
 -- A new bus: its chip has this configuration, these bytes, the kept bits and the latch of these two status
--- bytes, and answers BUSY to so many polls, though nothing is known of what runs. No transaction is let through yet, none was sent, and no sector
--- was erased.
+-- bytes, and answers BUSY to so many polls, though nothing is known of what runs. No transaction is let through yet,
+-- none was sent, and no sector was erased.
 pub record Starts (setup : Config) (image flags : List ℕ) (delays : Delays) (state : BusState) : Type 0 where
   pub config : state.chip.config ≡ setup
   pub bytes : (a : ℕ) → state.chip.bytes a ≡ slice_index image a

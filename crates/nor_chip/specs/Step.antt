@@ -56,7 +56,10 @@ reply_byte chip Ignored i = 255
 -- and each next one to the next place, from the page's end on to its start
 unfoldable pub last_for : ℕ → List ℕ → ℕ → Option ℕ
 last_for at [] a = None
-last_for at (byte ∷ sent) a = elim (last_for (at + 1) sent a) [ Some later ↦ Some later | None ↦ (if at % 256 == a % 256 then Some byte else None) ]
+last_for at (byte ∷ sent) a = elim (last_for (at + 1) sent a) [
+  | Some later ↦ Some later
+  | None ↦ (if at % 256 == a % 256 then Some byte else None)
+]
 
 -- a program only clears bits
 abbrev pub lowered : ℕ → Option ℕ → ℕ
@@ -65,7 +68,8 @@ lowered old (Some byte) = bit_and old byte
 
 -- The byte at a place afterwards.
 abbrev pub byte_after : Chip → Command → List ℕ → ℕ → ℕ
-byte_after chip (Program at) sent a = if a / 256 == at / 256 then lowered (chip.bytes a) (last_for at sent a) else chip.bytes a
+byte_after chip (Program at) sent a =
+    if a / 256 == at / 256 then lowered (chip.bytes a) (last_for at sent a) else chip.bytes a
 byte_after chip (Erase start len) sent a = if nat_le start a && nat_lt a (start + len) then 255 else chip.bytes a
 byte_after chip Poll sent a = chip.bytes a
 byte_after chip ReadStatus2 sent a = chip.bytes a

@@ -19,7 +19,9 @@ has_lost traced = traced.lost
 abbrev pub told_of : List ℕ → List ℕ
 told_of answer =
     if length answer == 0 then []
-    else (if nat_lt 3 (length answer) then codes " > " ++ decimal (length answer) ++ codes " bytes" else codes " > " ++ encode_lower answer)
+    else (if nat_lt 3 (length answer)
+    then codes " > " ++ decimal (length answer) ++ codes " bytes"
+    else codes " > " ++ encode_lower answer)
 
 -- the line of a transaction: the digits of the bytes sent, and what it tells of those taken in
 abbrev pub line_of : List ℕ → List ℕ → List ℕ
@@ -27,8 +29,10 @@ line_of out answer = encode_lower out ++ told_of answer ++ codes "\n"
 
 -- Once a line is lost this stays so; a transaction that the bus inside stops has no line, and any other has its own,
 -- as far as what the log holds is known.
-pub record Traces {B L : Type 0} (contents : L → Option (List ℕ)) (out answer : List ℕ) (outcome : Result Unit Stopped) (old new : TraceBus B L) : Type 0 where
+pub record Traces {B L : Type 0} (contents : L → Option (List ℕ)) (out answer : List ℕ) (outcome : Result Unit Stopped)
+    (old new : TraceBus B L) : Type 0 where
   pub still_lost : has_lost old ≡ true → has_lost new ≡ true
   pub no_line : OnErr outcome (log_of new ≡ log_of old)
   pub none_lost : OnErr outcome (has_lost new ≡ has_lost old)
-  pub line : OnOk outcome (has_lost new ≡ false → Appends (contents (log_of old)) (contents (log_of new)) (line_of out answer))
+  pub line : OnOk outcome
+      (has_lost new ≡ false → Appends (contents (log_of old)) (contents (log_of new)) (line_of out answer))

@@ -20,7 +20,8 @@ pub trait Bus {
         ensures sends { Sends out.now (state self.old) (state self.new) }
         ensures stops { (state self.old).honest ≡ true → OnErr result (Stops (state self.old) (state self.new)) }
         ensures unread { (state self.old).honest ≡ true → OnErr result (reply.new ≡ reply.old) }
-        ensures carries { (state self.old).honest ≡ true → OnOk result (Carries out.now reply.new (state self.old) (state self.new)) };
+        ensures carries { (state self.old).honest ≡ true
+            → OnOk result (Carries out.now reply.new (state self.old) (state self.new)) };
 
     /// What an honest bus reaches is a chip.
     ghost reaches: { (bus : Self) → (state bus).honest ≡ true → IsChip (state bus).chip };

@@ -40,6 +40,9 @@ const W25Q128FV_SFDP: [u8; 52] = [
     0x10, 0xD8, 0x00, 0x00, //
 ];
 
+/// The most sectors of 4 KiB that a chip has: three address bytes reach no further.
+pub const MOST_SECTORS: u32 = 4096;
+
 /// A chip's configuration: its ID as 9Fh replies, its size in bytes, which erases it has beside those of
 /// 4 KiB and of the whole chip, whether it has block protection, the unique ID that 4Bh replies, and its SFDP bytes,
 /// FFh past their end.

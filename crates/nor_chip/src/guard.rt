@@ -97,7 +97,8 @@ pub fn protected(status: [u8; 2], size: u32, at: u32) -> bool
     requires { IsTrue (is_chip_size size) }
     ensures value { result ≡ guarded_by size (code_in status) at }
     ensures ends { LieAtAnEnd size (guarded_by size (code_in status)) }
-    ensures page { at < size → (IsTrue result ↔ HoldsSomewhere (guarded_by size (code_in status)) (at / 256 * 256) 256) }
+    ensures page { at < size
+        → (IsTrue result ↔ HoldsSomewhere (guarded_by size (code_in status)) (at / 256 * 256) 256) }
 {
     is_guarded(size, Status::of(status).code(), at)
 }
@@ -110,7 +111,8 @@ pub fn unit_protected(status: [u8; 2], size: u32, start: u32, len: u32) -> bool
     requires sized { IsTrue (is_chip_size size) }
     requires some { 0 < len }
     requires inside { start + len ≤ size }
-    ensures borders { result ≡ (guarded_by size (code_in status) start || guarded_by size (code_in status) (start + len - 1)) }
+    ensures borders { result
+        ≡ (guarded_by size (code_in status) start || guarded_by size (code_in status) (start + len - 1)) }
     ensures somewhere { IsTrue result ↔ HoldsSomewhere (guarded_by size (code_in status)) start len }
 {
     protected(status, size, start) || protected(status, size, start + len - 1)
@@ -195,7 +197,8 @@ fn least_at(size: u32, code: u8) -> Option<Places>
 }
 
 /// The guarded sets that some defined code gives on a chip of this size, each once, in the order of their least
-/// codes: where it starts, and how many places it has. The empty set starts at 0. `size` is one that a chip may have. It takes no memory.
+/// codes: where it starts, and how many places it has. The empty set starts at 0. `size` is one that a chip may have.
+/// It takes no memory.
 pub fn offered(size: u32) -> Offered
     requires { IsTrue (is_chip_size size) }
     ensures { IsStart size result }

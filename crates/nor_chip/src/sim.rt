@@ -4,7 +4,9 @@ ghost use Rattle.std.specs.Prelude.{IsErr, IfOk, OnOk, OnErr};
 ghost use Rattle.nor_chip.specs.Aim.{IsAimed};
 ghost use Rattle.nor_chip.specs.Step.{wears};
 
-use crate::{Bus, Command, Config, Meter, Running, Status, Status1, Stopped, is_changing};
+use crate::{
+    Bus, Command, Config, MOST_SECTORS, Meter, Running, Status, Status1, Stopped, is_changing,
+};
 use bitflags::Flags;
 use flash::Flash;
 use std::fmt;
@@ -39,7 +41,7 @@ pub struct SimBus {
     left: u64,
     fill: Option<u8>,
     stirred: bool,
-    worn: [bool; 4096],
+    worn: [bool; MOST_SECTORS as usize],
 }
 
 impl SimBus {
@@ -79,7 +81,7 @@ impl SimBus {
             left: 0,
             fill: None,
             stirred: false,
-            worn: [false; 4096],
+            worn: [false; MOST_SECTORS as usize],
         })
     }
 
@@ -95,7 +97,8 @@ impl SimBus {
     /// clear and nothing runs. Where nothing is known of what runs, bytes and kept bits stay. Without a fill a stop
     /// leaves the chip as it is, as at the start.
     pub fn lose(&mut self, fill: Option<u8>)
-        ensures state { ⟦<SimBus as Bus>⟧.state self.new ≡ record (⟦<SimBus as Bus>⟧.state self.old) { steady = is_none fill } }
+        ensures state { ⟦<SimBus as Bus>⟧.state self.new
+            ≡ record (⟦<SimBus as Bus>⟧.state self.old) { steady = is_none fill } }
         ensures fill { fill_of self.new ≡ fill }
         ensures pace { pace_of self.new ≡ pace_of self.old }
     {
@@ -125,7 +128,8 @@ impl Bus for SimBus {
 
     fn transfer(&mut self, out: &[u8], reply: &mut [u8]) -> Result<(), Stopped>
         ensures sends { Sends out.now (state_of self.old) (state_of self.new) }
-        ensures stops { (state_of self.old).honest ≡ true → OnErr result (Stops (state_of self.old) (state_of self.new)) }
+        ensures stops { (state_of self.old).honest ≡ true
+            → OnErr result (Stops (state_of self.old) (state_of self.new)) }
         ensures unread { (state_of self.old).honest ≡ true → OnErr result (reply.new ≡ reply.old) }
         ensures carries { (state_of self.old).honest ≡ true
             → OnOk result (Carries out.now reply.new (state_of self.old) (state_of self.new)) }

@@ -130,7 +130,8 @@ fn spoilt_byte(spoil: Spoil, sent: u64, out: &[u8], byte: u8) -> u8
 }
 
 fn spoil_all(spoil: Spoil, sent: u64, out: &[u8], reply: &mut [u8])
-    ensures { EachIndex reply.new (λ i. slice_index reply.new i ≡ spoilt_byte spoil sent out.now (slice_index reply.old i)) }
+    ensures { EachIndex reply.new
+        (λ i. slice_index reply.new i ≡ spoilt_byte spoil sent out.now (slice_index reply.old i)) }
 {
     for byte in reply.iter_mut() {
         *byte = spoilt_byte(spoil, sent, out, *byte);

@@ -50,8 +50,8 @@ impl Flags for Status1 {
 
     ghost exact = { ⊤ };
 
-    ghost table = { (codes "BUSY", 0x01) ∷ (codes "WEL", 0x02) ∷ (codes "BP0", 0x04) ∷ (codes "BP1", 0x08) ∷ (codes "BP2", 0x10)
-        ∷ (codes "TB", 0x20) ∷ (codes "SEC", 0x40) ∷ (codes "SRP0", 0x80) ∷ [] };
+    ghost table = { (codes "BUSY", 0x01) ∷ (codes "WEL", 0x02) ∷ (codes "BP0", 0x04) ∷ (codes "BP1", 0x08)
+        ∷ (codes "BP2", 0x10) ∷ (codes "TB", 0x20) ∷ (codes "SEC", 0x40) ∷ (codes "SRP0", 0x80) ∷ [] };
 
     ghost set_of = { λ s. s.0 };
 
@@ -73,8 +73,8 @@ impl Flags for Status2 {
 
     ghost exact = { ⊤ };
 
-    ghost table = { (codes "SRP1", 0x01) ∷ (codes "QE", 0x02) ∷ (codes "LB1", 0x08) ∷ (codes "LB2", 0x10) ∷ (codes "LB3", 0x20)
-        ∷ (codes "CMP", 0x40) ∷ (codes "SUS", 0x80) ∷ [] };
+    ghost table = { (codes "SRP1", 0x01) ∷ (codes "QE", 0x02) ∷ (codes "LB1", 0x08) ∷ (codes "LB2", 0x10)
+        ∷ (codes "LB3", 0x20) ∷ (codes "CMP", 0x40) ∷ (codes "SUS", 0x80) ∷ [] };
 
     ghost set_of = { λ s. s.0 };
 
@@ -94,6 +94,14 @@ impl Flags for Status2 {
 impl Status1 {
     /// The kept bits: all but BUSY and WEL.
     pub const KEPT: Status1 = Status1(!(Self::BUSY.0 | Self::WEL.0));
+
+    // The bits of the protection code, its low five: they stand two places higher here than in the code.
+    const CODE: Status1 = Status1(
+        Self::BP0.0 | Self::BP1.0 | Self::BP2.0 | Self::TB.0 | Self::SEC.0,
+    );
+
+    // The kept bits that aren't of the code.
+    const FIXED: Status1 = Status1(Self::KEPT.0 & !Self::CODE.0);
 
     // These kept bits, with WEL and BUSY as told.
     #[tactic(auto, using(crate::proofs::StatusBits::or_latch, crate::proofs::StatusBits::or_busy))]
@@ -115,6 +123,12 @@ impl Status1 {
 impl Status2 {
     /// The kept bits: all but SUS.
     pub const KEPT: Status2 = Status2(!Self::SUS.0);
+
+    // The bit of the protection code, its highest: it stands one place higher here than in the code.
+    const CODE: Status2 = Self::CMP;
+
+    // The kept bits that aren't of the code.
+    const FIXED: Status2 = Status2(Self::KEPT.0 & !Self::CODE.0);
 
     /// The bits that a status write sets as sent.
     const WRITTEN: Status2 = Status2(Self::SRP1.0 | Self::QE.0 | Self::CMP.0);
@@ -144,7 +158,7 @@ pub struct Status {
 }
 
 impl Status {
-    ghost use Rattle.nor_chip.specs.Status.{bytes_of};
+    ghost use Rattle.nor_chip.specs.Status.{bytes_of, bytes_with_code};
 
     /// The registers with these bytes, status 1 first.
     pub fn of(bytes: [u8; 2]) -> Status
@@ -164,14 +178,39 @@ impl Status {
     }
 
     /// The protection code: CMP, SEC, TB, BP2, BP1 and BP0 as a number, from the high end.
+    #[tactic(auto, using(crate::proofs::StatusBits::code_bits))]
     pub fn code(self) -> u8
         ensures { result ≡ code_in (bytes_of self) }
     {
-        let low = self.one.0 / 4 % 32;
-        if self.two.contains(Status2::CMP) {
-            32 + low
-        } else {
-            low
+        let low = self.one.intersection(Status1::CODE);
+        let high = self.two.intersection(Status2::CODE);
+        high.0 >> 1 | low.0 >> 2
+    }
+
+    /// The fixed bits: all kept ones but those of the protection code.
+    #[tactic(auto, using(crate::proofs::StatusBits::fixed_one, crate::proofs::StatusBits::fixed_two))]
+    pub fn fixed(self) -> Status
+        ensures one { result.one.0 ≡ 128 * (self.one.0 / 128) }
+        ensures two { result.two.0 ≡ self.two.0 % 64 }
+    {
+        Status {
+            one: self.one.intersection(Status1::FIXED),
+            two: self.two.intersection(Status2::FIXED),
+        }
+    }
+
+    /// The fixed bits with another protection code, below 64, and BUSY, WEL and SUS clear.
+    #[tactic(auto, using(crate::proofs::StatusBits::coded_one, crate::proofs::StatusBits::coded_two))]
+    pub fn with_code(self, code: u8) -> Status
+        requires { code < 64 }
+        ensures { bytes_of result ≡ bytes_with_code self code }
+    {
+        let low = Status1(code << 2).intersection(Status1::CODE);
+        let high = Status2(code << 1).intersection(Status2::CODE);
+        let fixed = self.fixed();
+        Status {
+            one: fixed.one.union(low),
+            two: fixed.two.union(high),
         }
     }
 
@@ -199,7 +238,8 @@ impl Status {
     pub(crate) fn written(self, sent: Status) -> Status
         ensures one { result.one.0 ≡ sent.one.0 / 4 * 4 }
         ensures two { result.two.0
-            ≡ bit_or (bit_and sent.two.0 0b1000011) (bit_or (bit_and self.two.0 0b0111100) (bit_and sent.two.0 0b0111000)) }
+            ≡ bit_or (bit_and sent.two.0 0b1000011)
+            (bit_or (bit_and self.two.0 0b0111100) (bit_and sent.two.0 0b0111000)) }
         ensures fits { result.two.0 < 128 }
     {
         Status {

@@ -2,6 +2,7 @@
 use Rattle.std.proofs.Common.{◌≡◌, ◌+◌, ◌||◌, ◌⊎◌, ◌∙◌, ℕ, Bool, true, false, not, cond, nat_eq, List, [], ◌∷◌, length, ap, sym, refl, subst, arith, inl, inr}
 use Rattle.std.specs.Prelude.{◌==◌, if◌then◌else◌}
 use Rattle.std.proofs.lemmas.Bool.Decides.{eqb_tells}
+use Rattle.std.proofs.Math.Bool.{or-false}
 use Rattle.nor_chip.specs.declared.config.Config.{Config}
 use Rattle.nor_chip.specs.declared.running.Running.{Running}
 use Rattle.nor_chip.specs.declared.command.Command.{Command}
@@ -12,7 +13,6 @@ use Rattle.nor_chip.specs.Command.{command_of}
 use Rattle.nor_chip.specs.Step.{Does, is_idle, is_operation, is_carried_out, done_of, byte_after, kept1_after, kept2_after, running_after, wears}
 use Rattle.nor_chip.specs.Bus.{BusState, Carries}
 use Rattle.nor_chip.proofs.Steps.{Agrees, done-agrees}
-use Rattle.nor_driver.proofs.Bools.{or_false}
 use Rattle.nor_driver.specs.Looks.{Unchanged, Stays}
 use Rattle.nor_driver.specs.Waits.{HasWaited, latch_when_idle}
 use Rattle.nor_driver.specs.Operations.{operation_of, is_change, IsOperation, MayOperate, HasOperated}
@@ -52,7 +52,7 @@ enabled old new answer none carries =
               same = record { config = step.config; bytes = step.bytes; kept1 = step.kept1; kept2 = step.kept2 };
               running = step.running;
               busy = let same = step.busy in omega arith;
-              worn = λ s. wear s ∙ or_false (old.worn s);
+              worn = λ s. wear s ∙ or-false (old.worn s);
             };
             busy = step.busy;
             latch = step.latch ∙ sym (ap (λ (b : Bool). cond b true old.chip.latch) idle);
@@ -205,7 +205,7 @@ may-after command sent old begun new is steady has stays = record {
       ] refl;
   kept = kept-cut command old.chip begun.chip new.chip is has.kept1 has.kept2 (subst (λ (running : Running). KeptCut running begun.chip new.chip) has.running stays.kept);
   runs = λ busy. stays.running busy ∙ has.running;
-  worn = λ s free. stays.worn s ∙ has.worn s ∙ ap (λ (b : Bool). old.worn s || b) free ∙ or_false (old.worn s);
+  worn = λ s free. stays.worn s ∙ has.worn s ∙ ap (λ (b : Bool). old.worn s || b) free ∙ or-false (old.worn s);
 }
 
 -- the latch once the chip is idle again
@@ -230,10 +230,6 @@ operated command sent old begun new waited has waits =
 both : (idle latch : Bool) → cond idle (cond idle true latch) false ≡ idle
 both true latch = refl
 both false latch = refl
-
-either : (b : Bool) → cond b true true ≡ true
-either true = refl
-either false = refl
 
 -- the latch of a chip that ignored the operation
 pub latch-kept : (old ready begun : BusState) → IsEnabled old ready → begun.chip.latch ≡ ready.chip.latch → begun.chip.busy ≡ ready.chip.busy → latch_when_idle begun.chip ≡ is_idle old.chip

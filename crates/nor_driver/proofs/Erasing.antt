@@ -1,6 +1,7 @@
 -- What the erase of a unit does, from what an operation does.
 use Rattle.std.proofs.Common.{◌≡◌, ◌<◌, ◌+◌, ◌*◌, ◌/◌, ◌%◌, ◌&&◌, ◌||◌, ◌∙◌, ℕ, Bool, true, false, not, cond, nat_lt, nat_le, List, [], ◌∷◌, drop, ap, sym, refl, subst, arith, inl, inr}
 use Rattle.std.proofs.lemmas.Bool.Decides.{nat_tests}
+use Rattle.std.proofs.Math.Bool.{and-false}
 use Rattle.nor_chip.specs.declared.config.Config.{Config}
 use Rattle.nor_chip.specs.declared.command.Command.{Command}
 use Rattle.nor_chip.specs.declared.command.Command.TheVariants as Commands
@@ -9,7 +10,7 @@ use Rattle.nor_chip.specs.Guard.{is_unit_guarded}
 use Rattle.nor_chip.specs.Command.{address_of}
 use Rattle.nor_chip.specs.Step.{is_idle, is_operation, is_carried_out}
 use Rattle.nor_chip.specs.Bus.{BusState}
-use Rattle.nor_driver.proofs.Bools.{and_false, bool_same, tested}
+use Rattle.nor_driver.proofs.Bools.{bool_same, tested}
 use Rattle.nor_driver.specs.declared.units.Erase.{Erase}
 use Rattle.nor_driver.specs.declared.units.EraseUnit.{EraseUnit}
 use Rattle.nor_driver.specs.declared.units.EraseUnit.TheVariants as Units
@@ -44,7 +45,7 @@ erased_where chip true start start' len len' same long =
     ap (λ (n : ℕ). cond (is_idle chip && true && not (is_unit_guarded chip n len)) (Commands.Erase n len) Commands.Ignored) same
     ∙ ap (λ (n : ℕ). cond (is_idle chip && true && not (is_unit_guarded chip start' n)) (Commands.Erase start' n) Commands.Ignored) long
 erased_where chip false start start' len len' same long =
-    sym (ap (λ (b : Bool). cond (b && not (is_unit_guarded chip start' len')) (Commands.Erase start' len') Commands.Ignored) (and_false (is_idle chip)))
+    sym (ap (λ (b : Bool). cond (b && not (is_unit_guarded chip start' len')) (Commands.Erase start' len') Commands.Ignored) (and-false (is_idle chip)))
 
 -- the first address of an aligned unit
 unit_start : (config : Config) (x y z sector len : ℕ) → 65536 * x + 256 * y + z ≡ 4096 * sector → 4096 * sector < config.size

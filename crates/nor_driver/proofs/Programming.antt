@@ -2,6 +2,7 @@
 use Rattle.std.proofs.Common.{◌≡◌, ◌<◌, ◌≤◌, ◌+◌, ◌-◌, ◌*◌, ◌%◌, ◌&&◌, ◌⊎◌, ◌∙◌, ℕ, Bool, true, false, not, cond, nat_lt, nat_le, suc, List, [], ◌∷◌, length, slice_index, bit_and, ap, sym, refl, subst, arith, inl, inr}
 use Rattle.std.proofs.Math.Nat.{mod-eq_of_lt}
 use Rattle.std.proofs.lemmas.Bool.Decides.{nat_tests}
+use Rattle.std.proofs.Math.Bool.{or-false, and-true}
 use Rattle.nor_chip.specs.declared.config.Config.{Config}
 use Rattle.nor_chip.specs.declared.command.Command.{Command}
 use Rattle.nor_chip.specs.declared.command.Command.TheVariants.{Program, Ignored}
@@ -11,7 +12,6 @@ use Rattle.nor_chip.specs.Command.{address_of}
 use Rattle.nor_chip.specs.Step.{is_idle, is_operation, byte_after}
 use Rattle.nor_chip.specs.Bus.{BusState}
 use Rattle.nor_chip.proofs.Page.{byte_after-program, byte_after-program_other}
-use Rattle.nor_driver.proofs.Bools.{or_false, and_true}
 use Rattle.nor_driver.specs.Operations.{operation_of, IsOperation, IsCommandAt, MayOperate, HasOperated, LeavesOperation, Operates}
 use Rattle.nor_driver.specs.Programs.{CanProgram, takes_program, programmed, MayProgram, HasProgrammed, LeavesProgram, Programs}
 
@@ -43,7 +43,7 @@ asks_program x y z byte (next ∷ rest) config = refl
 program_at : (chip : Chip) (x y z at : ℕ) → 65536 * x + 256 * y + z ≡ at → at < chip.config.size
     → (let to = address_of chip.config x y z in cond (is_idle chip && true && not (is_guarded chip to)) (Program to) Ignored) ≡ cond (takes_program chip at) (Program at) Ignored
 program_at chip x y z at names below =
-    ap (λ (b : Bool). let to = address_of chip.config x y z in cond (b && not (is_guarded chip to)) (Program to) Ignored) (and_true (is_idle chip))
+    ap (λ (b : Bool). let to = address_of chip.config x y z in cond (b && not (is_guarded chip to)) (Program to) Ignored) (and-true (is_idle chip))
     ∙ ap (λ (n : ℕ). cond (takes_program chip n) (Program n) Ignored) (same_address chip.config x y z at names below)
 
 program_command : (chip : Chip) (x y z at byte : ℕ) (rest : List ℕ) → 65536 * x + 256 * y + z ≡ at → at < chip.config.size
@@ -72,7 +72,7 @@ module _ (at : ℕ) (sent : List ℕ) (fits : at % 256 + length sent ≤ 256) (o
     config = has.config;
     bytes = λ a. has.bytes a ∙ program_byte old.chip at sent a fits;
     kept = (has.kept1, has.kept2);
-    worn = λ s. has.worn s ∙ or_false (old.worn s);
+    worn = λ s. has.worn s ∙ or-false (old.worn s);
     latch = has.latch;
   }
 

@@ -1,13 +1,13 @@
 -- What one transaction that reads leaves, and what it tells.
 use Rattle.std.proofs.Common.{◌≡◌, ◌≤◌, ◌<◌, ◌+◌, ◌∙◌, ◌||◌, ℕ, Bool, true, false, cond, List, [], ◌∷◌, length, slice_index, ap, sym, refl, arith, inl, inr}
 use Rattle.std.specs.Prelude.{◌==◌, Result, Ok, Err, OnOk, OnErr, if◌then◌else◌}
+use Rattle.std.proofs.Math.Bool.{or-false}
 use Rattle.nor_chip.specs.declared.command.Command.{Command}
 use Rattle.nor_chip.specs.declared.command.Command.TheVariants.{WriteEnable, WriteDisable, Poll, ReadStatus2, WriteStatus, Program, Erase, ReadData, ReadId, ReadSfdp, ReadUnique, Ignored}
 use Rattle.nor_chip.specs.Chip.{Chip}
 use Rattle.nor_chip.specs.Command.{command_of, begins_change}
 use Rattle.nor_chip.specs.Step.{Does, is_carried_out, done_of, wears}
 use Rattle.nor_chip.specs.Bus.{BusState, Sends, Stops, Carries}
-use Rattle.nor_driver.proofs.Bools.{or_false}
 use Rattle.nor_driver.specs.Looks.{Rested, Looked, Looks, RanOut}
 use Rattle.nor_driver.specs.Waits.{HasPolled}
 use Rattle.nor_driver.specs.Reads.{is_reading, IsReading, HasRead, Replies}
@@ -33,7 +33,7 @@ has_read old new kept worn count = record {
       same = record { config = kept.config; bytes = kept.bytes; kept1 = kept.kept1; kept2 = kept.kept2 };
       running = kept.running;
       busy = let same = kept.busy in omega arith;
-      worn = λ s. worn s ∙ or_false (old.worn s);
+      worn = λ s. worn s ∙ or-false (old.worn s);
     };
     latch = λ set. sym kept.latch ∙ set;
     idle_latch = λ _. kept.latch;
@@ -157,7 +157,7 @@ carried_poll answer old new one carries =
           same = record { config = step.config; bytes = step.bytes; kept1 = step.kept1; kept2 = step.kept2 };
           running = step.running;
           busy = omega arith;
-          worn = λ s. carries.worn s ∙ or_false (old.worn s);
+          worn = λ s. carries.worn s ∙ or-false (old.worn s);
         };
         latch = polled_latch old.chip.busy old.chip.latch new.chip.latch step.latch;
         idle_latch = λ idle. step.latch ∙ ap (λ (busy : ℕ). if busy == 1 then false else old.chip.latch) idle;

@@ -2,15 +2,17 @@
 use Rattle.std.proofs.Common.{◌≡◌, ◌<◌, ◌+◌, ◌*◌, ◌/◌, ◌%◌, ◌&&◌, ◌∙◌, ℕ, zero, suc, Bool, true, false, not, cond, List, [], ◌∷◌, slice_index, ap, refl, subst, arith, inl, inr}
 use Rattle.std.specs.Prelude.{◌==◌, bit_and, bit_or}
 use Rattle.std.proofs.lemmas.Bool.Decides.{eqb_tells}
+use Rattle.std.proofs.Math.Bool.{or-false, and-true}
 use Rattle.nor_chip.specs.declared.command.Command.{Command}
 use Rattle.nor_chip.specs.declared.command.Command.TheVariants.{WriteStatus, Ignored}
 use Rattle.nor_chip.specs.declared.status.Status.{Status}
 use Rattle.nor_chip.specs.Chip.{Chip, is_locked}
+use Rattle.nor_chip.specs.Status.{bytes_with_code}
 use Rattle.nor_chip.specs.Step.{is_idle, is_operation}
 use Rattle.nor_chip.specs.Bus.{BusState}
-use Rattle.nor_driver.proofs.Bools.{or_false, and_true, left_of, right_of, tested}
+use Rattle.nor_driver.proofs.Bools.{left_of, right_of, tested}
 use Rattle.nor_driver.specs.Operations.{operation_of, IsOperation, MayOperate, HasOperated, LeavesOperation, Operates}
-use Rattle.nor_driver.specs.StatusWrites.{status_to_send, KeepsFixed, HasCode, HasFixed, CanWriteStatus, takes_status, MayWriteStatus, HasWrittenStatus, LeavesStatusWrite, WritesStatus}
+use Rattle.nor_driver.specs.StatusWrites.{KeepsFixed, HasCode, HasFixed, CanWriteStatus, takes_status, MayWriteStatus, HasWrittenStatus, LeavesStatusWrite, WritesStatus}
 
 -- what a status write leaves of the kept bits of status 2
 abbrev written : ℕ → ℕ → ℕ
@@ -62,7 +64,7 @@ module _ (status : Status) (code : ℕ) (below : code < 64) where
 
   -- 01h writes the status, where the chip takes it
   command : (chip : Chip) → operation_of chip (1 ∷ one ∷ two ∷ []) ≡ cond (takes_status chip) (WriteStatus one two) Ignored
-  command chip = ap (λ (b : Bool). cond (b && not (is_locked chip)) (WriteStatus one two) Ignored) (and_true (is_idle chip))
+  command chip = ap (λ (b : Bool). cond (b && not (is_locked chip)) (WriteStatus one two) Ignored) (and-true (is_idle chip))
 
   module _ (old new : BusState) where
     taken : CanWriteStatus status old.chip → operation_of old.chip (1 ∷ one ∷ two ∷ []) ≡ WriteStatus one two
@@ -104,15 +106,15 @@ module _ (status : Status) (code : ℕ) (below : code < 64) where
         bytes = has.bytes;
         fixed = fixed_stay has.kept1 has.kept2;
         written = code_there has.kept1 has.kept2;
-        worn = λ s. has.worn s ∙ or_false (old.worn s);
+        worn = λ s. has.worn s ∙ or-false (old.worn s);
         latch = has.latch;
       }
 
     -- the two bytes, as they are taken from a list
-    sent_as : (bytes : List ℕ) → bytes ≡ status_to_send status code → 1 ∷ slice_index bytes 0 ∷ slice_index bytes 1 ∷ [] ≡ 1 ∷ one ∷ two ∷ []
+    sent_as : (bytes : List ℕ) → bytes ≡ bytes_with_code status code → 1 ∷ slice_index bytes 0 ∷ slice_index bytes 1 ∷ [] ≡ 1 ∷ one ∷ two ∷ []
     sent_as bytes is = ap (λ (pair : List ℕ). 1 ∷ slice_index pair 0 ∷ slice_index pair 1 ∷ []) is
 
-    pub leaves_status : (bytes : List ℕ) → bytes ≡ status_to_send status code → (old.honest ≡ true → old.chip.kept2 < 128)
+    pub leaves_status : (bytes : List ℕ) → bytes ≡ bytes_with_code status code → (old.honest ≡ true → old.chip.kept2 < 128)
         → LeavesOperation (1 ∷ slice_index bytes 0 ∷ slice_index bytes 1 ∷ []) old new → LeavesStatusWrite status code old new
     leaves_status bytes sent small left =
         let leaves : LeavesOperation (1 ∷ one ∷ two ∷ []) old new = subst (λ (out : List ℕ). LeavesOperation out old new) (sent_as bytes sent) left in
@@ -125,7 +127,7 @@ module _ (status : Status) (code : ℕ) (below : code < 64) where
           ignored = λ honest takes. leaves.ignored honest (none takes);
         }
 
-    pub does_status : (bytes : List ℕ) → bytes ≡ status_to_send status code → (old.honest ≡ true → old.chip.kept2 < 128) → (count : ℕ)
+    pub does_status : (bytes : List ℕ) → bytes ≡ bytes_with_code status code → (old.honest ≡ true → old.chip.kept2 < 128) → (count : ℕ)
         → Operates (1 ∷ slice_index bytes 0 ∷ slice_index bytes 1 ∷ []) old new count → WritesStatus status code old new count
     does_status bytes sent small count did =
         let does : Operates (1 ∷ one ∷ two ∷ []) old new count = subst (λ (out : List ℕ). Operates out old new count) (sent_as bytes sent) did in

@@ -34,7 +34,8 @@ pub record CanErase (erase : Erase) (chip : Chip) : Type 0 where
 -- the chip carries this erase out
 abbrev pub takes_erase : Chip → Erase → Bool
 takes_erase chip erase =
-    is_idle chip && has_unit chip.config erase.unit && not (is_unit_guarded chip (4096 * erase.sector) (unit_length chip erase))
+    is_idle chip && has_unit chip.config erase.unit
+    && not (is_unit_guarded chip (4096 * erase.sector) (unit_length chip erase))
 
 -- a sector of the unit, and a place of it
 abbrev pub is_sector_of : Erase → Chip → ℕ → Bool

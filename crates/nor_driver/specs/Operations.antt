@@ -69,8 +69,10 @@ operation_of chip out = done_of (record chip { latch = true }) out 0
 -- On an honest bus, at every exit of an operation of an idle chip: it has had its effect, has had none, or was cut off.
 pub record MayOperate (command : Command) (sent : List ℕ) (old new : BusState) : Type 0 where
   pub config : new.chip.config ≡ old.chip.config
-  pub bytes : ChangesOnly old.steady (is_in_work (running_after old.chip command)) (byte_after old.chip command sent) old.chip.bytes new.chip.bytes
-  pub kept : KeptStay old.chip new.chip ⊎ ((new.chip.kept1 ≡ kept1_after old.chip command) × (new.chip.kept2 ≡ kept2_after old.chip command))
+  pub bytes : ChangesOnly old.steady (is_in_work (running_after old.chip command))
+      (byte_after old.chip command sent) old.chip.bytes new.chip.bytes
+  pub kept : KeptStay old.chip new.chip
+      ⊎ ((new.chip.kept1 ≡ kept1_after old.chip command) × (new.chip.kept2 ≡ kept2_after old.chip command))
   pub runs : new.chip.busy ≢ 0 → new.chip.running ≡ running_after old.chip command
   pub worn : (s : ℕ) → wears command s ≡ false → new.worn s ≡ old.worn s
 
@@ -87,11 +89,13 @@ pub record HasOperated (command : Command) (sent : List ℕ) (old new : BusState
 pub record LeavesOperation (out : List ℕ) (old new : BusState) : Type 0 where
   pub stirs : Stirs old new
   pub falls : old.honest ≡ true → Falls 65538 old new
-  pub reached : old.honest ≡ true → is_operation (operation_of old.chip out) ≡ true → MayOperate (operation_of old.chip out) (drop 4 out) old new
+  pub reached : old.honest ≡ true → is_operation (operation_of old.chip out) ≡ true
+      → MayOperate (operation_of old.chip out) (drop 4 out) old new
   pub ignored : old.honest ≡ true → is_operation (operation_of old.chip out) ≡ false → Stays old new
 
 -- What an operation that succeeded leaves.
 pub record Operates (out : List ℕ) (old new : BusState) (sent : ℕ) : Type 0 where
   pub ends : Ends old new sent
-  pub done : old.honest ≡ true → is_operation (operation_of old.chip out) ≡ true → HasOperated (operation_of old.chip out) (drop 4 out) old new
+  pub done : old.honest ≡ true → is_operation (operation_of old.chip out) ≡ true
+      → HasOperated (operation_of old.chip out) (drop 4 out) old new
   pub ignored : old.honest ≡ true → is_operation (operation_of old.chip out) ≡ false → HasIgnored old new

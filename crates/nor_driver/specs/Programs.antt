@@ -21,7 +21,8 @@ takes_program chip at = is_idle chip && not (is_guarded chip at)
 
 -- the byte at a place once bytes were programmed from an address on: bits that are clear in them are clear in it
 abbrev pub programmed : ℕ → List ℕ → (ℕ → ℕ) → ℕ → ℕ
-programmed at sent old a = if nat_le at a && nat_lt a (at + length sent) then bit_and (old a) (slice_index sent (a - at)) else old a
+programmed at sent old a =
+    if nat_le at a && nat_lt a (at + length sent) then bit_and (old a) (slice_index sent (a - at)) else old a
 
 -- a place of the page that holds an address
 abbrev pub is_in_page : ℕ → ℕ → Bool

@@ -35,7 +35,8 @@ pub record HasRead (old new : BusState) : Type 0 where
 -- A transaction that reads succeeded.
 pub record Replies (out : List ℕ) (old new : BusState) (reply : List ℕ) : Type 0 where
   pub read : old.honest ≡ true → HasRead old new
-  pub told : old.honest ≡ true → (i : ℕ) → i < length reply → slice_index reply i ≡ reply_byte old.chip (done_of old.chip out (length reply)) i
+  pub told : old.honest ≡ true → (i : ℕ) → i < length reply
+      → slice_index reply i ≡ reply_byte old.chip (done_of old.chip out (length reply)) i
 
 -- the ID: the three bytes that 9Fh replies first (W25Q64FV datasheet, Read JEDEC ID)
 abbrev pub id_of : Config → List ℕ
@@ -74,4 +75,5 @@ pub record ReadsSfdp (at len : ℕ) (old new : BusState) (bytes : List ℕ) : Ty
 -- a sector that lies on the chip
 pub record ReadsSector (sector : ℕ) (old new : BusState) (bytes : List ℕ) : Type 0 where
   pub read : old.honest ≡ true → HasRead old new
-  pub told : old.honest ≡ true → old.chip.busy ≡ 0 → 4096 * (sector + 1) ≤ old.chip.config.size → IsSectorOf old.chip.bytes sector bytes
+  pub told : old.honest ≡ true → old.chip.busy ≡ 0 → 4096 * (sector + 1) ≤ old.chip.config.size
+      → IsSectorOf old.chip.bytes sector bytes

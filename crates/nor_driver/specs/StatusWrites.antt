@@ -1,5 +1,5 @@
 -- What a status write leaves that sends the fixed bits as they were read, and another protection code.
-use Rattle.std.specs.Prelude.{◌≡◌, ◌≢◌, ◌+◌, ◌*◌, ◌/◌, ◌%◌, ◌&&◌, ◌⊎◌, ℕ, Bool, true, false, not, List, [], ◌∷◌}
+use Rattle.std.specs.Prelude.{◌≡◌, ◌≢◌, ◌/◌, ◌%◌, ◌&&◌, ◌⊎◌, ℕ, Bool, true, false, not}
 use Rattle.nor_chip.specs.declared.running.Running.TheVariants as Runs
 use Rattle.nor_chip.specs.declared.status.Status.{Status}
 use Rattle.nor_chip.specs.Chip.{Chip, is_locked}
@@ -9,13 +9,8 @@ use Rattle.nor_chip.specs.Bus.{BusState}
 use Rattle.nor_driver.specs.Looks.{Stays}
 use Rattle.nor_driver.specs.Operations.{Stirs, Falls, Ends, HasIgnored}
 
--- the two bytes that are sent: SRP0 as read with the low five bits of the code; the low six bits of status 2 as
--- read with CMP by the code; BUSY, WEL and SUS clear
-abbrev pub status_to_send : Status → ℕ → List ℕ
-status_to_send status code =
-    (128 * (status.one.0 / 128) + 4 * (code % 32)) ∷ (status.two.0 % 64 + 64 * (code / 32)) ∷ []
-
--- The fixed bits, all kept ones but those of the code, are as they were: SRP0; SRP1, QE, the reserved bit and the LB bits.
+-- The fixed bits, all kept ones but those of the code, are as they were: SRP0; SRP1, QE, the reserved bit and the LB
+-- bits.
 pub record KeepsFixed (old new : Chip) : Type 0 where
   pub one : new.kept1 / 32 ≡ old.kept1 / 32
   pub two : new.kept2 % 64 ≡ old.kept2 % 64

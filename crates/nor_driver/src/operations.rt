@@ -5,7 +5,7 @@ ghost use Rattle.nor_driver.specs.Waits.{Halts};
 ghost use Rattle.nor_driver.specs.Operations.{NamesAddress, IsCommandAt, IsOperation, LeavesOperation, Operates};
 ghost use Rattle.nor_driver.specs.Programs.{LeavesProgram, Programs};
 ghost use Rattle.nor_driver.specs.Erases.{LeavesErase, Erases};
-ghost use Rattle.nor_driver.specs.StatusWrites.{status_to_send, LeavesStatusWrite, WritesStatus};
+ghost use Rattle.nor_driver.specs.StatusWrites.{LeavesStatusWrite, WritesStatus};
 
 use crate::{Erase, EraseUnit, Halt, wait};
 use arrayvec::ArrayVec;
@@ -55,20 +55,8 @@ pub fn write_status<B: Bus>(bus: &mut B, status: Status, code: u8) -> Result<u32
     ensures does { IfOk result (WritesStatus status code (B.state bus.old) (B.state bus.new)) }
     ensures halts { IfErr result (Halts 0 65538 (B.state bus.old) (B.state bus.new)) }
 {
-    let [one, two] = with_code(status, code);
+    let [one, two] = status.with_code(code).bytes();
     operation(bus, &[WRITE_STATUS, one, two], 0)
-}
-
-// The bytes of a status write: SRP0 is the highest bit of the first, CMP and SUS are the highest two of the second.
-fn with_code(status: Status, code: u8) -> [u8; 2]
-    requires { code < 64 }
-    ensures { result ≡ status_to_send status code }
-{
-    let [one, two] = status.bytes();
-    [
-        128 * (one / 128) + 4 * (code % 32),
-        two % 64 + 64 * (code / 32),
-    ]
 }
 
 // One operation: write enable, the command, a wait. Answers the number of transactions.

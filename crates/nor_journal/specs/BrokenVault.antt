@@ -20,4 +20,5 @@ kept_of vault = vault.kept
 -- many; or the vault below refused these bytes itself.
 abbrev pub Broke : ℕ → VaultState → List ℕ → VaultState → VaultFault → Type 0
 Broke kept old piece new fault =
-    (Took old (take kept piece) new × (fault.kept ≡ min kept (length piece))) ⊎ PutRefused old (take kept piece) fault.kept new
+    (Took old (take kept piece) new × (fault.kept ≡ min kept (length piece)))
+    ⊎ PutRefused old (take kept piece) fault.kept new

@@ -43,10 +43,12 @@ HeadFault bytes Order = ⊥
 HeadFault bytes Long = ⊥
 HeadFault bytes Digest = ⊥
 
--- The next record has this fault, on a chip of so many sectors, where the numbers before it leave those from `least` on.
+-- The next record has this fault, on a chip of so many sectors, where the numbers before it leave those from `least`
+-- on.
 abbrev pub RecordFault : ℕ → ℕ → List ℕ → JournalFault → Type 0
 -- the number isn't wholly there, or the number is good and the bytes of the sector aren't wholly there
-RecordFault sectors least rest Short = (length rest < 4) ⊎ ((least ≤ number_at rest) × (number_at rest < sectors) × (length rest < 4100))
+RecordFault sectors least rest Short =
+    (length rest < 4) ⊎ ((least ≤ number_at rest) × (number_at rest < sectors) × (length rest < 4100))
 RecordFault sectors least rest Magic = ⊥
 RecordFault sectors least rest Size = ⊥
 -- the number isn't the end mark, and no sector of the chip has it
@@ -65,7 +67,8 @@ EndFault before rest Size = ⊥
 EndFault before rest Place = ⊥
 EndFault before rest Order = ⊥
 EndFault before rest Long = (take 4 rest ≡ end_mark) × (36 < length rest)
-EndFault before rest Digest = (take 4 rest ≡ end_mark) × (length rest ≡ 36) × (drop 4 rest ≢ sha256 (before ++ end_mark))
+EndFault before rest Digest =
+    (take 4 rest ≡ end_mark) × (length rest ≡ 36) × (drop 4 rest ≢ sha256 (before ++ end_mark))
 
 -- What stands behind the front of a content has this fault.
 abbrev pub NextFault : Content → List ℕ → JournalFault → Type 0

@@ -14,7 +14,8 @@ abbrev pub FileTakes : {T : Type 0} → Option (List ℕ) → Option (List ℕ) 
 FileTakes old new piece (Ok _) = Appends old new piece
 FileTakes old new piece (Err fault) = Appends old new (take fault.kept piece)
 
--- What a sync does to a file, where that is known: the file holds what it did, and where the sync succeeds all of that is synced.
+-- What a sync does to a file, where that is known: the file holds what it did, and where the sync succeeds all of that
+-- is synced.
 abbrev pub Syncs : {T E : Type 0} → Option (List ℕ) → Option (List ℕ) → Option (List ℕ) → Result T E → Type 0
 Syncs old new synced (Ok _) = Keeps old new × Keeps old synced
 Syncs old new synced (Err _) = Keeps old new

@@ -21,7 +21,8 @@ headed h = record { id = h.id; unique = h.unique; status = h.status; size = h.si
 
 -- the same with the first k records of the bytes behind the head
 abbrev pub content_at : Head → ℕ → List ℕ → Content
-content_at h k bytes = record { id = h.id; unique = h.unique; status = h.status; size = h.size; saved = sectors_in k bytes }
+content_at h k bytes =
+    record { id = h.id; unique = h.unique; status = h.status; size = h.size; saved = sectors_in k bytes }
 
 -- a head that a content may have
 pub record IsHead (h : Head) : Type 0 where

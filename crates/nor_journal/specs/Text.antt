@@ -40,7 +40,8 @@ pub record IsSectorBelow (sectors : ℕ) (s : SavedSector) : Type 0 where
 -- Each is a whole sector below `sectors`, and the numbers rise, the first being at least `least`.
 abbrev pub AreRising : ℕ → ℕ → List SavedSector → Type 0
 AreRising sectors least [] = ⊤
-AreRising sectors least (s ∷ rest) = IsSectorBelow sectors s × (least ≤ s.number) × AreRising sectors (s.number + 1) rest
+AreRising sectors least (s ∷ rest) =
+    IsSectorBelow sectors s × (least ≤ s.number) × AreRising sectors (s.number + 1) rest
 
 pub record IsContent (c : Content) : Type 0 where
   pub id : length c.id ≡ 3

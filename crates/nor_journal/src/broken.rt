@@ -101,9 +101,11 @@ impl<V: Vault> Vault for BrokenVault<V> {
             (⟦<BrokenVault<V> as Vault>⟧.state self.new) }
         // The call that is refused.
         ensures breaks { calls_left self.old ≡ 1
-            → IsErrAnd result (Broke (kept_of self.old) (V.state (inner_of self.old)) piece.now (V.state (inner_of self.new))) }
+            → IsErrAnd result
+            (Broke (kept_of self.old) (V.state (inner_of self.old)) piece.now (V.state (inner_of self.new))) }
         // Any other.
-        ensures passes { calls_left self.old ≢ 1 → Puts (V.state (inner_of self.old)) piece.now result (V.state (inner_of self.new)) }
+        ensures passes { calls_left self.old ≢ 1
+            → Puts (V.state (inner_of self.old)) piece.now result (V.state (inner_of self.new)) }
         ensures calls { calls_left self.new ≡ calls_left self.old - 1 }
         ensures kept { kept_of self.new ≡ kept_of self.old }
     {
@@ -117,9 +119,11 @@ impl<V: Vault> Vault for BrokenVault<V> {
 
     fn seal(&mut self) -> Result<(), VaultFault>
         requires { (⟦<BrokenVault<V> as Vault>⟧.state self.old).sealed ≡ false }
-        ensures law { Seals (⟦<BrokenVault<V> as Vault>⟧.state self.old) result (⟦<BrokenVault<V> as Vault>⟧.state self.new) }
+        ensures law { Seals (⟦<BrokenVault<V> as Vault>⟧.state self.old) result
+            (⟦<BrokenVault<V> as Vault>⟧.state self.new) }
         ensures breaks { calls_left self.old ≡ 1 → IsErr result × (inner_of self.new ≡ inner_of self.old) }
-        ensures passes { calls_left self.old ≢ 1 → Seals (V.state (inner_of self.old)) result (V.state (inner_of self.new)) }
+        ensures passes { calls_left self.old ≢ 1
+            → Seals (V.state (inner_of self.old)) result (V.state (inner_of self.new)) }
         ensures calls { calls_left self.new ≡ calls_left self.old - 1 }
         ensures kept { kept_of self.new ≡ kept_of self.old }
     {

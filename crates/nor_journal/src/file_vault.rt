@@ -8,7 +8,8 @@ use crate::vault::{Vault, VaultFault};
 
 /// A vault that writes its bytes to a file opened for writing. An error of a write, and a write of no bytes,
 /// is a refusal; it tells how much of the piece the writes before it took. The seal syncs the file, so that
-/// what was put is what is synced, and an error of the sync is a refusal. It isn't telling, since nothing is known of what a real file holds.
+/// what was put is what is synced, and an error of the sync is a refusal. It isn't telling, since nothing is known of
+/// what a real file holds.
 #[derive(Drop)]
 pub struct FileVault<F: VaultFile> {
     file: F,
@@ -52,7 +53,8 @@ impl<F: VaultFile> Vault for FileVault<F> {
 
     fn put(&mut self, piece: &[u8]) -> Result<(), VaultFault>
         requires { (⟦<FileVault<F> as Vault>⟧.state self.old).sealed ≡ false }
-        ensures law { Puts (⟦<FileVault<F> as Vault>⟧.state self.old) piece.now result (⟦<FileVault<F> as Vault>⟧.state self.new) }
+        ensures law { Puts (⟦<FileVault<F> as Vault>⟧.state self.old) piece.now result
+            (⟦<FileVault<F> as Vault>⟧.state self.new) }
         ensures file { FileTakes (F.contents (file_of self.old)) (F.contents (file_of self.new)) piece.now result }
     {
         let mut kept = 0;
@@ -67,8 +69,10 @@ impl<F: VaultFile> Vault for FileVault<F> {
 
     fn seal(&mut self) -> Result<(), VaultFault>
         requires { (⟦<FileVault<F> as Vault>⟧.state self.old).sealed ≡ false }
-        ensures law { Seals (⟦<FileVault<F> as Vault>⟧.state self.old) result (⟦<FileVault<F> as Vault>⟧.state self.new) }
-        ensures file { Syncs (F.contents (file_of self.old)) (F.contents (file_of self.new)) (F.synced (file_of self.new)) result }
+        ensures law { Seals (⟦<FileVault<F> as Vault>⟧.state self.old) result
+            (⟦<FileVault<F> as Vault>⟧.state self.new) }
+        ensures file { Syncs (F.contents (file_of self.old)) (F.contents (file_of self.new))
+            (F.synced (file_of self.new)) result }
     {
         if self.file.sync().is_err() {
             return Err(self.refusal(0));

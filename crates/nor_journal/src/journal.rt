@@ -46,7 +46,8 @@ impl<'a> Journal<'a> {
         ensures kept { (head : Content) (chip : ℕ → ℕ) (saved : ℕ → Bool) → JournalSaves head chip saved bytes.now
             → IsOkAnd result (λ journal. SameHead head journal × Saves chip saved journal) }
         // No proper beginning of a journal is a journal.
-        ensures whole { OnOk result ((c : Content) (n : ℕ) → IsContent c → take n bytes.now ≡ text c → length bytes.now ≤ n) }
+        ensures whole { OnOk result ((c : Content) (n : ℕ) → IsContent c → take n bytes.now ≡ text c
+            → length bytes.now ≤ n) }
         // Which fault it is.
         ensures fault { IfErr result (HasFault bytes.now) }
     {
@@ -147,7 +148,8 @@ impl<'a> Journal<'a> {
 
 /// Each journal says one thing, and none begins another: where two of them begin the same bytes, they say the same.
 pub fn one_text()
-    ensures { (c d : Content) (x y : List ℕ) → IsContent c → IsContent d → text c ++ x ≡ text d ++ y → (c ≡ d) × (x ≡ y) }
+    ensures { (c d : Content) (x y : List ℕ) → IsContent c → IsContent d → text c ++ x ≡ text d ++ y
+        → (c ≡ d) × (x ≡ y) }
 {}
 
 /// Bytes have one fault at most, the first that is met.

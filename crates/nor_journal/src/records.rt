@@ -26,7 +26,8 @@ const DIGEST: usize = 32;
 #[tactic(auto, unfolding(crate::specs::Text::end_mark))]
 fn next_record(sectors: u32, least: u32, bytes: &[u8]) -> Result<Option<u32>, JournalFault>
     ensures fault { IfErr result (RecordFault sectors least bytes.now) }
-    ensures found { IfOk result (λ next. MatchOption next (take 4 bytes.now ≡ end_mark) (BeginsRecord sectors least bytes.now)) }
+    ensures found { IfOk result (λ next. MatchOption next (take 4 bytes.now ≡ end_mark)
+        (BeginsRecord sectors least bytes.now)) }
 {
     if bytes.len() < END_MARK.len() {
         return Err(JournalFault::Short);

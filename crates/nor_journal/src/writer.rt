@@ -11,8 +11,8 @@ use crate::records::{END_MARK, record_bytes};
 use crate::vault::{Vault, VaultFault};
 use sha2::{Digest, Sha256};
 
-/// Writes a journal of format 2 into a vault, which it holds until the end: the head, the sectors in rising order, the end.
-/// It takes no memory: the digest is fed as the pieces go out.
+/// Writes a journal of format 2 into a vault, which it holds until the end: the head, the sectors in rising order, the
+/// end. It takes no memory: the digest is fed as the pieces go out.
 ///
 /// An error of a call is the vault's refusal of one of the pieces or of the seal, and the vault is then unsealed.
 /// Contracts leave the error's `kept` open, which counts from the beginning of that piece.
@@ -51,7 +51,8 @@ impl<'a, V: Vault> Writer<'a, V> {
         requires size { IsChipSize size }
         ensures same_vault { IfOk result (λ writer. (vault_of writer).ghost_name ≡ vault.entry.ghost_name) }
         ensures vault { IfOk result (λ writer. Accepted (V.state vault.old) (vault_state V.state writer)) }
-        ensures written { IfOk result (λ writer. HasWritten V.state writer (empty_content id (Some unique) status size)) }
+        ensures written { IfOk result (λ writer. HasWritten V.state writer
+            (empty_content id (Some unique) status size)) }
     {
         let mut writer = Writer::on(vault);
         writer.header(id, unique, status, size)?;
@@ -76,7 +77,8 @@ impl<'a, V: Vault> Writer<'a, V> {
         requires { (vault_state V.state self.old).sealed ≡ false }
         ensures same_vault { (vault_of self.new).ghost_name ≡ (vault_of self.old).ghost_name }
         ensures vault { PutsOn (vault_state V.state self.old) result (vault_state V.state self.new) }
-        ensures put { (m : List ℕ) → HasPut V.state self.old m → OnOk result (HasPut V.state self.new (m ++ bytes.now)) }
+        ensures put { (m : List ℕ) → HasPut V.state self.old m
+            → OnOk result (HasPut V.state self.new (m ++ bytes.now)) }
     {
         self.vault.put(bytes)?;
         self.hasher.update(bytes);
@@ -128,7 +130,8 @@ impl<'a, V: Vault> Writer<'a, V> {
             → OnOk result ((V.state self.exit.0.now).telling ≡ true → (V.state self.exit.0.now).bytes ≡ text c) }
         ensures kept { (head : Content) (chip : ℕ → ℕ) (saved : ℕ → Bool) (n : ℕ)
             → HasKept V.state self.entry head chip saved n
-            → OnOk result ((V.state self.exit.0.now).telling ≡ true → JournalSaves head chip saved (V.state self.exit.0.now).bytes) }
+            → OnOk result ((V.state self.exit.0.now).telling ≡ true
+            → JournalSaves head chip saved (V.state self.exit.0.now).bytes) }
     {
         let Writer { vault, mut hasher } = self;
         vault.put(&END_MARK)?;

@@ -165,10 +165,10 @@ line_says-taken line region is =
     let forward : ltb region.end region.start ≡ false = le-ltb region.end region.start is.forward in
     rw (first, second, third, start, end, forward, is.named) refl
 
-abbrev done : Region → Result Region LineFault
+abbrev pub done : Region → Result Region LineFault
 done region = Ok region
 
-region_is : (a b : Region) → done a ≡ done b → a ≡ b
+pub region_is : (a b : Region) → done a ≡ done b → a ≡ b
 region_is a b e = cc
 
 -- the parts of a line make it up

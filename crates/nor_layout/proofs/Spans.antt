@@ -3,6 +3,7 @@ use Rattle.std.proofs.Common.{◌≡◌, ℕ, ◌+◌, ◌<◌, ◌≤◌, Bool,
 use Rattle.std.proofs.lemmas.Bool.{cases_Bool, ltb-true, ltb-false}
 use Rattle.std.proofs.lemmas.Bool.Decides.{nat_tests}
 use Rattle.std.proofs.lemmas.List.{drop_more, at_drop_all}
+use Rattle.std.proofs.Math.Bool.{or_assoc}
 use Rattle.nor_layout.specs.declared.ranges.Span.{Span}
 use Rattle.nor_layout.specs.Ranges.{holds, contains, IsApartFrom, AreApart}
 use Rattle.nor_layout.specs.Steps.{join}
@@ -53,10 +54,6 @@ or_swap true true r = refl
 or_swap true false r = refl
 or_swap false true r = refl
 or_swap false false r = refl
-
-or_assoc : (p q r : Bool) → ((p || q) || r) ≡ (p || (q || r))
-or_assoc true q r = refl
-or_assoc false q r = refl
 
 -- spans that touch or overlap have the addresses of their join
 holds-join : (a b : Span) (address : ℕ) → a.first ≤ a.last → b.first ≤ b.last → a.first ≤ b.last + 1 → b.first ≤ a.last + 1 → holds (join a b) address ≡ (holds a address || holds b address)

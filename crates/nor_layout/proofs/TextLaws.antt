@@ -11,17 +11,11 @@ use Rattle.nor_layout.specs.Line.{line_says}
 use Rattle.nor_layout.specs.Text.{◌>>=◌, lines_of, is_named, joins, joins_or_fault, with_line, lines_say, layout_says, AreNamedApart, AreRegions, Reads}
 use Rattle.nor_layout.specs.Grammar.{IsLine, full_lines, IsLayout}
 use Rattle.nor_layout.specs.Steps.{Adds}
-use Rattle.nor_layout.proofs.Texts.{lines_say-more, lines_say-fault, with_line-keeps, is_named-before, no_regions}
+use Rattle.nor_layout.proofs.Texts.{all_of, all_are, lines_say-more, lines_say-fault, with_line-keeps, is_named-before, no_regions}
 use Rattle.nor_layout.proofs.LineLaws.{line_says-taken, line_says-found}
 
 abbrev is_full : List ℕ → Bool
 is_full line = not (eqb (length line) 0)
-
-abbrev all_of : List Region → Result (List Region) LayoutFault
-all_of regions = Ok regions
-
-all_are : (a b : List Region) → all_of a ≡ all_of b → a ≡ b
-all_are a b e = cc
 
 -- ---- what is read is in the grammar
 

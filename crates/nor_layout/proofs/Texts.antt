@@ -16,14 +16,9 @@ use Rattle.nor_layout.specs.Address.{address_of}
 use Rattle.nor_layout.specs.Line.{Parts, parts_of, is_name, region_of, parts_say, line_says}
 use Rattle.nor_layout.specs.Text.{◌>>=◌, lines_of, is_named, joins, joins_or_fault, with_line, lines_say, layout_says, AreNamedApart, AreRegions, AsksMemory}
 use Rattle.nor_layout.specs.Steps.{Adds}
+use Rattle.nor_layout.proofs.LineLaws.{region_is}
 
 -- ---- what a line adds
-
-abbrev done : Region → Result Region LineFault
-done region = Ok region
-
-ok_is : (a b : Region) → done a ≡ done b → a ≡ b
-ok_is a b e = cc
 
 -- the start of a region isn't behind its end
 forward_region : (start end : Option ℕ) (name : List ℕ) (region : Region) → region_of start end name ≡ Ok region → region.start ≤ region.end
@@ -35,8 +30,8 @@ forward_region (Some start) (Some end) name region e =
       | inr forward ↦ elim (cases_Bool (is_name name)) [
         | inl named ↦
             let f = rw (forward, named) at e in
-            let s : start ≡ region.start = ap (λ (r : Region). r.start) (ok_is _ region f) in
-            let t : end ≡ region.end = ap (λ (r : Region). r.end) (ok_is _ region f) in
+            let s : start ≡ region.start = ap (λ (r : Region). r.start) (region_is _ region f) in
+            let t : end ≡ region.end = ap (λ (r : Region). r.end) (region_is _ region f) in
             omega (arith, ltb-false _ _ forward, s, t)
         | inr unnamed ↦ absurd (let f = rw (forward, unnamed) at e in cc)
       ]
@@ -50,10 +45,10 @@ AllByRecursion-push : (regions : List Region) (region : Region) → AllByRecursi
 AllByRecursion-push [] region all forward = (forward, tt)
 AllByRecursion-push (first ∷ regions) region all forward = (all.0, AllByRecursion-push regions region all.1 forward)
 
-abbrev all_of : List Region → Result (List Region) LayoutFault
+abbrev pub all_of : List Region → Result (List Region) LayoutFault
 all_of regions = Ok regions
 
-all_are : (a b : List Region) → all_of a ≡ all_of b → a ≡ b
+pub all_are : (a b : List Region) → all_of a ≡ all_of b → a ≡ b
 all_are a b e = cc
 
 -- one name differs from another as the other does from it

@@ -4,7 +4,9 @@ use Rattle.std.specs.List.{list_all}
 
 -- 0 to 9, A to F, a to f
 abbrev pub is_hex_digit : ℕ → Bool
-is_hex_digit byte = (nat_le 48 byte && nat_le byte 57) || (nat_le 65 byte && nat_le byte 70) || (nat_le 97 byte && nat_le byte 102)
+is_hex_digit byte =
+    (nat_le 48 byte && nat_le byte 57) || (nat_le 65 byte && nat_le byte 70)
+    || (nat_le 97 byte && nat_le byte 102)
 
 abbrev pub hex_value : ℕ → ℕ
 hex_value byte = if nat_le byte 57 then byte - 48 else (if nat_le byte 70 then byte - 55 else byte - 87)

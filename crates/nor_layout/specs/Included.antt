@@ -19,7 +19,8 @@ has_address region address = nat_le region.start address && nat_le address regio
 
 -- some region of the name has the address
 abbrev pub name_includes : List Region → ℕ → List ℕ → Bool
-name_includes regions address name = list_any (λ region. bytes_eq region.name.items name && has_address region address) regions
+name_includes regions address name =
+    list_any (λ region. bytes_eq region.name.items name && has_address region address) regions
 
 -- the addresses of all regions that are named: their union
 abbrev pub is_included : List Region → List ℕ → ℕ → Bool

@@ -10,7 +10,8 @@ use Rattle.nor_layout.specs.Address.{address_of}
 -- what stands before the first such byte, and what stands behind it
 abbrev pub cut_at : ℕ → List ℕ → Option (List ℕ × List ℕ)
 cut_at byte [] = None
-cut_at byte (b ∷ text) = if b == byte then Some ([], text) else option_map (λ parts. (b ∷ parts.0, parts.1)) (cut_at byte text)
+cut_at byte (b ∷ text) =
+    if b == byte then Some ([], text) else option_map (λ parts. (b ∷ parts.0, parts.1)) (cut_at byte text)
 
 -- the text without the spaces at its front
 abbrev pub without_spaces : List ℕ → List ℕ
@@ -32,7 +33,8 @@ abbrev pub parts_behind : Option (List ℕ × List ℕ) → Option Parts
 parts_behind None = None
 parts_behind (Some parts) = with_start parts.0 (cut_at 32 parts.1)
 
--- the start reaches to the first `:`, the end from there to the next space, and the name stands behind one or more spaces
+-- the start reaches to the first `:`, the end from there to the next space, and the name stands behind one or more
+-- spaces
 abbrev pub parts_of : List ℕ → Option Parts
 parts_of line = parts_behind (cut_at 58 line)
 

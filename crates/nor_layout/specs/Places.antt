@@ -16,7 +16,9 @@ is_covered all at = list_any (λ places. covers places at) all
 -- places of a sector, none below a first one; they rise, and none is empty
 abbrev pub AreRisingFrom : ℕ → List Places → Type 0
 AreRisingFrom first [] = Unit {0}
-AreRisingFrom first (places ∷ more) = (first ≤ places.start) × (places.start < places.end) × (places.end ≤ 4096) × AreRisingFrom places.end more
+AreRisingFrom first (places ∷ more) =
+    (first ≤ places.start) × (places.start < places.end) × (places.end ≤ 4096)
+    × AreRisingFrom places.end more
 
 -- these are the places of a sector whose addresses belong to the set
 pub record AreIncludedIn (spans : List Span) (sector : ℕ) (all : List Places) : Type 0 where

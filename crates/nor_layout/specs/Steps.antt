@@ -26,7 +26,8 @@ is_listed text name = list_any (λ listed. bytes_eq name listed) (names_of text)
 
 -- the addresses of the regions whose names are listed
 abbrev pub is_listed_address : List Region → List ℕ → ℕ → Bool
-is_listed_address regions text address = list_any (λ region. is_listed text region.name.items && has_address region address) regions
+is_listed_address regions text address =
+    list_any (λ region. is_listed text region.name.items && has_address region address) regions
 
 -- the least span that holds both
 abbrev pub join : Span → Span → Span

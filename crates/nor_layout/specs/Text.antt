@@ -9,7 +9,8 @@ use Rattle.nor_layout.specs.declared.fault.LayoutFault.{LayoutFault}
 use Rattle.nor_layout.specs.declared.fault.LayoutFault.TheVariants.{InLine, TooMany, Memory}
 use Rattle.nor_layout.specs.Line.{line_says}
 
--- A line ends with a line feed, which the last may lack. Behind the last line feed stands one more line, which may be empty.
+-- A line ends with a line feed, which the last may lack. Behind the last line feed stands one more line, which may be
+-- empty.
 abbrev pub lines_of : List ℕ → List (List ℕ)
 lines_of text = slice_split (λ b. b == 10) text
 

@@ -6,6 +6,7 @@ use Rattle.std.proofs.lemmas.Bool.{cases_lt, cases_eq, cases_Bool}
 use Rattle.std.proofs.lemmas.List.{append-nil}
 use Rattle.std.proofs.lemmas.List.Elements.{All-nil, All-cons}
 use Rattle.std.proofs.lemmas.List.Sums.{sum_by-cons}
+use Rattle.std.proofs.Math.Bool.{or-true}
 use Rattle.nor_plan.specs.declared.page.Span.{Span}
 use Rattle.nor_plan.specs.Span.{last_of, ends}
 
@@ -114,14 +115,10 @@ list_any-passing p f test from (suc count) k low high passes here =
           elim (cases_Bool (test from)) [
             | inl also ↦
                 ap (λ ks. list_any p (map f ks)) (passing-true test from count also)
-                ∙ ap (λ b. p (f from) || b) rest ∙ or_right (p (f from))
+                ∙ ap (λ b. p (f from) || b) rest ∙ or-true (p (f from))
             | inr not_here ↦ ap (λ ks. list_any p (map f ks)) (passing-false test from count not_here) ∙ rest
           ]
     ]
-  where
-    or_right : (b : Bool) → (b || true) ≡ true
-    or_right true = refl
-    or_right false = refl
 
 -- the places of two ranges in a row
 passing-append : (test : ℕ → Bool) (from a b : ℕ) → passing test from (a + b) ≡ passing test from a ++ passing test (from + a) b

@@ -10,8 +10,11 @@ AreBytesOf content bytes = EachIndex bytes (λ i. slice_index bytes i ≡ conten
 -- what `count` bytes need to become the wanted ones
 pub record IsPlan (content wanted : ℕ → ℕ) (count : ℕ) (plan : SectorPlan) : Type 0 where
   -- some byte differs, or none does
-  pub touched : MatchBool plan.touched ((i : ℕ) × (i < count) × (content i ≢ wanted i)) ((i : ℕ) → i < count → content i ≡ wanted i)
+  pub touched : MatchBool plan.touched ((i : ℕ) × (i < count) × (content i ≢ wanted i))
+      ((i : ℕ) → i < count → content i ≡ wanted i)
   -- some bit has to go from 0 to 1, or programming alone will do
-  pub raised : MatchBool plan.raised ((i : ℕ) × (i < count) × ¬ IsWithinBits (wanted i) (content i)) ((i : ℕ) → i < count → IsWithinBits (wanted i) (content i))
+  pub raised : MatchBool plan.raised
+      ((i : ℕ) × (i < count) × ¬ IsWithinBits (wanted i) (content i))
+      ((i : ℕ) → i < count → IsWithinBits (wanted i) (content i))
   -- what has to be erased has to be written
   pub needed : plan.raised ≡ true → plan.touched ≡ true

@@ -6,7 +6,8 @@ use Rattle.nor_plan.specs.declared.page.Span.{Span}
 
 -- the places at which the bytes differ, of the `count` places from `from` on
 abbrev pub differences : List ℕ → List ℕ → ℕ → ℕ → List ℕ
-differences old target from count = filter (λ k. not (slice_index old k == slice_index target k)) (range_with_len from count)
+differences old target from count =
+    filter (λ k. not (slice_index old k == slice_index target k)) (range_with_len from count)
 
 -- the last of some places
 abbrev pub last_of : ℕ → List ℕ → ℕ
@@ -41,12 +42,14 @@ spans_of old target = spans_from old target 0
 -- the first of these spans, with the page from which the others are, where there is one
 abbrev pub HeadsSpans : List ℕ → List ℕ → ℕ → Option (Span × ℕ) → Type 0
 HeadsSpans old target page head =
-    MatchOption head (spans_from old target page ≡ []) (λ h. spans_from old target page ≡ h.0 ∷ spans_from old target h.1)
+    MatchOption head (spans_from old target page ≡ [])
+    (λ h. spans_from old target page ≡ h.0 ∷ spans_from old target h.1)
 
 -- some byte of the page differs
 abbrev pub page_differs : List ℕ → List ℕ → ℕ → Bool
 page_differs old target page =
-    list_any (λ k. not (slice_index old k == slice_index target k)) (range_with_len (page * 256) (min 256 (length old - page * 256)))
+    list_any (λ k. not (slice_index old k == slice_index target k))
+    (range_with_len (page * 256) (min 256 (length old - page * 256)))
 
 -- how many pages have a byte that differs
 abbrev pub pages_changed : List ℕ → List ℕ → ℕ

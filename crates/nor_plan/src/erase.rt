@@ -9,7 +9,8 @@ ghost use Rattle.nor_plan.specs.Planned.{holds_block, holds_run, unit_at, planne
 ghost use Rattle.nor_plan.specs.Erases.{erases_left};
 ghost use Rattle.nor_plan.specs.SectorSet.{has, LiesBelow, member_count};
 
-use crate::set::{SECTORS, SectorSet};
+use crate::set::SectorSet;
+use nor_chip::MOST_SECTORS;
 use nor_driver::{Erase, EraseUnit};
 use nor_probe::Kinds;
 
@@ -27,7 +28,8 @@ const SECTOR: u32 = 4096;
 pub fn erases(set: &SectorSet, kinds: Kinds, size: u32) -> Erases
     requires { LiesBelow set.now (size / 4096) }
     ensures covers { Covers kinds (size / 4096) (erases_left result) (has set.now) }
-    ensures fewest { (others : List Erase) → Covers kinds (size / 4096) others (has set.now) → length (erases_left result) ≤ length others }
+    ensures fewest { (others : List Erase) → Covers kinds (size / 4096) others (has set.now)
+        → length (erases_left result) ≤ length others }
     ensures few { length (erases_left result) ≤ member_count set.now }
     ensures counted { (count : ℕ → ℕ) (end : ℕ) → IsCount (has set.now) count
         → LiesBelow set.now end → length (erases_left result) ≤ count end }
@@ -48,7 +50,7 @@ pub fn fewest_is_least()
 fn next_erase(set: &SectorSet, kinds: Kinds, whole: bool, from: u32) -> Option<(Erase, u32)>
     ensures { HeadsPlanned whole kinds (has set.now) from result }
 {
-    for sector in from..SECTORS {
+    for sector in from..MOST_SECTORS {
         if set.contains(sector) {
             let unit = unit_of(set, kinds, whole, sector);
             if begins_at(unit, sector) {

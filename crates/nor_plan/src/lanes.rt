@@ -187,7 +187,8 @@ fn rising(old: &[u8], target: &[u8], at: usize) -> u64
     requires old_within { at + 32 ≤ length old.now }
     requires target_within { at + 32 ≤ length target.now }
     ensures { IsMask result (λ i.
-        not (bit_and (slice_index target.now (at + i)) (slice_index old.now (at + i)) == slice_index target.now (at + i))) }
+        not (bit_and (slice_index target.now (at + i)) (slice_index old.now (at + i))
+        == slice_index target.now (at + i))) }
 {
     let target = u8x32::from_slice(&target[at..]);
     let kept = target & u8x32::from_slice(&old[at..]);

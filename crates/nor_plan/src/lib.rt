@@ -26,4 +26,4 @@ pub use erase::{Erases, erases, fewest_is_least};
 pub use lanes::{bounds, differs, raises};
 pub use page::{Span, Spans, spans};
 pub use plan::{Plan, SectorPlan};
-pub use set::{SECTORS, SectorSet, Sectors};
+pub use set::{SectorSet, Sectors};

@@ -1,7 +1,6 @@
 //! Sets of sectors in a fixed array, copied as cheaply as two pages.
 
-/// One more than the number of the last sector that a chip can have.
-pub const SECTORS: u32 = 4096;
+use nor_chip::MOST_SECTORS;
 
 /// A set of sector numbers below 4,096.
 #[derive(Clone, Copy, Debug, PartialEq, Eq)]
@@ -69,7 +68,7 @@ impl SectorSet {
     pub fn least_from(&self, from: u32) -> Option<u32>
         ensures { MatchOption result (NoneFrom self.now from) (IsLeastFrom self.now from) }
     {
-        if from >= SECTORS {
+        if from >= MOST_SECTORS {
             return None;
         }
         let first = from as usize / 64;

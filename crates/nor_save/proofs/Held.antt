@@ -1,7 +1,8 @@
 -- Which touched sectors hold a guarded place, by what the opening read.
-use Rattle.std.proofs.Common.{◌≡◌, ◌∙◌, ℕ, ◌+◌, ◌-◌, ◌*◌, ◌/◌, ◌%◌, Bool, true, false, refl, sym, ap, arith}
+use Rattle.std.proofs.Common.{◌≡◌, ◌∙◌, ℕ, ◌+◌, ◌-◌, ◌*◌, ◌/◌, ◌%◌, Bool, true, false, sym, ap, arith}
 use Rattle.std.specs.Prelude.{◌&&◌, ◌||◌, ◌==◌, if◌then◌else◌}
 use Rattle.std.proofs.lemmas.Bool.Decides.{nat_tests}
+use Rattle.std.proofs.Math.Bool.{and-false}
 use Rattle.nor_chip.specs.Chip.{Chip, is_locked}
 use Rattle.nor_chip.specs.Guard.{guarded_by, code_of, is_guarded, is_unit_guarded}
 use Rattle.nor_chip.specs.Code.{code_in, is_lock_set}
@@ -27,16 +28,12 @@ unit_same chip opening start len is scheme =
     ap (λ (b : Bool). b || is_guarded chip (start + len - 1)) (guard_same chip opening start is scheme)
     ∙ ap (λ (b : Bool). guarded_by opening.found.size (code_in (status_read opening)) start || b) (guard_same chip opening (start + len - 1) is scheme)
 
-and_false : (b : Bool) → (b && false) ≡ false
-and_false true = refl
-and_false false = refl
-
 -- on a chip without a scheme none is held
 pub none_held : (touched : ℕ → Bool) (chip : Chip) (opening : Opening) → IsOpening chip opening → opening.found.scheme ≡ false → NoneHeld touched chip
 none_held touched chip opening is scheme = λ s.
     let free : is_unit_guarded chip (4096 * s) 4096 ≡ false
     = ap (λ (b : Bool). (b && guarded_by chip.config.size (code_of chip) (4096 * s)) || (b && guarded_by chip.config.size (code_of chip) (4096 * s + 4096 - 1))) (sym is.config.scheme ∙ scheme) in
-    ap (λ (b : Bool). touched s && b) free ∙ and_false (touched s)
+    ap (λ (b : Bool). touched s && b) free ∙ and-false (touched s)
 
 lock_bits : (k1 k2 one two : ℕ) → one / 4 ≡ k1 → two ≡ k2
     → ((one / 128 % 2 == 1) || (two % 2 == 1)) ≡ (if k1 / 32 % 2 == 0 then (if k2 % 2 == 0 then false else true) else true)

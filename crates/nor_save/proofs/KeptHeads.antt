@@ -36,21 +36,25 @@ is_open chip opening state is shows = record {
 }
 
 -- the marks are those of the request on this chip
+marks_right : (is_marked : (ℕ → ℕ) → (ℕ → ℕ) → ℕ → Bool) (request : Request) (image : List ℕ) (opening : Opening) (chip : Chip) (state : BusState) (s : ℕ)
+    → IsOpening chip opening → Shows chip state
+    → (nat_lt s (opening.found.size / 4096) && is_marked state.chip.bytes (wanted request image opening.found.size state.chip.bytes) s)
+    ≡ (nat_lt s (chip.config.size / 4096) && is_marked chip.bytes (wanted request image chip.config.size chip.bytes) s)
+marks_right is_marked request image opening chip state s is shows =
+    ap (λ (content : ℕ → ℕ). nat_lt s (opening.found.size / 4096) && is_marked content (wanted request image opening.found.size content) s) (same_bytes chip state shows)
+    ∙ ap (λ (n : ℕ). nat_lt s (n / 4096) && is_marked chip.bytes (wanted request image n chip.bytes) s) is.config.size
+
 pub touched_right : (request : Request) (image : List ℕ) (opening : Opening) (chip : Chip) (state : BusState) (scanned : Scanned) → IsOpening chip opening → Shows chip state
     → AreRight (wanted request image opening.found.size state.chip.bytes) state.chip.bytes (opening.found.size / 4096) scanned
     → (s : ℕ) → has scanned.touched s ≡ is_touched_by request image chip s
 touched_right request image opening chip state scanned is shows right s =
-    right.touched s
-    ∙ ap (λ (content : ℕ → ℕ). nat_lt s (opening.found.size / 4096) && is_touched content (wanted request image opening.found.size content) s) (same_bytes chip state shows)
-    ∙ ap (λ (n : ℕ). nat_lt s (n / 4096) && is_touched chip.bytes (wanted request image n chip.bytes) s) is.config.size
+    right.touched s ∙ marks_right is_touched request image opening chip state s is shows
 
 pub raised_right : (request : Request) (image : List ℕ) (opening : Opening) (chip : Chip) (state : BusState) (scanned : Scanned) → IsOpening chip opening → Shows chip state
     → AreRight (wanted request image opening.found.size state.chip.bytes) state.chip.bytes (opening.found.size / 4096) scanned
     → (s : ℕ) → has scanned.raised s ≡ is_raised_by request image chip s
 raised_right request image opening chip state scanned is shows right s =
-    right.raised s
-    ∙ ap (λ (content : ℕ → ℕ). nat_lt s (opening.found.size / 4096) && is_raised content (wanted request image opening.found.size content) s) (same_bytes chip state shows)
-    ∙ ap (λ (n : ℕ). nat_lt s (n / 4096) && is_raised chip.bytes (wanted request image n chip.bytes) s) is.config.size
+    right.raised s ∙ marks_right is_raised request image opening chip state s is shows
 
 -- so is what the image has of the touched sectors
 pub merged_right : (request : Request) (image : List ℕ) (opening : Opening) (chip : Chip) (state : BusState) (a x : ℕ) → IsOpening chip opening → Shows chip state

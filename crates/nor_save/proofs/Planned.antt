@@ -15,6 +15,7 @@ use Rattle.nor_save.specs.declared.report.What.{What}
 use Rattle.nor_save.specs.declared.report.What.TheVariants.{Write, Erase, WpRange}
 use Rattle.nor_save.specs.Request.{is_data, target, may_change, wanted}
 use Rattle.nor_save.specs.Scanning.{IsOpen, ScansSector}
+use Rattle.nor_layout.specs.Below.{any_below}
 use Rattle.nor_apply.proofs.Counting.{any_below-all, any_below-same}
 use Rattle.nor_save.proofs.Below.{any_below-decided}
 
@@ -69,23 +70,24 @@ unraised content aim sector same =
     (ap (bit_and (aim (4096 * sector + i))) (sym (same i below)) ∙ and_self (aim (4096 * sector + i))))
 
 -- the content that a plan is made for may be read later, as long as it is the same
+any_later : (test : ℕ → ℕ → Bool) (request : Request) (image : List ℕ) (size : ℕ) (old new : ℕ → ℕ) (sector : ℕ) → ((a : ℕ) → new a ≡ old a)
+    → any_below 4096 (λ i. test (new (4096 * sector + i)) (wanted request image size new (4096 * sector + i)))
+    ≡ any_below 4096 (λ i. test (old (4096 * sector + i)) (wanted request image size old (4096 * sector + i)))
+any_later test request image size old new sector same =
+    any_below-same 4096 (λ i. test (new (4096 * sector + i)) (wanted request image size new (4096 * sector + i)))
+    (λ i. test (old (4096 * sector + i)) (wanted request image size old (4096 * sector + i)))
+    (λ i below. ap (λ (b : ℕ). test b (wanted request image size new (4096 * sector + i))) (same (4096 * sector + i))
+    ∙ ap (λ (b : ℕ). test (old (4096 * sector + i)) b) (wanted-same request image size old new (4096 * sector + i) (same (4096 * sector + i))))
+
 pub touched-later : (request : Request) (image : List ℕ) (size : ℕ) (old new : ℕ → ℕ) (sector : ℕ) → ((a : ℕ) → new a ≡ old a)
     → is_touched new (wanted request image size new) sector ≡ is_touched old (wanted request image size old) sector
 unfolding is_touched
-touched-later request image size old new sector same =
-    any_below-same 4096 (λ i. is_other (new (4096 * sector + i)) (wanted request image size new (4096 * sector + i)))
-    (λ i. is_other (old (4096 * sector + i)) (wanted request image size old (4096 * sector + i)))
-    (λ i below. ap (λ (b : ℕ). is_other b (wanted request image size new (4096 * sector + i))) (same (4096 * sector + i))
-    ∙ ap (λ (b : ℕ). is_other (old (4096 * sector + i)) b) (wanted-same request image size old new (4096 * sector + i) (same (4096 * sector + i))))
+touched-later = any_later is_other
 
 pub raised-later : (request : Request) (image : List ℕ) (size : ℕ) (old new : ℕ → ℕ) (sector : ℕ) → ((a : ℕ) → new a ≡ old a)
     → is_raised new (wanted request image size new) sector ≡ is_raised old (wanted request image size old) sector
 unfolding is_raised
-raised-later request image size old new sector same =
-    any_below-same 4096 (λ i. must_rise (new (4096 * sector + i)) (wanted request image size new (4096 * sector + i)))
-    (λ i. must_rise (old (4096 * sector + i)) (wanted request image size old (4096 * sector + i)))
-    (λ i below. ap (λ (b : ℕ). must_rise b (wanted request image size new (4096 * sector + i))) (same (4096 * sector + i))
-    ∙ ap (λ (b : ℕ). must_rise (old (4096 * sector + i)) b) (wanted-same request image size old new (4096 * sector + i) (same (4096 * sector + i))))
+raised-later = any_later must_rise
 
 -- the image's byte, or FFh, is the target
 pub target-write : (what : What) (image : List ℕ) (a : ℕ) → is_data what ≡ true → (what ≡ Erase → ⊥) → slice_index image a ≡ target what image a

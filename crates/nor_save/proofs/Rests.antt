@@ -11,40 +11,8 @@ use Rattle.nor_driver.specs.Reads.{HasRead}
 use Rattle.nor_save.specs.declared.refusal.Refusal.{Refusal}
 use Rattle.nor_save.specs.declared.refusal.Refusal.TheVariants.{Stopped}
 use Rattle.nor_save.specs.Scanning.{ScanTells}
-
-same_then : (old mid new : Chip) → IsSame old mid → IsSame mid new → IsSame old new
-same_then old mid new one two = record {
-  config = two.config ∙ one.config;
-  bytes = λ a. two.bytes a ∙ one.bytes a;
-  kept1 = two.kept1 ∙ one.kept1;
-  kept2 = two.kept2 ∙ one.kept2;
-}
-
-pub rested_none : (state : BusState) → Rested state state
-rested_none state = record {
-  unchanged = record {
-    same = record { config = refl; bytes = λ a. refl; kept1 = refl; kept2 = refl };
-    running = refl;
-    busy = omega arith;
-    worn = λ s. refl;
-  };
-  latch = λ latch. latch;
-  idle_latch = λ idle. refl;
-}
-
-pub rested_then : (old mid new : BusState) → Rested old mid → Rested mid new → Rested old new
-rested_then old mid new one two =
-    let first = one.unchanged.busy in let second = two.unchanged.busy in
-    record {
-      unchanged = record {
-        same = same_then old.chip mid.chip new.chip one.unchanged.same two.unchanged.same;
-        running = two.unchanged.running ∙ one.unchanged.running;
-        busy = omega arith;
-        worn = λ s. two.unchanged.worn s ∙ one.unchanged.worn s;
-      };
-      latch = λ latch. one.latch (two.latch latch);
-      idle_latch = λ idle. two.idle_latch (omega arith) ∙ one.idle_latch idle;
-    }
+pub use Rattle.nor_driver.proofs.Readings.{rested_none, rested_then}
+use Rattle.nor_apply.proofs.CheckingLooks.{same_then}
 
 -- the kept bits of the same chip
 kept_from : (running : Running) (old mid new : Chip) → IsSame old mid → KeptCut running mid new → KeptCut running old new

@@ -1,5 +1,5 @@
 -- What a scan has found so far.
-use Rattle.std.proofs.Common.{◌≡◌, ◌≢◌, ◌<◌, ◌≤◌, ◌+◌, ◌-◌, ◌*◌, ◌/◌, ◌%◌, ◌&&◌, ◌||◌, ◌∙◌, ℕ, zero, suc, Bool, true, false, List, slice_index, Option, refl, ap, sym, subst, arith, inl, inr, add-one}
+use Rattle.std.proofs.Common.{◌≡◌, ◌≢◌, ◌<◌, ◌≤◌, ◌+◌, ◌-◌, ◌*◌, ◌/◌, ◌%◌, ◌&&◌, ◌||◌, ◌∙◌, ℕ, zero, suc, Bool, true, false, List, slice_index, Option, refl, ap, sym, subst, arith, inl, inr}
 use Rattle.std.specs.Prelude.{IsTrue, MatchBool, if◌then◌else◌, ◌==◌, nat_lt}
 use Rattle.std.proofs.lemmas.Bool.{MatchBool-at_false, cases_Bool, cases_eq, cases_lt, ne_eqb, eq-eqb, eqb-true, lt-ltb, le-ltb, and_left, and_right, and_parts, and_from, or_cases, or_left, or_right, both_ways}
 use Rattle.nor_chip.specs.declared.config.Config.{Config}
@@ -18,7 +18,7 @@ use Rattle.nor_save.specs.declared.report.Request.{Request}
 use Rattle.nor_save.specs.declared.scanning.Scanned.{Scanned}
 use Rattle.nor_save.specs.Request.{is_data, wanted, may_change, scanned_sectors}
 use Rattle.nor_save.specs.Scanning.{AreMarks, AreRight, IsOpen, IsBlank, HasMarked, ScansSector, Scans}
-use Rattle.nor_apply.proofs.Counting.{count_below-none, count_below-same}
+use Rattle.nor_apply.proofs.Counting.{count_below-zero, count_below-more, count_below-none, count_below-same}
 use Rattle.nor_save.proofs.Below.{count_below-insert}
 use Rattle.nor_save.proofs.Planned.{may_change-included, wanted-kept, wanted-same, untouched, unraised, touched-later, raised-later}
 use Rattle.nor_save.proofs.Rests.{HasLooked, has_looked-none, has_looked-more, looks_then, runs_out}
@@ -34,27 +34,19 @@ pub record HasScanned (request : Request) (size n : ℕ) (image image' : List �
 
 -- ---- how many sectors were included
 
-reads_more : (n : ℕ) (test : ℕ → Bool) → count_below (n + 1) test ≡ count_below n test + (if test n then 1 else 0)
-unfolding count_below
-reads_more n test = ap (λ (m : ℕ). count_below m test) (add-one n)
-
-reads_zero : (test : ℕ → Bool) → count_below 0 test ≡ 0
-unfolding count_below
-reads_zero test = refl
-
 reads_rise : (test : ℕ → Bool) (m n : ℕ) → count_below m test ≤ count_below (m + n) test
 reads_rise test m zero = let e : m + 0 ≡ m = omega arith in subst (λ (k : ℕ). count_below m test ≤ count_below k test) (sym e) (omega arith)
 reads_rise test m (suc n) =
     let e : m + suc n ≡ m + n + 1 = omega arith in
     let rest : count_below m test ≤ count_below (m + n) test = reads_rise test m n in
     subst (λ (k : ℕ). count_below m test ≤ count_below k test) (sym e)
-    (subst (λ (k : ℕ). count_below m test ≤ k) (sym (reads_more (m + n) test)) (omega arith))
+    (subst (λ (k : ℕ). count_below m test ≤ k) (sym (count_below-more (m + n) test)) (omega arith))
 
 reads_below : (request : Request) (size n : ℕ) → is_data request.what ≡ true → n < size / 4096 → has_in_sector (includes request.included) n ≡ true
     → count_below n (has_in_sector (includes request.included)) + 1 ≤ scanned_sectors request size
 reads_below request size n about_bytes below included =
     let test = has_in_sector (includes request.included) in
-    let more : count_below (n + 1) test ≡ count_below n test + 1 = reads_more n test ∙ ap (λ (b : Bool). count_below n test + (if b then 1 else 0)) included in
+    let more : count_below (n + 1) test ≡ count_below n test + 1 = count_below-more n test ∙ ap (λ (b : Bool). count_below n test + (if b then 1 else 0)) included in
     let e : n + 1 + (size / 4096 - (n + 1)) ≡ size / 4096 = omega arith in
     let rise : count_below (n + 1) test ≤ count_below (n + 1 + (size / 4096 - (n + 1))) test = reads_rise test (n + 1) (size / 4096 - (n + 1)) in
     let all : count_below (n + 1 + (size / 4096 - (n + 1))) test ≡ count_below (size / 4096) test = ap (λ (k : ℕ). count_below k test) e in
@@ -163,7 +155,7 @@ nothing_scanned request size image state scanned blank = record {
     inside = λ s is. absurd (both_ways (has scanned.raised s) (blank.raised s) is);
     count = blank.count ∙ sym (count_below-none 4096 (has scanned.touched) (λ s below. blank.touched s));
   };
-  reads = blank.reads ∙ sym (reads_zero (has_in_sector (includes request.included)));
+  reads = blank.reads ∙ sym (count_below-zero (has_in_sector (includes request.included)));
   looked = subst (λ (k : ℕ). HasLooked k state state) (sym blank.reads) (has_looked-none state);
   right = λ is_open. record {
     touched = λ s. blank.touched s ∙ sym (and_left (nat_lt s 0) (is_touched state.chip.bytes (wanted request image size state.chip.bytes) s) (le-ltb s 0 (omega arith)));
@@ -194,7 +186,7 @@ skipped request size n included told image image' old new scanned at is_included
       };
       reads =
           let test = has_in_sector (includes request.included) in
-          let more : count_below (n + 1) test ≡ count_below n test + 0 = reads_more n test ∙ ap (λ (b : Bool). count_below n test + (if b then 1 else 0)) at.included in
+          let more : count_below (n + 1) test ≡ count_below n test + 0 = count_below-more n test ∙ ap (λ (b : Bool). count_below n test + (if b then 1 else 0)) at.included in
           let before = was.reads in
           omega arith;
       looked = was.looked;
@@ -237,7 +229,7 @@ scanned_more request size n image image' image'' part part' bytes plan old mid n
       marks = marks_more n plan scanned next (omega arith) scans.needed was.marks marked;
       reads =
           let test = has_in_sector (includes request.included) in
-          let more : count_below (n + 1) test ≡ count_below n test + 1 = reads_more n test ∙ ap (λ (b : Bool). count_below n test + (if b then 1 else 0)) at.included in
+          let more : count_below (n + 1) test ≡ count_below n test + 1 = count_below-more n test ∙ ap (λ (b : Bool). count_below n test + (if b then 1 else 0)) at.included in
           let before = was.reads in let after = marked.reads in
           omega arith;
       looked = subst (λ (k : ℕ). HasLooked k old new) (sym marked.reads) (has_looked-more scanned.reads old mid new was.looked looks scans.read);
@@ -320,7 +312,7 @@ none_to_scan request size image image' old new scanned other few was =
         count = was.marks.count;
       };
       reads =
-          was.reads ∙ reads_zero (has_in_sector (includes request.included))
+          was.reads ∙ count_below-zero (has_in_sector (includes request.included))
           ∙ sym (ap (λ (b : Bool). if b then count_below (size / 4096) (has_in_sector (includes request.included)) else 0) other);
       few = few;
       rested = was.looked.rested;

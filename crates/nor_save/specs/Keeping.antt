@@ -17,7 +17,8 @@ use Rattle.nor_save.specs.Scanning.{Scans}
 use Rattle.nor_save.specs.Judging.{Lifts}
 use Rattle.nor_save.specs.Saving.{IsOpening, Shows, ScanAccepts, ScanJudges, head_of}
 
--- What is left of the vault: sealed at the end; unsealed at a refusal, which is one more failure where it is the vault's.
+-- What is left of the vault: sealed at the end; unsealed at a refusal, which is one more failure where it is the
+-- vault's.
 abbrev pub KeepPuts : Result Kept Refusal → VaultState → VaultState → Type 0
 KeepPuts (Ok kept) old new = Completed old new
 KeepPuts (Err Vault) old new = Refused old new
@@ -43,29 +44,36 @@ HoldsJournal vault = vault.sealed ≡ true → vault.telling ≡ true → IsJour
 -- Of a chip with this opening: the marks are those of the touched and the raised sectors, nothing is refused of them,
 -- the image has what is wanted of the touched ones, and a telling vault has the journal of the chip, which saves just
 -- these.
-pub record KeepsChip (request : Request) (code : ℕ) (image image' : List ℕ) (chip : Chip) (vault : VaultState) (kept : Kept) : Type 0 where
+pub record KeepsChip (request : Request) (code : ℕ) (image image' : List ℕ)
+    (chip : Chip) (vault : VaultState) (kept : Kept) : Type 0 where
   pub touched : (s : ℕ) → has kept.scanned.touched s ≡ is_touched_by request image chip s
   pub raised : (s : ℕ) → has kept.scanned.raised s ≡ is_raised_by request image chip s
   pub accepts : ScanAccepts request code (is_touched_by request image chip) chip kept.unlock
-  pub merged : (a : ℕ) → has kept.scanned.touched (a / 4096) ≡ true → slice_index image' a ≡ wanted request image chip.config.size chip.bytes a
-  pub journal : vault.telling ≡ true → JournalSaves (head_of chip) chip.bytes (is_touched_by request image chip) vault.bytes
+  pub merged : (a : ℕ) → has kept.scanned.touched (a / 4096) ≡ true
+      → slice_index image' a ≡ wanted request image chip.config.size chip.bytes a
+  pub journal : vault.telling ≡ true
+      → JournalSaves (head_of chip) chip.bytes (is_touched_by request image chip) vault.bytes
 
 -- The touched sectors are known, may be changed, and stand in the journal.
-pub record Keeps (request : Request) (opening : Opening) (code : ℕ) (image image' : List ℕ) (old new : BusState) (vault : VaultState) (kept : Kept) : Type 0 where
+pub record Keeps (request : Request) (opening : Opening) (code : ℕ) (image image' : List ℕ)
+    (old new : BusState) (vault : VaultState) (kept : Kept) : Type 0 where
   pub lifts : Lifts request kept.scanned.touched kept.unlock
   pub scans : Scans request opening.found.size image image' old new kept.scanned
-  pub chip : (chip : Chip) → IsOpening chip opening → Shows chip old → KeepsChip request code image image' chip vault kept
+  pub chip : (chip : Chip) → IsOpening chip opening → Shows chip old
+      → KeepsChip request code image image' chip vault kept
 
 -- what a refusal tells, of the touched sectors of a chip with this opening
 abbrev pub JudgesChip : Request → Opening → ℕ → List ℕ → BusState → Refusal → Type 0
 JudgesChip request opening code image old refusal =
-    (chip : Chip) → IsOpening chip opening → Shows chip old → ScanJudges request code (is_touched_by request image chip) chip refusal
+    (chip : Chip) → IsOpening chip opening → Shows chip old
+    → ScanJudges request code (is_touched_by request image chip) chip refusal
 
 abbrev pub KeepTells : Request → Opening → ℕ → List ℕ → BusState → BusState → Refusal → Type 0
 KeepTells request opening code image old new Stopped = RunsOut (scanned_sectors request opening.found.size) old new
 KeepTells request opening code image old new Vault = Unit {0}
 KeepTells request opening code image old new StatusLocked = JudgesChip request opening code image old StatusLocked
-KeepTells request opening code image old new (Protected address) = JudgesChip request opening code image old (Protected address)
+KeepTells request opening code image old new (Protected address) =
+    JudgesChip request opening code image old (Protected address)
 KeepTells request opening code image old new _ = ⊥
 
 -- A beginning of the journal of a chip in which these sectors are touched: its head, and the records of those that lie

@@ -109,7 +109,8 @@ ScanJudges request code touched chip StatusLocked = (is_locked chip ≡ true) ×
 ScanJudges request code touched chip (Protected address) = IsHeldAt request code touched chip address
 ScanJudges request code touched chip _ = ⊥
 
--- The scan refuses nothing: `unlock` tells whether protection is to be lifted, and a status that is locked isn't written.
+-- The scan refuses nothing: `unlock` tells whether protection is to be lifted, and a status that is locked isn't
+-- written.
 pub record ScanAccepts (request : Request) (code : ℕ) (touched : ℕ → Bool) (chip : Chip) (unlock : Bool) : Type 0 where
   pub lifts : unlock ≡ true → (request.unlock ≡ true) × SomeHeld touched chip
   pub free : unlock ≡ false → NoneHeld touched chip
@@ -119,4 +120,6 @@ pub record ScanAccepts (request : Request) (code : ℕ) (touched : ℕ → Bool)
 
 -- the head of the journal: ID, own number, kept bits, size
 abbrev pub head_of : Chip → Content
-head_of chip = empty_content (id_of chip.config) (Some (unique_of chip.config)) ((4 * chip.kept1) ∷ chip.kept2 ∷ []) chip.config.size
+head_of chip =
+    empty_content (id_of chip.config) (Some (unique_of chip.config)) ((4 * chip.kept1) ∷ chip.kept2 ∷ [])
+    chip.config.size

@@ -38,7 +38,8 @@ pub record AreMarks (n : ℕ) (scanned : Scanned) : Type 0 where
   pub inside : (s : ℕ) → has scanned.raised s ≡ true → has scanned.touched s ≡ true
   pub count : scanned.count ≡ sector_count (has scanned.touched)
 
--- The marks of the sectors below n are right: touched where a byte isn't the wanted one, raised where a bit has to rise.
+-- The marks of the sectors below n are right: touched where a byte isn't the wanted one, raised where a bit has to
+-- rise.
 pub record AreRight (wanted content : ℕ → ℕ) (n : ℕ) (scanned : Scanned) : Type 0 where
   pub touched : (s : ℕ) → has scanned.touched s ≡ (nat_lt s n && is_touched content wanted s)
   pub raised : (s : ℕ) → has scanned.raised s ≡ (nat_lt s n && is_raised content wanted s)
@@ -50,25 +51,30 @@ pub record IsOpen (size : ℕ) (state : BusState) : Type 0 where
   pub same : state.chip.config.size ≡ size
 
 -- What scanning one sector does: its bytes are read, and those of the image that aren't to change are taken from them.
-pub record ScansSector (request : Request) (size sector : ℕ) (part part' bytes : List ℕ) (old new : BusState) (plan : SectorPlan) : Type 0 where
+pub record ScansSector (request : Request) (size sector : ℕ) (part part' bytes : List ℕ)
+    (old new : BusState) (plan : SectorPlan) : Type 0 where
   pub needed : plan.raised ≡ true → plan.touched ≡ true
   pub read : old.honest ≡ true → HasRead old new
   pub shown : IsOpen size old → IsSectorOf old.chip.bytes sector bytes
-  pub merged : IsOpen size old → (image : List ℕ) → ((i : ℕ) → i < 4096 → slice_index part i ≡ slice_index image (4096 * sector + i))
+  pub merged : IsOpen size old → (image : List ℕ)
+      → ((i : ℕ) → i < 4096 → slice_index part i ≡ slice_index image (4096 * sector + i))
       → (i : ℕ) → i < 4096 → slice_index part' i ≡ wanted request image size old.chip.bytes (4096 * sector + i)
-  pub planned : IsOpen size old → (image : List ℕ) → ((i : ℕ) → i < 4096 → slice_index part i ≡ slice_index image (4096 * sector + i))
+  pub planned : IsOpen size old → (image : List ℕ)
+      → ((i : ℕ) → i < 4096 → slice_index part i ≡ slice_index image (4096 * sector + i))
       → (plan.touched ≡ is_touched old.chip.bytes (wanted request image size old.chip.bytes) sector)
       × (plan.raised ≡ is_raised old.chip.bytes (wanted request image size old.chip.bytes) sector)
 
 -- What scanning all sectors does, apart from the journal.
-pub record Scans (request : Request) (size : ℕ) (image image' : List ℕ) (old new : BusState) (scanned : Scanned) : Type 0 where
+pub record Scans (request : Request) (size : ℕ) (image image' : List ℕ) (old new : BusState)
+    (scanned : Scanned) : Type 0 where
   pub marks : AreMarks (size / 4096) scanned
   pub reads : scanned.reads ≡ scanned_sectors request size
   pub few : scanned.count ≤ scanned.reads
   pub rested : old.honest ≡ true → Rested old new
   pub sent : old.honest ≡ true → old.left ≡ new.left + scanned.reads
   pub right : IsOpen size old → AreRight (wanted request image size old.chip.bytes) old.chip.bytes (size / 4096) scanned
-  pub merged : IsOpen size old → (a : ℕ) → has scanned.touched (a / 4096) ≡ true → slice_index image' a ≡ wanted request image size old.chip.bytes a
+  pub merged : IsOpen size old → (a : ℕ) → has scanned.touched (a / 4096) ≡ true
+      → slice_index image' a ≡ wanted request image size old.chip.bytes a
 
 -- no sector
 abbrev pub never : ℕ → Bool

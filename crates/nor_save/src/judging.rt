@@ -22,7 +22,8 @@ pub fn judge_opening(request: &Request, opening: &Opening, image: usize) -> Resu
     ensures six_bits { IfOk result (λ code. code < 64) }
     ensures sized { IfOk result (λ code. is_data request.now.what ≡ true → image ≡ opening.now.found.size) }
     ensures faults { IfErr result IsOpeningRefusal }
-    ensures same_code { IfOk result (λ code. is_data request.now.what ≡ true → code ≡ code_in (status_read opening.now)) }
+    ensures same_code { IfOk result (λ code. is_data request.now.what ≡ true
+        → code ≡ code_in (status_read opening.now)) }
     ensures accepts { AcceptsOpening request.now image opening.now result }
     ensures tells { RefusesOpening request.now image opening.now result }
 {

@@ -41,9 +41,11 @@ pub fn keep<B: Bus, V: Vault>(
     ensures saves { IfOk result (λ kept. (V.state vault.new).telling ≡ true
         → IsJournalOf (has kept.scanned.touched) (V.state vault.new).bytes) }
     ensures keeps { IfOk result
-        (Keeps request.now opening.now code image.old image.new (B.state bus.old) (B.state bus.new) (V.state vault.new)) }
+        (Keeps request.now opening.now code image.old image.new
+        (B.state bus.old) (B.state bus.new) (V.state vault.new)) }
     ensures begins { IfErr result (KeepBegins request.now opening.now image.old (B.state bus.old) (V.state vault.new)) }
-    ensures tells { IfErr result (KeepTells request.now opening.now code image.old (B.state bus.old) (B.state bus.new)) }
+    ensures tells { IfErr result
+        (KeepTells request.now opening.now code image.old (B.state bus.old) (B.state bus.new)) }
 {
     let size = opening.found.size;
     let mut writer = Writer::on(vault);

@@ -83,7 +83,8 @@ fn scan_sector<B: Bus>(
     requires whole { length part.old ≡ 4096 }
     requires data { is_data request.now.what ≡ true }
     ensures leaves { Looks 1 (B.state bus.old) (B.state bus.new) }
-    ensures scans { IfOk result (ScansSector request.now size sector part.old part.new bytes.new (B.state bus.old) (B.state bus.new)) }
+    ensures scans { IfOk result
+        (ScansSector request.now size sector part.old part.new bytes.new (B.state bus.old) (B.state bus.new)) }
     ensures stops { OnErr result (RunsOut 1 (B.state bus.old) (B.state bus.new)) }
 {
     read_sector(bus, sector, &mut *bytes)?;
@@ -113,7 +114,8 @@ pub fn scan_all<B: Bus, V: Vault>(
     ensures tells { IfErr result (ScanTells (scanned_sectors request.now size) (B.state bus.old) (B.state bus.new)) }
     ensures keeps { IsOpen size (B.state bus.old) → (head : Content) → head.size ≡ size
         → HasKept V.state writer.old head (B.state bus.old).chip.bytes never 0
-        → IfOk result (λ scanned. HasKept V.state writer.new head (B.state bus.old).chip.bytes (has scanned.touched) (size / 4096)) }
+        → IfOk result (λ scanned. HasKept V.state writer.new head (B.state bus.old).chip.bytes
+        (has scanned.touched) (size / 4096)) }
     ensures begins { IsOpen size (B.state bus.old) → (head : Content) → head.size ≡ size
         → HasKept V.state writer.old head (B.state bus.old).chip.bytes never 0
         → IfErr result (λ refusal. refusal ≢ Refusals.Vault

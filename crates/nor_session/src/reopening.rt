@@ -1,5 +1,5 @@
 //! How a restore begins: the chip is opened, and must be one that the journal is of.
-ghost use Rattle.std.specs.Prelude.{◌≡◌, ◌/◌, ◌%◌, [], ◌∷◌, slice_index, None, IfOk, IfErr, MatchBool};
+ghost use Rattle.std.specs.Prelude.{◌≡◌, None, IfOk, IfErr, MatchBool};
 ghost use Rattle.nor_driver.specs.Looks.{Looks};
 ghost use Rattle.nor_save.specs.Opening.{Opens};
 ghost use Rattle.nor_session.specs.Preparing.{IsOfKindFound, IsUnitRefusal, FitsOpening, ShowsFixed, AcceptsUnit, RefusesUnit, PrepareTells};
@@ -66,14 +66,7 @@ fn judge_unit(journal: &Journal<'_>, opening: &Opening) -> Result<(), Refusal>
 fn has_fixed(journal: &Journal<'_>, opening: &Opening) -> bool
     ensures { ShowsFixed journal.now opening.now result }
 {
-    let told = Status::of(journal.status()).kept().bytes();
-    let read = opening.status().kept().bytes();
-    told == read || opening.found.scheme && fixed_of(told) == fixed_of(read)
-}
-
-// Of the kept bits the fixed ones: SRP0, and of status 2 all but CMP.
-fn fixed_of(kept: [u8; 2]) -> [u8; 2]
-    ensures { result ≡ slice_index kept 0 / 128 ∷ slice_index kept 1 % 64 ∷ [] }
-{
-    [kept[0] / 128, kept[1] % 64]
+    let told = Status::of(journal.status());
+    let read = opening.status();
+    told.kept() == read.kept() || opening.found.scheme && told.fixed() == read.fixed()
 }

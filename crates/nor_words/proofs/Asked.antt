@@ -3,9 +3,9 @@ use Rattle.std.proofs.Common.{◌≡◌, ◌∙◌, Bool, true, false, cond, Lis
 use Rattle.std.specs.Prelude.{MatchResult}
 use Rattle.nor_words.specs.Text.{Text}
 use Rattle.std.specs.List.{list_all}
+use Rattle.std.proofs.lemmas.Bool.{and_parts}
 use Rattle.nor_words.specs.Given.{Texts, given_by}
 use Rattle.nor_words.specs.Faults.{Case, first_fault, usage_faults}
-use Rattle.nor_words.proofs.Numerals.{first_part, second_part}
 use Rattle.nor_words.specs.Job.{IsAsked}
 use Rattle.nor_words.specs.Words.{IsFault, IsJob, refusals_of}
 use Rattle.nor_words.specs.declared.job.Job.{Job}
@@ -31,7 +31,7 @@ told-step false fault told rest other more h = more h
 told-other : (cases : List Case) (told : UsageFault) → list_all (λ (one : Case). not (is_words one.1)) cases ≡ true → first_fault cases ≡ Some told
     → is_words told ≡ false
 told-other [] told all h = cc
-told-other (one ∷ cases) told all h = told-step one.0 one.1 told (first_fault cases) (first_part _ _ all) (told-other cases told (second_part _ _ all)) h
+told-other (one ∷ cases) told all h = told-step one.0 one.1 told (first_fault cases) (and_parts _ _ all).0 (told-other cases told (and_parts _ _ all).1) h
 
 fault-told : (words : List Text) (fault : UsageFault) → refusals_of words ≡ [] → first_fault (usage_faults (given_by words)) ≡ Some fault → IsFault words fault
 fault-told words (why.Words error) taken h =

@@ -5,18 +5,11 @@ use Rattle.std.specs.Char.{digit_value, is_digit}
 use Rattle.std.specs.List.{list_all, position_or_len}
 use Rattle.std.specs.Result.{result_ok}
 use Rattle.std.specs.Str.Parse.{AllDigits, ParsesUnsigned, digits_value, without_leading_plus}
+use Rattle.std.proofs.lemmas.Bool.{and_parts}
 use Rattle.std.proofs.lemmas.Bool.Decides.{nat_tests}
 use Rattle.std.proofs.lemmas.List.{at_drop_all}
 use Rattle.nor_words.specs.Text.{Text, front_of, rest_of}
 use Rattle.nor_words.specs.Numbers.{numeral, place_of, range_of}
-
-pub first_part : (a b : Bool) → (a && b) ≡ true → a ≡ true
-first_part true b h = refl
-first_part false b h = cc
-
-pub second_part : (a b : Bool) → (a && b) ≡ true → b ≡ true
-second_part true b h = h
-second_part false b h = cc
 
 -- a plus is no digit
 plus-digit : (radix c : ℕ) → radix ≤ 36 → is_digit c radix ≡ true → c ≡ 43 → ⊥
@@ -32,14 +25,14 @@ without_plus radix (c ∷ cs) low all = go (c == 43) refl
     go : (b : Bool) → (c == 43) ≡ b → drop (cond (c == 43) 1 0) (c ∷ cs) ≡ c ∷ cs
     go true is =
         let e : c ≡ 43 = grind (arith, nat_tests) in
-        absurd (plus-digit radix c low (first_part _ _ all) e)
+        absurd (plus-digit radix c low (and_parts _ _ all).0 e)
     go false is = rw is refl
 
 all_digits : (radix : ℕ) (text : Text) → list_all (λ digit. is_digit digit radix) text ≡ true → AllDigits radix text
 all_digits radix [] all = tt
 all_digits radix (c ∷ cs) all =
-    let first : nat_lt (digit_value c) radix ≡ true = first_part _ _ all in
-    (grind (arith, nat_tests), all_digits radix cs (second_part _ _ all))
+    let first : nat_lt (digit_value c) radix ≡ true = (and_parts _ _ all).0 in
+    (grind (arith, nat_tests), all_digits radix cs (and_parts _ _ all).1)
 
 -- a number that isn't above the greatest
 abbrev pub at_most : ℕ → ℕ → Option ℕ

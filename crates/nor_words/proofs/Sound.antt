@@ -1,6 +1,7 @@
 -- What options are that have no fault.
 use Rattle.std.proofs.Common.{◌≡◌, ◌∙◌, ◌&&◌, ◌||◌, ℕ, Bool, true, false, cond, List, [], ◌∷◌, Option, Some, None, is_some, nat_eq, nat_lt, not, ap, ap₂, option_map, refl, sym}
 use Rattle.std.specs.Prelude.{option_and_then}
+use Rattle.std.proofs.lemmas.Bool.{or_right}
 use Rattle.nor_words.specs.Text.{Text, reads}
 use Rattle.nor_words.specs.Given.{Texts, how_many, is_change, is_new_content, operations}
 use Rattle.nor_words.specs.Faults.{first_fault, has_wrong_journal, has_wrong_regions, is_no, is_there, usage_faults}
@@ -71,10 +72,6 @@ no_change-kept given sound journal none =
         cc
     go false is h = is
 
-second_true : (a b : Bool) → b ≡ true → (a || b) ≡ true
-second_true true b h = refl
-second_true false b h = h
-
 there : {T : Type 0} (f : Text → Option T) (text : Option Text) (x : T) → option_and_then f text ≡ Some x → is_some text ≡ true
 there f None x h = cc
 there f (Some text) x h = refl
@@ -82,8 +79,8 @@ there f (Some text) x h = refl
 -- whoever wants something of the chip asks for a change
 change-wanted : (given : Texts) (wanted : Wanted) → IsWanted given wanted → is_change given ≡ true
 change-wanted given (want.Write image) is = rw is refl
-change-wanted given want.Erase is = ap (λ b. b || is_some given.wp_range) (second_true (is_some given.write) given.erase is)
-change-wanted given (want.Range start len) is = second_true (is_new_content given) (is_some given.wp_range) (there range_of given.wp_range (start, len) is)
+change-wanted given want.Erase is = ap (λ b. b || is_some given.wp_range) (or_right (is_some given.write) given.erase is)
+change-wanted given (want.Range start len) is = or_right (is_new_content given) (is_some given.wp_range) (there range_of given.wp_range (start, len) is)
 
 -- and gives stops where it keeps no journal
 pub stops-kept : {T : Type 0} (view : T → List ℕ) (given : Texts) (wanted : Wanted) (stops : Option T) → Sound given → IsWanted given wanted

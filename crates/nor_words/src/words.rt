@@ -98,7 +98,7 @@ impl From<WordsError> for UsageFault {
 }
 
 /// The job that the words ask for, which are those after the program's name.
-pub fn request_of<'a>(alloc: Global, words: &'a [String]) -> Result<Job<'a>, UsageFault>
+pub fn job_of<'a>(alloc: Global, words: &'a [String]) -> Result<Job<'a>, UsageFault>
     ensures { MatchResult result (IsJob (map string_bytes words.now)) (IsFault (map string_bytes words.now)) }
 {
     let matches = make_options(alloc)?.try_get_matches_from(words)?;

@@ -142,7 +142,7 @@ impl Flash {
         ensures paces { Paces (Command.WriteStatus one two) self.old self.new }
     {
         let [one_before, two_before] = self.kept.bytes();
-        let running = Running::StatusWrite(one_before / 4, two_before);
+        let running = Running::StatusWrite(one_before >> 2, two_before);
         self.kept = self.kept.written(Status::of([one, two]));
         self.begin(running);
     }
@@ -209,7 +209,7 @@ impl Flash {
                 cells::fill(&mut self.bytes, start as usize, len as usize, fill);
             }
             Running::StatusWrite(one, two) if fill % 2 == 0 => self.kept = Status::of([
-                4 * one,
+                one << 2,
                 two,
             ]),
             Running::StatusWrite(..) | Running::Unknown => {}

@@ -6,9 +6,9 @@ use Rattle.nor_plan.specs.SectorSet.{has}
 use Rattle.nor_plan.proofs.Words.{bit_of, none_past, none_in_word, first_in_word, none_in_whole, first_in_whole}
 use Rattle.nor_plan.proofs.set.SectorSet.least_from.Goals as goal
 
-pub returns-then-from-ge-SECTORS : goal.returns-then-from-ge-SECTORS
+pub returns-then-from-ge-MOST_SECTORS : goal.returns-then-from-ge-MOST_SECTORS
 unfolding has
-returns-then-from-ge-SECTORS c =
+returns-then-from-ge-MOST_SECTORS c =
     let long : length c.args.self.now.words ≡ 64 = search rules in
     λ s past. none_past c.args.self.now.words long s (omega arith)
 
