@@ -24,28 +24,9 @@ impl Case {
     /// The next case that the dice give. One in five is on a chip with protection, so that the refusals of that
     /// come often enough.
     pub fn next(alloc: Global, dice: &mut Dice) -> Result<Case, Fault> {
-        let chip = if dice.hits(1, 5) {
-            chips::large(alloc, dice)?
-        } else {
-            chips::small(alloc, dice)?
-        };
+        let chip = chip_for(alloc, dice)?;
         let image = image_for(alloc, dice, &chip)?;
-        let what = what_for(dice, &chip);
-        let included = if dice.hits(1, 2) {
-            Some(spans_for(alloc, dice, &chip)?)
-        } else {
-            None
-        };
-        let request = Request {
-            what,
-            named: name_for(dice, &chip),
-            included: match &included {
-                Some(spans) => Some(ranges_of(alloc, spans.as_slice())?),
-                None => None,
-            },
-            unlock: dice.hits(1, 2),
-            verify: dice.hits(1, 2),
-        };
+        let (request, included) = request_for(alloc, dice, &chip)?;
         Ok(Case {
             chip,
             image,
@@ -82,6 +63,40 @@ impl Case {
     }
 }
 
+fn chip_for(alloc: Global, dice: &mut Dice) -> Result<Chip, Fault> {
+    if dice.hits(1, 5) {
+        chips::large(alloc, dice)
+    } else {
+        chips::small(alloc, dice)
+    }
+}
+
+// What is asked of a chip, and the spans that it includes.
+fn request_for(
+    alloc: Global,
+    dice: &mut Dice,
+    chip: &Chip,
+) -> Result<(Request, Option<Vec<Span>>), Fault> {
+    let what = what_for(dice, chip);
+    let spans = if dice.hits(1, 2) {
+        Some(spans_for(alloc, dice, chip)?)
+    } else {
+        None
+    };
+    let included = match &spans {
+        Some(spans) => Some(ranges_of(alloc, spans.as_slice())?),
+        None => None,
+    };
+    let request = Request {
+        what,
+        named: name_for(dice, chip),
+        included,
+        unlock: dice.hits(1, 2),
+        verify: dice.hits(1, 2),
+    };
+    Ok((request, spans))
+}
+
 // An image for a chip: its bytes with changes, seldom of another length.
 fn image_for(alloc: Global, dice: &mut Dice, chip: &Chip) -> Result<Vec<u8>, Fault> {
     let mut image = chip.bytes.to_vec(alloc)?;
@@ -90,16 +105,21 @@ fn image_for(alloc: Global, dice: &mut Dice, chip: &Chip) -> Result<Vec<u8>, Fau
         change_guarded(dice, chip, image.as_mut_slice());
     }
     if dice.hits(1, 25) {
-        match dice.below(4) {
-            0 => image.push(0x00)?,
-            1 => image.truncate(0),
-            2 => image.truncate(dice.below(chip.config.size) as usize),
-            _ => {
-                let _ = image.pop();
-            }
-        }
+        change_length(dice, chip, &mut image)?;
     }
     Ok(image)
+}
+
+fn change_length(dice: &mut Dice, chip: &Chip, image: &mut Vec<u8>) -> Result<(), Fault> {
+    match dice.below(4) {
+        0 => image.push(0x00)?,
+        1 => image.truncate(0),
+        2 => image.truncate(dice.below(chip.config.size) as usize),
+        _ => {
+            let _ = image.pop();
+        }
+    }
+    Ok(())
 }
 
 // Changes a byte at one end of the guarded places, where there are any.
@@ -172,13 +192,22 @@ fn span_for(dice: &mut Dice, size: u32) -> Span {
 
 // The ranges of a layout that has these spans as its regions.
 fn ranges_of(alloc: Global, spans: &[Span]) -> Result<Ranges, Fault> {
-    let mut text = String::new(alloc);
     let mut names = String::from_str(alloc, "r0")?;
+    let mut text = String::new(alloc);
+    put_regions(&mut text, &mut names, spans)?;
+    included(alloc, text.as_str(), names.as_str())
+}
+
+fn put_regions(text: &mut String, names: &mut String, spans: &[Span]) -> Result<(), Fault> {
     for (number, span) in spans.iter().enumerate() {
         let Span { first, last } = *span;
         writeln!(text, "0x{first:x}:{last:08X} r{number}")?;
         write!(names, ",r{number}")?;
     }
+    Ok(())
+}
+
+fn included(alloc: Global, text: &str, names: &str) -> Result<Ranges, Fault> {
     let layout = Layout::read(alloc, text.as_bytes())?;
-    Ok(layout.include(names.as_str())?)
+    Ok(layout.include(names)?)
 }

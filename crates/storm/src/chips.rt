@@ -5,7 +5,7 @@ use crate::dice::Dice;
 use crate::fault::Fault;
 use crate::guards::Status;
 use crate::parameters::{self, Told};
-use nor_chip::{Config, Delays, SimBus};
+use nor_chip::{Config, Delays, Meter, SimBus};
 use std::alloc::Global;
 
 /// A chip at a moment.
@@ -19,10 +19,13 @@ pub struct Chip {
 }
 
 impl Chip {
-    /// A bus to this chip, which lets nothing through yet.
-    pub fn bus(&self, alloc: Global) -> Result<SimBus, Fault> {
+    /// A bus to this chip that lets so many transactions through. With a fill a stop loses the power.
+    pub fn bus(&self, alloc: Global, allowed: u64, fill: Option<u8>) -> Result<SimBus, Fault> {
         let bytes = self.bytes.to_vec(alloc)?;
-        Ok(SimBus::new(self.config, bytes, self.status, self.delays)?)
+        let mut bus = SimBus::new(self.config, bytes, self.status, self.delays)?;
+        bus.lose(fill);
+        bus.allow(allowed);
+        Ok(bus)
     }
 
     /// How many sectors of 4,096 bytes it has.

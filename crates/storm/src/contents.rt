@@ -3,7 +3,7 @@
 use crate::dice::Dice;
 
 /// How the bytes of some sectors come about.
-#[derive(Clone, Copy, Debug, PartialEq, Eq)]
+#[derive(Clone, Copy)]
 enum Style {
     /// All FFh.
     Erased,
@@ -40,13 +40,19 @@ pub fn sector(dice: &mut Dice, sectors: u32) -> u32 {
     }
 }
 
+/// The bytes of a sector.
+pub fn sector_at(bytes: &[u8], number: u32) -> &[u8] {
+    let start = number.saturating_mul(4096) as usize;
+    bytes.get(start..start.saturating_add(4096)).unwrap_or(&[])
+}
+
 /// The bytes of a whole chip.
 pub fn paint(dice: &mut Dice, bytes: &mut [u8]) {
     let base = dice.pick(Style::Erased, &[Style::Erased, Style::Cleared]);
     let small = bytes.len() <= 262_144;
     if small && dice.hits(1, 5) {
         dice.fill(bytes);
-    } else if base == Style::Cleared {
+    } else if matches!(base, Style::Cleared) {
         bytes.fill(0x00);
     } else {
         bytes.fill(0xFF);
@@ -83,15 +89,20 @@ pub fn alter(dice: &mut Dice, image: &mut [u8]) {
 // Gives some sectors in a row this style: up to three, or a unit of 32 or 64 KiB and a bit more.
 fn change_run(dice: &mut Dice, bytes: &mut [u8], style: Style) {
     let sectors = u32::try_from(bytes.len() / 4096).unwrap_or(0);
-    let from = sector(dice, sectors);
-    let (from, count) = match dice.below(4) {
-        0 => (from / 8 * 8, dice.pick(8, &[9, 8])),
-        1 => (from / 16 * 16, dice.pick(16, &[17, 24, 33])),
-        _ => (from, dice.pick(1, &[1, 2, 3])),
-    };
+    let (from, count) = run_for(dice, sectors);
     let run = bytes.chunks_mut(4096).skip(from as usize).take(count);
     for sector in run {
         change(dice, sector, style);
+    }
+}
+
+// The first of some sectors in a row, and how many.
+fn run_for(dice: &mut Dice, sectors: u32) -> (u32, usize) {
+    let from = sector(dice, sectors);
+    match dice.below(4) {
+        0 => (from / 8 * 8, dice.pick(8, &[9, 8])),
+        1 => (from / 16 * 16, dice.pick(16, &[17, 24, 33])),
+        _ => (from, dice.pick(1, &[1, 2, 3])),
     }
 }
 

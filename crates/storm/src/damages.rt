@@ -5,34 +5,53 @@ use crate::fault::{Fault, agree};
 use nor_journal::{Journal, JournalFault};
 use std::alloc::Global;
 
+// How a journal is damaged.
+#[derive(Clone, Copy)]
+enum Damage {
+    CutOff,
+    Longer,
+    Changed,
+}
+
 /// Damages a journal, and reads it: cut off, with a byte behind it, or with a byte changed.
 pub fn check(alloc: Global, dice: &mut Dice, journal: &[u8]) -> Result<(), Fault> {
     let mut bytes = journal.to_vec(alloc)?;
+    let damage = make(dice, &mut bytes)?;
+    check_damaged(bytes.as_slice(), damage)
+}
+
+fn make(dice: &mut Dice, bytes: &mut Vec<u8>) -> Result<Damage, Fault> {
     let at = place(dice, bytes.len());
     match dice.below(3) {
         0 => {
             bytes.truncate(at);
-            let read = Journal::read(bytes.as_slice());
-            agree(
-                matches!(read, Err(JournalFault::Short)),
-                "a journal that was cut off",
-            )
+            Ok(Damage::CutOff)
         }
         1 => {
             bytes.push(dice.byte())?;
-            let read = Journal::read(bytes.as_slice());
-            agree(
-                matches!(read, Err(JournalFault::Long)),
-                "a journal with a byte behind it",
-            )
+            Ok(Damage::Longer)
         }
         _ => {
             if let Some(byte) = bytes.get_mut(at) {
                 *byte ^= dice.byte() | 0x01;
             }
-            let read = Journal::read(bytes.as_slice());
-            agree(read.is_err(), "a journal with a byte changed")
+            Ok(Damage::Changed)
         }
+    }
+}
+
+fn check_damaged(bytes: &[u8], damage: Damage) -> Result<(), Fault> {
+    let read = Journal::read(bytes);
+    match damage {
+        Damage::CutOff => agree(
+            matches!(read, Err(JournalFault::Short)),
+            "a journal that was cut off",
+        ),
+        Damage::Longer => agree(
+            matches!(read, Err(JournalFault::Long)),
+            "a journal with a byte behind it",
+        ),
+        Damage::Changed => agree(read.is_err(), "a journal with a byte changed"),
     }
 }
 

@@ -32,6 +32,16 @@ pub fn agree(agrees: bool, what: &'static str) -> Result<(), Fault> {
     }
 }
 
+/// Faults with the first thing of these that differs. In one list, since each exit of a function is proved by itself.
+pub fn agree_all(things: &[(bool, &'static str)]) -> Result<(), Fault> {
+    for (agrees, what) in things {
+        if !*agrees {
+            return Err(Fault::Differs(*what));
+        }
+    }
+    Ok(())
+}
+
 impl From<io::Error> for Fault {
     fn from(error: io::Error) -> Fault {
         Fault::System(error)

@@ -1,6 +1,8 @@
 //! What a session puts into its vault, told by plain rules.
 
 use crate::cases::Case;
+use crate::chips::Chip;
+use crate::contents::sector_at;
 use crate::fault::{Fault, agree};
 use crate::wanted::Wanted;
 use crate::{guards, lengths};
@@ -9,19 +11,41 @@ use std::alloc::Global;
 /// The journal up to its end mark, of which sectors below this one were scanned: the head, and a record for each touched
 /// sector, rising.
 pub fn begun(alloc: Global, case: &Case, wanted: &Wanted, below: u32) -> Result<Vec<u8>, Fault> {
-    let config = &case.chip.config;
-    let mut text = b"NORUNDO2".to_vec(alloc)?;
-    text.extend_from_slice(&config.id)?;
-    text.extend_from_slice(&config.unique)?;
-    text.extend_from_slice(&guards::kept(case.chip.status))?;
-    text.extend_from_slice(&config.size.to_le_bytes())?;
-    for (number, sector) in (0..below).zip(case.chip.bytes.chunks(4096)) {
+    let mut text = Vec::new(alloc);
+    put_head(&mut text, &case.chip)?;
+    put_records(&mut text, &case.chip, wanted, below)?;
+    Ok(text)
+}
+
+fn put_head(text: &mut Vec<u8>, chip: &Chip) -> Result<(), Fault> {
+    let kept = guards::kept(chip.status);
+    let size = chip.config.size.to_le_bytes();
+    let parts: [&[u8]; 5] = [
+        b"NORUNDO2",
+        &chip.config.id,
+        &chip.config.unique,
+        &kept,
+        &size,
+    ];
+    for part in parts {
+        text.extend_from_slice(part)?;
+    }
+    Ok(())
+}
+
+fn put_records(text: &mut Vec<u8>, chip: &Chip, wanted: &Wanted, below: u32) -> Result<(), Fault> {
+    for number in 0..below {
         if wanted.touches(number) {
-            text.extend_from_slice(&number.to_le_bytes())?;
-            text.extend_from_slice(sector)?;
+            put_record(text, number, sector_at(chip.bytes.as_slice(), number))?;
         }
     }
-    Ok(text)
+    Ok(())
+}
+
+fn put_record(text: &mut Vec<u8>, number: u32, sector: &[u8]) -> Result<(), Fault> {
+    text.extend_from_slice(&number.to_le_bytes())?;
+    text.extend_from_slice(sector)?;
+    Ok(())
 }
 
 /// A session that scanned all it scans, and was refused then, left the journal up to its end mark.
@@ -50,6 +74,12 @@ pub fn check_stopped(
     let Some(scanned) = sent.checked_sub(lengths::opening(&case.chip)) else {
         return agree(held.is_empty(), "a vault before the chip is identified");
     };
+    let begun = begun(alloc, case, wanted, below(case, scanned))?;
+    agree(held == begun.as_slice(), "the journal that a stop leaves")
+}
+
+// The first sector behind so many that were scanned.
+fn below(case: &Case, scanned: u64) -> u32 {
     let mut below = 0;
     let mut left = scanned;
     for number in 0..case.chip.sectors() {
@@ -58,6 +88,5 @@ pub fn check_stopped(
             below = number.saturating_add(1);
         }
     }
-    let begun = begun(alloc, case, wanted, below)?;
-    agree(held == begun.as_slice(), "the journal that a stop leaves")
+    below
 }

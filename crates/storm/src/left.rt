@@ -4,10 +4,12 @@ use crate::cases::Case;
 use crate::checks::{self, Ran};
 use crate::chips::Chip;
 use crate::fault::{Fault, agree};
+use crate::lines::{self, Lines};
 use crate::pace::Pace;
+use crate::restores::{self, Restored};
 use crate::verdicts::Saved;
 use crate::wanted::Wanted;
-use crate::{lines, restores, traces, transactions};
+use crate::{traces, transactions};
 use nor_chip::{Delays, SimBus};
 use nor_journal::{Journal, MemVault};
 use nor_session::Refusal;
@@ -25,33 +27,63 @@ pub struct Accepted<'a> {
 #[derive(Drop)]
 pub struct Left {
     pub bus: SimBus,
-    /// The call before ended.
+    /// The trace of the call.
+    pub sent: Vec<u8>,
+    /// The call ended.
     pub ended: bool,
+    power: Power,
+}
+
+// What becomes of BUSY and the latch.
+#[derive(Clone, Copy)]
+struct Power {
     // at a stop the power is lost
     loses: bool,
     pace: Pace,
 }
 
-impl Left {
-    // Behind a call that sent these lines, on a chip whose pace was that.
-    fn behind(bus: SimBus, ended: bool, loses: bool, pace: Pace) -> Result<Left, Fault> {
-        let pace = if loses && !ended {
+// A call under a stop: all that it would send, how much of it it may send, and the chip's power before it.
+#[derive(Clone, Copy)]
+struct Call<'a> {
+    whole: &'a str,
+    allowed: u64,
+    power: Power,
+}
+
+impl<'a> Call<'a> {
+    // It ends exactly where it may send all that it sends.
+    fn ends(self) -> bool {
+        self.allowed >= lines::count(self.whole)
+    }
+
+    // What it sends.
+    fn lines(self) -> &'a str {
+        lines::first(self.whole, self.allowed)
+    }
+
+    // The power behind it.
+    fn power(self) -> Power {
+        let Power { loses, pace } = self.power;
+        let pace = pace.behind_lines(self.lines());
+        let pace = if loses && !self.ends() {
             pace.without_power()
         } else {
             pace
         };
-        agree(
-            bus.status()[0] & 0b0000_0011 == pace.bits(),
-            "BUSY and the latch behind a call",
-        )?;
-        Ok(Left {
-            bus,
-            ended,
-            loses,
-            pace,
-        })
+        Power { loses, pace }
     }
 
+    // The chip shows what it has to behind the call.
+    fn check_power(self, bus: &SimBus) -> Result<(), Fault> {
+        let shown = bus.status()[0] & 0b0000_0011;
+        agree(
+            shown == self.power().pace.bits(),
+            "BUSY and the latch behind a call",
+        )
+    }
+}
+
+impl Left {
     // The chip as it stands.
     fn chip(&self, alloc: Global, before: &Chip) -> Result<Chip, Fault> {
         Ok(Chip {
@@ -59,11 +91,26 @@ impl Left {
             bytes: self.bus.bytes().to_vec(alloc)?,
             status: self.bus.status(),
             delays: Delays {
-                now: self.pace.busy,
+                now: self.power.pace.busy,
                 each: before.delays.each,
             },
         })
     }
+
+    // All that a restore sends that gives back what an accepted session changed.
+    fn restore_lines(&self, alloc: Global, accepted: Accepted<'_>) -> Result<Lines, Fault> {
+        let chip = self.chip(alloc, &accepted.case.chip)?;
+        restore_lines_on(alloc, accepted, &chip)
+    }
+}
+
+fn restore_lines_on(alloc: Global, accepted: Accepted<'_>, chip: &Chip) -> Result<Lines, Fault> {
+    let saved = Saved {
+        chip: &accepted.case.chip,
+        sectors: accepted.wanted.sectors.as_slice(),
+    };
+    let restored = restores::restored_of(alloc, chip, saved)?;
+    transactions::restore(alloc, chip, saved.sectors, &restored)
 }
 
 /// Runs an accepted session under so many transactions. It ends exactly where they are enough, and sends the first
@@ -73,10 +120,28 @@ pub fn run(
     accepted: Accepted<'_>,
     allowed: u64,
     fill: Option<u8>,
-) -> Result<(Left, MemVault, Vec<u8>), Fault> {
+) -> Result<(Left, MemVault), Fault> {
     let ran = checks::run(alloc, accepted.case, allowed, fill)?;
-    let ended = allowed >= lines::count(accepted.lines);
-    if ended {
+    let call = Call {
+        whole: accepted.lines,
+        allowed,
+        power: Power {
+            loses: fill.is_some(),
+            pace: Pace::of(&accepted.case.chip),
+        },
+    };
+    check_session(call, &ran)?;
+    let left = Left {
+        bus: ran.bus,
+        sent: ran.sent,
+        ended: call.ends(),
+        power: call.power(),
+    };
+    Ok((left, ran.vault))
+}
+
+fn check_session(call: Call<'_>, ran: &Ran) -> Result<(), Fault> {
+    if call.ends() {
         agree(
             ran.answer.is_ok(),
             "a session with just enough transactions",
@@ -87,46 +152,53 @@ pub fn run(
             "a session with too few transactions",
         )?;
     }
-    let first = lines::first(accepted.lines, allowed);
-    traces::check_lines(ran.lines()?, first, "a stopped session")?;
-    let pace = Pace::of(&accepted.case.chip).behind_lines(first);
-    let Ran {
-        answer: _,
-        bus,
-        vault,
-        sent,
-    } = ran;
-    let left = Left::behind(bus, ended, fill.is_some(), pace)?;
-    Ok((left, vault, sent))
+    traces::check_trace(ran.sent.as_slice(), call.lines(), "a stopped session")?;
+    call.check_power(&ran.bus)
 }
 
 /// Restores from the journal of a session under so many transactions, on the chip that the call before left. It ends
-/// exactly where they are enough, and sends the first lines of what gives this chip back. Answers these too.
+/// exactly where they are enough, and sends the first lines of what gives this chip back.
 pub fn restore(
     alloc: Global,
     accepted: Accepted<'_>,
     journal: &Journal<'_>,
     left: Left,
     allowed: u64,
-) -> Result<(Left, Vec<u8>), Fault> {
-    let before = &accepted.case.chip;
-    let chip = left.chip(alloc, before)?;
-    let saved = Saved {
-        chip: before,
-        sectors: accepted.wanted.sectors.as_slice(),
+) -> Result<Left, Fault> {
+    let whole = left.restore_lines(alloc, accepted)?;
+    let call = Call {
+        whole: whole.text(),
+        allowed,
+        power: left.power,
     };
-    let restored = restores::restored_of(alloc, &chip, saved)?;
-    let whole = transactions::restore(alloc, &chip, saved.sectors, &restored)?;
-    let first = lines::first(whole.text(), allowed);
-    let ended = allowed >= lines::count(whole.text());
-    let ran = restores::run(alloc, left.bus, journal, allowed)?;
-    if ended {
+    restore_under(alloc, accepted, journal, left.bus, call)
+}
+
+fn restore_under(
+    alloc: Global,
+    accepted: Accepted<'_>,
+    journal: &Journal<'_>,
+    bus: SimBus,
+    call: Call<'_>,
+) -> Result<Left, Fault> {
+    let ran = restores::run(alloc, bus, journal, call.allowed)?;
+    check_restore(accepted, call, &ran)?;
+    Ok(Left {
+        bus: ran.bus,
+        sent: ran.sent,
+        ended: call.ends(),
+        power: call.power(),
+    })
+}
+
+fn check_restore(accepted: Accepted<'_>, call: Call<'_>, ran: &Restored) -> Result<(), Fault> {
+    if call.ends() {
         agree(
             ran.answer.is_ok(),
             "a restore with just enough transactions",
         )?;
         agree(
-            checks::is_same(&ran.bus, before),
+            checks::is_same(&ran.bus, &accepted.case.chip),
             "the chip after a restore",
         )?;
     } else {
@@ -135,12 +207,6 @@ pub fn restore(
             "a restore with too few transactions",
         )?;
     }
-    traces::check_lines(
-        traces::text(ran.sent.as_slice())?,
-        first,
-        "a restore behind a stop",
-    )?;
-    let pace = Pace::of(&chip).behind_lines(first);
-    let left = Left::behind(ran.bus, ended, left.loses, pace)?;
-    Ok((left, ran.sent))
+    traces::check_trace(ran.sent.as_slice(), call.lines(), "a restore behind a stop")?;
+    call.check_power(&ran.bus)
 }

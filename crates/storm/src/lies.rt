@@ -5,41 +5,59 @@ use crate::chips::Chip;
 use crate::dice::Dice;
 use crate::fault::{Fault, agree};
 use crate::readings::{self, Reading};
-use crate::told::{Caller, Halt, Liar};
-use crate::traces;
+use crate::told::{Caller, Halt};
 use crate::verdicts::Saved;
-use nor_chip::{Meter, Spoil, SpoiltBus, TraceBus};
+use crate::{lines, traces};
+use nor_chip::{SimBus, Spoil, SpoiltBus, TraceBus};
 use nor_journal::{Journal, MemVault};
-use nor_session::{Refusal, Report, restore, session};
+use nor_session::{Refusal, Report, Request, restore, session};
 use std::alloc::Global;
 
-/// What a call came to, and a line for each transaction that it sent.
+// What a call came to, and its trace.
 #[derive(Drop)]
 struct Ran {
     answer: Result<Report, Refusal>,
     sent: Vec<u8>,
 }
 
+// What the plain code came to, and its trace.
+#[derive(Drop)]
+struct Told {
+    answer: Result<(), Halt>,
+    sent: Vec<u8>,
+}
+
 /// A session on a bus that lies at some of so many transactions.
 pub fn check_session(alloc: Global, dice: &mut Dice, case: &Case, count: u64) -> Result<(), Fault> {
     let spoil = spoil_for(dice, count);
-    let mut sent = Vec::new(alloc);
     let mut image = case.image.to_vec(alloc)?;
+    let bus = liar(alloc, &case.chip, spoil)?;
+    let ran = run_session(alloc, bus, image.as_mut_slice(), &case.request);
+    compare_session(alloc, case, spoil, &ran)
+}
+
+fn run_session(alloc: Global, bus: SpoiltBus<SimBus>, image: &mut [u8], request: &Request) -> Ran {
+    let mut sent = Vec::new(alloc);
+    let mut bus = TraceBus::new(bus, &mut sent);
     let mut vault = MemVault::new(alloc);
-    let mut bus = liar(alloc, &case.chip, spoil, &mut sent)?;
-    let answer = session(&mut bus, &mut vault, image.as_mut_slice(), &case.request);
+    let answer = session(&mut bus, &mut vault, image, request);
     drop(bus);
-    let mut told = Vec::new(alloc);
-    let bus = liar(alloc, &case.chip, spoil, &mut told)?;
+    Ran { answer, sent }
+}
+
+fn compare_session(alloc: Global, case: &Case, spoil: Spoil, ran: &Ran) -> Result<(), Fault> {
+    let bus = liar(alloc, &case.chip, spoil)?;
+    let told = tell_session(alloc, bus, case);
+    check(ran, told, "a session on a bus that lies")
+}
+
+fn tell_session(alloc: Global, bus: SpoiltBus<SimBus>, case: &Case) -> Told {
+    let mut sent = Vec::new(alloc);
+    let bus = TraceBus::new(bus, &mut sent);
     let mut caller = Caller { bus, alloc };
-    let wanted = caller.session(case);
+    let answer = caller.session(case);
     drop(caller);
-    check(
-        Ran { answer, sent },
-        wanted,
-        told,
-        "a session on a bus that lies",
-    )
+    Told { answer, sent }
 }
 
 /// A restore of a chip on such a bus, from a journal that says this.
@@ -51,21 +69,83 @@ pub fn check_restore(
     count: u64,
 ) -> Result<(), Fault> {
     let spoil = spoil_for(dice, count);
+    let bus = liar(alloc, chip, spoil)?;
+    let ran = run_restore(alloc, bus, journal);
+    compare_restore(alloc, chip, saved, spoil, &ran)
+}
+
+fn run_restore(alloc: Global, bus: SpoiltBus<SimBus>, journal: &Journal<'_>) -> Ran {
     let mut sent = Vec::new(alloc);
-    let mut bus = liar(alloc, chip, spoil, &mut sent)?;
+    let mut bus = TraceBus::new(bus, &mut sent);
     let answer = restore(&mut bus, journal);
     drop(bus);
-    let mut told = Vec::new(alloc);
-    let bus = liar(alloc, chip, spoil, &mut told)?;
+    Ran { answer, sent }
+}
+
+fn compare_restore(
+    alloc: Global,
+    chip: &Chip,
+    saved: Saved<'_>,
+    spoil: Spoil,
+    ran: &Ran,
+) -> Result<(), Fault> {
+    let bus = liar(alloc, chip, spoil)?;
+    let told = tell_restore(alloc, bus, saved);
+    check(ran, told, "a restore on a bus that lies")
+}
+
+fn tell_restore(alloc: Global, bus: SpoiltBus<SimBus>, saved: Saved<'_>) -> Told {
+    let mut sent = Vec::new(alloc);
+    let bus = TraceBus::new(bus, &mut sent);
     let mut caller = Caller { bus, alloc };
-    let wanted = caller.restore(saved);
+    let answer = caller.restore(saved);
     drop(caller);
-    check(
-        Ran { answer, sent },
-        wanted,
-        told,
-        "a restore on a bus that lies",
-    )
+    Told { answer, sent }
+}
+
+// The answer, with its address, is what the plain code came to, and each transaction the one that it sent.
+fn check(ran: &Ran, told: Told, call: &'static str) -> Result<(), Fault> {
+    let count = check_sent(ran.sent.as_slice(), told.sent.as_slice(), call)?;
+    check_answer(ran.answer, told.answer, count)
+}
+
+// Answers how many transactions both sent.
+fn check_sent(sent: &[u8], told: &[u8], call: &'static str) -> Result<u64, Fault> {
+    let sent = traces::text(sent)?;
+    traces::check_lines(sent, traces::text(told)?, call)?;
+    Ok(lines::count(sent))
+}
+
+fn check_answer(
+    answer: Result<Report, Refusal>,
+    told: Result<(), Halt>,
+    count: u64,
+) -> Result<(), Fault> {
+    match (answer, told) {
+        (_, Err(Halt::Failed(fault))) => Err(fault),
+        (Err(refusal), Err(Halt::Refused(wanted))) => {
+            agree(refusal == wanted, "the refusal on a bus that lies")
+        }
+        (Ok(report), Ok(())) => agree(
+            report.transactions == count,
+            "the transactions on a bus that lies",
+        ),
+        (_, _) => Err(Fault::Differs("whether a call ends on a bus that lies")),
+    }
+}
+
+// What a reading came to, and its trace.
+#[derive(Drop)]
+struct Read {
+    answer: Result<readings::Told, Refusal>,
+    sent: Vec<u8>,
+}
+
+// What is known of the chip then, by the plain code, and its trace.
+#[derive(Drop)]
+struct Known {
+    answer: Result<Case, Halt>,
+    sent: Vec<u8>,
 }
 
 /// A reading on such a bus.
@@ -77,48 +157,59 @@ pub fn check_reading(
     count: u64,
 ) -> Result<(), Fault> {
     let spoil = spoil_for(dice, count);
-    let mut sent = Vec::new(alloc);
-    let mut bus = liar(alloc, &case.chip, spoil, &mut sent)?;
-    let answer = reading.call(alloc, case, &mut bus);
-    drop(bus);
-    let mut told = Vec::new(alloc);
-    let bus = liar(alloc, &case.chip, spoil, &mut told)?;
-    let mut caller = Caller { bus, alloc };
-    let wanted = caller.reading(reading, case);
-    drop(caller);
-    let sent = traces::text(sent.as_slice())?;
-    let told = traces::text(told.as_slice())?;
-    traces::check_lines(sent, told, "a reading on a bus that lies")?;
-    match (answer, wanted) {
-        (_, Err(Halt::Failed(fault))) => Err(fault),
-        (Err(refusal), Err(Halt::Refused(wanted))) => agree(
-            refusal == wanted,
-            "the refusal of a reading on a bus that lies",
-        ),
-        (Ok(answer), Ok(known)) => readings::check_known(alloc, &known, answer),
-        (_, _) => Err(Fault::Differs("whether a reading ends on a bus that lies")),
-    }
+    let bus = liar(alloc, &case.chip, spoil)?;
+    let read = run_reading(alloc, bus, case, reading);
+    compare_reading(alloc, case, reading, spoil, &read)
 }
 
-// The answer, with its address, is what the plain code came to, and each transaction the one that it sent.
-fn check(
-    ran: Ran,
-    wanted: Result<(), Halt>,
-    told: Vec<u8>,
-    call: &'static str,
+fn run_reading(alloc: Global, bus: SpoiltBus<SimBus>, case: &Case, reading: Reading) -> Read {
+    let mut sent = Vec::new(alloc);
+    let mut bus = TraceBus::new(bus, &mut sent);
+    let answer = reading.call(alloc, case, &mut bus);
+    drop(bus);
+    Read { answer, sent }
+}
+
+fn compare_reading(
+    alloc: Global,
+    case: &Case,
+    reading: Reading,
+    spoil: Spoil,
+    read: &Read,
 ) -> Result<(), Fault> {
-    let sent = traces::text(ran.sent.as_slice())?;
-    traces::check_lines(sent, traces::text(told.as_slice())?, call)?;
-    match (ran.answer, wanted) {
+    let bus = liar(alloc, &case.chip, spoil)?;
+    let known = tell_reading(alloc, bus, case, reading);
+    check_read(alloc, read, known)
+}
+
+fn tell_reading(alloc: Global, bus: SpoiltBus<SimBus>, case: &Case, reading: Reading) -> Known {
+    let mut sent = Vec::new(alloc);
+    let bus = TraceBus::new(bus, &mut sent);
+    let mut caller = Caller { bus, alloc };
+    let answer = caller.reading(reading, case);
+    drop(caller);
+    Known { answer, sent }
+}
+
+fn check_read(alloc: Global, read: &Read, known: Known) -> Result<(), Fault> {
+    let call = "a reading on a bus that lies";
+    check_sent(read.sent.as_slice(), known.sent.as_slice(), call)?;
+    check_known(alloc, &read.answer, known.answer)
+}
+
+fn check_known(
+    alloc: Global,
+    read: &Result<readings::Told, Refusal>,
+    known: Result<Case, Halt>,
+) -> Result<(), Fault> {
+    match (read, known) {
         (_, Err(Halt::Failed(fault))) => Err(fault),
-        (Err(refusal), Err(Halt::Refused(wanted))) => {
-            agree(refusal == wanted, "the refusal on a bus that lies")
-        }
-        (Ok(report), Ok(())) => agree(
-            u64::try_from(sent.lines().count()) == Ok(report.transactions),
-            "the transactions on a bus that lies",
+        (Err(refusal), Err(Halt::Refused(wanted))) => agree(
+            *refusal == wanted,
+            "the refusal of a reading on a bus that lies",
         ),
-        (_, _) => Err(Fault::Differs("whether a call ends on a bus that lies")),
+        (Ok(told), Ok(known)) => readings::check_known(alloc, &known, told),
+        (_, _) => Err(Fault::Differs("whether a reading ends on a bus that lies")),
     }
 }
 
@@ -138,13 +229,8 @@ fn spoil_for(dice: &mut Dice, count: u64) -> Spoil {
     }
 }
 
-fn liar<'a>(
-    alloc: Global,
-    chip: &Chip,
-    spoil: Spoil,
-    sent: &'a mut Vec<u8>,
-) -> Result<Liar<'a>, Fault> {
-    let mut bus = chip.bus(alloc)?;
-    bus.allow(u64::MAX);
-    Ok(TraceBus::new(SpoiltBus::new(bus, spoil), sent))
+// A bus to a chip that lies so, and never stops.
+fn liar(alloc: Global, chip: &Chip, spoil: Spoil) -> Result<SpoiltBus<SimBus>, Fault> {
+    let bus = chip.bus(alloc, u64::MAX, None)?;
+    Ok(SpoiltBus::new(bus, spoil))
 }

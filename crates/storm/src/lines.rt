@@ -7,10 +7,13 @@ use crate::pace::Pace;
 use std::alloc::Global;
 use std::fmt::Write;
 
-/// The transactions with a chip so far, and what of the chip its replies to the next ones show.
+/// The transactions with a chip so far, and what of the chip its replies to the next ones show. Where memory runs out
+/// for one of them, `whole` tells it.
 #[derive(Drop)]
 pub struct Lines {
     text: String,
+    // memory ran out for one
+    lost: bool,
     // the kept bits
     status: Status,
     pace: Pace,
@@ -21,8 +24,18 @@ impl Lines {
     pub fn new(alloc: Global, chip: &Chip) -> Lines {
         Lines {
             text: String::new(alloc),
+            lost: false,
             status: guards::kept(chip.status),
             pace: Pace::of(chip),
+        }
+    }
+
+    /// These, unless one is lost.
+    pub fn whole(self) -> Result<Lines, Fault> {
+        if self.lost {
+            Err(Fault::Memory)
+        } else {
+            Ok(self)
         }
     }
 
@@ -32,93 +45,90 @@ impl Lines {
     }
 
     /// A wait: polls until one shows BUSY clear.
-    pub fn wait(&mut self) -> Result<(), Fault> {
+    pub fn wait(&mut self) {
         for _ in 0..=self.pace.busy {
             let status1 = self.status[0] | self.pace.bits();
-            writeln!(self.text, "05 > {status1:02x}")?;
+            self.lost |= writeln!(self.text, "05 > {status1:02x}").is_err();
             self.pace = self.pace.behind("05");
         }
-        Ok(())
     }
 
     /// The ID.
-    pub fn read_id(&mut self, id: [u8; 3]) -> Result<(), Fault> {
+    pub fn read_id(&mut self, id: [u8; 3]) {
         let [maker, kind, size] = id;
-        writeln!(self.text, "9f > {maker:02x}{kind:02x}{size:02x}")?;
-        Ok(())
+        self.lost |= writeln!(self.text, "9f > {maker:02x}{kind:02x}{size:02x}").is_err();
     }
 
     /// So many SFDP bytes from an address on: three address bytes and a dummy byte, which is 00h.
-    pub fn read_parameters(&mut self, address: u32, count: u32) -> Result<(), Fault> {
-        writeln!(self.text, "5a{address:06x}00 > {count} bytes")?;
-        Ok(())
+    pub fn read_parameters(&mut self, address: u32, count: u32) {
+        self.lost |= writeln!(self.text, "5a{address:06x}00 > {count} bytes").is_err();
     }
 
     /// Status 2.
-    pub fn read_status2(&mut self) -> Result<(), Fault> {
+    pub fn read_status2(&mut self) {
         let status2 = self.status[1];
-        writeln!(self.text, "35 > {status2:02x}")?;
-        Ok(())
+        self.lost |= writeln!(self.text, "35 > {status2:02x}").is_err();
     }
 
     /// The unique ID: four dummy bytes, which are 00h, and eight that are read.
-    pub fn read_unique(&mut self) -> Result<(), Fault> {
-        writeln!(self.text, "4b00000000 > 8 bytes")?;
-        Ok(())
+    pub fn read_unique(&mut self) {
+        self.put("4b00000000 > 8 bytes\n");
     }
 
     /// A sector.
-    pub fn read_sector(&mut self, number: u32) -> Result<(), Fault> {
+    pub fn read_sector(&mut self, number: u32) {
         let address = number.saturating_mul(4096);
-        writeln!(self.text, "03{address:06x} > 4096 bytes")?;
-        Ok(())
+        self.lost |= writeln!(self.text, "03{address:06x} > 4096 bytes").is_err();
     }
 
     /// An operation that erases the unit at an address, by its opcode.
-    pub fn erase(&mut self, opcode: &str, address: u32) -> Result<(), Fault> {
-        self.enable()?;
-        writeln!(self.text, "{opcode}{address:06x}")?;
-        self.finish(opcode)
+    pub fn erase(&mut self, opcode: &str, address: u32) {
+        self.enable();
+        self.lost |= writeln!(self.text, "{opcode}{address:06x}").is_err();
+        self.finish(opcode);
     }
 
     /// An operation that erases the whole chip.
-    pub fn erase_chip(&mut self) -> Result<(), Fault> {
-        self.enable()?;
-        writeln!(self.text, "c7")?;
-        self.finish("c7")
+    pub fn erase_chip(&mut self) {
+        self.enable();
+        self.put("c7\n");
+        self.finish("c7");
     }
 
     /// An operation that programs bytes from an address on.
-    pub fn program(&mut self, address: u32, bytes: &[u8]) -> Result<(), Fault> {
-        self.enable()?;
-        write!(self.text, "02{address:06x}")?;
+    pub fn program(&mut self, address: u32, bytes: &[u8]) {
+        self.enable();
+        self.lost |= write!(self.text, "02{address:06x}").is_err();
         for byte in bytes {
-            write!(self.text, "{byte:02x}")?;
+            self.lost |= write!(self.text, "{byte:02x}").is_err();
         }
-        writeln!(self.text)?;
-        self.finish("02")
+        self.put("\n");
+        self.finish("02");
     }
 
     /// An operation that writes both status bytes.
-    pub fn write_status(&mut self, status: Status) -> Result<(), Fault> {
+    pub fn write_status(&mut self, status: Status) {
         let [status1, status2] = status;
-        self.enable()?;
-        writeln!(self.text, "01{status1:02x}{status2:02x}")?;
+        self.enable();
+        self.lost |= writeln!(self.text, "01{status1:02x}{status2:02x}").is_err();
         self.status = status;
-        self.finish("01")
+        self.finish("01");
+    }
+
+    fn put(&mut self, text: &str) {
+        self.lost |= self.text.push_str(text).is_err();
     }
 
     // Every operation begins with a write enable ..
-    fn enable(&mut self) -> Result<(), Fault> {
-        writeln!(self.text, "06")?;
+    fn enable(&mut self) {
+        self.put("06\n");
         self.pace = self.pace.behind("06");
-        Ok(())
     }
 
     // .. and ends with a wait.
-    fn finish(&mut self, opcode: &str) -> Result<(), Fault> {
+    fn finish(&mut self, opcode: &str) {
         self.pace = self.pace.behind(opcode);
-        self.wait()
+        self.wait();
     }
 }
 

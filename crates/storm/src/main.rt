@@ -33,8 +33,8 @@ mod wrongs;
 
 use fault::Fault;
 use runs::Halt;
-use std::env;
 use std::process::ExitCode;
+use std::{env, io};
 use words::Job;
 
 const USAGE: &str = "\
@@ -45,14 +45,21 @@ usage: storm SEED[-LAST] COUNT [FIRST]
 
 fn main(rt: HostRuntime) -> Result<ExitCode, Fault> {
     let words: Vec<String> = env::args(&rt)?.skip(1).collect(rt.alloc())?;
-    let Some(job) = Job::of(words.as_slice()) else {
-        rt.eprint(USAGE)?;
-        return Ok(ExitCode::FAILURE);
-    };
+    match Job::of(words.as_slice()) {
+        Some(job) => run_all(&rt, job),
+        None => {
+            rt.eprint(USAGE)?;
+            Ok(ExitCode::FAILURE)
+        }
+    }
+}
+
+// Runs the cases of each seed, once the comparisons are seen to tell what is wrong.
+fn run_all(rt: &HostRuntime, job: Job) -> Result<ExitCode, Fault> {
     wrongs::check(rt.alloc())?;
     let (mut passed, mut failed) = (0_u64, 0_u64);
     for seed in job.seeds.0..job.seeds.1.saturating_add(1) {
-        let (agreed, told) = run(&rt, job, seed)?;
+        let (agreed, told) = run(rt, job, seed)?;
         passed = passed.saturating_add(agreed);
         failed = failed.saturating_add(told);
     }
@@ -69,7 +76,7 @@ fn main(rt: HostRuntime) -> Result<ExitCode, Fault> {
 fn run(rt: &HostRuntime, job: Job, seed: u64) -> Result<(u64, u64), Fault> {
     let (tally, halt) = runs::run(rt.alloc(), job, seed);
     eprintln!(rt; "Seed {seed}. {tally}")?;
-    if let Some(halt) = halt {
+    if let Some(halt) = &halt {
         let agreed = halt.case.saturating_sub(job.first);
         tell(rt, seed, halt)?;
         return Ok((agreed, 1));
@@ -85,15 +92,18 @@ fn run(rt: &HostRuntime, job: Job, seed: u64) -> Result<(u64, u64), Fault> {
 }
 
 // Tells what ended a run, and how the case is run again alone.
-fn tell(rt: &HostRuntime, seed: u64, halt: Halt) -> Result<(), Fault> {
-    let Halt { case, fault } = halt;
+fn tell(rt: &HostRuntime, seed: u64, halt: &Halt) -> io::Result<()> {
+    let case = halt.case;
+    tell_fault(rt, seed, case, &halt.fault)?;
+    println!(rt; "Run it again with: storm {seed} 1 {case}")
+}
+
+fn tell_fault(rt: &HostRuntime, seed: u64, case: u64, fault: &Fault) -> io::Result<()> {
     match fault {
-        Fault::Differs(what) => println!(rt; "Seed {seed}, case {case} differs: {what}.")?,
+        Fault::Differs(what) => println!(rt; "Seed {seed}, case {case} differs: {what}."),
         Fault::Sends(call, number) => {
-            println!(rt; "Seed {seed}, case {case} differs: transaction {number} of {call}.")?
+            println!(rt; "Seed {seed}, case {case} differs: transaction {number} of {call}.")
         }
-        fault => println!(rt; "Seed {seed}, case {case} can't be run: {fault:?}.")?,
+        fault => println!(rt; "Seed {seed}, case {case} can't be run: {fault:?}."),
     }
-    println!(rt; "Run it again with: storm {seed} 1 {case}")?;
-    Ok(())
 }

@@ -3,7 +3,7 @@
 use crate::chips::Chip;
 
 /// BUSY and the latch of a chip at a moment.
-#[derive(Clone, Copy, Debug, PartialEq, Eq)]
+#[derive(Clone, Copy)]
 pub struct Pace {
     /// The polls that will still reply BUSY.
     pub busy: u16,

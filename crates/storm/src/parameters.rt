@@ -7,7 +7,7 @@ use nor_probe::SfdpFault;
 pub type Shown = [u8; 256];
 
 /// The size and the erases beside that of a sector that SFDP bytes tell.
-#[derive(Clone, Copy, Debug, PartialEq, Eq)]
+#[derive(Clone, Copy)]
 pub struct Told {
     pub size: u32,
     pub k32: bool,

@@ -2,11 +2,11 @@
 
 use crate::cases::Case;
 use crate::dice::Dice;
-use crate::fault::{Fault, agree};
+use crate::fault::{Fault, agree, agree_all};
 use crate::lines::{self, Lines};
 use crate::pace::Pace;
 use crate::{checks, guards, lengths, lies, traces, transactions, verdicts};
-use nor_chip::{Bus, Meter, SimBus, TraceBus};
+use nor_chip::{Bus, SimBus, TraceBus};
 use nor_journal::{BrokenVault, MemVault};
 use nor_probe::probe;
 use nor_read::{Protection, read_out, verify, wp_status};
@@ -14,7 +14,7 @@ use nor_session::{Refusal, Report};
 use std::alloc::Global;
 
 /// The calls that read alone.
-#[derive(Clone, Copy, Debug, PartialEq, Eq)]
+#[derive(Clone, Copy)]
 pub enum Reading {
     Probe,
     Protection,
@@ -31,11 +31,12 @@ pub enum Told {
     Comparison(Report),
 }
 
-/// A reading, and what it sent.
+// What a reading came to.
 #[derive(Drop)]
 struct Ran {
     answer: Result<Told, Refusal>,
     bus: SimBus,
+    // the trace, a line for each transaction
     sent: Vec<u8>,
 }
 
@@ -47,11 +48,7 @@ pub fn check(alloc: Global, dice: &mut Dice, case: &Case) -> Result<(), Fault> {
         Reading::Copy,
         Reading::Comparison,
     ] {
-        let whole = reading.lines(alloc, case)?;
-        let enough = lines::count(whole.text());
-        reading.check_under(alloc, case, whole.text(), u64::MAX)?;
-        reading.check_under(alloc, case, whole.text(), dice.up_to(enough))?;
-        lies::check_reading(alloc, dice, case, reading, enough)?;
+        reading.check(alloc, dice, case)?;
     }
     check_refused_copy(alloc, dice, case)
 }
@@ -96,6 +93,24 @@ impl Reading {
         }
     }
 
+    fn check(self, alloc: Global, dice: &mut Dice, case: &Case) -> Result<(), Fault> {
+        let whole = self.lines(alloc, case)?;
+        self.check_lines(alloc, dice, case, whole.text())
+    }
+
+    fn check_lines(
+        self,
+        alloc: Global,
+        dice: &mut Dice,
+        case: &Case,
+        whole: &str,
+    ) -> Result<(), Fault> {
+        let enough = lines::count(whole);
+        self.check_under(alloc, case, whole, u64::MAX)?;
+        self.check_under(alloc, case, whole, dice.up_to(enough))?;
+        lies::check_reading(alloc, dice, case, self, enough)
+    }
+
     // It comes to its end or its refusal where it may send all of these lines, and else it sends the first of them.
     // Either way the chip is as it was.
     fn check_under(
@@ -105,42 +120,24 @@ impl Reading {
         whole: &str,
         allowed: u64,
     ) -> Result<(), Fault> {
-        let Ran { answer, bus, sent } = self.run(alloc, case, allowed)?;
-        let first = lines::first(whole, allowed);
-        agree(
-            checks::is_same(&bus, &case.chip),
-            "the chip after it was read",
-        )?;
-        let pace = Pace::of(&case.chip).behind_lines(first);
-        agree(
-            bus.status()[0] & 0b0000_0011 == pace.bits(),
-            "BUSY and the latch after a reading",
-        )?;
         let refusal = if allowed < lines::count(whole) {
             Some(Refusal::Stopped)
         } else {
             self.refusal(case)
         };
-        match answer {
-            Ok(told) => {
-                agree(refusal.is_none(), "a reading that is to be refused")?;
-                check_told(alloc, case, told)?;
-            }
-            Err(other) => agree(refusal == Some(other), "the refusal of a reading")?,
-        }
-        traces::check_lines(traces::text(sent.as_slice())?, first, "a reading")
+        let bus = case.chip.bus(alloc, allowed, None)?;
+        let ran = self.run(alloc, case, bus)?;
+        check_ran(alloc, case, refusal, lines::first(whole, allowed), &ran)
     }
 
-    fn run(self, alloc: Global, case: &Case, allowed: u64) -> Result<Ran, Fault> {
+    fn run(self, alloc: Global, case: &Case, bus: SimBus) -> Result<Ran, Fault> {
         let mut sent = Vec::new(alloc);
-        let mut bus = TraceBus::new(case.chip.bus(alloc)?, &mut sent);
-        bus.allow(allowed);
+        let mut bus = TraceBus::new(bus, &mut sent);
         let answer = self.call(alloc, case, &mut bus);
-        if bus.lost() {
-            return Err(Fault::Memory);
-        }
+        let lost = bus.lost();
         let bus = bus.into_inner();
-        Ok(Ran { answer, bus, sent })
+        let ran = Ran { answer, bus, sent };
+        if lost { Err(Fault::Memory) } else { Ok(ran) }
     }
 
     /// Makes the call.
@@ -166,6 +163,31 @@ impl Reading {
     }
 }
 
+// A reading under a stop, which is to be refused so, and to send these lines.
+fn check_ran(
+    alloc: Global,
+    case: &Case,
+    refusal: Option<Refusal>,
+    first: &str,
+    ran: &Ran,
+) -> Result<(), Fault> {
+    let pace = Pace::of(&case.chip).behind_lines(first);
+    let shown = ran.bus.status()[0] & 0b0000_0011;
+    let same = checks::is_same(&ran.bus, &case.chip);
+    agree_all(&[
+        (same, "the chip after it was read"),
+        (shown == pace.bits(), "BUSY and the latch after a reading"),
+    ])?;
+    match &ran.answer {
+        Ok(told) => {
+            agree(refusal.is_none(), "a reading that is to be refused")?;
+            check_told(alloc, case, told)?;
+        }
+        Err(other) => agree(refusal == Some(*other), "the refusal of a reading")?,
+    }
+    traces::check_trace(ran.sent.as_slice(), first, "a reading")
+}
+
 // The least included address at which chip and image differ.
 fn first_difference(case: &Case) -> Option<Refusal> {
     let bytes = case.chip.bytes.iter().zip(case.image.iter());
@@ -178,29 +200,30 @@ fn first_difference(case: &Case) -> Option<Refusal> {
 }
 
 /// A reading on a bus that lies told what is known of the chip.
-pub fn check_known(alloc: Global, known: &Case, told: Told) -> Result<(), Fault> {
+pub fn check_known(alloc: Global, known: &Case, told: &Told) -> Result<(), Fault> {
     match told {
         Told::Found | Told::Comparison(_) => Ok(()),
-        Told::Protection(protection) => check_protection(known, protection),
-        Told::Copy(_, out) => {
-            let copy = copy_of(alloc, known)?;
-            agree(out.bytes() == copy.as_slice(), "the copy of what is known")
+        Told::Protection(protection) => check_protection(known, *protection),
+        Told::Copy(_, out) => check_copy(alloc, known, out, "the copy of what is known"),
+    }
+}
+
+fn check_told(alloc: Global, case: &Case, told: &Told) -> Result<(), Fault> {
+    match told {
+        Told::Found => Ok(()),
+        Told::Protection(protection) => check_protection(case, *protection),
+        Told::Comparison(report) => check_report(case, report),
+        Told::Copy(report, out) => {
+            check_report(case, report)?;
+            agree(!out.is_sealed(), "the copy isn't sealed")?;
+            check_copy(alloc, case, out, "the copy")
         }
     }
 }
 
-fn check_told(alloc: Global, case: &Case, told: Told) -> Result<(), Fault> {
-    match told {
-        Told::Found => Ok(()),
-        Told::Protection(protection) => check_protection(case, protection),
-        Told::Comparison(report) => check_report(case, &report),
-        Told::Copy(report, out) => {
-            check_report(case, &report)?;
-            agree(!out.is_sealed(), "the copy isn't sealed")?;
-            let copy = copy_of(alloc, case)?;
-            agree(out.bytes() == copy.as_slice(), "the copy")
-        }
-    }
+fn check_copy(alloc: Global, case: &Case, out: &MemVault, what: &'static str) -> Result<(), Fault> {
+    let copy = copy_of(alloc, case)?;
+    agree(out.bytes() == copy.as_slice(), what)
 }
 
 // The included bytes, and FFh for the others.
@@ -226,53 +249,73 @@ fn check_protection(case: &Case, told: Protection) -> Result<(), Fault> {
     } else {
         Some(places)
     };
-    agree(told.range == range, "the protected range")?;
-    let locked = guards::is_locked(case.chip.status);
-    agree(
-        told.locked == locked && told.size == size,
-        "the lock of the status",
-    )
+    let locked = told.locked == guards::is_locked(case.chip.status);
+    agree_all(&[
+        (told.range == range, "the protected range"),
+        (locked && told.size == size, "the lock of the status"),
+    ])
 }
 
 // A reading touches nothing, and reads each sector that holds an included address.
 fn check_report(case: &Case, report: &Report) -> Result<(), Fault> {
     checks::check_found(&case.chip, &report.found)?;
     let idle = report.touched == 0 && report.erases == 0 && report.programs == 0;
-    agree(idle, "the work of a reading")?;
     let sent = lengths::probe(&case.chip).saturating_add(lengths::included_sectors(case));
-    agree(report.transactions == sent, "the transactions of a reading")
+    agree_all(&[
+        (idle, "the work of a reading"),
+        (report.transactions == sent, "the transactions of a reading"),
+    ])
 }
 
-// A copy into a vault that refuses one of its calls tells how many bytes went in, which are the first of the copy.
-// No sector is read behind the one that holds the next.
+// What a copy into a vault that refuses one of its calls came to.
+#[derive(Drop)]
+struct Copied {
+    answer: Result<Report, Refusal>,
+    out: BrokenVault<MemVault>,
+    // the trace, a line for each transaction
+    sent: Vec<u8>,
+}
+
+// A copy into a vault that refuses one of its calls tells how many bytes went in.
 fn check_refused_copy(alloc: Global, dice: &mut Dice, case: &Case) -> Result<(), Fault> {
-    let mut sent = Vec::new(alloc);
-    let mut bus = TraceBus::new(case.chip.bus(alloc)?, &mut sent);
-    bus.allow(u64::MAX);
     let nth = u64::from(dice.below(case.chip.sectors())).saturating_add(1);
     let kept = dice.pick(0, &[1, 4095]);
+    let bus = case.chip.bus(alloc, u64::MAX, None)?;
+    let copied = copy_out(alloc, case, bus, (nth, kept));
+    if let Err(Refusal::Output { written }) = copied.answer {
+        return check_part(alloc, case, written, &copied);
+    }
+    let refusal = Reading::Copy.refusal(case);
+    agree(
+        refusal.is_some() && copied.answer.err() == refusal,
+        "the refusal of a copy",
+    )
+}
+
+// The call of the vault that is refused, and how many of its bytes are kept, are given.
+fn copy_out(alloc: Global, case: &Case, bus: SimBus, (nth, kept): (u64, usize)) -> Copied {
+    let mut sent = Vec::new(alloc);
+    let mut bus = TraceBus::new(bus, &mut sent);
     let mut out = BrokenVault::new(MemVault::new(alloc), nth, kept);
     let request = &case.request;
     let answer = read_out(&mut bus, request.included.as_ref(), request.named, &mut out);
     drop(bus);
-    let Err(Refusal::Output { written }) = answer else {
-        let refusal = Reading::Copy.refusal(case);
-        return agree(
-            refusal.is_some() && answer.err() == refusal,
-            "the refusal of a copy",
-        );
-    };
+    Copied { answer, out, sent }
+}
+
+// The bytes that went in are the first of the copy. No sector is read behind the one that holds the next.
+fn check_part(alloc: Global, case: &Case, written: u64, copied: &Copied) -> Result<(), Fault> {
+    check_first(alloc, case, written, copied.out.inner().bytes())?;
+    let below = u32::try_from(written / 4096).unwrap_or(u32::MAX);
+    let lines = transactions::reading(alloc, case, below.saturating_add(1))?;
+    traces::check_trace(copied.sent.as_slice(), lines.text(), "a refused copy")
+}
+
+fn check_first(alloc: Global, case: &Case, written: u64, out: &[u8]) -> Result<(), Fault> {
     let copy = copy_of(alloc, case)?;
     let went_in = usize::try_from(written).unwrap_or(usize::MAX);
     agree(
-        Some(out.inner().bytes()) == copy.as_slice().get(..went_in),
+        Some(out) == copy.as_slice().get(..went_in),
         "the bytes of a refused copy",
-    )?;
-    let below = u32::try_from(written / 4096).unwrap_or(u32::MAX);
-    let lines = transactions::reading(alloc, case, below.saturating_add(1))?;
-    traces::check_lines(
-        traces::text(sent.as_slice())?,
-        lines.text(),
-        "a refused copy",
     )
 }

@@ -1,86 +1,157 @@
 //! Rehearsals of sessions that are accepted.
 
+use crate::cases::Case;
 use crate::dice::Dice;
-use crate::fault::{Fault, agree};
-use crate::left::{self, Accepted};
+use crate::fault::{Fault, agree, agree_all};
+use crate::left::{self, Accepted, Left};
 use crate::{checks, lengths, stops, traces};
-use nor_chip::TraceBus;
+use nor_chip::{SimBus, TraceBus};
 use nor_journal::{Journal, MemVault};
-use nor_session::rehearse;
+use nor_session::{Refusal, Rehearsal, Request, rehearse};
 use std::alloc::Global;
+
+// Under what a session is rehearsed.
+#[derive(Clone, Copy)]
+struct Plan {
+    // the session's stop, and those of the restores
+    stops: [u64; 3],
+    // where a stop loses the power
+    fill: Option<u8>,
+}
+
+// What a rehearsal came to.
+#[derive(Drop)]
+struct Ran {
+    answer: Result<Rehearsal, Refusal>,
+    bus: SimBus,
+    vault: MemVault,
+    // the trace, a line for each transaction
+    sent: Vec<u8>,
+}
 
 /// Rehearses an accepted session under three stops, the first of which is the session's.
 pub fn check(alloc: Global, dice: &mut Dice, accepted: Accepted<'_>) -> Result<(), Fault> {
-    let Accepted {
-        case,
-        wanted,
-        lines: _,
-    } = accepted;
-    let whole = lengths::session(case, wanted.work(&case.chip));
-    let first = stops::stop_for(dice, case, wanted);
+    let plan = plan_for(dice, accepted);
+    let ran = run(alloc, accepted.case, plan)?;
+    check_ran(alloc, accepted, plan, &ran)
+}
+
+fn plan_for(dice: &mut Dice, accepted: Accepted<'_>) -> Plan {
+    let whole = whole_of(accepted);
     let stops = [
-        first,
+        stops::stop_for(dice, accepted.case, accepted.wanted),
         stops::stop_of_restore(dice, whole),
         stops::stop_of_restore(dice, whole),
     ];
-    let mut bus = case.chip.bus(alloc)?;
-    let fill = stops::fill_for(dice, case);
-    bus.lose(fill);
+    let fill = stops::fill_for(dice, accepted.case);
+    Plan { stops, fill }
+}
+
+// How many transactions the session sends that nothing stops.
+fn whole_of(accepted: Accepted<'_>) -> u64 {
+    let case = accepted.case;
+    lengths::session(case, accepted.wanted.work(&case.chip))
+}
+
+fn run(alloc: Global, case: &Case, plan: Plan) -> Result<Ran, Fault> {
+    let mut image = case.image.to_vec(alloc)?;
+    // A rehearsal allows as many transactions as it needs.
+    let bus = case.chip.bus(alloc, 0, plan.fill)?;
+    run_on(alloc, bus, image.as_mut_slice(), &case.request, plan.stops)
+}
+
+fn run_on(
+    alloc: Global,
+    bus: SimBus,
+    image: &mut [u8],
+    request: &Request,
+    stops: [u64; 3],
+) -> Result<Ran, Fault> {
     let mut sent = Vec::new(alloc);
     let mut traced = TraceBus::new(bus, &mut sent);
     let mut vault = MemVault::new(alloc);
-    let mut image = case.image.to_vec(alloc)?;
-    let image = image.as_mut_slice();
-    let answer = rehearse(&mut traced, &mut vault, image, &case.request, &stops);
-    if traced.lost() {
-        return Err(Fault::Memory);
-    }
+    let answer = rehearse(&mut traced, &mut vault, image, request, &stops);
+    let lost = traced.lost();
     let bus = traced.into_inner();
-    let Ok(rehearsal) = answer else {
+    let ran = Ran {
+        answer,
+        bus,
+        vault,
+        sent,
+    };
+    if lost { Err(Fault::Memory) } else { Ok(ran) }
+}
+
+fn check_ran(alloc: Global, accepted: Accepted<'_>, plan: Plan, ran: &Ran) -> Result<(), Fault> {
+    let Ok(rehearsal) = ran.answer else {
         return Err(Fault::Differs("an accepted rehearsal ends"));
     };
-    agree(
-        checks::is_same(&bus, &case.chip),
-        "the chip after a rehearsal",
-    )?;
-    agree(
-        rehearsal.ended == (first >= whole),
-        "whether a rehearsed session ended",
-    )?;
-    let sealed = first >= lengths::saving(case);
-    agree(
-        rehearsal.sealed == sealed,
-        "whether a rehearsed session sealed",
-    )?;
-    agree(vault.is_sealed() == sealed, "the vault of a rehearsal")?;
-    let (restores, lines) = run_restores(alloc, accepted, stops, fill)?;
-    agree(
-        rehearsal.restores == restores,
-        "the restores of a rehearsal",
-    )?;
-    let sent = traces::text(sent.as_slice())?;
-    traces::check_lines(sent, traces::text(lines.as_slice())?, "a rehearsal")
+    let [first, _, _] = plan.stops;
+    let ended = first >= whole_of(accepted);
+    let sealed = first >= lengths::saving(accepted.case);
+    let same = checks::is_same(&ran.bus, &accepted.case.chip);
+    agree_all(&[
+        (same, "the chip after a rehearsal"),
+        (
+            rehearsal.ended == ended,
+            "whether a rehearsed session ended",
+        ),
+        (
+            rehearsal.sealed == sealed,
+            "whether a rehearsed session sealed",
+        ),
+        (ran.vault.is_sealed() == sealed, "the vault of a rehearsal"),
+    ])?;
+    check_restores(alloc, accepted, plan, rehearsal.restores, &ran.sent)
+}
+
+// Session and restores that are called one by one are as many, and send the same.
+fn check_restores(
+    alloc: Global,
+    accepted: Accepted<'_>,
+    plan: Plan,
+    restores: u32,
+    sent: &[u8],
+) -> Result<(), Fault> {
+    let mut lines = Vec::new(alloc);
+    let count = run_each(alloc, accepted, plan, &mut lines)?;
+    agree(restores == count, "the restores of a rehearsal")?;
+    traces::check_trace(sent, traces::text(lines.as_slice())?, "a rehearsal")
 }
 
 // How many restores are run where session and restores are called one by one, and what they all send.
-fn run_restores(
+fn run_each(
     alloc: Global,
     accepted: Accepted<'_>,
-    stops: [u64; 3],
-    fill: Option<u8>,
-) -> Result<(u32, Vec<u8>), Fault> {
-    let [first, second, third] = stops;
-    let (mut left, vault, mut sent) = left::run(alloc, accepted, first, fill)?;
-    if !vault.is_sealed() {
-        return Ok((0, sent));
+    plan: Plan,
+    sent: &mut Vec<u8>,
+) -> Result<u32, Fault> {
+    let [first, second, third] = plan.stops;
+    let (left, vault) = left::run(alloc, accepted, first, plan.fill)?;
+    sent.extend_from_slice(left.sent.as_slice())?;
+    if vault.is_sealed() {
+        let stops = [second, third, u64::MAX];
+        restore_each(alloc, accepted, vault.bytes(), left, stops, sent)
+    } else {
+        Ok(0)
     }
-    let journal = Journal::read(vault.bytes())?;
-    for (count, stop) in (1_u32..).zip([second, third, u64::MAX]) {
-        let lines;
-        (left, lines) = left::restore(alloc, accepted, &journal, left, stop)?;
-        sent.extend_from_slice(lines.as_slice())?;
+}
+
+fn restore_each(
+    alloc: Global,
+    accepted: Accepted<'_>,
+    journal: &[u8],
+    left: Left,
+    stops: [u64; 3],
+    sent: &mut Vec<u8>,
+) -> Result<u32, Fault> {
+    let journal = Journal::read(journal)?;
+    let mut left = left;
+    for (count, stop) in (1_u32..).zip(stops) {
+        left = left::restore(alloc, accepted, &journal, left, stop)?;
+        sent.extend_from_slice(left.sent.as_slice())?;
         if left.ended {
-            return Ok((count, sent));
+            return Ok(count);
         }
     }
     Err(Fault::Differs("a restore that nothing stops"))

@@ -5,9 +5,10 @@ use crate::checks::{self, Ran};
 use crate::chips::{self, Chip};
 use crate::dice::Dice;
 use crate::fault::{Fault, agree};
+use crate::lines::{self, Lines};
 use crate::verdicts::{self, Saved};
-use crate::wanted::Wanted;
-use crate::{contents, guards, lengths, lies, lines, traces, transactions};
+use crate::wanted::{Wanted, touched_in};
+use crate::{contents, guards, lengths, lies, traces, transactions};
 use nor_chip::{Meter, SimBus, TraceBus};
 use nor_journal::Journal;
 use nor_session::{Refusal, Report, restore};
@@ -33,11 +34,24 @@ pub fn run(
     let mut traced = TraceBus::new(bus, &mut sent);
     traced.allow(allowed);
     let answer = restore(&mut traced, journal);
-    if traced.lost() {
-        return Err(Fault::Memory);
-    }
+    let lost = traced.lost();
     let bus = traced.into_inner();
-    Ok(Restored { answer, bus, sent })
+    let restored = Restored { answer, bus, sent };
+    if lost {
+        Err(Fault::Memory)
+    } else {
+        Ok(restored)
+    }
+}
+
+// A restore of a chip that nothing stops: what it restores from, and what the plain code says of it.
+#[derive(Clone, Copy)]
+struct Whole<'a> {
+    chip: &'a Chip,
+    journal: &'a Journal<'a>,
+    saved: Saved<'a>,
+    wanted: &'a Wanted,
+    refusal: Option<Refusal>,
 }
 
 /// Restores from the journal of a session that ended, on some chip. Answers what it was refused with.
@@ -48,71 +62,102 @@ pub fn check(
     wanted: &Wanted,
     ran: &Ran,
 ) -> Result<Option<Refusal>, Fault> {
-    let chip = other_chip(alloc, dice, &case.chip)?;
     let saved = Saved {
         chip: &case.chip,
         sectors: wanted.sectors.as_slice(),
     };
-    let restored = restored_of(alloc, &chip, saved)?;
-    let refusal = verdicts::of_restore(&chip, saved, &restored);
+    let chip = other_chip(alloc, dice, &case.chip)?;
+    let wanted = restored_of(alloc, &chip, saved)?;
     let journal = Journal::read(ran.vault.bytes())?;
-    let lines = match refusal {
-        Some(refusal) => transactions::refused_restore(alloc, &chip, saved.sectors, refusal)?,
-        None => transactions::restore(alloc, &chip, saved.sectors, &restored)?,
+    let whole = Whole {
+        chip: &chip,
+        journal: &journal,
+        saved,
+        wanted: &wanted,
+        refusal: verdicts::of_restore(&chip, saved, &wanted),
     };
-    let other = run(alloc, chip.bus(alloc)?, &journal, u64::MAX)?;
-    match refusal {
+    check_whole(alloc, dice, whole)
+}
+
+fn check_whole(alloc: Global, dice: &mut Dice, whole: Whole<'_>) -> Result<Option<Refusal>, Fault> {
+    let lines = lines_of(alloc, whole)?;
+    check_lines(alloc, dice, whole, lines.text())?;
+    Ok(whole.refusal)
+}
+
+// What it sends.
+fn lines_of(alloc: Global, whole: Whole<'_>) -> Result<Lines, Fault> {
+    let sectors = whole.saved.sectors;
+    match whole.refusal {
+        Some(refusal) => transactions::refused_restore(alloc, whole.chip, sectors, refusal),
+        None => transactions::restore(alloc, whole.chip, sectors, whole.wanted),
+    }
+}
+
+// It sends these lines, the first of them under a stop, and on a bus that lies what plain code sends there.
+fn check_lines(alloc: Global, dice: &mut Dice, whole: Whole<'_>, lines: &str) -> Result<(), Fault> {
+    check_unstopped(alloc, whole, lines)?;
+    check_stopped(alloc, dice, whole, lines)?;
+    let from = (whole.journal, whole.saved);
+    lies::check_restore(alloc, dice, whole.chip, from, lines::count(lines))
+}
+
+fn check_unstopped(alloc: Global, whole: Whole<'_>, lines: &str) -> Result<(), Fault> {
+    let bus = whole.chip.bus(alloc, u64::MAX, None)?;
+    let ran = run(alloc, bus, whole.journal, u64::MAX)?;
+    check_ran(whole, lines, &ran)
+}
+
+fn check_ran(whole: Whole<'_>, lines: &str, ran: &Restored) -> Result<(), Fault> {
+    match whole.refusal {
         Some(refusal) => {
-            agree(other.answer == Err(refusal), "the refusal of a restore")?;
+            agree(ran.answer == Err(refusal), "the refusal of a restore")?;
             agree(
-                checks::is_same(&other.bus, &chip),
+                checks::is_same(&ran.bus, whole.chip),
                 "the chip after a refused restore",
             )?;
         }
-        None => {
-            let Ok(report) = other.answer else {
-                return Err(Fault::Differs("an accepted restore ends"));
-            };
-            let work = restored.work(&chip);
-            checks::check_report(&chip, work, &report)?;
-            let sent = lengths::restore(&chip, wanted.work(&case.chip).touched, work);
-            agree(report.transactions == sent, "the transactions of a restore")?;
-            checks::check_wanted(&restored, &other.bus)?;
-        }
+        None => check_ended(whole, ran)?,
     }
-    let sent = traces::text(other.sent.as_slice())?;
-    traces::check_lines(sent, lines.text(), "a restore")?;
-    let lines = lines.text();
-    check_stopped(alloc, dice, &chip, &journal, (refusal, lines))?;
-    let count = lines::count(lines);
-    lies::check_restore(alloc, dice, &chip, (&journal, saved), count)?;
-    Ok(refusal)
+    traces::check_trace(ran.sent.as_slice(), lines, "a restore")
 }
 
-// Stops a restore on a chip. It ends, or is refused so, only where it could send all of these lines, and else it sent
-// the first of them.
+fn check_ended(whole: Whole<'_>, ran: &Restored) -> Result<(), Fault> {
+    let Ok(report) = ran.answer else {
+        return Err(Fault::Differs("an accepted restore ends"));
+    };
+    let work = whole.wanted.work(whole.chip);
+    checks::check_report(whole.chip, work, &report)?;
+    let sent = lengths::restore(whole.chip, touched_in(whole.saved.sectors), work);
+    agree(report.transactions == sent, "the transactions of a restore")?;
+    checks::check_wanted(whole.wanted, &ran.bus)
+}
+
+// Stops it. It ends, or is refused so, only where it could send all of these lines, and else it sent the first of
+// them.
 fn check_stopped(
     alloc: Global,
     dice: &mut Dice,
-    chip: &Chip,
-    journal: &Journal<'_>,
-    whole: (Option<Refusal>, &str),
+    whole: Whole<'_>,
+    lines: &str,
 ) -> Result<(), Fault> {
-    let (refusal, lines) = whole;
-    let enough = lines::count(lines);
-    let stop = dice.up_to(enough);
-    let ran = run(alloc, chip.bus(alloc)?, journal, stop)?;
-    let wanted = if stop < enough {
+    let stop = dice.up_to(lines::count(lines));
+    let bus = whole.chip.bus(alloc, stop, None)?;
+    let ran = run(alloc, bus, whole.journal, stop)?;
+    let wanted = if stop < lines::count(lines) {
         Some(Refusal::Stopped)
     } else {
-        refusal
+        whole.refusal
     };
+    check_stop(wanted, lines::first(lines, stop), &ran)
+}
+
+fn check_stop(wanted: Option<Refusal>, lines: &str, ran: &Restored) -> Result<(), Fault> {
     agree(
         ran.answer.err() == wanted,
         "what a restore under a stop is refused with",
     )?;
-    let sent = traces::text(ran.sent.as_slice())?;
-    traces::check_lines(sent, lines::first(lines, stop), "a restore under a stop")
+    traces::check_trace(ran.sent.as_slice(), lines, "a restore under a stop")
 }
 
 // The chip of the journal with other bytes, and now and then with another status, number or kind.
@@ -136,14 +181,18 @@ fn other_chip(alloc: Global, dice: &mut Dice, chip: &Chip) -> Result<Chip, Fault
 /// What a restore wants of a chip: the saved sectors as they were, and the protection code.
 pub fn restored_of(alloc: Global, chip: &Chip, saved: Saved<'_>) -> Result<Wanted, Fault> {
     let mut bytes = chip.bytes.to_vec(alloc)?;
-    let old = saved.chip.bytes.chunks(4096);
-    for (now, (sector, old)) in bytes.chunks_mut(4096).zip(saved.sectors.iter().zip(old)) {
+    take_saved(bytes.as_mut_slice(), saved);
+    let code = guards::code_of(saved.chip.status);
+    Wanted::new(alloc, chip, bytes, guards::with_code(chip.status, code))
+}
+
+fn take_saved(bytes: &mut [u8], saved: Saved<'_>) {
+    let old = saved.sectors.iter().zip(saved.chip.bytes.chunks(4096));
+    for (now, (sector, old)) in bytes.chunks_mut(4096).zip(old) {
         if sector.touched {
             take_over(now, old);
         }
     }
-    let code = guards::code_of(saved.chip.status);
-    Wanted::new(alloc, chip, bytes, guards::with_code(chip.status, code))
 }
 
 fn take_over(now: &mut [u8], old: &[u8]) {

@@ -1,6 +1,7 @@
 //! Runs of cases, one after the other.
 
 use crate::cases::Case;
+use crate::checks::{self, Ran};
 use crate::dice::Dice;
 use crate::fault::{Fault, agree};
 use crate::left::Accepted;
@@ -8,13 +9,13 @@ use crate::tally::Tally;
 use crate::wanted::Wanted;
 use crate::words::Job;
 use crate::{
-    checks, damages, journals, lies, lines, readings, rehearsals, restores, stops, transactions,
-    verdicts,
+    damages, journals, lies, lines, readings, rehearsals, restores, stops, transactions, verdicts,
 };
+use nor_session::Refusal;
 use std::alloc::Global;
 
 /// A case that ended a run, by its number.
-#[derive(Debug, Drop)]
+#[derive(Drop)]
 pub struct Halt {
     pub case: u64,
     pub fault: Fault,
@@ -31,51 +32,117 @@ pub fn run(alloc: Global, job: Job, seed: u64) -> (Tally, Option<Halt>) {
     (tally, None)
 }
 
-// Runs a session as the plain code wants it. An accepted one is stopped and given back too; some journals are damaged,
-// and restored on other chips, and some chips are read.
+// Runs a session as the plain code wants it, and now and then readings of its chip. Readings, and a session on a bus
+// that lies, have numbers of their own, so that the rest of the case stays what it is.
 fn run_case(alloc: Global, seed: u64, number: u64, tally: &mut Tally) -> Result<(), Fault> {
     let mut dice = Dice::new(seed, number);
     let case = Case::next(alloc, &mut dice)?;
     if dice.hits(1, 8) {
-        // Numbers of their own, so that the rest of the case stays what it is.
         readings::check(alloc, &mut Dice::new(!seed, number), &case)?;
         tally.count_reading();
     }
-    let ran = checks::run(alloc, &case, u64::MAX, None)?;
-    let mut other = Dice::new(seed, !number);
+    check_case(
+        alloc,
+        &mut dice,
+        &mut Dice::new(seed, !number),
+        &case,
+        tally,
+    )
+}
+
+fn check_case(
+    alloc: Global,
+    dice: &mut Dice,
+    other: &mut Dice,
+    case: &Case,
+    tally: &mut Tally,
+) -> Result<(), Fault> {
+    let ran = checks::run(alloc, case, u64::MAX, None)?;
     if other.hits(1, 4) {
-        lies::check_session(alloc, &mut other, &case, lines::count(ran.lines()?))?;
+        lies::check_session(alloc, other, case, lines::count(ran.lines()?))?;
         tally.count_lie();
     }
-    if let Some(refusal) = verdicts::of_opening(&case) {
+    check_session(alloc, dice, case, &ran, tally)
+}
+
+// A session is refused by its opening, or behind its scan, or accepted.
+fn check_session(
+    alloc: Global,
+    dice: &mut Dice,
+    case: &Case,
+    ran: &Ran,
+    tally: &mut Tally,
+) -> Result<(), Fault> {
+    if let Some(refusal) = verdicts::of_opening(case) {
         tally.count_session(Some(refusal));
-        checks::check_refused(alloc, &case, refusal, &ran)?;
+        checks::check_refused(alloc, case, refusal, ran)?;
         agree(ran.vault.bytes().is_empty(), "a vault that is not used")?;
-        return stops::check_refused(alloc, &mut dice, &case, refusal);
+        return stops::check_refused(alloc, dice, case, refusal);
     }
-    let wanted = Wanted::of_case(alloc, &case)?;
-    if let Some(refusal) = verdicts::of_changes(&case, &wanted) {
-        tally.count_session(Some(refusal));
-        checks::check_refused(alloc, &case, refusal, &ran)?;
-        journals::check_refused(alloc, &case, &wanted, ran.vault.bytes())?;
-        return stops::check_refused(alloc, &mut dice, &case, refusal);
+    let wanted = Wanted::of_case(alloc, case)?;
+    match verdicts::of_changes(case, &wanted) {
+        Some(refusal) => {
+            tally.count_session(Some(refusal));
+            check_late(alloc, dice, case, (&wanted, refusal), ran)
+        }
+        None => check_accepted(alloc, dice, case, &wanted, ran, tally),
     }
-    let whole = transactions::session(alloc, &case, &wanted)?;
-    checks::check_ended(&case, &wanted, whole.text(), &ran)?;
-    tally.count_session(None);
+}
+
+// A session that is refused behind its scan.
+fn check_late(
+    alloc: Global,
+    dice: &mut Dice,
+    case: &Case,
+    (wanted, refusal): (&Wanted, Refusal),
+    ran: &Ran,
+) -> Result<(), Fault> {
+    checks::check_refused(alloc, case, refusal, ran)?;
+    journals::check_refused(alloc, case, wanted, ran.vault.bytes())?;
+    stops::check_refused(alloc, dice, case, refusal)
+}
+
+fn check_accepted(
+    alloc: Global,
+    dice: &mut Dice,
+    case: &Case,
+    wanted: &Wanted,
+    ran: &Ran,
+    tally: &mut Tally,
+) -> Result<(), Fault> {
+    let whole = transactions::session(alloc, case, wanted)?;
     let accepted = Accepted {
-        case: &case,
-        wanted: &wanted,
+        case,
+        wanted,
         lines: whole.text(),
     };
-    stops::check(alloc, &mut dice, accepted)?;
+    go_on(alloc, dice, accepted, ran, tally)
+}
+
+// An accepted session did what it should. It is stopped and given back too, and now and then rehearsed; some journals
+// are damaged, and restored on other chips.
+fn go_on(
+    alloc: Global,
+    dice: &mut Dice,
+    accepted: Accepted<'_>,
+    ran: &Ran,
+    tally: &mut Tally,
+) -> Result<(), Fault> {
+    let Accepted {
+        case,
+        wanted,
+        lines,
+    } = accepted;
+    checks::check_ended(case, wanted, lines, ran)?;
+    tally.count_session(None);
+    stops::check(alloc, dice, accepted)?;
     if dice.hits(1, 4) {
-        rehearsals::check(alloc, &mut dice, accepted)?;
+        rehearsals::check(alloc, dice, accepted)?;
         tally.count_rehearsal();
     }
     if dice.hits(1, 3) {
-        damages::check(alloc, &mut dice, ran.vault.bytes())?;
-        let refusal = restores::check(alloc, &mut dice, &case, &wanted, &ran)?;
+        damages::check(alloc, dice, ran.vault.bytes())?;
+        let refusal = restores::check(alloc, dice, case, wanted, ran)?;
         tally.count_restore(refusal);
     }
     Ok(())

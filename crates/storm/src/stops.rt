@@ -1,11 +1,14 @@
 //! Sessions that are stopped, and the restores that give the chip back.
 
 use crate::cases::Case;
+use crate::checks::{self, Ran};
+use crate::chips::Chip;
+use crate::contents::sector_at;
 use crate::dice::Dice;
-use crate::fault::{Fault, agree};
+use crate::fault::{Fault, agree, agree_all};
 use crate::left::{self, Accepted, Left};
-use crate::wanted::{Sector, Wanted};
-use crate::{checks, guards, journals, lengths, lines, traces, transactions};
+use crate::wanted::Wanted;
+use crate::{guards, journals, lengths, lines, traces, transactions};
 use nor_chip::SimBus;
 use nor_journal::{Journal, MemVault};
 use nor_session::Refusal;
@@ -13,29 +16,38 @@ use std::alloc::Global;
 
 /// Stops an accepted session somewhere, and restores under stops until one restore ends.
 pub fn check(alloc: Global, dice: &mut Dice, accepted: Accepted<'_>) -> Result<(), Fault> {
-    let Accepted {
-        case,
-        wanted,
-        lines: _,
-    } = accepted;
-    let stop = stop_for(dice, case, wanted);
-    let fill = fill_for(dice, case);
-    let (left, vault, _) = left::run(alloc, accepted, stop, fill)?;
+    let stop = stop_for(dice, accepted.case, accepted.wanted);
+    let fill = fill_for(dice, accepted.case);
+    let (left, vault) = left::run(alloc, accepted, stop, fill)?;
+    check_stop(alloc, accepted, (stop, fill), &left.bus, &vault)?;
+    if vault.is_sealed() {
+        give_back(alloc, dice, accepted, left, vault.bytes())
+    } else {
+        Ok(())
+    }
+}
+
+// What a stop, with its fill, leaves of the chip and in the vault.
+fn check_stop(
+    alloc: Global,
+    accepted: Accepted<'_>,
+    (stop, fill): (u64, Option<u8>),
+    bus: &SimBus,
+    vault: &MemVault,
+) -> Result<(), Fault> {
+    let (case, wanted) = (accepted.case, accepted.wanted);
     let sealed = stop >= lengths::saving(case);
     agree(
         vault.is_sealed() == sealed,
         "whether a stopped session sealed",
     )?;
-    if !sealed {
+    if sealed {
+        check_within(case, wanted, bus)?;
+        check_gentle(case, wanted, bus, fill)
+    } else {
         journals::check_stopped(alloc, case, wanted, stop, vault.bytes())?;
-        return agree(
-            checks::is_same(&left.bus, &case.chip),
-            "the chip before the seal",
-        );
+        agree(checks::is_same(bus, &case.chip), "the chip before the seal")
     }
-    check_within(case, wanted, &left.bus)?;
-    check_gentle(case, wanted, &left.bus, fill)?;
-    give_back(alloc, dice, accepted, left, &vault)
 }
 
 /// Stops a refused session somewhere. It is refused only where it could send all that its refusal takes.
@@ -46,27 +58,35 @@ pub fn check_refused(
     refusal: Refusal,
 ) -> Result<(), Fault> {
     let whole = transactions::refused_session(alloc, case, refusal)?;
-    let enough = lines::count(whole.text());
-    let stop = dice.up_to(enough);
+    let stop = dice.up_to(lines::count(whole.text()));
     let ran = checks::run(alloc, case, stop, None)?;
-    let answer = if stop < enough {
+    check_refusal(case, refusal, (whole.text(), stop), &ran)
+}
+
+fn check_refusal(
+    case: &Case,
+    refusal: Refusal,
+    (whole, stop): (&str, u64),
+    ran: &Ran,
+) -> Result<(), Fault> {
+    let answer = if stop < lines::count(whole) {
         Refusal::Stopped
     } else {
         refusal
     };
-    agree(
-        ran.answer == Err(answer),
-        "the refusal of a stopped session",
-    )?;
-    agree(
-        !ran.vault.is_sealed(),
-        "the vault of a refused session that was stopped",
-    )?;
-    agree(
-        checks::is_same(&ran.bus, &case.chip),
-        "the chip of a refused session that was stopped",
-    )?;
-    let first = lines::first(whole.text(), stop);
+    let same = checks::is_same(&ran.bus, &case.chip);
+    agree_all(&[
+        (
+            ran.answer == Err(answer),
+            "the refusal of a stopped session",
+        ),
+        (
+            !ran.vault.is_sealed(),
+            "the vault of a refused session that was stopped",
+        ),
+        (same, "the chip of a refused session that was stopped"),
+    ])?;
+    let first = lines::first(whole, stop);
     traces::check_lines(ran.lines()?, first, "a refused session that was stopped")
 }
 
@@ -92,21 +112,25 @@ pub fn fill_for(dice: &mut Dice, case: &Case) -> Option<u8> {
 
 // Outside the touched sectors, and of the fixed bits, all is as it was.
 fn check_within(case: &Case, wanted: &Wanted, bus: &SimBus) -> Result<(), Fault> {
-    let chip = &case.chip;
-    let parts = chip.bytes.chunks(4096).zip(bus.bytes().chunks(4096));
-    for (sector, (old, now)) in wanted.sectors.iter().zip(parts) {
+    check_outside(&case.chip, wanted, bus.bytes())?;
+    let (before, after) = (guards::kept(case.chip.status), guards::kept(bus.status()));
+    let fixed = guards::fixed(before) == guards::fixed(after);
+    let free = case.chip.config.scheme && !guards::is_locked(case.chip.status);
+    agree_all(&[
+        (fixed, "the fixed bits at a stop"),
+        (free || before == after, "the kept bits at a stop"),
+    ])
+}
+
+fn check_outside(chip: &Chip, wanted: &Wanted, bytes: &[u8]) -> Result<(), Fault> {
+    for number in 0..chip.sectors() {
+        let old = sector_at(chip.bytes.as_slice(), number);
         agree(
-            sector.touched || old == now,
+            wanted.touches(number) || old == sector_at(bytes, number),
             "the sectors that aren't saved",
         )?;
     }
-    let (before, after) = (guards::kept(chip.status), guards::kept(bus.status()));
-    agree(
-        guards::fixed(before) == guards::fixed(after),
-        "the fixed bits at a stop",
-    )?;
-    let free = chip.config.scheme && !guards::is_locked(chip.status);
-    agree(free || before == after, "the kept bits at a stop")
+    Ok(())
 }
 
 // Where the power stays, bits of a sector that isn't raised only fell, and only those that should.
@@ -114,24 +138,23 @@ fn check_gentle(case: &Case, wanted: &Wanted, bus: &SimBus, fill: Option<u8>) ->
     if fill.is_some() {
         return Ok(());
     }
-    let ends = case.chip.bytes.chunks(4096).zip(wanted.bytes.chunks(4096));
-    let parts = ends.zip(bus.bytes().chunks(4096));
-    for (sector, ((old, new), now)) in wanted.sectors.iter().zip(parts) {
+    for number in 0..case.chip.sectors() {
+        let old = sector_at(case.chip.bytes.as_slice(), number);
+        let new = sector_at(wanted.bytes.as_slice(), number);
+        let now = sector_at(bus.bytes(), number);
         agree(
-            is_gentle(*sector, old, new, now),
+            wanted.raises_all(number, 1) || is_gentle(old, new, now),
             "the bits that fell at a stop",
         )?;
     }
     Ok(())
 }
 
-fn is_gentle(sector: Sector, old: &[u8], new: &[u8], now: &[u8]) -> bool {
-    sector.raised
-        || old
-            .iter()
-            .zip(new)
-            .zip(now)
-            .all(|((old, new), now)| *new & !*now == 0 && *now & !*old == 0)
+fn is_gentle(old: &[u8], new: &[u8], now: &[u8]) -> bool {
+    old.iter()
+        .zip(new)
+        .zip(now)
+        .all(|((old, new), now)| *new & !*now == 0 && *now & !*old == 0)
 }
 
 // Restores under a few stops, and then under none.
@@ -140,26 +163,36 @@ fn give_back(
     dice: &mut Dice,
     accepted: Accepted<'_>,
     left: Left,
-    vault: &MemVault,
+    journal: &[u8],
 ) -> Result<(), Fault> {
-    let Accepted {
-        case,
-        wanted,
-        lines: _,
-    } = accepted;
-    let journal = Journal::read(vault.bytes())?;
-    let most = lengths::session(case, wanted.work(&case.chip));
+    let journal = Journal::read(journal)?;
     let mut left = left;
     for _ in 0..dice.below(5) {
-        let stop = stop_of_restore(dice, most);
-        (left, _) = left::restore(alloc, accepted, &journal, left, stop)?;
+        left = give_some(alloc, dice, accepted, &journal, left)?;
         if left.ended {
             return Ok(());
         }
+    }
+    let left = left::restore(alloc, accepted, &journal, left, u64::MAX)?;
+    agree(left.ended, "a restore that nothing stops")
+}
+
+// Restores under a stop.
+fn give_some(
+    alloc: Global,
+    dice: &mut Dice,
+    accepted: Accepted<'_>,
+    journal: &Journal<'_>,
+    left: Left,
+) -> Result<Left, Fault> {
+    let (case, wanted) = (accepted.case, accepted.wanted);
+    let most = lengths::session(case, wanted.work(&case.chip));
+    let stop = stop_of_restore(dice, most);
+    let left = left::restore(alloc, accepted, journal, left, stop)?;
+    if !left.ended {
         check_within(case, wanted, &left.bus)?;
     }
-    let (left, _) = left::restore(alloc, accepted, &journal, left, u64::MAX)?;
-    agree(left.ended, "a restore that nothing stops")
+    Ok(left)
 }
 
 /// Where a restore is stopped, of which half come soon.

@@ -9,7 +9,7 @@ pub fn least(cases: u64) -> u64 {
 }
 
 /// Cases by what they came to.
-#[derive(Clone, Copy, Debug, PartialEq, Eq)]
+#[derive(Clone, Copy)]
 pub struct Tally {
     /// Sessions that were accepted, and so were stopped and given back too.
     pub accepted: u64,
@@ -98,6 +98,12 @@ impl fmt::Display for Tally {
         write_numbers(f, &self.refused)?;
         write!(f, "\nrestores on other chips: {} accepted", self.restored)?;
         write_numbers(f, &self.kept_away)?;
+        self.write_others(f)
+    }
+}
+
+impl Tally {
+    fn write_others<W: fmt::Write>(&self, f: &mut fmt::Formatter<W>) -> fmt::Result {
         write!(f, "\nrehearsals: {}", self.rehearsed)?;
         write!(f, "\nchips read: {}", self.read)?;
         write!(f, "\nsessions on a bus that lies: {}", self.lied)

@@ -2,13 +2,14 @@
 
 use crate::cases::Case;
 use crate::chips::Chip;
+use crate::contents::sector_at;
 use crate::fault::Fault;
 use crate::guards::Status;
 use crate::lines::Lines;
 use crate::parameters::{self, Shown};
 use crate::readings::Reading;
 use crate::verdicts::{self, Saved};
-use crate::wanted::Wanted;
+use crate::wanted::{Wanted, touches};
 use crate::{restores, transactions};
 use nor_chip::{Bus, Config, Delays, SimBus, SpoiltBus, Stopped, TraceBus};
 use nor_probe::ChipName;
@@ -22,7 +23,7 @@ pub type Liar<'a> = TraceBus<SpoiltBus<SimBus>, &'a mut Vec<u8>>;
 const MOST_POLLS: u32 = 65_536;
 
 /// Why a call came to no end.
-#[derive(Debug, Drop)]
+#[derive(Drop)]
 pub enum Halt {
     Refused(Refusal),
     Failed(Fault),
@@ -41,15 +42,25 @@ impl Caller<'_> {
         let (config, status1) = self.find(case.request.named)?;
         let chip = self.identify(config, status1)?;
         let mut told = asked_of(self.alloc, case, chip)?;
-        refuse(verdicts::of_opening(&told))?;
-        if !matches!(case.request.what, What::WpRange { .. }) {
+        self.judge(case, &mut told)
+    }
+
+    // Of a chip that is identified: what the opening refuses, the scan, and the changes.
+    fn judge(&mut self, case: &Case, told: &mut Case) -> Result<(), Halt> {
+        refuse(verdicts::of_opening(told))?;
+        if !matches!(told.request.what, What::WpRange { .. }) {
             self.scan(case, &mut told.chip)?;
         }
-        let wanted = Wanted::of_case(self.alloc, &told)?;
-        refuse(verdicts::of_changes(&told, &wanted))?;
-        self.change(&mut told.chip, &wanted)?;
-        if case.request.verify {
-            self.compare(&wanted)?;
+        let wanted = Wanted::of_case(self.alloc, told)?;
+        refuse(verdicts::of_changes(told, &wanted))?;
+        self.make(told, &wanted)
+    }
+
+    // What is wanted, and a check where it is asked for.
+    fn make(&mut self, told: &mut Case, wanted: &Wanted) -> Result<(), Halt> {
+        self.change(&mut told.chip, wanted)?;
+        if told.request.verify {
+            self.compare(wanted)?;
         }
         Ok(())
     }
@@ -59,14 +70,18 @@ impl Caller<'_> {
         let (config, status1) = self.find(case.request.named)?;
         let chip = unread(self.alloc, config, [status1, 0])?;
         let mut told = asked_of(self.alloc, case, chip)?;
-        refuse(reading.early_refusal(&told))?;
+        self.read(reading, case, &mut told)?;
+        Ok(told)
+    }
+
+    fn read(&mut self, reading: Reading, case: &Case, told: &mut Case) -> Result<(), Halt> {
+        refuse(reading.early_refusal(told))?;
         match reading {
             Reading::Probe => {}
             Reading::Protection => told.chip.status[1] = self.read_status2()?,
             Reading::Copy | Reading::Comparison => self.scan(case, &mut told.chip)?,
         }
-        refuse(reading.refusal(&told))?;
-        Ok(told)
+        refuse(reading.refusal(told))
     }
 
     /// A restore from a journal.
@@ -74,15 +89,26 @@ impl Caller<'_> {
         let (config, status1) = self.find(None)?;
         refuse(verdicts::of_journal(&config, saved))?;
         let mut chip = self.identify(config, status1)?;
-        refuse(verdicts::of_unit(&chip, saved))?;
-        for (number, sector) in (0_u32..).zip(saved.sectors) {
-            if sector.touched {
-                self.take_sector(number, &mut chip)?;
+        self.take_saved(saved, &mut chip)?;
+        self.give_back(saved, &mut chip)
+    }
+
+    // The saved sectors of a chip that is the journal's, rising.
+    fn take_saved(&mut self, saved: Saved<'_>, chip: &mut Chip) -> Result<(), Halt> {
+        refuse(verdicts::of_unit(chip, saved))?;
+        for number in 0..chip.sectors() {
+            if touches(saved.sectors, number) {
+                self.take_sector(number, chip)?;
             }
         }
-        let wanted = restores::restored_of(self.alloc, &chip, saved)?;
-        refuse(verdicts::of_lock(&chip, saved, &wanted))?;
-        self.change(&mut chip, &wanted)?;
+        Ok(())
+    }
+
+    // What makes the chip what it was, and a check.
+    fn give_back(&mut self, saved: Saved<'_>, chip: &mut Chip) -> Result<(), Halt> {
+        let wanted = restores::restored_of(self.alloc, chip, saved)?;
+        refuse(verdicts::of_lock(chip, saved, &wanted))?;
+        self.change(chip, &wanted)?;
         self.compare(&wanted)
     }
 
@@ -185,17 +211,25 @@ impl Caller<'_> {
     // What makes the chip what is wanted, in the order of the lists: protection is lifted, units are erased, sectors
     // programmed, and protection is set.
     fn change(&mut self, chip: &mut Chip, wanted: &Wanted) -> Result<(), Halt> {
-        let mut lines = Lines::new(self.alloc, chip);
-        transactions::prepare(&mut lines, chip, wanted)?;
-        self.play(&lines)?;
+        self.prepare(chip, wanted)?;
         for number in 0..chip.sectors() {
             if wanted.touches(number) {
                 self.program(chip, wanted, number)?;
             }
         }
+        self.protect(chip, wanted)
+    }
+
+    fn prepare(&mut self, chip: &Chip, wanted: &Wanted) -> Result<(), Halt> {
         let mut lines = Lines::new(self.alloc, chip);
-        transactions::protect(&mut lines, chip, wanted)?;
-        self.play(&lines)
+        transactions::prepare(&mut lines, chip, wanted);
+        self.play(lines)
+    }
+
+    fn protect(&mut self, chip: &Chip, wanted: &Wanted) -> Result<(), Halt> {
+        let mut lines = Lines::new(self.alloc, chip);
+        transactions::protect(&mut lines, chip, wanted);
+        self.play(lines)
     }
 
     // A sector that wasn't erased is read once more, and its pages are held against what it shows then.
@@ -204,14 +238,19 @@ impl Caller<'_> {
             self.take_sector(number, chip)?;
         }
         let mut lines = Lines::new(self.alloc, chip);
-        transactions::program_sector(&mut lines, chip, wanted, number)?;
-        self.play(&lines)
+        transactions::program_sector(&mut lines, chip, wanted, number);
+        self.play(lines)
     }
 
     // Sends the write enables and commands of a list. Behind a command it waits as long as it is told to, and so the
     // list's own polls go, and its readings, which were made.
-    fn play(&mut self, lines: &Lines) -> Result<(), Halt> {
-        for line in lines.text().lines() {
+    fn play(&mut self, lines: Lines) -> Result<(), Halt> {
+        let lines = lines.whole()?;
+        self.play_lines(lines.text())
+    }
+
+    fn play_lines(&mut self, lines: &str) -> Result<(), Halt> {
+        for line in lines.lines() {
             if !line.contains(" > ") {
                 self.play_line(line)?;
             }
@@ -221,18 +260,22 @@ impl Caller<'_> {
 
     fn play_line(&mut self, line: &str) -> Result<(), Halt> {
         let command = bytes_of(self.alloc, line)?;
-        self.send(command.as_slice(), &mut [])?;
-        if line != "06" {
-            self.wait(address_of(command.as_slice()))?;
+        self.play_command(command.as_slice())
+    }
+
+    fn play_command(&mut self, command: &[u8]) -> Result<(), Halt> {
+        self.send(command, &mut [])?;
+        if command != [0x06].as_slice() {
+            self.wait(address_of(command))?;
         }
         Ok(())
     }
 
     // Each touched sector is as wanted, rising.
     fn compare(&mut self, wanted: &Wanted) -> Result<(), Halt> {
-        for (number, bytes) in (0_u32..).zip(wanted.bytes.chunks(4096)) {
+        for number in 0..wanted.count() {
             if wanted.touches(number) {
-                self.compare_sector(number, bytes)?;
+                self.compare_sector(number, sector_at(wanted.bytes.as_slice(), number))?;
             }
         }
         Ok(())
@@ -241,14 +284,18 @@ impl Caller<'_> {
     fn compare_sector(&mut self, number: u32, wanted: &[u8]) -> Result<(), Halt> {
         let mut shown = [0; 4096];
         self.read_sector(number, &mut shown)?;
-        let start = number.saturating_mul(4096);
-        for (address, (byte, new)) in (start..).zip(shown.iter().zip(wanted)) {
-            if *byte != *new {
-                return Err(Halt::Refused(Refusal::Mismatch { address }));
-            }
-        }
-        Ok(())
+        refuse(difference(number.saturating_mul(4096), &shown, wanted))
     }
+}
+
+// The first byte that isn't as wanted, of those from an address on.
+fn difference(start: u32, shown: &[u8], wanted: &[u8]) -> Option<Refusal> {
+    for (address, (byte, new)) in (start..).zip(shown.iter().zip(wanted)) {
+        if *byte != *new {
+            return Some(Refusal::Mismatch { address });
+        }
+    }
+    None
 }
 
 // A chip of whose bytes nothing is known yet.

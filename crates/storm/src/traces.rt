@@ -25,6 +25,11 @@ pub fn check_lines(sent: &str, wanted: &str, call: &'static str) -> Result<(), F
     }
 }
 
+/// The same, of a trace as its bytes.
+pub fn check_trace(sent: &[u8], wanted: &str, call: &'static str) -> Result<(), Fault> {
+    check_lines(text(sent)?, wanted, call)
+}
+
 /// A trace as text.
 pub fn text(sent: &[u8]) -> Result<&str, Fault> {
     match str::from_utf8(sent) {
@@ -53,15 +58,12 @@ pub fn check_ended(case: &Case, wanted: &Wanted, sent: &str) -> Result<(), Fault
         !sent.lines().take(saving).any(changes),
         "a changing command before the seal",
     )?;
-    for line in sent.lines() {
-        if let Some((first, count)) = erased_by(line, case.chip.sectors()) {
-            agree(
-                wanted.raises_all(first, count),
-                "the sectors that are erased",
-            )?;
-        }
-    }
-    Ok(())
+    let sectors = case.chip.sectors();
+    agree(
+        sent.lines()
+            .all(|line| erases_raised(line, sectors, wanted)),
+        "the sectors that are erased",
+    )
 }
 
 // The line is one of a changing command.
@@ -69,15 +71,23 @@ fn changes(line: &str) -> bool {
     CHANGING.iter().any(|opcode| line.starts_with(*opcode))
 }
 
+// A line that erases aims at raised sectors alone.
+fn erases_raised(line: &str, sectors: u32, wanted: &Wanted) -> bool {
+    match erased_by(line, sectors) {
+        Some((first, count)) => wanted.raises_all(first, count),
+        None => true,
+    }
+}
+
 // The first sector that an erase aims at, and how many they are, on a chip of so many.
 fn erased_by(line: &str, sectors: u32) -> Option<(u32, u32)> {
     if line == "c7" {
         return Some((0, sectors));
     }
-    let count = match line.get(..2) {
-        Some("20") => 1,
-        Some("52") => 8,
-        Some("d8") => 16,
+    let count = match line.get(..2)? {
+        "20" => 1,
+        "52" => 8,
+        "d8" => 16,
         _ => return None,
     };
     let address = u32::from_str_radix(line.get(2..)?, 16).ok()?;

@@ -9,7 +9,7 @@ use nor_session::What;
 use std::alloc::Global;
 
 /// What becomes of a sector.
-#[derive(Clone, Copy, Debug, PartialEq, Eq)]
+#[derive(Clone, Copy)]
 pub struct Sector {
     /// A byte changes.
     pub touched: bool,
@@ -29,7 +29,7 @@ pub struct Wanted {
 }
 
 /// The work that makes a chip what is wanted, in numbers.
-#[derive(Clone, Copy, Debug, PartialEq, Eq)]
+#[derive(Clone, Copy)]
 pub struct Work {
     pub touched: u64,
     pub raised: u64,
@@ -55,10 +55,7 @@ impl Wanted {
         bytes: Vec<u8>,
         status: Status,
     ) -> Result<Wanted, Fault> {
-        let mut sectors = Vec::new(alloc);
-        for (old, new) in chip.bytes.chunks(4096).zip(bytes.chunks(4096)) {
-            sectors.push(sector_of(old, new))?;
-        }
+        let sectors = sectors_of(alloc, chip.bytes.as_slice(), bytes.as_slice())?;
         Ok(Wanted {
             bytes,
             status,
@@ -79,9 +76,12 @@ impl Wanted {
 
     /// The sector is touched.
     pub fn touches(&self, number: u32) -> bool {
-        self.sectors
-            .get(number as usize)
-            .is_some_and(|sector| sector.touched)
+        touches(self.sectors.as_slice(), number)
+    }
+
+    /// How many sectors there are.
+    pub fn count(&self) -> u32 {
+        u32::try_from(self.sectors.len()).unwrap_or(u32::MAX)
     }
 
     /// Each of so many sectors is raised.
@@ -92,19 +92,12 @@ impl Wanted {
 
     /// The work on this chip.
     pub fn work(&self, chip: &Chip) -> Work {
-        let mut touched = 0_u64;
-        let mut raised = 0_u64;
-        let mut programs = 0_u64;
-        for sector in self.sectors.iter() {
-            touched = touched.saturating_add(u64::from(sector.touched));
-            raised = raised.saturating_add(u64::from(sector.raised));
-            programs = programs.saturating_add(u64::from(sector.pages));
-        }
+        let sectors = self.sectors.as_slice();
         Work {
-            touched,
-            raised,
-            erases: fewest_erases(self.sectors.as_slice(), chip),
-            programs,
+            touched: touched_in(sectors),
+            raised: raised_in(sectors),
+            erases: fewest_erases(sectors, chip),
+            programs: pages_in(sectors),
             status_writes: self.status_writes(chip),
         }
     }
@@ -161,6 +154,14 @@ fn wanted_status(case: &Case) -> Status {
         Some(code) => guards::with_code(status, code),
         None => status,
     }
+}
+
+fn sectors_of(alloc: Global, old: &[u8], new: &[u8]) -> Result<Vec<Sector>, Fault> {
+    let mut sectors = Vec::new(alloc);
+    for (old, new) in old.chunks(4096).zip(new.chunks(4096)) {
+        sectors.push(sector_of(old, new))?;
+    }
+    Ok(sectors)
 }
 
 fn sector_of(old: &[u8], new: &[u8]) -> Sector {
@@ -228,6 +229,31 @@ fn erases_of_halves(block: &[Sector], chip: &Chip) -> u64 {
 
 fn are_raised(sectors: &[Sector]) -> bool {
     sectors.iter().all(|sector| sector.raised)
+}
+
+/// The sector of this number is touched.
+pub fn touches(sectors: &[Sector], number: u32) -> bool {
+    match sectors.get(number as usize) {
+        Some(sector) => sector.touched,
+        None => false,
+    }
+}
+
+/// How many of them are touched.
+pub fn touched_in(sectors: &[Sector]) -> u64 {
+    let mut touched = 0_u64;
+    for sector in sectors {
+        touched = touched.saturating_add(u64::from(sector.touched));
+    }
+    touched
+}
+
+fn pages_in(sectors: &[Sector]) -> u64 {
+    let mut pages = 0_u64;
+    for sector in sectors {
+        pages = pages.saturating_add(u64::from(sector.pages));
+    }
+    pages
 }
 
 fn raised_in(sectors: &[Sector]) -> u64 {

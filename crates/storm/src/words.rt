@@ -1,7 +1,7 @@
 //! What the words of the command line ask for.
 
 /// The cases to be run.
-#[derive(Clone, Copy, Debug, PartialEq, Eq)]
+#[derive(Clone, Copy)]
 pub struct Job {
     /// The first and the last of the seeds.
     pub seeds: (u64, u64),
@@ -27,9 +27,13 @@ impl Job {
     fn of_numbers(seeds: &str, count: &str, first: &str) -> Option<Job> {
         let (seed, last) = seeds.split_once('-').unwrap_or((seeds, seeds));
         Some(Job {
-            seeds: (seed.parse::<u64>().ok()?, last.parse::<u64>().ok()?),
-            first: first.parse::<u64>().ok()?,
-            count: count.parse::<u64>().ok()?,
+            seeds: (number(seed)?, number(last)?),
+            first: number(first)?,
+            count: number(count)?,
         })
     }
+}
+
+fn number(word: &str) -> Option<u64> {
+    word.parse::<u64>().ok()
 }

@@ -1,10 +1,12 @@
 //! What the comparisons must tell. That a case agrees says something only where a wrong byte or line wouldn't.
 
 use crate::cases::Case;
+use crate::checks::{self, Ran};
 use crate::dice::Dice;
 use crate::fault::Fault;
 use crate::wanted::Wanted;
-use crate::{checks, traces, transactions, verdicts};
+use crate::{traces, transactions, verdicts};
+use nor_session::Refusal;
 use std::alloc::Global;
 
 /// Faults where a comparison passes over something wrong.
@@ -47,20 +49,33 @@ fn check_places() -> Result<(), Fault> {
 // Of an accepted session a wrong byte, and a line more that changes before the seal or erases too much.
 fn check_session(alloc: Global) -> Result<(), Fault> {
     let case = Case::next(alloc, &mut Dice::new(1, 0))?;
-    let mut wanted = Wanted::of_case(alloc, &case)?;
-    let whole = transactions::session(alloc, &case, &wanted)?;
     let ran = checks::run(alloc, &case, u64::MAX, None)?;
-    checks::check_ended(&case, &wanted, whole.text(), &ran)?;
-    let early = join(alloc, "06\n", ran.lines()?)?;
-    let told = traces::check_ended(&case, &wanted, early.as_str());
+    check_accepted(alloc, &case, &ran)
+}
+
+fn check_accepted(alloc: Global, case: &Case, ran: &Ran) -> Result<(), Fault> {
+    let mut wanted = Wanted::of_case(alloc, case)?;
+    let whole = transactions::session(alloc, case, &wanted)?;
+    check_more(alloc, case, &wanted, ran)?;
+    check_byte(case, &mut wanted, whole.text(), ran)
+}
+
+fn check_more(alloc: Global, case: &Case, wanted: &Wanted, ran: &Ran) -> Result<(), Fault> {
+    let lines = ran.lines()?;
+    let early = join(alloc, "06\n", lines)?;
+    let told = traces::check_ended(case, wanted, early.as_str());
     must_tell(told, "a changing command before the seal")?;
-    let wide = join(alloc, ran.lines()?, "c7\n")?;
-    let told = traces::check_ended(&case, &wanted, wide.as_str());
-    must_tell(told, "the sectors that are erased")?;
+    let wide = join(alloc, lines, "c7\n")?;
+    let told = traces::check_ended(case, wanted, wide.as_str());
+    must_tell(told, "the sectors that are erased")
+}
+
+fn check_byte(case: &Case, wanted: &mut Wanted, lines: &str, ran: &Ran) -> Result<(), Fault> {
+    checks::check_ended(case, wanted, lines, ran)?;
     if let Some(byte) = wanted.bytes.as_mut_slice().first_mut() {
         *byte ^= 0x10;
     }
-    let told = checks::check_ended(&case, &wanted, whole.text(), &ran);
+    let told = checks::check_ended(case, wanted, lines, ran);
     must_tell(told, "the bytes at the end")
 }
 
@@ -71,16 +86,19 @@ fn check_refusal(alloc: Global) -> Result<(), Fault> {
         return Err(Fault::Case);
     };
     let ran = checks::run(alloc, &case, u64::MAX, None)?;
-    let lines = ran.lines()?;
-    traces::check_refused(&case, refusal, lines)?;
+    check_refused(alloc, &case, refusal, ran.lines()?)
+}
+
+fn check_refused(alloc: Global, case: &Case, refusal: Refusal, lines: &str) -> Result<(), Fault> {
+    traces::check_refused(case, refusal, lines)?;
     let longer = join(alloc, lines, "05 > 00\n")?;
-    let told = traces::check_refused(&case, refusal, longer.as_str());
+    let told = traces::check_refused(case, refusal, longer.as_str());
     must_tell(told, "the transactions before a refusal")?;
     let Some((_, rest)) = lines.split_once('\n') else {
         return Err(Fault::Case);
     };
     let changing = join(alloc, "06\n", rest)?;
-    let told = traces::check_refused(&case, refusal, changing.as_str());
+    let told = traces::check_refused(case, refusal, changing.as_str());
     must_tell(told, "a changing command before a refusal")
 }
 
