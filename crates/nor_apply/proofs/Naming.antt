@@ -16,7 +16,7 @@ use Rattle.nor_apply.specs.Protecting.{HaltsWriting}
 use Rattle.nor_apply.specs.Checking.{NamesDifference}
 use Rattle.nor_apply.specs.Applying.{touched_in, raised_in, writes_code, NamesChange}
 use Rattle.nor_apply.proofs.ErasingExits.{IsNext}
-use Rattle.nor_apply.proofs.ProgrammingSpans.{only_is, only_same}
+use Rattle.nor_apply.proofs.Alone.{only-is, only-here}
 
 -- the first sector of a unit is one that it erases
 pub names_unit : (kinds : Kinds) (size : ℕ) (set : ℕ → Bool) (units : List Erase) (unit : Erase) (halt : Halt)
@@ -32,19 +32,19 @@ names_unit kinds size set units unit (Timeout address) next told =
 -- a place of a sector
 pub names_place : (sector first : ℕ) (halt : Halt) → first < 4096 → NamesTimeout (4096 * sector + first) halt → NamesSector (only sector) halt
 names_place sector first Stopped below told = tt
-names_place sector first (Timeout address) below told = only_same sector (address / 4096) (omega (arith, below, told))
+names_place sector first (Timeout address) below told = only-here sector (address / 4096) (omega (arith, below, told))
 
 pub differs_at : (sector first : ℕ) → first < 4096 → only sector ((4096 * sector + first) / 4096) ≡ true
-differs_at sector first below = only_same sector ((4096 * sector + first) / 4096) (omega (arith, below))
+differs_at sector first below = only-here sector ((4096 * sector + first) / 4096) (omega (arith, below))
 
 -- a sector of a set
 pub names_member : (sector : ℕ) (set : ℕ → Bool) (halt : Halt) → set sector ≡ true → NamesSector (only sector) halt → NamesSector set halt
 names_member sector set Stopped is told = tt
-names_member sector set (Timeout address) is told = ap set (only_is sector (address / 4096) told) ∙ is
+names_member sector set (Timeout address) is told = ap set (only-is sector (address / 4096) told) ∙ is
 
 pub difference_member : (sector : ℕ) (set : ℕ → Bool) (fault : CheckFault) → set sector ≡ true → NamesDifference (only sector) fault → NamesDifference set fault
 difference_member sector set Faults.Stopped is told = tt
-difference_member sector set (Faults.Mismatch address) is told = ap set (only_is sector (address / 4096) told) ∙ is
+difference_member sector set (Faults.Mismatch address) is told = ap set (only-is sector (address / 4096) told) ∙ is
 
 -- ---- the four parts of the changes
 
