@@ -19,7 +19,8 @@ use Rattle.nor_save.specs.declared.refusal.Refusal.TheVariants.{NoChip, UnknownC
 use Rattle.nor_save.specs.declared.report.Report.{Report}
 
 -- What was found: whatever the bus, a row of the table or a part by SFDP, with the name that is wanted. On an honest
--- bus it is what the chip shows itself as, with the kept bits of the chip's status; a genuine chip has its configuration.
+-- bus it is what the chip shows itself as, with the kept bits of the chip's status; a genuine chip has its
+-- configuration.
 pub record IsFound (named : Option ChipName) (old : BusState) (found : Found) : Type 0 where
   pub part : IsPart found
   pub has_name : IsWanted named found.name

@@ -1,5 +1,6 @@
 -- What is told of a chip's block protection.
-use Rattle.std.specs.Prelude.{◌≡◌, ◌<◌, ◌≤◌, ◌+◌, ◌↔◌, ℕ, true, false, not, Option, MatchOption, Result, IfOk, IfErr, OnOk}
+use Rattle.std.specs.Prelude.{◌≡◌, ◌<◌, ◌≤◌, ◌+◌, ◌↔◌, ℕ, true, false, not, Option, MatchOption}
+use Rattle.std.specs.Prelude.{Result, IfOk, IfErr, OnOk}
 use Rattle.nor_chip.specs.Chip.{Chip, is_locked}
 use Rattle.nor_chip.specs.Guard.{code_of, guarded_by, is_guarded, is_undefined}
 use Rattle.nor_chip.specs.Offer.{GuardsExactly}
@@ -43,7 +44,8 @@ pub record ProtectionAlways (old new : BusState) (result : Result Protection Ref
   pub refuses : IfErr result IsProtectionRefusal
 
 -- On an honest bus.
-pub record ProtectionHonest (named : Option ChipName) (old new : BusState) (result : Result Protection Refusal) : Type 0 where
+pub record ProtectionHonest (named : Option ChipName) (old new : BusState)
+    (result : Result Protection Refusal) : Type 0 where
   -- nothing changed
   pub rested : OnOk result (Rested old new)
   -- the chip is idle
@@ -53,14 +55,15 @@ pub record ProtectionHonest (named : Option ChipName) (old new : BusState) (resu
   -- a refusal tells why the chip is none that is wanted, or a stop; but for a stop nothing changed
   pub tells : IfErr result (ReadingTells 65541 named old new)
 
--- What a refusal tells of a chip that is what it shows itself to be: refusal 6, that it has no block protection, and has
--- the wanted name. (Those of the probe: `ReadingTells`.)
+-- What a refusal tells of a chip that is what it shows itself to be: refusal 6, that it has no block protection, and
+-- has the wanted name. (Those of the probe: `ReadingTells`.)
 abbrev pub ProtectionTells : Option ChipName → Chip → Refusal → Type 0
 ProtectionTells named chip NoProtection = IsNamed named chip.config × (chip.config.scheme ≡ false)
 ProtectionTells named chip _ = Unit {0}
 
 -- On an honest bus whose chip is what it shows itself to be.
-pub record ProtectionModelled (named : Option ChipName) (old : BusState) (result : Result Protection Refusal) : Type 0 where
+pub record ProtectionModelled (named : Option ChipName) (old : BusState)
+    (result : Result Protection Refusal) : Type 0 where
   -- what is told is the chip's protection
   pub told : IfOk result (IsProtection old.chip)
   -- refusal 6 tells that it has none

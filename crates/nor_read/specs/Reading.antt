@@ -1,5 +1,6 @@
 -- What reading a chip out leaves in a vault.
-use Rattle.std.specs.Prelude.{◌≡◌, ◌≤◌, ◌<◌, ◌+◌, ◌*◌, ◌/◌, ◌++◌, ℕ, true, Option, Result, IfOk, IfErr, List, length, slice_index, if◌then◌else◌}
+use Rattle.std.specs.Prelude.{◌≡◌, ◌≤◌, ◌<◌, ◌+◌, ◌*◌, ◌/◌, ◌++◌, ℕ, true, if◌then◌else◌}
+use Rattle.std.specs.Prelude.{Option, Result, IfOk, IfErr, List, length, slice_index}
 use Rattle.nor_chip.specs.Bus.{BusState}
 use Rattle.nor_driver.specs.Looks.{Looks, Rested, RanOut, RunsOut}
 use Rattle.nor_journal.specs.Vault.{VaultState, PutRefused, Refused, Accepted}
@@ -46,8 +47,8 @@ pub record TakesPart (written : ℕ) (old new : VaultState) : Type 0 where
   -- a vault that is telling has so many bytes more
   pub grows : old.telling ≡ true → Grows written old new
 
--- A refusal that reading out gives, on every bus: at 19 the vault refused, after so many bytes, and at any other it took
--- all that it was given.
+-- A refusal that reading out gives, on every bus: at 19 the vault refused, after so many bytes, and at any other it
+-- took all that it was given.
 abbrev pub IsReadRefusal : VaultState → VaultState → Refusal → Type 0
 IsReadRefusal vault vault' (Output written) = TakesPart written vault vault'
 IsReadRefusal vault vault' RegionOutside = Accepted vault vault'
@@ -84,7 +85,8 @@ pub record BreaksOff (named : Option ChipName) (included : Option (List Span)) (
   pub copy : vault.telling ≡ true → Copies included old.chip.bytes written vault vault'
 
 -- What a refusal tells of a chip that is what it shows itself to be. (Those of the probe: `ReadingTells`.)
-abbrev pub ReadOutTells : Option ChipName → Option (List Span) → BusState → BusState → VaultState → VaultState → Refusal → Type 0
+abbrev pub ReadOutTells : Option ChipName → Option (List Span) → BusState → BusState → VaultState → VaultState
+    → Refusal → Type 0
 ReadOutTells named included old new vault vault' RegionOutside = IsPassed named included old.chip.config
 ReadOutTells named included old new vault vault' Stopped = RanOut (most_of old.chip.config.size) old new
 ReadOutTells named included old new vault vault' (Output written) = BreaksOff named included written old vault vault'
@@ -106,7 +108,8 @@ pub record ReadOutModelled (named : Option ChipName) (included : Option (List Sp
 -- ---- sector by sector
 
 -- A sector's part of the copy was made: by one transaction where it holds an included address, else by none.
-pub record ReadsPart (included : Option (List Span)) (sector : ℕ) (bytes : List ℕ) (old new : BusState) (reads : ℕ) : Type 0 where
+pub record ReadsPart (included : Option (List Span)) (sector : ℕ) (bytes : List ℕ) (old new : BusState)
+    (reads : ℕ) : Type 0 where
   pub counted : reads ≡ (if has_in_sector (includes included) sector then 1 else 0)
   pub rested : old.honest ≡ true → Rested old new
   pub fell : old.honest ≡ true → old.left ≡ new.left + reads
@@ -114,7 +117,8 @@ pub record ReadsPart (included : Option (List Span)) (sector : ℕ) (bytes : Lis
       → AreOfSector (copied included old.chip.bytes) sector bytes
 
 -- All sectors were copied.
-pub record ReadsAll (included : Option (List Span)) (size : ℕ) (old new : BusState) (vault vault' : VaultState) (reads : ℕ) : Type 0 where
+pub record ReadsAll (included : Option (List Span)) (size : ℕ) (old new : BusState) (vault vault' : VaultState)
+    (reads : ℕ) : Type 0 where
   pub counted : reads ≡ sectors_included included size
   pub rested : old.honest ≡ true → Rested old new
   pub fell : old.honest ≡ true → old.left ≡ new.left + reads
@@ -122,7 +126,8 @@ pub record ReadsAll (included : Option (List Span)) (size : ℕ) (old new : BusS
   pub copy : IsOpen size old → vault.telling ≡ true → Copies included old.chip.bytes size vault vault'
 
 -- The vault refused, after so many bytes.
-pub record BreaksCopy (included : Option (List Span)) (size written : ℕ) (old new : BusState) (vault vault' : VaultState) : Type 0 where
+pub record BreaksCopy (included : Option (List Span)) (size written : ℕ) (old new : BusState)
+    (vault vault' : VaultState) : Type 0 where
   pub rested : old.honest ≡ true → Rested old new
   pub within : written ≤ size
   pub took : TakesPart written vault vault'
@@ -136,5 +141,6 @@ CopyTells included size old new vault vault' _ = ⊥
 
 -- what a refusal of a sector of the copy tells: the bytes of the sectors before it, and those of it that went in
 abbrev pub PutTells : ℕ → List ℕ → VaultState → VaultState → Refusal → Type 0
-PutTells sector bytes old new (Output written) = (kept : ℕ) × (written ≡ 4096 * sector + kept) × PutRefused old bytes kept new
+PutTells sector bytes old new (Output written) =
+    (kept : ℕ) × (written ≡ 4096 * sector + kept) × PutRefused old bytes kept new
 PutTells sector bytes old new _ = ⊥

@@ -1,5 +1,6 @@
 -- What a comparison of a chip with an image tells.
-use Rattle.std.specs.Prelude.{◌≡◌, ◌≢◌, ◌≤◌, ◌<◌, ◌+◌, ◌*◌, ℕ, true, Option, Result, IfOk, IfErr, List, length, slice_index, MatchOption, if◌then◌else◌}
+use Rattle.std.specs.Prelude.{◌≡◌, ◌≢◌, ◌≤◌, ◌<◌, ◌+◌, ◌*◌, ℕ, true, if◌then◌else◌}
+use Rattle.std.specs.Prelude.{Option, Result, IfOk, IfErr, List, length, slice_index, MatchOption}
 use Rattle.nor_chip.specs.declared.config.Config.{Config}
 use Rattle.nor_chip.specs.Chip.{Chip}
 use Rattle.nor_chip.specs.Bus.{BusState}
@@ -13,14 +14,17 @@ use Rattle.nor_save.specs.declared.refusal.Refusal.TheVariants.{ImageSize, Regio
 use Rattle.nor_save.specs.declared.report.Report.{Report}
 use Rattle.nor_save.specs.Scanning.{IsOpen}
 use Rattle.nor_read.specs.declared.verifying.Compared.{Compared}
-use Rattle.nor_read.specs.Finding.{IsNamed, IsPassed, IsTaken, ReportsPart, ReportsReads, IsFindRefusal, ReadingTells, most_of}
+use Rattle.nor_read.specs.Finding.{IsNamed, IsPassed, IsTaken, most_of}
+use Rattle.nor_read.specs.Finding.{ReportsPart, ReportsReads, IsFindRefusal, ReadingTells}
 
 -- each included byte from one address up to another is the image's
 abbrev pub AgreeIn : Option (List Span) → List ℕ → (ℕ → ℕ) → ℕ → ℕ → Type 0
-AgreeIn included image content from to = (a : ℕ) → from ≤ a → a < to → includes included a ≡ true → slice_index image a ≡ content a
+AgreeIn included image content from to =
+    (a : ℕ) → from ≤ a → a < to → includes included a ≡ true → slice_index image a ≡ content a
 
 -- The least included address from one up to another at which the byte isn't the image's.
-pub record IsFirstOther (included : Option (List Span)) (image : List ℕ) (content : ℕ → ℕ) (from to address : ℕ) : Type 0 where
+pub record IsFirstOther (included : Option (List Span)) (image : List ℕ) (content : ℕ → ℕ)
+    (from to address : ℕ) : Type 0 where
   pub above : from ≤ address
   pub below : address < to
   pub is_included : includes included address ≡ true
@@ -28,14 +32,16 @@ pub record IsFirstOther (included : Option (List Span)) (image : List ℕ) (cont
   pub before : AgreeIn included image content from address
 
 -- The chip has the wanted name, and another size than the image, which are both told.
-pub record IsOtherSize (named : Option ChipName) (image : List ℕ) (config : Config) (chip_size image_size : ℕ) : Type 0 where
+pub record IsOtherSize (named : Option ChipName) (image : List ℕ) (config : Config)
+    (chip_size image_size : ℕ) : Type 0 where
   pub is : IsNamed named config
   pub of_chip : chip_size ≡ config.size
   pub of_image : image_size ≡ length image
   pub differ : length image ≢ config.size
 
 -- The chip is accepted and the image as long, but the included bytes differ, first at this address.
-pub record IsMismatch (named : Option ChipName) (included : Option (List Span)) (image : List ℕ) (chip : Chip) (address : ℕ) : Type 0 where
+pub record IsMismatch (named : Option ChipName) (included : Option (List Span)) (image : List ℕ) (chip : Chip)
+    (address : ℕ) : Type 0 where
   pub taken : IsTaken named included chip.config
   pub whole : length image ≡ chip.config.size
   pub first : IsFirstOther included image chip.bytes 0 chip.config.size address
@@ -97,10 +103,12 @@ pub record VerifyModelled (named : Option ChipName) (included : Option (List Spa
 
 -- the first difference between two addresses, or that there is none
 abbrev pub TellsFirst : Option (List Span) → List ℕ → (ℕ → ℕ) → ℕ → ℕ → Option ℕ → Type 0
-TellsFirst included image content from to first = MatchOption first (AgreeIn included image content from to) (IsFirstOther included image content from to)
+TellsFirst included image content from to first =
+    MatchOption first (AgreeIn included image content from to) (IsFirstOther included image content from to)
 
 -- A sector was compared: by one transaction where it holds an included address, else by none.
-pub record ComparesPart (included : Option (List Span)) (image : List ℕ) (sector : ℕ) (old new : BusState) (compared : Compared) : Type 0 where
+pub record ComparesPart (included : Option (List Span)) (image : List ℕ) (sector : ℕ) (old new : BusState)
+    (compared : Compared) : Type 0 where
   pub counted : compared.reads ≡ (if has_in_sector (includes included) sector then 1 else 0)
   pub rested : old.honest ≡ true → Rested old new
   pub fell : old.honest ≡ true → old.left ≡ new.left + compared.reads
@@ -108,7 +116,8 @@ pub record ComparesPart (included : Option (List Span)) (image : List ℕ) (sect
       → TellsFirst included image old.chip.bytes (4096 * sector) (4096 * (sector + 1)) compared.first
 
 -- All sectors were compared.
-pub record ComparesAll (included : Option (List Span)) (image : List ℕ) (size : ℕ) (old new : BusState) (compared : Compared) : Type 0 where
+pub record ComparesAll (included : Option (List Span)) (image : List ℕ) (size : ℕ) (old new : BusState)
+    (compared : Compared) : Type 0 where
   pub counted : compared.reads ≡ sectors_included included size
   pub rested : old.honest ≡ true → Rested old new
   pub fell : old.honest ≡ true → old.left ≡ new.left + compared.reads

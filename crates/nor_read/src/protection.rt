@@ -5,7 +5,8 @@ ghost use Rattle.nor_chip.specs.Code.{code_in};
 ghost use Rattle.nor_chip.specs.Guard.{is_undefined};
 ghost use Rattle.nor_chip.specs.Status.{bytes_of};
 ghost use Rattle.nor_read.specs.Finding.{IsModelled};
-ghost use Rattle.nor_read.specs.Protecting.{ProtectionAlways, ProtectionHonest, ProtectionModelled, IsRangeOf, IsBorder};
+ghost use Rattle.nor_read.specs.Protecting.{ProtectionAlways, ProtectionHonest, ProtectionModelled};
+ghost use Rattle.nor_read.specs.Protecting.{IsRangeOf, IsBorder};
 
 use crate::finding::find;
 use nor_chip::{Bus, Status, protected};

@@ -4,7 +4,8 @@ ghost use Rattle.nor_chip.specs.Size.{is_chip_size};
 ghost use Rattle.nor_driver.specs.Looks.{Looks, RunsOut};
 ghost use Rattle.nor_layout.specs.Sectors.{AreOfSector};
 ghost use Rattle.nor_read.specs.Finding.{IsModelled};
-ghost use Rattle.nor_read.specs.Verifying.{VerifyAlways, VerifyHonest, VerifyModelled, ComparesPart, ComparesAll, TellsFirst};
+ghost use Rattle.nor_read.specs.Verifying.{VerifyAlways, VerifyHonest, VerifyModelled};
+ghost use Rattle.nor_read.specs.Verifying.{ComparesPart, ComparesAll, TellsFirst};
 
 use crate::finding::{find, report};
 use nor_chip::{Bus, Stopped};

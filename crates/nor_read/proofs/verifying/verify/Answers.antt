@@ -1,4 +1,4 @@
-use Rattle.std.proofs.Common.{◌≡◌, ◌≢◌, length, option_copied, rules}
+use Rattle.std.proofs.Common.{◌≡◌, ◌≢◌, None, Some, length, option_copied, rules}
 use Rattle.nor_layout.specs.Sectors.{FitsInto, ReachesPast}
 use Rattle.nor_save.specs.declared.refusal.Refusal.TheVariants.{ImageSize, RegionOutside}
 use Rattle.nor_read.proofs.Whole.{HasReported, is_err}
@@ -75,10 +75,11 @@ returns-in-None g c =
     let after = c.compare_all.ensures.leaves in let all = c.in_ok-compared.ensures.compares in
     let compared = c.in_ok-compared.compared in let report = c.report.result in
     let is : HasReported probed compared.reads report = search rules in
+    let none : compared.first ≡ None = search rules in
     record {
       always = equal_always c.args.named included image old mid probed found looks new after whole fits compared all report is;
       honest = equal_honest c.args.named included image old mid probed found looks new after whole fits compared all report is;
-      modelled = equal_modelled c.args.named included image old mid probed found looks new after whole fits compared all report is c.in-None.is;
+      modelled = equal_modelled c.args.named included image old mid probed found looks new after whole fits compared all report is none;
     }
 
 pub returns-in-Some : goal.returns-in-Some
@@ -90,8 +91,10 @@ returns-in-Some g c =
     let whole : length image ≡ probed.found.size = search rules in
     let after = c.compare_all.ensures.leaves in let all = c.in_ok-compared.ensures.compares in
     let compared = c.in_ok-compared.compared in
+    let address = c.in-Some.address in
+    let some : compared.first ≡ Some address = search rules in
     record {
-      always = mismatch_always c.args.named included image old mid probed found looks new after whole fits compared all c.in-Some.address;
-      honest = mismatch_honest c.args.named included image old mid probed found looks new after whole fits compared all c.in-Some.address;
-      modelled = mismatch_modelled c.args.named included image old mid probed found looks new after whole fits compared all c.in-Some.address c.in-Some.is;
+      always = mismatch_always c.args.named included image old mid probed found looks new after whole fits compared all address;
+      honest = mismatch_honest c.args.named included image old mid probed found looks new after whole fits compared all address;
+      modelled = mismatch_modelled c.args.named included image old mid probed found looks new after whole fits compared all address some;
     }
