@@ -56,22 +56,28 @@ fn check_session(alloc: Global) -> Result<(), Fault> {
 fn check_accepted(alloc: Global, case: &Case, ran: &Ran) -> Result<(), Fault> {
     let mut wanted = Wanted::of_case(alloc, case)?;
     let whole = transactions::session(alloc, case, &wanted)?;
-    check_more(alloc, case, &wanted, ran)?;
+    check_more(alloc, case, &wanted, whole.text(), ran)?;
     check_byte(case, &mut wanted, whole.text(), ran)
 }
 
-fn check_more(alloc: Global, case: &Case, wanted: &Wanted, ran: &Ran) -> Result<(), Fault> {
-    let lines = ran.lines()?;
-    let early = join(alloc, "06\n", lines)?;
+fn check_more(
+    alloc: Global,
+    case: &Case,
+    wanted: &Wanted,
+    lines: &str,
+    ran: &Ran,
+) -> Result<(), Fault> {
+    checks::check_ended(case, wanted, lines, ran)?;
+    let sent = ran.lines()?;
+    let early = join(alloc, "06\n", sent)?;
     let told = traces::check_ended(case, wanted, early.as_str());
     must_tell(told, "a changing command before the seal")?;
-    let wide = join(alloc, lines, "c7\n")?;
+    let wide = join(alloc, sent, "c7\n")?;
     let told = traces::check_ended(case, wanted, wide.as_str());
     must_tell(told, "the sectors that are erased")
 }
 
 fn check_byte(case: &Case, wanted: &mut Wanted, lines: &str, ran: &Ran) -> Result<(), Fault> {
-    checks::check_ended(case, wanted, lines, ran)?;
     if let Some(byte) = wanted.bytes.as_mut_slice().first_mut() {
         *byte ^= 0x10;
     }
