@@ -26,7 +26,8 @@ touched_in changes = has changes.touched
 abbrev pub raised_in : Changes → ℕ → Bool
 raised_in changes = has changes.raised
 
--- the status is written at the end: the code bits of the status that was read, none where protection was lifted, aren't the wanted ones
+-- the status is written at the end: the code bits of the status that was read, none where protection was lifted,
+-- aren't the wanted ones
 abbrev pub writes_code : Changes → Bool
 writes_code changes = not ((if changes.unlock then 0 else code_in (bytes_of changes.status)) == changes.code)
 

@@ -19,7 +19,8 @@ use Rattle.nor_probe.specs.Known.{id_of, is_no_chip, shown_as, IsKnown}
 
 -- the part that was found
 abbrev pub part_in : Found → Part
-part_in found = record { name = found.name; id = found.id; size = found.size; kinds = found.kinds; scheme = found.scheme }
+part_in found =
+    record { name = found.name; id = found.id; size = found.size; kinds = found.kinds; scheme = found.scheme }
 
 -- the chip may have this name
 abbrev pub IsWanted : Option ChipName → ChipName → Type 0
@@ -46,7 +47,8 @@ needed chip = chip.busy + 1 + reads_of (id_of chip.config)
 -- Whatever the bus: the part is a row of the table, or one by SFDP, of a size that a chip may have.
 pub record IsPart (found : Found) : Type 0 where
   pub driven : is_no_chip found.id ≡ false
-  pub origin : (part_of found.id ≡ Some (part_in found)) ⊎ ((part_of found.id ≡ None) × (found.name ≡ Sfdp) × (found.scheme ≡ false))
+  pub origin : (part_of found.id ≡ Some (part_in found))
+      ⊎ ((part_of found.id ≡ None) × (found.name ≡ Sfdp) × (found.scheme ≡ false))
   pub sized : is_chip_size found.size ≡ true
   pub at_least : 65536 ≤ found.size
   pub at_most : found.size ≤ 16777216

@@ -15,7 +15,8 @@ double_word k table = little_from (4 * (k - 1)) 4 table
 -- the header begins with the letters SFDP
 unfoldable pub has_signature : List ℕ → Bool
 has_signature header =
-    (slice_index header 0 == 0x53) && (slice_index header 1 == 0x46) && (slice_index header 2 == 0x44) && (slice_index header 3 == 0x50)
+    (slice_index header 0 == 0x53) && (slice_index header 1 == 0x46)
+    && (slice_index header 2 == 0x44) && (slice_index header 3 == 0x50)
 
 -- the first parameter header is that of the basic table, in its first major revision
 unfoldable pub is_basic : List ℕ → Bool

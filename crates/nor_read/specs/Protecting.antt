@@ -23,7 +23,8 @@ pub record IsGuardedRange (chip : Chip) (start len : ℕ) : Type 0 where
 -- its status is locked or not; and its size.
 pub record IsProtection (chip : Chip) (protection : Protection) : Type 0 where
   pub scheme : chip.config.scheme ≡ true
-  pub guarded : MatchOption protection.range (is_undefined (code_of chip) ≡ true) (λ places. IsGuardedRange chip places.0 places.1)
+  pub guarded : MatchOption protection.range (is_undefined (code_of chip) ≡ true)
+      (λ places. IsGuardedRange chip places.0 places.1)
   pub lock : protection.locked ≡ is_locked chip
   pub chip_size : protection.size ≡ chip.config.size
 

@@ -99,7 +99,8 @@ pub record HasBegun {V : Type 0} (state : V → VaultState) (writer : Writer V) 
   pub next : next_number content ≤ n
 
 -- And the records are those of just these sectors.
-pub record HasBegunWith {V : Type 0} (state : V → VaultState) (writer : Writer V) (size n : ℕ) (sectors : ℕ → Bool) : Type 0 where
+pub record HasBegunWith {V : Type 0} (state : V → VaultState) (writer : Writer V) (size n : ℕ)
+    (sectors : ℕ → Bool) : Type 0 where
   pub begun : HasBegun state writer size n
   pub saved : (s : ℕ) → is_saved begun.content s ≡ sectors s
 

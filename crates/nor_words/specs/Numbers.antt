@@ -25,14 +25,16 @@ number_of = numeral 10 20 18446744073709551615
 abbrev pub polls_of : Text → Option ℕ
 polls_of = numeral 10 20 65535
 
--- an address or a length: `0x` and 1 to 8 hexadecimal digits, or 1 to 10 decimal digits, up to the greatest number of 32 bits
+-- an address or a length: `0x` and 1 to 8 hexadecimal digits, or 1 to 10 decimal digits, up to the greatest number of
+-- 32 bits
 abbrev pub place_of : Text → Option ℕ
 place_of text = if starts_with nat_eq text (codes "0x") then numeral 16 8 4294967295 (drop 2 text)
     else numeral 10 10 4294967295 text
 
 -- a start and a length, around the first comma
 abbrev pub range_of : Text → Option (ℕ × ℕ)
-range_of text = option_and_then (λ start. option_map (λ len. (start, len)) (place_of (rest_of text))) (place_of (front_of text))
+range_of text =
+    option_and_then (λ start. option_map (λ len. (start, len)) (place_of (rest_of text))) (place_of (front_of text))
 
 -- the eight bytes of 16 hexadecimal digits
 abbrev pub unique_of : Text → Option (List ℕ)

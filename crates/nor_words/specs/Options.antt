@@ -79,4 +79,6 @@ with_rules = fold with_rule
 
 -- all options
 abbrev pub options : App
-options = with_rule (with_rules (with_rules (with_rules (with_rules no_options chip_rules) reader_rules) change_rules) manner_rules) help_rule
+options =
+    with_rule (with_rules (with_rules (with_rules (with_rules no_options chip_rules) reader_rules) change_rules)
+    manner_rules) help_rule

@@ -82,8 +82,8 @@ is_programmer text = starts_with nat_eq text (codes "dummy:")
 abbrev pub has_stop : Text → Bool
 has_stop text = is_programmer text && is_some (option_and_then number_of (said text (codes "stop")))
 
--- The text is a programmer's, and this one's: each part is what the setting with its key says, or nothing where there is
--- none.
+-- The text is a programmer's, and this one's: each part is what the setting with its key says, or nothing where there
+-- is none.
 pub record IsProgrammer (text : Text) (programmer : Programmer) : Type 0 where
   pub sound : is_programmer text ≡ true
   pub chip : option_and_then chip_named (said text (codes "emulate")) ≡ Some programmer.chip

@@ -222,7 +222,8 @@ impl<'a> Given<'a> {
 
     // `-n` or `--unlock` is there, and no new content.
     fn has_unneeded(&self) -> bool
-        ensures { result ≡ (((texts_of self.now).no_verify || (texts_of self.now).unlock) && not (is_new_content (texts_of self.now))) }
+        ensures { result ≡ (((texts_of self.now).no_verify || (texts_of self.now).unlock)
+            && not (is_new_content (texts_of self.now))) }
     {
         (self.no_verify || self.unlock) && !self.is_new_content()
     }
@@ -260,7 +261,8 @@ impl<'a> Given<'a> {
     // What the chip is changed to.
     fn wanted(&self, range: Option<(u32, u32)>) -> Option<Wanted<'a>>
         requires { option_and_then range_of (texts_of self.now).wp_range ≡ range }
-        ensures { MatchOption result ((is_new_content (texts_of self.now) ≡ false) × (range ≡ None)) (IsWanted (texts_of self.now)) }
+        ensures { MatchOption result ((is_new_content (texts_of self.now) ≡ false) × (range ≡ None))
+            (IsWanted (texts_of self.now)) }
     {
         match (self.write, range) {
             (Some(image), _) => Some(Wanted::Write { image }),
@@ -272,7 +274,8 @@ impl<'a> Given<'a> {
 
     // What becomes of a change's journal.
     fn keeping(&self, stops: Option<ArrayVec<u64, MOST_STOPS>>) -> Keeping<'a>
-        requires read { option_and_then stops_of (texts_of self.now).rehearse ≡ option_map (λ stops. stops.items) stops }
+        requires read { option_and_then stops_of (texts_of self.now).rehearse
+            ≡ option_map (λ stops. stops.items) stops }
         requires kept { (texts_of self.now).journal ≡ None → is_some stops ≡ true }
         ensures { IsKeeping (texts_of self.now) result }
     {

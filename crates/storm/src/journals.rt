@@ -8,8 +8,8 @@ use crate::wanted::Wanted;
 use crate::{guards, lengths};
 use std::alloc::Global;
 
-/// The journal up to its end mark, of which sectors below this one were scanned: the head, and a record for each touched
-/// sector, rising.
+/// The journal up to its end mark, of which sectors below this one were scanned: the head, and a record for each
+/// touched sector, rising.
 pub fn begun(alloc: Global, case: &Case, wanted: &Wanted, below: u32) -> Result<Vec<u8>, Fault> {
     let mut text = Vec::new(alloc);
     put_head(&mut text, &case.chip)?;

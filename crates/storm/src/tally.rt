@@ -39,8 +39,8 @@ impl Tally {
         lied: 0,
     };
 
-    /// In so many cases each kind came often enough to say something: sessions and restores that are accepted, readings,
-    /// and each of a session's ten refusals. No other refusal came.
+    /// In so many cases each kind came often enough to say something: sessions and restores that are accepted,
+    /// readings, and each of a session's ten refusals. No other refusal came.
     pub fn is_telling(&self, cases: u64) -> bool {
         let least = least(cases);
         let mut refused = self.refused.iter().enumerate();

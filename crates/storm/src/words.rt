@@ -12,8 +12,8 @@ pub struct Job {
 }
 
 impl Job {
-    /// `SEED COUNT` asks for so many cases from case 0 on, `SEED COUNT FIRST` from another on. `SEED-LAST` in place of a
-    /// seed asks for them of each seed from one to the other. Other words ask for nothing.
+    /// `SEED COUNT` asks for so many cases from case 0 on, `SEED COUNT FIRST` from another on. `SEED-LAST` in place of
+    /// a seed asks for them of each seed from one to the other. Other words ask for nothing.
     pub fn of(words: &[String]) -> Option<Job> {
         match words {
             [seeds, count] => Job::of_numbers(seeds.as_str(), count.as_str(), "0"),
