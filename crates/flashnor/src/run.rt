@@ -15,7 +15,7 @@ use crate::printing::{Ending, print_end};
 use crate::readings::{find_chip, list_ranges, read_chip, tell_protection, tell_size, verify_chip};
 use crate::stores::{Disk, Store};
 use nor_chip::{Bus, Meter, SimBus, TraceBus};
-use nor_words::{Change, ChipJob, Job, Keeping, Task, job_of};
+use nor_words::{Change, ChipJob, Job, Keeping, Task, request_of};
 use std::io;
 use std::io::Write;
 use std::rt::Files;
@@ -99,7 +99,7 @@ impl<'a> Ended<'a> {
 fn run<'a, R: Store>(rt: &R, words: &'a [String]) -> Ended<'a>
     ensures { IsAnswer (R.happened rt.now) (map string_bytes words.now) result.answer result.unwritten }
 {
-    match job_of(rt.alloc(), words) {
+    match request_of(rt.alloc(), words) {
         Ok(Job::List) => Ended::before(Ok(Answer::Chips)),
         Ok(Job::Chip(job)) => match work_on_chip(rt, &job) {
             Ok(ended) => ended,

@@ -97,8 +97,9 @@ impl From<WordsError> for UsageFault {
     }
 }
 
-/// The job that the words ask for, which are those after the program's name.
-pub fn job_of<'a>(alloc: Global, words: &'a [String]) -> Result<Job<'a>, UsageFault>
+/// What the words request, which are those after the program's name: a job. (A `Request` is less, the part of a change
+/// that a session is given.)
+pub fn request_of<'a>(alloc: Global, words: &'a [String]) -> Result<Job<'a>, UsageFault>
     ensures { MatchResult result (IsJob (map string_bytes words.now)) (IsFault (map string_bytes words.now)) }
 {
     let matches = make_options(alloc)?.try_get_matches_from(words)?;

@@ -1,5 +1,5 @@
 //! Words of the command line, where memory is ample.
-use nor_words::job_of;
+use nor_words::request_of;
 
 // A want of memory may be the answer to any words, so no clause refuses a body that always tells it.
 #[test]
@@ -16,5 +16,5 @@ fn words_memory(rt: HostRuntime) {
         let word = String::from_str(rt.alloc(), word).expect(&rt, "memory");
         words.push(word).expect(&rt, "memory");
     }
-    assert!(rt; job_of(rt.alloc(), words.as_slice()).is_ok());
+    assert!(rt; request_of(rt.alloc(), words.as_slice()).is_ok());
 }

@@ -4,7 +4,7 @@ use Rattle.nor_words.specs.Given.{given_in, texts_of}
 use Rattle.nor_words.specs.Text.{Text}
 use Rattle.nor_words.proofs.Asked.{asked-by_words}
 use Rattle.nor_words.proofs.Taken.{refusals_of-taken, rows-taken}
-use Rattle.nor_words.proofs.words.job_of.Goals as goal
+use Rattle.nor_words.proofs.words.request_of.Goals as goal
 
 pub returns : goal.returns
 returns c =
