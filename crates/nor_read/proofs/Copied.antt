@@ -1,4 +1,4 @@
--- A copy grows by a sector after the other.
+-- A copy grows by a piece after the other.
 use Rattle.std.proofs.Common.{◌≡◌, ◌≤◌, ◌<◌, ◌+◌, ◌-◌, ◌*◌, ◌++◌, ◌∙◌, ℕ, true, List, [], length, slice_index, Option, refl, ap, sym, subst, arith, inl, inr, append_assoc, append-nil, length-append}
 use Rattle.std.specs.Prelude.{◌/◌, if◌then◌else◌}
 use Rattle.std.proofs.lemmas.Bool.{cases_lt}
@@ -12,8 +12,8 @@ use Rattle.nor_layout.specs.Sectors.{includes, has_in_sector, sectors_included}
 use Rattle.nor_layout.proofs.Below.{count_below-zero}
 use Rattle.nor_save.specs.Scanning.{IsOpen}
 use Rattle.nor_save.proofs.Rests.{HasLooked, has_looked-none}
-use Rattle.nor_read.specs.Reading.{copied, Grows, Copies, ReadsPart, ReadsAll}
-use Rattle.nor_read.proofs.Onward.{looked_on, counted_on, at_most, open_on}
+use Rattle.nor_read.specs.Reading.{copied, Grows, Copies, ReadsPiece, ReadsAll}
+use Rattle.nor_read.proofs.Onward.{looked_on, open_on}
 
 -- So many bytes went into a vault; where something is known of the bus, they are the first ones of the copy.
 pub record CopiesIf (known : Type 0) (included : Option (List Span)) (content : ℕ → ℕ) (count : ℕ) (old new : VaultState) : Type 0 where
@@ -29,13 +29,13 @@ pub copies_if : (known : Type 0) (included : Option (List Span)) (content : ℕ 
     → Copies included content count old new
 copies_if known included content count old new copies is = record { bytes = copies.bytes; long = copies.long; grown = copies.grown; right = copies.right is }
 
--- The sectors below n were copied.
+-- The pieces below n were copied.
 pub record HasCopied (included : Option (List Span)) (size n : ℕ) (old new : BusState) (vault vault' : VaultState) (reads : ℕ) : Type 0 where
-  pub few : reads ≤ n
-  pub counted : reads ≡ count_below n (has_in_sector (includes included))
+  pub few : reads ≤ 16 * n
+  pub counted : reads ≡ count_below (16 * n) (has_in_sector (includes included))
   pub looked : HasLooked reads old new
   pub accepted : Accepted vault vault'
-  pub copy : vault.telling ≡ true → CopiesIf (IsOpen size old) included old.chip.bytes (4096 * n) vault vault'
+  pub copy : vault.telling ≡ true → CopiesIf (IsOpen size old) included old.chip.bytes (65536 * n) vault vault'
 
 pub copied_none : (included : Option (List Span)) (size : ℕ) (state : BusState) (vault : VaultState) → HasCopied included size 0 state state vault vault 0
 copied_none included size state vault = record {
@@ -68,36 +68,41 @@ copies_more known included content m k part vault mid new has long grown right =
   ];
 }
 
--- the bytes of a sector that was read are those of the copy
-pub part_right : (included : Option (List Span)) (size n reads more : ℕ) (bytes : List ℕ) (old mid new : BusState) → n < size / 4096 → HasLooked reads old mid → ReadsPart included n bytes mid new more
-    → IsOpen size old → (i : ℕ) → i < 4096 → slice_index bytes i ≡ copied included old.chip.bytes (4096 * n + i)
-part_right included size n reads more bytes old mid new below looked part is_open i small =
+-- the bytes of a piece that was read are those of the copy
+pub piece_right : (included : Option (List Span)) (size n reads more : ℕ) (bytes : List ℕ) (old mid new : BusState) → n < size / 65536 → HasLooked reads old mid → ReadsPiece included n bytes mid new more
+    → IsOpen size old → (i : ℕ) → i < 65536 → slice_index bytes i ≡ copied included old.chip.bytes (65536 * n + i)
+piece_right included size n reads more bytes old mid new below looked piece is_open i small =
     let now = open_on size reads old mid is_open looked in
-    part.right now.honest now.idle (let same = now.same in omega arith) i small
-    ∙ ap (λ (b : ℕ). if includes included (4096 * n + i) then b else 255) ((looked.rested is_open.honest).unchanged.same.bytes (4096 * n + i))
+    piece.right now.honest now.idle (let same = now.same in omega arith) i small
+    ∙ ap (λ (b : ℕ). if includes included (65536 * n + i) then b else 255) ((looked.rested is_open.honest).unchanged.same.bytes (65536 * n + i))
 
--- a sector more
-pub copied_more : (included : Option (List Span)) (size n reads more : ℕ) (bytes : List ℕ) (old mid new : BusState) (vault now later : VaultState) → n < size / 4096 → length bytes ≡ 4096
-    → HasCopied included size n old mid vault now reads → Looks 1 mid new → ReadsPart included n bytes mid new more → Took now bytes later
+-- a piece more
+pub copied_more : (included : Option (List Span)) (size n reads more : ℕ) (bytes : List ℕ) (old mid new : BusState) (vault now later : VaultState) → n < size / 65536 → length bytes ≡ 65536
+    → HasCopied included size n old mid vault now reads → Looks 16 mid new → ReadsPiece included n bytes mid new more → Took now bytes later
     → HasCopied included size (n + 1) old new vault later (reads + more)
-copied_more included size n reads more bytes old mid new vault now later below long has looks part took = record {
-  few = let few = has.few in let one = at_most more (has_in_sector (includes included) n) part.counted in omega arith;
-  counted = counted_on n reads more (has_in_sector (includes included)) has.counted part.counted;
-  looked = looked_on reads more old mid new has.looked looks part.rested part.fell;
+copied_more included size n reads more bytes old mid new vault now later below long has looks piece took = record {
+  few = let few = has.few in let most = piece.most in omega arith;
+  counted =
+      let before = has.counted in let last = piece.counted in
+      let e : 16 * (n + 1) ≡ 16 * n + 16 = omega arith in
+      let same : count_below (16 * (n + 1)) (has_in_sector (includes included)) ≡ count_below (16 * n + 16) (has_in_sector (includes included))
+      = ap (λ (k : ℕ). count_below k (has_in_sector (includes included))) e in
+      omega arith;
+  looked = looked_on 16 reads more old mid new has.looked looks piece.rested piece.fell;
   accepted = record {
     telling = took.telling ∙ has.accepted.telling;
     sealed = took.sealed ∙ has.accepted.sealed;
     failures = took.failures ∙ has.accepted.failures;
   };
   copy = λ telling.
-      let e : 4096 * n + 4096 ≡ 4096 * (n + 1) = omega arith in
+      let e : 65536 * n + 65536 ≡ 65536 * (n + 1) = omega arith in
       subst (λ (k : ℕ). CopiesIf (IsOpen size old) included old.chip.bytes k vault later) e
-      (copies_more (IsOpen size old) included old.chip.bytes (4096 * n) 4096 bytes vault now later (has.copy telling) long (took.bytes (has.accepted.telling ∙ telling))
-      (part_right included size n reads more bytes old mid new below has.looked part));
+      (copies_more (IsOpen size old) included old.chip.bytes (65536 * n) 65536 bytes vault now later (has.copy telling) long (took.bytes (has.accepted.telling ∙ telling))
+      (piece_right included size n reads more bytes old mid new below has.looked piece));
 }
 
 -- all of them
-pub copied_all : (included : Option (List Span)) (size n reads : ℕ) (old new : BusState) (vault vault' : VaultState) → 4096 * n ≡ size
+pub copied_all : (included : Option (List Span)) (size n reads : ℕ) (old new : BusState) (vault vault' : VaultState) → 65536 * n ≡ size
     → HasCopied included size n old new vault vault' reads → reads ≡ sectors_included included size
     → ReadsAll included size old new vault vault' reads
 copied_all included size n reads old new vault vault' whole has counted =

@@ -151,7 +151,7 @@ pub compared_more : (included : Option (List Span)) (image : List ℕ) (size n r
 compared_more included image size n reads old mid new first part below has looks compares = record {
   few = let few = has.few in let one = at_most part.reads (has_in_sector (includes included) n) compares.counted in omega arith;
   counted = counted_on n reads part.reads (has_in_sector (includes included)) has.counted compares.counted;
-  looked = looked_on reads part.reads old mid new has.looked looks compares.rested compares.fell;
+  looked = looked_on 1 reads part.reads old mid new has.looked looks compares.rested compares.fell;
   tells = λ is_open.
       let now = open_on size reads old mid is_open has.looked in
       tells_more included image old.chip.bytes 0 (4096 * n) (4096 * (n + 1)) first part.first (omega arith) (omega arith) (has.tells is_open)

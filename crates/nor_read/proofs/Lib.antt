@@ -1,4 +1,5 @@
 pub mod Onward
+pub mod Pieces
 pub mod Copied
 pub mod CopyExits
 pub mod Differing

@@ -10,9 +10,9 @@ use Rattle.nor_save.specs.Scanning.{IsOpen}
 use Rattle.nor_save.proofs.Rests.{HasLooked, rested_then}
 
 -- a step more, which succeeded
-pub looked_on : (reads more : ℕ) (old mid new : BusState) → HasLooked reads old mid → Looks 1 mid new → (mid.honest ≡ true → Rested mid new) → (mid.honest ≡ true → mid.left ≡ new.left + more)
+pub looked_on : (most reads more : ℕ) (old mid new : BusState) → HasLooked reads old mid → Looks most mid new → (mid.honest ≡ true → Rested mid new) → (mid.honest ≡ true → mid.left ≡ new.left + more)
     → HasLooked (reads + more) old new
-looked_on reads more old mid new has looks rested fell = record {
+looked_on most reads more old mid new has looks rested fell = record {
   honest = looks.honest ∙ has.honest;
   steady = looks.steady ∙ has.steady;
   stirred = looks.stirred ∙ has.stirred;

@@ -5,6 +5,7 @@ use Rattle.nor_chip.specs.Bus.{BusState}
 use Rattle.nor_driver.specs.Looks.{Looks, Rested, RanOut, RunsOut}
 use Rattle.nor_journal.specs.Vault.{VaultState, PutRefused, Refused, Accepted}
 use Rattle.nor_layout.specs.declared.ranges.Span.{Span}
+use Rattle.nor_layout.specs.Below.{count_below}
 use Rattle.nor_layout.specs.Sectors.{includes, has_in_sector, sectors_included, AreOfSector, FitsInto}
 use Rattle.nor_probe.specs.declared.table.ChipName.{ChipName}
 use Rattle.nor_probe.specs.Found.{IsConfigOf}
@@ -105,7 +106,7 @@ pub record ReadOutModelled (named : Option ChipName) (included : Option (List Sp
   -- a refusal tells of addresses that aren't on the chip, of too few transactions, or how far the copy came
   pub tells : IfErr result (ReadOutTells named included old new vault vault')
 
--- ---- sector by sector
+-- ---- piece by piece, and each sector by sector
 
 -- A sector's part of the copy was made: by one transaction where it holds an included address, else by none.
 pub record ReadsPart (included : Option (List Span)) (sector : ℕ) (bytes : List ℕ) (old new : BusState)
@@ -115,6 +116,17 @@ pub record ReadsPart (included : Option (List Span)) (sector : ℕ) (bytes : Lis
   pub fell : old.honest ≡ true → old.left ≡ new.left + reads
   pub right : old.honest ≡ true → old.chip.busy ≡ 0 → 4096 * (sector + 1) ≤ old.chip.config.size
       → AreOfSector (copied included old.chip.bytes) sector bytes
+
+-- A piece of the copy was made, of sixteen sectors: by one transaction for each that holds an included address.
+pub record ReadsPiece (included : Option (List Span)) (piece : ℕ) (bytes : List ℕ) (old new : BusState)
+    (reads : ℕ) : Type 0 where
+  pub counted : count_below (16 * piece + 16) (has_in_sector (includes included))
+      ≡ count_below (16 * piece) (has_in_sector (includes included)) + reads
+  pub most : reads ≤ 16
+  pub rested : old.honest ≡ true → Rested old new
+  pub fell : old.honest ≡ true → old.left ≡ new.left + reads
+  pub right : old.honest ≡ true → old.chip.busy ≡ 0 → 65536 * (piece + 1) ≤ old.chip.config.size
+      → (i : ℕ) → i < 65536 → slice_index bytes i ≡ copied included old.chip.bytes (65536 * piece + i)
 
 -- All sectors were copied.
 pub record ReadsAll (included : Option (List Span)) (size : ℕ) (old new : BusState) (vault vault' : VaultState)
@@ -139,8 +151,8 @@ CopyTells included size old new vault vault' Stopped = RunsOut (size / 4096) old
 CopyTells included size old new vault vault' (Output written) = BreaksCopy included size written old new vault vault'
 CopyTells included size old new vault vault' _ = ⊥
 
--- what a refusal of a sector of the copy tells: the bytes of the sectors before it, and those of it that went in
+-- what a refusal of a piece of the copy tells: the bytes of the pieces before it, and those of it that went in
 abbrev pub PutTells : ℕ → List ℕ → VaultState → VaultState → Refusal → Type 0
-PutTells sector bytes old new (Output written) =
-    (kept : ℕ) × (written ≡ 4096 * sector + kept) × PutRefused old bytes kept new
-PutTells sector bytes old new _ = ⊥
+PutTells piece bytes old new (Output written) =
+    (kept : ℕ) × (written ≡ 65536 * piece + kept) × PutRefused old bytes kept new
+PutTells piece bytes old new _ = ⊥

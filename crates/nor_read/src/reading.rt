@@ -1,11 +1,11 @@
 //! Reads a chip out into a vault.
-ghost use Rattle.std.specs.Prelude.{◌≡◌, ◌<◌, ◌/◌, true, false, IfOk, IfErr, OnOk, OnErr, IsTrue, option_copied};
+ghost use Rattle.std.specs.Prelude.{◌≡◌, ◌<◌, ◌/◌, true, false, length, IfOk, IfErr, OnOk, OnErr, IsTrue, option_copied};
 ghost use Rattle.nor_chip.specs.Size.{is_chip_size};
 ghost use Rattle.nor_driver.specs.Looks.{Looks, RunsOut};
 ghost use Rattle.nor_journal.specs.Vault.{Took};
 ghost use Rattle.nor_read.specs.Finding.{IsModelled};
 ghost use Rattle.nor_read.specs.Reading.{ReadOutAlways, ReadOutHonest, ReadOutModelled};
-ghost use Rattle.nor_read.specs.Reading.{ReadsPart, ReadsAll, CopyTells, PutTells};
+ghost use Rattle.nor_read.specs.Reading.{ReadsPart, ReadsPiece, ReadsAll, CopyTells, PutTells};
 
 use crate::finding::{find, report};
 use nor_chip::{Bus, Stopped};
@@ -55,10 +55,32 @@ fn copy_all<B: Bus, V: Vault>(
         (B.state bus.old) (B.state bus.new) (V.state out.old) (V.state out.new)) }
 {
     let mut reads = 0;
-    let mut bytes = [0; 4096];
-    for sector in 0..size / 4096 {
-        reads += read_part(bus, included, sector, &mut bytes)?;
-        put_part(out, sector, &bytes)?;
+    let mut bytes = [0; 65_536];
+    for piece in 0..size / 65_536 {
+        reads += read_piece(bus, included, piece, &mut bytes)?;
+        put_piece(out, piece, &bytes)?;
+    }
+    Ok(reads)
+}
+
+// Makes a piece of the copy, of sixteen sectors. Answers how many transactions that took.
+fn read_piece<B: Bus>(
+    bus: &mut B,
+    included: Option<&Ranges>,
+    piece: u32,
+    bytes: &mut [u8; 65_536],
+) -> Result<u32, Stopped>
+    requires { piece < 256 }
+    ensures leaves { Looks 16 (B.state bus.old) (B.state bus.new) }
+    ensures reads { IfOk result
+        (ReadsPiece (option_copied included.entry) piece bytes.new (B.state bus.old) (B.state bus.new)) }
+    ensures stops { OnErr result (RunsOut 16 (B.state bus.old) (B.state bus.new)) }
+{
+    let mut reads = 0;
+    for k in 0..16 {
+        let start = 4096 * k as usize;
+        let part = &mut bytes[start..start + 4096];
+        reads += read_part(bus, included, 16 * piece + k, part)?;
     }
     Ok(reads)
 }
@@ -68,9 +90,10 @@ fn read_part<B: Bus>(
     bus: &mut B,
     included: Option<&Ranges>,
     sector: u32,
-    bytes: &mut [u8; 4096],
+    bytes: &mut [u8],
 ) -> Result<u32, Stopped>
-    requires { sector < 4096 }
+    requires reachable { sector < 4096 }
+    requires whole { length bytes.old ≡ 4096 }
     ensures leaves { Looks 1 (B.state bus.old) (B.state bus.new) }
     ensures reads { IfOk result
         (ReadsPart (option_copied included.entry) sector bytes.new (B.state bus.old) (B.state bus.new)) }
@@ -85,17 +108,17 @@ fn read_part<B: Bus>(
     Ok(1)
 }
 
-// Puts a sector of the copy behind those before it. A refusal tells how many bytes went in with them.
-fn put_part<V: Vault>(out: &mut V, sector: u32, bytes: &[u8; 4096]) -> Result<(), Refusal>
-    requires reachable { sector < 4096 }
+// Puts a piece of the copy behind those before it. A refusal tells how many bytes went in with them.
+fn put_piece<V: Vault>(out: &mut V, piece: u32, bytes: &[u8; 65_536]) -> Result<(), Refusal>
+    requires reachable { piece < 256 }
     requires unsealed { (V.state out.old).sealed ≡ false }
     ensures takes { OnOk result (Took (V.state out.old) bytes.now (V.state out.new)) }
-    ensures tells { IfErr result (PutTells sector bytes.now (V.state out.old) (V.state out.new)) }
+    ensures tells { IfErr result (PutTells piece bytes.now (V.state out.old) (V.state out.new)) }
 {
     match out.put(bytes) {
         Ok(()) => Ok(()),
         Err(fault) => Err(Refusal::Output {
-            written: 4096 * u64::from(sector) + fault.kept as u64,
+            written: 65_536 * u64::from(piece) + fault.kept as u64,
         }),
     }
 }

@@ -278,8 +278,8 @@ struct Copied {
 
 // A copy into a vault that refuses one of its calls tells how many bytes went in.
 fn check_refused_copy(alloc: Global, dice: &mut Dice, case: &Case) -> Result<(), Fault> {
-    let nth = u64::from(dice.below(case.chip.sectors())).saturating_add(1);
-    let kept = dice.pick(0, &[1, 4095]);
+    let nth = u64::from(dice.below(case.chip.sectors() / 16)).saturating_add(1);
+    let kept = dice.pick(0, &[1, 4095, 65_535]);
     let bus = case.chip.bus(alloc, u64::MAX, None)?;
     let copied = copy_out(alloc, case, bus, (nth, kept));
     if let Err(Refusal::Output { written }) = copied.answer {
@@ -303,11 +303,13 @@ fn copy_out(alloc: Global, case: &Case, bus: SimBus, (nth, kept): (u64, usize)) 
     Copied { answer, out, sent }
 }
 
-// The bytes that went in are the first of the copy. No sector is read behind the one that holds the next.
+// The bytes that went in are the first of the copy. Sixteen sectors are read and put at a time, and none is read behind
+// those that hold the next byte.
 fn check_part(alloc: Global, case: &Case, written: u64, copied: &Copied) -> Result<(), Fault> {
     check_first(alloc, case, written, copied.out.inner().bytes())?;
-    let below = u32::try_from(written / 4096).unwrap_or(u32::MAX);
-    let lines = transactions::reading(alloc, case, below.saturating_add(1))?;
+    let piece = u32::try_from(written / 65_536).unwrap_or(u32::MAX);
+    let below = piece.saturating_add(1).saturating_mul(16);
+    let lines = transactions::reading(alloc, case, below)?;
     traces::check_trace(copied.sent.as_slice(), lines.text(), "a refused copy")
 }
 
