@@ -41,8 +41,11 @@ usage_faults given =
     ∷ (has_wrong_journal given, why.Journal)
     ∷ (has_wrong_regions given, why.Layout)
     ∷ ((given.no_verify || given.unlock) && not (is_new_content given), why.Unneeded)
-    ∷ (is_no (reads stops_of) given.rehearse
-      || (is_some given.rehearse && is_there has_stop given.programmer), why.Stops)
+    ∷ (
+      is_no (reads stops_of) given.rehearse
+          || (is_some given.rehearse && is_there has_stop given.programmer),
+      why.Stops,
+    )
     ∷ []
 
 -- the first that holds
