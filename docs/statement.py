@@ -2,9 +2,10 @@
 """docs/statement.py [--check]: the page docs/STATEMENT.md, made from the sources.
 
 It prints all that three calls promise: each definition of specs/ and each type of src/ that their contracts need, in an
-order in which each word is explained before it is used, and then the contracts. With --check it compares the page with
-what it would print, tells each difference, and ends with status 1 where there is one. It fails where a name is found
-nowhere, where SUBJECTS hasn't the file of a word, and where LEGEND doesn't explain a word of a library.
+order in which each word is explained before it is used, and then the contracts. A definition by one equation has its
+signature in it. With --check it compares the page with what it would print, tells each difference, and ends with status
+1 where there is one. It fails where a name is found nowhere, where SUBJECTS hasn't the file of a word, and where LEGEND
+doesn't explain a word of a library.
 """
 import difflib
 import functools
@@ -53,7 +54,8 @@ SUBJECTS = {
 HEAD = """# The statement
 
 All that the calls `session`, `restore` and `rehearse` promise: their contracts stand at the end, and before them each
-definition and type that these need, as it stands in its source, so that each word is explained before it is used.
+definition and type that these need, as its source has it, so that each word is explained before it is used. (A
+definition by one equation, which in its source has its signature above it, has the types beside its arguments.)
 `make statement` makes this page from the sources (`docs/statement.py`), `make agree` compares it with them, and it has
 {told} without comments and blanks.
 
@@ -68,7 +70,7 @@ LEGEND = {
         "list. `f x y` is f of x and y, and `vault'` is just a name. Of equations the first that fits is meant; `_` "
         "fits anything.",
     "record":
-        "A `record` of statements holds where all its named fields hold. A field that is a value (`pub code : ℕ`) "
+        "A `record` of statements holds where all its named fields hold. A field that is a value (`code : ℕ`) "
         "says that there is one, of which the fields behind it speak. A record of values (`Chip`) has these as its "
         "parts: `chip.busy` is one, `record { busy = 0; .. }` is a whole, and `record c { busy = 0 }` is c with "
         "another `busy`.",
@@ -93,8 +95,8 @@ LEGEND = {
     "":
         "In a contract `bus.old` is what a call is given and `bus.new` what it leaves, at every exit and whatever "
         "it answers; `request.now` stays as it is. `B.state bus.old` is the state of a bus of type B, and `result` "
-        "the answer. `requires` is what the caller owes, `ensures` what holds then. `pub`, `abbrev`, `unfoldable` "
-        "and `ghost` tell a reader nothing.",
+        "the answer. `requires` is what the caller owes, `ensures` what holds then. `pub` and `ghost` tell a reader "
+        "nothing.",
     "Vec Model":
         "In types of `src/`, `u8` to `u64` and `usize` are numbers of so many bits; `[u8; 3]`, `&[u8]` and "
         "`Vec<u8>` are lists, which of a `Vec` are its `items`. Of a type with an `impl Model` contracts see its "
@@ -182,9 +184,52 @@ def sections(uses):
     return found
 
 
+def split_type(text):
+    """Returns the types of a signature's arguments, each with the names that it gives, and the type of the answer."""
+    parts, depth, done = [], 0, 0
+    for match in re.finditer(r"[({\[]|[)}\]]|\s→\s", text):
+        depth += {"(": 1, "{": 1, "[": 1, ")": -1, "}": -1, "]": -1}.get(match.group(), 0)
+        if not depth and "→" in match.group():
+            parts, done = [*parts, text[done : match.start()].strip()], match.end()
+    found = []
+    for part in parts:
+        named = re.fullmatch(r"\(([\w' ]+) : (.*)\)", part)
+        found += [named[2]] * len(named[1].split()) if named else [part]
+    found = [re.sub(r"^\(([^()]*)\)$", r"\1", kind) for kind in found]
+    return found, text[done:].strip()
+
+
+def joined(word):
+    """Returns the lines of a definition as the page has them: without the marks of the language, and where it has one
+    equation, whose arguments are all names, with their types beside them."""
+    code = [re.sub(r"^((abbrev|unfoldable|pub) )+|^(  )pub ", r"\3", line) for line in word.code]
+    equation = next((at for at, line in enumerate(code) if line.startswith(f"{word.name} ") and at), None)
+    if word.kind or equation is None or sum(line.startswith(f"{word.name} ") for line in code) != 2:
+        return code
+    types, answer = split_type(" ".join(line.strip() for line in code[:equation]).partition(" : ")[2])
+    left, _, right = "\n".join(code[equation:]).partition(" =")
+    names = left.split()[1:]
+    if len(names) > len(types) or not all(re.fullmatch(r"[a-z]\w*'?", name) for name in names):
+        return code
+    groups = [(kind, [name for _, name in group]) for kind, group in
+              itertools.groupby(zip(types, names), key=lambda pair: pair[0])]
+    head = " ".join([word.name, *(f"({' '.join(group)} : {kind})" for kind, group in groups)])
+    head += " : " + " → ".join([*types[len(names) :], answer]) + " ="
+    lines = (head + right).splitlines()
+    whole = " ".join(line.strip() for line in lines)
+    if len(lines) == 2 and len(whole) <= 120:
+        return [whole]
+    return lines if len(lines[0]) <= 120 else [head, "    " + lines[0][len(head) :].strip(), *lines[1:]]
+
+
+def lines_of(word):
+    """Returns the lines of a word as the page has them."""
+    return joined(word) if word.source.path.endswith(".antt") else word.code
+
+
 def count(words):
     """Returns how many lines some words have without comments and blanks."""
-    return sum(line.strip()[:2] not in ("", "--", "//") for word in words for line in word.code)
+    return sum(line.strip()[:2] not in ("", "--", "//") for word in words for line in lines_of(word))
 
 
 def show(words):
@@ -195,7 +240,7 @@ def show(words):
         lines += [f"`crates/{path}`: {group[0].source.head}", "", "```" + ("" if path.endswith(".antt") else "rust")]
         for word in group:
             lines += [word.part, ""] if word.part != part else []
-            lines += [*word.comment, *word.code, ""]
+            lines += [*word.comment, *lines_of(word), ""]
             part = word.part
         lines[-1:] = ["```", ""]
     return lines[:-1]
