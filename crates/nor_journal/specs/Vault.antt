@@ -51,22 +51,16 @@ pub record Sealed (old new : VaultState) : Type 0 where
   pub failures : new.failures ≡ old.failures
   pub bytes : old.telling ≡ true → new.bytes ≡ old.bytes
 
--- A refused seal leaves the bytes, and keeps nothing.
-pub record SealRefused (old : VaultState) (kept : ℕ) (new : VaultState) : Type 0 where
-  pub refused : Refused old new
-  pub nothing : kept ≡ 0
-  pub bytes : old.telling ≡ true → new.bytes ≡ old.bytes
-
 -- what `put` of a piece does
 abbrev pub Puts : {T : Type 0} → (old : VaultState) → (piece : List ℕ) → Result T VaultFault → (new : VaultState)
     → Type 0
 Puts old piece (Ok _) new = Took old piece new
 Puts old piece (Err fault) new = PutRefused old piece fault.kept new
 
--- what `seal` does
+-- what `seal` does: a refused one is as a refused `put` of nothing
 abbrev pub Seals : {T : Type 0} → (old : VaultState) → Result T VaultFault → (new : VaultState) → Type 0
 Seals old (Ok _) new = Sealed old new
-Seals old (Err fault) new = SealRefused old fault.kept new
+Seals old (Err fault) new = PutRefused old [] fault.kept new
 
 -- ---- over several calls
 
