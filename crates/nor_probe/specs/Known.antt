@@ -14,7 +14,7 @@ use Rattle.nor_probe.specs.Table.{part_of}
 
 -- nothing drives the bus, which replies this ID: its lines rest high, or low
 abbrev pub is_no_chip : (of_id : List ℕ) → Bool
-is_no_chip of_id = bytes_eq of_id (0xFF ∷ 0xFF ∷ 0xFF ∷ []) || bytes_eq of_id (0 ∷ 0 ∷ 0 ∷ [])
+is_no_chip of_id = bytes_eq of_id (0xFF ∷ 0xFF ∷ 0xFF ∷ []) || bytes_eq of_id (0x00 ∷ 0x00 ∷ 0x00 ∷ [])
 
 -- the address of the table that a parameter header points to: three bytes, low byte first (JESD216)
 abbrev pub pointer_in : (first : List ℕ) → ℕ

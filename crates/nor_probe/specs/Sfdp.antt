@@ -15,12 +15,12 @@ double_word k table = little_from (4 * (k - 1)) 4 table
 -- the header begins with the letters SFDP
 unfoldable pub has_signature : (header : List ℕ) → Bool
 has_signature header =
-    (slice_index header 0 == 0x53) && (slice_index header 1 == 0x46)
-    && (slice_index header 2 == 0x44) && (slice_index header 3 == 0x50)
+    slice_index header 0 == 0x53 && slice_index header 1 == 0x46
+    && slice_index header 2 == 0x44 && slice_index header 3 == 0x50
 
 -- the first parameter header is that of the basic table, in its first major revision
 unfoldable pub is_basic : (first : List ℕ) → Bool
-is_basic first = (slice_index first 0 == 0) && (slice_index first 2 == 1)
+is_basic first = slice_index first 0 == 0 && slice_index first 2 == 1
 
 -- how addresses are sent, bits 17 and 18 of double word 1: 0 by three bytes, 1 by three or four, 2 by four alone
 unfoldable pub address_mode : (table : List ℕ) → ℕ
@@ -40,7 +40,7 @@ is_supported_size bits = is_power_of_two bits && nat_le (2 ^ 19) bits && nat_le 
 
 -- an erase type is a pair of bytes, the exponent of its size and its opcode; this one stands at a place of the table
 abbrev pub is_erase_type_at : (exponent opcode : ℕ) → (table : List ℕ) → (at : ℕ) → Bool
-is_erase_type_at exponent opcode table at = (slice_index table at == exponent) && (slice_index table (at + 1) == opcode)
+is_erase_type_at exponent opcode table at = slice_index table at == exponent && slice_index table (at + 1) == opcode
 
 -- one of the four erase types of double words 8 and 9 is this one
 unfoldable pub has_erase_type : (exponent opcode : ℕ) → (table : List ℕ) → Bool
