@@ -2,7 +2,7 @@
 use Rattle.std.proofs.Common.{◌≡◌, ◌∙◌, true, List, ℕ, [], ◌∷◌, None, Result, Ok, Err, ap, refl, subst, sym}
 use Rattle.std.specs.Prelude.{IsOk, if◌then◌else◌}
 use Rattle.nor_chip.specs.declared.config.Config.{Config}
-use Rattle.nor_chip.specs.Chip.{IsTiny64}
+use Rattle.nor_chip.specs.Makers.{IsTiny64}
 use Rattle.nor_probe.specs.Known.{HasGeometry, chip_says, id_of, is_no_chip, listed_or, part_by_sfdp, shown_as}
 use Rattle.nor_probe.specs.Table.{part_of as row_of}
 use Rattle.nor_probe.proofs.Emulated.{tiny64_known}

@@ -81,8 +81,9 @@ looked_then m n old mid new steady first second = record {
   idle_latch = λ on idle.
       let less = first.stays.busy in
       second.idle_latch (steady ∙ on) (omega arith) ∙ first.idle_latch on idle;
-  fell = let fell = first.fell in let fell' = second.fell in omega arith;
-  bound = let bound = first.bound in let bound' = second.bound in omega arith;
+  falls =
+      let fell = first.falls.fell in let fell' = second.falls.fell in let bound = first.falls.bound in let bound' = second.falls.bound in
+      record { fell = omega arith; bound = omega arith };
 }
 
 -- so many readings, and so many more
@@ -100,8 +101,7 @@ looked_none state = record {
   stays = unchanged_stays state state (unchanged_none state);
   latch = λ set. set;
   idle_latch = λ on idle. refl;
-  fell = omega arith;
-  bound = omega arith;
+  falls = record { fell = omega arith; bound = omega arith };
 }
 
 pub looks_none : (state : BusState) → Looks 0 state state
@@ -119,7 +119,6 @@ looks_more m n old new fits looks = record {
         stays = looked.stays;
         latch = looked.latch;
         idle_latch = looked.idle_latch;
-        fell = looked.fell;
-        bound = let bound = looked.bound in omega arith;
+        falls = record { fell = looked.falls.fell; bound = let bound = looked.falls.bound in omega arith };
       };
 }

@@ -1,6 +1,6 @@
 -- Fixed and kept bits, on the way from one chip to another.
-use Rattle.std.proofs.Common.{◌≡◌, ℕ, ◌/◌, ◌%◌, true, false, arith, refl, ◌∙◌, ap}
-use Rattle.std.specs.Prelude.{◌&&◌, ◌==◌, not, if◌then◌else◌}
+use Rattle.std.proofs.Common.{◌≡◌, ℕ, ◌/◌, ◌%◌, arith, refl, ◌∙◌, ap}
+use Rattle.std.specs.Prelude.{◌&&◌, ◌||◌, ◌==◌, not}
 use Rattle.nor_chip.specs.Chip.{Chip, is_locked}
 use Rattle.nor_chip.specs.Power.{KeptStay}
 use Rattle.nor_driver.specs.StatusWrites.{KeepsFixed}
@@ -23,8 +23,7 @@ pub locked_same : (x y : Chip) → KeepsFixed x y → is_locked y ≡ is_locked 
 locked_same x y fixed =
     let low : y.kept2 % 2 ≡ x.kept2 % 2 = let two = fixed.two in omega arith in
     let high : y.kept1 / 32 % 2 ≡ x.kept1 / 32 % 2 = ap (λ (n : ℕ). n % 2) fixed.one in
-    ap (λ (n : ℕ). if n == 0 then (if y.kept2 % 2 == 0 then false else true) else true) high
-    ∙ ap (λ (n : ℕ). if x.kept1 / 32 % 2 == 0 then (if n == 0 then false else true) else true) low
+    ap (λ (n : ℕ). n == 1 || y.kept2 % 2 == 1) high ∙ ap (λ (n : ℕ). x.kept1 / 32 % 2 == 1 || n == 1) low
 
 pub writable_same : (x y : Chip) → y.config ≡ x.config → KeepsFixed x y → is_writable y ≡ is_writable x
 writable_same x y config fixed =

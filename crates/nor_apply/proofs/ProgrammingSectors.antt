@@ -147,7 +147,7 @@ sector_leaves sector wanted erased bytes bytes' reads first mid new blank loads 
         steady = leaves.spends.steady ∙ looks.steady;
         falls = λ honest.
             let looked = looks.looked honest in let falls = leaves.spends.falls (looks.honest ∙ honest) in
-            let fell = looked.fell in let bound = looked.bound in let fell' = falls.fell in let bound' = falls.bound in
+            let fell = looked.falls.fell in let bound = looked.falls.bound in let fell' = falls.fell in let bound' = falls.bound in
             record { fell = omega arith; bound = omega arith };
       };
       reached = λ honest can.

@@ -3,8 +3,7 @@ use Rattle.std.specs.Prelude.{◌≡◌, ◌≤◌, ◌+◌, ◌*◌, ◌/◌, �
 use Rattle.nor_chip.specs.Bus.{BusState}
 use Rattle.nor_driver.specs.declared.waits.Halt.{Halt}
 use Rattle.nor_driver.specs.declared.waits.Halt.TheVariants.{Stopped, Timeout}
-use Rattle.nor_driver.specs.Looks.{RanOut}
-use Rattle.nor_driver.specs.Operations.{Falls}
+use Rattle.nor_driver.specs.Looks.{Falls, RanOut}
 use Rattle.nor_apply.specs.declared.tally.Tally.{Tally}
 
 -- At every exit: the bus keeps its honesty and its steadiness; an honest one sent at most so many transactions.

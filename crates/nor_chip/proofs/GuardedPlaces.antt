@@ -43,9 +43,8 @@ named_length-part size code large blocks =
     let eight : IsPart size 32768 = record { within = omega arith; whole = refl; sectors = λ quarter. refl } in
     part_if_not size (bp_of code == 0) _ _ record { within = omega arith; whole = refl; sectors = λ quarter. refl }
     (λ some. part_if size (bp_of code == 7) _ _ record { within = omega arith; whole = omega arith; sectors = λ quarter. omega arith }
-    (part_if size (is_sector code) _ _
-    (part_if size (bp_of code == 1) _ _ small (part_if size (bp_of code == 2) _ _ two (part_if size (bp_of code == 3) _ _ four eight)))
-    (part_of_blocks size (bp_of code) large blocks (eqb-false (bp_of code) 0 some) (omega arith))))
+    (part_if size (not (is_sector code)) _ _ (part_of_blocks size (bp_of code) large blocks (eqb-false (bp_of code) 0 some) (omega arith))
+    (part_if size (bp_of code == 1) _ _ small (part_if size (bp_of code == 2) _ _ two (part_if size (bp_of code == 3) _ _ four eight)))))
 
 -- the tests that `guarded_by` is made of
 place_test : ℕ → ℕ → Bool → Bool → Bool → ℕ → Bool

@@ -1,8 +1,8 @@
 -- One step of the chip: what it does and leaves doesn't depend on the bytes, but for the bytes that it leaves.
-use Rattle.std.proofs.Common.{◌≡◌, ℕ, Bool, List, ap, refl, ◌∙◌}
+use Rattle.std.proofs.Common.{◌≡◌, ℕ, List, ap, refl, ◌∙◌}
 use Rattle.nor_chip.specs.declared.config.Config.{Config}
 use Rattle.nor_chip.specs.declared.command.Command.{Command}
-use Rattle.nor_chip.specs.declared.command.Command.TheVariants.{WriteEnable, WriteDisable, Poll, ReadStatus2, WriteStatus, Program, Erase, ReadData, ReadId, ReadSfdp, ReadUnique, Ignored}
+use Rattle.nor_chip.specs.declared.command.Command.TheVariants.{Poll, ReadStatus2, WriteStatus, Program, Erase, Ignored}
 use Rattle.nor_chip.specs.Chip.{Chip}
 use Rattle.nor_chip.specs.Command.{command_of}
 use Rattle.nor_chip.specs.Step.{is_carried_out, done_of, byte_after, kept1_after, kept2_after}
@@ -19,16 +19,11 @@ pub record Agrees (x y : Chip) : Type 0 where
 pub carried-agrees : (x y : Chip) (command : Command) → Agrees x y → is_carried_out y command ≡ is_carried_out x command
 carried-agrees x y Poll same = refl
 carried-agrees x y ReadStatus2 same = refl
-carried-agrees x y WriteEnable same = cc
-carried-agrees x y WriteDisable same = cc
-carried-agrees x y (ReadData at) same = cc
-carried-agrees x y ReadId same = cc
-carried-agrees x y (ReadSfdp at) same = cc
-carried-agrees x y ReadUnique same = cc
 carried-agrees x y (WriteStatus one two) same = cc
 carried-agrees x y (Program at) same = cc
 carried-agrees x y (Erase start len) same = cc
 carried-agrees x y Ignored same = refl
+carried-agrees x y _ same = cc
 
 -- nor does what is done
 pub done-agrees : (x y : Chip) (out : List ℕ) (replies : ℕ) → Agrees x y → done_of y out replies ≡ done_of x out replies
@@ -41,16 +36,7 @@ done-agrees x y out replies same =
 pub byte-agrees : (x y : Chip) (command : Command) (sent : List ℕ) (a : ℕ) → y.bytes a ≡ x.bytes a → byte_after y command sent a ≡ byte_after x command sent a
 byte-agrees x y (Program at) sent a same = cc
 byte-agrees x y (Erase start len) sent a same = cc
-byte-agrees x y Poll sent a same = same
-byte-agrees x y ReadStatus2 sent a same = same
-byte-agrees x y (ReadData at) sent a same = same
-byte-agrees x y ReadId sent a same = same
-byte-agrees x y (ReadSfdp at) sent a same = same
-byte-agrees x y ReadUnique sent a same = same
-byte-agrees x y WriteEnable sent a same = same
-byte-agrees x y WriteDisable sent a same = same
-byte-agrees x y (WriteStatus one two) sent a same = same
-byte-agrees x y Ignored sent a same = same
+byte-agrees x y _ sent a same = same
 
 pub kept1-agrees : (x y : Chip) (command : Command) → Agrees x y → kept1_after y command ≡ kept1_after x command
 kept1-agrees x y (WriteStatus one two) same = refl

@@ -1,8 +1,7 @@
 -- The chip: what it holds at a moment.
-use Rattle.std.specs.Prelude.{◌≡◌, ◌<◌, ◌+◌, ◌*◌, ◌/◌, ◌%◌, ◌++◌, ◌==◌, ℕ, Bool, true, false, [], ◌∷◌, replicate, slice_index_or, if◌then◌else◌}
+use Rattle.std.specs.Prelude.{◌≡◌, ◌<◌, ◌+◌, ◌*◌, ◌/◌, ◌%◌, ◌==◌, ◌||◌, ℕ, Bool, slice_index_or, if◌then◌else◌}
 use Rattle.nor_chip.specs.declared.config.Config.{Config}
 use Rattle.nor_chip.specs.declared.running.Running.{Running}
-use Rattle.nor_chip.specs.Sfdp.{sfdp_of}
 
 -- A chip at a moment. Any values may stand together: a busy chip with its latch clear is a chip too.
 -- (W25Q64FV and W25Q128FV datasheets, status registers.)
@@ -39,21 +38,11 @@ status2_of chip = chip.kept2
 
 -- SRP0 or SRP1 is set, so the status is not written: the worst case of the WP# pin
 abbrev pub is_locked : Chip → Bool
-is_locked chip = if chip.kept1 / 32 % 2 == 0 then (if chip.kept2 % 2 == 0 then false else true) else true
+is_locked chip = chip.kept1 / 32 % 2 == 1 || chip.kept2 % 2 == 1
 
 -- the SFDP byte at an address, FFh past their end
-abbrev pub sfdp_byte : Config → ℕ → ℕ
+abbrev pub sfdp_byte : Config → (a : ℕ) → ℕ
 sfdp_byte config a = slice_index_or config.sfdp a 255
-
--- The configuration of the emulated chip TINY64.
-pub record IsTiny64 (config : Config) : Type 0 where
-  pub id : config.id ≡ 254 ∷ 16 ∷ 16 ∷ []
-  pub size : config.size ≡ 65536
-  pub k32 : config.k32 ≡ true
-  pub k64 : config.k64 ≡ true
-  pub scheme : config.scheme ≡ false
-  pub unique : config.unique ≡ replicate 8 0
-  pub sfdp : config.sfdp ≡ sfdp_of 0xFF 0xFF 0x07 0x00 ++ replicate 204 255
 
 -- Two chips are the same: configuration, bytes and kept bits agree. Latch and `busy` are free.
 pub record IsSame (old new : Chip) : Type 0 where

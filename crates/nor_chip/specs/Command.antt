@@ -5,36 +5,36 @@ use Rattle.nor_chip.specs.declared.command.Command.{Command}
 use Rattle.nor_chip.specs.declared.command.Command.TheVariants.{WriteEnable, WriteDisable, Poll, ReadStatus2, WriteStatus, Program, Erase, ReadData, ReadId, ReadSfdp, ReadUnique, Ignored}
 
 -- the address that three bytes name on a chip of this size, high byte first
-abbrev pub address_of : Config → ℕ → ℕ → ℕ → ℕ
+abbrev pub address_of : Config → (x y z : ℕ) → ℕ
 address_of config x y z = (65536 * x + 256 * y + z) % config.size
 
--- the aligned unit that holds an address
-abbrev pub unit_at : ℕ → ℕ → Command
+-- an erase of the aligned unit of so many places that holds an address
+abbrev pub unit_at : (len at : ℕ) → Command
 unit_at len at = Erase (at / len * len) len
 
--- one byte goes out
-abbrev pub bare_command : Config → ℕ → ℕ → Command
+-- what an opcode alone asks for, where so many replies are taken in
+abbrev pub bare_command : Config → (opcode replies : ℕ) → Command
 bare_command config opcode replies =
     if opcode == 0x05 then Poll
-    else (if opcode == 0x35 then ReadStatus2
-    else (if opcode == 0x9F then ReadId
-    else (if opcode == 0x06 && replies == 0 then WriteEnable
-    else (if opcode == 0x04 && replies == 0 then WriteDisable
-    else (if opcode == 0xC7 && replies == 0 then Erase 0 config.size
-    else Ignored)))))
+    else if opcode == 0x35 then ReadStatus2
+    else if opcode == 0x9F then ReadId
+    else if opcode == 0x06 && replies == 0 then WriteEnable
+    else if opcode == 0x04 && replies == 0 then WriteDisable
+    else if opcode == 0xC7 && replies == 0 then Erase 0 config.size
+    else Ignored
 
--- an opcode and three address bytes go out
-abbrev pub addressed_command : Config → ℕ → ℕ → ℕ → Command
+-- what an opcode and three address bytes ask for, which name the address `at`
+abbrev pub addressed_command : Config → (opcode at replies : ℕ) → Command
 addressed_command config opcode at replies =
     if opcode == 0x03 then ReadData at
-    else (if opcode == 0x20 && replies == 0 then unit_at 4096 at
-    else (if opcode == 0x52 && replies == 0 && config.k32 then unit_at 32768 at
-    else (if opcode == 0xD8 && replies == 0 && config.k64 then unit_at 65536 at
-    else Ignored)))
+    else if opcode == 0x20 && replies == 0 then unit_at 4096 at
+    else if opcode == 0x52 && replies == 0 && config.k32 then unit_at 32768 at
+    else if opcode == 0xD8 && replies == 0 && config.k64 then unit_at 65536 at
+    else Ignored
 
 -- What a transaction asks for, by how many bytes go out, the first of them and how many replies are taken in.
 -- Every other transaction is ignored.
-abbrev pub command_of : Config → List ℕ → ℕ → Command
+abbrev pub command_of : Config → (out : List ℕ) → (replies : ℕ) → Command
 command_of config [] replies = Ignored
 command_of config (opcode ∷ []) replies = bare_command config opcode replies
 command_of config (opcode ∷ x ∷ []) replies = Ignored
@@ -42,18 +42,19 @@ command_of config (opcode ∷ x ∷ y ∷ []) replies = if opcode == 0x01 && rep
 command_of config (opcode ∷ x ∷ y ∷ z ∷ []) replies = addressed_command config opcode (address_of config x y z) replies
 command_of config (opcode ∷ x ∷ y ∷ z ∷ fifth ∷ []) replies =
     if opcode == 0x5A then ReadSfdp (address_of config x y z)
-    else (if opcode == 0x4B then ReadUnique
-    else (if opcode == 0x02 && replies == 0 then Program (address_of config x y z) else Ignored))
+    else if opcode == 0x4B then ReadUnique
+    else if opcode == 0x02 && replies == 0 then Program (address_of config x y z)
+    else Ignored
 command_of config (opcode ∷ x ∷ y ∷ z ∷ fifth ∷ sixth ∷ rest) replies =
     if opcode == 0x02 && replies == 0 then Program (address_of config x y z) else Ignored
 
 -- the opcodes that may change a chip or ready it for a change: write enable, write status, program and erases
-abbrev pub is_changing_opcode : ℕ → Bool
+abbrev pub is_changing_opcode : (opcode : ℕ) → Bool
 is_changing_opcode opcode =
     opcode == 0x06 || opcode == 0x01 || opcode == 0x02
     || opcode == 0x20 || opcode == 0x52 || opcode == 0xD8 || opcode == 0xC7
 
--- a transaction begins with such an opcode
-abbrev pub begins_change : List ℕ → Bool
+-- a transaction that sends `out` begins with such an opcode
+abbrev pub begins_change : (out : List ℕ) → Bool
 begins_change [] = false
 begins_change (opcode ∷ rest) = is_changing_opcode opcode

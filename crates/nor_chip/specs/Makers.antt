@@ -1,5 +1,5 @@
 -- The configurations that are made.
-use Rattle.std.specs.Prelude.{◌≡◌, ◌-◌, ◌++◌, ℕ, Bool, true, List, [], ◌∷◌, length, replicate}
+use Rattle.std.specs.Prelude.{◌≡◌, ◌-◌, ◌++◌, ℕ, Bool, true, false, List, [], ◌∷◌, length, replicate}
 use Rattle.nor_chip.specs.declared.config.Config.{Config}
 use Rattle.nor_chip.specs.Sfdp.{sfdp_of}
 
@@ -14,9 +14,13 @@ pub record IsMade (with_id : List ℕ) (with_size : ℕ) (with_k32 with_k64 with
   pub unique : config.unique ≡ replicate 8 0
   pub sfdp : config.sfdp ≡ with_sfdp ++ replicate (256 - length with_sfdp) 255
 
--- The configurations of the emulated Winbond chips.
+-- The configuration of the emulated chip TINY64.
+abbrev pub IsTiny64 : Config → Type 0
+IsTiny64 = IsMade (0xFE ∷ 0x10 ∷ 0x10 ∷ []) 65536 true true false (sfdp_of 0xFF 0xFF 0x07 0x00)
+
+-- Those of the emulated Winbond chips.
 abbrev pub IsW25q64fv : Config → Type 0
-IsW25q64fv = IsMade (239 ∷ 64 ∷ 23 ∷ []) 8388608 true true true (sfdp_of 0xFF 0xFF 0xFF 0x03)
+IsW25q64fv = IsMade (0xEF ∷ 0x40 ∷ 0x17 ∷ []) 8388608 true true true (sfdp_of 0xFF 0xFF 0xFF 0x03)
 
 abbrev pub IsW25q128fv : Config → Type 0
-IsW25q128fv = IsMade (239 ∷ 64 ∷ 24 ∷ []) 16777216 true true true (sfdp_of 0xFF 0xFF 0xFF 0x07)
+IsW25q128fv = IsMade (0xEF ∷ 0x40 ∷ 0x18 ∷ []) 16777216 true true true (sfdp_of 0xFF 0xFF 0xFF 0x07)

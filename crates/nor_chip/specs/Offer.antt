@@ -2,8 +2,8 @@
 use Rattle.std.specs.Prelude.{◌≡◌, ◌<◌, ◌≤◌, ◌+◌, ◌↔◌, ℕ, true, false}
 use Rattle.nor_chip.specs.Guard.{guarded_by, is_undefined}
 
--- a code guards exactly so many places from `start` on
-abbrev pub GuardsExactly : ℕ → ℕ → ℕ → ℕ → Type 0
+-- on a chip of this size a code guards exactly so many places from `start` on
+abbrev pub GuardsExactly : (size code start len : ℕ) → Type 0
 GuardsExactly size code start len = (a : ℕ) → (guarded_by size code a ≡ true) ↔ ((start ≤ a) × (a < start + len))
 
 -- the datasheets define the code
@@ -18,5 +18,5 @@ pub record IsLeastCode (size start len code : ℕ) : Type 0 where
   pub least : (lower : ℕ) → lower < code → IsDefined lower → ¬ GuardsExactly size lower start len
 
 -- No defined code guards exactly these places.
-abbrev pub IsNotOffered : ℕ → ℕ → ℕ → Type 0
+abbrev pub IsNotOffered : (size start len : ℕ) → Type 0
 IsNotOffered size start len = (code : ℕ) → IsDefined code → ¬ GuardsExactly size code start len

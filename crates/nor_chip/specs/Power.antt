@@ -2,10 +2,10 @@
 use Rattle.std.specs.Prelude.{◌≡◌, ◌<◌, ◌≤◌, ◌+◌, ◌*◌, ◌/◌, ◌%◌, ◌==◌, ◌&&◌, ◌⊎◌, ℕ, Bool, true, false, not, nat_lt, nat_le, if◌then◌else◌}
 use Rattle.nor_chip.specs.declared.running.Running.{Running}
 use Rattle.nor_chip.specs.declared.running.Running.TheVariants.{Program, Erase, StatusWrite, Unknown}
-use Rattle.nor_chip.specs.Chip.{Chip}
+use Rattle.nor_chip.specs.Chip.{Chip, IsSame}
 
--- the places that an operation aims at; where nothing is known of it, all
-abbrev pub is_in_work : Running → ℕ → Bool
+-- the place `a` is one that an operation aims at; where nothing is known of it, each is
+abbrev pub is_in_work : Running → (a : ℕ) → Bool
 is_in_work (Program page) a = a / 256 == page
 is_in_work (Erase start len) a = nat_le start a && nat_lt a (start + len)
 is_in_work (StatusWrite one two) a = false
@@ -24,27 +24,25 @@ pub record RunsInside (size : ℕ) (running : Running) : Type 0 where
   pub kept2 : (one two : ℕ) → running ≡ StatusWrite one two → two < 128
 
 -- the kept bits are as they were
-abbrev pub KeptStay : Chip → Chip → Type 0
+abbrev pub KeptStay : (old new : Chip) → Type 0
 KeptStay old new = (new.kept1 ≡ old.kept1) × (new.kept2 ≡ old.kept2)
 
--- The kept bits where an operation is cut off: as they were, or for a status write those of before it.
-abbrev pub KeptCut : Running → Chip → Chip → Type 0
-KeptCut (Program page) old new = KeptStay old new
-KeptCut (Erase start len) old new = KeptStay old new
+-- The kept bits where an operation is cut off: as they were, or for a status write those of before it; where nothing
+-- is known of it, any.
+abbrev pub KeptCut : Running → (old new : Chip) → Type 0
 KeptCut (StatusWrite one two) old new = KeptStay old new ⊎ ((new.kept1 ≡ one) × (new.kept2 ≡ two))
 KeptCut Unknown old new = Unit {0}
+KeptCut _ old new = KeptStay old new
 
--- The power was lost: the latch is clear and nothing runs. An idle chip keeps its bytes and kept bits; of a busy
--- one, what ran is cut off, and the rest stays.
+-- The power was lost: the latch is clear and nothing runs. An idle chip is the same; of a busy one, what ran is cut
+-- off, and the rest stays.
 pub record PowerLost (old new : Chip) : Type 0 where
   pub config : new.config ≡ old.config
   pub latch : new.latch ≡ false
   pub busy : new.busy ≡ 0
   pub bytes : (a : ℕ) → is_in_work old.running a ≡ false → new.bytes a ≡ old.bytes a
   pub kept : KeptCut old.running old new
-  pub idle_bytes : old.busy ≡ 0 → (a : ℕ) → new.bytes a ≡ old.bytes a
-  pub idle_kept1 : old.busy ≡ 0 → new.kept1 ≡ old.kept1
-  pub idle_kept2 : old.busy ≡ 0 → new.kept2 ≡ old.kept2
+  pub idle : old.busy ≡ 0 → IsSame old new
 
 -- the places that are known to be worked on
 abbrev pub is_cut : Chip → ℕ → Bool
@@ -68,5 +66,5 @@ pub record CutBy (fill : ℕ) (old new : Chip) : Type 0 where
   pub kept2 : new.kept2 ≡ (if not (old.busy == 0) && fill % 2 == 0 then kept2_before old else old.kept2)
 
 -- What a stop may leave of the chip: the same chip, or on a bus that isn't steady one that has lost its power.
-abbrev pub AtStop : Bool → Chip → Chip → Type 0
+abbrev pub AtStop : (steady : Bool) → (old new : Chip) → Type 0
 AtStop steady old new = (new ≡ old) ⊎ ((steady ≡ false) × PowerLost old new)

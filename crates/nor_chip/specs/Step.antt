@@ -16,78 +16,61 @@ is_idle chip = chip.busy == 0
 
 -- A command is carried out: only the two status reads while the chip is busy, an operation only with the latch
 -- set, a status write only where the status is not locked, a program or an erase only where no place that it
--- aims at is guarded.
+-- aims at is guarded. Of a program one place tells that: guarded places begin and end at whole KiB, and the places
+-- of a program lie in one page of 256 bytes.
 abbrev pub is_carried_out : Chip → Command → Bool
 is_carried_out chip Poll = true
 is_carried_out chip ReadStatus2 = true
-is_carried_out chip WriteEnable = is_idle chip
-is_carried_out chip WriteDisable = is_idle chip
-is_carried_out chip (ReadData at) = is_idle chip
-is_carried_out chip ReadId = is_idle chip
-is_carried_out chip (ReadSfdp at) = is_idle chip
-is_carried_out chip ReadUnique = is_idle chip
 is_carried_out chip (WriteStatus one two) = is_idle chip && chip.latch && not (is_locked chip)
 is_carried_out chip (Program at) = is_idle chip && chip.latch && not (is_guarded chip at)
 is_carried_out chip (Erase start len) = is_idle chip && chip.latch && not (is_unit_guarded chip start len)
 is_carried_out chip Ignored = false
+is_carried_out chip _ = is_idle chip
 
--- what the chip does at this transaction: what is asked for, or nothing where that is not carried out
-abbrev pub done_of : Chip → List ℕ → ℕ → Command
+-- what the chip does at a transaction that sends `out`: what is asked for, or nothing where that is not carried out
+abbrev pub done_of : Chip → (out : List ℕ) → (replies : ℕ) → Command
 done_of chip out replies =
     let command = command_of chip.config out replies in if is_carried_out chip command then command else Ignored
 
--- The reply byte at a place: status, data (running on over the chip's end), the ID, the SFDP or the unique ID
+-- The reply byte number i: status, data (running on over the chip's end), the ID, the SFDP or the unique ID
 -- with FFh past their ends, and FFh for all else.
-abbrev pub reply_byte : Chip → Command → ℕ → ℕ
+abbrev pub reply_byte : Chip → Command → (i : ℕ) → ℕ
 reply_byte chip Poll i = status1_of chip
 reply_byte chip ReadStatus2 i = status2_of chip
 reply_byte chip (ReadData at) i = chip.bytes ((at + i) % chip.config.size)
 reply_byte chip ReadId i = slice_index_or chip.config.id i 255
 reply_byte chip (ReadSfdp at) i = sfdp_byte chip.config (at + i)
 reply_byte chip ReadUnique i = slice_index_or chip.config.unique i 255
-reply_byte chip WriteEnable i = 255
-reply_byte chip WriteDisable i = 255
-reply_byte chip (WriteStatus one two) i = 255
-reply_byte chip (Program at) i = 255
-reply_byte chip (Erase start len) i = 255
-reply_byte chip Ignored i = 255
+reply_byte chip _ i = 255
 
--- the last of the bytes sent for the place `a` of the page, the first of them going to the place `at`
--- and each next one to the next place, from the page's end on to its start
-unfoldable pub last_for : ℕ → List ℕ → ℕ → Option ℕ
+-- the last of the bytes sent that goes to the place `a` of a page: the first goes to the place `at`, and each other
+-- to the next place, from the page's end on to its start
+unfoldable pub last_for : (at : ℕ) → (sent : List ℕ) → (a : ℕ) → Option ℕ
 last_for at [] a = None
 last_for at (byte ∷ sent) a = elim (last_for (at + 1) sent a) [
   | Some later ↦ Some later
   | None ↦ (if at % 256 == a % 256 then Some byte else None)
 ]
 
--- a program only clears bits
-abbrev pub lowered : ℕ → Option ℕ → ℕ
+-- the byte once this one is programmed, which only clears bits, or none is
+abbrev pub lowered : (old : ℕ) → Option ℕ → ℕ
 lowered old None = old
 lowered old (Some byte) = bit_and old byte
 
--- The byte at a place afterwards.
-abbrev pub byte_after : Chip → Command → List ℕ → ℕ → ℕ
+-- The byte at the place `a` afterwards.
+abbrev pub byte_after : Chip → Command → (sent : List ℕ) → (a : ℕ) → ℕ
 byte_after chip (Program at) sent a =
     if a / 256 == at / 256 then lowered (chip.bytes a) (last_for at sent a) else chip.bytes a
 byte_after chip (Erase start len) sent a = if nat_le start a && nat_lt a (start + len) then 255 else chip.bytes a
-byte_after chip Poll sent a = chip.bytes a
-byte_after chip ReadStatus2 sent a = chip.bytes a
-byte_after chip (ReadData at) sent a = chip.bytes a
-byte_after chip ReadId sent a = chip.bytes a
-byte_after chip (ReadSfdp at) sent a = chip.bytes a
-byte_after chip ReadUnique sent a = chip.bytes a
-byte_after chip WriteEnable sent a = chip.bytes a
-byte_after chip WriteDisable sent a = chip.bytes a
-byte_after chip (WriteStatus one two) sent a = chip.bytes a
-byte_after chip Ignored sent a = chip.bytes a
+byte_after chip _ sent a = chip.bytes a
 
--- The kept bits afterwards. A status write sets BP, TB, SEC and SRP0 as sent, and SRP1, QE and CMP; an LB bit
--- stays set once it is, and the reserved bit is not written.
+-- The kept bits of status 1 afterwards: a status write sets BP, TB, SEC and SRP0 as sent.
 abbrev pub kept1_after : Chip → Command → ℕ
 kept1_after chip (WriteStatus one two) = one / 4
 kept1_after chip _ = chip.kept1
 
+-- Those of status 2: it sets SRP1, QE and CMP as sent; an LB bit stays set once it is, and the reserved bit is not
+-- written.
 abbrev pub kept2_after : Chip → Command → ℕ
 kept2_after chip (WriteStatus one two) =
     bit_or (bit_and two 0b1000011) (bit_or (bit_and chip.kept2 0b0111100) (bit_and two 0b0111000))
@@ -101,7 +84,7 @@ is_operation (Erase start len) = true
 is_operation _ = false
 
 -- `busy` afterwards: any number after an operation, one less after a poll
-abbrev pub BusyAfter : Chip → Command → ℕ → Type 0
+abbrev pub BusyAfter : Chip → Command → (busy : ℕ) → Type 0
 BusyAfter chip (WriteStatus one two) busy = busy < 65536
 BusyAfter chip (Program at) busy = busy < 65536
 BusyAfter chip (Erase start len) busy = busy < 65536
@@ -109,7 +92,7 @@ BusyAfter chip Poll busy = busy ≡ chip.busy - 1
 BusyAfter chip _ busy = busy ≡ chip.busy
 
 -- The latch afterwards: an operation that has ended clears it, at once or with the poll that sees its last BUSY.
-abbrev pub latch_after : Chip → Command → ℕ → Bool
+abbrev pub latch_after : Chip → Command → (busy : ℕ) → Bool
 latch_after chip WriteEnable busy = true
 latch_after chip WriteDisable busy = false
 latch_after chip (WriteStatus one two) busy = not (busy == 0)
@@ -137,10 +120,10 @@ pub record Does (command : Command) (sent : List ℕ) (old : Chip) (answer : Lis
   pub running : new.running ≡ running_after old command
 
 -- The chip's step: `out` goes out, `answer` comes in. A program's data stand behind its three address bytes.
-abbrev pub Step : Chip → List ℕ → List ℕ → Chip → Type 0
+abbrev pub Step : (old : Chip) → (out answer : List ℕ) → (new : Chip) → Type 0
 Step old out answer new = Does (done_of old out (length answer)) (drop 4 out) old answer new
 
 -- a command wears a sector: it is an erase whose unit holds it
-abbrev pub wears : Command → ℕ → Bool
+abbrev pub wears : Command → (sector : ℕ) → Bool
 wears (Erase start len) sector = nat_le start (4096 * sector) && nat_lt (4096 * sector) (start + len)
 wears _ sector = false

@@ -19,9 +19,8 @@ has_lost traced = traced.lost
 abbrev pub told_of : List ℕ → List ℕ
 told_of answer =
     if length answer == 0 then []
-    else (if nat_lt 3 (length answer)
-    then codes " > " ++ decimal (length answer) ++ codes " bytes"
-    else codes " > " ++ encode_lower answer)
+    else if nat_lt 3 (length answer) then codes " > " ++ decimal (length answer) ++ codes " bytes"
+    else codes " > " ++ encode_lower answer
 
 -- the line of a transaction: the digits of the bytes sent, and what it tells of those taken in
 abbrev pub line_of : List ℕ → List ℕ → List ℕ

@@ -62,8 +62,7 @@ pub struct Config {
 }
 
 impl Config {
-    ghost use Rattle.nor_chip.specs.Chip.{IsTiny64};
-    ghost use Rattle.nor_chip.specs.Makers.{IsMade, IsW25q64fv, IsW25q128fv};
+    ghost use Rattle.nor_chip.specs.Makers.{IsMade, IsTiny64, IsW25q64fv, IsW25q128fv};
 
     /// A chip of one's own, whose SFDP bytes are `sfdp` from address 0 on. There is none where the size isn't a
     /// power of two from 65,536 to 16,777,216, or the SFDP bytes are more than 256. It takes no memory.

@@ -3,7 +3,6 @@ use Rattle.std.proofs.Common.{◌≡◌, ◌+◌, ◌||◌, ◌⊎◌, ◌∙◌
 use Rattle.std.specs.Prelude.{◌==◌, if◌then◌else◌}
 use Rattle.std.proofs.lemmas.Bool.Decides.{eqb_tells}
 use Rattle.std.proofs.Math.Bool.{or-false}
-use Rattle.nor_chip.specs.declared.config.Config.{Config}
 use Rattle.nor_chip.specs.declared.running.Running.{Running}
 use Rattle.nor_chip.specs.declared.command.Command.{Command}
 use Rattle.nor_chip.specs.declared.command.Command.TheVariants.{WriteEnable, WriteDisable, Poll, ReadStatus2, WriteStatus, Program, Erase, ReadData, ReadId, ReadSfdp, ReadUnique, Ignored}
@@ -12,7 +11,7 @@ use Rattle.nor_chip.specs.Power.{is_in_work, KeptStay, KeptCut}
 use Rattle.nor_chip.specs.Command.{command_of}
 use Rattle.nor_chip.specs.Step.{Does, is_idle, is_operation, is_carried_out, done_of, byte_after, kept1_after, kept2_after, running_after, wears}
 use Rattle.nor_chip.specs.Bus.{BusState, Carries}
-use Rattle.nor_chip.proofs.Steps.{Agrees, done-agrees}
+use Rattle.nor_chip.proofs.Steps.{done-agrees}
 use Rattle.nor_driver.specs.Looks.{Unchanged, Stays}
 use Rattle.nor_driver.specs.Waits.{HasWaited, latch_when_idle}
 use Rattle.nor_driver.specs.Operations.{operation_of, is_change, IsOperation, MayOperate, HasOperated}

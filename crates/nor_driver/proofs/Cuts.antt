@@ -44,7 +44,7 @@ stays_at_stop old new stops = elim stops.chip [
         config = lost.config;
         calm = λ calm. elim calm [
           | inl steady ↦ absurd (let off = cut.0 in cc)
-          | inr idle ↦ record { config = lost.config; bytes = lost.idle_bytes idle; kept1 = lost.idle_kept1 idle; kept2 = lost.idle_kept2 idle }
+          | inr idle ↦ lost.idle idle
         ];
         bytes = lost.bytes;
         kept = lost.kept;

@@ -67,7 +67,7 @@ module _ (out : List ℕ) (asks : IsOperation out) (old ready : BusState) (first
           stirs = record { honest = looks.honest ∙ stirs.honest; steady = looks.steady ∙ stirs.steady; stirred = looks.stirred ∙ stirs.stirred };
           falls = λ honest.
               let looked = looks.looked (stirs.honest ∙ honest) in
-              let fell = looked.fell in let bound = looked.bound in
+              let fell = looked.falls.fell in let bound = looked.falls.bound in
               let count = (enabling honest).count in let count' = (carries' (sends.honest ∙ honest)).left in
               record { fell = omega arith; bound = omega arith };
           reached = λ honest is. may-after (operation_of old.chip out) (drop 4 out) old begun new is steady (has-begun honest is) (looks.looked (stirs.honest ∙ honest)).stays;

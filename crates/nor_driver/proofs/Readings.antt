@@ -80,8 +80,7 @@ looked_by old new most rested count = record {
   stays = unchanged_stays old new rested.unchanged;
   latch = rested.latch;
   idle_latch = λ _. rested.idle_latch;
-  fell = omega arith;
-  bound = omega arith;
+  falls = record { fell = omega arith; bound = omega arith };
 }
 
 no_latch : (old new : BusState) → Stops old new → new.chip.latch ≡ true → old.chip.latch ≡ true
@@ -101,8 +100,7 @@ looked_at_stop old new most stops = record {
   stays = stays_at_stop old new stops;
   latch = no_latch old new stops;
   idle_latch = λ steady _. steady_latch old new stops steady;
-  fell = let same = stops.left in omega arith;
-  bound = let same = stops.left in omega arith;
+  falls = let same = stops.left in record { fell = omega arith; bound = omega arith };
 }
 
 pub ran_out : (old new : BusState) (needed : ℕ) → 0 < needed → Stops old new → RanOut needed old new
@@ -117,8 +115,7 @@ looked_after old mid new m n steady rested count looked = record {
   stays = stays_after old mid new steady rested.unchanged looked.stays;
   latch = λ set. rested.latch (looked.latch set);
   idle_latch = λ on idle. looked.idle_latch (steady ∙ on) (let less = rested.unchanged.busy in omega arith) ∙ rested.idle_latch idle;
-  fell = let fell = looked.fell in omega arith;
-  bound = let bound = looked.bound in omega arith;
+  falls = let fell = looked.falls.fell in let bound = looked.falls.bound in record { fell = omega arith; bound = omega arith };
 }
 
 pub looked_more : (old new : BusState) (m n : ℕ) → m ≤ n → Looked m old new → Looked n old new
@@ -126,8 +123,7 @@ looked_more old new m n fits looked = record {
   stays = looked.stays;
   latch = looked.latch;
   idle_latch = looked.idle_latch;
-  fell = looked.fell;
-  bound = let bound = looked.bound in omega arith;
+  falls = record { fell = looked.falls.fell; bound = let bound = looked.falls.bound in omega arith };
 }
 
 pub rested_then : (old mid new : BusState) → Rested old mid → Rested mid new → Rested old new

@@ -8,8 +8,8 @@ use Rattle.nor_chip.specs.Step.{is_idle}
 use Rattle.nor_chip.specs.Bus.{BusState}
 use Rattle.nor_driver.specs.declared.units.Erase.{Erase}
 use Rattle.nor_driver.specs.Units.{sectors_in, has_unit, is_aligned, erases_sector}
-use Rattle.nor_driver.specs.Looks.{Stays}
-use Rattle.nor_driver.specs.Operations.{ChangesOnly, Stirs, Falls, Ends, HasIgnored}
+use Rattle.nor_driver.specs.Looks.{Stays, Falls}
+use Rattle.nor_driver.specs.Operations.{ChangesOnly, Stirs, Ends, HasIgnored}
 
 -- how many sectors the chip has
 abbrev pub sectors_of : Chip → ℕ

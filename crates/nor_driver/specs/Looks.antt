@@ -33,13 +33,18 @@ pub record Rested (old new : BusState) : Type 0 where
   pub latch : new.chip.latch ≡ true → old.chip.latch ≡ true
   pub idle_latch : old.chip.busy ≡ 0 → new.chip.latch ≡ old.chip.latch
 
--- On an honest bus, at every exit, after at most so many transactions.
+-- On an honest bus, at every exit of a call that sends at most so many transactions.
+pub record Falls (most : ℕ) (old new : BusState) : Type 0 where
+  pub fell : new.left ≤ old.left
+  pub bound : old.left ≤ new.left + most
+
+-- On an honest bus, at every exit of a call that only reads: the latch is set only where it was, on an idle chip of a
+-- steady bus as it was.
 pub record Looked (most : ℕ) (old new : BusState) : Type 0 where
   pub stays : Stays old new
   pub latch : new.chip.latch ≡ true → old.chip.latch ≡ true
   pub idle_latch : old.steady ≡ true → old.chip.busy ≡ 0 → new.chip.latch ≡ old.chip.latch
-  pub fell : new.left ≤ old.left
-  pub bound : old.left ≤ new.left + most
+  pub falls : Falls most old new
 
 -- On every bus, at every exit: no changing opcode was sent; on an honest one, at most so many transactions were.
 pub record Looks (most : ℕ) (old new : BusState) : Type 0 where

@@ -8,7 +8,7 @@ use Rattle.nor_chip.specs.Power.{is_in_work, KeptStay}
 use Rattle.nor_chip.specs.Command.{command_of}
 use Rattle.nor_chip.specs.Step.{is_idle, is_operation, done_of, byte_after, kept1_after, kept2_after, running_after, wears}
 use Rattle.nor_chip.specs.Bus.{BusState}
-use Rattle.nor_driver.specs.Looks.{Stays}
+use Rattle.nor_driver.specs.Looks.{Stays, Falls}
 
 -- three bytes name an address, high byte first
 abbrev pub NamesAddress : ℕ → List ℕ → Type 0
@@ -41,11 +41,6 @@ pub record Stirs (old new : BusState) : Type 0 where
   pub honest : new.honest ≡ old.honest
   pub steady : new.steady ≡ old.steady
   pub stirred : new.stirred ≡ true
-
--- On an honest bus, at every exit of a call that sends at most so many transactions.
-pub record Falls (most : ℕ) (old new : BusState) : Type 0 where
-  pub fell : new.left ≤ old.left
-  pub bound : old.left ≤ new.left + most
 
 -- On an honest bus, an operation that was ignored has ended: nothing changed but the latch, which is set now, unless
 -- the chip was busy with something else that has ended too.

@@ -6,8 +6,8 @@ use Rattle.nor_chip.specs.Power.{KeptStay}
 use Rattle.nor_chip.specs.Guard.{is_guarded}
 use Rattle.nor_chip.specs.Step.{is_idle}
 use Rattle.nor_chip.specs.Bus.{BusState}
-use Rattle.nor_driver.specs.Looks.{Stays}
-use Rattle.nor_driver.specs.Operations.{ChangesOnly, Stirs, Falls, Ends, HasIgnored}
+use Rattle.nor_driver.specs.Looks.{Stays, Falls}
+use Rattle.nor_driver.specs.Operations.{ChangesOnly, Stirs, Ends, HasIgnored}
 
 -- The chip is idle, and a part of a page of it free to program.
 pub record CanProgram (at len : ℕ) (chip : Chip) : Type 0 where

@@ -46,8 +46,8 @@ id_of config = slice_index_or config.id 0 255 ∷ slice_index_or config.id 1 255
 abbrev pub unique_of : Config → List ℕ
 unique_of config = map (λ (i : ℕ). slice_index_or config.unique i 255) (0 ∷ 1 ∷ 2 ∷ 3 ∷ 4 ∷ 5 ∷ 6 ∷ 7 ∷ [])
 
--- so many SFDP bytes as 5Ah shows them, from an address on that is taken modulo the chip's size
-unfoldable pub shown : Config → ℕ → ℕ → List ℕ
+-- so many SFDP bytes as 5Ah shows them, from the address `at` on, which is taken modulo the chip's size
+unfoldable pub shown : Config → (at len : ℕ) → List ℕ
 shown config at len = map (sfdp_byte config) (range_with_len (at % config.size) len)
 
 -- these are the bytes of a sector

@@ -6,8 +6,8 @@ use Rattle.nor_chip.specs.Chip.{Chip, is_locked}
 use Rattle.nor_chip.specs.Power.{KeptStay}
 use Rattle.nor_chip.specs.Step.{is_idle}
 use Rattle.nor_chip.specs.Bus.{BusState}
-use Rattle.nor_driver.specs.Looks.{Stays}
-use Rattle.nor_driver.specs.Operations.{Stirs, Falls, Ends, HasIgnored}
+use Rattle.nor_driver.specs.Looks.{Stays, Falls}
+use Rattle.nor_driver.specs.Operations.{Stirs, Ends, HasIgnored}
 
 -- The fixed bits, all kept ones but those of the code, are as they were: SRP0; SRP1, QE, the reserved bit and the LB
 -- bits.

@@ -12,8 +12,8 @@ opcode_of Block32 = 0x52
 opcode_of Block64 = 0xD8
 opcode_of Chip = 0xC7
 
--- how many sectors a unit has
-abbrev pub sectors_in : ℕ → EraseUnit → ℕ
+-- how many sectors a unit has, on a chip of so many
+abbrev pub sectors_in : (total : ℕ) → EraseUnit → ℕ
 sectors_in total Sector = 1
 sectors_in total Block32 = 8
 sectors_in total Block64 = 16
@@ -26,14 +26,14 @@ has_unit config Block32 = config.k32
 has_unit config Block64 = config.k64
 has_unit config Chip = true
 
--- a unit begins at this sector: blocks at multiples of their size, the chip at 0
-abbrev pub is_aligned : EraseUnit → ℕ → Bool
+-- a unit may begin at this sector: a block at multiples of its size, the chip at 0
+abbrev pub is_aligned : EraseUnit → (sector : ℕ) → Bool
 is_aligned Sector sector = true
 is_aligned Block32 sector = sector % 8 == 0
 is_aligned Block64 sector = sector % 16 == 0
 is_aligned Chip sector = sector == 0
 
--- the erase sets this sector to FFh
-abbrev pub erases_sector : ℕ → ℕ → Erase → Bool
+-- on a chip of so many sectors the erase sets this one to FFh
+abbrev pub erases_sector : (total sector : ℕ) → Erase → Bool
 erases_sector total sector erase =
     nat_le erase.sector sector && nat_lt sector (erase.sector + sectors_in total erase.unit)

@@ -11,3 +11,4 @@ pub mod KnownBytes
 pub mod OneFault
 pub mod Saves
 pub mod Sizes
+pub mod Refusals

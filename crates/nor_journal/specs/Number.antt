@@ -2,8 +2,8 @@
 use Rattle.std.specs.Prelude.{ℕ, List}
 use Rattle.byteorder.specs.Endian.{little_bytes, little_number}
 
--- the four bytes of a number
-unfoldable pub number_text : ℕ → List ℕ
+-- the four bytes by which a journal writes a number
+unfoldable pub number_text : (n : ℕ) → List ℕ
 number_text n = little_bytes 4 n
 
 -- the number that the first four bytes are

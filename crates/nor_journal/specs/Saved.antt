@@ -4,7 +4,7 @@ use Rattle.std.specs.Option.{is_some, unwrap_or}
 use Rattle.nor_journal.specs.Text.{SavedSector, Content, IsContent, SameHead, text}
 
 -- the bytes that are saved for a sector, if it is saved
-unfoldable pub saved_in : List SavedSector → ℕ → Option (List ℕ)
+unfoldable pub saved_in : List SavedSector → (number : ℕ) → Option (List ℕ)
 saved_in [] number = None
 saved_in (s ∷ rest) number = if s.number == number then Some s.bytes else saved_in rest number
 
@@ -13,12 +13,12 @@ pub record HasRecord (content : Content) (sector : ℕ) (bytes : List ℕ) : Typ
   pub place : ℕ
   pub is : slice_get content.saved place ≡ Some (record { number = sector; bytes = bytes })
 
--- whether a sector is saved
-abbrev pub is_saved : Content → ℕ → Bool
+-- a sector is saved by a content
+abbrev pub is_saved : Content → (s : ℕ) → Bool
 is_saved content s = is_some (saved_in content.saved s)
 
 -- the byte that is saved for an address of a saved sector
-abbrev pub saved_byte : Content → ℕ → ℕ
+abbrev pub saved_byte : Content → (a : ℕ) → ℕ
 saved_byte content a = slice_index (unwrap_or (saved_in content.saved (a / 4096)) []) (a % 4096)
 
 -- The bytes are those of sector s, where each address of a chip has its byte.

@@ -6,7 +6,7 @@ use Rattle.std.specs.Option.{unwrap_or}
 use Rattle.sha2.specs.Sha256.{sha256}
 use Rattle.nor_journal.specs.Number.{number_text}
 
--- A sector and the bytes that it had.
+-- A sector, by its number, and the bytes that it had.
 pub record SavedSector : Type 0 where
   pub number : ℕ
   pub bytes : List ℕ
@@ -38,11 +38,12 @@ pub record IsSectorBelow (sectors : ℕ) (s : SavedSector) : Type 0 where
   pub whole : length s.bytes ≡ 4096
 
 -- Each is a whole sector below `sectors`, and the numbers rise, the first being at least `least`.
-abbrev pub AreRising : ℕ → ℕ → List SavedSector → Type 0
+abbrev pub AreRising : (sectors least : ℕ) → List SavedSector → Type 0
 AreRising sectors least [] = ⊤
 AreRising sectors least (s ∷ rest) =
     IsSectorBelow sectors s × (least ≤ s.number) × AreRising sectors (s.number + 1) rest
 
+-- What holds of every content that a journal has: its fields are as long as they are written, and its sectors rise.
 pub record IsContent (c : Content) : Type 0 where
   pub id : length c.id ≡ 3
   pub unique : IfSome c.unique (λ unique. length unique ≡ 8)
@@ -58,7 +59,7 @@ pub data Format : Type 0 where
   Second : Format
 
 -- the format of a content with this unique ID
-abbrev pub format_of : Option (List ℕ) → Format
+abbrev pub format_of : (unique : Option (List ℕ)) → Format
 format_of None = First
 format_of (Some _) = Second
 
@@ -75,12 +76,13 @@ head c = magic (format_of c.unique) ++ c.id ++ unwrap_or c.unique [] ++ c.status
 unfoldable pub record_text : SavedSector → List ℕ
 record_text s = number_text s.number ++ s.bytes
 
-unfoldable pub records_text : List SavedSector → List ℕ
+-- the records, one behind the other
+unfoldable pub records_text : (saved : List SavedSector) → List ℕ
 records_text saved = flat_map record_text saved
 
 -- what stands where no record follows: four bytes FFh, which are the number of no sector
 unfoldable pub end_mark : List ℕ
-end_mark = 255 ∷ 255 ∷ 255 ∷ 255 ∷ []
+end_mark = 0xFF ∷ 0xFF ∷ 0xFF ∷ 0xFF ∷ []
 
 -- the head and the records
 unfoldable pub front : Content → List ℕ
@@ -97,7 +99,7 @@ text c = body c ++ sha256 (body c)
 -- ---- a content that grows
 
 -- what a journal says before any sector is saved
-abbrev pub empty_content : List ℕ → Option (List ℕ) → List ℕ → ℕ → Content
+abbrev pub empty_content : (id : List ℕ) → (unique : Option (List ℕ)) → (status : List ℕ) → (size : ℕ) → Content
 empty_content id unique status size = record { id = id; unique = unique; status = status; size = size; saved = [] }
 
 -- the content with one more sector, the last

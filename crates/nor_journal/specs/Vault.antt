@@ -1,6 +1,5 @@
 -- What contracts see of a vault, and what its two calls do to it.
 use Rattle.std.specs.Prelude.{◌≡◌, ◌≢◌, ℕ, ◌+◌, ◌%◌, ◌^◌, ◌≤◌, Bool, true, false, List, [], ◌++◌, length, take, Result, Ok, Err}
-use Rattle.std.proofs.Common.{arith, sym, ◌∙◌}
 use Rattle.nor_journal.specs.declared.vault.VaultFault.{VaultFault}
 
 -- A vault as contracts see it.
@@ -19,18 +18,14 @@ abbrev pub new_vault : Bool → VaultState
 new_vault telling = record { telling = telling; bytes = []; sealed = false; failures = 0 }
 
 -- the number of refusals after one more, in 64 bits
-abbrev pub one_more : ℕ → ℕ
+abbrev pub one_more : (failures : ℕ) → ℕ
 one_more failures = (failures + 1) % 2 ^ 64
 
--- a refusal shows in the number
-pub one_more-moves : (failures : ℕ) → one_more failures ≢ failures
-one_more-moves failures same = omega arith
-
--- between two states a vault refused
-abbrev pub Rose : VaultState → VaultState → Type 0
+-- between two states a vault refused, which its number shows
+abbrev pub Rose : (old new : VaultState) → Type 0
 Rose old new = new.failures ≢ old.failures
 
--- The piece stands behind the old bytes, and nothing else moved.
+-- A piece went in: it stands behind the old bytes, and nothing else moved.
 pub record Took (old : VaultState) (piece : List ℕ) (new : VaultState) : Type 0 where
   pub telling : new.telling ≡ old.telling
   pub sealed : new.sealed ≡ old.sealed
@@ -43,11 +38,7 @@ pub record Refused (old new : VaultState) : Type 0 where
   pub sealed : new.sealed ≡ old.sealed
   pub failures : new.failures ≡ one_more old.failures
 
--- so a refusal shows
-pub Refused-rose : (old new : VaultState) → Refused old new → Rose old new
-Refused-rose old new refused same = one_more-moves old.failures (sym refused.failures ∙ same)
-
--- A refused piece went in by a beginning of it, as long as the refusal tells.
+-- A piece was refused: a beginning of it went in, of so many bytes.
 pub record PutRefused (old : VaultState) (piece : List ℕ) (kept : ℕ) (new : VaultState) : Type 0 where
   pub refused : Refused old new
   pub within : kept ≤ length piece
@@ -60,21 +51,16 @@ pub record Sealed (old new : VaultState) : Type 0 where
   pub failures : new.failures ≡ old.failures
   pub bytes : old.telling ≡ true → new.bytes ≡ old.bytes
 
--- A refused seal leaves the bytes, and keeps nothing.
-pub record SealRefused (old : VaultState) (kept : ℕ) (new : VaultState) : Type 0 where
-  pub refused : Refused old new
-  pub nothing : kept ≡ 0
-  pub bytes : old.telling ≡ true → new.bytes ≡ old.bytes
-
 -- what `put` of a piece does
-abbrev pub Puts : {T : Type 0} → VaultState → List ℕ → Result T VaultFault → VaultState → Type 0
+abbrev pub Puts : {T : Type 0} → (old : VaultState) → (piece : List ℕ) → Result T VaultFault → (new : VaultState)
+    → Type 0
 Puts old piece (Ok _) new = Took old piece new
 Puts old piece (Err fault) new = PutRefused old piece fault.kept new
 
--- what `seal` does
-abbrev pub Seals : {T : Type 0} → VaultState → Result T VaultFault → VaultState → Type 0
+-- what `seal` does: a refused one is as a refused `put` of nothing
+abbrev pub Seals : {T : Type 0} → (old : VaultState) → Result T VaultFault → (new : VaultState) → Type 0
 Seals old (Ok _) new = Sealed old new
-Seals old (Err fault) new = SealRefused old fault.kept new
+Seals old (Err fault) new = PutRefused old [] fault.kept new
 
 -- ---- over several calls
 

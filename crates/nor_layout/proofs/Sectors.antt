@@ -1,11 +1,11 @@
 -- What a set of spans has in a sector, and from an address on.
-use Rattle.std.proofs.Common.{◌≡◌, ℕ, ◌+◌, ◌*◌, ◌/◌, ◌%◌, ◌≤◌, Bool, true, ◌&&◌, leb, List, [], ◌∷◌, Option, None, refl, ap, ◌∙◌, inl, inr, arith}
+use Rattle.std.proofs.Common.{◌≡◌, ℕ, ◌+◌, ◌*◌, ◌/◌, ◌%◌, ◌≤◌, Bool, true, ◌&&◌, leb, List, [], ◌∷◌, Option, Some, None, refl, ap, ◌∙◌, inl, inr, arith}
 use Rattle.std.specs.Prelude.{MatchBool}
 use Rattle.std.specs.List.{list_any}
 use Rattle.std.proofs.lemmas.Bool.{cases_Bool, cases_lt, both_ways, leb-true, le-leb, and_from, and_parts, or_left, or_right, or_cases}
 use Rattle.nor_layout.specs.declared.ranges.Span.{Span}
 use Rattle.nor_layout.specs.Ranges.{holds, contains, AreApart}
-use Rattle.nor_layout.specs.Sectors.{includes, sectors_included, SomeInSector, NoneInSector, has_in_sector, ReachesTo, EndsBelow}
+use Rattle.nor_layout.specs.Sectors.{includes, sectors_included, SomeInSector, NoneInSector, has_in_sector, ReachesPast}
 use Rattle.nor_layout.proofs.Below.{same_tests, any_below-some, any_below-found, any_below-cases, count_below-all, count_below-most}
 
 -- ---- from an address on
@@ -16,7 +16,7 @@ ends_from size span = leb size span.last
 last_holds : (span : Span) → span.first ≤ span.last → holds span span.last ≡ true
 last_holds span forward = and_from _ _ (le-leb span.first span.last forward) (le-leb span.last span.last (omega arith))
 
-from_ends : (spans : List Span) (size : ℕ) → AreApart spans → list_any (ends_from size) spans ≡ true → ReachesTo (contains spans) size
+from_ends : (spans : List Span) (size : ℕ) → AreApart spans → list_any (ends_from size) spans ≡ true → ReachesPast (Some spans) size
 from_ends [] size apart h = absurd cc
 from_ends (span ∷ spans) size apart h =
     elim (or_cases (ends_from size span) (list_any (ends_from size) spans) h) [
@@ -24,7 +24,7 @@ from_ends (span ∷ spans) size apart h =
       | inr later ↦ let rest = from_ends spans size apart.2 later in (rest.0, rest.1, or_right (holds span rest.0) _ rest.2)
     ]
 
-ends_from-holds : (spans : List Span) (size : ℕ) → ReachesTo (contains spans) size → list_any (ends_from size) spans ≡ true
+ends_from-holds : (spans : List Span) (size : ℕ) → ReachesPast (Some spans) size → list_any (ends_from size) spans ≡ true
 ends_from-holds [] size h = absurd (let e = h.2 in cc)
 ends_from-holds (span ∷ spans) size h =
     elim (or_cases (holds span h.0) (contains spans h.0) h.2) [
@@ -32,16 +32,12 @@ ends_from-holds (span ∷ spans) size h =
       | inr later ↦ or_right (ends_from size span) _ (ends_from-holds spans size (h.0, h.1, later))
     ]
 
--- one ends from the size on, or each address is below it
-pub size_cases : (spans : List Span) (size : ℕ) → AreApart spans → MatchBool (list_any (ends_from size) spans) (ReachesTo (contains spans) size) (EndsBelow (contains spans) size)
+-- one ends from the size on, or none reaches there
+pub size_cases : (spans : List Span) (size : ℕ) → AreApart spans → MatchBool (list_any (ends_from size) spans) (ReachesPast (Some spans) size) (¬ ReachesPast (Some spans) size)
 size_cases spans size apart =
     elim (cases_Bool (list_any (ends_from size) spans)) [
       | inl some ↦ rw some (from_ends spans size apart some)
-      | inr none ↦ rw none (λ address member.
-          elim (cases_lt address size) [
-            | inl below ↦ below
-            | inr from ↦ absurd (both_ways _ none (ends_from-holds spans size (address, from, member)))
-          ])
+      | inr none ↦ rw none (λ reaches. both_ways _ none (ends_from-holds spans size reaches))
     ]
 
 -- ---- in a sector

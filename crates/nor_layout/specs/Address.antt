@@ -8,8 +8,9 @@ is_hex_digit byte =
     (nat_le 48 byte && nat_le byte 57) || (nat_le 65 byte && nat_le byte 70)
     || (nat_le 97 byte && nat_le byte 102)
 
+-- what it counts
 abbrev pub hex_value : ℕ → ℕ
-hex_value byte = if nat_le byte 57 then byte - 48 else (if nat_le byte 70 then byte - 55 else byte - 87)
+hex_value byte = if nat_le byte 57 then byte - 48 else if nat_le byte 70 then byte - 55 else byte - 87
 
 -- the number that digits write: each counts 16 to the number of digits behind it
 abbrev pub number_of : List ℕ → ℕ

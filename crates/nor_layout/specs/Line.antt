@@ -51,7 +51,8 @@ region_of None end name = Err Address
 region_of (Some start) None name = Err Address
 region_of (Some start) (Some end) name =
     if nat_lt end start then Err Backwards
-    else (if is_name name then Ok (record { start = start; end = end; name = record { items = name } }) else Err Name)
+    else if is_name name then Ok (record { start = start; end = end; name = record { items = name } })
+    else Err Name
 
 abbrev pub parts_say : Option Parts → Result Region LineFault
 parts_say None = Err Line

@@ -3,12 +3,12 @@ use Rattle.std.specs.Prelude.{ℕ, ◌+◌, ◌<◌, ◌≤◌, Bool, ◌&&◌, 
 use Rattle.std.specs.List.{list_any}
 use Rattle.nor_layout.specs.declared.ranges.Span.{Span}
 
--- both ends belong to a span
-abbrev pub holds : Span → ℕ → Bool
+-- an address belongs to a span, as both of its ends do
+abbrev pub holds : Span → (address : ℕ) → Bool
 holds span address = nat_le span.first address && nat_le address span.last
 
--- whether an address belongs to the set
-abbrev pub contains : List Span → ℕ → Bool
+-- an address belongs to a set, that is to one of its spans
+abbrev pub contains : (spans : List Span) → (address : ℕ) → Bool
 contains spans address = list_any (λ span. holds span address) spans
 
 -- an address between the span and the first of those behind it belongs to none

@@ -4,44 +4,35 @@ use Rattle.nor_layout.specs.declared.ranges.Span.{Span}
 use Rattle.nor_layout.specs.Below.{any_below, count_below}
 use Rattle.nor_layout.specs.Ranges.{contains}
 
--- A request includes the addresses of its ranges, and without ranges those of the whole chip.
-abbrev pub includes : Option (List Span) → ℕ → Bool
+-- A request includes an address: of its ranges, and without ranges of the whole chip.
+abbrev pub includes : Option (List Span) → (address : ℕ) → Bool
 includes None address = true
 includes (Some spans) address = contains spans address
 
 -- some address of the sector belongs to the set
-abbrev pub SomeInSector : (ℕ → Bool) → ℕ → Type 0
+abbrev pub SomeInSector : (set : ℕ → Bool) → (sector : ℕ) → Type 0
 SomeInSector set sector = (i : ℕ) × (i < 4096) × (set (4096 * sector + i) ≡ true)
 
 -- no address of the sector belongs to it
-abbrev pub NoneInSector : (ℕ → Bool) → ℕ → Type 0
+abbrev pub NoneInSector : (set : ℕ → Bool) → (sector : ℕ) → Type 0
 NoneInSector set sector = (i : ℕ) → i < 4096 → set (4096 * sector + i) ≡ false
 
--- the same as a test: some address of the sector belongs to the set
-abbrev pub has_in_sector : (ℕ → Bool) → ℕ → Bool
+-- a test: some address of the sector belongs to the set
+abbrev pub has_in_sector : (set : ℕ → Bool) → (sector : ℕ) → Bool
 has_in_sector set sector = any_below 4096 (λ i. set (4096 * sector + i))
 
 -- how many sectors of a chip of this size hold an included address
-abbrev pub sectors_included : Option (List Span) → ℕ → ℕ
+abbrev pub sectors_included : Option (List Span) → (size : ℕ) → ℕ
 sectors_included included size = count_below (size / 4096) (has_in_sector (includes included))
 
--- some address from the size on belongs to the set
-abbrev pub ReachesTo : (ℕ → Bool) → ℕ → Type 0
-ReachesTo set size = (address : ℕ) × (size ≤ address) × (set address ≡ true)
-
--- each address of the set is below the size
-abbrev pub EndsBelow : (ℕ → Bool) → ℕ → Type 0
-EndsBelow set size = (address : ℕ) → set address ≡ true → address < size
-
--- Ranges may reach past a chip of this size; the whole chip doesn't.
-abbrev pub ReachesPast : Option (List Span) → ℕ → Type 0
+-- Ranges reach past a chip of this size: some address of theirs isn't below it. The whole chip doesn't.
+abbrev pub ReachesPast : Option (List Span) → (size : ℕ) → Type 0
 ReachesPast None size = ⊥
-ReachesPast (Some spans) size = ReachesTo (contains spans) size
+ReachesPast (Some spans) size = (address : ℕ) × (size ≤ address) × (contains spans address ≡ true)
 
--- they don't
-abbrev pub FitsInto : Option (List Span) → ℕ → Type 0
-FitsInto None size = Unit {0}
-FitsInto (Some spans) size = EndsBelow (contains spans) size
+-- each address that is included is one of the chip
+abbrev pub FitsInto : Option (List Span) → (size : ℕ) → Type 0
+FitsInto included size = ¬ ReachesPast included size
 
 -- What is wanted at an address: the image's byte where it is included, and else the content's, as it is on the chip.
 abbrev pub wanted_of : (ℕ → Bool) → (ℕ → ℕ) → (ℕ → ℕ) → ℕ → ℕ

@@ -22,7 +22,8 @@ is_named regions name = list_any (λ region. bytes_eq region.name.items name) re
 abbrev pub joins : List Region → ℕ → Region → Result (List Region) LayoutFault
 joins regions n region =
     if is_named regions region.name.items then Err (InLine n Twice)
-    else (if nat_lt (length regions) 64 then Ok (regions ++ region ∷ []) else Err TooMany)
+    else if nat_lt (length regions) 64 then Ok (regions ++ region ∷ [])
+    else Err TooMany
 
 abbrev pub joins_or_fault : List Region → ℕ → Result Region LineFault → Result (List Region) LayoutFault
 joins_or_fault regions n (Ok region) = joins regions n region

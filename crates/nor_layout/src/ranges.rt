@@ -2,7 +2,7 @@
 
 ghost use Rattle.std.specs.Prelude.{◌≡◌, ◌≤◌, ◌<◌, ◌+◌, ◌||◌, ◌*◌, ℕ, MatchBool, length, nat_lt, [], slice_index, if◌then◌else◌};
 ghost use Rattle.nor_layout.specs.Ranges.{holds, contains, AreApart, AreRanges};
-ghost use Rattle.nor_layout.specs.Sectors.{SomeInSector, NoneInSector, has_in_sector, ReachesTo, EndsBelow};
+ghost use Rattle.nor_layout.specs.Sectors.{SomeInSector, NoneInSector, has_in_sector, ReachesPast};
 ghost use Rattle.nor_layout.specs.Places.{AreIncludedIn, places_left};
 ghost use Rattle.nor_layout.specs.Steps.{join};
 
@@ -137,8 +137,7 @@ impl Ranges {
 
     /// Whether some address from `size` on belongs to the set.
     pub fn reaches(&self, size: u32) -> bool
-        ensures { MatchBool result
-            (ReachesTo (contains self.now) size) (EndsBelow (contains self.now) size) }
+        ensures { MatchBool result (ReachesPast (Some self.now) size) (¬ ReachesPast (Some self.now) size) }
     {
         self.spans.iter().any(|span| size <= span.last)
     }

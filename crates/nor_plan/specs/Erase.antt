@@ -14,18 +14,17 @@ is_offered kinds Block32 = kinds.k32
 is_offered kinds Block64 = kinds.k64
 is_offered kinds Chip = true
 
--- an aligned unit, of a kind that the chip has, or the whole chip
+-- An erase of a chip of these kinds and so many sectors: of an aligned unit that it has, or of the whole chip.
 pub record IsErase (kinds : Kinds) (total : ℕ) (erase : Erase) : Type 0 where
   pub offered : is_offered kinds erase.unit ≡ true
   pub aligned : is_aligned erase.unit erase.sector ≡ true
   pub within : erase.sector + sectors_in total erase.unit ≤ total
 
--- some erase of the list sets this sector to FFh
-abbrev pub erased_by : ℕ → List Erase → ℕ → Bool
+-- on a chip of so many sectors some erase of the list sets this one to FFh
+abbrev pub erased_by : (total : ℕ) → List Erase → (sector : ℕ) → Bool
 erased_by total erases sector = list_any (erases_sector total sector) erases
 
--- the list is one of erases, in any order and with any overlap, and what they erase together is the set,
--- no more and no less
+-- A list of erases covers a set of sectors: in any order and with any overlap they erase the set, no more and no less.
 pub record Covers (kinds : Kinds) (total : ℕ) (erases : List Erase) (set : ℕ → Bool) : Type 0 where
   pub units : All (IsErase kinds total) erases
   pub union : (sector : ℕ) → erased_by total erases sector ≡ set sector

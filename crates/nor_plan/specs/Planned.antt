@@ -52,7 +52,7 @@ planned kinds total set = planned_from (holds_run set 0 total) kinds set 0
 abbrev pub fewest_erases : Kinds → ℕ → (ℕ → Bool) → ℕ
 fewest_erases kinds total set = length (planned kinds total set)
 
--- It is the least length: some list that covers the set is as long, and none is shorter.
+-- So many erases are the least that cover the set: some list that does is as long, and none is shorter.
 pub record IsLeastLength (kinds : Kinds) (total : ℕ) (set : ℕ → Bool) (count : ℕ) : Type 0 where
   pub some : List Erase
   pub covers : Covers kinds total some set

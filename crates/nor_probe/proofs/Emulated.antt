@@ -7,8 +7,7 @@ use Rattle.std.proofs.lemmas.Nat.{ones_cat}
 use lib.Count.{ones, ones_in}
 use Rattle.nor_chip.specs.declared.config.Config.{Config}
 use Rattle.nor_chip.specs.declared.config.TheConstants.{TINY64_SFDP}
-use Rattle.nor_chip.specs.Chip.{IsTiny64}
-use Rattle.nor_chip.specs.Makers.{IsW25q64fv, IsW25q128fv}
+use Rattle.nor_chip.specs.Makers.{IsTiny64, IsW25q64fv, IsW25q128fv}
 use Rattle.nor_probe.specs.declared.sfdp.Geometry.{Geometry}
 use Rattle.nor_probe.specs.declared.sfdp.SfdpFault.{SfdpFault}
 use Rattle.nor_probe.specs.declared.sfdp.SfdpFault.TheVariants.{Size}

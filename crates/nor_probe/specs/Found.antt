@@ -22,8 +22,8 @@ abbrev pub part_in : Found → Part
 part_in found =
     record { name = found.name; id = found.id; size = found.size; kinds = found.kinds; scheme = found.scheme }
 
--- the chip may have this name
-abbrev pub IsWanted : Option ChipName → ChipName → Type 0
+-- a chip of this name is one that is wanted: where none is named, any is
+abbrev pub IsWanted : (named : Option ChipName) → ChipName → Type 0
 IsWanted None name = Unit {0}
 IsWanted (Some wanted) name = wanted ≡ name
 
@@ -73,7 +73,8 @@ pub record Finds (old new : BusState) (found : Found) : Type 0 where
   pub status1 : found.status1 ≡ status1_of new.chip
   pub count : old.left ≡ new.left + needed old.chip
 
--- What was found is the configuration of a known chip.
+-- What was found is the configuration of a known chip. (On a genuine chip it follows from `shown_as config ≡ Ok (part_in
+-- found)`, which tells the name besides.)
 pub record IsConfigOf (config : Config) (found : Found) : Type 0 where
   pub known : IsKnown config
   pub id : found.id ≡ id_of config

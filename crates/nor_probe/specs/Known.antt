@@ -12,12 +12,12 @@ use Rattle.nor_probe.specs.declared.probes.ProbeFault.TheVariants.{NoChip, Unkno
 use Rattle.nor_probe.specs.Sfdp.{sfdp_says}
 use Rattle.nor_probe.specs.Table.{part_of}
 
--- nothing drives the bus: its lines rest high, or low
-abbrev pub is_no_chip : List ℕ → Bool
-is_no_chip of_id = bytes_eq of_id (0xFF ∷ 0xFF ∷ 0xFF ∷ []) || bytes_eq of_id (0 ∷ 0 ∷ 0 ∷ [])
+-- nothing drives the bus, which replies this ID: its lines rest high, or low
+abbrev pub is_no_chip : (of_id : List ℕ) → Bool
+is_no_chip of_id = bytes_eq of_id (0xFF ∷ 0xFF ∷ 0xFF ∷ []) || bytes_eq of_id (0x00 ∷ 0x00 ∷ 0x00 ∷ [])
 
 -- the address of the table that a parameter header points to: three bytes, low byte first (JESD216)
-abbrev pub pointer_in : List ℕ → ℕ
+abbrev pub pointer_in : (first : List ℕ) → ℕ
 pointer_in first = slice_index first 4 + 256 * slice_index first 5 + 65536 * slice_index first 6
 
 -- what the chip says of itself by SFDP: by the header, the first parameter header and the table that this points to
@@ -25,25 +25,21 @@ unfoldable pub chip_says : Config → Result Geometry SfdpFault
 chip_says config = sfdp_says (shown config 0 8) (shown config 8 8) (shown config (pointer_in (shown config 8 8)) 36)
 
 -- a chip that is known by its SFDP alone has no block protection that is known
-abbrev pub sfdp_part : List ℕ → Geometry → Part
-sfdp_part with_id geometry = record {
-  name = Sfdp;
-  id = with_id;
-  size = geometry.size;
-  kinds = geometry.kinds;
-  scheme = false;
-}
+abbrev pub sfdp_part : (with_id : List ℕ) → Geometry → Part
+sfdp_part with_id geometry =
+    record { name = Sfdp; id = with_id; size = geometry.size; kinds = geometry.kinds; scheme = false }
 
-abbrev pub part_by_sfdp : List ℕ → Result Geometry SfdpFault → Result Part ProbeFault
+-- what a chip of this ID shows itself as by what its SFDP says
+abbrev pub part_by_sfdp : (with_id : List ℕ) → Result Geometry SfdpFault → Result Part ProbeFault
 part_by_sfdp with_id (Ok geometry) = Ok (sfdp_part with_id geometry)
 part_by_sfdp with_id (Err fault) = Err (UnknownChip fault)
 
 -- the row of the table, or where there is none what SFDP says
-abbrev pub listed_or : Result Part ProbeFault → Option Part → Result Part ProbeFault
+abbrev pub listed_or : (by_sfdp : Result Part ProbeFault) → Option Part → Result Part ProbeFault
 listed_or by_sfdp (Some part) = Ok part
 listed_or by_sfdp None = by_sfdp
 
--- what the chip shows itself as
+-- what the chip shows itself as: nothing, the row of the table that has its ID, or what its SFDP says
 abbrev pub shown_as : Config → Result Part ProbeFault
 shown_as config =
     if is_no_chip (id_of config) then Err NoChip

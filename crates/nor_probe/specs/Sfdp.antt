@@ -9,47 +9,47 @@ use Rattle.nor_probe.specs.declared.sfdp.SfdpFault.{SfdpFault}
 use Rattle.nor_probe.specs.declared.sfdp.SfdpFault.TheVariants.{Signature, Major, FirstHeader, Length, Address, Granularity, Size, NoSector}
 
 -- double word k of the table, counted from 1
-unfoldable pub double_word : ℕ → List ℕ → ℕ
+unfoldable pub double_word : (k : ℕ) → (table : List ℕ) → ℕ
 double_word k table = little_from (4 * (k - 1)) 4 table
 
 -- the header begins with the letters SFDP
-unfoldable pub has_signature : List ℕ → Bool
+unfoldable pub has_signature : (header : List ℕ) → Bool
 has_signature header =
-    (slice_index header 0 == 0x53) && (slice_index header 1 == 0x46)
-    && (slice_index header 2 == 0x44) && (slice_index header 3 == 0x50)
+    slice_index header 0 == 0x53 && slice_index header 1 == 0x46
+    && slice_index header 2 == 0x44 && slice_index header 3 == 0x50
 
 -- the first parameter header is that of the basic table, in its first major revision
-unfoldable pub is_basic : List ℕ → Bool
-is_basic first = (slice_index first 0 == 0) && (slice_index first 2 == 1)
+unfoldable pub is_basic : (first : List ℕ) → Bool
+is_basic first = slice_index first 0 == 0 && slice_index first 2 == 1
 
 -- how addresses are sent, bits 17 and 18 of double word 1: 0 by three bytes, 1 by three or four, 2 by four alone
-unfoldable pub address_mode : List ℕ → ℕ
+unfoldable pub address_mode : (table : List ℕ) → ℕ
 address_mode table = double_word 1 table / 2 ^ 17 % 4
 
 -- bit 2 of double word 1: a program may send 64 bytes and more at a time
-unfoldable pub has_write_granularity : List ℕ → Bool
+unfoldable pub has_write_granularity : (table : List ℕ) → Bool
 has_write_granularity table = double_word 1 table / 2 ^ 2 % 2 == 1
 
 -- the size in bits by double word 2: itself plus one, or with bit 31 set a power of two by the other bits
-unfoldable pub size_in_bits : ℕ → ℕ
+unfoldable pub size_in_bits : (density : ℕ) → ℕ
 size_in_bits density = if nat_lt density (2 ^ 31) then density + 1 else 2 ^ (density - 2 ^ 31)
 
 -- a power of two from 64 KiB to 16 MiB, in bits
-unfoldable pub is_supported_size : ℕ → Bool
+unfoldable pub is_supported_size : (bits : ℕ) → Bool
 is_supported_size bits = is_power_of_two bits && nat_le (2 ^ 19) bits && nat_le bits (2 ^ 27)
 
--- an erase type is a pair of bytes, the exponent of its size and its opcode; one stands at this place
-abbrev pub is_erase_type_at : ℕ → ℕ → List ℕ → ℕ → Bool
-is_erase_type_at exponent opcode table at = (slice_index table at == exponent) && (slice_index table (at + 1) == opcode)
+-- an erase type is a pair of bytes, the exponent of its size and its opcode; this one stands at a place of the table
+abbrev pub is_erase_type_at : (exponent opcode : ℕ) → (table : List ℕ) → (at : ℕ) → Bool
+is_erase_type_at exponent opcode table at = slice_index table at == exponent && slice_index table (at + 1) == opcode
 
 -- one of the four erase types of double words 8 and 9 is this one
-unfoldable pub has_erase_type : ℕ → ℕ → List ℕ → Bool
+unfoldable pub has_erase_type : (exponent opcode : ℕ) → (table : List ℕ) → Bool
 has_erase_type exponent opcode table =
     is_erase_type_at exponent opcode table 28 || is_erase_type_at exponent opcode table 30
     || is_erase_type_at exponent opcode table 32 || is_erase_type_at exponent opcode table 34
 
 -- what is wrong with the headers: each fault beside the condition under which it is told, in order
-abbrev pub header_faults : List ℕ → List ℕ → List (Bool × SfdpFault)
+abbrev pub header_faults : (header first : List ℕ) → List (Bool × SfdpFault)
 header_faults header first =
     (not (has_signature header), Signature)
     ∷ (not (slice_index header 5 == 1), Major)
@@ -57,8 +57,8 @@ header_faults header first =
     ∷ (nat_lt (slice_index first 3) 9, Length)
     ∷ []
 
--- what is wrong with the table
-abbrev pub table_faults : List ℕ → List (Bool × SfdpFault)
+-- what is wrong with the table, likewise
+abbrev pub table_faults : (table : List ℕ) → List (Bool × SfdpFault)
 table_faults table =
     (nat_le 2 (address_mode table), Address)
     ∷ (not (has_write_granularity table), Granularity)
@@ -66,8 +66,8 @@ table_faults table =
     ∷ (not (has_erase_type 0x0C 0x20 table), NoSector)
     ∷ []
 
--- the size in bytes, and whether 32 KiB and 64 KiB are among the erase types
-abbrev pub geometry_of : List ℕ → Geometry
+-- what the table tells of a chip: the size in bytes, and whether 32 KiB and 64 KiB are among the erase types
+abbrev pub geometry_of : (table : List ℕ) → Geometry
 geometry_of table = record {
   size = size_in_bits (double_word 2 table) / 8;
   kinds = record { k32 = has_erase_type 0x0F 0x52 table; k64 = has_erase_type 0x10 0xD8 table };
@@ -79,7 +79,7 @@ first_fault_or geometry [] = Ok geometry
 first_fault_or geometry (case ∷ cases) = if case.0 then Err case.1 else first_fault_or geometry cases
 
 -- what these bytes of SFDP say
-abbrev pub sfdp_says : List ℕ → List ℕ → List ℕ → Result Geometry SfdpFault
+abbrev pub sfdp_says : (header first table : List ℕ) → Result Geometry SfdpFault
 sfdp_says header first table = first_fault_or (geometry_of table) (header_faults header first ++ table_faults table)
 
 -- the number that a message shows for a fault

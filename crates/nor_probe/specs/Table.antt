@@ -8,9 +8,9 @@ use Rattle.nor_probe.specs.declared.table.Part.{Part}
 abbrev pub name_of : List ℕ → ChipName
 name_of text =
     if bytes_eq text (codes "W25Q64FV") then W25Q64FV
-    else (if bytes_eq text (codes "W25Q128FV") then W25Q128FV
-    else (if bytes_eq text (codes "SFDP") then Sfdp
-    else Other))
+    else if bytes_eq text (codes "W25Q128FV") then W25Q128FV
+    else if bytes_eq text (codes "SFDP") then Sfdp
+    else Other
 
 -- the text of a name; what stands for a name that no chip has is no chip's name either
 abbrev pub text_of : ChipName → List ℕ
@@ -21,20 +21,15 @@ text_of Other = codes "other"
 
 -- Both Winbond chips have all erase kinds and block protection. (W25Q64FV and W25Q128FV datasheets: manufacturer
 -- and device identification, memory organization, instruction set table.)
-abbrev pub winbond : ChipName → List ℕ → ℕ → Part
-winbond called with_id with_size = record {
-  name = called;
-  id = with_id;
-  size = with_size;
-  kinds = record { k32 = true; k64 = true };
-  scheme = true;
-}
+abbrev pub winbond : ChipName → (with_id : List ℕ) → (with_size : ℕ) → Part
+winbond called with_id with_size =
+    record { name = called; id = with_id; size = with_size; kinds = record { k32 = true; k64 = true }; scheme = true }
 
--- 64 Mbit
+-- the row of W25Q64FV, of 64 Mbit
 abbrev pub w25q64fv : Part
 w25q64fv = winbond W25Q64FV (0xEF ∷ 0x40 ∷ 0x17 ∷ []) 8388608
 
--- 128 Mbit
+-- the row of W25Q128FV, of 128 Mbit
 abbrev pub w25q128fv : Part
 w25q128fv = winbond W25Q128FV (0xEF ∷ 0x40 ∷ 0x18 ∷ []) 16777216
 
@@ -43,5 +38,5 @@ abbrev pub chips : List Part
 chips = w25q64fv ∷ w25q128fv ∷ []
 
 -- the chip of the table that has this ID
-abbrev pub part_of : List ℕ → Option Part
+abbrev pub part_of : (of_id : List ℕ) → Option Part
 part_of of_id = find (λ part. bytes_eq part.id of_id) chips

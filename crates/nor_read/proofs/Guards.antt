@@ -1,6 +1,6 @@
 -- What the two status bytes tell of a chip that was found.
 use Rattle.std.proofs.Common.{◌≡◌, ◌∙◌, ℕ, ◌+◌, ◌*◌, ◌/◌, ◌%◌, Bool, true, false, List, [], ◌∷◌, Option, Some, None, Ok, Err, ap, sym, arith}
-use Rattle.std.specs.Prelude.{◌&&◌, ◌||◌, ◌==◌, MatchOption, if◌then◌else◌}
+use Rattle.std.specs.Prelude.{◌&&◌, ◌||◌, ◌==◌, MatchOption}
 use Rattle.std.proofs.lemmas.Bool.Decides.{nat_tests}
 use Rattle.nor_chip.specs.Chip.{Chip}
 use Rattle.nor_chip.specs.Guard.{guarded_by, code_of, is_guarded, is_undefined}
@@ -21,7 +21,7 @@ code_read : (one two k1 k2 : ℕ) → one / 4 ≡ k1 → two ≡ k2 → code_in 
 code_read one two k1 k2 low high = ap (λ (n : ℕ). 32 * (n / 64 % 2) + one / 4 % 32) high ∙ ap (λ (n : ℕ). 32 * (k2 / 64 % 2) + n % 32) low
 
 lock_read : (one two k1 k2 : ℕ) → one / 4 ≡ k1 → two ≡ k2
-    → ((one / 128 % 2 == 1) || (two % 2 == 1)) ≡ (if k1 / 32 % 2 == 0 then (if k2 % 2 == 0 then false else true) else true)
+    → ((one / 128 % 2 == 1) || (two % 2 == 1)) ≡ (k1 / 32 % 2 == 1 || k2 % 2 == 1)
 lock_read one two k1 k2 low high = grind (arith, nat_tests)
 
 -- a place of the chip is guarded as the status bytes say

@@ -1,6 +1,6 @@
 -- Which touched sectors hold a guarded place, by what the opening read.
 use Rattle.std.proofs.Common.{◌≡◌, ◌∙◌, ℕ, ◌+◌, ◌-◌, ◌*◌, ◌/◌, ◌%◌, Bool, true, false, sym, ap, arith}
-use Rattle.std.specs.Prelude.{◌&&◌, ◌||◌, ◌==◌, if◌then◌else◌}
+use Rattle.std.specs.Prelude.{◌&&◌, ◌||◌, ◌==◌}
 use Rattle.std.proofs.lemmas.Bool.Decides.{nat_tests}
 use Rattle.std.proofs.Math.Bool.{and-false}
 use Rattle.nor_chip.specs.Chip.{Chip, is_locked}
@@ -36,7 +36,7 @@ none_held touched chip opening is scheme = λ s.
     ap (λ (b : Bool). touched s && b) free ∙ and-false (touched s)
 
 lock_bits : (k1 k2 one two : ℕ) → one / 4 ≡ k1 → two ≡ k2
-    → ((one / 128 % 2 == 1) || (two % 2 == 1)) ≡ (if k1 / 32 % 2 == 0 then (if k2 % 2 == 0 then false else true) else true)
+    → ((one / 128 % 2 == 1) || (two % 2 == 1)) ≡ (k1 / 32 % 2 == 1 || k2 % 2 == 1)
 lock_bits k1 k2 one two low high = grind (arith, nat_tests)
 
 -- the status is locked as it was read

@@ -29,7 +29,7 @@ kept_from Unknown old mid new same kept = kept
 looked_then : (reads more most : ℕ) (old mid new : BusState) → reads + more ≤ most → mid.steady ≡ old.steady → Rested old mid → old.left ≡ mid.left + reads → Looked more mid new → Looked most old new
 looked_then reads more most old mid new few steady rested sent looked =
     let was = rested.unchanged in let stays = looked.stays in
-    let first = was.busy in let second = stays.busy in let fell = looked.fell in let bound = looked.bound in
+    let first = was.busy in let second = stays.busy in let fell = looked.falls.fell in let bound = looked.falls.bound in
     record {
       stays = record {
         config = stays.config ∙ was.same.config;
@@ -45,8 +45,7 @@ looked_then reads more most old mid new few steady rested sent looked =
       };
       latch = λ latch. rested.latch (looked.latch latch);
       idle_latch = λ is idle. looked.idle_latch (steady ∙ is) (omega arith) ∙ rested.idle_latch idle;
-      fell = omega arith;
-      bound = omega arith;
+      falls = record { fell = omega arith; bound = omega arith };
     }
 
 -- Readings succeeded, so many; whatever the bus, what nothing changes is as it was.

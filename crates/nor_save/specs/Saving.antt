@@ -6,7 +6,7 @@ use Rattle.nor_chip.specs.Guard.{code_of, is_undefined, is_unit_guarded}
 use Rattle.nor_chip.specs.Offer.{IsNotOffered}
 use Rattle.nor_driver.specs.Reads.{unique_of, id_of}
 use Rattle.nor_journal.specs.Text.{Content, empty_content}
-use Rattle.nor_layout.specs.Sectors.{ReachesPast, FitsInto}
+use Rattle.nor_layout.specs.Sectors.{ReachesPast}
 use Rattle.nor_probe.specs.Found.{IsConfigOf}
 use Rattle.nor_save.specs.declared.opening.Opening.{Opening}
 use Rattle.nor_save.specs.declared.report.Request.{Request}
@@ -34,7 +34,7 @@ pub record Shows (chip : Chip) (state : BusState) : Type 0 where
 -- neither image nor ranges are refused
 pub record FitsChip (request : Request) (image : ℕ) (chip : Chip) : Type 0 where
   pub image_size : is_data request.what ≡ true → image ≡ chip.config.size
-  pub regions : is_data request.what ≡ true → FitsInto request.included chip.config.size
+  pub regions : is_data request.what ≡ true → ¬ ReachesPast request.included chip.config.size
 
 -- nor is protection
 pub record FitsProtection (request : Request) (chip : Chip) : Type 0 where

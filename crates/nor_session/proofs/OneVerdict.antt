@@ -5,7 +5,6 @@ use Rattle.nor_chip.specs.Chip.{Chip, is_locked}
 use Rattle.nor_chip.specs.Guard.{code_of}
 use Rattle.nor_chip.specs.Offer.{IsLeastCode}
 use Rattle.nor_layout.specs.declared.ranges.Span.{Span}
-use Rattle.nor_layout.specs.Sectors.{ReachesPast, FitsInto}
 use Rattle.nor_probe.specs.declared.table.ChipName.{ChipName}
 use Rattle.nor_probe.specs.declared.table.Part.{Part}
 use Rattle.nor_probe.specs.declared.probes.ProbeFault.{ProbeFault}
@@ -45,10 +44,6 @@ other_name named chip is other =
     other.other (subst (λ (part : Part). IsWanted named part.name) (one_part (shown_as chip.config) is.part other.part is.shown other.shown) is.wanted)
 
 -- ---- what the opening judges
-
-reaches_or_fits : (included : Option (List Span)) (size : ℕ) → ReachesPast included size → FitsInto included size → ⊥
-reaches_or_fits None size past fits = absurd past
-reaches_or_fits (Some spans) size past fits = let below = fits past.0 past.2 in let above = past.1 in absurd (omega arith)
 
 none_or_code : (what : What) (chip : Chip) (code : ℕ) → AsksForNone what chip → IsWantedCode what chip code → ⊥
 none_or_code Write chip code none wanted = absurd none
@@ -92,7 +87,7 @@ accepted_only request image chip NoChip is verdict = either (shown_as chip.confi
 accepted_only request image chip (UnknownChip fault) is verdict = either (shown_as chip.config) _ is.named.part verdict is.named.shown
 accepted_only request image chip OtherName is verdict = other_name request.named chip is.named verdict
 accepted_only request image chip (ImageSize size len) is verdict = verdict.1.3 (is.opening.fits.image_size verdict.1.0)
-accepted_only request image chip RegionOutside is verdict = reaches_or_fits request.included chip.config.size verdict.1.2 (is.opening.fits.regions verdict.1.0)
+accepted_only request image chip RegionOutside is verdict = is.opening.fits.regions verdict.1.0 verdict.1.2
 accepted_only request image chip NoProtection is verdict = absurd (true≢false (sym (is.opening.protection.scheme verdict.1.0) ∙ verdict.1.1))
 accepted_only request image chip UndefinedProtection is verdict = absurd (true≢false (sym verdict.1.2 ∙ is.opening.protection.defined verdict.1.1))
 accepted_only request image chip RangeNotOffered is verdict = none_or_code request.what chip is.code verdict.1.1 is.opening.is_wanted

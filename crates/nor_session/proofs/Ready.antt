@@ -122,7 +122,7 @@ pub spends_looks : (m n : ℕ) (old new : BusState) → m ≤ n → Looks m old 
 spends_looks m n old new fits looks = record {
   honest = looks.honest;
   steady = looks.steady;
-  falls = λ honest. let looked = looks.looked honest in record { fell = looked.fell; bound = let bound = looked.bound in omega arith };
+  falls = λ honest. let looked = looks.looked honest in record { fell = looked.falls.fell; bound = let bound = looked.falls.bound in omega arith };
 }
 
 -- after the readings come the changes

@@ -4,8 +4,7 @@ use Rattle.std.specs.Prelude.{if◌then◌else◌, ◌==◌, Option, Err}
 use Rattle.nor_chip.specs.Chip.{Chip, IsSame, status1_of}
 use Rattle.nor_chip.specs.Bus.{BusState}
 use Rattle.nor_driver.specs.Reads.{unique_of}
-use Rattle.nor_driver.specs.Looks.{Looks, RanOut}
-use Rattle.nor_driver.specs.Operations.{Falls}
+use Rattle.nor_driver.specs.Looks.{Looks, Falls, RanOut}
 use Rattle.nor_journal.specs.Vault.{VaultState, Rose}
 use Rattle.nor_probe.specs.declared.table.ChipName.{ChipName}
 use Rattle.nor_probe.specs.Found.{IsConfigOf, part_in}

@@ -40,13 +40,12 @@ looks_most few most old new fits looks = record {
   steady = looks.steady;
   stirred = looks.stirred;
   looked = λ honest.
-      let looked = looks.looked honest in let bound = looked.bound in
+      let looked = looks.looked honest in let bound = looked.falls.bound in
       record {
         stays = looked.stays;
         latch = looked.latch;
         idle_latch = looked.idle_latch;
-        fell = looked.fell;
-        bound = omega arith;
+        falls = record { fell = looked.falls.fell; bound = omega arith };
       };
 }
 
@@ -54,7 +53,7 @@ pub looks_spend : (few most : ℕ) (old new : BusState) → few ≤ most → Loo
 looks_spend few most old new fits looks = record {
   honest = looks.honest;
   steady = looks.steady;
-  falls = λ honest. let looked = looks.looked honest in let bound = looked.bound in record { fell = looked.fell; bound = omega arith };
+  falls = λ honest. let looked = looks.looked honest in let bound = looked.falls.bound in record { fell = looked.falls.fell; bound = omega arith };
 }
 
 pub prepare_answers : (journal : Content) (most : ℕ) (old new : BusState) (refusal : Refusal) → PrepareTells journal most old new refusal → IsRestoreRefusal refusal
@@ -114,7 +113,7 @@ changed_spends journal prepared old mid new are =
       honest = are.leaves.spends.honest ∙ are.looks.honest;
       steady = are.leaves.spends.steady ∙ are.looks.steady;
       falls = λ honest.
-          let looked = are.looks.looked honest in let fell = looked.fell in let bound = looked.bound in
+          let looked = are.looks.looked honest in let fell = looked.falls.fell in let bound = looked.falls.bound in
           let falls = are.leaves.spends.falls (are.looks.honest ∙ honest) in let fell_later = falls.fell in let bound_later = falls.bound in
           record { fell = omega arith; bound = omega arith };
     }
@@ -169,7 +168,7 @@ pub change_gives_up : (journal : Content) (prepared : Prepared) (old mid new : B
     → ChangeTells prepared.changes (saved_byte journal) mid new refusal → RestoreGivesUp journal old new refusal
 change_gives_up journal prepared old mid new Stopped are honest tells =
     let out = tells (are.looks.honest ∙ honest) in let below = out.below in
-    let bound = (are.looks.looked honest).bound in
+    let bound = (are.looks.looked honest).falls.bound in
     let fits = few_changed journal prepared old mid are.is in
     record { none_left = out.none_left; below = omega arith }
 change_gives_up journal prepared old mid new (Timeout address) are honest tells = tells (are.looks.honest ∙ honest)
@@ -180,7 +179,7 @@ pub change_tells : (journal : Content) (prepared : Prepared) (old mid new : BusS
     → ChangeTells prepared.changes (saved_byte journal) mid new refusal → RestoreTells journal old new refusal
 change_tells journal prepared old mid new Stopped are modelled tells =
     let out = tells (are.looks.honest ∙ modelled.honest) in let below = out.below in
-    let bound = (are.looks.looked modelled.honest).bound in
+    let bound = (are.looks.looked modelled.honest).falls.bound in
     let fits = few_changed journal prepared old mid are.is in
     record { none_left = out.none_left; below = omega arith }
 change_tells journal prepared old mid new (Timeout address) are modelled tells = absurd (tells (are.looks.honest ∙ modelled.honest))

@@ -3,8 +3,7 @@ use Rattle.std.specs.Prelude.{◌≡◌, ◌≢◌, ◌≤◌, ◌<◌, ◌+◌,
 use Rattle.nor_chip.specs.Chip.{Chip, IsSame, is_locked, status1_of}
 use Rattle.nor_chip.specs.Guard.{is_unit_guarded}
 use Rattle.nor_chip.specs.Bus.{BusState}
-use Rattle.nor_driver.specs.Looks.{Looks, RanOut}
-use Rattle.nor_driver.specs.Operations.{Falls}
+use Rattle.nor_driver.specs.Looks.{Looks, Falls, RanOut}
 use Rattle.nor_driver.specs.StatusWrites.{KeepsFixed, HasCode}
 use Rattle.nor_journal.specs.Vault.{VaultState, Rose}
 use Rattle.nor_journal.specs.Text.{Content, IsContent, text}
