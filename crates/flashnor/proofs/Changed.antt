@@ -9,7 +9,7 @@ use Rattle.nor_save.specs.declared.report.Request.{Request}
 use Rattle.nor_save.specs.declared.refusal.Refusal.{Refusal}
 use Rattle.nor_save.specs.declared.refusal.Refusal.TheVariants as why
 use Rattle.nor_save.specs.declared.report.Report.{Report}
-use Rattle.nor_session.specs.Modelled.{IsModelled}
+use Rattle.nor_probe.specs.Known.{IsModelled}
 use Rattle.nor_session.specs.WrittenOver.{IsWrittenOver}
 use Rattle.nor_session.proofs.WrittenBack.{same_over, session_over}
 use Rattle.nor_session.specs.Session.{CanBeUndone, HonestTells, IsDone, SessionTells}

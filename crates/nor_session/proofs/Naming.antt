@@ -1,10 +1,9 @@
 -- Which address a refusal names, from the parts of a session or restore to its answer.
-use Rattle.std.proofs.Common.{ℕ, ◌≡◌, ◌≤◌, ◌/◌, ◌∙◌, ◌⊎◌, Bool, true, false, List, Option, inl, inr, sym, true≢false}
+use Rattle.std.proofs.Common.{ℕ, ◌≡◌, ◌/◌, ◌∙◌, true, List, Option, inl, inr, sym, true≢false}
 use Rattle.nor_chip.specs.Bus.{BusState}
 use Rattle.nor_journal.specs.Text.{Content, IsContent, text}
 use Rattle.nor_journal.specs.Saved.{is_saved}
 use Rattle.nor_journal.specs.Vault.{VaultState}
-use Rattle.nor_plan.specs.SectorSet.{has}
 use Rattle.nor_probe.specs.declared.table.ChipName.{ChipName}
 use Rattle.nor_apply.specs.declared.changes.Changes.{Changes}
 use Rattle.nor_apply.specs.Applying.{touched_in}
@@ -41,12 +40,8 @@ judged_names _ is = tt
 
 -- a touched sector is one that the journal saves
 saves_touched : (changes : Changes) (bytes : List ℕ) (sector : ℕ) → IsJournalOf (touched_in changes) bytes → touched_in changes sector ≡ true → SavesSector sector bytes
-saves_touched changes bytes sector journal touched = record {
-  content = journal.content;
-  is = journal.is;
-  same = journal.same;
-  saved = journal.saved sector ∙ touched;
-}
+saves_touched changes bytes sector journal touched =
+    (record { content = journal.content; is = journal.is; same = journal.same }, journal.saved sector ∙ touched)
 
 names_in : (changes : Changes) (bytes : List ℕ) (refusal : Refusal) → IsJournalOf (touched_in changes) bytes → NamesWork changes refusal → NamesIn bytes refusal
 names_in changes bytes (Timeout address) journal (inl at) = inl at.1
@@ -67,7 +62,7 @@ work_names changes vault refusal sealed saves names = record {
 -- what is judged first waits at 0
 pub prepare_names : (journal : Content) (most : ℕ) (old new : BusState) (refusal : Refusal) → PrepareTells journal most old new refusal → NamesSaved journal refusal
 prepare_names journal most old new (Timeout address) tells = inl tells.0
-prepare_names journal most old new (Mismatch address) tells = absurd tells.judged
+prepare_names journal most old new (Mismatch address) tells = absurd (true≢false (sym tells.judged))
 prepare_names journal most old new _ tells = tt
 
 -- only saved sectors are touched
@@ -81,6 +76,6 @@ restore_names journal changes _ saved names = tt
 -- a saved sector is one of the text that the journal was read from
 pub saved_names : (journal : Content) (bytes : List ℕ) (refusal : Refusal) → IsContent journal → bytes ≡ text journal → NamesSaved journal refusal → NamesIn bytes refusal
 saved_names journal bytes (Timeout address) is same (inl at) = inl at
-saved_names journal bytes (Timeout address) is same (inr saved) = inr (record { content = journal; is = is; same = same; saved = saved })
-saved_names journal bytes (Mismatch address) is same saved = record { content = journal; is = is; same = same; saved = saved }
+saved_names journal bytes (Timeout address) is same (inr saved) = inr (record { content = journal; is = is; same = same }, saved)
+saved_names journal bytes (Mismatch address) is same saved = (record { content = journal; is = is; same = same }, saved)
 saved_names journal bytes _ is same names = tt

@@ -19,7 +19,8 @@ use Rattle.nor_save.specs.Request.{scanned_sectors}
 use Rattle.nor_save.specs.Opening.{Opens, OpeningTells}
 use Rattle.nor_save.specs.Saving.{IsOpening, Shows, OpeningAccepts}
 use Rattle.nor_save.specs.Keeping.{KeepPuts, KeepTells}
-use Rattle.nor_session.specs.Modelled.{IsModelled, most_of}
+use Rattle.nor_probe.specs.Known.{IsModelled}
+use Rattle.nor_session.specs.Bounds.{most_of}
 use Rattle.nor_session.specs.Verdict.{IsNamed}
 use Rattle.nor_session.specs.Session.{SessionTells, HonestTells}
 use Rattle.nor_session.proofs.Ready.{scanned_most, scanned_few}

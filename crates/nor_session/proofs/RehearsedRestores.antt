@@ -7,13 +7,13 @@ use Rattle.nor_journal.specs.Text.{Content, IsContent, SameHead, text}
 use Rattle.nor_journal.specs.declared.fault.JournalFault.{JournalFault}
 use Rattle.nor_journal.specs.Saved.{Saves, JournalSaves, is_saved}
 use Rattle.nor_journal.proofs.Saves.{Saves-set}
-use Rattle.nor_probe.specs.Known.{IsGenuine}
+use Rattle.nor_probe.specs.Known.{IsGenuine, IsModelled}
 use Rattle.nor_apply.specs.Spending.{Spends}
 use Rattle.nor_save.specs.declared.report.Report.{Report}
 use Rattle.nor_save.specs.declared.refusal.Refusal.{Refusal}
 use Rattle.nor_save.specs.declared.refusal.Refusal.TheVariants.{Stopped, Timeout, BadJournal}
 use Rattle.nor_save.specs.Saving.{head_of}
-use Rattle.nor_session.specs.Modelled.{IsModelled, most_of}
+use Rattle.nor_session.specs.Bounds.{most_of}
 use Rattle.nor_session.specs.Restore.{CanGiveBack, LeavesRestore, RestoreGivesUp, IsRestoreRefusal, NamesSaved}
 use Rattle.nor_session.specs.Session.{IsWithinBound}
 use Rattle.nor_session.specs.Rehearsal.{AreRestores, FitsLastStop, IsNoHalt}
@@ -194,7 +194,7 @@ refuses_before journal old mid refusal leaves refuses = record {
 -- under no stop no restore is stopped
 pub last_ends : (journal : Content) (now new : BusState) (most : ℕ) → most ≡ most_of 4096 → ShowsRestore journal most now new false → StopsRestores journal now Stopped
 last_ends journal now new most is shows = record {
-  answers = tt;
+  answers = refl;
   names = tt;
   halts = λ room honest. let below = shows.below honest refl in omega arith;
   never = λ modelled first can.

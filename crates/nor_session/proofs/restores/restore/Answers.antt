@@ -1,8 +1,8 @@
 use Rattle.std.proofs.Common.{◌+◌, ◌≡◌, length, rules, arith}
 use Rattle.nor_save.proofs.Begun.{err_same}
 use Rattle.nor_save.specs.declared.refusal.Refusal.TheVariants.{Stopped}
-use Rattle.nor_session.specs.Modelled.{most_looked, most_of}
-use Rattle.nor_session.specs.Restore.{IsRestoreRefusal, IsJudgedFirst, NamesSaved, RestoreGivesUp, RestoreTells}
+use Rattle.nor_session.specs.Bounds.{most_looked, most_of}
+use Rattle.nor_session.specs.Restore.{IsRestoreRefusal, NamesSaved, RestoreGivesUp, RestoreTells}
 use Rattle.nor_session.proofs.Restoring.{AreChanged, looks_most, looks_spend, prepare_answers, prepare_gives_up, prepare_tells, looks_leave, looks_back, changed_spends, changed_leaves, changed_back, change_answers, change_not_judged, change_gives_up, change_tells, sum_fits, restored_bounded, restored_counted, restored_sparing, restored_done, restored_back}
 use Rattle.nor_session.proofs.GivenBack.{only_stopped}
 use Rattle.nor_session.proofs.Naming.{prepare_names, restore_names}
