@@ -88,6 +88,9 @@ leads_back request image old new vault is genuine telling undone = record {
   };
   journal = undone.journal telling;
   inside = touched_inside request image old.chip;
-  free = undone.free;
+  free = λ locked. elim undone.accepted.free [
+    | inl none ↦ none
+    | inr lifts ↦ absurd (true≢false (sym locked ∙ lifts.1))
+  ];
   within = undone.changes.within;
 }

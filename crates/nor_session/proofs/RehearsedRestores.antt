@@ -14,8 +14,8 @@ use Rattle.nor_save.specs.declared.refusal.Refusal.{Refusal}
 use Rattle.nor_save.specs.declared.refusal.Refusal.TheVariants.{Stopped, Timeout, BadJournal}
 use Rattle.nor_save.specs.Saving.{head_of}
 use Rattle.nor_session.specs.Bounds.{most_of}
-use Rattle.nor_session.specs.Restore.{CanGiveBack, LeavesRestore, RestoreGivesUp, IsRestoreRefusal, NamesSaved}
-use Rattle.nor_session.specs.Session.{IsWithinBound}
+use Rattle.nor_session.specs.Restore.{CanGiveBack, LeavesRestore, RestoreGivesUp, IsRestoreRefusal}
+use Rattle.nor_session.specs.Session.{NamesIn, IsWithinBound}
 use Rattle.nor_session.specs.Rehearsal.{AreRestores, FitsLastStop, IsNoHalt}
 use Rattle.nor_session.specs.Rehearsing.{LeavesRestores, ShowsRestore, ShowsRestores, StopsRestores, Undoes, WearsSaved, RefusesUndo}
 use Rattle.nor_session.proofs.Rescanned.{unraised_other}
@@ -104,12 +104,12 @@ under_stops n journal old mid new refusal allows stopped gives_up =
 
 -- it gave up, and wasn't stopped
 no_halt : (journal : Content) (old new : BusState) (refusal : Refusal) → (refusal ≡ Stopped → ⊥) → RestoreGivesUp journal old new refusal → IsNoHalt refusal
-no_halt journal old new Stopped never tells = never refl
-no_halt journal old new (Timeout address) never tells = tells
-no_halt journal old new _ never tells = tt
+no_halt journal old new Stopped never tells = absurd (never refl)
+no_halt journal old new (Timeout address) never tells = absurd tells
+no_halt journal old new _ never tells = refl
 
 -- it was refused
-pub under_refuses : (n : ℕ) (journal : Content) (old mid new : BusState) (refusal : Refusal) → Allows n old mid → IsRestoreRefusal refusal → NamesSaved journal refusal → (refusal ≡ Stopped → ⊥)
+pub under_refuses : (n : ℕ) (journal : Content) (old mid new : BusState) (refusal : Refusal) → Allows n old mid → IsRestoreRefusal refusal → NamesIn (λ sector. is_saved journal sector ≡ true) refusal → (refusal ≡ Stopped → ⊥)
     → (mid.honest ≡ true → RestoreGivesUp journal mid new refusal) → (IsModelled mid → (first : Chip) → CanGiveBack journal first mid → refusal ≡ Stopped) → StopsRestores journal old refusal
 under_refuses n journal old mid new refusal allows answers names never gives_up stops =
     let leaves = allow_leaves n journal old mid allows in
@@ -196,7 +196,7 @@ pub last_ends : (journal : Content) (now new : BusState) (most : ℕ) → most �
 last_ends journal now new most is shows = record {
   answers = refl;
   names = tt;
-  halts = λ room honest. let below = shows.below honest refl in omega arith;
+  halts = λ room honest. let below = shows.below honest refl in absurd (omega arith);
   never = λ modelled first can.
       let few = saved_few first.bytes (is_saved journal) journal can.saves.sectors in
       let below = shows.below modelled.honest refl in
@@ -245,6 +245,6 @@ pub unread : (bytes : List ℕ) (old : BusState) (fault : JournalFault) → ((co
 unread bytes old fault never = record {
   answers = λ whole. absurd (never whole.content whole.is whole.same);
   names = tt;
-  halts = λ honest. tt;
+  halts = λ honest. refl;
   never = λ modelled saved first leads. never leads.journal.content leads.journal.saves.is leads.journal.is;
 }

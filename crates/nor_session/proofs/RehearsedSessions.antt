@@ -17,10 +17,10 @@ use Rattle.nor_save.specs.Refusal.{number_of}
 use Rattle.nor_save.specs.Request.{wanted, scanned_sectors, is_touched_by, is_raised_by}
 use Rattle.nor_save.specs.Keeping.{IsJournal, HoldsJournal}
 use Rattle.nor_probe.specs.Known.{IsModelled}
-use Rattle.nor_session.specs.Bounds.{most_of}
+use Rattle.nor_session.specs.Bounds.{most_looked, most_of}
 use Rattle.nor_session.specs.Made.{AreFewestErases}
 use Rattle.nor_session.specs.Verdict.{IsAccepted}
-use Rattle.nor_session.specs.Session.{SessionTells, StopsEarly, CanBeUndone, HonestTells, Answers, Ends, IsDone, Names, NamesIn}
+use Rattle.nor_session.specs.Session.{SessionTells, CanBeUndone, HonestTells, Answers, Ends, IsDone, Names, SavesSector, NamesIn}
 use Rattle.nor_session.specs.Rehearsal.{KeepsNature, IsRehearsalRefusal, IsNoHalt, RehearsalTells, first_allowance, least_needed, AreRestores, FitsLastStop}
 use Rattle.nor_session.specs.Rehearsing.{HasWantedBits, LeadsBack, LeavesSession, ShowsSession, RefusesSession, Undoes, WearsSaved, RefusesUndo}
 use Rattle.nor_session.proofs.RestoredBytes.{untouched_unraised}
@@ -118,7 +118,7 @@ session_ends n request image old mid new vault report allows ends sent done undo
 
 -- it was stopped
 pub session_stops : (n : ℕ) (request : Request) (image : List ℕ) (old mid new : BusState) (before after : VaultState) (refusal : Refusal) → Allows n old mid → refusal ≡ Stopped
-    → (mid.honest ≡ true → HonestTells mid new refusal) → (IsModelled mid → SessionTells request image mid new before after refusal) → (IsModelled mid → after.sealed ≡ false → StopsEarly request mid refusal)
+    → (mid.honest ≡ true → HonestTells mid new refusal) → (IsModelled mid → SessionTells request image mid new before after refusal) → (IsModelled mid → after.sealed ≡ false → refusal ≡ Stopped → mid.left < most_looked (scanned_sectors request mid.chip.config.size))
     → (IsModelled mid → after.sealed ≡ true → CanBeUndone request image mid new after) → ShowsSession request image n old new after false
 session_stops n request image old mid new before after refusal allows stopped gives_up tells early undo = record {
   seals = λ ended. absurd (true≢false (sym ended));
@@ -140,7 +140,7 @@ session_stops n request image old mid new before after refusal allows stopped gi
             subst (λ (chip : Chip). 4 + scanned_sectors request chip.config.size ≤ n) allows.chip
             (seals_enough n request image mid new after left (undo mid_modelled sealed));
         below = λ unsealed.
-            let few = subst (StopsEarly request mid) stopped (early mid_modelled unsealed) in
+            let few = early mid_modelled unsealed stopped in
             subst (λ (chip : Chip). n < 65542 + scanned_sectors request chip.config.size) allows.chip
             (subst (λ (k : ℕ). k < 65542 + scanned_sectors request mid.chip.config.size) left few);
       };
@@ -157,9 +157,9 @@ never_stops n old mid new refusal allows all gives_up honest stopped =
 
 -- it gave up, and wasn't stopped
 no_halt : (old new : BusState) (refusal : Refusal) → (refusal ≡ Stopped → ⊥) → HonestTells old new refusal → IsNoHalt refusal
-no_halt old new Stopped never tells = never refl
-no_halt old new (Timeout address) never tells = tells
-no_halt old new _ never tells = tt
+no_halt old new Stopped never tells = absurd (never refl)
+no_halt old new (Timeout address) never tells = absurd tells
+no_halt old new _ never tells = refl
 
 -- an answer of the session that isn't a stop is that of the rehearsal
 told : (request : Request) (image : List ℕ) (old new : BusState) (before after : VaultState) (refusal : Refusal) → (refusal ≡ Stopped → ⊥)
@@ -264,7 +264,7 @@ refused_undo bytes vault vault' mid refusal is telling sealed holds refuses =
 pub undo_names : (bytes : List ℕ) (vault : VaultState) (mid : BusState) (refusal : Refusal) → bytes ≡ vault.bytes → vault.sealed ≡ true → RefusesUndo bytes mid refusal → Names vault refusal
 undo_names bytes vault mid refusal is sealed refuses = record {
   early = λ unsealed. absurd (true≢false (sym sealed ∙ unsealed));
-  late = λ again telling. subst (λ (text : List ℕ). NamesIn text refusal) is refuses.names;
+  late = λ again telling. subst (λ (text : List ℕ). NamesIn (λ sector. SavesSector sector text) refusal) is refuses.names;
 }
 
 -- and they give the chip back

@@ -5,7 +5,7 @@ use Rattle.std.specs.Prelude.{if◌then◌else◌, not, ◌||◌, nat_lt, slice_
 use Rattle.std.proofs.lemmas.Bool.{cases_Bool, cases_eq, ne_eqb, cases_lt, le-ltb, lt-ltb, ltb-true, and_parts}
 use Rattle.nor_chip.specs.declared.config.Config.{Config}
 use Rattle.nor_chip.specs.declared.status.Status.{Status}
-use Rattle.nor_chip.specs.Chip.{Chip, is_locked}
+use Rattle.nor_chip.specs.Chip.{Chip}
 use Rattle.nor_chip.specs.Bus.{BusState}
 use Rattle.nor_driver.specs.Looks.{Looks}
 use Rattle.nor_journal.specs.Vault.{VaultState}
@@ -28,7 +28,7 @@ use Rattle.nor_save.specs.declared.saving.Kept.{Kept}
 use Rattle.nor_save.specs.declared.report.Request.{Request}
 use Rattle.nor_save.specs.Request.{is_data, wanted, scanned_sectors, is_touched_by, is_raised_by}
 use Rattle.nor_save.specs.Opening.{Opens}
-use Rattle.nor_save.specs.Saving.{IsOpening, OpeningAccepts, NoneHeld}
+use Rattle.nor_save.specs.Saving.{IsOpening, OpeningAccepts}
 use Rattle.nor_save.specs.Keeping.{Keeps}
 use Rattle.nor_save.proofs.Planned.{wanted-kept}
 use Rattle.nor_probe.specs.Known.{IsModelled}
@@ -72,14 +72,6 @@ and_right : (b c : Bool) → b ≡ true → (b && c) ≡ false → c ≡ false
 and_right true c is none = none
 and_right false c is none = absurd (true≢false (sym is))
 
--- where the status is locked no touched sector is guarded
-free_locked : (request : Request) (image image' : List ℕ) (opening : Opening) (status : Status) (code : ℕ) (kept : Kept) (old mid : BusState) → Ready request opening status code kept old mid
-    → ReadyChip request image image' opening code kept old mid → is_locked old.chip ≡ true → NoneHeld (is_touched_by request image old.chip) old.chip
-free_locked request image image' opening status code kept old mid is of locked = elim (cases_Bool kept.unlock) [
-  | inl lifted ↦ absurd (of.scan.not_locked locked (needs request image image' opening status code kept old mid is of (ap (λ (b : Bool). b || writes_code (changes_of opening kept status code)) lifted)))
-  | inr off ↦ of.scan.free off
-]
-
 -- the changes are on the way to the wanted chip
 may_change_wanted : (request : Request) (image image' : List ℕ) (opening : Opening) (status : Status) (code : ℕ) (kept : Kept) (old mid new : BusState) → Ready request opening status code kept old mid
     → ReadyChip request image image' opening code kept old mid → MayChange (has kept.scanned.touched) (has kept.scanned.raised) (λ a. slice_index image' a) mid new
@@ -116,7 +108,6 @@ can_be_undone request image image' opening status code kept old mid ready new va
         same_code = locked_code request.what request.unlock code (is_touched_by request image old.chip) old.chip of.accepts.is_wanted of.scan.not_locked;
       };
       journal = chip.journal;
-      free = free_locked request image image' opening status code kept old ready is of;
       changes = may_change_wanted request image image' opening status code kept old ready new is of
           (leaves.reached (is.looked.honest ∙ modelled.honest) (can_apply request image image' opening status code kept old ready is of));
       spent =

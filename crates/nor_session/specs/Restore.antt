@@ -18,13 +18,13 @@ use Rattle.nor_apply.specs.Within.{IsWithin}
 use Rattle.nor_apply.specs.Spending.{Spends}
 use Rattle.nor_save.specs.declared.report.Report.{Report}
 use Rattle.nor_save.specs.declared.refusal.Refusal.{Refusal}
-use Rattle.nor_save.specs.declared.refusal.Refusal.TheVariants.{NoChip, UnknownChip, StatusLocked, Stopped, Timeout, Mismatch, OtherChip, OtherUnit, StatusDiffers}
+use Rattle.nor_save.specs.declared.refusal.Refusal.TheVariants.{NoChip, UnknownChip, StatusLocked, Stopped, Timeout, OtherChip, OtherUnit, StatusDiffers}
 use Rattle.nor_save.specs.Refusal.{number_of}
 use Rattle.nor_save.specs.Saving.{SomeHeld}
 use Rattle.nor_session.specs.Bounds.{most_looked, most_of}
 use Rattle.nor_session.specs.Made.{IsMade}
 use Rattle.nor_session.specs.Verdict.{IsNamed}
-use Rattle.nor_session.specs.Session.{IsWithinBound}
+use Rattle.nor_session.specs.Session.{NamesIn, IsWithinBound}
 
 -- ---- what is wanted
 
@@ -102,12 +102,6 @@ abbrev pub IsRestoreRefusal : Refusal → Type 0
 IsRestoreRefusal refusal =
     list_any (λ n. number_of refusal == n) (1 ∷ 2 ∷ 9 ∷ 12 ∷ 13 ∷ 14 ∷ 16 ∷ 17 ∷ 20 ∷ []) ≡ true
 
--- a timeout names 0 or an address in a saved sector, and a mismatch an address in one
-abbrev pub NamesSaved : Content → Refusal → Type 0
-NamesSaved journal (Timeout address) = (address ≡ 0) ⊎ (is_saved journal (address / 4096) ≡ true)
-NamesSaved journal (Mismatch address) = is_saved journal (address / 4096) ≡ true
-NamesSaved journal _ = Unit {0}
-
 -- ---- on an honest bus
 
 -- A stop comes only where no transaction is left, and fewer were than such a restore may send, and no timeout; after a
@@ -169,8 +163,8 @@ pub record RestoreAlways (journal : Content) (old new : BusState) (result : Resu
   pub spends : Spends (most_of (length journal.saved)) old new
   -- a refusal is one that a restore gives
   pub answers : IfErr result IsRestoreRefusal
-  -- and names an address that the restore was at
-  pub names : IfErr result (NamesSaved journal)
+  -- and names an address that the restore was at, in a saved sector
+  pub names : IfErr result (NamesIn (λ sector. is_saved journal sector ≡ true))
   -- until it is judged it only looks, as far as the opening and the scan of the largest chip
   pub looks : IfErr result (λ refusal. IsJudgedFirst refusal → Looks (most_looked 4096) old new)
   -- at the end the report is within its bound

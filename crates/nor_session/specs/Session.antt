@@ -1,6 +1,6 @@
 -- What a session promises.
 use Rattle.std.specs.Prelude.{◌≡◌, ◌≢◌, ◌≤◌, ◌<◌, ◌+◌, ◌*◌, ◌/◌, ◌⊎◌, ℕ, Bool, true, false, List, [], Result, IfOk, IfErr, if◌then◌else◌}
-use Rattle.nor_chip.specs.Chip.{Chip, IsSame, is_locked}
+use Rattle.nor_chip.specs.Chip.{Chip, IsSame}
 use Rattle.nor_chip.specs.Bus.{BusState}
 use Rattle.nor_driver.specs.Looks.{Looks, RanOut}
 use Rattle.nor_driver.specs.Operations.{Falls}
@@ -17,7 +17,7 @@ use Rattle.nor_save.specs.declared.refusal.Refusal.{Refusal}
 use Rattle.nor_save.specs.declared.refusal.Refusal.TheVariants.{Vault, Stopped, Timeout, Mismatch}
 use Rattle.nor_save.specs.Refusal.{number_of}
 use Rattle.nor_save.specs.Request.{wanted, scanned_sectors, is_touched_by, is_raised_by, IsWantedCode}
-use Rattle.nor_save.specs.Saving.{head_of, NoneHeld, NeedsStatus}
+use Rattle.nor_save.specs.Saving.{head_of, NeedsStatus}
 use Rattle.nor_save.specs.Keeping.{IsJournal, BeginsJournal, HoldsJournal}
 use Rattle.nor_session.specs.Bounds.{most_looked, most_of}
 use Rattle.nor_session.specs.Made.{IsMade}
@@ -37,22 +37,16 @@ pub record Answers (old new : VaultState) (refusal : Refusal) : Type 0 where
 abbrev pub SavesSector : (sector : ℕ) → (bytes : List ℕ) → Type 0
 SavesSector sector bytes = (journal : IsJournal bytes) × (is_saved journal.content sector ≡ true)
 
--- before anything is changed a timeout names 0, and nothing differs
-abbrev pub NamesNone : Refusal → Type 0
-NamesNone (Timeout address) = address ≡ 0
-NamesNone (Mismatch address) = ⊥
-NamesNone _ = Unit {0}
+-- A timeout names 0 or an address in a sector of which this holds, and a mismatch an address in one.
+abbrev pub NamesIn : (IsSuch : (sector : ℕ) → Type 0) → Refusal → Type 0
+NamesIn IsSuch (Timeout address) = (address ≡ 0) ⊎ IsSuch (address / 4096)
+NamesIn IsSuch (Mismatch address) = IsSuch (address / 4096)
+NamesIn IsSuch _ = Unit {0}
 
--- a timeout names 0 or an address in a sector that this journal saves, and a mismatch an address in one
-abbrev pub NamesIn : (bytes : List ℕ) → Refusal → Type 0
-NamesIn bytes (Timeout address) = (address ≡ 0) ⊎ SavesSector (address / 4096) bytes
-NamesIn bytes (Mismatch address) = SavesSector (address / 4096) bytes
-NamesIn bytes _ = Unit {0}
-
--- Which address a refusal names, before the vault was sealed and from then on.
+-- Which address a refusal names: none in a sector before the vault was sealed, and from then on one in a saved sector.
 pub record Names (vault : VaultState) (refusal : Refusal) : Type 0 where
-  pub early : vault.sealed ≡ false → NamesNone refusal
-  pub late : vault.sealed ≡ true → vault.telling ≡ true → NamesIn vault.bytes refusal
+  pub early : vault.sealed ≡ false → NamesIn (λ sector. ⊥) refusal
+  pub late : vault.sealed ≡ true → vault.telling ≡ true → NamesIn (λ sector. SavesSector sector vault.bytes) refusal
 
 -- how often a request may write the status: for a range once, else where protection may be lifted once for that and
 -- once to give it back
@@ -76,9 +70,8 @@ pub record IsWithinBound (scanned writes : ℕ) (verify : Bool) (report : Report
 -- The session ended: the vault is sealed, and the report is within its bound.
 pub record Ends (request : Request) (vault : VaultState) (report : Report) : Type 0 where
   pub sealed : vault.sealed ≡ true
-  pub bounded :
-      IsWithinBound (scanned_sectors request report.found.size) (most_status_writes request.what request.unlock)
-      request.verify report
+  pub bounded : IsWithinBound (scanned_sectors request report.found.size)
+      (most_status_writes request.what request.unlock) request.verify report
 
 -- ---- on an honest bus
 
@@ -97,11 +90,6 @@ SessionTells request image old new vault vault' Vault = Rose vault vault'
 SessionTells request image old new vault vault' Stopped = RanOut (most_of (old.chip.config.size / 4096)) old new
 SessionTells request image old new vault vault' refusal = IsVerdict request image old.chip refusal
 
--- a stop before the vault was sealed came in the opening or the scan
-abbrev pub StopsEarly : Request → BusState → Refusal → Type 0
-StopsEarly request old Stopped = old.left < most_looked (scanned_sectors request old.chip.config.size)
-StopsEarly request old _ = Unit {0}
-
 -- the request needs no status write on the chip
 abbrev pub NeedsNoStatus : Request → (image : List ℕ) → Chip → Type 0
 NeedsNoStatus request image chip = (code : ℕ) → IsWantedCode request.what chip code
@@ -117,17 +105,15 @@ pub record IsDone (request : Request) (image : List ℕ) (old new : BusState) (r
   pub has_code : HasCode code new.chip
   pub still : report.touched ≡ 0 → NeedsNoStatus request image old.chip → new.stirred ≡ old.stirred
 
--- Once the vault is sealed the request is accepted; a telling vault has the journal of the starting chip, which saves
--- just the touched sectors, none of them guarded where the status is locked; and the chip is on the way to the wanted
--- one: within the saved sectors, only raised sectors worn, and where the power stays each byte of another sector either
--- the old or the wanted one. At least the opening and the scan were sent.
+-- Once the vault is sealed the request is accepted, so where the status is locked no touched sector is guarded; a
+-- telling vault has the journal of the starting chip, which saves just the touched sectors; and the chip is on the way
+-- to the wanted one: within the saved sectors, only raised sectors worn, and where the power stays each byte of another
+-- sector either the old or the wanted one. At least the opening and the scan were sent.
 pub record CanBeUndone (request : Request) (image : List ℕ) (old new : BusState) (vault : VaultState) : Type 0 where
   pub accepted : IsAccepted request image old.chip
   pub journal : vault.telling ≡ true
       → JournalSaves (head_of old.chip) old.chip.bytes (is_touched_by request image old.chip) vault.bytes
-  pub free : is_locked old.chip ≡ true → NoneHeld (is_touched_by request image old.chip) old.chip
-  pub changes :
-      MayChange (is_touched_by request image old.chip) (is_raised_by request image old.chip)
+  pub changes : MayChange (is_touched_by request image old.chip) (is_raised_by request image old.chip)
       (wanted request image old.chip) old new
   pub spent : new.left + (4 + scanned_sectors request old.chip.config.size) ≤ old.left
 
@@ -169,7 +155,8 @@ pub record SessionModelled (request : Request) (image : List ℕ) (old new : Bus
   pub spares : NeedsNoStatus request image old.chip
       → IfOk result (IsWithinBound (scanned_sectors request old.chip.config.size) 0 request.verify)
   -- a stop before the vault was sealed came in the opening or the scan
-  pub early : vault'.sealed ≡ false → IfErr result (StopsEarly request old)
+  pub early : vault'.sealed ≡ false → IfErr result (λ refusal. refusal ≡ Stopped
+      → old.left < most_looked (scanned_sectors request old.chip.config.size))
   -- after a refusal that isn't the vault's a telling vault that isn't sealed is empty, or has a beginning of the one
   -- journal that it would have had
   pub begins : vault'.sealed ≡ false → vault'.telling ≡ true → IfErr result (λ refusal. refusal ≢ Vault
