@@ -7,13 +7,12 @@ use Rattle.nor_layout.specs.Sectors.{includes, sectors_included}
 use Rattle.nor_apply.specs.Content.{is_touched, is_raised}
 use Rattle.nor_save.specs.declared.report.Request.{Request}
 use Rattle.nor_save.specs.declared.report.What.{What}
-use Rattle.nor_save.specs.declared.report.What.TheVariants.{Write, Erase, WpRange}
+use Rattle.nor_save.specs.declared.report.What.TheVariants.{Write, WpRange}
 
 -- what is asked for is about bytes, not about protection
 abbrev pub is_data : What → Bool
-is_data Write = true
-is_data Erase = true
 is_data (WpRange start len) = false
+is_data _ = true
 
 -- the byte that an included address is to have; a protection range changes no byte, so none is ever asked for there
 abbrev pub target : What → (image : List ℕ) → (a : ℕ) → ℕ

@@ -118,14 +118,14 @@ session_ends n request image old mid new vault report allows ends sent done undo
 
 -- it was stopped
 pub session_stops : (n : ℕ) (request : Request) (image : List ℕ) (old mid new : BusState) (before after : VaultState) (refusal : Refusal) → Allows n old mid → refusal ≡ Stopped
-    → (mid.honest ≡ true → HonestTells mid new refusal) → (IsModelled mid → SessionTells request image mid new before after refusal) → (IsModelled mid → after.sealed ≡ false → refusal ≡ Stopped → mid.left < most_looked (scanned_sectors request mid.chip.config.size))
+    → (mid.honest ≡ true → HonestTells (most_of 4096) (λ refusal. number_of refusal ≤ 11) mid new refusal) → (IsModelled mid → SessionTells request image mid new before after refusal) → (IsModelled mid → after.sealed ≡ false → refusal ≡ Stopped → mid.left < most_looked (scanned_sectors request mid.chip.config.size))
     → (IsModelled mid → after.sealed ≡ true → CanBeUndone request image mid new after) → ShowsSession request image n old new after false
 session_stops n request image old mid new before after refusal allows stopped gives_up tells early undo = record {
   seals = λ ended. absurd (true≢false (sym ended));
   can = λ modelled ended. absurd (true≢false (sym ended));
   bytes = λ modelled ended. absurd (true≢false (sym ended));
   bits = λ modelled ended. absurd (true≢false (sym ended));
-  none_left = λ honest fails. (subst (HonestTells mid new) stopped (gives_up (allows.honest ∙ honest))).none_left;
+  none_left = λ honest fails. (subst (HonestTells (most_of 4096) (λ refusal. number_of refusal ≤ 11) mid new) stopped (gives_up (allows.honest ∙ honest))).none_left;
   below = λ modelled fails.
       let left = allows.left modelled.honest in
       let ran = subst (SessionTells request image mid new before after) stopped (tells (allow_modelled n old mid allows modelled)) in
@@ -148,15 +148,15 @@ session_stops n request image old mid new before after refusal allows stopped gi
 
 -- with so many transactions as any call needs it isn't stopped
 never_stops : (n : ℕ) (old mid new : BusState) (refusal : Refusal) → Allows n old mid → (refusal ≡ Stopped → n ≡ most_of 4096)
-    → (mid.honest ≡ true → HonestTells mid new refusal) → old.honest ≡ true → refusal ≡ Stopped → ⊥
+    → (mid.honest ≡ true → HonestTells (most_of 4096) (λ refusal. number_of refusal ≤ 11) mid new refusal) → old.honest ≡ true → refusal ≡ Stopped → ⊥
 never_stops n old mid new refusal allows all gives_up honest stopped =
     let left = allows.left honest in
     let most = all stopped in
-    let below = (subst (HonestTells mid new) stopped (gives_up (allows.honest ∙ honest))).below in
+    let below = (subst (HonestTells (most_of 4096) (λ refusal. number_of refusal ≤ 11) mid new) stopped (gives_up (allows.honest ∙ honest))).below in
     omega arith
 
 -- it gave up, and wasn't stopped
-no_halt : (old new : BusState) (refusal : Refusal) → (refusal ≡ Stopped → ⊥) → HonestTells old new refusal → IsNoHalt refusal
+no_halt : (old new : BusState) (refusal : Refusal) → (refusal ≡ Stopped → ⊥) → HonestTells (most_of 4096) (λ refusal. number_of refusal ≤ 11) old new refusal → IsNoHalt refusal
 no_halt old new Stopped never tells = absurd (never refl)
 no_halt old new (Timeout address) never tells = absurd tells
 no_halt old new _ never tells = refl
@@ -187,7 +187,7 @@ told request image old new before after OtherUnit never tells = tells
 
 -- and one of those that leave the chip as it was, and the vault unsealed
 early : (request : Request) (image : List ℕ) (old new : BusState) (before after : VaultState) (refusal : Refusal) → RehearsalTells request image old.chip before after refusal
-    → (number_of refusal ≤ 11) × (HonestTells old new refusal → IsSame old.chip new.chip)
+    → (number_of refusal ≤ 11) × (HonestTells (most_of 4096) (λ refusal. number_of refusal ≤ 11) old new refusal → IsSame old.chip new.chip)
 early request image old new before after NoChip tells = (omega arith, λ same. same (omega arith))
 early request image old new before after (UnknownChip fault) tells = (omega arith, λ same. same (omega arith))
 early request image old new before after OtherName tells = (omega arith, λ same. same (omega arith))
@@ -211,7 +211,7 @@ early request image old new before after OtherUnit tells = absurd tells.1
 
 -- it was refused, and not by a stop, unless as many transactions were allowed as any call needs
 pub session_refuses : (n few : ℕ) (request : Request) (image : List ℕ) (old mid new : BusState) (before after : VaultState) (refusal : Refusal) → Allows n old mid → Answers before after refusal → Names after refusal
-    → (after.sealed ≡ false → Looks few mid new) → (mid.honest ≡ true → HonestTells mid new refusal)
+    → (after.sealed ≡ false → Looks few mid new) → (mid.honest ≡ true → HonestTells (most_of 4096) (λ refusal. number_of refusal ≤ 11) mid new refusal)
     → (IsModelled mid → SessionTells request image mid new before after refusal) → (refusal ≡ Stopped → n ≡ most_of 4096) → RefusesSession request image old new before after refusal
 session_refuses n few request image old mid new before after refusal allows answers names looks gives_up tells all =
     let tells' : IsModelled old → RehearsalTells request image mid.chip before after refusal

@@ -26,9 +26,9 @@ use Rattle.nor_session.specs.declared.preparing.Prepared.{Prepared}
 use Rattle.nor_probe.specs.Known.{IsModelled}
 use Rattle.nor_session.specs.Made.{kinds_of}
 use Rattle.nor_session.specs.Bounds.{most_of}
-use Rattle.nor_session.specs.Session.{IsWithinBound}
+use Rattle.nor_session.specs.Session.{HonestTells, IsWithinBound}
 use Rattle.nor_session.specs.Changing.{most_changed, LeavesChange, DoesChange, ChangeTells}
-use Rattle.nor_session.specs.Restore.{is_touched_from, is_raised_from, NeedsStatusFrom, IsJudgedFirst, IsRestoreRefusal, RestoreGivesUp, RestoreTells, LeavesRestore, IsRestored, open_places, CanGiveBack}
+use Rattle.nor_session.specs.Restore.{is_touched_from, is_raised_from, NeedsStatusFrom, IsJudgedFirst, IsRestoreRefusal, RestoreTells, LeavesRestore, IsRestored, open_places, CanGiveBack}
 use Rattle.nor_session.specs.Preparing.{PrepareTells, IsPrepared}
 use Rattle.nor_session.proofs.Changed.{two_writes, no_write, fewest_at}
 use Rattle.nor_session.proofs.RestoredBytes.{touched_saved, written_restored, pages_same}
@@ -66,7 +66,7 @@ prepare_answers journal most old new (Mismatch address) tells = refl
 prepare_answers journal most old new _ tells = tells.judged
 
 pub prepare_gives_up : (journal : Content) (most : ℕ) (old new : BusState) (refusal : Refusal) → most ≤ most_of (length journal.saved) → old.honest ≡ true → PrepareTells journal most old new refusal
-    → RestoreGivesUp journal old new refusal
+    → HonestTells (most_of (length journal.saved)) IsJudgedFirst old new refusal
 prepare_gives_up journal most old new Stopped fits honest tells = let out = tells honest in let below = out.below in record { none_left = out.none_left; below = omega arith }
 prepare_gives_up journal most old new (Timeout address) fits honest tells = tells.1 honest
 prepare_gives_up journal most old new _ fits honest tells = λ first. tells.same honest
@@ -168,7 +168,7 @@ change_not_judged changes wanted old new (Mismatch address) tells judged = true�
 change_not_judged changes wanted old new _ tells judged = tells
 
 pub change_gives_up : (journal : Content) (prepared : Prepared) (old mid new : BusState) (refusal : Refusal) → AreChanged journal prepared old mid new → old.honest ≡ true
-    → ChangeTells prepared.changes (saved_byte journal) mid new refusal → RestoreGivesUp journal old new refusal
+    → ChangeTells prepared.changes (saved_byte journal) mid new refusal → HonestTells (most_of (length journal.saved)) IsJudgedFirst old new refusal
 change_gives_up journal prepared old mid new Stopped are honest tells =
     let out = tells (are.looks.honest ∙ honest) in let below = out.below in
     let bound = (are.looks.looked honest).bound in

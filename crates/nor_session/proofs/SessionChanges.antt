@@ -29,6 +29,8 @@ use Rattle.nor_save.specs.declared.refusal.Refusal.{Refusal}
 use Rattle.nor_save.specs.declared.refusal.Refusal.TheVariants.{Stopped, Timeout, Mismatch}
 use Rattle.nor_save.specs.Request.{is_data, wanted, is_touched_by, is_raised_by}
 use Rattle.nor_save.specs.Opening.{status_read}
+use Rattle.nor_save.specs.Refusal.{number_of}
+use Rattle.nor_session.specs.Bounds.{most_of}
 use Rattle.nor_save.specs.Saving.{IsOpening, OpeningAccepts, ScanAccepts, SomeHeld, NeedsStatus, is_held}
 use Rattle.nor_session.specs.Changing.{ChangeTells}
 use Rattle.nor_session.specs.Session.{HonestTells, SessionTells}
@@ -215,7 +217,7 @@ can_apply request image image' opening status code kept old mid is of =
 -- ---- what a refusal tells
 
 pub change_gives_up : (request : Request) (opening : Opening) (status : Status) (code : ℕ) (kept : Kept) (aim : ℕ → ℕ) (old mid new : BusState) (refusal : Refusal) → old.honest ≡ true
-    → Ready request opening status code kept old mid → ChangeTells (changes_of opening kept status code) aim mid new refusal → HonestTells old new refusal
+    → Ready request opening status code kept old mid → ChangeTells (changes_of opening kept status code) aim mid new refusal → HonestTells (most_of 4096) (λ refusal. number_of refusal ≤ 11) old new refusal
 change_gives_up request opening status code kept aim old mid new Stopped honest is tells =
     let ran = ran_out_ready request opening status code kept old mid new honest is (tells (is.looked.honest ∙ honest)) in
     let below = ran.below in let few = scanned_few request opening.found.size is.part.at_most in

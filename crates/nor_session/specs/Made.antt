@@ -28,7 +28,8 @@ pages_of touched raised old wanted = count_below 65536 (is_programmed touched (o
 -- At the end each byte is the wanted one, the fixed bits are as they were, the chip is idle, and its latch is set only
 -- where it was; only the raised sectors were erased, by the fewest erases; and the report tells the chip, and counts
 -- what was done.
-pub record IsMade (wanted : ℕ → ℕ) (touched raised : ℕ → Bool) (old new : BusState) (report : Report) : Type 0 where
+pub record IsMade (wanted : ℕ → ℕ) (touched raised : ℕ → Bool) (old new : BusState)
+    (report : Report) : Type 0 where
   pub config : new.chip.config ≡ old.chip.config
   pub bytes : (a : ℕ) → new.chip.bytes a ≡ wanted a
   pub fixed : KeepsFixed old.chip new.chip

@@ -18,13 +18,13 @@ use Rattle.nor_apply.specs.Within.{IsWithin}
 use Rattle.nor_apply.specs.Spending.{Spends}
 use Rattle.nor_save.specs.declared.report.Report.{Report}
 use Rattle.nor_save.specs.declared.refusal.Refusal.{Refusal}
-use Rattle.nor_save.specs.declared.refusal.Refusal.TheVariants.{NoChip, UnknownChip, StatusLocked, Stopped, Timeout, OtherChip, OtherUnit, StatusDiffers}
+use Rattle.nor_save.specs.declared.refusal.Refusal.TheVariants.{NoChip, UnknownChip, StatusLocked, Stopped, OtherChip, OtherUnit, StatusDiffers}
 use Rattle.nor_save.specs.Refusal.{number_of}
 use Rattle.nor_save.specs.Saving.{SomeHeld}
 use Rattle.nor_session.specs.Bounds.{most_looked, most_of}
 use Rattle.nor_session.specs.Made.{IsMade}
 use Rattle.nor_session.specs.Verdict.{IsNamed}
-use Rattle.nor_session.specs.Session.{NamesIn, IsWithinBound}
+use Rattle.nor_session.specs.Session.{NamesIn, IsWithinBound, HonestTells}
 
 -- ---- what is wanted
 
@@ -102,15 +102,6 @@ abbrev pub IsRestoreRefusal : Refusal → Type 0
 IsRestoreRefusal refusal =
     list_any (λ n. number_of refusal == n) (1 ∷ 2 ∷ 9 ∷ 12 ∷ 13 ∷ 14 ∷ 16 ∷ 17 ∷ 20 ∷ []) ≡ true
 
--- ---- on an honest bus
-
--- A stop comes only where no transaction is left, and fewer were than such a restore may send, and no timeout; after a
--- refusal that was judged first bytes and kept bits are as they were.
-abbrev pub RestoreGivesUp : Content → BusState → BusState → Refusal → Type 0
-RestoreGivesUp journal old new Stopped = RanOut (most_of (length journal.saved)) old new
-RestoreGivesUp journal old new (Timeout address) = ⊥
-RestoreGivesUp journal old new refusal = IsJudgedFirst refusal → IsSame old.chip new.chip
-
 -- ---- on an honest bus whose chip is what it shows itself to be
 
 -- The answer is the verdict; or the bus stopped where fewer transactions were left than the bound.
@@ -172,8 +163,8 @@ pub record RestoreAlways (journal : Content) (old new : BusState) (result : Resu
 
 -- On an honest bus.
 pub record RestoreHonest (journal : Content) (old new : BusState) (result : Result Report Refusal) : Type 0 where
-  -- a refusal isn't a timeout, and a stop comes only where no transaction is left
-  pub gives_up : IfErr result (RestoreGivesUp journal old new)
+  -- a refusal isn't a timeout, a stop comes only where no transaction is left, and what is judged first comes early
+  pub gives_up : IfErr result (HonestTells (most_of (length journal.saved)) IsJudgedFirst old new)
   -- the report's transactions are those that were sent
   pub counted : IfOk result (λ report. old.left ≡ new.left + report.transactions)
 

@@ -45,8 +45,8 @@ NamesIn IsSuch _ = Unit {0}
 
 -- Which address a refusal names: none in a sector before the vault was sealed, and from then on one in a saved sector.
 pub record Names (vault : VaultState) (refusal : Refusal) : Type 0 where
-  pub early : vault.sealed ≡ false → NamesIn (λ sector. ⊥) refusal
-  pub late : vault.sealed ≡ true → vault.telling ≡ true → NamesIn (λ sector. SavesSector sector vault.bytes) refusal
+  pub early : vault.sealed ≡ false → NamesIn (λ s. ⊥) refusal
+  pub late : vault.sealed ≡ true → vault.telling ≡ true → NamesIn (λ s. SavesSector s vault.bytes) refusal
 
 -- how often a request may write the status: for a range once, else where protection may be lifted once for that and
 -- once to give it back
@@ -75,12 +75,12 @@ pub record Ends (request : Request) (vault : VaultState) (report : Report) : Typ
 
 -- ---- on an honest bus
 
--- A stop comes only where no transaction is left, and fewer were than any session may send, and no timeout; after a
--- refusal from 1 to 11 bytes and kept bits are as they were.
-abbrev pub HonestTells : BusState → BusState → Refusal → Type 0
-HonestTells old new Stopped = RanOut (most_of 4096) old new
-HonestTells old new (Timeout address) = ⊥
-HonestTells old new refusal = number_of refusal ≤ 11 → IsSame old.chip new.chip
+-- A stop comes only where no transaction is left, and fewer were than such a call may send, and no timeout; and after
+-- a refusal that comes early, before anything is changed, bytes and kept bits are as they were.
+abbrev pub HonestTells : (most : ℕ) → (IsEarly : Refusal → Type 0) → (old new : BusState) → Refusal → Type 0
+HonestTells most IsEarly old new Stopped = RanOut most old new
+HonestTells most IsEarly old new (Timeout address) = ⊥
+HonestTells most IsEarly old new refusal = IsEarly refusal → IsSame old.chip new.chip
 
 -- ---- on an honest bus whose chip is what it shows itself to be
 
@@ -137,8 +137,8 @@ pub record SessionAlways (request : Request) (old new : BusState) (vault vault' 
 
 -- On an honest bus.
 pub record SessionHonest (old new : BusState) (result : Result Report Refusal) : Type 0 where
-  -- a refusal isn't a timeout, and a stop comes only where no transaction is left
-  pub gives_up : IfErr result (HonestTells old new)
+  -- a refusal isn't a timeout, a stop comes only where no transaction is left, and those from 1 to 11 come early
+  pub gives_up : IfErr result (HonestTells (most_of 4096) (λ refusal. number_of refusal ≤ 11) old new)
   -- the report's transactions are those that were sent
   pub counted : IfOk result (λ report. old.left ≡ new.left + report.transactions)
 

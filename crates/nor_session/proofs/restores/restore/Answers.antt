@@ -3,8 +3,8 @@ use Rattle.nor_journal.specs.Saved.{is_saved}
 use Rattle.nor_save.proofs.Begun.{err_same}
 use Rattle.nor_save.specs.declared.refusal.Refusal.TheVariants.{Stopped}
 use Rattle.nor_session.specs.Bounds.{most_looked, most_of}
-use Rattle.nor_session.specs.Session.{NamesIn}
-use Rattle.nor_session.specs.Restore.{IsRestoreRefusal, RestoreGivesUp, RestoreTells}
+use Rattle.nor_session.specs.Session.{HonestTells, NamesIn}
+use Rattle.nor_session.specs.Restore.{IsJudgedFirst, IsRestoreRefusal, RestoreTells}
 use Rattle.nor_session.proofs.Restoring.{AreChanged, looks_most, looks_spend, prepare_answers, prepare_gives_up, prepare_tells, looks_leave, looks_back, changed_spends, changed_leaves, changed_back, change_answers, change_not_judged, change_gives_up, change_tells, sum_fits, restored_bounded, restored_counted, restored_sparing, restored_done, restored_back}
 use Rattle.nor_session.proofs.GivenBack.{only_stopped}
 use Rattle.nor_session.proofs.Naming.{prepare_names, restore_names}
@@ -36,7 +36,7 @@ returns-in_err-prepared-clause-honest g c = λ honest.
     let old = g.B.Bus.state c.args.bus.now in let new = g.B.Bus.state c.prepare.new.bus in
     let refusal = c.in_err-prepared.field-0.0 in
     record {
-      gives_up = err_same c.from_residual.result refusal (RestoreGivesUp journal old new) c.from_residual.ensures.1
+      gives_up = err_same c.from_residual.result refusal (HonestTells (most_of (length journal.saved)) IsJudgedFirst old new) c.from_residual.ensures.1
           (prepare_gives_up journal most old new refusal (omega arith) honest c.in_err-prepared.ensures.tells);
       counted = search rules;
     }
@@ -87,7 +87,7 @@ returns-in_err-work-clause-honest g c = λ honest.
     let are : AreChanged journal prepared old mid new
     = record { room = c.prepare.ensures.room; looks = c.prepare.ensures.leaves; is = c.in_ok-prepared.ensures.prepares; leaves = c.finish.ensures.leaves } in
     record {
-      gives_up = err_same c.from_residual-in_err-work.result refusal (RestoreGivesUp journal old new) c.from_residual-in_err-work.ensures.1
+      gives_up = err_same c.from_residual-in_err-work.result refusal (HonestTells (most_of (length journal.saved)) IsJudgedFirst old new) c.from_residual-in_err-work.ensures.1
           (change_gives_up journal prepared old mid new refusal are honest c.in_err-work.ensures.tells);
       counted = search rules;
     }
