@@ -5,11 +5,12 @@ use Rattle.nor_chip.specs.Chip.{IsChip, IsSame}
 use Rattle.nor_driver.specs.Looks.{IsCalm, Looks}
 use Rattle.nor_journal.specs.Vault.{VaultState}
 use Rattle.nor_save.specs.Refusal.{number_of}
+use Rattle.nor_session.specs.Bounds.{most_of}
 use Rattle.nor_save.specs.declared.report.Request.{Request}
 use Rattle.nor_save.specs.declared.refusal.Refusal.{Refusal}
 use Rattle.nor_save.specs.declared.refusal.Refusal.TheVariants as why
 use Rattle.nor_save.specs.declared.report.Report.{Report}
-use Rattle.nor_session.specs.Modelled.{IsModelled}
+use Rattle.nor_probe.specs.Known.{IsModelled}
 use Rattle.nor_session.specs.WrittenOver.{IsWrittenOver}
 use Rattle.nor_session.proofs.WrittenBack.{same_over, session_over}
 use Rattle.nor_session.specs.Session.{CanBeUndone, HonestTells, IsDone, SessionTells}
@@ -17,7 +18,7 @@ use Rattle.flashnor.specs.Changes.{HasKept, IsSafe}
 use Rattle.flashnor.specs.declared.answers.Answer.TheVariants as answer
 
 -- after those from 1 to 11 the chip is as before
-stays : (old new : BusState) (refusal : Refusal) → HonestTells old new refusal → number_of refusal ≤ 11 → IsSame old.chip new.chip
+stays : (old new : BusState) (refusal : Refusal) → HonestTells (most_of 4096) (λ refusal. number_of refusal ≤ 11) old new refusal → number_of refusal ≤ 11 → IsSame old.chip new.chip
 stays old new why.Stopped tells early = absurd (omega arith)
 stays old new (why.Timeout address) tells early = absurd tells
 stays old new why.NoChip tells early = tells early
@@ -59,7 +60,7 @@ module _ (request : Request) (image : List ℕ) (old new : BusState) (vault vaul
   kept_done report done sealed = record { told = done; sealed = λ ok. sealed; same = same; undo = undo; over = over }
 
   -- and one that gave up keeps it from when it was sealed on
-  pub kept_refused : (refusal : Refusal) → SessionTells request image old new vault vault' refusal → HonestTells old new refusal
+  pub kept_refused : (refusal : Refusal) → SessionTells request image old new vault vault' refusal → HonestTells (most_of 4096) (λ refusal. number_of refusal ≤ 11) old new refusal
       → (number_of refusal ≤ 8 → vault' ≡ vault) → HasKept request image old new vault vault' (Err refusal)
   kept_refused refusal tells honest_tells unused = record {
     told = record { refuses = tells; same = stays old new refusal honest_tells; unused = unused };

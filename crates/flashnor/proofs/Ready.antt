@@ -8,7 +8,7 @@ use Rattle.nor_chip.specs.Chip.{Chip, IsSame}
 use Rattle.nor_driver.specs.Looks.{IsCalm, Looks}
 use Rattle.nor_driver.specs.Reads.{shown}
 use Rattle.nor_journal.specs.Text.{Content as Journal}
-use Rattle.nor_probe.specs.Known.{IsGenuine, chip_says, id_of, is_no_chip, listed_or, part_by_sfdp, shown_as}
+use Rattle.nor_probe.specs.Known.{IsGenuine, chip_says, id_of, is_no_chip, listed_or, part_by_sfdp, shown_as, IsModelled}
 use Rattle.nor_probe.specs.Found.{Finds, IsWanted, Tells, part_in}
 use Rattle.nor_probe.specs.Table.{part_of as row_of}
 use Rattle.nor_probe.specs.declared.probes.Found.{Found}
@@ -20,7 +20,6 @@ use Rattle.nor_probe.proofs.Emulated.{tiny64_known, w25q64fv_known, w25q128fv_kn
 use Rattle.nor_save.specs.Refusal.{of_probe}
 use Rattle.nor_save.specs.declared.refusal.Refusal.{Refusal}
 use Rattle.nor_save.specs.declared.report.Report.{Report}
-use Rattle.nor_session.specs.Modelled.{IsModelled}
 use Rattle.nor_session.specs.Restore.{CanGiveBack, IsJudgedFirst, IsRestored, RestoreTells}
 use Rattle.nor_words.specs.Programmer.{IsConfigOf}
 use Rattle.nor_words.specs.Text.{Text}

@@ -3,7 +3,7 @@ ghost use Rattle.std.specs.Prelude.{◌≡◌, ◌≤◌, ◌⊎◌, IfOk, IfErr
 ghost use Rattle.nor_chip.specs.Chip.{IsSame};
 ghost use Rattle.nor_driver.specs.Looks.{IsCalm};
 ghost use Rattle.nor_journal.specs.Vault.{IsFresh};
-ghost use Rattle.nor_session.specs.Modelled.{IsModelled};
+ghost use Rattle.nor_probe.specs.Known.{IsModelled};
 ghost use Rattle.flashnor.specs.Changes.{HasChanged, HasKept, HasRehearsed, HasRestored, Passes, ProbeRefuses};
 ghost use Rattle.flashnor.specs.Requests.{FailsToInclude, IsBufferOf};
 ghost use Rattle.flashnor.specs.Run.{DoesChange, DoesRestore, FailsToKeep, FailsToRead, FailsToRestore};

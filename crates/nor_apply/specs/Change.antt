@@ -1,5 +1,5 @@
 -- What changing some sectors of a chip may leave at every exit, and what it leaves at its end. Sectors are given by
--- tests of their numbers: the touched ones are those that may change, the raised ones those that are erased.
+-- tests of their numbers: bytes may change in the touched ones alone, and the raised ones are those that are erased.
 use Rattle.std.specs.Prelude.{◌≡◌, ◌≤◌, ◌+◌, ◌-◌, ◌*◌, ◌/◌, ◌==◌, ◌||◌, ◌⊎◌, ℕ, Bool, true, false, List, slice_index, bit_and, if◌then◌else◌}
 use Rattle.nor_chip.specs.Chip.{Chip}
 use Rattle.nor_chip.specs.Guard.{is_guarded}
@@ -21,11 +21,12 @@ pub record IsSized (size : ℕ) (kinds : Kinds) (chip : Chip) : Type 0 where
   pub k64 : chip.config.k64 ≡ kinds.k64
 
 -- no bit of these sectors has to rise to make the content the wanted one
-abbrev pub OnlyFalls : (ℕ → Bool) → (ℕ → ℕ) → (ℕ → ℕ) → Type 0
+abbrev pub OnlyFalls : (sectors : ℕ → Bool) → (wanted content : ℕ → ℕ) → Type 0
 OnlyFalls sectors wanted content = (a : ℕ) → sectors (a / 4096) ≡ true → bit_and (wanted a) (content a) ≡ wanted a
 
--- At every exit: outside the touched sectors the chip is as it was, on a steady bus each byte of a sector that isn't
--- raised is the old or the wanted one, and no sector is worn but the raised ones.
+-- At every exit: the chip is within the touched sectors of the old one, so bytes outside them and fixed bits are as
+-- they were, and the code bits too, but where they can be written; on a steady bus each byte of a sector that isn't
+-- raised is the old or the wanted one; and no sector is worn but the raised ones.
 pub record MayChange (touched raised : ℕ → Bool) (wanted : ℕ → ℕ) (old new : BusState) : Type 0 where
   pub within : IsWithin (places_of touched) old.chip new
   pub gentle : old.steady ≡ true → (a : ℕ) → raised (a / 4096) ≡ false

@@ -12,7 +12,8 @@ pub record Spends (most : ℕ) (old new : BusState) : Type 0 where
   pub steady : new.steady ≡ old.steady
   pub falls : old.honest ≡ true → Falls most old new
 
--- A part halted. On an honest bus that is a stop, and there were fewer transactions than this.
+-- A part halted. On an honest bus that is a stop, and there were fewer transactions than this. (A call that waits for
+-- one address `Halts`, which also tells that address; a part waits for many, and `NamesSector` tells which.)
 pub record HaltsBelow (needed : ℕ) (old new : BusState) (halt : Halt) : Type 0 where
   pub stopped : old.honest ≡ true → halt ≡ Stopped
   pub ran_out : old.honest ≡ true → RanOut needed old new

@@ -29,6 +29,6 @@ pub record IsWithin (places : ℕ → Bool) (first : Chip) (state : BusState) : 
   pub kept : is_writable first ≡ false → KeptStay first state.chip
   pub runs : state.steady ≡ false → state.chip.busy ≢ 0 → WorksIn places first state.chip.running
 
--- the places of some sectors
-abbrev pub places_of : (ℕ → Bool) → ℕ → Bool
+-- the addresses that lie in some sectors
+abbrev pub places_of : (sectors : ℕ → Bool) → (a : ℕ) → Bool
 places_of sectors a = sectors (a / 4096)

@@ -8,13 +8,13 @@ use Rattle.std.specs.Option.{is_some}
 use Rattle.nor_journal.specs.declared.writer.Writer.{Writer}
 use Rattle.nor_journal.specs.Text.{Content, MayFollow, empty_content, with_sector}
 use Rattle.nor_journal.specs.Vault.{VaultState}
-use Rattle.nor_journal.specs.Saved.{Saves, HasOneMore, is_saved}
+use Rattle.nor_journal.specs.Saved.{Saves, HasOneMore}
 use Rattle.nor_journal.specs.Writer.{vault_state, HasWritten, HasKept}
 use Rattle.nor_journal.proofs.Saved.{saved_in-empty_content, saved_in-with_sector, next_number-empty_content, next_number-with_sector}
 use Rattle.nor_save.specs.declared.refusal.Refusal.{Refusal}
 use Rattle.nor_save.specs.declared.refusal.Refusal.TheVariants.{Vault}
 use Rattle.nor_save.specs.declared.scanning.Scanned.{Scanned}
-use Rattle.nor_save.specs.Scanning.{AreRight, HasBegun, HasBegunWith, UnlessVault, HasKeptBelow, never}
+use Rattle.nor_save.specs.Scanning.{wanted_at, AreRight, HasBegun, HasBegunWith, UnlessVault, HasKeptBelow, never}
 use Rattle.nor_save.specs.Keeping.{BeginsJournal}
 use Rattle.nor_save.specs.Saving.{head_of}
 use Rattle.nor_save.specs.Request.{wanted, is_touched_by}
@@ -138,14 +138,14 @@ lower s bound total x inside = elim (cases_lt s bound) [
 
 -- of a chip that the bus has: what was kept below a bound is a beginning of its journal
 pub begins_of : {V : Type 0} (state : V → VaultState) (writer : Writer V) (request : Request) (image : List ℕ) (size : ℕ) (chip : Chip) (old : ℕ → ℕ) → old ≡ chip.bytes → size ≡ chip.config.size
-    → (vault_state state writer).telling ≡ true → HasKeptBelow state writer (head_of chip) old (is_touched old (wanted request image size old)) (size / 4096)
+    → (vault_state state writer).telling ≡ true → HasKeptBelow state writer (head_of chip) old (is_touched old (wanted_at request image size old)) (size / 4096)
     → BeginsJournal (head_of chip) chip.bytes (is_touched_by request image chip) (vault_state state writer).bytes
 begins_of state writer request image size chip old shown is_size telling begun =
-    let aim = wanted request image size old in
+    let aim = wanted_at request image size old in
     let test : (λ (s : ℕ). nat_lt s begun.bound && is_touched old aim s) ≡ (λ (s : ℕ). nat_lt s begun.bound && is_touched_by request image chip s) = fun_ext (λ s.
     lower s begun.bound (size / 4096) (is_touched old aim s) begun.inside
-    ∙ ap (λ (content : ℕ → ℕ). nat_lt s begun.bound && (nat_lt s (size / 4096) && is_touched content (wanted request image size content) s)) shown
-    ∙ ap (λ (n : ℕ). nat_lt s begun.bound && (nat_lt s (n / 4096) && is_touched chip.bytes (wanted request image n chip.bytes) s)) is_size) in
+    ∙ ap (λ (content : ℕ → ℕ). nat_lt s begun.bound && (nat_lt s (size / 4096) && is_touched content (wanted_at request image size content) s)) shown
+    ∙ ap (λ (n : ℕ). nat_lt s begun.bound && (nat_lt s (n / 4096) && is_touched chip.bytes (wanted_at request image n chip.bytes) s)) is_size) in
     record {
       content = begun.kept.content;
       bound = begun.bound;
@@ -162,7 +162,7 @@ pub begins_all : {V : Type 0} (state : V → VaultState) (writer : Writer V) (re
 begins_all state writer request image chip n telling kept =
     let total = chip.config.size / 4096 in
     let test : is_touched_by request image chip ≡ (λ (s : ℕ). nat_lt s total && is_touched_by request image chip s) = fun_ext (λ s.
-    lower s total total (is_touched chip.bytes (wanted request image chip.config.size chip.bytes) s) (omega arith)) in
+    lower s total total (is_touched chip.bytes (wanted request image chip) s) (omega arith)) in
     record {
       content = kept.content;
       bound = total;

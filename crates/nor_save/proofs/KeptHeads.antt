@@ -18,7 +18,7 @@ use Rattle.nor_save.specs.declared.refusal.Refusal.{Refusal}
 use Rattle.nor_save.specs.declared.refusal.Refusal.TheVariants.{StatusLocked, Protected}
 use Rattle.nor_save.specs.declared.scanning.Scanned.{Scanned}
 use Rattle.nor_save.specs.Request.{wanted, is_touched_by, is_raised_by}
-use Rattle.nor_save.specs.Scanning.{AreRight, IsOpen}
+use Rattle.nor_save.specs.Scanning.{wanted_at, AreRight, IsOpen}
 use Rattle.nor_save.specs.Saving.{IsOpening, Shows, ScanJudges, ScanAccepts, head_of}
 use Rattle.nor_save.specs.Judging.{IsScanRefusal}
 use Rattle.nor_save.specs.Keeping.{KeepTells}
@@ -38,31 +38,31 @@ is_open chip opening state is shows = record {
 -- the marks are those of the request on this chip
 marks_right : (is_marked : (ℕ → ℕ) → (ℕ → ℕ) → ℕ → Bool) (request : Request) (image : List ℕ) (opening : Opening) (chip : Chip) (state : BusState) (s : ℕ)
     → IsOpening chip opening → Shows chip state
-    → (nat_lt s (opening.found.size / 4096) && is_marked state.chip.bytes (wanted request image opening.found.size state.chip.bytes) s)
-    ≡ (nat_lt s (chip.config.size / 4096) && is_marked chip.bytes (wanted request image chip.config.size chip.bytes) s)
+    → (nat_lt s (opening.found.size / 4096) && is_marked state.chip.bytes (wanted_at request image opening.found.size state.chip.bytes) s)
+    ≡ (nat_lt s (chip.config.size / 4096) && is_marked chip.bytes (wanted request image chip) s)
 marks_right is_marked request image opening chip state s is shows =
-    ap (λ (content : ℕ → ℕ). nat_lt s (opening.found.size / 4096) && is_marked content (wanted request image opening.found.size content) s) (same_bytes chip state shows)
-    ∙ ap (λ (n : ℕ). nat_lt s (n / 4096) && is_marked chip.bytes (wanted request image n chip.bytes) s) is.config.size
+    ap (λ (content : ℕ → ℕ). nat_lt s (opening.found.size / 4096) && is_marked content (wanted_at request image opening.found.size content) s) (same_bytes chip state shows)
+    ∙ ap (λ (n : ℕ). nat_lt s (n / 4096) && is_marked chip.bytes (wanted_at request image n chip.bytes) s) is.config.size
 
 pub touched_right : (request : Request) (image : List ℕ) (opening : Opening) (chip : Chip) (state : BusState) (scanned : Scanned) → IsOpening chip opening → Shows chip state
-    → AreRight (wanted request image opening.found.size state.chip.bytes) state.chip.bytes (opening.found.size / 4096) scanned
+    → AreRight (wanted_at request image opening.found.size state.chip.bytes) state.chip.bytes (opening.found.size / 4096) scanned
     → (s : ℕ) → has scanned.touched s ≡ is_touched_by request image chip s
 touched_right request image opening chip state scanned is shows right s =
     right.touched s ∙ marks_right is_touched request image opening chip state s is shows
 
 pub raised_right : (request : Request) (image : List ℕ) (opening : Opening) (chip : Chip) (state : BusState) (scanned : Scanned) → IsOpening chip opening → Shows chip state
-    → AreRight (wanted request image opening.found.size state.chip.bytes) state.chip.bytes (opening.found.size / 4096) scanned
+    → AreRight (wanted_at request image opening.found.size state.chip.bytes) state.chip.bytes (opening.found.size / 4096) scanned
     → (s : ℕ) → has scanned.raised s ≡ is_raised_by request image chip s
 raised_right request image opening chip state scanned is shows right s =
     right.raised s ∙ marks_right is_raised request image opening chip state s is shows
 
 -- so is what the image has of the touched sectors
 pub merged_right : (request : Request) (image : List ℕ) (opening : Opening) (chip : Chip) (state : BusState) (a x : ℕ) → IsOpening chip opening → Shows chip state
-    → x ≡ wanted request image opening.found.size state.chip.bytes a → x ≡ wanted request image chip.config.size chip.bytes a
+    → x ≡ wanted_at request image opening.found.size state.chip.bytes a → x ≡ wanted request image chip a
 merged_right request image opening chip state a x is shows merged =
     merged
-    ∙ ap (λ (content : ℕ → ℕ). wanted request image opening.found.size content a) (same_bytes chip state shows)
-    ∙ ap (λ (n : ℕ). wanted request image n chip.bytes a) is.config.size
+    ∙ ap (λ (content : ℕ → ℕ). wanted_at request image opening.found.size content a) (same_bytes chip state shows)
+    ∙ ap (λ (n : ℕ). wanted_at request image n chip.bytes a) is.config.size
 
 -- a judgement of the scan tells of the touched sectors
 pub judged_tells : (request : Request) (opening : Opening) (code : ℕ) (image : List ℕ) (old new : BusState) (touched : ℕ → Bool) (refusal : Refusal) → IsScanRefusal refusal

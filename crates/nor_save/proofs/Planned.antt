@@ -13,8 +13,8 @@ use Rattle.nor_apply.specs.Content.{is_other, must_rise, is_touched, is_raised}
 use Rattle.nor_save.specs.declared.report.Request.{Request}
 use Rattle.nor_save.specs.declared.report.What.{What}
 use Rattle.nor_save.specs.declared.report.What.TheVariants.{Write, Erase, WpRange}
-use Rattle.nor_save.specs.Request.{is_data, target, may_change, wanted}
-use Rattle.nor_save.specs.Scanning.{IsOpen, ScansSector}
+use Rattle.nor_save.specs.Request.{is_data, target, may_change}
+use Rattle.nor_save.specs.Scanning.{wanted_at, IsOpen, ScansSector}
 use Rattle.nor_layout.specs.Below.{any_below}
 use Rattle.nor_apply.proofs.Counting.{any_below-all, any_below-same}
 use Rattle.nor_save.proofs.Below.{any_below-decided}
@@ -26,11 +26,11 @@ may_change-included request size a about_bytes below =
     ∙ ap (λ (b : Bool). b && includes request.included a) (lt-ltb a size below)
 
 -- where nothing may change, what is there is wanted
-pub wanted-kept : (request : Request) (image : List ℕ) (size : ℕ) (content : ℕ → ℕ) (a : ℕ) → may_change request size a ≡ false → wanted request image size content a ≡ content a
+pub wanted-kept : (request : Request) (image : List ℕ) (size : ℕ) (content : ℕ → ℕ) (a : ℕ) → may_change request size a ≡ false → wanted_at request image size content a ≡ content a
 wanted-kept request image size content a fixed = ap (λ (b : Bool). if b then target request.what image a else content a) fixed
 
 -- the same content has the same wanted bytes
-pub wanted-same : (request : Request) (image : List ℕ) (size : ℕ) (old new : ℕ → ℕ) (a : ℕ) → new a ≡ old a → wanted request image size new a ≡ wanted request image size old a
+pub wanted-same : (request : Request) (image : List ℕ) (size : ℕ) (old new : ℕ → ℕ) (a : ℕ) → new a ≡ old a → wanted_at request image size new a ≡ wanted_at request image size old a
 wanted-same request image size old new a same = ap (λ (b : ℕ). if may_change request size a then target request.what image a else b) same
 
 other : (a b : ℕ) → (a ≡ b → ⊥) → is_other a b ≡ true
@@ -71,21 +71,21 @@ unraised content aim sector same =
 
 -- the content that a plan is made for may be read later, as long as it is the same
 any_later : (test : ℕ → ℕ → Bool) (request : Request) (image : List ℕ) (size : ℕ) (old new : ℕ → ℕ) (sector : ℕ) → ((a : ℕ) → new a ≡ old a)
-    → any_below 4096 (λ i. test (new (4096 * sector + i)) (wanted request image size new (4096 * sector + i)))
-    ≡ any_below 4096 (λ i. test (old (4096 * sector + i)) (wanted request image size old (4096 * sector + i)))
+    → any_below 4096 (λ i. test (new (4096 * sector + i)) (wanted_at request image size new (4096 * sector + i)))
+    ≡ any_below 4096 (λ i. test (old (4096 * sector + i)) (wanted_at request image size old (4096 * sector + i)))
 any_later test request image size old new sector same =
-    any_below-same 4096 (λ i. test (new (4096 * sector + i)) (wanted request image size new (4096 * sector + i)))
-    (λ i. test (old (4096 * sector + i)) (wanted request image size old (4096 * sector + i)))
-    (λ i below. ap (λ (b : ℕ). test b (wanted request image size new (4096 * sector + i))) (same (4096 * sector + i))
+    any_below-same 4096 (λ i. test (new (4096 * sector + i)) (wanted_at request image size new (4096 * sector + i)))
+    (λ i. test (old (4096 * sector + i)) (wanted_at request image size old (4096 * sector + i)))
+    (λ i below. ap (λ (b : ℕ). test b (wanted_at request image size new (4096 * sector + i))) (same (4096 * sector + i))
     ∙ ap (λ (b : ℕ). test (old (4096 * sector + i)) b) (wanted-same request image size old new (4096 * sector + i) (same (4096 * sector + i))))
 
 pub touched-later : (request : Request) (image : List ℕ) (size : ℕ) (old new : ℕ → ℕ) (sector : ℕ) → ((a : ℕ) → new a ≡ old a)
-    → is_touched new (wanted request image size new) sector ≡ is_touched old (wanted request image size old) sector
+    → is_touched new (wanted_at request image size new) sector ≡ is_touched old (wanted_at request image size old) sector
 unfolding is_touched
 touched-later = any_later is_other
 
 pub raised-later : (request : Request) (image : List ℕ) (size : ℕ) (old new : ℕ → ℕ) (sector : ℕ) → ((a : ℕ) → new a ≡ old a)
-    → is_raised new (wanted request image size new) sector ≡ is_raised old (wanted request image size old) sector
+    → is_raised new (wanted_at request image size new) sector ≡ is_raised old (wanted_at request image size old) sector
 unfolding is_raised
 raised-later = any_later must_rise
 
@@ -106,7 +106,7 @@ pub scans_sector : (request : Request) (size sector : ℕ) (included : Option (L
 scans_sector request size sector included part filled part' bytes old new plan about_bytes fits is_included long long' aims fills reads needed plans =
     let shown = λ (is_open : IsOpen size old). reads.told is_open.honest is_open.idle (let s = is_open.same in omega arith) in
     let merged : IsOpen size old → (image : List ℕ) → ((i : ℕ) → i < 4096 → slice_index part i ≡ slice_index image (4096 * sector + i))
-    → (i : ℕ) → i < 4096 → slice_index part' i ≡ wanted request image size old.chip.bytes (4096 * sector + i) =
+    → (i : ℕ) → i < 4096 → slice_index part' i ≡ wanted_at request image size old.chip.bytes (4096 * sector + i) =
     λ is_open image same i below.
     let a = 4096 * sector + i in
     fills i below
@@ -120,8 +120,8 @@ scans_sector request size sector included part filled part' bytes old new plan a
       shown = shown;
       merged = merged;
       planned = λ is_open image same.
-          planned old.chip.bytes (wanted request image size old.chip.bytes) sector plan
-          (subst (λ (n : ℕ). IsPlan (λ i. old.chip.bytes (4096 * sector + i)) (λ i. wanted request image size old.chip.bytes (4096 * sector + i)) n plan) long
-          (plans (λ i. old.chip.bytes (4096 * sector + i)) (λ i. wanted request image size old.chip.bytes (4096 * sector + i))
+          planned old.chip.bytes (wanted_at request image size old.chip.bytes) sector plan
+          (subst (λ (n : ℕ). IsPlan (λ i. old.chip.bytes (4096 * sector + i)) (λ i. wanted_at request image size old.chip.bytes (4096 * sector + i)) n plan) long
+          (plans (λ i. old.chip.bytes (4096 * sector + i)) (λ i. wanted_at request image size old.chip.bytes (4096 * sector + i))
           (λ i below. (shown is_open).byte i (omega arith)) (λ i below. merged is_open image same i (omega arith))));
     }

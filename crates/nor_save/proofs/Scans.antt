@@ -16,8 +16,8 @@ use Rattle.nor_apply.specs.Content.{is_touched, is_raised}
 use Rattle.nor_apply.specs.Counts.{sector_count}
 use Rattle.nor_save.specs.declared.report.Request.{Request}
 use Rattle.nor_save.specs.declared.scanning.Scanned.{Scanned}
-use Rattle.nor_save.specs.Request.{is_data, wanted, may_change, scanned_sectors}
-use Rattle.nor_save.specs.Scanning.{AreMarks, AreRight, IsOpen, IsBlank, HasMarked, ScansSector, Scans}
+use Rattle.nor_save.specs.Request.{is_data, may_change, scanned_sectors}
+use Rattle.nor_save.specs.Scanning.{wanted_at, AreMarks, AreRight, IsOpen, IsBlank, HasMarked, ScansSector, Scans}
 use Rattle.nor_apply.proofs.Counting.{count_below-zero, count_below-more, count_below-none, count_below-same}
 use Rattle.nor_save.proofs.Below.{count_below-insert}
 use Rattle.nor_save.proofs.Planned.{may_change-included, wanted-kept, wanted-same, untouched, unraised, touched-later, raised-later}
@@ -28,8 +28,8 @@ pub record HasScanned (request : Request) (size n : ℕ) (image image' : List �
   pub marks : AreMarks n scanned
   pub reads : scanned.reads ≡ count_below n (has_in_sector (includes request.included))
   pub looked : HasLooked scanned.reads old new
-  pub right : IsOpen size old → AreRight (wanted request image size old.chip.bytes) old.chip.bytes n scanned
-  pub merged : IsOpen size old → (a : ℕ) → has scanned.touched (a / 4096) ≡ true → slice_index image' a ≡ wanted request image size old.chip.bytes a
+  pub right : IsOpen size old → AreRight (wanted_at request image size old.chip.bytes) old.chip.bytes n scanned
+  pub merged : IsOpen size old → (a : ℕ) → has scanned.touched (a / 4096) ≡ true → slice_index image' a ≡ wanted_at request image size old.chip.bytes a
   pub rest : (a : ℕ) → 4096 * n ≤ a → slice_index image' a ≡ slice_index image a
 
 -- ---- how many sectors were included
@@ -158,8 +158,8 @@ nothing_scanned request size image state scanned blank = record {
   reads = blank.reads ∙ sym (count_below-zero (has_in_sector (includes request.included)));
   looked = subst (λ (k : ℕ). HasLooked k state state) (sym blank.reads) (has_looked-none state);
   right = λ is_open. record {
-    touched = λ s. blank.touched s ∙ sym (and_left (nat_lt s 0) (is_touched state.chip.bytes (wanted request image size state.chip.bytes) s) (le-ltb s 0 (omega arith)));
-    raised = λ s. blank.raised s ∙ sym (and_left (nat_lt s 0) (is_raised state.chip.bytes (wanted request image size state.chip.bytes) s) (le-ltb s 0 (omega arith)));
+    touched = λ s. blank.touched s ∙ sym (and_left (nat_lt s 0) (is_touched state.chip.bytes (wanted_at request image size state.chip.bytes) s) (le-ltb s 0 (omega arith)));
+    raised = λ s. blank.raised s ∙ sym (and_left (nat_lt s 0) (is_raised state.chip.bytes (wanted_at request image size state.chip.bytes) s) (le-ltb s 0 (omega arith)));
   };
   merged = λ is_open a is. absurd (both_ways (has scanned.touched (a / 4096)) (blank.touched (a / 4096)) is);
   rest = λ a above. refl;
@@ -176,7 +176,7 @@ skipped request size n included told image image' old new scanned at is_included
     λ i below. may_change-included request size (4096 * n + i) at.about_bytes (omega arith)
     ∙ ap (λ (o : Option (List Span)). includes o (4096 * n + i)) (sym is_included) ∙ excluded i below in
     let content = old.chip.bytes in
-    let aim = wanted request image size content in
+    let aim = wanted_at request image size content in
     let kept : (i : ℕ) → i < 4096 → aim (4096 * n + i) ≡ content (4096 * n + i) = λ i below. wanted-kept request image size content (4096 * n + i) (fixed i below) in
     record {
       marks = record {
@@ -221,7 +221,7 @@ pub scanned_more : (request : Request) (size n : ℕ) (image image' image'' part
 scanned_more request size n image image' image'' part part' bytes plan old mid new scanned next at was looks scans marked cut put =
     let within = at.below in let small = at.small in
     let content = old.chip.bytes in
-    let aim = wanted request image size content in
+    let aim = wanted_at request image size content in
     let same : IsOpen size old → (a : ℕ) → mid.chip.bytes a ≡ content a = λ is_open. (was.looked.rested is_open.honest).unchanged.same.bytes in
     let of_image : (i : ℕ) → i < 4096 → slice_index part i ≡ slice_index image (4096 * n + i) = λ i lower. cut i lower ∙ was.rest (4096 * n + i) (omega arith) in
     let later : IsOpen size old → IsOpen size mid = λ is_open. opened_later size scanned.reads old mid is_open was.looked in
@@ -297,7 +297,7 @@ pub none_to_scan : (request : Request) (size : ℕ) (image image' : List ℕ) (o
     → is_data request.what ≡ false → scanned.count ≤ scanned.reads → HasScanned request size 0 image image' old new scanned → Scans request size image image' old new scanned
 none_to_scan request size image image' old new scanned other few was =
     let content = old.chip.bytes in
-    let aim = wanted request image size content in
+    let aim = wanted_at request image size content in
     let kept : (a : ℕ) → aim a ≡ content a = λ a. wanted-kept request image size content a (and_left (is_data request.what) (nat_lt a size && includes request.included a) other) in
     let free : (s : ℕ) → has scanned.touched s ≡ false = λ s. absent 0 scanned was.marks s (omega arith) in
     let flat : (s : ℕ) → has scanned.raised s ≡ false =

@@ -51,7 +51,8 @@ FindsHeld touched opening found =
 abbrev pub FindsNeed : Request → Opening → Bool → ℕ → Bool → Type 0
 FindsNeed request opening is_held code needed = (chip : Chip) (touched : ℕ → Bool) → IsOpening chip opening
     → MatchBool is_held (SomeHeld touched chip) (NoneHeld touched chip)
-    → MatchBool needed (NeedsStatus request code touched chip) (¬ NeedsStatus request code touched chip)
+    → MatchBool needed (NeedsStatus request.what request.unlock code touched chip)
+    (¬ NeedsStatus request.what request.unlock code touched chip)
 
 -- the touched sectors are accepted, and protection is lifted, only where that is right
 abbrev pub AcceptsScan : Request → Opening → ℕ → (ℕ → Bool) → Result Bool Refusal → Type 0

@@ -50,7 +50,7 @@ pub record KeepsChip (request : Request) (code : ℕ) (image image' : List ℕ)
   pub raised : (s : ℕ) → has kept.scanned.raised s ≡ is_raised_by request image chip s
   pub accepts : ScanAccepts request code (is_touched_by request image chip) chip kept.unlock
   pub merged : (a : ℕ) → has kept.scanned.touched (a / 4096) ≡ true
-      → slice_index image' a ≡ wanted request image chip.config.size chip.bytes a
+      → slice_index image' a ≡ wanted request image chip a
   pub journal : vault.telling ≡ true
       → JournalSaves (head_of chip) chip.bytes (is_touched_by request image chip) vault.bytes
 

@@ -7,44 +7,42 @@ use Rattle.nor_layout.specs.Sectors.{includes, sectors_included}
 use Rattle.nor_apply.specs.Content.{is_touched, is_raised}
 use Rattle.nor_save.specs.declared.report.Request.{Request}
 use Rattle.nor_save.specs.declared.report.What.{What}
-use Rattle.nor_save.specs.declared.report.What.TheVariants.{Write, Erase, WpRange}
+use Rattle.nor_save.specs.declared.report.What.TheVariants.{Write, WpRange}
 
--- it is about bytes, not about protection
+-- what is asked for is about bytes, not about protection
 abbrev pub is_data : What → Bool
-is_data Write = true
-is_data Erase = true
 is_data (WpRange start len) = false
+is_data _ = true
 
--- the byte that an included address is to have
-abbrev pub target : What → List ℕ → ℕ → ℕ
+-- the byte that an included address is to have; a protection range changes no byte, so none is ever asked for there
+abbrev pub target : What → (image : List ℕ) → (a : ℕ) → ℕ
 target Write image a = slice_index image a
-target Erase image a = 255
-target (WpRange start len) image a = 255
+target _ image a = 255
 
 -- the address may change, on a chip of this size
-abbrev pub may_change : Request → ℕ → ℕ → Bool
+abbrev pub may_change : Request → (size a : ℕ) → Bool
 may_change request size a = is_data request.what && (nat_lt a size && includes request.included a)
 
--- The wanted byte at an address: where it may change the target, else what is there.
-abbrev pub wanted : Request → List ℕ → ℕ → (ℕ → ℕ) → ℕ → ℕ
-wanted request image size content a = if may_change request size a then target request.what image a else content a
+-- The byte that a request wants at an address of a chip: where it may change the target, else what is there.
+abbrev pub wanted : Request → (image : List ℕ) → Chip → (a : ℕ) → ℕ
+wanted request image chip a =
+    if may_change request chip.config.size a then target request.what image a else chip.bytes a
 
 -- how many sectors of a chip of this size are scanned
-abbrev pub scanned_sectors : Request → ℕ → ℕ
+abbrev pub scanned_sectors : Request → (size : ℕ) → ℕ
 scanned_sectors request size = if is_data request.what then sectors_included request.included size else 0
 
 -- The wanted protection code: for a range the least that guards exactly it, else the one that the chip has.
-abbrev pub IsWantedCode : What → Chip → ℕ → Type 0
-IsWantedCode Write chip code = code ≡ code_of chip
-IsWantedCode Erase chip code = code ≡ code_of chip
+abbrev pub IsWantedCode : What → Chip → (code : ℕ) → Type 0
 IsWantedCode (WpRange start len) chip code = IsLeastCode chip.config.size start len code
+IsWantedCode _ chip code = code ≡ code_of chip
 
 -- a sector of the chip is touched: some byte of it isn't the wanted one
-abbrev pub is_touched_by : Request → List ℕ → Chip → ℕ → Bool
+abbrev pub is_touched_by : Request → (image : List ℕ) → Chip → (s : ℕ) → Bool
 is_touched_by request image chip s =
-    nat_lt s (chip.config.size / 4096) && is_touched chip.bytes (wanted request image chip.config.size chip.bytes) s
+    nat_lt s (chip.config.size / 4096) && is_touched chip.bytes (wanted request image chip) s
 
--- so is it raised: some bit of it has to rise
-abbrev pub is_raised_by : Request → List ℕ → Chip → ℕ → Bool
+-- a sector of the chip is raised: some bit of it has to go from 0 to 1 to make it the wanted one
+abbrev pub is_raised_by : Request → (image : List ℕ) → Chip → (s : ℕ) → Bool
 is_raised_by request image chip s =
-    nat_lt s (chip.config.size / 4096) && is_raised chip.bytes (wanted request image chip.config.size chip.bytes) s
+    nat_lt s (chip.config.size / 4096) && is_raised chip.bytes (wanted request image chip) s

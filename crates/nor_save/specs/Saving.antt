@@ -11,7 +11,7 @@ use Rattle.nor_probe.specs.Found.{IsConfigOf}
 use Rattle.nor_save.specs.declared.opening.Opening.{Opening}
 use Rattle.nor_save.specs.declared.report.Request.{Request}
 use Rattle.nor_save.specs.declared.report.What.{What}
-use Rattle.nor_save.specs.declared.report.What.TheVariants.{Write, Erase, WpRange}
+use Rattle.nor_save.specs.declared.report.What.TheVariants.{WpRange}
 use Rattle.nor_save.specs.declared.refusal.Refusal.{Refusal}
 use Rattle.nor_save.specs.declared.refusal.Refusal.TheVariants.{ImageSize, RegionOutside, NoProtection, UndefinedProtection, RangeNotOffered, StatusLocked, Protected}
 use Rattle.nor_save.specs.Request.{is_data, IsWantedCode}
@@ -31,24 +31,24 @@ pub record Shows (chip : Chip) (state : BusState) : Type 0 where
 
 -- ---- what the opening judges
 
--- neither image nor ranges are refused
+-- Where bytes are asked for the image has as many as the chip, and each included address is on the chip.
 pub record FitsChip (request : Request) (image : ℕ) (chip : Chip) : Type 0 where
   pub image_size : is_data request.what ≡ true → image ≡ chip.config.size
   pub regions : is_data request.what ≡ true → ¬ ReachesPast request.included chip.config.size
 
--- nor is protection
+-- Where a protection range is asked for the chip has block protection, and if it has any its code is a defined one.
 pub record FitsProtection (request : Request) (chip : Chip) : Type 0 where
   pub scheme : is_data request.what ≡ false → chip.config.scheme ≡ true
   pub defined : chip.config.scheme ≡ true → is_undefined (code_of chip) ≡ false
 
--- the range that is asked for is one that no code guards
+-- a protection range is asked for that no code guards
 abbrev pub AsksForNone : What → Chip → Type 0
-AsksForNone Write chip = ⊥
-AsksForNone Erase chip = ⊥
 AsksForNone (WpRange start len) chip = IsNotOffered chip.config.size start len
+AsksForNone _ chip = ⊥
 
--- what such a refusal tells: those before it don't hold
-abbrev pub OpeningJudges : Request → ℕ → Chip → Refusal → Type 0
+-- What each refusal tells that the opening judges, against an image of so many bytes: that it holds, and those with
+-- lower numbers don't.
+abbrev pub OpeningJudges : Request → (image : ℕ) → Chip → Refusal → Type 0
 OpeningJudges request image chip (ImageSize size len) =
     (is_data request.what ≡ true) × (size ≡ chip.config.size) × (len ≡ image) × (image ≢ chip.config.size)
 OpeningJudges request image chip RegionOutside =
@@ -68,31 +68,28 @@ pub record OpeningAccepts (request : Request) (image : ℕ) (chip : Chip) (code 
 
 -- ---- what the scan judges
 
--- a touched sector that is guarded
-abbrev pub is_held : (ℕ → Bool) → Chip → ℕ → Bool
+-- a sector is held: it is touched, and some place of it is guarded
+abbrev pub is_held : (touched : ℕ → Bool) → Chip → (s : ℕ) → Bool
 is_held touched chip s = touched s && is_unit_guarded chip (4096 * s) 4096
 
--- the least of them
+-- the first of the held sectors
 pub record IsLeastHeld (touched : ℕ → Bool) (chip : Chip) (s : ℕ) : Type 0 where
   pub is : is_held touched chip s ≡ true
   pub least : (t : ℕ) → t < s → is_held touched chip t ≡ false
 
--- none of them
-abbrev pub NoneHeld : (ℕ → Bool) → Chip → Type 0
+-- no touched sector is guarded
+abbrev pub NoneHeld : (touched : ℕ → Bool) → Chip → Type 0
 NoneHeld touched chip = (s : ℕ) → is_held touched chip s ≡ false
 
--- some of them
+-- a touched sector is guarded
 pub record SomeHeld (touched : ℕ → Bool) (chip : Chip) : Type 0 where
   pub sector : ℕ
   pub held : is_held touched chip sector ≡ true
 
 -- A status write is needed: a range wants another code, or protection of a touched sector is to be lifted.
-abbrev pub NeedsCode : What → Bool → ℕ → (ℕ → Bool) → Chip → Type 0
-NeedsCode (WpRange start len) unlock code touched chip = code ≢ code_of chip
-NeedsCode _ unlock code touched chip = (unlock ≡ true) × SomeHeld touched chip
-
-abbrev pub NeedsStatus : Request → ℕ → (ℕ → Bool) → Chip → Type 0
-NeedsStatus request code touched chip = NeedsCode request.what request.unlock code touched chip
+abbrev pub NeedsStatus : What → (unlock : Bool) → (code : ℕ) → (touched : ℕ → Bool) → Chip → Type 0
+NeedsStatus (WpRange start len) unlock code touched chip = code ≢ code_of chip
+NeedsStatus _ unlock code touched chip = (unlock ≡ true) × SomeHeld touched chip
 
 -- Protection isn't to be lifted, the address is the first of the least held sector, and a status that is locked isn't
 -- to be written.
@@ -101,11 +98,12 @@ pub record IsHeldAt (request : Request) (code : ℕ) (touched : ℕ → Bool) (c
   pub sector : ℕ
   pub first : address ≡ 4096 * sector
   pub least : IsLeastHeld touched chip sector
-  pub not_locked : is_locked chip ≡ true → ¬ NeedsStatus request code touched chip
+  pub not_locked : is_locked chip ≡ true → ¬ NeedsStatus request.what request.unlock code touched chip
 
--- what such a refusal tells
-abbrev pub ScanJudges : Request → ℕ → (ℕ → Bool) → Chip → Refusal → Type 0
-ScanJudges request code touched chip StatusLocked = (is_locked chip ≡ true) × NeedsStatus request code touched chip
+-- what each refusal tells that the scan judges, once the touched sectors are known
+abbrev pub ScanJudges : Request → (code : ℕ) → (touched : ℕ → Bool) → Chip → Refusal → Type 0
+ScanJudges request code touched chip StatusLocked =
+    (is_locked chip ≡ true) × NeedsStatus request.what request.unlock code touched chip
 ScanJudges request code touched chip (Protected address) = IsHeldAt request code touched chip address
 ScanJudges request code touched chip _ = ⊥
 
@@ -114,11 +112,11 @@ ScanJudges request code touched chip _ = ⊥
 pub record ScanAccepts (request : Request) (code : ℕ) (touched : ℕ → Bool) (chip : Chip) (unlock : Bool) : Type 0 where
   pub lifts : unlock ≡ true → (request.unlock ≡ true) × SomeHeld touched chip
   pub free : unlock ≡ false → NoneHeld touched chip
-  pub not_locked : is_locked chip ≡ true → ¬ NeedsStatus request code touched chip
+  pub not_locked : is_locked chip ≡ true → ¬ NeedsStatus request.what request.unlock code touched chip
 
 -- ---- what is saved
 
--- the head of the journal: ID, own number, kept bits, size
+-- the head of a chip's journal: ID, own number, kept bits, size
 abbrev pub head_of : Chip → Content
 head_of chip =
     empty_content (id_of chip.config) (Some (unique_of chip.config)) ((4 * chip.kept1) ∷ chip.kept2 ∷ [])

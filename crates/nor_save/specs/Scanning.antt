@@ -16,7 +16,11 @@ use Rattle.nor_save.specs.declared.refusal.Refusal.{Refusal}
 use Rattle.nor_save.specs.declared.refusal.Refusal.TheVariants.{Vault, Stopped}
 use Rattle.nor_save.specs.declared.report.Request.{Request}
 use Rattle.nor_save.specs.declared.scanning.Scanned.{Scanned}
-use Rattle.nor_save.specs.Request.{wanted, scanned_sectors}
+use Rattle.nor_save.specs.Request.{target, may_change, scanned_sectors}
+
+-- What `wanted` is of a chip of this size and content.
+abbrev pub wanted_at : Request → (image : List ℕ) → (size : ℕ) → (content : ℕ → ℕ) → (a : ℕ) → ℕ
+wanted_at request image size content a = if may_change request size a then target request.what image a else content a
 
 -- A sector was marked as its plan says, after one more reading.
 pub record HasMarked (sector : ℕ) (plan : SectorPlan) (old new : Scanned) : Type 0 where
@@ -58,11 +62,12 @@ pub record ScansSector (request : Request) (size sector : ℕ) (part part' bytes
   pub shown : IsOpen size old → IsSectorOf old.chip.bytes sector bytes
   pub merged : IsOpen size old → (image : List ℕ)
       → ((i : ℕ) → i < 4096 → slice_index part i ≡ slice_index image (4096 * sector + i))
-      → (i : ℕ) → i < 4096 → slice_index part' i ≡ wanted request image size old.chip.bytes (4096 * sector + i)
+      → (i : ℕ) → i < 4096
+      → slice_index part' i ≡ wanted_at request image size old.chip.bytes (4096 * sector + i)
   pub planned : IsOpen size old → (image : List ℕ)
       → ((i : ℕ) → i < 4096 → slice_index part i ≡ slice_index image (4096 * sector + i))
-      → (plan.touched ≡ is_touched old.chip.bytes (wanted request image size old.chip.bytes) sector)
-      × (plan.raised ≡ is_raised old.chip.bytes (wanted request image size old.chip.bytes) sector)
+      → (plan.touched ≡ is_touched old.chip.bytes (wanted_at request image size old.chip.bytes) sector)
+      × (plan.raised ≡ is_raised old.chip.bytes (wanted_at request image size old.chip.bytes) sector)
 
 -- What scanning all sectors does, apart from the journal.
 pub record Scans (request : Request) (size : ℕ) (image image' : List ℕ) (old new : BusState)
@@ -72,9 +77,10 @@ pub record Scans (request : Request) (size : ℕ) (image image' : List ℕ) (old
   pub few : scanned.count ≤ scanned.reads
   pub rested : old.honest ≡ true → Rested old new
   pub sent : old.honest ≡ true → old.left ≡ new.left + scanned.reads
-  pub right : IsOpen size old → AreRight (wanted request image size old.chip.bytes) old.chip.bytes (size / 4096) scanned
+  pub right : IsOpen size old
+      → AreRight (wanted_at request image size old.chip.bytes) old.chip.bytes (size / 4096) scanned
   pub merged : IsOpen size old → (a : ℕ) → has scanned.touched (a / 4096) ≡ true
-      → slice_index image' a ≡ wanted request image size old.chip.bytes a
+      → slice_index image' a ≡ wanted_at request image size old.chip.bytes a
 
 -- no sector
 abbrev pub never : ℕ → Bool

@@ -6,10 +6,10 @@ ghost use Rattle.nor_driver.specs.Looks.{Looks, RunsOut};
 ghost use Rattle.nor_journal.specs.Text.{Content};
 ghost use Rattle.nor_journal.specs.Writer.{vault_of, vault_state, HasKept};
 ghost use Rattle.nor_plan.specs.SectorSet.{has};
-ghost use Rattle.nor_save.specs.Request.{wanted, scanned_sectors, is_data};
+ghost use Rattle.nor_save.specs.Request.{scanned_sectors, is_data};
 ghost use Rattle.nor_apply.specs.Content.{is_touched};
 ghost use Rattle.nor_save.specs.Scanning.{HasMarked, IsBlank, IsOpen, ScansSector, Scans, ScanTells, ScanPuts, never};
-ghost use Rattle.nor_save.specs.Scanning.{HasBegun, HasBegunWith, UnlessVault, HasKeptBelow};
+ghost use Rattle.nor_save.specs.Scanning.{HasBegun, HasBegunWith, UnlessVault, HasKeptBelow, wanted_at};
 ghost use Rattle.nor_save.specs.declared.refusal.Refusal.TheVariants as Refusals;
 
 use crate::{Refusal, Request, What};
@@ -120,7 +120,7 @@ pub fn scan_all<B: Bus, V: Vault>(
         → HasKept V.state writer.old head (B.state bus.old).chip.bytes never 0
         → IfErr result (λ refusal. refusal ≢ Refusals.Vault
         → HasKeptBelow V.state writer.new head (B.state bus.old).chip.bytes (is_touched (B.state bus.old).chip.bytes
-        (wanted request.now image.old size (B.state bus.old).chip.bytes)) (size / 4096)) }
+        (wanted_at request.now image.old size (B.state bus.old).chip.bytes)) (size / 4096)) }
     ensures writes { HasBegun V.state writer.old size 0
         → UnlessVault result (HasBegun V.state writer.new size (size / 4096)) }
     ensures saves { HasBegunWith V.state writer.old size 0 never

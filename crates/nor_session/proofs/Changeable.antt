@@ -29,7 +29,8 @@ use Rattle.nor_save.specs.Opening.{Opens}
 use Rattle.nor_save.specs.Scanning.{IsOpen}
 use Rattle.nor_save.specs.Saving.{IsOpening, NoneHeld, SomeHeld, is_held}
 use Rattle.nor_save.proofs.Rests.{rested_then}
-use Rattle.nor_session.specs.Modelled.{IsModelled, kinds_of}
+use Rattle.nor_probe.specs.Known.{IsModelled}
+use Rattle.nor_session.specs.Made.{kinds_of}
 use Rattle.nor_session.specs.Restore.{restored, is_touched_from, is_raised_from, Fits}
 use Rattle.nor_session.specs.Preparing.{IsOfKindFound, FitsOpening, PrepareTells, ScansSaved, NeedsCodeFrom, AreChanges, MayChangeStatus, IsShut, IsPreparedFor, IsPrepared}
 use Rattle.nor_session.proofs.ReadyChip.{told_idle}
@@ -81,7 +82,7 @@ needs_from journal touched other chip same (inr some) = inr (subst (λ (set : �
 pub shut_tells : (journal : Content) (opening : Opening) (scanned : Scanned) (most : ℕ) (old mid new : BusState) → AreRead journal opening scanned old mid new
     → ((chip : Chip) → IsOpening chip opening → IsShut journal (has scanned.touched) chip) → PrepareTells journal most old new StatusLocked
 shut_tells journal opening scanned most old mid new read shut = record {
-  judged = tt;
+  judged = refl;
   same = λ honest. (rested_all journal opening scanned old mid new read honest).unchanged.same;
   verdict = λ modelled.
       let is = opening_of opening old mid modelled read.opens in

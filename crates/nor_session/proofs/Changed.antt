@@ -13,7 +13,7 @@ use Rattle.nor_apply.specs.declared.changes.Work.{Work}
 use Rattle.nor_apply.specs.Applying.{touched_in, raised_in, status_writes, writes_code, most_applied, HasApplied, LeavesApply, DoesApply}
 use Rattle.nor_apply.proofs.Kept.{fixed_then, kept_fixed}
 use Rattle.nor_apply.proofs.ApplyingExits.{raised_few}
-use Rattle.nor_session.specs.Modelled.{kinds_of, AreFewestErases}
+use Rattle.nor_session.specs.Made.{kinds_of, AreFewestErases}
 use Rattle.nor_session.specs.Changing.{touched_count, DoesCheck, DoesChange}
 
 -- ---- how much they take

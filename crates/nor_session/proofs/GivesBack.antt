@@ -1,9 +1,9 @@
 -- A journal that a session kept can give its chip back.
-use Rattle.std.proofs.Common.{◌≡◌, ◌<◌, ◌*◌, ◌/◌, ◌∙◌, ℕ, Bool, true, false, List, slice_index, refl, ap, sym, subst, arith, inl, inr}
+use Rattle.std.proofs.Common.{◌≡◌, ◌<◌, ◌*◌, ◌/◌, ◌∙◌, ℕ, Bool, true, false, List, slice_index, refl, ap, sym, subst, arith, true≢false, inl, inr}
 use Rattle.std.specs.Prelude.{◌&&◌, not, nat_lt, IfSome, Option, Result, IsOk}
 use Rattle.std.proofs.lemmas.Bool.{cases_Bool, and_parts, and_from, and_left, ltb-true}
 use Rattle.nor_chip.specs.Chip.{Chip, IsChip, is_locked}
-use Rattle.nor_chip.specs.Guard.{is_guarded}
+use Rattle.nor_chip.specs.Guard.{is_guarded, is_unit_guarded}
 use Rattle.nor_chip.specs.Bus.{BusState}
 use Rattle.nor_chip.proofs.Guarded.{is_guarded-sector}
 use Rattle.nor_driver.specs.Reads.{unique_of}
@@ -47,7 +47,11 @@ saves_chip first saved journal small same saves = record {
 touched_inside : (request : Request) (image : List ℕ) (chip : Chip) (s : ℕ) → is_touched_by request image chip s ≡ true → s < chip.config.size / 4096
 touched_inside request image chip s touched =
     ltb-true s (chip.config.size / 4096)
-    (and_parts (nat_lt s (chip.config.size / 4096)) (is_touched chip.bytes (wanted request image chip.config.size chip.bytes) s) touched).0
+    (and_parts (nat_lt s (chip.config.size / 4096)) (is_touched chip.bytes (wanted request image chip) s) touched).0
+
+and_right : (b c : Bool) → b ≡ true → (b && c) ≡ false → c ≡ false
+and_right true c is none = none
+and_right false c is none = absurd (true≢false (sym is))
 
 -- where the status is locked none of the saved places is guarded
 saved_free : (saved : ℕ → Bool) (first : Chip) (text : List ℕ) (state : BusState) (a : ℕ) → LeadsBack saved first text state → saved (a / 4096) ≡ true → (is_locked first && is_guarded first a) ≡ false
@@ -56,7 +60,7 @@ saved_free saved first text state a leads is =
       | inl locked ↦
           let inside = leads.inside (a / 4096) is in
           let blocks = first.config.in_blocks in
-          rw locked (is_guarded-sector first a (omega arith) (leads.free locked (a / 4096) is))
+          rw locked (is_guarded-sector first a (omega arith) (and_right (saved (a / 4096)) (is_unit_guarded first (4096 * (a / 4096)) 4096) is (leads.free locked (a / 4096))))
       | inr writable ↦ and_left (is_locked first) (is_guarded first a) writable
     ]
 
@@ -84,6 +88,9 @@ leads_back request image old new vault is genuine telling undone = record {
   };
   journal = undone.journal telling;
   inside = touched_inside request image old.chip;
-  free = undone.free;
+  free = λ locked. elim undone.accepted.free [
+    | inl none ↦ none
+    | inr lifts ↦ absurd (true≢false (sym locked ∙ lifts.1))
+  ];
   within = undone.changes.within;
 }

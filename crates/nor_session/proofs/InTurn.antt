@@ -1,5 +1,5 @@
 -- What sessions and restores that follow one another come to.
-use Rattle.std.proofs.Common.{◌≡◌, ◌≢◌, ◌+◌, ◌*◌, ◌/◌, ◌%◌, ◌∙◌, ℕ, Bool, true, false, List, [], ap, sym, subst, arith, true≢false, inl, inr}
+use Rattle.std.proofs.Common.{◌≡◌, ◌+◌, ◌*◌, ◌/◌, ◌%◌, ◌∙◌, ℕ, Bool, false, List, [], ap, sym, subst, arith, true≢false, inl, inr}
 use Rattle.std.proofs.lemmas.Bool.{cases_Bool, and_left, and_parts}
 use Rattle.std.specs.Prelude.{slice_index, ◌++◌}
 use Rattle.nor_chip.specs.Code.{code_in}
@@ -64,7 +64,7 @@ covers_none kinds total sectors none = record { units = λ k any below. absurd (
 
 none_counted : (journal : Content) (first : Chip) (old new : BusState) (report : Report) → SavesChip journal first → IsSame first old.chip → IsRestored journal old new report → report.touched ≡ 0
 none_counted journal first old new report saves same done =
-    done.touched ∙ count_below-none 4096 (is_touched_from journal old.chip) (λ s below. none_touched journal first old.chip s saves same)
+    done.made.sectors ∙ count_below-none 4096 (is_touched_from journal old.chip) (λ s below. none_touched journal first old.chip s saves same)
 
 pub changes_nothing : (journal : Content) (first : Chip) (old new : BusState) (report : Report) → SavesChip journal first → IsSame first old.chip → IsRestored journal old new report
     → ChangesNothing journal old new report
@@ -72,9 +72,9 @@ changes_nothing journal first old new report saves same done = record {
   still = done.still (none_counted journal first old new report saves same done) (never_needed journal first old.chip saves same);
   touched = none_counted journal first old new report saves same done;
   erases =
-      let least = done.erases.least [] (covers_none _ _ (is_raised_from journal old.chip) (λ s. none_raised journal first old.chip s saves same)) in
+      let least = done.made.erases.least [] (covers_none _ _ (is_raised_from journal old.chip) (λ s. none_raised journal first old.chip s saves same)) in
       omega arith;
-  programs = done.programs
+  programs = done.made.programs
       ∙ count_below-none 65536 (is_programmed (is_touched_from journal old.chip) (once_erased (is_raised_from journal old.chip) old.chip.bytes) (restored journal old.chip.bytes))
       (λ page below. and_left (is_touched_from journal old.chip (page / 16)) _ (none_touched journal first old.chip (page / 16) saves same));
   spares = never_needed journal first old.chip saves same;
@@ -108,4 +108,4 @@ pub both_undone : (request later : Request) (image aim : List ℕ) (old mid new 
     → LeavesJournal request image old mid journal → LeavesJournal later aim mid new other → IsRestored other new back report → IsRestored journal back end last → IsSame old.chip end.chip
 both_undone request later image aim old mid new back end journal other report last first second undone again =
     let same = restored_back other mid.chip new back report (can_restore later aim mid new other second) undone in
-    restored_back journal old.chip back end last (back_again journal old.chip mid back (can_restore request image old mid journal first) same undone.idle) again
+    restored_back journal old.chip back end last (back_again journal old.chip mid back (can_restore request image old mid journal first) same undone.made.idle) again

@@ -1,10 +1,9 @@
 -- Which address a refusal names, from the parts of a session or restore to its answer.
-use Rattle.std.proofs.Common.{ℕ, ◌≡◌, ◌≤◌, ◌/◌, ◌∙◌, ◌⊎◌, Bool, true, false, List, Option, inl, inr, sym, true≢false}
+use Rattle.std.proofs.Common.{ℕ, ◌≡◌, ◌/◌, ◌∙◌, true, List, Option, inl, inr, sym, true≢false}
 use Rattle.nor_chip.specs.Bus.{BusState}
 use Rattle.nor_journal.specs.Text.{Content, IsContent, text}
 use Rattle.nor_journal.specs.Saved.{is_saved}
 use Rattle.nor_journal.specs.Vault.{VaultState}
-use Rattle.nor_plan.specs.SectorSet.{has}
 use Rattle.nor_probe.specs.declared.table.ChipName.{ChipName}
 use Rattle.nor_apply.specs.declared.changes.Changes.{Changes}
 use Rattle.nor_apply.specs.Applying.{touched_in}
@@ -16,39 +15,34 @@ use Rattle.nor_save.specs.Keeping.{IsJournalOf, KeepTells}
 use Rattle.nor_save.specs.Opening.{OpeningTells}
 use Rattle.nor_save.specs.Judging.{IsOpeningRefusal}
 use Rattle.nor_session.specs.Changing.{NamesWork}
-use Rattle.nor_session.specs.Session.{SavesSector, NamesNone, NamesIn, Names}
+use Rattle.nor_session.specs.Session.{SavesSector, NamesIn, Names}
 use Rattle.nor_session.specs.Preparing.{PrepareTells}
-use Rattle.nor_session.specs.Restore.{NamesSaved}
 
 -- a scan waits for nothing
 pub keep_names : (request : Request) (opening : Opening) (code : ℕ) (image : List ℕ) (old new : BusState) (refusal : Refusal)
-    → KeepTells request opening code image old new refusal → NamesNone refusal
+    → KeepTells request opening code image old new refusal → NamesIn (λ sector. ⊥) refusal
 keep_names request opening code image old new (Timeout address) tells = absurd tells
 keep_names request opening code image old new (Mismatch address) tells = absurd tells
 keep_names request opening code image old new _ tells = tt
 
 -- an opening waits at 0
-pub opening_names : (named : Option ChipName) (old new : BusState) (refusal : Refusal) → OpeningTells named old new refusal → NamesNone refusal
-opening_names named old new (Timeout address) tells = tells.0
+pub opening_names : (named : Option ChipName) (old new : BusState) (refusal : Refusal) → OpeningTells named old new refusal → NamesIn (λ sector. ⊥) refusal
+opening_names named old new (Timeout address) tells = inl tells.0
 opening_names named old new (Mismatch address) tells = absurd tells
 opening_names named old new _ tells = tt
 
 -- its judgement needs no bus
-pub judged_names : (refusal : Refusal) → IsOpeningRefusal refusal → NamesNone refusal
+pub judged_names : (refusal : Refusal) → IsOpeningRefusal refusal → NamesIn (λ sector. ⊥) refusal
 judged_names (Timeout address) is = absurd is
 judged_names (Mismatch address) is = absurd is
 judged_names _ is = tt
 
 -- a touched sector is one that the journal saves
 saves_touched : (changes : Changes) (bytes : List ℕ) (sector : ℕ) → IsJournalOf (touched_in changes) bytes → touched_in changes sector ≡ true → SavesSector sector bytes
-saves_touched changes bytes sector journal touched = record {
-  content = journal.content;
-  is = journal.is;
-  same = journal.same;
-  saved = journal.saved sector ∙ touched;
-}
+saves_touched changes bytes sector journal touched =
+    (record { content = journal.content; is = journal.is; same = journal.same }, journal.saved sector ∙ touched)
 
-names_in : (changes : Changes) (bytes : List ℕ) (refusal : Refusal) → IsJournalOf (touched_in changes) bytes → NamesWork changes refusal → NamesIn bytes refusal
+names_in : (changes : Changes) (bytes : List ℕ) (refusal : Refusal) → IsJournalOf (touched_in changes) bytes → NamesWork changes refusal → NamesIn (λ sector. SavesSector sector bytes) refusal
 names_in changes bytes (Timeout address) journal (inl at) = inl at.1
 names_in changes bytes (Timeout address) journal (inr touched) = inr (saves_touched changes bytes (address / 4096) journal touched)
 names_in changes bytes (Mismatch address) journal touched = saves_touched changes bytes (address / 4096) journal touched
@@ -65,22 +59,22 @@ work_names changes vault refusal sealed saves names = record {
 -- ---- a restore
 
 -- what is judged first waits at 0
-pub prepare_names : (journal : Content) (most : ℕ) (old new : BusState) (refusal : Refusal) → PrepareTells journal most old new refusal → NamesSaved journal refusal
+pub prepare_names : (journal : Content) (most : ℕ) (old new : BusState) (refusal : Refusal) → PrepareTells journal most old new refusal → NamesIn (λ sector. is_saved journal sector ≡ true) refusal
 prepare_names journal most old new (Timeout address) tells = inl tells.0
-prepare_names journal most old new (Mismatch address) tells = absurd tells.judged
+prepare_names journal most old new (Mismatch address) tells = absurd (true≢false (sym tells.judged))
 prepare_names journal most old new _ tells = tt
 
 -- only saved sectors are touched
 pub restore_names : (journal : Content) (changes : Changes) (refusal : Refusal) → ((s : ℕ) → touched_in changes s ≡ true → is_saved journal s ≡ true)
-    → NamesWork changes refusal → NamesSaved journal refusal
+    → NamesWork changes refusal → NamesIn (λ sector. is_saved journal sector ≡ true) refusal
 restore_names journal changes (Timeout address) saved (inl at) = inl at.1
 restore_names journal changes (Timeout address) saved (inr touched) = inr (saved (address / 4096) touched)
 restore_names journal changes (Mismatch address) saved touched = saved (address / 4096) touched
 restore_names journal changes _ saved names = tt
 
 -- a saved sector is one of the text that the journal was read from
-pub saved_names : (journal : Content) (bytes : List ℕ) (refusal : Refusal) → IsContent journal → bytes ≡ text journal → NamesSaved journal refusal → NamesIn bytes refusal
+pub saved_names : (journal : Content) (bytes : List ℕ) (refusal : Refusal) → IsContent journal → bytes ≡ text journal → NamesIn (λ sector. is_saved journal sector ≡ true) refusal → NamesIn (λ sector. SavesSector sector bytes) refusal
 saved_names journal bytes (Timeout address) is same (inl at) = inl at
-saved_names journal bytes (Timeout address) is same (inr saved) = inr (record { content = journal; is = is; same = same; saved = saved })
-saved_names journal bytes (Mismatch address) is same saved = record { content = journal; is = is; same = same; saved = saved }
+saved_names journal bytes (Timeout address) is same (inr saved) = inr (record { content = journal; is = is; same = same }, saved)
+saved_names journal bytes (Mismatch address) is same saved = (record { content = journal; is = is; same = same }, saved)
 saved_names journal bytes _ is same names = tt

@@ -16,7 +16,7 @@ use Rattle.nor_save.specs.declared.report.What.TheVariants.{Write, Erase, WpRang
 use Rattle.nor_save.specs.declared.refusal.Refusal.{Refusal}
 use Rattle.nor_save.specs.declared.refusal.Refusal.TheVariants.{NoChip, UnknownChip, OtherName, ImageSize, RegionOutside, NoProtection, UndefinedProtection, RangeNotOffered, StatusLocked, Protected}
 use Rattle.nor_save.specs.Request.{is_touched_by, IsWantedCode}
-use Rattle.nor_save.specs.Saving.{AsksForNone, NeedsCode, NeedsStatus, NoneHeld, SomeHeld, ScanAccepts}
+use Rattle.nor_save.specs.Saving.{AsksForNone, NeedsStatus, NoneHeld, SomeHeld, ScanAccepts}
 use Rattle.nor_session.specs.Verdict.{IsNamed, IsVerdict, MayLift, IsAccepted}
 use Rattle.nor_session.proofs.SessionChanges.{not_locked}
 
@@ -62,7 +62,7 @@ one_least size start len x y first second = elim (cases_lt x y) [
   ]
 ]
 
-needs_same : (what : What) (unlock : Bool) (x y : ℕ) (touched : ℕ → Bool) (chip : Chip) → IsWantedCode what chip x → IsWantedCode what chip y → NeedsCode what unlock x touched chip → NeedsCode what unlock y touched chip
+needs_same : (what : What) (unlock : Bool) (x y : ℕ) (touched : ℕ → Bool) (chip : Chip) → IsWantedCode what chip x → IsWantedCode what chip y → NeedsStatus what unlock x touched chip → NeedsStatus what unlock y touched chip
 needs_same Write unlock x y touched chip first second needs = needs
 needs_same Erase unlock x y touched chip first second needs = needs
 needs_same (WpRange start len) unlock x y touched chip first second needs = subst (λ (code : ℕ). code ≢ code_of chip) (one_least chip.config.size start len x y first second) needs
@@ -75,7 +75,7 @@ held_or_free unlock touched chip locked free held = elim free [
 ]
 
 locked_or_free : (what : What) (unlock : Bool) (code : ℕ) (touched : ℕ → Bool) (chip : Chip) → is_locked chip ≡ true → code ≡ code_of chip → NoneHeld touched chip ⊎ ((unlock ≡ true) × (is_locked chip ≡ false))
-    → NeedsCode what unlock code touched chip → ⊥
+    → NeedsStatus what unlock code touched chip → ⊥
 locked_or_free Write unlock code touched chip locked same free needs = held_or_free unlock touched chip locked free needs.1
 locked_or_free Erase unlock code touched chip locked same free needs = held_or_free unlock touched chip locked free needs.1
 locked_or_free (WpRange start len) unlock code touched chip locked same free needs = needs same
@@ -98,12 +98,12 @@ accepted_only request image chip (Protected address) is verdict = elim is.free [
   | inl none ↦ absurd (true≢false (sym verdict.judges.least.is ∙ none verdict.judges.sector))
   | inr lifts ↦ absurd (true≢false (sym lifts.0 ∙ verdict.judges.shut))
 ]
-accepted_only request image chip _ is verdict = absurd verdict
+accepted_only request image chip _ is verdict = absurd verdict.1
 
 -- ---- what the judgement of the scan accepts
 
 -- a status that is locked has the wanted code
-pub locked_code : (what : What) (unlock : Bool) (code : ℕ) (touched : ℕ → Bool) (chip : Chip) → IsWantedCode what chip code → (is_locked chip ≡ true → ¬ NeedsCode what unlock code touched chip)
+pub locked_code : (what : What) (unlock : Bool) (code : ℕ) (touched : ℕ → Bool) (chip : Chip) → IsWantedCode what chip code → (is_locked chip ≡ true → ¬ NeedsStatus what unlock code touched chip)
     → is_locked chip ≡ true → code ≡ code_of chip
 locked_code Write unlock code touched chip wanted never locked = wanted
 locked_code Erase unlock code touched chip wanted never locked = wanted
@@ -113,7 +113,7 @@ locked_code (WpRange start len) unlock code touched chip wanted never locked = e
 ]
 
 -- where protection is lifted it may be
-pub free_or_lifts : (request : Request) (code : ℕ) (touched : ℕ → Bool) (chip : Chip) (unlock : Bool) → ScanAccepts request code touched chip unlock → (unlock ≡ true → NeedsStatus request code touched chip)
+pub free_or_lifts : (request : Request) (code : ℕ) (touched : ℕ → Bool) (chip : Chip) (unlock : Bool) → ScanAccepts request code touched chip unlock → (unlock ≡ true → NeedsStatus request.what request.unlock code touched chip)
     → NoneHeld touched chip ⊎ MayLift request chip
 free_or_lifts request code touched chip unlock accepts needs = elim (cases_Bool unlock) [
   | inl lifted ↦ inr ((accepts.lifts lifted).0, not_locked chip (λ locked. accepts.not_locked locked (needs lifted)))

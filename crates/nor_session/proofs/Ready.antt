@@ -27,7 +27,7 @@ use Rattle.nor_save.specs.Judging.{Lifts}
 use Rattle.nor_save.specs.Scanning.{AreMarks}
 use Rattle.nor_save.specs.Keeping.{Keeps}
 use Rattle.nor_save.proofs.Rests.{HasLooked, rested_then}
-use Rattle.nor_session.specs.Modelled.{most_of}
+use Rattle.nor_session.specs.Bounds.{most_of}
 use Rattle.nor_session.specs.Changing.{touched_count, most_changed, DoesChange}
 use Rattle.nor_session.specs.Session.{most_status_writes, IsWithinBound}
 use Rattle.nor_session.proofs.Changed.{two_writes}

@@ -18,7 +18,8 @@ use Rattle.nor_save.specs.Request.{scanned_sectors}
 use Rattle.nor_save.specs.Opening.{Opens, OpeningTells}
 use Rattle.nor_save.specs.Saving.{IsOpening, Shows, OpeningAccepts}
 use Rattle.nor_save.specs.Keeping.{KeepPuts, KeepTells}
-use Rattle.nor_session.specs.Modelled.{IsModelled, most_of}
+use Rattle.nor_probe.specs.Known.{IsModelled}
+use Rattle.nor_session.specs.Bounds.{most_of}
 use Rattle.nor_session.specs.Verdict.{IsNamed}
 use Rattle.nor_session.specs.Session.{SessionTells, HonestTells}
 use Rattle.nor_session.proofs.Ready.{scanned_most, scanned_few}
@@ -90,7 +91,7 @@ ran_out_sized request opening old new config ran =
 -- ---- what a refusal of the opening tells, and of the scan
 
 pub opening_gives_up : (named : Option ChipName) (old new : BusState) (refusal : Refusal) → old.honest ≡ true → (number_of refusal ≤ 11 → IsSame old.chip new.chip)
-    → OpeningTells named old new refusal → HonestTells old new refusal
+    → OpeningTells named old new refusal → HonestTells (most_of 4096) (λ refusal. number_of refusal ≤ 11) old new refusal
 opening_gives_up named old new Stopped honest same tells = let ran = tells honest in let below = ran.below in record { none_left = ran.none_left; below = omega arith }
 opening_gives_up named old new (Timeout address) honest same tells = tells.1 honest
 opening_gives_up named old new _ honest same tells = same
@@ -108,7 +109,7 @@ still_same named opening few old mid new honest looks opens more =
     }
 
 pub keep_gives_up : (request : Request) (image : List ℕ) (opening : Opening) (code few : ℕ) (old mid new : BusState) (refusal : Refusal) → old.honest ≡ true → Looks 65542 old mid → Opens request.named old mid opening
-    → Looks few mid new → KeepTells request opening code image mid new refusal → HonestTells old new refusal
+    → Looks few mid new → KeepTells request opening code image mid new refusal → HonestTells (most_of 4096) (λ refusal. number_of refusal ≤ 11) old new refusal
 keep_gives_up request image opening code few old mid new Stopped honest looks opens more tells =
     let ran = tells (looks.honest ∙ honest) in
     let below = ran.below in let count = opens.count honest in let most = opens.most in

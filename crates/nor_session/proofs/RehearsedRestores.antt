@@ -7,15 +7,15 @@ use Rattle.nor_journal.specs.Text.{Content, IsContent, SameHead, text}
 use Rattle.nor_journal.specs.declared.fault.JournalFault.{JournalFault}
 use Rattle.nor_journal.specs.Saved.{Saves, JournalSaves, is_saved}
 use Rattle.nor_journal.proofs.Saves.{Saves-set}
-use Rattle.nor_probe.specs.Known.{IsGenuine}
+use Rattle.nor_probe.specs.Known.{IsGenuine, IsModelled}
 use Rattle.nor_apply.specs.Spending.{Spends}
 use Rattle.nor_save.specs.declared.report.Report.{Report}
 use Rattle.nor_save.specs.declared.refusal.Refusal.{Refusal}
 use Rattle.nor_save.specs.declared.refusal.Refusal.TheVariants.{Stopped, Timeout, BadJournal}
 use Rattle.nor_save.specs.Saving.{head_of}
-use Rattle.nor_session.specs.Modelled.{IsModelled, most_of}
-use Rattle.nor_session.specs.Restore.{CanGiveBack, LeavesRestore, RestoreGivesUp, IsRestoreRefusal, NamesSaved}
-use Rattle.nor_session.specs.Session.{IsWithinBound}
+use Rattle.nor_session.specs.Bounds.{most_of}
+use Rattle.nor_session.specs.Restore.{CanGiveBack, LeavesRestore, IsJudgedFirst, IsRestoreRefusal}
+use Rattle.nor_session.specs.Session.{HonestTells, NamesIn, IsWithinBound}
 use Rattle.nor_session.specs.Rehearsal.{AreRestores, FitsLastStop, IsNoHalt}
 use Rattle.nor_session.specs.Rehearsing.{LeavesRestores, ShowsRestore, ShowsRestores, StopsRestores, Undoes, WearsSaved, RefusesUndo}
 use Rattle.nor_session.proofs.Rescanned.{unraised_other}
@@ -90,27 +90,27 @@ under_ends n journal old mid new report allows bounded counted back =
 
 -- it was stopped
 pub under_stops : (n : ℕ) (journal : Content) (old mid new : BusState) (refusal : Refusal) → Allows n old mid → refusal ≡ Stopped
-    → (mid.honest ≡ true → RestoreGivesUp journal mid new refusal) → ShowsRestore journal n old new false
+    → (mid.honest ≡ true → HonestTells (most_of (length journal.saved)) IsJudgedFirst mid new refusal) → ShowsRestore journal n old new false
 under_stops n journal old mid new refusal allows stopped gives_up =
     record {
       back = λ modelled ended first can. absurd (true≢false (sym ended));
       enough = λ modelled ended. absurd (true≢false (sym ended));
-      none_left = λ honest fails. (subst (RestoreGivesUp journal mid new) stopped (gives_up (allows.honest ∙ honest))).none_left;
+      none_left = λ honest fails. (subst (HonestTells (most_of (length journal.saved)) IsJudgedFirst mid new) stopped (gives_up (allows.honest ∙ honest))).none_left;
       below = λ honest fails.
           let left = allows.left honest in
-          let below = (subst (RestoreGivesUp journal mid new) stopped (gives_up (allows.honest ∙ honest))).below in
+          let below = (subst (HonestTells (most_of (length journal.saved)) IsJudgedFirst mid new) stopped (gives_up (allows.honest ∙ honest))).below in
           omega arith;
     }
 
 -- it gave up, and wasn't stopped
-no_halt : (journal : Content) (old new : BusState) (refusal : Refusal) → (refusal ≡ Stopped → ⊥) → RestoreGivesUp journal old new refusal → IsNoHalt refusal
-no_halt journal old new Stopped never tells = never refl
-no_halt journal old new (Timeout address) never tells = tells
-no_halt journal old new _ never tells = tt
+no_halt : (journal : Content) (old new : BusState) (refusal : Refusal) → (refusal ≡ Stopped → ⊥) → HonestTells (most_of (length journal.saved)) IsJudgedFirst old new refusal → IsNoHalt refusal
+no_halt journal old new Stopped never tells = absurd (never refl)
+no_halt journal old new (Timeout address) never tells = absurd tells
+no_halt journal old new _ never tells = refl
 
 -- it was refused
-pub under_refuses : (n : ℕ) (journal : Content) (old mid new : BusState) (refusal : Refusal) → Allows n old mid → IsRestoreRefusal refusal → NamesSaved journal refusal → (refusal ≡ Stopped → ⊥)
-    → (mid.honest ≡ true → RestoreGivesUp journal mid new refusal) → (IsModelled mid → (first : Chip) → CanGiveBack journal first mid → refusal ≡ Stopped) → StopsRestores journal old refusal
+pub under_refuses : (n : ℕ) (journal : Content) (old mid new : BusState) (refusal : Refusal) → Allows n old mid → IsRestoreRefusal refusal → NamesIn (λ sector. is_saved journal sector ≡ true) refusal → (refusal ≡ Stopped → ⊥)
+    → (mid.honest ≡ true → HonestTells (most_of (length journal.saved)) IsJudgedFirst mid new refusal) → (IsModelled mid → (first : Chip) → CanGiveBack journal first mid → refusal ≡ Stopped) → StopsRestores journal old refusal
 under_refuses n journal old mid new refusal allows answers names never gives_up stops =
     let leaves = allow_leaves n journal old mid allows in
     record {
@@ -194,9 +194,9 @@ refuses_before journal old mid refusal leaves refuses = record {
 -- under no stop no restore is stopped
 pub last_ends : (journal : Content) (now new : BusState) (most : ℕ) → most ≡ most_of 4096 → ShowsRestore journal most now new false → StopsRestores journal now Stopped
 last_ends journal now new most is shows = record {
-  answers = tt;
+  answers = refl;
   names = tt;
-  halts = λ room honest. let below = shows.below honest refl in omega arith;
+  halts = λ room honest. let below = shows.below honest refl in absurd (omega arith);
   never = λ modelled first can.
       let few = saved_few first.bytes (is_saved journal) journal can.saves.sectors in
       let below = shows.below modelled.honest refl in
@@ -245,6 +245,6 @@ pub unread : (bytes : List ℕ) (old : BusState) (fault : JournalFault) → ((co
 unread bytes old fault never = record {
   answers = λ whole. absurd (never whole.content whole.is whole.same);
   names = tt;
-  halts = λ honest. tt;
+  halts = λ honest. refl;
   never = λ modelled saved first leads. never leads.journal.content leads.journal.saves.is leads.journal.is;
 }

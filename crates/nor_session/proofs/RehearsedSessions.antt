@@ -14,13 +14,15 @@ use Rattle.nor_save.specs.declared.report.Report.{Report}
 use Rattle.nor_save.specs.declared.refusal.Refusal.{Refusal}
 use Rattle.nor_save.specs.declared.refusal.Refusal.TheVariants.{NoChip, UnknownChip, OtherName, ImageSize, RegionOutside, NoProtection, UndefinedProtection, RangeNotOffered, StatusLocked, Protected, Vault, Stopped, Timeout, Mismatch, BadJournal, OtherChip, StatusDiffers, Memory, Output, OtherUnit}
 use Rattle.nor_save.specs.Refusal.{number_of}
-use Rattle.nor_save.specs.Request.{scanned_sectors, is_touched_by, is_raised_by}
+use Rattle.nor_save.specs.Request.{wanted, scanned_sectors, is_touched_by, is_raised_by}
 use Rattle.nor_save.specs.Keeping.{IsJournal, HoldsJournal}
-use Rattle.nor_session.specs.Modelled.{IsModelled, most_of, AreFewestErases}
+use Rattle.nor_probe.specs.Known.{IsModelled}
+use Rattle.nor_session.specs.Bounds.{most_looked, most_of}
+use Rattle.nor_session.specs.Made.{AreFewestErases}
 use Rattle.nor_session.specs.Verdict.{IsAccepted}
-use Rattle.nor_session.specs.Session.{wanted_of, HasWantedBits, SessionTells, StopsEarly, CanBeUndone, HonestTells, Answers, Ends, IsDone, Names, NamesIn}
+use Rattle.nor_session.specs.Session.{SessionTells, CanBeUndone, HonestTells, Answers, Ends, IsDone, Names, SavesSector, NamesIn}
 use Rattle.nor_session.specs.Rehearsal.{KeepsNature, IsRehearsalRefusal, IsNoHalt, RehearsalTells, first_allowance, least_needed, AreRestores, FitsLastStop}
-use Rattle.nor_session.specs.Rehearsing.{LeadsBack, LeavesSession, ShowsSession, RefusesSession, Undoes, WearsSaved, RefusesUndo}
+use Rattle.nor_session.specs.Rehearsing.{HasWantedBits, LeadsBack, LeavesSession, ShowsSession, RefusesSession, Undoes, WearsSaved, RefusesUndo}
 use Rattle.nor_session.proofs.RestoredBytes.{untouched_unraised}
 use Rattle.nor_session.proofs.GivesBack.{leads_back}
 use Rattle.nor_session.proofs.RehearsedRestores.{modelled_at}
@@ -44,8 +46,8 @@ and_weaker false x y less none = refl
 -- a sector that isn't touched isn't raised
 untouched_unraised_by : (request : Request) (image : List ℕ) (chip : Chip) (s : ℕ) → is_touched_by request image chip s ≡ false → is_raised_by request image chip s ≡ false
 untouched_unraised_by request image chip s =
-    and_weaker (nat_lt s (chip.config.size / 4096)) (is_touched chip.bytes (wanted_of request image chip) s) (is_raised chip.bytes (wanted_of request image chip) s)
-    (untouched_unraised chip.bytes (wanted_of request image chip) s)
+    and_weaker (nat_lt s (chip.config.size / 4096)) (is_touched chip.bytes (wanted request image chip) s) (is_raised chip.bytes (wanted request image chip) s)
+    (untouched_unraised chip.bytes (wanted request image chip) s)
 
 -- what a session leaves that is allowed so many transactions
 pub session_leaves : (n most few : ℕ) (request : Request) (image : List ℕ) (old mid new : BusState) (vault : VaultState) → Allows n old mid → vault.telling ≡ true
@@ -75,14 +77,17 @@ took : (n : ℕ) (request : Request) (image : List ℕ) (mid new : BusState) (va
     → mid.left ≡ new.left + report.transactions → IsDone request image mid new report → least_needed request image mid.chip report.erases ≤ n
 took n request image mid new vault report left ends sent done =
     let least = ends.bounded.least in
-    let scanned : scanned_sectors request report.found.size ≡ scanned_sectors request mid.chip.config.size = ap (scanned_sectors request) done.found.size in
-    let programs = done.programs in
+    let scanned : scanned_sectors request report.found.size ≡ scanned_sectors request mid.chip.config.size = ap (scanned_sectors request) done.made.found.size in
+    let programs = done.made.programs in
     omega arith
 
 -- with a sealed vault it went past the scan
 seals_enough : (n : ℕ) (request : Request) (image : List ℕ) (mid new : BusState) (vault : VaultState) → mid.left ≡ n → CanBeUndone request image mid new vault
     → 4 + scanned_sectors request mid.chip.config.size ≤ n
 seals_enough n request image mid new vault left undone = let spent = undone.spent in omega arith
+
+wanted_bits : (request : Request) (image : List ℕ) (mid new : BusState) (report : Report) → IsDone request image mid new report → HasWantedBits request.what mid.chip new.chip
+wanted_bits request image mid new report done = record { fixed = done.made.fixed; code = done.code; is_wanted = done.is_wanted; has_code = done.has_code }
 
 -- it ended
 pub session_ends : (n : ℕ) (request : Request) (image : List ℕ) (old mid new : BusState) (vault : VaultState) (report : Report) → Allows n old mid → Ends request vault report
@@ -95,12 +100,12 @@ session_ends n request image old mid new vault report allows ends sent done undo
       record {
         accepted = subst (IsAccepted request image) allows.chip (undo mid_modelled ends.sealed).accepted;
         erases = report.erases;
-        fewest = subst (λ (chip : Chip). AreFewestErases chip.config (is_raised_by request image chip) report.erases) allows.chip (done mid_modelled).erases;
+        fewest = subst (λ (chip : Chip). AreFewestErases chip.config (is_raised_by request image chip) report.erases) allows.chip (done mid_modelled).made.erases;
         enough = subst (λ (chip : Chip). least_needed request image chip report.erases ≤ n) allows.chip
             (took n request image mid new vault report (allows.left modelled.honest) ends (sent mid_modelled.honest) (done mid_modelled));
       };
-  bytes = λ modelled ended. subst (λ (chip : Chip). (a : ℕ) → new.chip.bytes a ≡ wanted_of request image chip a) allows.chip (done (allow_modelled n old mid allows modelled)).bytes;
-  bits = λ modelled ended. subst (λ (chip : Chip). HasWantedBits request.what chip new.chip) allows.chip (done (allow_modelled n old mid allows modelled)).bits;
+  bytes = λ modelled ended. subst (λ (chip : Chip). (a : ℕ) → new.chip.bytes a ≡ wanted request image chip a) allows.chip (done (allow_modelled n old mid allows modelled)).made.bytes;
+  bits = λ modelled ended. subst (λ (chip : Chip). HasWantedBits request.what chip new.chip) allows.chip (wanted_bits request image mid new report (done (allow_modelled n old mid allows modelled)));
   none_left = λ honest never. absurd (true≢false never);
   below = λ modelled never. absurd (true≢false never);
   seal = λ modelled. record {
@@ -113,14 +118,14 @@ session_ends n request image old mid new vault report allows ends sent done undo
 
 -- it was stopped
 pub session_stops : (n : ℕ) (request : Request) (image : List ℕ) (old mid new : BusState) (before after : VaultState) (refusal : Refusal) → Allows n old mid → refusal ≡ Stopped
-    → (mid.honest ≡ true → HonestTells mid new refusal) → (IsModelled mid → SessionTells request image mid new before after refusal) → (IsModelled mid → after.sealed ≡ false → StopsEarly request mid refusal)
+    → (mid.honest ≡ true → HonestTells (most_of 4096) (λ refusal. number_of refusal ≤ 11) mid new refusal) → (IsModelled mid → SessionTells request image mid new before after refusal) → (IsModelled mid → after.sealed ≡ false → refusal ≡ Stopped → mid.left < most_looked (scanned_sectors request mid.chip.config.size))
     → (IsModelled mid → after.sealed ≡ true → CanBeUndone request image mid new after) → ShowsSession request image n old new after false
 session_stops n request image old mid new before after refusal allows stopped gives_up tells early undo = record {
   seals = λ ended. absurd (true≢false (sym ended));
   can = λ modelled ended. absurd (true≢false (sym ended));
   bytes = λ modelled ended. absurd (true≢false (sym ended));
   bits = λ modelled ended. absurd (true≢false (sym ended));
-  none_left = λ honest fails. (subst (HonestTells mid new) stopped (gives_up (allows.honest ∙ honest))).none_left;
+  none_left = λ honest fails. (subst (HonestTells (most_of 4096) (λ refusal. number_of refusal ≤ 11) mid new) stopped (gives_up (allows.honest ∙ honest))).none_left;
   below = λ modelled fails.
       let left = allows.left modelled.honest in
       let ran = subst (SessionTells request image mid new before after) stopped (tells (allow_modelled n old mid allows modelled)) in
@@ -135,7 +140,7 @@ session_stops n request image old mid new before after refusal allows stopped gi
             subst (λ (chip : Chip). 4 + scanned_sectors request chip.config.size ≤ n) allows.chip
             (seals_enough n request image mid new after left (undo mid_modelled sealed));
         below = λ unsealed.
-            let few = subst (StopsEarly request mid) stopped (early mid_modelled unsealed) in
+            let few = early mid_modelled unsealed stopped in
             subst (λ (chip : Chip). n < 65542 + scanned_sectors request chip.config.size) allows.chip
             (subst (λ (k : ℕ). k < 65542 + scanned_sectors request mid.chip.config.size) left few);
       };
@@ -143,18 +148,18 @@ session_stops n request image old mid new before after refusal allows stopped gi
 
 -- with so many transactions as any call needs it isn't stopped
 never_stops : (n : ℕ) (old mid new : BusState) (refusal : Refusal) → Allows n old mid → (refusal ≡ Stopped → n ≡ most_of 4096)
-    → (mid.honest ≡ true → HonestTells mid new refusal) → old.honest ≡ true → refusal ≡ Stopped → ⊥
+    → (mid.honest ≡ true → HonestTells (most_of 4096) (λ refusal. number_of refusal ≤ 11) mid new refusal) → old.honest ≡ true → refusal ≡ Stopped → ⊥
 never_stops n old mid new refusal allows all gives_up honest stopped =
     let left = allows.left honest in
     let most = all stopped in
-    let below = (subst (HonestTells mid new) stopped (gives_up (allows.honest ∙ honest))).below in
+    let below = (subst (HonestTells (most_of 4096) (λ refusal. number_of refusal ≤ 11) mid new) stopped (gives_up (allows.honest ∙ honest))).below in
     omega arith
 
 -- it gave up, and wasn't stopped
-no_halt : (old new : BusState) (refusal : Refusal) → (refusal ≡ Stopped → ⊥) → HonestTells old new refusal → IsNoHalt refusal
-no_halt old new Stopped never tells = never refl
-no_halt old new (Timeout address) never tells = tells
-no_halt old new _ never tells = tt
+no_halt : (old new : BusState) (refusal : Refusal) → (refusal ≡ Stopped → ⊥) → HonestTells (most_of 4096) (λ refusal. number_of refusal ≤ 11) old new refusal → IsNoHalt refusal
+no_halt old new Stopped never tells = absurd (never refl)
+no_halt old new (Timeout address) never tells = absurd tells
+no_halt old new _ never tells = refl
 
 -- an answer of the session that isn't a stop is that of the rehearsal
 told : (request : Request) (image : List ℕ) (old new : BusState) (before after : VaultState) (refusal : Refusal) → (refusal ≡ Stopped → ⊥)
@@ -182,7 +187,7 @@ told request image old new before after OtherUnit never tells = tells
 
 -- and one of those that leave the chip as it was, and the vault unsealed
 early : (request : Request) (image : List ℕ) (old new : BusState) (before after : VaultState) (refusal : Refusal) → RehearsalTells request image old.chip before after refusal
-    → (number_of refusal ≤ 11) × (HonestTells old new refusal → IsSame old.chip new.chip)
+    → (number_of refusal ≤ 11) × (HonestTells (most_of 4096) (λ refusal. number_of refusal ≤ 11) old new refusal → IsSame old.chip new.chip)
 early request image old new before after NoChip tells = (omega arith, λ same. same (omega arith))
 early request image old new before after (UnknownChip fault) tells = (omega arith, λ same. same (omega arith))
 early request image old new before after OtherName tells = (omega arith, λ same. same (omega arith))
@@ -194,19 +199,19 @@ early request image old new before after RangeNotOffered tells = (omega arith, �
 early request image old new before after StatusLocked tells = (omega arith, λ same. same (omega arith))
 early request image old new before after (Protected address) tells = (omega arith, λ same. same (omega arith))
 early request image old new before after Vault tells = (omega arith, λ same. same (omega arith))
-early request image old new before after Stopped tells = absurd tells
-early request image old new before after (Timeout address) tells = absurd tells
-early request image old new before after (Mismatch address) tells = absurd tells
-early request image old new before after (BadJournal fault) tells = absurd tells
-early request image old new before after OtherChip tells = absurd tells
-early request image old new before after StatusDiffers tells = absurd tells
-early request image old new before after Memory tells = absurd tells
-early request image old new before after (Output written) tells = absurd tells
-early request image old new before after OtherUnit tells = absurd tells
+early request image old new before after Stopped tells = absurd tells.1
+early request image old new before after (Timeout address) tells = absurd tells.1
+early request image old new before after (Mismatch address) tells = absurd tells.1
+early request image old new before after (BadJournal fault) tells = absurd tells.1
+early request image old new before after OtherChip tells = absurd tells.1
+early request image old new before after StatusDiffers tells = absurd tells.1
+early request image old new before after Memory tells = absurd tells.1
+early request image old new before after (Output written) tells = absurd tells.1
+early request image old new before after OtherUnit tells = absurd tells.1
 
 -- it was refused, and not by a stop, unless as many transactions were allowed as any call needs
 pub session_refuses : (n few : ℕ) (request : Request) (image : List ℕ) (old mid new : BusState) (before after : VaultState) (refusal : Refusal) → Allows n old mid → Answers before after refusal → Names after refusal
-    → (after.sealed ≡ false → Looks few mid new) → (mid.honest ≡ true → HonestTells mid new refusal)
+    → (after.sealed ≡ false → Looks few mid new) → (mid.honest ≡ true → HonestTells (most_of 4096) (λ refusal. number_of refusal ≤ 11) mid new refusal)
     → (IsModelled mid → SessionTells request image mid new before after refusal) → (refusal ≡ Stopped → n ≡ most_of 4096) → RefusesSession request image old new before after refusal
 session_refuses n few request image old mid new before after refusal allows answers names looks gives_up tells all =
     let tells' : IsModelled old → RehearsalTells request image mid.chip before after refusal
@@ -259,7 +264,7 @@ refused_undo bytes vault vault' mid refusal is telling sealed holds refuses =
 pub undo_names : (bytes : List ℕ) (vault : VaultState) (mid : BusState) (refusal : Refusal) → bytes ≡ vault.bytes → vault.sealed ≡ true → RefusesUndo bytes mid refusal → Names vault refusal
 undo_names bytes vault mid refusal is sealed refuses = record {
   early = λ unsealed. absurd (true≢false (sym sealed ∙ unsealed));
-  late = λ again telling. subst (λ (text : List ℕ). NamesIn text refusal) is refuses.names;
+  late = λ again telling. subst (λ (text : List ℕ). NamesIn (λ sector. SavesSector sector text) refusal) is refuses.names;
 }
 
 -- and they give the chip back

@@ -11,7 +11,7 @@ use Rattle.nor_probe.specs.declared.table.Part.{Part}
 use Rattle.nor_probe.specs.declared.probes.ProbeFault.{ProbeFault}
 use Rattle.nor_probe.specs.declared.probes.ProbeFault.TheVariants as Probes
 use Rattle.nor_probe.specs.declared.probes.Found.{Found}
-use Rattle.nor_probe.specs.Known.{shown_as, IsKnown}
+use Rattle.nor_probe.specs.Known.{shown_as, IsKnown, IsModelled}
 use Rattle.nor_probe.specs.Found.{BlamesName, Tells, IsConfigOf}
 use Rattle.nor_save.specs.declared.opening.Opening.{Opening}
 use Rattle.nor_save.specs.declared.refusal.Refusal.{Refusal}
@@ -19,7 +19,6 @@ use Rattle.nor_save.specs.declared.refusal.Refusal.TheVariants.{OtherUnit, Statu
 use Rattle.nor_save.specs.Refusal.{of_probe}
 use Rattle.nor_save.specs.Opening.{Opens}
 use Rattle.nor_save.specs.Saving.{IsOpening, Shows}
-use Rattle.nor_session.specs.Modelled.{IsModelled}
 use Rattle.nor_session.specs.Verdict.{IsNamed}
 use Rattle.nor_session.specs.Restore.{IsOfKind, IsOfOtherUnit, IsRestoreVerdict}
 use Rattle.nor_session.specs.Preparing.{IsOfKindFound, IsUnitRefusal, PrepareTells}
@@ -82,12 +81,12 @@ shows_old opening old new honest looks opens = record {
 -- the probe's
 pub probe_tells : (journal : Content) (old new : BusState) (fault : ProbeFault) → BlamesName None fault → (old.honest ≡ true → Tells None old new fault) → PrepareTells journal 65542 old new (of_probe fault)
 probe_tells journal old new Probes.NoChip blames tells = record {
-  judged = tt;
+  judged = refl;
   same = λ honest. (tells honest).1.rested.unchanged.same;
   verdict = λ modelled. (tells modelled.honest).0;
 }
 probe_tells journal old new (Probes.UnknownChip fault) blames tells = record {
-  judged = tt;
+  judged = refl;
   same = λ honest. (tells honest).1.rested.unchanged.same;
   verdict = λ modelled. (tells modelled.honest).0;
 }
@@ -98,8 +97,8 @@ probe_tells journal old new Probes.Timeout blames tells = (refl, λ honest. tell
 -- those of the unit
 pub unit_tells : (journal : Content) (most : ℕ) (old new : BusState) (refusal : Refusal) → IsUnitRefusal refusal → (old.honest ≡ true → IsSame old.chip new.chip)
     → (IsModelled old → IsRestoreVerdict journal old.chip refusal) → PrepareTells journal most old new refusal
-unit_tells journal most old new OtherUnit is same verdict = record { judged = tt; same = same; verdict = verdict }
-unit_tells journal most old new StatusDiffers is same verdict = record { judged = tt; same = same; verdict = verdict }
+unit_tells journal most old new OtherUnit is same verdict = record { judged = refl; same = same; verdict = verdict }
+unit_tells journal most old new StatusDiffers is same verdict = record { judged = refl; same = same; verdict = verdict }
 unit_tells journal most old new _ is same verdict = absurd is
 
 -- ---- ID and size

@@ -1,5 +1,5 @@
 -- How what a restore prepares and what it changes come together.
-use Rattle.std.proofs.Common.{◌≡◌, ◌<◌, ◌≤◌, ◌^◌, ◌+◌, ◌/◌, ◌∙◌, ◌||◌, ℕ, Bool, true, false, length, ap, subst, refl, arith}
+use Rattle.std.proofs.Common.{◌≡◌, ◌<◌, ◌≤◌, ◌^◌, ◌+◌, ◌/◌, ◌∙◌, ◌||◌, ℕ, Bool, true, false, length, ap, sym, subst, refl, arith, true≢false}
 use Rattle.std.proofs.lemmas.Bool.{both_ways}
 use mathlib.Core.Path.{fun_ext}
 use Rattle.nor_chip.specs.Chip.{Chip, IsSame}
@@ -23,10 +23,12 @@ use Rattle.nor_save.specs.declared.report.Report.{Report}
 use Rattle.nor_save.specs.declared.refusal.Refusal.{Refusal}
 use Rattle.nor_save.specs.declared.refusal.Refusal.TheVariants.{Stopped, Timeout, Mismatch}
 use Rattle.nor_session.specs.declared.preparing.Prepared.{Prepared}
-use Rattle.nor_session.specs.Modelled.{IsModelled, kinds_of, most_of}
-use Rattle.nor_session.specs.Session.{IsWithinBound}
+use Rattle.nor_probe.specs.Known.{IsModelled}
+use Rattle.nor_session.specs.Made.{kinds_of}
+use Rattle.nor_session.specs.Bounds.{most_of}
+use Rattle.nor_session.specs.Session.{HonestTells, IsWithinBound}
 use Rattle.nor_session.specs.Changing.{most_changed, LeavesChange, DoesChange, ChangeTells}
-use Rattle.nor_session.specs.Restore.{is_touched_from, is_raised_from, NeedsStatusFrom, IsJudgedFirst, IsRestoreRefusal, RestoreGivesUp, RestoreTells, LeavesRestore, IsRestored, open_places, CanGiveBack}
+use Rattle.nor_session.specs.Restore.{is_touched_from, is_raised_from, NeedsStatusFrom, IsJudgedFirst, IsRestoreRefusal, RestoreTells, LeavesRestore, IsRestored, open_places, CanGiveBack}
 use Rattle.nor_session.specs.Preparing.{PrepareTells, IsPrepared}
 use Rattle.nor_session.proofs.Changed.{two_writes, no_write, fewest_at}
 use Rattle.nor_session.proofs.RestoredBytes.{touched_saved, written_restored, pages_same}
@@ -57,13 +59,13 @@ looks_spend few most old new fits looks = record {
 }
 
 pub prepare_answers : (journal : Content) (most : ℕ) (old new : BusState) (refusal : Refusal) → PrepareTells journal most old new refusal → IsRestoreRefusal refusal
-prepare_answers journal most old new Stopped tells = tt
-prepare_answers journal most old new (Timeout address) tells = tt
-prepare_answers journal most old new (Mismatch address) tells = tt
+prepare_answers journal most old new Stopped tells = refl
+prepare_answers journal most old new (Timeout address) tells = refl
+prepare_answers journal most old new (Mismatch address) tells = refl
 prepare_answers journal most old new _ tells = tells.judged
 
 pub prepare_gives_up : (journal : Content) (most : ℕ) (old new : BusState) (refusal : Refusal) → most ≤ most_of (length journal.saved) → old.honest ≡ true → PrepareTells journal most old new refusal
-    → RestoreGivesUp journal old new refusal
+    → HonestTells (most_of (length journal.saved)) IsJudgedFirst old new refusal
 prepare_gives_up journal most old new Stopped fits honest tells = let out = tells honest in let below = out.below in record { none_left = out.none_left; below = omega arith }
 prepare_gives_up journal most old new (Timeout address) fits honest tells = tells.1 honest
 prepare_gives_up journal most old new _ fits honest tells = λ first. tells.same honest
@@ -153,26 +155,26 @@ changed_back journal first prepared old mid new are modelled can =
 -- ---- they weren't finished
 
 pub change_answers : (changes : Changes) (wanted : ℕ → ℕ) (old new : BusState) (refusal : Refusal) → ChangeTells changes wanted old new refusal → IsRestoreRefusal refusal
-change_answers changes wanted old new Stopped tells = tt
-change_answers changes wanted old new (Timeout address) tells = tt
-change_answers changes wanted old new (Mismatch address) tells = tt
+change_answers changes wanted old new Stopped tells = refl
+change_answers changes wanted old new (Timeout address) tells = refl
+change_answers changes wanted old new (Mismatch address) tells = refl
 change_answers changes wanted old new _ tells = absurd tells
 
 pub change_not_judged : (changes : Changes) (wanted : ℕ → ℕ) (old new : BusState) (refusal : Refusal) → ChangeTells changes wanted old new refusal → ¬ IsJudgedFirst refusal
-change_not_judged changes wanted old new Stopped tells judged = judged
-change_not_judged changes wanted old new (Timeout address) tells judged = judged
-change_not_judged changes wanted old new (Mismatch address) tells judged = judged
+change_not_judged changes wanted old new Stopped tells judged = true≢false (sym judged)
+change_not_judged changes wanted old new (Timeout address) tells judged = true≢false (sym judged)
+change_not_judged changes wanted old new (Mismatch address) tells judged = true≢false (sym judged)
 change_not_judged changes wanted old new _ tells judged = tells
 
 pub change_gives_up : (journal : Content) (prepared : Prepared) (old mid new : BusState) (refusal : Refusal) → AreChanged journal prepared old mid new → old.honest ≡ true
-    → ChangeTells prepared.changes (saved_byte journal) mid new refusal → RestoreGivesUp journal old new refusal
+    → ChangeTells prepared.changes (saved_byte journal) mid new refusal → HonestTells (most_of (length journal.saved)) IsJudgedFirst old new refusal
 change_gives_up journal prepared old mid new Stopped are honest tells =
     let out = tells (are.looks.honest ∙ honest) in let below = out.below in
     let bound = (are.looks.looked honest).falls.bound in
     let fits = few_changed journal prepared old mid are.is in
     record { none_left = out.none_left; below = omega arith }
 change_gives_up journal prepared old mid new (Timeout address) are honest tells = tells (are.looks.honest ∙ honest)
-change_gives_up journal prepared old mid new (Mismatch address) are honest tells = λ first. absurd first
+change_gives_up journal prepared old mid new (Mismatch address) are honest tells = λ first. absurd (true≢false (sym first))
 change_gives_up journal prepared old mid new _ are honest tells = absurd tells
 
 pub change_tells : (journal : Content) (prepared : Prepared) (old mid new : BusState) (refusal : Refusal) → AreChanged journal prepared old mid new → IsModelled old
@@ -253,30 +255,32 @@ restored_done journal prepared old mid new work sent are does modelled =
     let bytes : mid.chip.bytes ≡ old.chip.bytes = fun_ext same.same.bytes in
     record {
       accepted = for.accepted;
-      config = applied.config ∙ same.same.config;
-      bytes = λ a. written_restored journal old.chip.bytes mid.chip.bytes new.chip.bytes (touched_in changes) a for.touched (same.same.bytes a) (applied.bytes a);
-      fixed = fixed_then old.chip mid.chip new.chip (kept_fixed old.chip mid.chip (same.same.kept1, same.same.kept2)) applied.fixed;
+      made = record {
+        config = applied.config ∙ same.same.config;
+        bytes = λ a. written_restored journal old.chip.bytes mid.chip.bytes new.chip.bytes (touched_in changes) a for.touched (same.same.bytes a) (applied.bytes a);
+        fixed = fixed_then old.chip mid.chip new.chip (kept_fixed old.chip mid.chip (same.same.kept1, same.same.kept2)) applied.fixed;
+        idle = applied.idle;
+        latch = λ set. (are.is.rested modelled.honest).latch (applied.latch set);
+        worn = λ s. applied.worn s ∙ ap (λ (b : Bool). b || raised_in changes s) (same.worn s) ∙ ap (λ (b : Bool). old.worn s || b) (for.raised s);
+        found = for.found;
+        shown = for.shown;
+        status1 = for.status1;
+        told = for.told;
+        sectors = are.is.count ∙ ap sector_count touched;
+        erases = fewest_at old.chip.config (is_raised_from journal old.chip) work.erases
+            (λ s is. let inside = are.is.inside s (are.is.raised s (for.raised s ∙ is)) in let size = for.size in omega arith)
+            (does.erases
+            ∙ ap (λ (k : Kinds). fewest_erases k (changes.size / 4096) (raised_in changes)) for.kinds
+            ∙ ap (λ (n : ℕ). fewest_erases (kinds_of old.chip.config) (n / 4096) (raised_in changes)) for.size
+            ∙ ap (λ (set : ℕ → Bool). fewest_erases (kinds_of old.chip.config) (old.chip.config.size / 4096) set) raised);
+        programs =
+            does.programs honest for.can
+            ∙ ap (λ (set : ℕ → Bool). count_below 65536 (is_programmed set (once_erased (raised_in changes) mid.chip.bytes) (saved_byte journal))) touched
+            ∙ ap (λ (set : ℕ → Bool). count_below 65536 (is_programmed (is_touched_from journal old.chip) (once_erased set mid.chip.bytes) (saved_byte journal))) raised
+            ∙ ap (λ (content : ℕ → ℕ). count_below 65536 (is_programmed (is_touched_from journal old.chip) (once_erased (is_raised_from journal old.chip) content) (saved_byte journal))) bytes
+            ∙ pages_same journal old.chip.bytes (once_erased (is_raised_from journal old.chip) old.chip.bytes) (is_touched_from journal old.chip) (touched_saved journal old.chip.bytes);
+      };
       code = subst (λ (n : ℕ). HasCode n new.chip) for.code applied.has_code;
-      idle = applied.idle;
-      latch = λ set. (are.is.rested modelled.honest).latch (applied.latch set);
-      worn = λ s. applied.worn s ∙ ap (λ (b : Bool). b || raised_in changes s) (same.worn s) ∙ ap (λ (b : Bool). old.worn s || b) (for.raised s);
-      found = for.found;
-      shown = for.shown;
-      status1 = for.status1;
-      told = for.told;
-      touched = are.is.count ∙ ap sector_count touched;
-      erases = fewest_at old.chip.config (is_raised_from journal old.chip) work.erases
-          (λ s is. let inside = are.is.inside s (are.is.raised s (for.raised s ∙ is)) in let size = for.size in omega arith)
-          (does.erases
-          ∙ ap (λ (k : Kinds). fewest_erases k (changes.size / 4096) (raised_in changes)) for.kinds
-          ∙ ap (λ (n : ℕ). fewest_erases (kinds_of old.chip.config) (n / 4096) (raised_in changes)) for.size
-          ∙ ap (λ (set : ℕ → Bool). fewest_erases (kinds_of old.chip.config) (old.chip.config.size / 4096) set) raised);
-      programs =
-          does.programs honest for.can
-          ∙ ap (λ (set : ℕ → Bool). count_below 65536 (is_programmed set (once_erased (raised_in changes) mid.chip.bytes) (saved_byte journal))) touched
-          ∙ ap (λ (set : ℕ → Bool). count_below 65536 (is_programmed (is_touched_from journal old.chip) (once_erased set mid.chip.bytes) (saved_byte journal))) raised
-          ∙ ap (λ (content : ℕ → ℕ). count_below 65536 (is_programmed (is_touched_from journal old.chip) (once_erased (is_raised_from journal old.chip) content) (saved_byte journal))) bytes
-          ∙ pages_same journal old.chip.bytes (once_erased (is_raised_from journal old.chip) old.chip.bytes) (is_touched_from journal old.chip) (touched_saved journal old.chip.bytes);
       still = λ none never.
           let writes = no_write changes (λ needed. never (for.needed needed)) in
           let count = are.is.count in
@@ -286,4 +290,4 @@ restored_done journal prepared old mid new work sent are does modelled =
 -- and it is the first chip again
 pub restored_back : (journal : Content) (first : Chip) (old new : BusState) (report : Report) → CanGiveBack journal first old → IsRestored journal old new report → IsSame first new.chip
 restored_back journal first old new report can done =
-    given_back journal first old.chip new.chip can.saves can.within.config can.within.fixed can.within.bytes done.config done.bytes done.fixed done.code
+    given_back journal first old.chip new.chip can.saves can.within.config can.within.fixed can.within.bytes done.made.config done.made.bytes done.made.fixed done.code

@@ -29,7 +29,9 @@ use Rattle.nor_save.specs.declared.refusal.Refusal.{Refusal}
 use Rattle.nor_save.specs.declared.refusal.Refusal.TheVariants.{Stopped, Timeout, Mismatch}
 use Rattle.nor_save.specs.Request.{is_data, wanted, is_touched_by, is_raised_by}
 use Rattle.nor_save.specs.Opening.{status_read}
-use Rattle.nor_save.specs.Saving.{IsOpening, OpeningAccepts, ScanAccepts, SomeHeld, NeedsCode, NeedsStatus, is_held}
+use Rattle.nor_save.specs.Refusal.{number_of}
+use Rattle.nor_session.specs.Bounds.{most_of}
+use Rattle.nor_save.specs.Saving.{IsOpening, OpeningAccepts, ScanAccepts, SomeHeld, NeedsStatus, is_held}
 use Rattle.nor_session.specs.Changing.{ChangeTells}
 use Rattle.nor_session.specs.Session.{HonestTells, SessionTells}
 use Rattle.nor_session.proofs.Ready.{Ready, changes_of, code_opened, lifts_none, ran_out_ready, scanned_few}
@@ -47,7 +49,7 @@ pub record ReadyChip (request : Request) (image image' : List ℕ) (opening : Op
   pub touched : (s : ℕ) → has kept.scanned.touched s ≡ is_touched_by request image old.chip s
   pub raised : (s : ℕ) → has kept.scanned.raised s ≡ is_raised_by request image old.chip s
   pub scan : ScanAccepts request code (is_touched_by request image old.chip) old.chip kept.unlock
-  pub merged : (a : ℕ) → has kept.scanned.touched (a / 4096) ≡ true → slice_index image' a ≡ wanted request image old.chip.config.size old.chip.bytes a
+  pub merged : (a : ℕ) → has kept.scanned.touched (a / 4096) ≡ true → slice_index image' a ≡ wanted request image old.chip a
   pub bytes : (a : ℕ) → slice_index image' a < 256
   pub kept2 : old.chip.kept2 < 128
 
@@ -85,12 +87,12 @@ differs false now code off writes = λ same.
     absurd (true≢false (sym writes ∙ ap not (subst (λ (m : ℕ). (now == m) ≡ true) same (itself now))))
 
 needs_lift : (what : What) (unlock lifted : Bool) (code : ℕ) (touched : ℕ → Bool) (chip : Chip) → is_data what ≡ true → lifted ≡ true → (lifted ≡ true → (unlock ≡ true) × SomeHeld touched chip)
-    → NeedsCode what unlock code touched chip
+    → NeedsStatus what unlock code touched chip
 needs_lift (WpRange start len) unlock lifted code touched chip about_bytes on lifts = absurd (true≢false (sym about_bytes))
 needs_lift Write unlock lifted code touched chip about_bytes on lifts = lifts on
 needs_lift Erase unlock lifted code touched chip about_bytes on lifts = lifts on
 
-needs_code : (what : What) (unlock : Bool) (code : ℕ) (touched : ℕ → Bool) (chip : Chip) → is_data what ≡ false → code ≢ code_of chip → NeedsCode what unlock code touched chip
+needs_code : (what : What) (unlock : Bool) (code : ℕ) (touched : ℕ → Bool) (chip : Chip) → is_data what ≡ false → code ≢ code_of chip → NeedsStatus what unlock code touched chip
 needs_code (WpRange start len) unlock code touched chip other differ = differ
 needs_code Write unlock code touched chip other differ = absurd (true≢false other)
 needs_code Erase unlock code touched chip other differ = absurd (true≢false other)
@@ -98,7 +100,7 @@ needs_code Erase unlock code touched chip other differ = absurd (true≢false ot
 -- why it is written
 pub needs : (request : Request) (image image' : List ℕ) (opening : Opening) (status : Status) (code : ℕ) (kept : Kept) (old mid : BusState) → Ready request opening status code kept old mid
     → ReadyChip request image image' opening code kept old mid → (kept.unlock || writes_code (changes_of opening kept status code)) ≡ true
-    → NeedsStatus request code (is_touched_by request image old.chip) old.chip
+    → NeedsStatus request.what request.unlock code (is_touched_by request image old.chip) old.chip
 needs request image image' opening status code kept old mid is of writes = elim (cases_Bool (is_data request.what)) [
   | inl about_bytes ↦ elim (cases_Bool kept.unlock) [
     | inl lifted ↦ needs_lift request.what request.unlock kept.unlock code (is_touched_by request image old.chip) old.chip about_bytes lifted of.scan.lifts
@@ -126,7 +128,7 @@ scheme_held : (touched : ℕ → Bool) (chip : Chip) → SomeHeld touched chip �
 scheme_held touched chip held =
     has_scheme chip (4096 * held.sector) (4096 * held.sector + 4096 - 1) (and_parts (touched held.sector) (is_unit_guarded chip (4096 * held.sector) 4096) held.held).1
 
-scheme_needed : (what : What) (unlock : Bool) (code : ℕ) (touched : ℕ → Bool) (chip : Chip) → (is_data what ≡ false → chip.config.scheme ≡ true) → NeedsCode what unlock code touched chip → chip.config.scheme ≡ true
+scheme_needed : (what : What) (unlock : Bool) (code : ℕ) (touched : ℕ → Bool) (chip : Chip) → (is_data what ≡ false → chip.config.scheme ≡ true) → NeedsStatus what unlock code touched chip → chip.config.scheme ≡ true
 scheme_needed (WpRange start len) unlock code touched chip scheme need = scheme refl
 scheme_needed Write unlock code touched chip scheme need = scheme_held touched chip need.1
 scheme_needed Erase unlock code touched chip scheme need = scheme_held touched chip need.1
@@ -176,9 +178,9 @@ place_low old aim a flat =
     sym (ap (λ (b : ℕ). must_rise (old b) (aim b)) whole) ∙ place
 
 pub falls_of : (request : Request) (image : List ℕ) (chip : Chip) (a : ℕ) → is_touched_by request image chip (a / 4096) ≡ true → is_raised_by request image chip (a / 4096) ≡ false
-    → bit_and (wanted request image chip.config.size chip.bytes a) (chip.bytes a) ≡ wanted request image chip.config.size chip.bytes a
+    → bit_and (wanted request image chip a) (chip.bytes a) ≡ wanted request image chip a
 falls_of request image chip a touched low =
-    let aim = wanted request image chip.config.size chip.bytes in
+    let aim = wanted request image chip in
     let below = (and_parts (nat_lt (a / 4096) (chip.config.size / 4096)) (is_touched chip.bytes aim (a / 4096)) touched).0 in
     let flat : is_raised chip.bytes aim (a / 4096) ≡ false = sym (ap (λ (b : Bool). b && is_raised chip.bytes aim (a / 4096)) below) ∙ low in
     stays_low (chip.bytes a) (aim a) (place_low chip.bytes aim a flat)
@@ -209,13 +211,13 @@ can_apply request image image' opening status code kept old mid is of =
       falls = λ a touched low.
           let merged = of.merged a touched in
           let fall = falls_of request image old.chip a (sym (of.touched (a / 4096)) ∙ touched) (sym (of.raised (a / 4096)) ∙ low) in
-          ap (λ (b : ℕ). bit_and b (mid.chip.bytes a)) merged ∙ ap (λ (b : ℕ). bit_and (wanted request image old.chip.config.size old.chip.bytes a) b) (same.bytes a) ∙ fall ∙ sym merged;
+          ap (λ (b : ℕ). bit_and b (mid.chip.bytes a)) merged ∙ ap (λ (b : ℕ). bit_and (wanted request image old.chip a) b) (same.bytes a) ∙ fall ∙ sym merged;
     }
 
 -- ---- what a refusal tells
 
 pub change_gives_up : (request : Request) (opening : Opening) (status : Status) (code : ℕ) (kept : Kept) (aim : ℕ → ℕ) (old mid new : BusState) (refusal : Refusal) → old.honest ≡ true
-    → Ready request opening status code kept old mid → ChangeTells (changes_of opening kept status code) aim mid new refusal → HonestTells old new refusal
+    → Ready request opening status code kept old mid → ChangeTells (changes_of opening kept status code) aim mid new refusal → HonestTells (most_of 4096) (λ refusal. number_of refusal ≤ 11) old new refusal
 change_gives_up request opening status code kept aim old mid new Stopped honest is tells =
     let ran = ran_out_ready request opening status code kept old mid new honest is (tells (is.looked.honest ∙ honest)) in
     let below = ran.below in let few = scanned_few request opening.found.size is.part.at_most in

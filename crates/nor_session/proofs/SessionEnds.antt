@@ -5,8 +5,7 @@ use Rattle.std.specs.Prelude.{if◌then◌else◌, not, ◌||◌, nat_lt, slice_
 use Rattle.std.proofs.lemmas.Bool.{cases_Bool, cases_eq, ne_eqb, cases_lt, le-ltb, lt-ltb, ltb-true, and_parts}
 use Rattle.nor_chip.specs.declared.config.Config.{Config}
 use Rattle.nor_chip.specs.declared.status.Status.{Status}
-use Rattle.nor_chip.specs.Chip.{Chip, is_locked}
-use Rattle.nor_chip.specs.Guard.{is_unit_guarded}
+use Rattle.nor_chip.specs.Chip.{Chip}
 use Rattle.nor_chip.specs.Bus.{BusState}
 use Rattle.nor_driver.specs.Looks.{Looks}
 use Rattle.nor_journal.specs.Vault.{VaultState}
@@ -27,14 +26,15 @@ use Rattle.nor_apply.proofs.Kept.{fixed_then, kept_fixed}
 use Rattle.nor_save.specs.declared.opening.Opening.{Opening}
 use Rattle.nor_save.specs.declared.saving.Kept.{Kept}
 use Rattle.nor_save.specs.declared.report.Request.{Request}
-use Rattle.nor_save.specs.Request.{is_data, scanned_sectors, is_touched_by, is_raised_by}
+use Rattle.nor_save.specs.Request.{is_data, wanted, scanned_sectors, is_touched_by, is_raised_by}
 use Rattle.nor_save.specs.Opening.{Opens}
 use Rattle.nor_save.specs.Saving.{IsOpening, OpeningAccepts}
 use Rattle.nor_save.specs.Keeping.{Keeps}
 use Rattle.nor_save.proofs.Planned.{wanted-kept}
-use Rattle.nor_session.specs.Modelled.{IsModelled, kinds_of}
+use Rattle.nor_probe.specs.Known.{IsModelled}
+use Rattle.nor_session.specs.Made.{kinds_of}
 use Rattle.nor_session.specs.Changing.{LeavesChange, DoesChange}
-use Rattle.nor_session.specs.Session.{wanted_of, erased_of, IsWithinBound, IsDone, NeedsNoStatus, CanBeUndone}
+use Rattle.nor_session.specs.Session.{IsWithinBound, IsDone, NeedsNoStatus, CanBeUndone}
 use Rattle.nor_session.proofs.Changed.{no_write, fewest_at}
 use Rattle.nor_session.proofs.Ready.{Ready, changes_of, bounded_by}
 use Rattle.nor_session.proofs.ReadyChip.{is_opening, told_idle, shows, named}
@@ -72,18 +72,10 @@ and_right : (b c : Bool) → b ≡ true → (b && c) ≡ false → c ≡ false
 and_right true c is none = none
 and_right false c is none = absurd (true≢false (sym is))
 
--- where the status is locked no touched sector is guarded
-free_locked : (request : Request) (image image' : List ℕ) (opening : Opening) (status : Status) (code : ℕ) (kept : Kept) (old mid : BusState) → Ready request opening status code kept old mid
-    → ReadyChip request image image' opening code kept old mid → is_locked old.chip ≡ true → (s : ℕ) → is_touched_by request image old.chip s ≡ true → is_unit_guarded old.chip (4096 * s) 4096 ≡ false
-free_locked request image image' opening status code kept old mid is of locked s touched = elim (cases_Bool kept.unlock) [
-  | inl lifted ↦ absurd (of.scan.not_locked locked (needs request image image' opening status code kept old mid is of (ap (λ (b : Bool). b || writes_code (changes_of opening kept status code)) lifted)))
-  | inr off ↦ and_right (is_touched_by request image old.chip s) (is_unit_guarded old.chip (4096 * s) 4096) touched (of.scan.free off s)
-]
-
 -- the changes are on the way to the wanted chip
 may_change_wanted : (request : Request) (image image' : List ℕ) (opening : Opening) (status : Status) (code : ℕ) (kept : Kept) (old mid new : BusState) → Ready request opening status code kept old mid
     → ReadyChip request image image' opening code kept old mid → MayChange (has kept.scanned.touched) (has kept.scanned.raised) (λ a. slice_index image' a) mid new
-    → MayChange (is_touched_by request image old.chip) (is_raised_by request image old.chip) (wanted_of request image old.chip) old new
+    → MayChange (is_touched_by request image old.chip) (is_raised_by request image old.chip) (wanted request image old.chip) old new
 may_change_wanted request image image' opening status code kept old mid new is of change =
     let same = of.rested.unchanged.same in
     record {
@@ -116,7 +108,6 @@ can_be_undone request image image' opening status code kept old mid ready new va
         same_code = locked_code request.what request.unlock code (is_touched_by request image old.chip) old.chip of.accepts.is_wanted of.scan.not_locked;
       };
       journal = chip.journal;
-      free = free_locked request image image' opening status code kept old ready is of;
       changes = may_change_wanted request image image' opening status code kept old ready new is of
           (leaves.reached (is.looked.honest ∙ modelled.honest) (can_apply request image image' opening status code kept old ready is of));
       spent =
@@ -147,11 +138,11 @@ and_off true c d off = ap (λ (x : Bool). x && d) off
 and_off false c d off = refl
 
 -- in a sector that isn't touched all is as wanted
-wanted_untouched : (request : Request) (image : List ℕ) (chip : Chip) (a : ℕ) → chip.config.size % 65536 ≡ 0 → is_touched_by request image chip (a / 4096) ≡ false → wanted_of request image chip a ≡ chip.bytes a
+wanted_untouched : (request : Request) (image : List ℕ) (chip : Chip) (a : ℕ) → chip.config.size % 65536 ≡ 0 → is_touched_by request image chip (a / 4096) ≡ false → wanted request image chip a ≡ chip.bytes a
 wanted_untouched request image chip a blocks alike = elim (cases_lt (a / 4096) (chip.config.size / 4096)) [
   | inl inside ↦
       let here : nat_lt (a / 4096) (chip.config.size / 4096) ≡ true = lt-ltb (a / 4096) (chip.config.size / 4096) inside in
-      place_same chip.bytes (wanted_of request image chip) a (and_right (nat_lt (a / 4096) (chip.config.size / 4096)) (is_touched chip.bytes (wanted_of request image chip) (a / 4096)) here alike)
+      place_same chip.bytes (wanted request image chip) a (and_right (nat_lt (a / 4096) (chip.config.size / 4096)) (is_touched chip.bytes (wanted request image chip) (a / 4096)) here alike)
   | inr outside ↦
       let past : nat_lt a chip.config.size ≡ false = le-ltb a chip.config.size (omega arith) in
       wanted-kept request image chip.config.size chip.bytes a (and_off (is_data request.what) (nat_lt a chip.config.size) (includes request.included a) past)
@@ -167,7 +158,7 @@ left_out false x y z is off = is
 
 bytes_done : (request : Request) (image image' : List ℕ) (opening : Opening) (status : Status) (code : ℕ) (kept : Kept) (old mid new : BusState) → Ready request opening status code kept old mid
     → ReadyChip request image image' opening code kept old mid → HasApplied (changes_of opening kept status code) (λ a. slice_index image' a) mid new
-    → (a : ℕ) → new.chip.bytes a ≡ wanted_of request image old.chip a
+    → (a : ℕ) → new.chip.bytes a ≡ wanted request image old.chip a
 bytes_done request image image' opening status code kept old mid new is of applied a =
     let set = has kept.scanned.touched (a / 4096) in
     elim (cases_Bool set) [
@@ -195,20 +186,20 @@ page_same touched old aim aim' page same = elim (cases_Bool (touched (page / 16)
 
 programs_done : (request : Request) (image image' : List ℕ) (opening : Opening) (code : ℕ) (kept : Kept) (old mid : BusState) → ReadyChip request image image' opening code kept old mid
     → count_below 65536 (is_programmed (has kept.scanned.touched) (once_erased (has kept.scanned.raised) mid.chip.bytes) (λ a. slice_index image' a))
-    ≡ count_below 65536 (is_programmed (is_touched_by request image old.chip) (erased_of request image old.chip) (wanted_of request image old.chip))
+    ≡ count_below 65536 (is_programmed (is_touched_by request image old.chip) (once_erased (is_raised_by request image old.chip) old.chip.bytes) (wanted request image old.chip))
 programs_done request image image' opening code kept old mid of =
     count_below-same 65536 (is_programmed (has kept.scanned.touched) (once_erased (has kept.scanned.raised) mid.chip.bytes) (λ a. slice_index image' a))
-    (is_programmed (has kept.scanned.touched) (once_erased (has kept.scanned.raised) mid.chip.bytes) (wanted_of request image old.chip))
-    (λ page below. page_same (has kept.scanned.touched) (once_erased (has kept.scanned.raised) mid.chip.bytes) (λ a. slice_index image' a) (wanted_of request image old.chip) page of.merged)
-    ∙ ap (λ (set : ℕ → Bool). count_below 65536 (is_programmed set (once_erased (has kept.scanned.raised) mid.chip.bytes) (wanted_of request image old.chip))) (fun_ext of.touched)
-    ∙ ap (λ (set : ℕ → Bool). count_below 65536 (is_programmed (is_touched_by request image old.chip) (once_erased set mid.chip.bytes) (wanted_of request image old.chip))) (fun_ext of.raised)
-    ∙ ap (λ (content : ℕ → ℕ). count_below 65536 (is_programmed (is_touched_by request image old.chip) (once_erased (is_raised_by request image old.chip) content) (wanted_of request image old.chip)))
+    (is_programmed (has kept.scanned.touched) (once_erased (has kept.scanned.raised) mid.chip.bytes) (wanted request image old.chip))
+    (λ page below. page_same (has kept.scanned.touched) (once_erased (has kept.scanned.raised) mid.chip.bytes) (λ a. slice_index image' a) (wanted request image old.chip) page of.merged)
+    ∙ ap (λ (set : ℕ → Bool). count_below 65536 (is_programmed set (once_erased (has kept.scanned.raised) mid.chip.bytes) (wanted request image old.chip))) (fun_ext of.touched)
+    ∙ ap (λ (set : ℕ → Bool). count_below 65536 (is_programmed (is_touched_by request image old.chip) (once_erased set mid.chip.bytes) (wanted request image old.chip))) (fun_ext of.raised)
+    ∙ ap (λ (content : ℕ → ℕ). count_below 65536 (is_programmed (is_touched_by request image old.chip) (once_erased (is_raised_by request image old.chip) content) (wanted request image old.chip)))
     (fun_ext of.rested.unchanged.same.bytes)
 
 -- a raised sector lies inside the chip
 raised_inside : (request : Request) (image : List ℕ) (chip : Chip) (s : ℕ) → is_raised_by request image chip s ≡ true → s < chip.config.size / 4096
 raised_inside request image chip s raised =
-    ltb-true s (chip.config.size / 4096) (and_parts (nat_lt s (chip.config.size / 4096)) (is_raised chip.bytes (wanted_of request image chip) s) raised).0
+    ltb-true s (chip.config.size / 4096) (and_parts (nat_lt s (chip.config.size / 4096)) (is_raised chip.bytes (wanted request image chip) s) raised).0
 
 pub done : (request : Request) (image image' : List ℕ) (opening : Opening) (status : Status) (code : ℕ) (kept : Kept) (old mid new : BusState) (verify : Bool) (work : Work) (sent : ℕ) → Ready request opening status code kept old mid
     → ReadyChip request image image' opening code kept old mid → DoesChange (changes_of opening kept status code) (λ a. slice_index image' a) verify mid new work
@@ -219,27 +210,27 @@ done request image image' opening status code kept old mid new verify work sent 
     let applied = does.done honest can in
     let same = of.rested.unchanged.same in
     record {
-      config = applied.config ∙ same.config;
-      bytes = bytes_done request image image' opening status code kept old mid new is of applied;
-      bits = record {
+      made = record {
+        config = applied.config ∙ same.config;
+        bytes = bytes_done request image image' opening status code kept old mid new is of applied;
         fixed = fixed_then old.chip mid.chip new.chip (kept_fixed old.chip mid.chip (same.kept1, same.kept2)) applied.fixed;
-        code = code;
-        is_wanted = of.accepts.is_wanted;
-        has_code = applied.has_code;
+        idle = applied.idle;
+        latch = λ set. of.rested.latch (applied.latch set);
+        worn = λ s. applied.worn s ∙ ap (λ (b : Bool). b || has kept.scanned.raised s) (of.rested.unchanged.worn s) ∙ ap (λ (b : Bool). old.worn s || b) (of.raised s);
+        found = of.is.config;
+        shown = of.shown;
+        status1 = of.is.one;
+        told = of.told;
+        sectors = is.marks.count ∙ ap sector_count (fun_ext of.touched);
+        erases = fewest_at old.chip.config (is_raised_by request image old.chip) work.erases (raised_inside request image old.chip) (does.erases
+            ∙ ap (λ (kinds : Kinds). fewest_erases kinds (opening.found.size / 4096) (has kept.scanned.raised)) (kinds_same opening.found.kinds old.chip.config of.is.config.k32 of.is.config.k64)
+            ∙ ap (λ (n : ℕ). fewest_erases (kinds_of old.chip.config) (n / 4096) (has kept.scanned.raised)) of.is.config.size
+            ∙ ap (λ (set : ℕ → Bool). fewest_erases (kinds_of old.chip.config) (old.chip.config.size / 4096) set) (fun_ext of.raised));
+        programs = does.programs honest can ∙ programs_done request image image' opening code kept old mid of;
       };
-      idle = applied.idle;
-      latch = λ set. of.rested.latch (applied.latch set);
-      worn = λ s. applied.worn s ∙ ap (λ (b : Bool). b || has kept.scanned.raised s) (of.rested.unchanged.worn s) ∙ ap (λ (b : Bool). old.worn s || b) (of.raised s);
-      found = of.is.config;
-      shown = of.shown;
-      status1 = of.is.one;
-      told = of.told;
-      touched = is.marks.count ∙ ap sector_count (fun_ext of.touched);
-      erases = fewest_at old.chip.config (is_raised_by request image old.chip) work.erases (raised_inside request image old.chip) (does.erases
-          ∙ ap (λ (kinds : Kinds). fewest_erases kinds (opening.found.size / 4096) (has kept.scanned.raised)) (kinds_same opening.found.kinds old.chip.config of.is.config.k32 of.is.config.k64)
-          ∙ ap (λ (n : ℕ). fewest_erases (kinds_of old.chip.config) (n / 4096) (has kept.scanned.raised)) of.is.config.size
-          ∙ ap (λ (set : ℕ → Bool). fewest_erases (kinds_of old.chip.config) (old.chip.config.size / 4096) set) (fun_ext of.raised));
-      programs = does.programs honest can ∙ programs_done request image image' opening code kept old mid of;
+      code = code;
+      is_wanted = of.accepts.is_wanted;
+      has_code = applied.has_code;
       still = λ none never.
           let writes = no_write (changes_of opening kept status code) (λ needed. never code of.accepts.is_wanted (needs request image image' opening status code kept old mid is of needed)) in
           let count = is.marks.count in

@@ -11,7 +11,7 @@ use Rattle.nor_apply.specs.Within.{IsWithin}
 use Rattle.nor_save.specs.Request.{is_touched_by}
 use Rattle.nor_save.specs.Saving.{head_of}
 use Rattle.nor_save.specs.declared.report.Request.{Request}
-use Rattle.nor_session.specs.Modelled.{IsModelled}
+use Rattle.nor_probe.specs.Known.{IsModelled}
 use Rattle.nor_session.specs.Restore.{CanGiveBack, open_places}
 use Rattle.nor_session.specs.Session.{CanBeUndone}
 use Rattle.nor_session.specs.WrittenOver.{IsWrittenOver}

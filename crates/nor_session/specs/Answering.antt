@@ -14,7 +14,7 @@ use Rattle.nor_journal.specs.Vault.{VaultState}
 use Rattle.nor_save.specs.Request.{is_data}
 use Rattle.nor_save.specs.Opening.{status_read, Opens}
 use Rattle.nor_save.specs.Saving.{IsOpening, OpeningAccepts}
-use Rattle.nor_session.specs.Modelled.{IsModelled}
+use Rattle.nor_probe.specs.Known.{IsModelled}
 use Rattle.nor_session.specs.Session.{SessionAlways, SessionHonest, SessionModelled}
 
 -- The opening found a part, and its judgement accepted the request against an image of so many bytes, with this wanted

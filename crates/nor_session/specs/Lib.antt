@@ -1,4 +1,5 @@
-pub mod Modelled
+pub mod Bounds
+pub mod Made
 pub mod Verdict
 pub mod Changing
 pub mod Session

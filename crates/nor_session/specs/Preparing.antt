@@ -12,7 +12,7 @@ use Rattle.nor_plan.specs.declared.plan.SectorPlan.{SectorPlan}
 use Rattle.nor_plan.specs.Plan.{AreBytesOf, IsPlan}
 use Rattle.nor_plan.specs.SectorSet.{has, LiesBelow}
 use Rattle.nor_probe.specs.declared.probes.Found.{Found}
-use Rattle.nor_probe.specs.Known.{shown_as}
+use Rattle.nor_probe.specs.Known.{shown_as, IsModelled}
 use Rattle.nor_probe.specs.Found.{IsConfigOf, part_in}
 use Rattle.nor_apply.specs.declared.changes.Changes.{Changes}
 use Rattle.nor_apply.specs.Applying.{writes_code, CanApply}
@@ -23,7 +23,8 @@ use Rattle.nor_save.specs.declared.refusal.Refusal.TheVariants.{OtherUnit, Statu
 use Rattle.nor_save.specs.Scanning.{AreMarks, IsOpen}
 use Rattle.nor_save.specs.Saving.{IsOpening, NoneHeld, SomeHeld}
 use Rattle.nor_session.specs.declared.preparing.Prepared.{Prepared}
-use Rattle.nor_session.specs.Modelled.{IsModelled, most_looked, kinds_of}
+use Rattle.nor_session.specs.Bounds.{most_looked}
+use Rattle.nor_session.specs.Made.{kinds_of}
 use Rattle.nor_session.specs.Changing.{touched_count}
 use Rattle.nor_session.specs.Restore.{is_touched_from, is_raised_from, IsOfKind, HasFixedTold, Fits, NeedsStatusFrom, IsJudgedFirst, IsRestoreVerdict, IsRestorable}
 

@@ -1,5 +1,6 @@
 -- What a rehearsal promises.
-use Rattle.std.specs.Prelude.{◌≡◌, ◌≤◌, ◌<◌, ◌+◌, ◌-◌, ◌*◌, ◌/◌, ◌⊎◌, max, ℕ, Bool, true, false, List, [], ◌∷◌, Result, IfOk, IfErr, OnErr, drop, length, slice_index}
+use Rattle.std.specs.Prelude.{◌≡◌, ◌≤◌, ◌<◌, ◌+◌, ◌-◌, ◌*◌, ◌/◌, ◌==◌, ◌⊎◌, max, ℕ, Bool, true, false, List, [], ◌∷◌, Result, IfOk, IfErr, OnErr, drop, length, slice_index}
+use Rattle.std.specs.List.{list_any}
 use Rattle.nor_chip.specs.Chip.{Chip, IsSame}
 use Rattle.nor_chip.specs.Bus.{BusState}
 use Rattle.nor_driver.specs.Looks.{IsCalm}
@@ -8,13 +9,15 @@ use Rattle.nor_journal.specs.Saved.{JournalSaves}
 use Rattle.nor_apply.specs.Counts.{sector_count}
 use Rattle.nor_save.specs.declared.report.Request.{Request}
 use Rattle.nor_save.specs.declared.refusal.Refusal.{Refusal}
-use Rattle.nor_save.specs.declared.refusal.Refusal.TheVariants.{Vault, Stopped, Timeout}
-use Rattle.nor_save.specs.Request.{scanned_sectors, is_touched_by, is_raised_by}
+use Rattle.nor_save.specs.declared.refusal.Refusal.TheVariants.{Vault}
+use Rattle.nor_save.specs.Refusal.{number_of}
+use Rattle.nor_save.specs.Request.{wanted, scanned_sectors, is_touched_by, is_raised_by}
 use Rattle.nor_save.specs.Saving.{head_of}
 use Rattle.nor_session.specs.declared.rehearsals.Rehearsal.{Rehearsal}
-use Rattle.nor_session.specs.Modelled.{IsModelled, most_looked, most_of, AreFewestErases}
+use Rattle.nor_session.specs.Bounds.{most_looked, most_of}
+use Rattle.nor_session.specs.Made.{AreFewestErases, pages_of}
 use Rattle.nor_session.specs.Verdict.{IsVerdict, IsAccepted}
-use Rattle.nor_session.specs.Session.{Answers, Names, pages_of}
+use Rattle.nor_session.specs.Session.{Answers, Names}
 use Rattle.nor_session.specs.Restore.{IsRestoreRefusal}
 
 -- the transactions that the session is allowed: without a stop the most that a session takes on a chip of 16 MiB
@@ -38,9 +41,10 @@ pub record IsRehearsal (stops : ℕ) (vault : VaultState) (rehearsal : Rehearsal
 
 -- the transactions that a session of so many erases needs at least: those of the opening and the scan, and three for
 -- each erase and each program
-abbrev pub least_needed : Request → List ℕ → Chip → (erases : ℕ) → ℕ
+abbrev pub least_needed : Request → (image : List ℕ) → Chip → (erases : ℕ) → ℕ
 least_needed request image chip erases =
-    4 + scanned_sectors request chip.config.size + 3 * (erases + pages_of request image chip)
+    4 + scanned_sectors request chip.config.size + 3 * (erases + pages_of (is_touched_by request image chip)
+    (is_raised_by request image chip) chip.bytes (wanted request image chip))
 
 -- A session can end on the chip: it is accepted, and so many transactions may be enough, with the fewest erases.
 pub record CanEnd (request : Request) (image : List ℕ) (allowance : ℕ) (chip : Chip) : Type 0 where
@@ -62,8 +66,8 @@ pub record AreRestores (sectors : ℕ) (stops : List ℕ) (restores : ℕ) : Typ
   pub stopped : (i : ℕ) → i + 1 < restores → slice_index stops i < most_of sectors
   pub ended : restores ≤ length stops → 4 + sectors ≤ slice_index stops (restores - 1)
 
--- and what is left now beside these
-abbrev pub FitsLastStop : ℕ → List ℕ → ℕ → ℕ → Type 0
+-- Where the last of so many restores ran under a stop, that allowed an opening, a scan and all that is left now.
+abbrev pub FitsLastStop : (sectors : ℕ) → (stops : List ℕ) → (left restores : ℕ) → Type 0
 FitsLastStop sectors stops left restores =
     restores ≤ length stops → left + (4 + sectors) ≤ slice_index stops (restores - 1)
 
@@ -79,11 +83,9 @@ pub record LeavesRefused (old new : BusState) (vault : VaultState) : Type 0 wher
 abbrev pub IsRehearsalRefusal : VaultState → VaultState → Refusal → Type 0
 IsRehearsalRefusal old new refusal = Answers old new refusal ⊎ ((new.sealed ≡ true) × IsRestoreRefusal refusal)
 
--- on an honest one it isn't that the bus stopped, and not that the chip stayed busy
+-- the refusal isn't that the bus stopped, nor that the chip stayed busy
 abbrev pub IsNoHalt : Refusal → Type 0
-IsNoHalt Stopped = ⊥
-IsNoHalt (Timeout address) = ⊥
-IsNoHalt _ = Unit {0}
+IsNoHalt refusal = list_any (λ n. number_of refusal == n) (12 ∷ 13 ∷ []) ≡ false
 
 -- The answer is the verdict on the session, or the vault failed; never that the bus stopped.
 abbrev pub RehearsalTells : Request → List ℕ → Chip → VaultState → VaultState → Refusal → Type 0

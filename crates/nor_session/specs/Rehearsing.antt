@@ -1,24 +1,25 @@
 -- What the parts of a rehearsal come to: its session, and the restores in turn.
-use Rattle.std.specs.Prelude.{◌≡◌, ◌≤◌, ◌<◌, ◌+◌, ◌*◌, ◌/◌, ℕ, Bool, true, false, List, length}
+use Rattle.std.specs.Prelude.{◌≡◌, ◌≤◌, ◌<◌, ◌+◌, ◌/◌, ℕ, Bool, true, false, List, length}
 use Rattle.nor_chip.specs.Chip.{Chip, IsChip, IsSame, is_locked}
-use Rattle.nor_chip.specs.Guard.{is_unit_guarded}
 use Rattle.nor_chip.specs.Bus.{BusState}
 use Rattle.nor_driver.specs.Looks.{IsCalm}
+use Rattle.nor_driver.specs.StatusWrites.{KeepsFixed, HasCode}
 use Rattle.nor_journal.specs.Text.{Content}
 use Rattle.nor_journal.specs.Vault.{VaultState}
 use Rattle.nor_journal.specs.Saved.{is_saved, JournalSaves}
-use Rattle.nor_probe.specs.Known.{IsKnown}
+use Rattle.nor_probe.specs.Known.{IsKnown, IsModelled}
 use Rattle.nor_apply.specs.Counts.{sector_count}
 use Rattle.nor_apply.specs.Within.{IsWithin, places_of}
 use Rattle.nor_save.specs.declared.report.Request.{Request}
+use Rattle.nor_save.specs.declared.report.What.{What}
 use Rattle.nor_save.specs.declared.refusal.Refusal.{Refusal}
-use Rattle.nor_save.specs.Request.{is_touched_by}
-use Rattle.nor_save.specs.Saving.{head_of}
+use Rattle.nor_save.specs.Request.{wanted, is_touched_by, IsWantedCode}
+use Rattle.nor_save.specs.Saving.{head_of, NoneHeld}
 use Rattle.nor_save.specs.Keeping.{IsJournal, HoldsJournal}
-use Rattle.nor_session.specs.Modelled.{IsModelled, most_of}
+use Rattle.nor_session.specs.Bounds.{most_of}
 use Rattle.nor_session.specs.Verdict.{IsAccepted}
-use Rattle.nor_session.specs.Session.{wanted_of, HasWantedBits, Answers, NamesIn, Names}
-use Rattle.nor_session.specs.Restore.{IsRestoreRefusal, NamesSaved, CanGiveBack}
+use Rattle.nor_session.specs.Session.{Answers, SavesSector, NamesIn, Names}
+use Rattle.nor_session.specs.Restore.{IsRestoreRefusal, CanGiveBack}
 use Rattle.nor_session.specs.Rehearsal.{KeepsNature, CanEnd, SealFits, AreRestores, FitsLastStop, LeavesRefused, IsNoHalt, RehearsalTells}
 
 -- ---- the session
@@ -31,7 +32,7 @@ pub record LeadsBack (saved : ℕ → Bool) (first : Chip) (text : List ℕ) (st
   pub known : IsKnown first.config
   pub journal : JournalSaves (head_of first) first.bytes saved text
   pub inside : (s : ℕ) → saved s ≡ true → s < first.config.size / 4096
-  pub free : is_locked first ≡ true → (s : ℕ) → saved s ≡ true → is_unit_guarded first (4096 * s) 4096 ≡ false
+  pub free : is_locked first ≡ true → NoneHeld saved first
   pub within : IsWithin (places_of saved) first state
 
 -- At every exit of the session: where its vault isn't sealed the chip is as it was, and else that leads back, and the
@@ -45,13 +46,20 @@ pub record LeavesSession (request : Request) (image : List ℕ) (old new : BusSt
   pub wears : IsModelled old → (s : ℕ) → is_touched_by request image old.chip s ≡ false → new.worn s ≡ old.worn s
   pub holds : HoldsJournal vault
 
+-- The wanted kept bits: the fixed ones are as they were, and the code is the wanted one.
+pub record HasWantedBits (what : What) (old new : Chip) : Type 0 where
+  pub fixed : KeepsFixed old new
+  pub code : ℕ
+  pub is_wanted : IsWantedCode what old code
+  pub has_code : HasCode code new
+
 -- It was allowed so many transactions, and ended, and the chip is the wanted one; or it was stopped, where none is
 -- left, since they were too few.
 pub record ShowsSession (request : Request) (image : List ℕ) (allowance : ℕ) (old new : BusState) (vault : VaultState)
     (ended : Bool) : Type 0 where
   pub seals : ended ≡ true → vault.sealed ≡ true
   pub can : IsModelled old → ended ≡ true → CanEnd request image allowance old.chip
-  pub bytes : IsModelled old → ended ≡ true → (a : ℕ) → new.chip.bytes a ≡ wanted_of request image old.chip a
+  pub bytes : IsModelled old → ended ≡ true → (a : ℕ) → new.chip.bytes a ≡ wanted request image old.chip a
   pub bits : IsModelled old → ended ≡ true → HasWantedBits request.what old.chip new.chip
   pub none_left : old.honest ≡ true → ended ≡ false → new.left ≡ 0
   pub below : IsModelled old → ended ≡ false → allowance < most_of (old.chip.config.size / 4096)
@@ -96,7 +104,7 @@ pub record ShowsRestores (journal : Content) (stops : List ℕ) (old new : BusSt
 -- by a stop, since a journal has no more sectors than the largest chip.
 pub record StopsRestores (journal : Content) (old : BusState) (refusal : Refusal) : Type 0 where
   pub answers : IsRestoreRefusal refusal
-  pub names : NamesSaved journal refusal
+  pub names : NamesIn (λ sector. is_saved journal sector ≡ true) refusal
   pub halts : length journal.saved ≤ 4096 → old.honest ≡ true → IsNoHalt refusal
   pub never : IsModelled old → (first : Chip) → CanGiveBack journal first old → ⊥
 
@@ -121,6 +129,6 @@ WearsSaved text old new = IsModelled old → (saved : ℕ → Bool) (first : Chi
 -- text leads back.
 pub record RefusesUndo (text : List ℕ) (old : BusState) (refusal : Refusal) : Type 0 where
   pub answers : IsJournal text → IsRestoreRefusal refusal
-  pub names : NamesIn text refusal
+  pub names : NamesIn (λ sector. SavesSector sector text) refusal
   pub halts : old.honest ≡ true → IsNoHalt refusal
   pub never : IsModelled old → (saved : ℕ → Bool) (first : Chip) → LeadsBack saved first text old → ⊥

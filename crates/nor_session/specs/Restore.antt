@@ -1,8 +1,9 @@
 -- What a restore wants of a chip, and what it promises.
-use Rattle.std.specs.Prelude.{◌≡◌, ◌≢◌, ◌+◌, ◌*◌, ◌/◌, ◌%◌, ◌&&◌, ◌||◌, ◌⊎◌, ℕ, Bool, true, false, not, length, slice_index, None, Result, IfOk, IfErr, IfSome, IsSomeAnd, OnOk, Ok, Err, if◌then◌else◌}
+use Rattle.std.specs.Prelude.{◌≡◌, ◌≢◌, ◌+◌, ◌/◌, ◌%◌, ◌==◌, ◌&&◌, ◌⊎◌, ℕ, Bool, true, false, not, [], ◌∷◌, length, slice_index, None, Result, IfOk, IfErr, IfSome, IsSomeAnd, OnOk, Err, if◌then◌else◌}
+use Rattle.std.specs.List.{list_any}
 use Rattle.nor_chip.specs.Code.{code_in}
 use Rattle.nor_chip.specs.declared.config.Config.{Config}
-use Rattle.nor_chip.specs.Chip.{Chip, IsSame, is_locked, status1_of}
+use Rattle.nor_chip.specs.Chip.{Chip, IsSame, is_locked}
 use Rattle.nor_chip.specs.Guard.{code_of, is_guarded}
 use Rattle.nor_chip.specs.Bus.{BusState}
 use Rattle.nor_driver.specs.Looks.{IsCalm, Looks, RanOut}
@@ -10,34 +11,33 @@ use Rattle.nor_driver.specs.Reads.{id_of, unique_of}
 use Rattle.nor_driver.specs.StatusWrites.{KeepsFixed, HasCode}
 use Rattle.nor_journal.specs.Text.{Content}
 use Rattle.nor_journal.specs.Saved.{Saves, is_saved, saved_byte}
-use Rattle.nor_layout.specs.Below.{count_below}
 use Rattle.nor_probe.specs.declared.probes.ProbeFault.TheVariants as Probes
 use Rattle.nor_probe.specs.Known.{shown_as, IsKnown}
-use Rattle.nor_probe.specs.Found.{IsConfigOf, part_in}
-use Rattle.nor_apply.specs.Counts.{sector_count}
-use Rattle.nor_apply.specs.Content.{is_touched, is_raised, once_erased, is_programmed}
+use Rattle.nor_apply.specs.Content.{is_touched, is_raised}
 use Rattle.nor_apply.specs.Within.{IsWithin}
 use Rattle.nor_apply.specs.Spending.{Spends}
 use Rattle.nor_save.specs.declared.report.Report.{Report}
 use Rattle.nor_save.specs.declared.refusal.Refusal.{Refusal}
-use Rattle.nor_save.specs.declared.refusal.Refusal.TheVariants.{NoChip, UnknownChip, StatusLocked, Stopped, Timeout, Mismatch, OtherChip, OtherUnit, StatusDiffers}
+use Rattle.nor_save.specs.declared.refusal.Refusal.TheVariants.{NoChip, UnknownChip, StatusLocked, Stopped, OtherChip, OtherUnit, StatusDiffers}
+use Rattle.nor_save.specs.Refusal.{number_of}
 use Rattle.nor_save.specs.Saving.{SomeHeld}
-use Rattle.nor_session.specs.Modelled.{IsModelled, most_looked, most_of, AreFewestErases}
+use Rattle.nor_session.specs.Bounds.{most_looked, most_of}
+use Rattle.nor_session.specs.Made.{IsMade}
 use Rattle.nor_session.specs.Verdict.{IsNamed}
-use Rattle.nor_session.specs.Session.{IsWithinBound}
+use Rattle.nor_session.specs.Session.{NamesIn, IsWithinBound, HonestTells}
 
 -- ---- what is wanted
 
 -- the byte that a journal wants at an address: in a saved sector the saved one, else what is there
-abbrev pub restored : Content → (ℕ → ℕ) → ℕ → ℕ
+abbrev pub restored : Content → (content : ℕ → ℕ) → (a : ℕ) → ℕ
 restored journal content a = if is_saved journal (a / 4096) then saved_byte journal a else content a
 
--- a sector of the chip has another byte than the journal
-abbrev pub is_touched_from : Content → Chip → ℕ → Bool
+-- a sector of the chip is touched: some byte of it isn't the one that the journal wants
+abbrev pub is_touched_from : Content → Chip → (s : ℕ) → Bool
 is_touched_from journal chip = is_touched chip.bytes (restored journal chip.bytes)
 
--- a bit of it has to rise
-abbrev pub is_raised_from : Content → Chip → ℕ → Bool
+-- a sector of the chip is raised: some bit of it has to go from 0 to 1 to make it what the journal wants
+abbrev pub is_raised_from : Content → Chip → (s : ℕ) → Bool
 is_raised_from journal chip = is_raised chip.bytes (restored journal chip.bytes)
 
 -- ---- the verdict
@@ -47,7 +47,7 @@ pub record IsOfKind (journal : Content) (config : Config) : Type 0 where
   pub id : journal.id ≡ id_of config
   pub size : journal.size ≡ config.size
 
--- it tells the number of another unit; a journal of format 1 tells none
+-- the journal tells the own number of another unit; one of format 1 tells none
 abbrev pub IsOfOtherUnit : Content → Config → Type 0
 IsOfOtherUnit journal config = IsSomeAnd journal.unique (λ unique. unique ≢ unique_of config)
 
@@ -93,37 +93,14 @@ pub record IsRestorable (journal : Content) (chip : Chip) : Type 0 where
 
 -- ---- on every bus
 
--- the refusals that are judged before anything changing is sent
+-- the refusals that are judged before anything changing is sent, by their numbers
 abbrev pub IsJudgedFirst : Refusal → Type 0
-IsJudgedFirst NoChip = Unit {0}
-IsJudgedFirst (UnknownChip fault) = Unit {0}
-IsJudgedFirst OtherChip = Unit {0}
-IsJudgedFirst OtherUnit = Unit {0}
-IsJudgedFirst StatusDiffers = Unit {0}
-IsJudgedFirst StatusLocked = Unit {0}
-IsJudgedFirst _ = ⊥
+IsJudgedFirst refusal = list_any (λ n. number_of refusal == n) (1 ∷ 2 ∷ 9 ∷ 16 ∷ 17 ∷ 20 ∷ []) ≡ true
 
--- the refusals that a restore gives
+-- the refusals that a restore gives: these, and the three of a stop, a timeout and a difference
 abbrev pub IsRestoreRefusal : Refusal → Type 0
-IsRestoreRefusal Stopped = Unit {0}
-IsRestoreRefusal (Timeout address) = Unit {0}
-IsRestoreRefusal (Mismatch address) = Unit {0}
-IsRestoreRefusal refusal = IsJudgedFirst refusal
-
--- a timeout names 0 or an address in a saved sector, and a mismatch an address in one
-abbrev pub NamesSaved : Content → Refusal → Type 0
-NamesSaved journal (Timeout address) = (address ≡ 0) ⊎ (is_saved journal (address / 4096) ≡ true)
-NamesSaved journal (Mismatch address) = is_saved journal (address / 4096) ≡ true
-NamesSaved journal _ = Unit {0}
-
--- ---- on an honest bus
-
--- A stop comes only where no transaction is left, and fewer were than such a restore may send, and no timeout; after a
--- refusal that was judged first bytes and kept bits are as they were.
-abbrev pub RestoreGivesUp : Content → BusState → BusState → Refusal → Type 0
-RestoreGivesUp journal old new Stopped = RanOut (most_of (length journal.saved)) old new
-RestoreGivesUp journal old new (Timeout address) = ⊥
-RestoreGivesUp journal old new refusal = IsJudgedFirst refusal → IsSame old.chip new.chip
+IsRestoreRefusal refusal =
+    list_any (λ n. number_of refusal == n) (1 ∷ 2 ∷ 9 ∷ 12 ∷ 13 ∷ 14 ∷ 16 ∷ 17 ∷ 20 ∷ []) ≡ true
 
 -- ---- on an honest bus whose chip is what it shows itself to be
 
@@ -140,30 +117,13 @@ pub record LeavesRestore (journal : Content) (old new : BusState) : Type 0 where
   pub fixed : IsCalm old → KeepsFixed old.chip new.chip
   pub worn : (s : ℕ) → is_raised_from journal old.chip s ≡ false → new.worn s ≡ old.worn s
 
--- how many pages have to be programmed once the raised sectors are erased
-abbrev pub pages_from : Content → Chip → ℕ
-pages_from journal chip = count_below 65536
-    (is_programmed (is_touched_from journal chip) (once_erased (is_raised_from journal chip) chip.bytes)
-    (restored journal chip.bytes))
-
--- At the end the chip is what the journal wants, idle, and its latch set only where it was; the report counts what was
--- done; and where nothing is to be changed, nothing changing was sent.
+-- At the end the chip is made what the journal wants, with its code; and where nothing is to be changed, nothing
+-- changing was sent.
 pub record IsRestored (journal : Content) (old new : BusState) (report : Report) : Type 0 where
   pub accepted : IsRestorable journal old.chip
-  pub config : new.chip.config ≡ old.chip.config
-  pub bytes : (a : ℕ) → new.chip.bytes a ≡ restored journal old.chip.bytes a
-  pub fixed : KeepsFixed old.chip new.chip
+  pub made : IsMade (restored journal old.chip.bytes) (is_touched_from journal old.chip)
+      (is_raised_from journal old.chip) old new report
   pub code : HasCode (code_in journal.status) new.chip
-  pub idle : new.chip.busy ≡ 0
-  pub latch : new.chip.latch ≡ true → old.chip.latch ≡ true
-  pub worn : (s : ℕ) → new.worn s ≡ (old.worn s || is_raised_from journal old.chip s)
-  pub found : IsConfigOf old.chip.config report.found
-  pub shown : shown_as old.chip.config ≡ Ok (part_in report.found)
-  pub status1 : report.found.status1 / 4 ≡ old.chip.kept1
-  pub told : old.chip.busy ≡ 0 → report.found.status1 ≡ status1_of old.chip
-  pub touched : report.touched ≡ sector_count (is_touched_from journal old.chip)
-  pub erases : AreFewestErases old.chip.config (is_raised_from journal old.chip) report.erases
-  pub programs : report.programs ≡ pages_from journal old.chip
   pub still : report.touched ≡ 0 → (¬ NeedsStatusFrom journal old.chip) → new.stirred ≡ old.stirred
 
 -- ---- giving a chip back
@@ -194,8 +154,8 @@ pub record RestoreAlways (journal : Content) (old new : BusState) (result : Resu
   pub spends : Spends (most_of (length journal.saved)) old new
   -- a refusal is one that a restore gives
   pub answers : IfErr result IsRestoreRefusal
-  -- and names an address that the restore was at
-  pub names : IfErr result (NamesSaved journal)
+  -- and names an address that the restore was at, in a saved sector
+  pub names : IfErr result (NamesIn (λ sector. is_saved journal sector ≡ true))
   -- until it is judged it only looks, as far as the opening and the scan of the largest chip
   pub looks : IfErr result (λ refusal. IsJudgedFirst refusal → Looks (most_looked 4096) old new)
   -- at the end the report is within its bound
@@ -203,8 +163,8 @@ pub record RestoreAlways (journal : Content) (old new : BusState) (result : Resu
 
 -- On an honest bus.
 pub record RestoreHonest (journal : Content) (old new : BusState) (result : Result Report Refusal) : Type 0 where
-  -- a refusal isn't a timeout, and a stop comes only where no transaction is left
-  pub gives_up : IfErr result (RestoreGivesUp journal old new)
+  -- a refusal isn't a timeout, a stop comes only where no transaction is left, and what is judged first comes early
+  pub gives_up : IfErr result (HonestTells (most_of (length journal.saved)) IsJudgedFirst old new)
   -- the report's transactions are those that were sent
   pub counted : IfOk result (λ report. old.left ≡ new.left + report.transactions)
 

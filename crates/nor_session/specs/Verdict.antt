@@ -8,7 +8,7 @@ pub use Rattle.nor_probe.specs.Found.{IsNamed}
 use Rattle.nor_probe.specs.Found.{HasOtherName}
 use Rattle.nor_save.specs.declared.report.Request.{Request}
 use Rattle.nor_save.specs.declared.refusal.Refusal.{Refusal}
-use Rattle.nor_save.specs.declared.refusal.Refusal.TheVariants.{NoChip, UnknownChip, OtherName, ImageSize, RegionOutside, NoProtection, UndefinedProtection, RangeNotOffered, StatusLocked, Protected}
+use Rattle.nor_save.specs.declared.refusal.Refusal.TheVariants.{NoChip, UnknownChip, OtherName, StatusLocked, Protected}
 use Rattle.nor_save.specs.Request.{is_touched_by}
 use Rattle.nor_save.specs.Saving.{OpeningAccepts, OpeningJudges, NoneHeld, ScanJudges}
 
@@ -19,24 +19,15 @@ pub record IsScanVerdict (request : Request) (image : List ℕ) (chip : Chip) (r
   pub opening : OpeningAccepts request (length image) chip code
   pub judges : ScanJudges request code (is_touched_by request image chip) chip refusal
 
--- The refusal is the verdict.
-abbrev pub IsVerdict : Request → List ℕ → Chip → Refusal → Type 0
+-- The refusal is the verdict: that of the probe, of the scan, or of the opening, which judges no other one.
+abbrev pub IsVerdict : Request → (image : List ℕ) → Chip → Refusal → Type 0
 IsVerdict request image chip NoChip = shown_as chip.config ≡ Err Probes.NoChip
 IsVerdict request image chip (UnknownChip fault) = shown_as chip.config ≡ Err (Probes.UnknownChip fault)
 IsVerdict request image chip OtherName = HasOtherName request.named chip.config
-IsVerdict request image chip (ImageSize size len) =
-    IsNamed request.named chip.config × OpeningJudges request (length image) chip (ImageSize size len)
-IsVerdict request image chip RegionOutside =
-    IsNamed request.named chip.config × OpeningJudges request (length image) chip RegionOutside
-IsVerdict request image chip NoProtection =
-    IsNamed request.named chip.config × OpeningJudges request (length image) chip NoProtection
-IsVerdict request image chip UndefinedProtection =
-    IsNamed request.named chip.config × OpeningJudges request (length image) chip UndefinedProtection
-IsVerdict request image chip RangeNotOffered =
-    IsNamed request.named chip.config × OpeningJudges request (length image) chip RangeNotOffered
 IsVerdict request image chip StatusLocked = IsScanVerdict request image chip StatusLocked
 IsVerdict request image chip (Protected address) = IsScanVerdict request image chip (Protected address)
-IsVerdict request image chip _ = ⊥
+IsVerdict request image chip refusal =
+    IsNamed request.named chip.config × OpeningJudges request (length image) chip refusal
 
 -- protection may be lifted: the request says so, and no SRP bit is set
 abbrev pub MayLift : Request → Chip → Type 0

@@ -4,7 +4,7 @@ ghost use Rattle.nor_chip.specs.Size.{is_chip_size};
 ghost use Rattle.nor_driver.specs.Looks.{Looks};
 ghost use Rattle.nor_plan.specs.SectorSet.{has, LiesBelow};
 ghost use Rattle.nor_save.specs.declared.refusal.Refusal.TheVariants as Refusals;
-ghost use Rattle.nor_session.specs.Modelled.{most_looked};
+ghost use Rattle.nor_session.specs.Bounds.{most_looked};
 ghost use Rattle.nor_session.specs.Preparing.{AreChanges, MakesChanges, RefusesShut, IsPrepared, PrepareTells};
 
 use crate::reopening::open_saved;

@@ -2,7 +2,8 @@
 ghost use Rattle.std.specs.Prelude.{◌≡◌, ◌≤◌, true, length, drop, IfOk, IfErr};
 ghost use Rattle.nor_journal.specs.Vault.{IsFresh};
 ghost use Rattle.nor_journal.specs.MemVault.{held_by};
-ghost use Rattle.nor_session.specs.Modelled.{IsModelled, most_of};
+ghost use Rattle.nor_probe.specs.Known.{IsModelled};
+ghost use Rattle.nor_session.specs.Bounds.{most_of};
 ghost use Rattle.nor_session.specs.Rehearsing.{LeavesSession, ShowsSession, RefusesSession, LeavesRestores, ShowsRestore, ShowsRestores};
 ghost use Rattle.nor_session.specs.Rehearsing.{Undoes, WearsSaved, StopsRestores, RefusesUndo};
 ghost use Rattle.nor_session.specs.Rehearsal.{KeepsNature, RehearsalAlways, RehearsalModelled, IsNoHalt, first_allowance};

@@ -1,6 +1,6 @@
 //! A restore: the chip is made again what a journal says.
 ghost use Rattle.std.specs.Prelude.{◌≡◌, true};
-ghost use Rattle.nor_session.specs.Modelled.{IsModelled};
+ghost use Rattle.nor_probe.specs.Known.{IsModelled};
 ghost use Rattle.nor_session.specs.Restore.{RestoreAlways, RestoreHonest, RestoreModelled};
 
 use crate::preparing::prepare;

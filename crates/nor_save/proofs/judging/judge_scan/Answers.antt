@@ -22,6 +22,6 @@ returns-in-Some-2-clause-tells c = λ chip is.
         | else-writes-via-then-writes+else-is_locked w ↦ let same = lock_same chip c.args.opening.now is in let read = ap is_lock_set w.status.ensures in absurd cc
         | else-writes-via-else-writes w ↦ let is_some : c.is_some.result ≡ true = search rules in
             let needs = c.needs_status-writes.ensures chip touched is (subst (λ (b : Bool). MatchBool b (SomeHeld touched chip) (NoneHeld touched chip)) (sym is_some) some) in
-            subst (λ (b : Bool). MatchBool b (NeedsStatus c.args.request.now c.args.code touched chip) (¬ NeedsStatus c.args.request.now c.args.code touched chip)) w.if-writes.false needs
+            subst (λ (b : Bool). MatchBool b (NeedsStatus c.args.request.now.what c.args.request.now.unlock c.args.code touched chip) (¬ NeedsStatus c.args.request.now.what c.args.request.now.unlock c.args.code touched chip)) w.if-writes.false needs
       ];
     }

@@ -1,8 +1,10 @@
-use Rattle.std.proofs.Common.{◌+◌, ◌≡◌, length, rules, arith}
+use Rattle.std.proofs.Common.{◌+◌, ◌≡◌, true, length, rules, arith}
+use Rattle.nor_journal.specs.Saved.{is_saved}
 use Rattle.nor_save.proofs.Begun.{err_same}
 use Rattle.nor_save.specs.declared.refusal.Refusal.TheVariants.{Stopped}
-use Rattle.nor_session.specs.Modelled.{most_looked, most_of}
-use Rattle.nor_session.specs.Restore.{IsRestoreRefusal, IsJudgedFirst, NamesSaved, RestoreGivesUp, RestoreTells}
+use Rattle.nor_session.specs.Bounds.{most_looked, most_of}
+use Rattle.nor_session.specs.Session.{HonestTells, NamesIn}
+use Rattle.nor_session.specs.Restore.{IsJudgedFirst, IsRestoreRefusal, RestoreTells}
 use Rattle.nor_session.proofs.Restoring.{AreChanged, looks_most, looks_spend, prepare_answers, prepare_gives_up, prepare_tells, looks_leave, looks_back, changed_spends, changed_leaves, changed_back, change_answers, change_not_judged, change_gives_up, change_tells, sum_fits, restored_bounded, restored_counted, restored_sparing, restored_done, restored_back}
 use Rattle.nor_session.proofs.GivenBack.{only_stopped}
 use Rattle.nor_session.proofs.Naming.{prepare_names, restore_names}
@@ -20,7 +22,7 @@ returns-in_err-prepared-clause-always g c =
       spends = looks_spend most (most_of (length journal.saved)) old new (omega arith) c.prepare.ensures.leaves;
       answers = err_same c.from_residual.result refusal IsRestoreRefusal c.from_residual.ensures.1
           (prepare_answers journal most old new refusal c.in_err-prepared.ensures.tells);
-      names = err_same c.from_residual.result refusal (NamesSaved journal) c.from_residual.ensures.1
+      names = err_same c.from_residual.result refusal (NamesIn (λ sector. is_saved journal sector ≡ true)) c.from_residual.ensures.1
           (prepare_names journal most old new refusal c.in_err-prepared.ensures.tells);
       looks =
           let looks = looks_most most (most_looked 4096) old new (omega arith) c.prepare.ensures.leaves in
@@ -34,7 +36,7 @@ returns-in_err-prepared-clause-honest g c = λ honest.
     let old = g.B.Bus.state c.args.bus.now in let new = g.B.Bus.state c.prepare.new.bus in
     let refusal = c.in_err-prepared.field-0.0 in
     record {
-      gives_up = err_same c.from_residual.result refusal (RestoreGivesUp journal old new) c.from_residual.ensures.1
+      gives_up = err_same c.from_residual.result refusal (HonestTells (most_of (length journal.saved)) IsJudgedFirst old new) c.from_residual.ensures.1
           (prepare_gives_up journal most old new refusal (omega arith) honest c.in_err-prepared.ensures.tells);
       counted = search rules;
     }
@@ -69,7 +71,7 @@ returns-in_err-work-clause-always g c =
       spends = changed_spends journal prepared old mid new are;
       answers = err_same c.from_residual-in_err-work.result refusal IsRestoreRefusal c.from_residual-in_err-work.ensures.1
           (change_answers prepared.changes _ mid new refusal c.in_err-work.ensures.tells);
-      names = err_same c.from_residual-in_err-work.result refusal (NamesSaved journal) c.from_residual-in_err-work.ensures.1
+      names = err_same c.from_residual-in_err-work.result refusal (NamesIn (λ sector. is_saved journal sector ≡ true)) c.from_residual-in_err-work.ensures.1
           (restore_names journal prepared.changes refusal are.is.saved c.in_err-work.ensures.names);
       looks =
           let told = change_not_judged prepared.changes _ mid new refusal c.in_err-work.ensures.tells in
@@ -85,7 +87,7 @@ returns-in_err-work-clause-honest g c = λ honest.
     let are : AreChanged journal prepared old mid new
     = record { room = c.prepare.ensures.room; looks = c.prepare.ensures.leaves; is = c.in_ok-prepared.ensures.prepares; leaves = c.finish.ensures.leaves } in
     record {
-      gives_up = err_same c.from_residual-in_err-work.result refusal (RestoreGivesUp journal old new) c.from_residual-in_err-work.ensures.1
+      gives_up = err_same c.from_residual-in_err-work.result refusal (HonestTells (most_of (length journal.saved)) IsJudgedFirst old new) c.from_residual-in_err-work.ensures.1
           (change_gives_up journal prepared old mid new refusal are honest c.in_err-work.ensures.tells);
       counted = search rules;
     }

@@ -1,6 +1,5 @@
 use Rattle.std.proofs.Common.{rules, arith, ◌≡◌, ◌≢◌, ◌⊎◌, ◌∙◌, [], inr, sym, true≢false, ◌+◌, ◌*◌, length}
 use Rattle.std.proofs.lemmas.Bool.{lt-ltb}
-use Rattle.nor_chip.specs.Bus.{BusState}
 use Rattle.nor_driver.specs.Looks.{Looks}
 use Rattle.nor_save.specs.Request.{scanned_sectors, is_touched_by}
 use Rattle.nor_save.specs.Saving.{head_of}
@@ -8,7 +7,7 @@ use Rattle.nor_save.specs.Keeping.{BeginsJournal}
 use Rattle.nor_save.specs.declared.refusal.Refusal.TheVariants.{Vault}
 use Rattle.nor_save.proofs.Rests.{looks_then}
 use Rattle.nor_save.proofs.Begun.{err_same}
-use Rattle.nor_session.specs.Modelled.{most_looked, most_of}
+use Rattle.nor_session.specs.Bounds.{most_looked, most_of}
 use Rattle.nor_session.specs.Session.{CanBeUndone, Names}
 use Rattle.nor_session.proofs.Ready.{changes_of, has_opened, ready, scanned_few, spends_looks, spends_more, spends_ready, bounded, touched_data}
 use Rattle.nor_session.proofs.ReadyChip.{small_first, is_opening, shows, falls_sized, not_sealed, keep_gives_up, keep_tells}

@@ -1,0 +1,45 @@
+-- What a session or a restore makes of a chip, and what its report counts.
+use Rattle.std.specs.Prelude.{◌≡◌, ◌/◌, ◌||◌, ℕ, Bool, true, Ok}
+use Rattle.nor_chip.specs.declared.config.Config.{Config}
+use Rattle.nor_chip.specs.Chip.{status1_of}
+use Rattle.nor_chip.specs.Bus.{BusState}
+use Rattle.nor_driver.specs.StatusWrites.{KeepsFixed}
+use Rattle.nor_layout.specs.Below.{count_below}
+use Rattle.nor_plan.specs.Planned.{IsLeastLength}
+use Rattle.nor_probe.specs.declared.sfdp.Kinds.{Kinds}
+use Rattle.nor_probe.specs.Known.{shown_as}
+use Rattle.nor_probe.specs.Found.{IsConfigOf, part_in}
+use Rattle.nor_apply.specs.Counts.{sector_count}
+use Rattle.nor_apply.specs.Content.{once_erased, is_programmed}
+use Rattle.nor_save.specs.declared.report.Report.{Report}
+
+-- the chip's erase kinds beside 4 KiB
+abbrev pub kinds_of : Config → Kinds
+kinds_of config = record { k32 = config.k32; k64 = config.k64 }
+
+-- so many erases are the fewest: some list of them makes just these sectors of the chip FFh, and no shorter one does
+abbrev pub AreFewestErases : Config → (sectors : ℕ → Bool) → (erases : ℕ) → Type 0
+AreFewestErases config = IsLeastLength (kinds_of config) (config.size / 4096)
+
+-- how many pages need a program, once the raised sectors are erased
+abbrev pub pages_of : (touched raised : ℕ → Bool) → (old wanted : ℕ → ℕ) → ℕ
+pages_of touched raised old wanted = count_below 65536 (is_programmed touched (once_erased raised old) wanted)
+
+-- At the end each byte is the wanted one, the fixed bits are as they were, the chip is idle, and its latch is set only
+-- where it was; only the raised sectors were erased, by the fewest erases; and the report tells the chip, and counts
+-- what was done.
+pub record IsMade (wanted : ℕ → ℕ) (touched raised : ℕ → Bool) (old new : BusState)
+    (report : Report) : Type 0 where
+  pub config : new.chip.config ≡ old.chip.config
+  pub bytes : (a : ℕ) → new.chip.bytes a ≡ wanted a
+  pub fixed : KeepsFixed old.chip new.chip
+  pub idle : new.chip.busy ≡ 0
+  pub latch : new.chip.latch ≡ true → old.chip.latch ≡ true
+  pub worn : (s : ℕ) → new.worn s ≡ (old.worn s || raised s)
+  pub found : IsConfigOf old.chip.config report.found
+  pub shown : shown_as old.chip.config ≡ Ok (part_in report.found)
+  pub status1 : report.found.status1 / 4 ≡ old.chip.kept1
+  pub told : old.chip.busy ≡ 0 → report.found.status1 ≡ status1_of old.chip
+  pub sectors : report.touched ≡ sector_count touched
+  pub erases : AreFewestErases old.chip.config raised report.erases
+  pub programs : report.programs ≡ pages_of touched raised old.chip.bytes wanted
