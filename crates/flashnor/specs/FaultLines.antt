@@ -16,6 +16,8 @@ use Rattle.flashnor.specs.Messages.{file_number}
 use Rattle.flashnor.specs.declared.chips.Unwritten.{Unwritten}
 use Rattle.flashnor.specs.declared.messages.Fault.{Fault}
 use Rattle.flashnor.specs.declared.messages.Fault.TheVariants as end
+use Rattle.flashnor.specs.declared.messages.Reason.{Reason}
+use Rattle.flashnor.specs.declared.messages.Reason.TheVariants as by
 use Rattle.flashnor.specs.declared.messages.FileFault.{FileFault}
 use Rattle.flashnor.specs.declared.messages.FileFault.TheVariants as file
 
@@ -46,6 +48,15 @@ reason why.StatusDiffers = codes "status differs from the journal's"
 reason why.Memory = codes "out of memory"
 reason (why.Output written) = concat (codes "output failed after " ∷ decimal written ∷ codes " bytes" ∷ [])
 reason why.OtherUnit = codes "another unit than the journal's"
+
+-- the same, as the code takes it apart
+abbrev pub told : Reason → List ℕ
+told (by.Words words) = words.now
+told (by.Fault words number) = words.now ++ (codes " fault " ++ decimal number)
+told (by.At words at) = words.now ++ (codes " at " ++ address at)
+told (by.Sizes image chip) =
+    concat (codes "image of " ∷ decimal image ∷ codes " bytes, chip of " ∷ decimal chip ∷ codes " bytes" ∷ [])
+told (by.Written bytes) = concat (codes "output failed after " ∷ decimal bytes ∷ codes " bytes" ∷ [])
 
 -- in which line of a layout a fault is, if it is in one
 abbrev pub place : Option ℕ → List ℕ

@@ -37,7 +37,6 @@ pub fn read_content<'a, R: Store>(rt: &R, programmer: &Programmer<'a>) -> Result
 }
 
 // The chip's bytes.
-#[tactic(auto, using(crate::proofs::Ready::size_emulated))]
 fn read_image<'a, R: Store>(rt: &R, programmer: &Programmer<'a>) -> Result<Vec<u8>, Fault<'a>>
     ensures len { IfOk result (λ bytes. vec_len bytes ≡ (part_of programmer.now.chip).size) }
     ensures ok { let size = (part_of programmer.now.chip).size in

@@ -7,10 +7,9 @@ use nor_words::UsageFault;
 use std::alloc::AllocError;
 use std::io::ErrorKind;
 use std::{fmt, io};
-use thiserror::Error;
 
 /// What went wrong with a file.
-#[derive(Clone, Copy, Debug, PartialEq, Eq)]
+#[derive(Clone, Copy)]
 pub enum FileFault {
     /// 1: it can't be read, or is a layout's and too long for one.
     Read,
@@ -39,7 +38,7 @@ impl FileFault {
 }
 
 /// What ends a run with status 1, shown as its line on standard error.
-#[derive(Debug, Drop, Error)]
+#[derive(Drop)]
 pub enum Fault<'a> {
     /// The words ask for nothing; or for help.
     Usage(UsageFault),
@@ -105,7 +104,7 @@ impl fmt::Display for Fault<'_> {
             }
             Fault::File { fault, name } => write!(f, "File fault {}: {name}.", fault.number()),
             Fault::Refused(refusal) => {
-                write!(f, "Error {}: {}.", refusal.number(), Reason(*refusal))
+                write!(f, "Error {}: {}.", refusal.number(), Reason::of(*refusal))
             }
         }
     }
@@ -128,42 +127,63 @@ impl fmt::Display for Place {
     }
 }
 
-// Why a call refused, in words.
+// Why a call refused, in words and numbers.
 #[derive(Drop)]
-struct Reason(Refusal);
+enum Reason {
+    Words(&'static str),
+    // A fault that has its own number.
+    Fault(&'static str, u8),
+    At(&'static str, u32),
+    Sizes { image: usize, chip: u32 },
+    Written(u64),
+}
+
+impl Reason {
+    ghost use Rattle.flashnor.specs.FaultLines.{reason, told};
+
+    fn of(refusal: Refusal) -> Reason
+        ensures { told result ≡ reason refusal }
+    {
+        match refusal {
+            Refusal::NoChip => Reason::Words("no chip"),
+            Refusal::UnknownChip(fault) => Reason::Fault("unknown chip, SFDP", fault.number()),
+            Refusal::OtherName => Reason::Words("another chip than named"),
+            Refusal::ImageSize { chip, image } => Reason::Sizes { image, chip },
+            Refusal::RegionOutside => Reason::Words("region outside the chip"),
+            Refusal::NoProtection => Reason::Words("no protection on this chip"),
+            Refusal::UndefinedProtection => Reason::Words("undefined protection"),
+            Refusal::RangeNotOffered => Reason::Words("range not offered"),
+            Refusal::StatusLocked => Reason::Words("status locked"),
+            Refusal::Protected { address } => Reason::At("protected", address),
+            Refusal::Vault => Reason::Words("journal not written"),
+            Refusal::Stopped => Reason::Words("stopped"),
+            Refusal::Timeout { address } => Reason::At("timeout", address),
+            Refusal::Mismatch { address } => Reason::At("bytes differ", address),
+            Refusal::BadJournal(fault) => Reason::Fault("journal", fault.number()),
+            Refusal::OtherChip => Reason::Words("another chip than the journal's"),
+            Refusal::StatusDiffers => Reason::Words("status differs from the journal's"),
+            Refusal::Memory => Reason::Words("out of memory"),
+            Refusal::Output { written } => Reason::Written(written),
+            Refusal::OtherUnit => Reason::Words("another unit than the journal's"),
+        }
+    }
+}
 
 impl fmt::Display for Reason {
-    ghost use Rattle.flashnor.specs.FaultLines.{reason};
+    ghost use Rattle.flashnor.specs.FaultLines.{told};
 
-    ghost output = { λ shown. Some (reason shown.0) };
+    ghost output = { λ shown. Some (told shown) };
 
     #[tactic(auto, using(crate::proofs::Printed::padded_hex))]
     fn fmt<W: fmt::Write>(&self, f: &mut fmt::Formatter<W>) -> fmt::Result {
-        match self.0 {
-            Refusal::NoChip => f.write_str("no chip"),
-            Refusal::UnknownChip(fault) => {
-                write!(f, "unknown chip, SFDP fault {}", fault.number())
-            }
-            Refusal::OtherName => f.write_str("another chip than named"),
-            Refusal::ImageSize { chip, image } => {
+        match self {
+            Reason::Words(words) => f.write_str(words),
+            Reason::Fault(words, number) => write!(f, "{words} fault {number}"),
+            Reason::At(words, address) => write!(f, "{words} at 0x{address:06x}"),
+            Reason::Sizes { image, chip } => {
                 write!(f, "image of {image} bytes, chip of {chip} bytes")
             }
-            Refusal::RegionOutside => f.write_str("region outside the chip"),
-            Refusal::NoProtection => f.write_str("no protection on this chip"),
-            Refusal::UndefinedProtection => f.write_str("undefined protection"),
-            Refusal::RangeNotOffered => f.write_str("range not offered"),
-            Refusal::StatusLocked => f.write_str("status locked"),
-            Refusal::Protected { address } => write!(f, "protected at 0x{address:06x}"),
-            Refusal::Vault => f.write_str("journal not written"),
-            Refusal::Stopped => f.write_str("stopped"),
-            Refusal::Timeout { address } => write!(f, "timeout at 0x{address:06x}"),
-            Refusal::Mismatch { address } => write!(f, "bytes differ at 0x{address:06x}"),
-            Refusal::BadJournal(fault) => write!(f, "journal fault {}", fault.number()),
-            Refusal::OtherChip => f.write_str("another chip than the journal's"),
-            Refusal::StatusDiffers => f.write_str("status differs from the journal's"),
-            Refusal::Memory => f.write_str("out of memory"),
-            Refusal::Output { written } => write!(f, "output failed after {written} bytes"),
-            Refusal::OtherUnit => f.write_str("another unit than the journal's"),
+            Reason::Written(bytes) => write!(f, "output failed after {bytes} bytes"),
         }
     }
 }

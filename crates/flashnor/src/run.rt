@@ -95,7 +95,6 @@ impl<'a> Ended<'a> {
 }
 
 // Does what the words ask for.
-#[tactic(auto, using(crate::proofs::Ended::answer_ended, crate::proofs::Ended::answer_failed, crate::proofs::Ended::answer_listed, crate::proofs::Ended::answer_usage))]
 fn run<'a, R: Store>(rt: &R, words: &'a [String]) -> Ended<'a>
     ensures { IsAnswer (R.happened rt.now) (map string_bytes words.now) result.answer result.unwritten }
 {
@@ -200,7 +199,6 @@ fn call_on<'a, R: Store>(
 }
 
 // Does the job's task on its chip. A fault is one from before the call.
-#[tactic(auto, using(crate::proofs::Ready::modelled_ready, crate::proofs::Ready::calm_ready))]
 fn do_task<'a, R: Store, B: Meter>(
     rt: &R,
     bus: &mut B,

@@ -1,12 +1,14 @@
 -- Settings and stops that are gone through in turn, from the n-th on.
-use Rattle.std.proofs.Common.{◌≡◌, ◌∙◌, ℕ, suc, ◌+◌, ◌<◌, ◌≤◌, ◌&&◌, Bool, true, false, List, [], ◌∷◌, ◌++◌, Option, Some, None, length, drop, get_or, cond, ap, ap₂, sym, refl, arith, nat_le}
+use Rattle.std.proofs.Common.{◌≡◌, ◌∙◌, ℕ, suc, ◌+◌, ◌<◌, ◌≤◌, ◌&&◌, Bool, true, false, List, [], ◌∷◌, ◌++◌, Option, Some, None, length, drop, get_or, cond, ap, ap₂, sym, refl, arith, nat_le, not}
 use Rattle.std.specs.Prelude.{filter_map, find, Result, Ok, Err, IsOk, OnOk, OnErr}
 use Rattle.std.specs.Result.{result_ok}
 use Rattle.std.specs.List.{count_by, list_all}
 use Rattle.std.proofs.lemmas.Bool.Decides.{nat_tests}
 use Rattle.std.proofs.lemmas.List.Sums.{sum_by-cons}
 use Rattle.std.proofs.lemmas.List.{append-nil, append_assoc, length_push}
-use Rattle.nor_words.specs.Text.{Text, pieces_of, reads}
+use Rattle.std.specs.Str.{bytes_eq}
+use Rattle.nor_words.specs.Programmer.{has_key}
+use Rattle.nor_words.specs.Text.{Text, key_of, pieces_of, reads}
 use Rattle.nor_words.specs.Numbers.{number_of}
 use Rattle.nor_words.specs.Stops.{stops_of}
 use Rattle.nor_words.proofs.InTurn.{turned, ended}
@@ -14,6 +16,23 @@ use Rattle.nor_words.proofs.InTurn.{turned, ended}
 -- the piece is the n-th
 abbrev pub IsNth : List Text → ℕ → Text → Type 0
 IsNth pieces n piece = (n < length pieces) × (piece ≡ get_or pieces n piece)
+
+-- ---- the key of a setting, by a test that it differs
+
+differs_not : (b : Bool) → not b ≡ false → b ≡ true
+differs_not true is = refl
+differs_not false is = cc
+
+differs_so : (b : Bool) → not b ≡ true → b ≡ false
+differs_so true is = cc
+differs_so false is = refl
+
+module _ (key other setting : Text) (differs : Bool) (same : other ≡ key_of setting) (tells : differs ≡ not (bytes_eq other key)) where
+  pub key-met : differs ≡ false → has_key key setting ≡ true
+  key-met is = ap (λ (t : Text). bytes_eq t key) (sym same) ∙ differs_not (bytes_eq other key) (sym tells ∙ is)
+
+  pub key-other : differs ≡ true → has_key key setting ≡ false
+  key-other is = ap (λ (t : Text). bytes_eq t key) (sym same) ∙ differs_so (bytes_eq other key) (sym tells ∙ is)
 
 -- ---- the first that passes a test
 

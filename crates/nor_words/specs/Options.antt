@@ -1,8 +1,9 @@
 -- The options of the program, as `clap` reads them.
-use Rattle.std.specs.Prelude.{◌≡◌, true, false, List, [], ◌∷◌, Some, codes, fold, slice_get}
+use Rattle.std.specs.Prelude.{◌≡◌, true, false, List, [], ◌∷◌, ◌++◌, None, Some, codes, fold, is_some, slice_get, if◌then◌else◌}
 use Rattle.clap.specs.Words.{App, Rule, new_app, new_rule, rule_of, with_rule}
 use Rattle.clap.specs.declared.builder.arg.Arg.{Arg}
 use Rattle.clap.specs.declared.builder.action.ArgAction.TheVariants.{Set, SetTrue, HelpShort}
+use Rattle.nor_words.specs.declared.options.Choice.{Choice}
 use Rattle.nor_words.specs.Text.{Text}
 
 -- an option that takes one value
@@ -82,3 +83,27 @@ abbrev pub options : App
 options =
     with_rule (with_rules (with_rules (with_rules (with_rules no_options chip_rules) reader_rules) change_rules)
     manner_rules) help_rule
+
+-- ---- the table of the code
+
+-- an option that is written as a row says
+abbrev pub named : Choice → Rule
+named choice = record (new_rule choice.name.now) {
+  short = choice.letter;
+  long = if is_some choice.letter then None else Some choice.name.now;
+}
+
+-- the option of a row
+abbrev pub chosen : Choice → Rule
+chosen choice = record (named choice) {
+  action = Some (if is_some choice.value then Set else SetTrue);
+  value_names = if is_some choice.value then 1 else 0;
+}
+
+-- it behind those that there are
+abbrev pub with_choice : App → Choice → App
+with_choice app choice = with_rule app (chosen choice)
+
+-- those of all rows
+abbrev pub most_rules : List Rule
+most_rules = chip_rules ++ reader_rules ++ change_rules ++ manner_rules

@@ -5,7 +5,7 @@ use crate::stops::MOST_STOPS;
 use arrayvec::ArrayVec;
 
 /// What the words ask for.
-#[derive(Debug, PartialEq, Drop)]
+#[derive(Drop)]
 pub enum Job<'a> {
     /// `-L`: the table of chips is listed.
     List,
@@ -14,7 +14,7 @@ pub enum Job<'a> {
 }
 
 /// What is done with the programmer's chip.
-#[derive(Debug, PartialEq, Drop)]
+#[derive(Drop)]
 pub struct ChipJob<'a> {
     pub programmer: Programmer<'a>,
     /// `-c NAME`: the name that the chip must have.
@@ -23,7 +23,7 @@ pub struct ChipJob<'a> {
 }
 
 /// The operation on a chip.
-#[derive(Debug, PartialEq, Drop)]
+#[derive(Drop)]
 pub enum Task<'a> {
     /// No operation: the chip is only found.
     Probe,
@@ -52,7 +52,7 @@ pub enum Task<'a> {
 }
 
 /// The regions that an operation includes.
-#[derive(Clone, Copy, Debug, PartialEq, Eq)]
+#[derive(Clone, Copy)]
 pub struct Regions<'a> {
     /// `-l FILE`: the file of the layout.
     pub layout: &'a str,
@@ -61,7 +61,7 @@ pub struct Regions<'a> {
 }
 
 /// A change of the chip that can be undone.
-#[derive(Debug, PartialEq, Drop)]
+#[derive(Drop)]
 pub struct Change<'a> {
     pub wanted: Wanted<'a>,
     /// The regions that it is held to; the whole chip where there are none.
@@ -74,7 +74,7 @@ pub struct Change<'a> {
 }
 
 /// What a change makes of the chip.
-#[derive(Clone, Copy, Debug, PartialEq, Eq)]
+#[derive(Clone, Copy)]
 pub enum Wanted<'a> {
     /// `-w FILE`: the image in the file of this name.
     Write { image: &'a str },
@@ -85,7 +85,7 @@ pub enum Wanted<'a> {
 }
 
 /// What becomes of the journal of a change.
-#[derive(Debug, PartialEq, Drop)]
+#[derive(Drop)]
 pub enum Keeping<'a> {
     /// `--journal FILE`: it is kept in the file of this name.
     Journal { file: &'a str },

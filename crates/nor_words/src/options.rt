@@ -1,8 +1,7 @@
 //! The options of the program.
-ghost use Rattle.std.specs.Prelude.{◌≡◌, IfOk, Some};
+ghost use Rattle.std.specs.Prelude.{◌≡◌, IfOk, fold, map};
 ghost use Rattle.clap.specs.Words.{app_of};
-ghost use Rattle.nor_words.specs.Options.{options, with_rules, chip_rules, reader_rules, change_rules, manner_rules};
-ghost use Rattle.nor_words.specs.Options.{help_rule, valued, flag, IsOption};
+ghost use Rattle.nor_words.specs.Options.{options, no_options, help_rule, most_rules, IsOption, named, chosen, with_choice};
 
 use clap::{Arg, ArgAction, Command};
 use std::alloc::{AllocError, Global};
@@ -50,123 +49,192 @@ Usage fault 10: out of memory
 
 The manual page, flashnor(8), says what each fault asks for.";
 
+// How an option is written, and what help says of it.
+struct Choice {
+    // It is written as `-` and this letter, or as `--` and its name where there is none.
+    letter: Option<char>,
+    name: &'static str,
+    // What stands for its value in help, where it takes one.
+    value: Option<&'static str>,
+    help: &'static str,
+}
+
+// All options but the one that asks for help, in the order of the help.
+static CHOICES: [Choice; 18] = [
+    Choice {
+        letter: Some('p'),
+        name: "programmer",
+        value: Some("TEXT"),
+        help: "The programmer and its chip, see below",
+    },
+    Choice {
+        letter: Some('c'),
+        name: "chip",
+        value: Some("NAME"),
+        help: "The chip must have this name",
+    },
+    Choice {
+        letter: Some('L'),
+        name: "list",
+        value: None,
+        help: "List the chips that are known",
+    },
+    Choice {
+        letter: None,
+        name: "flash-size",
+        value: None,
+        help: "Print the size of the chip in bytes",
+    },
+    Choice {
+        letter: None,
+        name: "wp-status",
+        value: None,
+        help: "Print the protected range, and whether it is locked",
+    },
+    Choice {
+        letter: None,
+        name: "wp-list",
+        value: None,
+        help: "List the ranges that can be protected",
+    },
+    Choice {
+        letter: Some('r'),
+        name: "read",
+        value: Some("FILE"),
+        help: "Read the chip into the file",
+    },
+    Choice {
+        letter: Some('v'),
+        name: "verify",
+        value: Some("FILE"),
+        help: "Compare the chip with the image in the file",
+    },
+    Choice {
+        letter: Some('w'),
+        name: "write",
+        value: Some("FILE"),
+        help: "Write the image in the file",
+    },
+    Choice {
+        letter: Some('E'),
+        name: "erase",
+        value: None,
+        help: "Erase the chip",
+    },
+    Choice {
+        letter: None,
+        name: "wp-range",
+        value: Some("S,L"),
+        help: "Protect L bytes from S on, no others; decimal or 0x..",
+    },
+    Choice {
+        letter: None,
+        name: "restore",
+        value: Some("FILE"),
+        help: "Give back what a journal holds",
+    },
+    Choice {
+        letter: None,
+        name: "journal",
+        value: Some("FILE"),
+        help: "A new file for the journal; with -w, -E, --wp-range",
+    },
+    Choice {
+        letter: None,
+        name: "rehearse",
+        value: Some("N,N,.."),
+        help: "Or rehearse, stopped after N transactions, see below",
+    },
+    Choice {
+        letter: Some('l'),
+        name: "layout",
+        value: Some("FILE"),
+        help: "The layout of regions; with -i, and -r, -w, -v or -E",
+    },
+    Choice {
+        letter: Some('i'),
+        name: "include",
+        value: Some("NAMES"),
+        help: "The regions to include, separated by commas; with -l",
+    },
+    Choice {
+        letter: Some('n'),
+        name: "no-verify",
+        value: None,
+        help: "Do not verify what was written; with -w or -E",
+    },
+    Choice {
+        letter: None,
+        name: "unlock",
+        value: None,
+        help: "Lift protection, and give it back; with -w or -E",
+    },
+];
+
 /// The command that reads the words after the program's name.
 pub fn make_options<'a>(alloc: Global) -> Result<Command<'a>, AllocError>
     ensures { IfOk result (λ command. app_of command ≡ options) }
 {
-    let named = Command::new(alloc, "flashnor")
-        .no_binary_name(true)
-        .disable_help_flag(true)
-        .about(ABOUT)
-        .after_help(NOTES);
-    let chosen = add_chip(alloc, named)?;
-    let reading = add_readers(alloc, chosen)?;
-    let changing = add_changes(alloc, reading)?;
-    let kept = add_manners(alloc, changing)?;
-    let command = kept.arg(help_option(alloc))?;
+    let chosen = add_choices(alloc, new_command(alloc), choices())?;
+    let command = chosen.arg(help_option(alloc))?;
     Ok(command)
 }
 
-// The programmer and its chip.
-fn add_chip<'a>(alloc: Global, command: Command<'a>) -> Result<Command<'a>, AllocError>
-    ensures { IfOk result (λ longer. app_of longer ≡ with_rules (app_of command.entry) chip_rules) }
+// The program, without an option.
+fn new_command<'a>(alloc: Global) -> Command<'a>
+    ensures { app_of result ≡ no_options }
 {
-    let longer = command
-        .arg(short_value(
-            alloc,
-            'p',
-            "programmer",
-            "TEXT",
-            "The programmer and its chip, see below",
-        ))?
-        .arg(short_value(alloc, 'c', "chip", "NAME", "The chip must have this name"))?
-        .arg(short_flag(alloc, 'L', "list", "List the chips that are known"))?;
+    Command::new(alloc, "flashnor")
+        .no_binary_name(true)
+        .disable_help_flag(true)
+        .about(ABOUT)
+        .after_help(NOTES)
+}
+
+// The table.
+fn choices() -> &'static [Choice; 18]
+    ensures { map chosen result.now ≡ most_rules }
+{
+    &CHOICES
+}
+
+// Adds these options.
+fn add_choices<'a>(
+    alloc: Global,
+    command: Command<'a>,
+    choices: &[Choice],
+) -> Result<Command<'a>, AllocError>
+    ensures { IfOk result (λ longer. app_of longer ≡ fold with_choice (app_of command.entry) choices.now) }
+{
+    let mut longer = command;
+    for choice in choices {
+        longer = longer.arg(choice.option(alloc))?;
+    }
     Ok(longer)
 }
 
-// The operations that leave the chip as it is.
-fn add_readers<'a>(alloc: Global, command: Command<'a>) -> Result<Command<'a>, AllocError>
-    ensures { IfOk result (λ longer. app_of longer ≡ with_rules (app_of command.entry) reader_rules) }
-{
-    let longer = command
-        .arg(long_flag(alloc, "flash-size", "Print the size of the chip in bytes"))?
-        .arg(long_flag(
-            alloc,
-            "wp-status",
-            "Print the protected range, and whether it is locked",
-        ))?
-        .arg(long_flag(alloc, "wp-list", "List the ranges that can be protected"))?
-        .arg(short_value(alloc, 'r', "read", "FILE", "Read the chip into the file"))?
-        .arg(short_value(
-            alloc,
-            'v',
-            "verify",
-            "FILE",
-            "Compare the chip with the image in the file",
-        ))?;
-    Ok(longer)
-}
+impl Choice {
+    // The option.
+    fn option<'a>(&self, alloc: Global) -> Arg<'a>
+        ensures { IsOption (chosen self.now) result }
+    {
+        let named = self.named(alloc);
+        match self.value {
+            Some(value) => named.value_name(value).action(ArgAction::Set),
+            None => named.action(ArgAction::SetTrue),
+        }
+    }
 
-// The operations that change the chip.
-fn add_changes<'a>(alloc: Global, command: Command<'a>) -> Result<Command<'a>, AllocError>
-    ensures { IfOk result (λ longer. app_of longer ≡ with_rules (app_of command.entry) change_rules) }
-{
-    let longer = command
-        .arg(short_value(alloc, 'w', "write", "FILE", "Write the image in the file"))?
-        .arg(short_flag(alloc, 'E', "erase", "Erase the chip"))?
-        .arg(long_value(
-            alloc,
-            "wp-range",
-            "S,L",
-            "Protect L bytes from S on, no others; decimal or 0x..",
-        ))?
-        .arg(long_value(alloc, "restore", "FILE", "Give back what a journal holds"))?;
-    Ok(longer)
-}
-
-// How an operation is done.
-fn add_manners<'a>(alloc: Global, command: Command<'a>) -> Result<Command<'a>, AllocError>
-    ensures { IfOk result (λ longer. app_of longer ≡ with_rules (app_of command.entry) manner_rules) }
-{
-    let longer = command
-        .arg(long_value(
-            alloc,
-            "journal",
-            "FILE",
-            "A new file for the journal; with -w, -E, --wp-range",
-        ))?
-        .arg(long_value(
-            alloc,
-            "rehearse",
-            "N,N,..",
-            "Or rehearse, stopped after N transactions, see below",
-        ))?
-        .arg(short_value(
-            alloc,
-            'l',
-            "layout",
-            "FILE",
-            "The layout of regions; with -i, and -r, -w, -v or -E",
-        ))?
-        .arg(short_value(
-            alloc,
-            'i',
-            "include",
-            "NAMES",
-            "The regions to include, separated by commas; with -l",
-        ))?
-        .arg(short_flag(
-            alloc,
-            'n',
-            "no-verify",
-            "Do not verify what was written; with -w or -E",
-        ))?
-        .arg(long_flag(
-            alloc,
-            "unlock",
-            "Lift protection, and give it back; with -w or -E",
-        ))?;
-    Ok(longer)
+    // An option that is written so.
+    fn named<'a>(&self, alloc: Global) -> Arg<'a>
+        ensures { IsOption (named self.now) result }
+    {
+        let arg = Arg::new(alloc, self.name).help(self.help);
+        match self.letter {
+            Some(letter) => arg.short(letter),
+            None => arg.long(self.name),
+        }
+    }
 }
 
 fn help_option<'a>(alloc: Global) -> Arg<'a>
@@ -176,52 +244,4 @@ fn help_option<'a>(alloc: Global) -> Arg<'a>
         .short('h')
         .help("Print this help")
         .action(ArgAction::HelpShort)
-}
-
-// An option of one letter that takes a value.
-fn short_value<'a>(
-    alloc: Global,
-    letter: char,
-    id: &'a str,
-    value: &'a str,
-    help: &'a str,
-) -> Arg<'a>
-    ensures { IsOption (record (valued id.entry.now) { short = Some letter }) result }
-{
-    Arg::new(alloc, id)
-        .short(letter)
-        .value_name(value)
-        .help(help)
-        .action(ArgAction::Set)
-}
-
-// An option of a whole name that takes a value.
-fn long_value<'a>(alloc: Global, name: &'a str, value: &'a str, help: &'a str) -> Arg<'a>
-    ensures { IsOption (record (valued name.entry.now) { long = Some name.entry.now }) result }
-{
-    Arg::new(alloc, name)
-        .long(name)
-        .value_name(value)
-        .help(help)
-        .action(ArgAction::Set)
-}
-
-// An option of one letter that is there or isn't.
-fn short_flag<'a>(alloc: Global, letter: char, id: &'a str, help: &'a str) -> Arg<'a>
-    ensures { IsOption (record (flag id.entry.now) { short = Some letter }) result }
-{
-    Arg::new(alloc, id)
-        .short(letter)
-        .help(help)
-        .action(ArgAction::SetTrue)
-}
-
-// An option of a whole name that is there or isn't.
-fn long_flag<'a>(alloc: Global, name: &'a str, help: &'a str) -> Arg<'a>
-    ensures { IsOption (record (flag name.entry.now) { long = Some name.entry.now }) result }
-{
-    Arg::new(alloc, name)
-        .long(name)
-        .help(help)
-        .action(ArgAction::SetTrue)
 }

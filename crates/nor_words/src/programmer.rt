@@ -7,7 +7,7 @@ use crate::settings::{are_sound, find_value};
 use nor_chip::Config;
 
 /// A chip that the program emulates.
-#[derive(Clone, Copy, Debug, PartialEq, Eq)]
+#[derive(Clone, Copy)]
 pub enum Emulated {
     /// 64 KiB, known by its SFDP alone.
     Tiny64,
@@ -46,7 +46,7 @@ impl Emulated {
 
 /// The programmer that `-p` names: `dummy:` and then settings `key=value`, separated by commas, in any order and
 /// each at most once.
-#[derive(Clone, Copy, Debug, PartialEq, Eq)]
+#[derive(Clone, Copy)]
 pub struct Programmer<'a> {
     /// `emulate=NAME`, which must be there: the chip.
     pub chip: Emulated,

@@ -1,0 +1,52 @@
+use Rattle.flashnor.proofs.Ready.{calm_ready, modelled_ready}
+use Rattle.flashnor.proofs.run.do_task.Goals as goal
+
+pub returns-in-Probe-clause-ok : goal.returns-in-Probe-clause-ok
+returns-in-Probe-clause-ok g c = λ ready. rw c.in-Probe.is (c.find_chip.ensures c.args.job.now.programmer ready)
+
+pub returns-in-Probe-clause-err : goal.returns-in-Probe-clause-err
+returns-in-Probe-clause-err g c = tt
+
+pub returns-in-FlashSize-clause-ok : goal.returns-in-FlashSize-clause-ok
+returns-in-FlashSize-clause-ok g c = λ ready. rw c.in-FlashSize.is (c.tell_size.ensures c.args.job.now.programmer ready)
+
+pub returns-in-FlashSize-clause-err : goal.returns-in-FlashSize-clause-err
+returns-in-FlashSize-clause-err g c = tt
+
+pub returns-in-WpStatus-clause-ok : goal.returns-in-WpStatus-clause-ok
+returns-in-WpStatus-clause-ok g c = λ ready. rw c.in-WpStatus.is c.tell_protection.ensures
+
+pub returns-in-WpStatus-clause-err : goal.returns-in-WpStatus-clause-err
+returns-in-WpStatus-clause-err g c = tt
+
+pub returns-in-WpList-clause-ok : goal.returns-in-WpList-clause-ok
+returns-in-WpList-clause-ok g c = λ ready. rw c.in-WpList.is c.list_ranges.ensures
+
+pub returns-in-WpList-clause-err : goal.returns-in-WpList-clause-err
+returns-in-WpList-clause-err g c = tt
+
+pub returns-in-Read-clause-ok : goal.returns-in-Read-clause-ok
+returns-in-Read-clause-ok g c = λ ready. rw c.in-Read.is c.read_chip.ensures.ok
+
+pub returns-in-Read-clause-err : goal.returns-in-Read-clause-err
+returns-in-Read-clause-err g c = rw c.in-Read.is c.read_chip.ensures.err
+
+pub returns-in-Verify-clause-ok : goal.returns-in-Verify-clause-ok
+returns-in-Verify-clause-ok g c = λ ready. rw c.in-Verify.is c.verify_chip.ensures.ok
+
+pub returns-in-Verify-clause-err : goal.returns-in-Verify-clause-err
+returns-in-Verify-clause-err g c = rw c.in-Verify.is c.verify_chip.ensures.err
+
+pub returns-in-Change-clause-ok : goal.returns-in-Change-clause-ok
+returns-in-Change-clause-ok g c = λ ready.
+    rw c.in-Change.is (c.change_chip.ensures.ok (modelled_ready c.args.job.now.programmer _ ready) (calm_ready c.args.job.now.programmer _ ready))
+
+pub returns-in-Change-clause-err : goal.returns-in-Change-clause-err
+returns-in-Change-clause-err g c = rw c.in-Change.is c.change_chip.ensures.err
+
+pub returns-in-Restore-clause-ok : goal.returns-in-Restore-clause-ok
+returns-in-Restore-clause-ok g c = λ ready.
+    rw c.in-Restore.is (c.restore_chip.ensures.ok (modelled_ready c.args.job.now.programmer _ ready) (calm_ready c.args.job.now.programmer _ ready))
+
+pub returns-in-Restore-clause-err : goal.returns-in-Restore-clause-err
+returns-in-Restore-clause-err g c = rw c.in-Restore.is c.restore_chip.ensures.err
