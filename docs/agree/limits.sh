@@ -64,13 +64,13 @@ limit_words() {
 limit_transactions() {
     local sfdp=crates/nor_probe/src/sfdp.rt polls opening
     polls=$(constant crates/nor_driver/src/waits.rt 'MOST_POLLS: u32 = ')
-    opening=$(constant crates/nor_save/src/opening.rt 'Looks ')
+    opening=$(constant crates/nor_save/specs/Opening.antt 'most_opening = ')
     limit "polls" "$polls" 2 '# (polls in a row|polls, after)'
     limit "polls of an operation" "$polls" 1 'BUSY is clear, at most #'
-    limit "transactions of a probe" "$(constant crates/nor_probe/specs/Found.antt 'Looks ')" 1 \
+    limit "transactions of a probe" "$(constant crates/nor_probe/specs/Found.antt 'most_probe = ')" 1 \
         'command and at most # transactions'
     limit "transactions of a session without sectors" "$opening" 1 '# \+ s \+ 2t'
-    limit "transactions of an operation" "$(constant crates/nor_driver/src/operations.rt 'Halts address ')" 1 \
+    limit "transactions of an operation" "$(constant crates/nor_driver/specs/Operations.antt 'most_operation = ')" 1 \
         '\+ #\(e \+ p'
     limit "KiB of the smallest chip" $((2 ** $(constant $sfdp 'LEAST_BITS: u32 = 1 << ') / 8192)) 2 'from # KiB to'
     limit "MiB of the largest chip" $((2 ** $(constant $sfdp 'MOST_EXPONENT: u32 = ') >> 23)) 2 'KiB to # MiB'

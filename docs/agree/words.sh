@@ -2,10 +2,10 @@
 
 # Options as `-p TEXT` or `-E`.
 take_options() {
-    flat $words/options.rt | sed -E 's/((short|long)_(value|flag)\( ?alloc|\.short\()/\n&/g' | sed -nE \
-        -e "s/^short_value\( ?alloc, '(.)', \"[^\"]*\", \"([^\"]*)\".*/-\1 \2/p" \
-        -e "s/^(short_flag\( ?alloc, |\.short\()'(.)'.*/-\2/p" -e 's/^long_flag\( ?alloc, "([^"]*)".*/--\1/p' \
-        -e 's/^long_value\( ?alloc, "([^"]*)", "([^"]*)".*/--\1 \2/p' | keep options parser
+    flat $words/options.rt | sed -E 's/Choice \{ letter|\.short\(/\n&/g' | sed -nE \
+        -e "s/^\.short\('(.)'.*/-\1/p" -e 's/^Choice \{ letter: //; s/, help: .*//' \
+        -e "s/^Some\('(.)'\), name: \"[^\"]*\", value: (.*)/-\1 \2/; s/^None, name: \"([^\"]*)\", value: (.*)/--\1 \2/" \
+        -e 's/^(-[-a-zA-Z]+) (None|Some\("([^"]*)"\))$/\1 \3/p' | sed 's/ $//' | keep options parser
     sed -nE '/^Options:/,/^$/s/^ +(-[-a-zA-Z]+)( <([^>]*)>)? .*/\1 \3/p' "$work/help" | sed 's/ $//' | keep options help
     tags OPTIONS | keep options manual
     awk -F'\t' '$1 == "SYNOPSIS" { print $4 }' "$work/manual" | sed 's/dummy:[^ ]*/TEXT/' |
