@@ -6,6 +6,7 @@ use Rattle.std.proofs.lemmas.Bool.Decides.{nat_tests}
 use Rattle.std.proofs.Math.Bool.{and-false, or-false}
 use Rattle.nor_chip.specs.declared.config.Config.{Config}
 use Rattle.nor_chip.specs.Bus.{BusState}
+use Rattle.nor_chip.proofs.Sizes.{sized_bounds}
 use Rattle.nor_driver.specs.declared.waits.Halt.{Halt}
 use Rattle.nor_apply.specs.declared.tally.Tally.{Tally}
 use Rattle.nor_layout.specs.Below.{count_below}
@@ -314,7 +315,7 @@ does_ended touched raised wanted n first now tally end so_far' =
           let done = so_far.done honest can in
           record {
             config = done.config;
-            bytes = λ a. done.bytes a ∙ ap (λ (b : Bool). if b then wanted a else first.chip.bytes a) (all_touched touched first.chip.config.size (a / 4096) first.chip.config.at_most can.can.inside);
+            bytes = λ a. done.bytes a ∙ ap (λ (b : Bool). if b then wanted a else first.chip.bytes a) (all_touched touched first.chip.config.size (a / 4096) (sized_bounds first.chip.config).small can.can.inside);
             kept = done.kept;
             worn = done.worn;
             idle = done.idle;

@@ -6,6 +6,7 @@ use Rattle.std.proofs.lemmas.Bool.{cases_lt, lt-ltb, le-ltb, lt-leb, false_from_
 use Rattle.nor_chip.specs.Chip.{Chip}
 use Rattle.nor_chip.specs.Guard.{guarded_by, code_of, is_guarded, is_unit_guarded}
 use Rattle.nor_chip.specs.Units.{LieAtAnEnd, HoldsSomewhere}
+use Rattle.nor_chip.proofs.Sizes.{sized_bounds}
 use Rattle.nor_chip.proofs.GuardedPlaces.{guarded_by-end, guarded_by-page, guarded_by-past, borders, lies_nowhere}
 
 -- the guarded places of a chip, with or without a scheme, lie at one of its ends
@@ -16,7 +17,7 @@ with_scheme false size test ends = lies_nowhere size
 pub is_guarded-end : (chip : Chip) → LieAtAnEnd chip.config.size (is_guarded chip)
 is_guarded-end chip =
     with_scheme chip.config.scheme chip.config.size (guarded_by chip.config.size (code_of chip))
-    (guarded_by-end chip.config.size (code_of chip) chip.config.at_least chip.config.in_blocks)
+    (guarded_by-end chip.config.size (code_of chip) (sized_bounds chip.config).large (sized_bounds chip.config).blocks)
 
 -- A unit of the chip counts as guarded exactly where some place of it is.
 pub is_unit_guarded-iff : (chip : Chip) (start len : ℕ) → 0 < len → start + len ≤ chip.config.size → (is_unit_guarded chip start len ≡ true) ↔ HoldsSomewhere (is_guarded chip) start len
@@ -42,12 +43,12 @@ is_unit_guarded-part chip start len start' len' fits free some from upto =
 -- No address of a sector that isn't guarded is guarded.
 pub is_guarded-sector : (chip : Chip) (a : ℕ) → a < chip.config.size → is_unit_guarded chip (4096 * (a / 4096)) 4096 ≡ false → is_guarded chip a ≡ false
 is_guarded-sector chip a below free =
-    let blocks = chip.config.in_blocks in
+    let blocks = (sized_bounds chip.config).blocks in
     is_unit_guarded-none chip (4096 * (a / 4096)) 4096 a (omega arith) free (omega arith) (omega arith)
 
 -- A sector isn't guarded exactly where none of its addresses is.
 pub is_unit_guarded-sector : (chip : Chip) (s : ℕ) → 4096 * s < chip.config.size → (is_unit_guarded chip (4096 * s) 4096 ≡ false) ↔ ((a : ℕ) → a / 4096 ≡ s → is_guarded chip a ≡ false)
-is_unit_guarded-sector chip s below = let blocks = chip.config.in_blocks in (
+is_unit_guarded-sector chip s below = let blocks = (sized_bounds chip.config).blocks in (
   (λ free a inside. is_unit_guarded-none chip (4096 * s) 4096 a (omega arith) free (omega arith) (omega arith)),
   (λ free. is_unit_guarded-free chip (4096 * s) 4096 (omega arith) (λ a from before. free a (omega arith))),
 )
@@ -60,7 +61,7 @@ is_unit_guarded-sectors chip start len some fits free =
 -- All places of a page of the chip are guarded, or none is.
 pub is_guarded-page : (chip : Chip) (a b : ℕ) → a < chip.config.size → b < chip.config.size → a / 256 ≡ b / 256 → is_guarded chip a ≡ is_guarded chip b
 is_guarded-page chip a b below_a below_b page =
-    ap (λ test. chip.config.scheme && test) (guarded_by-page chip.config.size (code_of chip) a b chip.config.at_least chip.config.in_blocks below_a below_b page)
+    ap (λ test. chip.config.scheme && test) (guarded_by-page chip.config.size (code_of chip) a b (sized_bounds chip.config).large (sized_bounds chip.config).blocks below_a below_b page)
 
 -- Nothing is guarded past the chip's end, ..
 pub is_guarded-past : (chip : Chip) (a : ℕ) → chip.config.size ≤ a → is_guarded chip a ≡ false

@@ -9,6 +9,7 @@ use Rattle.std.proofs.Math.Bool.{or-true}
 use Rattle.std.proofs.Math.Pow.{pow_mono}
 use Rattle.std.proofs.lemmas.Nat.{pow-add, pow_pos, pow_below, ones_cat, ones_le_self, zero_from_ones}
 use Rattle.std.proofs.lemmas.Bool.{cases_lt, eqb-true, eq-eqb, or_cases}
+use Rattle.nor_chip.specs.declared.config.Config.{Config}
 use Rattle.nor_chip.specs.Size.{is_chip_size}
 
 -- ---- a number with one digit set is a power of two
@@ -104,6 +105,10 @@ pub is_chip_size-in_blocks : (size : ℕ) → is_chip_size size ≡ true → IsI
 is_chip_size-in_blocks size holds =
     let found = some_power 9 16 size holds in
     in_blocks_at size found.exponent found.from found.before found.power
+
+-- that of a configuration is one
+pub sized_bounds : (config : Config) → IsInBlocks config.size
+sized_bounds config = is_chip_size-in_blocks config.size config.sized
 
 -- A power of two from 64 KiB to 16 MiB is the size of a chip, ..
 pub is_chip_size-from : (size : ℕ) → is_power_of_two size ≡ true → 65536 ≤ size → size ≤ 16777216 → is_chip_size size ≡ true

@@ -1,5 +1,5 @@
 //! What never changes of a chip.
-ghost use Rattle.std.specs.Prelude.{◌≡◌, ◌≤◌, ◌%◌, ◌-◌, ◌++◌, ◌↔◌, true, length, replicate, IsTrue, IsSome, IfSome};
+ghost use Rattle.std.specs.Prelude.{◌≡◌, ◌≤◌, ◌-◌, ◌++◌, ◌↔◌, true, length, replicate, IsTrue, IsSome, IfSome};
 ghost use Rattle.nor_chip.specs.Size.{is_chip_size};
 
 /// The SFDP bytes that `TINY64` shows from address 0 on: the header, one parameter header and the double
@@ -56,9 +56,6 @@ pub struct Config {
     pub unique: [u8; 8],
     pub sfdp: [u8; 256],
     pub ghost sized: { IsTrue (is_chip_size size) },
-    pub ghost at_least: { 65536 ≤ size },
-    pub ghost at_most: { size ≤ 16777216 },
-    pub ghost in_blocks: { size % 65536 ≡ 0 },
 }
 
 impl Config {
@@ -151,10 +148,7 @@ impl Config {
 
 // A power of two that three address bytes reach, from 64 KiB on.
 fn is_chip_size(size: u32) -> bool
-    ensures value { result ≡ is_chip_size size }
-    ensures at_least { result ≡ true → 65536 ≤ size }
-    ensures at_most { result ≡ true → size ≤ 16777216 }
-    ensures in_blocks { result ≡ true → size % 65536 ≡ 0 }
+    ensures { result ≡ is_chip_size size }
 {
     matches!(size, 0x1_0000..=0x100_0000) && size.is_power_of_two()
 }

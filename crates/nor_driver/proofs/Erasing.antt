@@ -10,6 +10,7 @@ use Rattle.nor_chip.specs.Guard.{is_unit_guarded}
 use Rattle.nor_chip.specs.Command.{address_of}
 use Rattle.nor_chip.specs.Step.{is_idle, is_operation, is_carried_out}
 use Rattle.nor_chip.specs.Bus.{BusState}
+use Rattle.nor_chip.proofs.Sizes.{sized_bounds}
 use Rattle.nor_driver.proofs.Bools.{bool_same, tested}
 use Rattle.nor_driver.specs.declared.units.Erase.{Erase}
 use Rattle.nor_driver.specs.declared.units.EraseUnit.{EraseUnit}
@@ -67,7 +68,7 @@ erase_command chip Units.Block64 sector x y z names on =
     let within = on.within in let aligned : sector % 16 ≡ 0 = tested (sector % 16) 0 on.aligned in
     erased_where chip chip.config.k64 _ (4096 * sector) 65536 65536 (unit_start chip.config x y z sector 65536 names (omega arith) (omega arith)) refl
 erase_command chip Units.Chip sector x y z names on =
-    let first : sector ≡ 0 = tested sector 0 on.aligned in let blocks = chip.config.in_blocks in
+    let first : sector ≡ 0 = tested sector 0 on.aligned in let blocks = (sized_bounds chip.config).blocks in
     erased_where chip true 0 (4096 * sector) chip.config.size (4096 * (chip.config.size / 4096)) (omega arith) (omega arith)
 
 -- a place of whole sectors lies in one of them

@@ -1,4 +1,4 @@
--- What an operation leaves wherever it ends: at its command, in its wait, or well.
+-- What an operation leaves wherever it ends: at its write enable or its command, in its wait, or well.
 use Rattle.std.proofs.Common.{◌≡◌, ◌+◌, ◌||◌, ◌∙◌, ℕ, Bool, true, false, cond, List, [], ◌∷◌, length, drop, ap, refl, subst, arith}
 use Rattle.nor_chip.specs.declared.command.Command.{Command}
 use Rattle.nor_chip.specs.Command.{begins_change}
@@ -12,6 +12,15 @@ use Rattle.nor_driver.specs.Operations.{operation_of, IsOperation, Stirs, Leaves
 use Rattle.nor_driver.proofs.Cuts.{stays_at_stop, stays_after, unchanged_then}
 use Rattle.nor_driver.proofs.Readings.{carried_ignored}
 use Rattle.nor_driver.proofs.Begun.{IsEnabled, enabled, then_done, operation-ignored, idle-takes, HasBegun, operation-begins, may-before, may-after, operated, latch-kept}
+
+-- the write enable itself was the last thing sent
+pub leaves-at_enable : (out : List ℕ) (old new : BusState) → Sends (6 ∷ []) old new → (old.honest ≡ true → Stops old new) → LeavesOperation out old new
+leaves-at_enable out old new sends stops = record {
+  stirs = record { honest = sends.honest; steady = sends.steady; stirred = sends.stirred };
+  falls = λ honest. let same = (stops honest).left in record { fell = omega arith; bound = omega arith };
+  reached = λ honest is. may-before (operation_of old.chip out) (drop 4 out) old new (idle-takes old.chip out is) (stays_at_stop old new (stops honest));
+  ignored = λ honest _. stays_at_stop old new (stops honest);
+}
 
 either : (b : Bool) → cond b true true ≡ true
 either true = refl

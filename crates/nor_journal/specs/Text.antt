@@ -99,7 +99,8 @@ text c = body c ++ sha256 (body c)
 -- ---- a content that grows
 
 -- what a journal says before any sector is saved
-abbrev pub empty_content : (id : List ℕ) → (unique : Option (List ℕ)) → (status : List ℕ) → (size : ℕ) → Content
+abbrev pub empty_content : (id : List ℕ) → (unique : Option (List ℕ)) → (status : List ℕ) → (size : ℕ)
+    → Content
 empty_content id unique status size = record { id = id; unique = unique; status = status; size = size; saved = [] }
 
 -- the content with one more sector, the last

@@ -52,8 +52,8 @@ pub record Sealed (old new : VaultState) : Type 0 where
   pub bytes : old.telling ≡ true → new.bytes ≡ old.bytes
 
 -- what `put` of a piece does
-abbrev pub Puts : {T : Type 0} → (old : VaultState) → (piece : List ℕ) → Result T VaultFault → (new : VaultState)
-    → Type 0
+abbrev pub Puts : {T : Type 0} → (old : VaultState) → (piece : List ℕ) → Result T VaultFault
+    → (new : VaultState) → Type 0
 Puts old piece (Ok _) new = Took old piece new
 Puts old piece (Err fault) new = PutRefused old piece fault.kept new
 

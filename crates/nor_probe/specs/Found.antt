@@ -73,8 +73,8 @@ pub record Finds (old new : BusState) (found : Found) : Type 0 where
   pub status1 : found.status1 ≡ status1_of new.chip
   pub count : old.left ≡ new.left + needed old.chip
 
--- What was found is the configuration of a known chip. (On a genuine chip it follows from `shown_as config ≡ Ok (part_in
--- found)`, which tells the name besides.)
+-- What was found is the configuration of a known chip. (On a genuine chip it follows from
+-- `shown_as config ≡ Ok (part_in found)`, which tells the name besides.)
 pub record IsConfigOf (config : Config) (found : Found) : Type 0 where
   pub known : IsKnown config
   pub id : found.id ≡ id_of config

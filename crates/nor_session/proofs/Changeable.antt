@@ -9,6 +9,7 @@ use Rattle.nor_chip.specs.declared.config.Config.{Config}
 use Rattle.nor_chip.specs.Chip.{Chip, is_locked}
 use Rattle.nor_chip.specs.Guard.{code_of, is_guarded, is_unit_guarded}
 use Rattle.nor_chip.specs.Bus.{BusState}
+use Rattle.nor_chip.proofs.Sizes.{sized_bounds}
 use Rattle.nor_chip.proofs.Guarded.{is_guarded-sector, is_guarded-no_scheme, is_guarded-same}
 use Rattle.nor_driver.specs.Looks.{Looks, Rested}
 use Rattle.nor_journal.specs.Text.{Content}
@@ -185,7 +186,7 @@ prepared_for journal opening scanned changes sent old mid new read are judged mo
     let kinds : changes.kinds ≡ kinds_of old.chip.config = are.kinds ∙ kinds_same opening.found.kinds old.chip.config is.config.k32 is.config.k64 in
     let below : (s : ℕ) → has changes.touched s ≡ true → s < journal.size / 4096 = λ s hit. read.scans.marks.below s (sym (touched s) ∙ hit) in
     let whole : journal.size ≡ old.chip.config.size = read.kind.size ∙ is.config.size in
-    let blocks = old.chip.config.in_blocks in
+    let blocks = (sized_bounds old.chip.config).blocks in
     record {
       accepted = record {
         fits = fits;

@@ -4,6 +4,7 @@ use Rattle.std.specs.Prelude.{if◌then◌else◌}
 use Rattle.std.proofs.lemmas.Bool.{false_from_ne_true}
 use Rattle.nor_chip.specs.declared.config.Config.{Config}
 use Rattle.nor_chip.specs.Bus.{BusState}
+use Rattle.nor_chip.proofs.Sizes.{sized_bounds}
 use Rattle.nor_driver.specs.Looks.{Rested}
 use Rattle.nor_layout.proofs.Below.{count_below-most}
 use Rattle.nor_plan.specs.Planned.{fewest_erases, IsLeastLength}
@@ -55,7 +56,7 @@ fits_work changes wanted old new work inside does =
 pub fewest_at : (config : Config) (sectors : ℕ → Bool) (count : ℕ) → ((s : ℕ) → sectors s ≡ true → s < config.size / 4096)
     → count ≡ fewest_erases (kinds_of config) (config.size / 4096) sectors → AreFewestErases config sectors count
 fewest_at config sectors count below is =
-    let most = config.at_most in
+    let most = (sized_bounds config).small in
     subst (IsLeastLength (kinds_of config) (config.size / 4096) sectors) (sym is) (fewest_least (kinds_of config) (config.size / 4096) sectors (omega arith) below)
 
 -- ---- what they and their check leave

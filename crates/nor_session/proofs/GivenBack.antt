@@ -12,6 +12,7 @@ use Rattle.nor_chip.specs.Guard.{code_of, is_guarded, is_unit_guarded}
 use Rattle.nor_chip.specs.Units.{LieAtAnEnd}
 use Rattle.nor_chip.specs.Power.{KeptStay, KeptCut, is_in_work}
 use Rattle.nor_chip.specs.Bus.{BusState}
+use Rattle.nor_chip.proofs.Sizes.{sized_bounds}
 use Rattle.nor_chip.proofs.Guarded.{is_guarded-end, is_guarded-past, is_guarded-no_scheme, is_guarded-same}
 use Rattle.nor_driver.specs.Looks.{IsCalm, Looked}
 use Rattle.nor_driver.specs.Reads.{id_of, unique_of}
@@ -143,7 +144,7 @@ guarded_within chip a b genuine scheme sector below_a below_b =
 
 guarded_same : (chip : Chip) (a b : ℕ) → IsGenuine chip.config → a / 4096 ≡ b / 4096 → is_guarded chip a ≡ is_guarded chip b
 guarded_same chip a b genuine sector =
-    let blocks = chip.config.in_blocks in
+    let blocks = (sized_bounds chip.config).blocks in
     elim (cases_Bool chip.config.scheme) [
       | inl scheme ↦ elim (cases_lt a chip.config.size) [
         | inl below ↦ guarded_within chip a b genuine scheme sector below (omega arith)

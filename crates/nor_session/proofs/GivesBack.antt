@@ -5,6 +5,7 @@ use Rattle.std.proofs.lemmas.Bool.{cases_Bool, and_parts, and_from, and_left, lt
 use Rattle.nor_chip.specs.Chip.{Chip, IsChip, is_locked}
 use Rattle.nor_chip.specs.Guard.{is_guarded, is_unit_guarded}
 use Rattle.nor_chip.specs.Bus.{BusState}
+use Rattle.nor_chip.proofs.Sizes.{sized_bounds}
 use Rattle.nor_chip.proofs.Guarded.{is_guarded-sector}
 use Rattle.nor_driver.specs.Reads.{unique_of}
 use Rattle.nor_journal.specs.Text.{Content, SameHead}
@@ -59,7 +60,7 @@ saved_free saved first text state a leads is =
     elim (cases_Bool (is_locked first)) [
       | inl locked ↦
           let inside = leads.inside (a / 4096) is in
-          let blocks = first.config.in_blocks in
+          let blocks = (sized_bounds first.config).blocks in
           rw locked (is_guarded-sector first a (omega arith) (and_right (saved (a / 4096)) (is_unit_guarded first (4096 * (a / 4096)) 4096) is (leads.free locked (a / 4096))))
       | inr writable ↦ and_left (is_locked first) (is_guarded first a) writable
     ]

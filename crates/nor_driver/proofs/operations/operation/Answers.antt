@@ -1,5 +1,8 @@
-use Rattle.nor_driver.proofs.Exits.{leaves-at_command, leaves-at_wait, operates-with}
+use Rattle.nor_driver.proofs.Exits.{leaves-at_enable, leaves-at_command, leaves-at_wait, operates-with}
 use Rattle.nor_driver.proofs.operations.operation.Goals as goal
+
+pub returns-in_err-transfer-clause-leaves : goal.returns-in_err-transfer-clause-leaves
+returns-in_err-transfer-clause-leaves g c = leaves-at_enable _ _ _ c.transfer.ensures.sends c.in_err-transfer.ensures.stops
 
 pub returns-in_err-transfer-2-clause-leaves : goal.returns-in_err-transfer-2-clause-leaves
 returns-in_err-transfer-2-clause-leaves g c =
