@@ -176,8 +176,7 @@ pub fn make_options<'a>(alloc: Global) -> Result<Command<'a>, AllocError>
     ensures { IfOk result (λ command. app_of command ≡ options) }
 {
     let chosen = add_choices(alloc, new_command(alloc), choices())?;
-    let command = chosen.arg(help_option(alloc))?;
-    Ok(command)
+    chosen.arg(help_option(alloc))
 }
 
 // The program, without an option.
