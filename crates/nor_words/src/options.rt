@@ -1,7 +1,8 @@
 //! The options of the program.
 ghost use Rattle.std.specs.Prelude.{◌≡◌, IfOk, fold, map};
 ghost use Rattle.clap.specs.Words.{app_of};
-ghost use Rattle.nor_words.specs.Options.{options, no_options, help_rule, most_rules, IsOption, named, chosen, with_choice};
+ghost use Rattle.nor_words.specs.Options.{options, no_options, help_rule, most_rules, IsOption};
+ghost use Rattle.nor_words.specs.Options.{named, chosen, with_choice};
 
 use clap::{Arg, ArgAction, Command};
 use std::alloc::{AllocError, Global};
@@ -176,8 +177,7 @@ pub fn make_options<'a>(alloc: Global) -> Result<Command<'a>, AllocError>
     ensures { IfOk result (λ command. app_of command ≡ options) }
 {
     let chosen = add_choices(alloc, new_command(alloc), choices())?;
-    let command = chosen.arg(help_option(alloc))?;
-    Ok(command)
+    chosen.arg(help_option(alloc))
 }
 
 // The program, without an option.

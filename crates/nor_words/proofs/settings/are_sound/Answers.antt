@@ -1,5 +1,6 @@
-use Rattle.std.proofs.Common.{◌≡◌, true, false, length, lit<, rules, sym}
+use Rattle.std.proofs.Common.{◌≡◌, true, false, length, lit<, rules, sym, ap, ◌∙◌}
 use Rattle.std.proofs.lemmas.Iterator.Consumers.{YieldsList-turn, YieldsList-end}
+use Rattle.std.specs.Str.Iter.{split_has_more, split_pattern, split_text}
 use Rattle.std.proofs.lemmas.Iterator.Splits.{YieldsList-from_str_split}
 use Rattle.std.proofs.lemmas.List.{length_push}
 use Rattle.nor_words.specs.Text.{pieces_of}
@@ -10,14 +11,16 @@ use Rattle.nor_words.proofs.settings.are_sound.Goals as goal
 
 pub returns-then-not-is_sound : goal.returns-then-not-is_sound
 returns-then-not-is_sound c =
-    let pieces = YieldsList-from_str_split {s = c.into_iter-setting-iterator.result} 44 c.args.listed.now (lit< tt) (first_of (cc, search rules)) (first_of (cc, search rules)) (first_of (cc, search rules)) in
+    let gives = c.into_iter-setting-iterator.ensures.into_iter_gives in
+    let pieces = YieldsList-from_str_split {s = c.into_iter-setting-iterator.result} 44 c.args.listed.now (lit< tt) (ap split_text gives ∙ c.split-setting-items.ensures.text) (ap split_has_more gives ∙ c.split-setting-items.ensures.has_more) (ap split_pattern gives ∙ c.split-setting-items.ensures.pattern) in
     let turn = YieldsList-turn pieces c.loop-setting.yielded _ c.loop-setting.yielded_by _ _ c.in-Some.setting c.in-Some.is c.next.ensures.steps in
     let other : (is_setting c.in-Some.setting.now && is_alone_in (pieces_of c.args.listed.now) c.in-Some.setting.now) ≡ false = first_of (cc, search rules) in
     sym (all-failed (λ setting. is_setting setting && is_alone_in (pieces_of c.args.listed.now) setting) (pieces_of c.args.listed.now) (length c.loop-setting.yielded) c.in-Some.setting.now c.loop-setting.invariant.2 turn other)
 
 pub loop-setting-preserved : goal.loop-setting-preserved
 loop-setting-preserved c =
-    let pieces = YieldsList-from_str_split {s = c.into_iter-setting-iterator.result} 44 c.args.listed.now (lit< tt) (first_of (cc, search rules)) (first_of (cc, search rules)) (first_of (cc, search rules)) in
+    let gives = c.into_iter-setting-iterator.ensures.into_iter_gives in
+    let pieces = YieldsList-from_str_split {s = c.into_iter-setting-iterator.result} 44 c.args.listed.now (lit< tt) (ap split_text gives ∙ c.split-setting-items.ensures.text) (ap split_has_more gives ∙ c.split-setting-items.ensures.has_more) (ap split_pattern gives ∙ c.split-setting-items.ensures.pattern) in
     let turn = YieldsList-turn pieces c.loop-setting.yielded _ c.loop-setting.yielded_by _ _ c.in-Some.setting c.in-Some.is c.next.ensures.steps in
     let met : (is_setting c.in-Some.setting.now && is_alone_in (pieces_of c.args.listed.now) c.in-Some.setting.now) ≡ true = first_of (cc, search rules) in
     let passed = all-passed (λ setting. is_setting setting && is_alone_in (pieces_of c.args.listed.now) setting) (pieces_of c.args.listed.now) (length c.loop-setting.yielded) c.in-Some.setting.now c.loop-setting.invariant.2 turn met in
@@ -26,6 +29,7 @@ loop-setting-preserved c =
 
 pub returns : goal.returns
 returns c =
-    let pieces = YieldsList-from_str_split {s = c.into_iter-setting-iterator.result} 44 c.args.listed.now (lit< tt) (first_of (cc, search rules)) (first_of (cc, search rules)) (first_of (cc, search rules)) in
+    let gives = c.into_iter-setting-iterator.ensures.into_iter_gives in
+    let pieces = YieldsList-from_str_split {s = c.into_iter-setting-iterator.result} 44 c.args.listed.now (lit< tt) (ap split_text gives ∙ c.split-setting-items.ensures.text) (ap split_has_more gives ∙ c.split-setting-items.ensures.has_more) (ap split_pattern gives ∙ c.split-setting-items.ensures.pattern) in
     let end = YieldsList-end pieces c.loop-setting.yielded _ c.loop-setting.yielded_by _ _ c.in-None.is c.next.ensures.steps in
     sym (all-ended (λ setting. is_setting setting && is_alone_in (pieces_of c.args.listed.now) setting) (pieces_of c.args.listed.now) (length c.loop-setting.yielded) c.loop-setting.invariant.2 end.1)

@@ -1,5 +1,6 @@
-use Rattle.std.proofs.Common.{◌≡◌, ◌∙◌, ◌+◌, None, length, drop, lit<, rules, sym, arith}
+use Rattle.std.proofs.Common.{◌≡◌, ◌∙◌, ◌+◌, None, length, drop, lit<, rules, sym, arith, ap}
 use Rattle.std.proofs.lemmas.Iterator.Consumers.{YieldsList-turn, YieldsList-end}
+use Rattle.std.specs.Str.Iter.{split_has_more, split_pattern, split_text}
 use Rattle.std.proofs.lemmas.Iterator.Splits.{YieldsList-from_str_split}
 use Rattle.std.proofs.lemmas.List.{length_push}
 use Rattle.nor_words.specs.Text.{pieces_of}
@@ -9,7 +10,8 @@ use Rattle.nor_words.proofs.stops.read_stops.Goals as goal
 
 pub returns-in_err-read_number : goal.returns-in_err-read_number
 returns-in_err-read_number c =
-    let pieces = YieldsList-from_str_split {s = c.into_iter-number-iterator.result} 44 c.args.text.now (lit< tt) (first_of (cc, search rules)) (first_of (cc, search rules)) (first_of (cc, search rules)) in
+    let gives = c.into_iter-number-iterator.ensures.into_iter_gives in
+    let pieces = YieldsList-from_str_split {s = c.into_iter-number-iterator.result} 44 c.args.text.now (lit< tt) (ap split_text gives ∙ c.split-number-items.ensures.text) (ap split_has_more gives ∙ c.split-number-items.ensures.has_more) (ap split_pattern gives ∙ c.split-number-items.ensures.pattern) in
     let turn = YieldsList-turn pieces c.loop-number.yielded _ c.loop-number.yielded_by _ _ c.in-Some.number c.in-Some.is c.next.ensures.steps in
     let next = turned (with_stops c.loop-number.stops.items) (pieces_of c.args.text.now) (length c.loop-number.yielded) c.in-Some.number.now turn in
     let refused = next ∙ stops-refused c.loop-number.stops.items c.in-Some.number.now (drop (length c.loop-number.yielded + 1) (pieces_of c.args.text.now)) (sym c.read_number.ensures ∙ c.in_err-read_number.was) in
@@ -18,7 +20,8 @@ returns-in_err-read_number c =
 
 pub loop-number-preserved : goal.loop-number-preserved
 loop-number-preserved c =
-    let pieces = YieldsList-from_str_split {s = c.into_iter-number-iterator.result} 44 c.args.text.now (lit< tt) (first_of (cc, search rules)) (first_of (cc, search rules)) (first_of (cc, search rules)) in
+    let gives = c.into_iter-number-iterator.ensures.into_iter_gives in
+    let pieces = YieldsList-from_str_split {s = c.into_iter-number-iterator.result} 44 c.args.text.now (lit< tt) (ap split_text gives ∙ c.split-number-items.ensures.text) (ap split_has_more gives ∙ c.split-number-items.ensures.has_more) (ap split_pattern gives ∙ c.split-number-items.ensures.pattern) in
     let turn = YieldsList-turn pieces c.loop-number.yielded _ c.loop-number.yielded_by _ _ c.in-Some.number c.in-Some.is c.next.ensures.steps in
     let next = turned (with_stops c.loop-number.stops.items) (pieces_of c.args.text.now) (length c.loop-number.yielded) c.in-Some.number.now turn in
     let pushed = sym c.ok.ensures.value ∙ c.in_ok-ok.was in
@@ -35,7 +38,8 @@ loop-number-preserved c =
 
 pub returns-in_err-ok : goal.returns-in_err-ok
 returns-in_err-ok c =
-    let pieces = YieldsList-from_str_split {s = c.into_iter-number-iterator.result} 44 c.args.text.now (lit< tt) (first_of (cc, search rules)) (first_of (cc, search rules)) (first_of (cc, search rules)) in
+    let gives = c.into_iter-number-iterator.ensures.into_iter_gives in
+    let pieces = YieldsList-from_str_split {s = c.into_iter-number-iterator.result} 44 c.args.text.now (lit< tt) (ap split_text gives ∙ c.split-number-items.ensures.text) (ap split_has_more gives ∙ c.split-number-items.ensures.has_more) (ap split_pattern gives ∙ c.split-number-items.ensures.pattern) in
     let turn = YieldsList-turn pieces c.loop-number.yielded _ c.loop-number.yielded_by _ _ c.in-Some.number c.in-Some.is c.next.ensures.steps in
     let next = turned (with_stops c.loop-number.stops.items) (pieces_of c.args.text.now) (length c.loop-number.yielded) c.in-Some.number.now turn in
     let full = not_pushed c.try_push.result _ c.try_push.ensures.full (sym c.ok.ensures.value ∙ c.in_err-ok.was) in
@@ -45,7 +49,8 @@ returns-in_err-ok c =
 
 pub returns : goal.returns
 returns c =
-    let pieces = YieldsList-from_str_split {s = c.into_iter-number-iterator.result} 44 c.args.text.now (lit< tt) (first_of (cc, search rules)) (first_of (cc, search rules)) (first_of (cc, search rules)) in
+    let gives = c.into_iter-number-iterator.ensures.into_iter_gives in
+    let pieces = YieldsList-from_str_split {s = c.into_iter-number-iterator.result} 44 c.args.text.now (lit< tt) (ap split_text gives ∙ c.split-number-items.ensures.text) (ap split_has_more gives ∙ c.split-number-items.ensures.has_more) (ap split_pattern gives ∙ c.split-number-items.ensures.pattern) in
     let end = YieldsList-end pieces c.loop-number.yielded _ c.loop-number.yielded_by _ _ c.in-None.is c.next.ensures.steps in
     sym (ended (with_stops c.loop-number.stops.items) (pieces_of c.args.text.now) (length c.loop-number.yielded) end.1 ∙ stops-ended c.loop-number.stops.items c.loop-number.invariant.2)
     ∙ (c.loop-number.invariant.3 ∙ stops_of-with c.args.text.now)
