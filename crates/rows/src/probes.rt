@@ -109,7 +109,7 @@ type Said = Result<(u32, Kinds), SfdpFault>;
 //
 // A table at FFFFFFh lies past the SFDP bytes, so each of its bytes is FFh; one at 0 is the header, which begins with
 // 53 46 44 50. As double word 1, both have a 2 or a 3 where they tell how many address bytes there are.
-const SAYINGS: [(usize, &[u8], Said); 19] = [
+const SAYINGS: &[(usize, &[u8], Said)] = &[
     (0x00, &[], Ok((65_536, ALL))),
     (0x0C, &[0xFF, 0xFF, 0xFF], Err(SfdpFault::Address)),
     (0x0C, &[0x00, 0x00, 0x00], Err(SfdpFault::Address)),
@@ -154,8 +154,8 @@ const SAYINGS: [(usize, &[u8], Said); 19] = [
 #[test]
 fn sfdp_says_a_geometry_or_its_first_fault(rt: HostRuntime) {
     for (at, run, said) in SAYINGS {
-        let told = answer_to(&rt, rt.alloc(), at, run);
-        assert_held(&rt, told == answer_of(said), at as u64);
+        let told = answer_to(&rt, rt.alloc(), *at, run);
+        assert_held(&rt, told == answer_of(*said), *at as u64);
     }
 }
 
@@ -220,7 +220,7 @@ fn probed(
 
 // An ID of the table is believed, whatever the chip's SFDP says; names are compared letter by letter; nothing drives a
 // bus whose ID has equal bits throughout.
-const PROBES: [(Sample, Option<&str>, Answer, &str); 14] = [
+const PROBES: &[(Sample, Option<&str>, Answer, &str)] = &[
     (Sample::Small, None, SMALL, W25Q64FV_SENT),
     (Sample::Small, Some("W25Q64FV"), SMALL, W25Q64FV_SENT),
     (Sample::Small, Some("W25Q128FV"), OTHER, W25Q64FV_SENT),
@@ -251,8 +251,8 @@ const PROBES: [(Sample, Option<&str>, Answer, &str); 14] = [
 fn probes_find_the_chips_that_are_known(rt: HostRuntime) {
     for (chip, name, answer, sent) in PROBES {
         let config = chip.config(&rt);
-        let told = probed(&rt, rt.alloc(), config, name, sent);
-        assert!(rt; told == (answer, true));
+        let told = probed(&rt, rt.alloc(), config, *name, sent);
+        assert!(rt; told == (*answer, true));
     }
 }
 

@@ -2,10 +2,11 @@
 use crate::held::assert_held;
 use crate::row::{Row, Start};
 use crate::runs::AMPLE;
-use nor_chip::Meter;
+use nor_chip::{Meter, SimBus};
 use nor_journal::{BrokenVault, MemVault};
 use nor_read::{Protection, read_out, verify, wp_status};
 use nor_session::{Refusal, Report};
+use std::alloc::Global;
 
 // The chip's sixteen sectors are one piece, so that there is no second call. The refused piece is kept up to some byte.
 const CASES: [(u64, usize, Option<Refusal>, usize); 4] = [
@@ -29,9 +30,20 @@ fn a_vault_that_refuses_ends_the_reading(rt: HostRuntime) {
     }
 }
 
+type Sent = Result<u64, Refusal>;
+
 // How many transactions a reading sent.
-fn sent(answer: Result<Report, Refusal>) -> Result<u64, Refusal> {
+fn sent(answer: Result<Report, Refusal>) -> Sent {
     Ok(answer?.transactions)
+}
+
+// Reads and verifies a TINY64 under so many transactions each. Answers what they sent.
+fn read_under(alloc: Global, bus: &mut SimBus, before: &[u8], left: u64) -> [Sent; 2] {
+    bus.allow(left);
+    let mut out = MemVault::new(alloc);
+    let read = sent(read_out(bus, None, None, &mut out));
+    bus.allow(left);
+    [read, sent(verify(bus, before, None, None))]
 }
 
 // A reading of a TINY64 sends 21 transactions.
@@ -46,12 +58,8 @@ fn any_stop_is_told(rt: HostRuntime) {
         } else {
             Ok(21)
         };
-        bus.allow(left);
-        let mut out = MemVault::new(rt.alloc());
-        let read = sent(read_out(&mut bus, None, None, &mut out));
-        bus.allow(left);
-        let verified = sent(verify(&mut bus, &before, None, None));
-        assert_held(&rt, read == wanted && verified == wanted, left);
+        let told = read_under(rt.alloc(), &mut bus, &before, left);
+        assert_held(&rt, told == [wanted; 2], left);
         assert!(rt; bus.bytes() == before.as_slice());
     }
 }

@@ -90,6 +90,16 @@ fn assert_broken(
     assert_held(rt, holds, nth);
 }
 
+// Refuses each call, after so many bytes of its piece. What the vault holds is a beginning of the right journal.
+fn refuse_each(rt: &impl Abort, alloc: Global, right: &[u8], kept: usize) {
+    for (nth, before, piece) in CALLS {
+        let put = piece.min(kept);
+        let told = (Err(VaultFault { kept: put }), 1, false);
+        let beginning = right.get(0..put.saturating_add(before));
+        assert_broken(rt, alloc, (nth, kept), told, beginning);
+    }
+}
+
 // Of the piece of a refused call the vault keeps a beginning, and the refusal tells how much: what it holds is a
 // beginning of the one journal. A call that doesn't come refuses nothing.
 #[test]
@@ -100,16 +110,11 @@ fn each_call_of_a_writer_is_refused(rt: HostRuntime) {
     let right = vault.bytes();
     assert!(rt; vault.is_sealed() && is_whole(right));
     for kept in [0, 1, 4095, 5000] {
-        for (nth, before, piece) in CALLS {
-            let put = piece.min(kept);
-            let told = (Err(VaultFault { kept: put }), 1, false);
-            let beginning = right.get(0..put.saturating_add(before));
-            assert_broken(&rt, rt.alloc(), (nth, kept), told, beginning);
-        }
+        refuse_each(&rt, rt.alloc(), right, kept);
     }
-    for nth in [0, 10] {
-        assert_broken(&rt, rt.alloc(), (nth, 0), (Ok(()), 0, true), Some(right));
-    }
+    let told = (Ok(()), 0, true);
+    assert_broken(&rt, rt.alloc(), (0, 0), told, Some(right));
+    assert_broken(&rt, rt.alloc(), (10, 0), told, Some(right));
 }
 
 /// A file in memory that takes at most `most` bytes a write, and fails after `writes` of them. One of `sync_all` and

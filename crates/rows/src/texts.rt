@@ -32,7 +32,7 @@ fn fault_of(told: Option<(usize, LineFault)>) -> Option<LayoutFault> {
 
 // A layout that is one line, with a million equal bytes somewhere; or as many empty lines, with another behind them or
 // none.
-const LAYOUTS: [(&[u8], u8, &[u8], Option<(usize, LineFault)>); 11] = [
+const LAYOUTS: &[(&[u8], u8, &[u8], Option<(usize, LineFault)>)] = &[
     (b"", b':', b"", Some((1, LineFault::Line))),
     (b"", b' ', b"", Some((1, LineFault::Line))),
     (b"0:", b'1', b"", Some((1, LineFault::Line))),
@@ -49,9 +49,9 @@ const LAYOUTS: [(&[u8], u8, &[u8], Option<(usize, LineFault)>); 11] = [
 #[test]
 fn layouts_of_a_million_bytes(rt: HostRuntime) {
     for (before, byte, after, fault) in LAYOUTS {
-        let text = long(&rt, rt.alloc(), before, byte, after);
+        let text = long(&rt, rt.alloc(), before, *byte, after);
         let told = Layout::read(rt.alloc(), &text).err();
-        assert_held(&rt, told == fault_of(fault), u64::from(byte));
+        assert_held(&rt, told == fault_of(*fault), u64::from(*byte));
     }
 }
 
@@ -84,7 +84,7 @@ const HEAD: &[u8; 25] = b"NORUNDO2\xFE\x10\x10\0\0\0\0\0\0\0\0\0\0\0\0\x01\0";
 
 // A beginning, and a million equal bytes. Behind a head zeros are a record of sector 0, and then a record of sector 0
 // again. FFh four times is the end mark, and no digest is that long. 10h four times is the number of no sector.
-const JOURNALS: [(&[u8], u8, JournalFault); 8] = [
+const JOURNALS: &[(&[u8], u8, JournalFault)] = &[
     (b"", 0x00, JournalFault::Magic),
     (b"", b'N', JournalFault::Magic),
     (b"", 0xFF, JournalFault::Magic),
@@ -98,9 +98,9 @@ const JOURNALS: [(&[u8], u8, JournalFault); 8] = [
 #[test]
 fn journals_of_a_million_bytes(rt: HostRuntime) {
     for (beginning, byte, fault) in JOURNALS {
-        let bytes = long(&rt, rt.alloc(), beginning, byte, b"");
+        let bytes = long(&rt, rt.alloc(), beginning, *byte, b"");
         let told = Journal::read(&bytes).err();
-        assert_held(&rt, told == Some(fault), u64::from(byte));
+        assert_held(&rt, told == Some(*fault), u64::from(*byte));
     }
 }
 
