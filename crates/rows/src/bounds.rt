@@ -1,7 +1,8 @@
 //! No call sends more transactions than it says: on a bus that lies, and on the slowest chip.
 ghost use Rattle.std.specs.Prelude.{◌≡◌, false};
 
-use crate::row::{Row, Start, a_bit_rises, each_page_is_programmed, the_rest_of_a_sector_stays};
+use crate::held::assert_held;
+use crate::row::{Row, Start};
 use crate::runs::Runs;
 use crate::spoilt::{Lied, lies, most, spoilt};
 use nor_chip::{SimBus, Spoil, SpoiltBus};
@@ -12,7 +13,7 @@ use std::alloc::Global;
 use std::process::Abort;
 
 // The calls that read alone.
-#[derive(Clone, Copy, Debug)]
+#[derive(Clone, Copy)]
 enum Reading {
     Probe,
     Protection,
@@ -50,7 +51,7 @@ impl Reading {
     }
 
     // How many transactions it sends on a bus that lies.
-    fn sent(self, rt: &impl Abort, alloc: Global, row: &Row, spoil: Spoil) -> u64 {
+    fn sent(self, rt: &impl Abort, alloc: Global, row: Row, spoil: Spoil) -> u64 {
         let mut bus = spoilt(row.bus(rt, alloc, Start::IDLE), spoil);
         let mut out = MemVault::new(alloc);
         let image = row.wanted(rt, alloc);
@@ -60,12 +61,11 @@ impl Reading {
 }
 
 // Each reading keeps its bound on this bus. Answers how many there are.
-fn read_each(rt: &impl Abort, alloc: Global, row: &Row, spoil: Spoil) -> u64 {
+fn read_each(rt: &impl Abort, alloc: Global, row: Row, spoil: Spoil) -> u64 {
     let mut runs: u64 = 0;
     for reading in READINGS {
         let sent = reading.sent(rt, alloc, row, spoil);
-        let keeps_bound = 0 < sent && sent <= reading.most(16);
-        assert!(rt; keeps_bound, "{reading:?}, {spoil:?}: {sent}");
+        assert_held(rt, 0 < sent && sent <= reading.most(16), sent);
         runs = runs.saturating_add(1);
     }
     runs
@@ -74,29 +74,36 @@ fn read_each(rt: &impl Abort, alloc: Global, row: &Row, spoil: Spoil) -> u64 {
 // A reading of the whole chip sends 21 transactions.
 #[test]
 fn readings_on_buses_that_lie(rt: HostRuntime) {
-    let row = a_bit_rises();
+    let row = Row::ABitRises;
     let mut runs: u64 = 0;
     for n in 0..=22 {
         for spoil in lies(n) {
-            runs = runs.saturating_add(read_each(&rt, rt.alloc(), &row, spoil));
+            runs = runs.saturating_add(read_each(&rt, rt.alloc(), row, spoil));
         }
     }
-    assert_eq!(rt; runs, 23 * 4 * 4);
+    assert!(rt; runs == 23 * 4 * 4);
+}
+
+// The row's session keeps its bound on each bus that lies with this number. Answers how many there are.
+fn session_each(rt: &impl Abort, alloc: Global, row: Row, n: u8) -> u64 {
+    let mut runs: u64 = 0;
+    for spoil in lies(n) {
+        let _ = Lied::session(rt, alloc, row, spoil);
+        runs = runs.saturating_add(1);
+    }
+    runs
 }
 
 // The sessions send 30 and 57 transactions. Each run compares what it sent with its bound.
 #[test]
 fn sessions_on_buses_that_lie(rt: HostRuntime) {
     let mut runs: u64 = 0;
-    for row in [a_bit_rises(), the_rest_of_a_sector_stays()] {
-        for n in 0..=58 {
-            for spoil in lies(n) {
-                let _ = Lied::session(&rt, rt.alloc(), &row, spoil);
-                runs = runs.saturating_add(1);
-            }
+    for n in 0..=58 {
+        for row in [Row::ABitRises, Row::TheRestOfASectorStays] {
+            runs = runs.saturating_add(session_each(&rt, rt.alloc(), row, n));
         }
     }
-    assert_eq!(rt; runs, 2 * 59 * 4);
+    assert!(rt; runs == 2 * 59 * 4);
 }
 
 // The restore behind the session's tenth transaction keeps its bound on each bus that lies with this number. Answers
@@ -113,13 +120,19 @@ fn restore_each(rt: &impl Abort, stopped: &Runs, n: u8) -> u64 {
 // The session was stopped behind its erase, so that the restore sends 58 transactions.
 #[test]
 fn restores_on_buses_that_lie(rt: HostRuntime) {
-    let row = the_rest_of_a_sector_stays();
-    let stopped = Runs::new(&rt, rt.alloc(), &row, Start::IDLE);
+    let row = Row::TheRestOfASectorStays;
+    let stopped = Runs::new(&rt, rt.alloc(), row, Start::IDLE);
     let mut runs: u64 = 0;
     for n in 0..=59 {
         runs = runs.saturating_add(restore_each(&rt, &stopped, n));
     }
-    assert_eq!(rt; runs, 60 * 4);
+    assert!(rt; runs == 60 * 4);
+}
+
+// The chip has the bytes that the row's session was to write.
+fn assert_written(rt: &impl Abort, alloc: Global, row: Row, bus: &SimBus) {
+    let wanted = row.wanted(rt, alloc);
+    assert!(rt; bus.bytes() == wanted.as_slice());
 }
 
 // Both come near their bound: 271 and 241 of the 274 operations that it allows are sent, each with its 65,536 polls.
@@ -127,14 +140,15 @@ fn restores_on_buses_that_lie(rt: HostRuntime) {
 // all of them at its end; it erases the last sector and programs the 240 pages of the others.
 #[test]
 fn the_slowest_session_and_its_restore(rt: HostRuntime) {
-    let row = each_page_is_programmed(&rt);
-    let runs = Runs::new(&rt, rt.alloc(), &row, Start::SLOWEST);
+    let row = Row::EachPageIsProgrammed;
+    let runs = Runs::new(&rt, rt.alloc(), row, Start::SLOWEST);
     let length = row.ends_at(Start::SLOWEST);
-    assert_eq!(rt; length, 65_542 + 16 + 271 * 65_538 + 1 + 16);
-    let mut cut = runs.cut(&rt, length);
-    assert!(rt; cut.bus.bytes() == row.wanted(&rt, rt.alloc()).as_slice());
     let restored = 7 + 16 + 241 * 65_538 + 15 + 16;
-    assert_eq!(rt; cut.restore(&rt, u64::MAX), Some(restored));
-    runs.assert_as_before(&rt, &cut.bus);
+    assert!(rt; length == 65_542 + 16 + 271 * 65_538 + 1 + 16);
     assert!(rt; restored < length && length < most(16));
+    let mut cut = runs.cut(&rt, length);
+    assert_written(&rt, rt.alloc(), row, &cut.bus);
+    let sent = cut.restore(&rt, u64::MAX);
+    assert!(rt; sent == Some(restored));
+    runs.assert_as_before(&rt, &cut.bus);
 }

@@ -1,7 +1,8 @@
 //! Vaults over files that fail once, and would take all from then on: no failure is hidden, and no call is tried again.
 ghost use Rattle.std.specs.Prelude.{None};
 
-use crate::row::{Row, Start, a_bit_rises, nine_sectors_are_erased};
+use crate::held::assert_held;
+use crate::row::{Row, Start};
 use crate::runs::{self, assert_untouched};
 use nor_chip::Meter;
 use nor_journal::{FileVault, Journal, Vault, VaultFault, VaultFile};
@@ -11,7 +12,7 @@ use std::io;
 use std::process::Abort;
 
 // What fails once.
-#[derive(Clone, Copy, Debug, PartialEq, Eq)]
+#[derive(Clone, Copy, PartialEq, Eq)]
 enum Failure {
     // The write behind so many is an error.
     Write(usize),
@@ -21,7 +22,7 @@ enum Failure {
     Sync,
 }
 
-// A file in memory. It keeps how long it was at each call, those that failed too.
+// A file in memory. It keeps how long it was at each write, also at one that failed, and at its syncs.
 #[derive(Drop)]
 struct OnceFile {
     failure: Option<Failure>,
@@ -29,7 +30,25 @@ struct OnceFile {
     most: usize,
     bytes: Vec<u8>,
     writes: Vec<usize>,
-    syncs: Vec<usize>,
+    syncs: Syncs,
+}
+
+// How many syncs there were, and how long the file was at the last.
+#[derive(Clone, Copy, PartialEq, Eq)]
+struct Syncs {
+    count: usize,
+    length: usize,
+}
+
+impl Syncs {
+    const NONE: Syncs = Syncs {
+        count: 0,
+        length: 0,
+    };
+
+    const fn once(length: usize) -> Syncs {
+        Syncs { count: 1, length }
+    }
 }
 
 impl OnceFile {
@@ -39,8 +58,35 @@ impl OnceFile {
             most,
             bytes: Vec::new(alloc),
             writes: Vec::new(alloc),
-            syncs: Vec::new(alloc),
+            syncs: Syncs::NONE,
         }
+    }
+
+    // It got these calls, and has these bytes.
+    fn has(&self, writes: &[usize], syncs: Syncs, bytes: &[u8]) -> bool {
+        self.writes.as_slice() == writes && self.syncs == syncs && self.bytes.as_slice() == bytes
+    }
+
+    // It got so many writes, and one sync, of the so many bytes of a journal.
+    fn is_whole(&self, writes: usize, length: usize) -> bool {
+        let lengths = (self.writes.len(), self.bytes.len());
+        lengths == (writes, length)
+            && self.syncs == Syncs::once(length)
+            && Journal::read(&self.bytes).is_ok()
+    }
+
+    // It got the calls of the right file up to the write behind so many, and has what that had before it.
+    fn ends_before(&self, right: &OnceFile, n: usize) -> bool {
+        let (Some(writes), Some(before)) = (
+            right.writes.get(0..n.saturating_add(1)),
+            right.writes.get(n),
+        ) else {
+            return false;
+        };
+        let Some(bytes) = right.bytes.get(0..*before) else {
+            return false;
+        };
+        self.has(writes, Syncs::NONE, bytes)
     }
 }
 
@@ -64,8 +110,9 @@ impl VaultFile for OnceFile {
     }
 
     fn sync(&mut self) -> io::Result<()> {
-        let is_first = self.syncs.is_empty();
-        self.syncs.push(self.bytes.len())?;
+        let is_first = self.syncs == Syncs::NONE;
+        self.syncs.count = self.syncs.count.saturating_add(1);
+        self.syncs.length = self.bytes.len();
         if is_first && self.failure == Some(Failure::Sync) {
             return Err(io::Error::from(io::ErrorKind::Other));
         }
@@ -78,7 +125,7 @@ impl VaultFile for OnceFile {
 fn keep(
     rt: &impl Abort,
     alloc: Global,
-    row: &Row,
+    row: Row,
     most: usize,
     failure: Option<Failure>,
 ) -> (Option<Refusal>, OnceFile) {
@@ -92,65 +139,49 @@ fn keep(
     (refusal, vault.into_inner())
 }
 
+// Lets a write or the sync fail. The session is refused.
+fn fail(rt: &impl Abort, alloc: Global, row: Row, most: usize, failure: Failure) -> OnceFile {
+    let (refusal, file) = keep(rt, alloc, row, most, Some(failure));
+    assert!(rt; refusal == Some(Refusal::Vault));
+    file
+}
+
 // Lets the write behind so many fail. It was the last call, and what the file has is the journal's beginning up to it.
-fn fail_write(
-    rt: &impl Abort,
-    alloc: Global,
-    row: &Row,
-    right: &OnceFile,
-    failure: Failure,
-    n: usize,
-) {
-    let (refusal, file) = keep(rt, alloc, row, right.most, Some(failure));
-    let told = (refusal, file.writes.len(), file.syncs.len());
-    assert_eq!(rt;
-        told,
-        (Some(Refusal::Vault), n.saturating_add(1), 0),
-        "{failure:?}"
-    );
-    let before = right.writes.get(n).copied().expect(rt, "a write");
-    let beginning = right.bytes.get(0..before);
-    assert!(rt; beginning == Some(file.bytes.as_slice()), "{failure:?}");
+fn fail_write(rt: &impl Abort, alloc: Global, row: Row, right: &OnceFile, n: usize) {
+    for failure in [Failure::Write(n), Failure::Nothing(n)] {
+        let file = fail(rt, alloc, row, right.most, failure);
+        assert_held(rt, file.ends_before(right, n), n as u64);
+    }
 }
 
-// Lets the sync fail. It isn't tried again, and all was written before it.
-fn fail_sync(rt: &impl Abort, alloc: Global, row: &Row, right: &OnceFile) {
-    let (refusal, file) = keep(rt, alloc, row, right.most, Some(Failure::Sync));
-    assert_eq!(rt; refusal, Some(Refusal::Vault));
-    assert_eq!(rt; file.syncs.as_slice(), right.syncs.as_slice());
-    assert!(rt; file.bytes.as_slice() == right.bytes.as_slice());
-}
-
-// Lets each write fail in turn, and the sync. Where nothing fails there are so many writes, and one sync, of all that
-// was written.
-fn fail_at_each(rt: &impl Abort, alloc: Global, row: &Row, most: usize, counted: (usize, usize)) {
+// Lets each write fail in turn, and the sync, which isn't tried again: all was written before it. Where nothing fails
+// there are so many writes, and one sync, of all that was written.
+fn fail_at_each(rt: &impl Abort, alloc: Global, row: Row, most: usize, counted: (usize, usize)) {
     let (writes, length) = counted;
     let (refusal, right) = keep(rt, alloc, row, most, None);
-    let told = (refusal, right.writes.len(), right.bytes.len());
-    assert_eq!(rt; told, (None, writes, length), "{most} bytes");
-    assert_eq!(rt; right.syncs.as_slice(), [length].as_slice());
-    assert!(rt; Journal::read(&right.bytes).is_ok());
+    assert!(rt; refusal.is_none() && right.is_whole(writes, length));
     for n in 0..writes {
-        fail_write(rt, alloc, row, &right, Failure::Write(n), n);
-        fail_write(rt, alloc, row, &right, Failure::Nothing(n), n);
+        fail_write(rt, alloc, row, &right, n);
     }
-    fail_sync(rt, alloc, row, &right);
+    let file = fail(rt, alloc, row, most, Failure::Sync);
+    assert!(rt; file.has(&right.writes, right.syncs, &right.bytes));
 }
 
 // The head has five pieces, a record is one of 4,100 bytes, and the end has two.
+const ROWS: [(Row, usize, (usize, usize)); 3] = [
+    (Row::ABitRises, 5000, (5 + 1 + 2, 61 + 4100)),
+    (Row::ABitRises, 1000, (5 + 5 + 2, 61 + 4100)),
+    (
+        Row::NineSectorsAreErased,
+        4096,
+        (5 + 2 * 9 + 2, 61 + 4100 * 9),
+    ),
+];
+
 #[test]
 fn a_file_that_fails_once_ends_the_session(rt: HostRuntime) {
-    let rows = [
-        (a_bit_rises(), 5000, (5 + 1 + 2, 61 + 4100)),
-        (a_bit_rises(), 1000, (5 + 5 + 2, 61 + 4100)),
-        (
-            nine_sectors_are_erased(),
-            4096,
-            (5 + 2 * 9 + 2, 61 + 4100 * 9),
-        ),
-    ];
-    for (row, most, counted) in rows {
-        fail_at_each(&rt, rt.alloc(), &row, most, counted);
+    for (row, most, counted) in ROWS {
+        fail_at_each(&rt, rt.alloc(), row, most, counted);
     }
 }
 
@@ -160,23 +191,22 @@ fn put_half(rt: &impl Abort, alloc: Global, failure: Failure) {
     let mut vault = FileVault::new(OnceFile::new(alloc, 2, Some(failure)));
     let told = vault.put(b"piece");
     let file = vault.into_inner();
-    assert_eq!(rt;
-        (told, file.syncs.len()),
-        (Err(VaultFault { kept: 2 }), 0),
-        "{failure:?}"
-    );
-    assert_eq!(rt; file.writes.as_slice(), [0, 2].as_slice(), "{failure:?}");
-    assert_eq!(rt; file.bytes.as_slice(), b"pi".as_slice(), "{failure:?}");
+    assert!(rt; told == Err(VaultFault { kept: 2 }));
+    assert!(rt; file.has(&[0, 2], Syncs::NONE, b"pi"));
+}
+
+// Puts five bytes into a file, and lets its sync fail.
+fn put_all(rt: &impl Abort, alloc: Global) {
+    let mut vault = FileVault::new(OnceFile::new(alloc, 5, Some(Failure::Sync)));
+    let told = [vault.put(b"piece"), vault.seal()];
+    let file = vault.into_inner();
+    assert!(rt; told == [Ok(()), Err(VaultFault { kept: 0 })]);
+    assert!(rt; file.has(&[0], Syncs::once(5), b"piece"));
 }
 
 #[test]
 fn a_failure_is_told_at_once(rt: HostRuntime) {
     put_half(&rt, rt.alloc(), Failure::Write(1));
     put_half(&rt, rt.alloc(), Failure::Nothing(1));
-    let mut vault = FileVault::new(OnceFile::new(rt.alloc(), 5, Some(Failure::Sync)));
-    assert_eq!(rt; vault.put(b"piece"), Ok(()));
-    assert_eq!(rt; vault.seal(), Err(VaultFault { kept: 0 }));
-    let file = vault.into_inner();
-    assert_eq!(rt; file.writes.as_slice(), [0].as_slice());
-    assert_eq!(rt; file.syncs.as_slice(), [5].as_slice());
+    put_all(&rt, rt.alloc());
 }

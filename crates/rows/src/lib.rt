@@ -11,6 +11,8 @@ mod failing;
 #[cfg(test)]
 mod files;
 #[cfg(test)]
+mod held;
+#[cfg(test)]
 mod lies;
 #[cfg(test)]
 mod once;

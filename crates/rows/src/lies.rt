@@ -1,8 +1,6 @@
 //! Sessions and restores on buses that lie, and restores on the honest bus behind them.
-use crate::row::{
-    Row, Start, a_bit_rises, a_byte_is_programmed, a_guarded_byte_is_programmed,
-    nine_sectors_are_erased, the_rest_of_a_sector_stays, two_pages_are_programmed,
-};
+use crate::held::assert_held;
+use crate::row::{Row, Start};
 use crate::runs::Runs;
 use crate::spoilt::Lied;
 use nor_chip::Spoil;
@@ -15,14 +13,10 @@ const TIMEOUT: Refusal = Refusal::Timeout { address: 0 };
 
 const MISMATCH: Refusal = Refusal::Mismatch { address: 0 };
 
-const fn no_sfdp(fault: SfdpFault) -> Refusal {
-    Refusal::UnknownChip(fault)
-}
-
 // The call was refused so, after so many transactions, and a restore on the honest bus gives the chip back.
-fn assert_lied(rt: &impl Abort, alloc: Global, row: &Row, lied: Lied, told: (Refusal, u64)) {
+fn assert_lied(rt: &impl Abort, alloc: Global, row: Row, lied: Lied, told: (Refusal, u64)) {
     let (refusal, sent) = told;
-    assert_eq!(rt; (lied.refusal, lied.sent), (Some(refusal), sent));
+    assert!(rt; lied.refusal == Some(refusal) && lied.sent == sent);
     lied.assert_given_back(rt, alloc, row);
 }
 
@@ -33,64 +27,79 @@ fn assert_lied(rt: &impl Abort, alloc: Global, row: &Row, lied: Lied, told: (Ref
 // Where a byte is programmed, 24 reads the sector again, 25 enables the program, 26 is the program, 27 its poll, and 28
 // reads the sector once more. Where nine sectors are erased, 25 erases sectors 0 to 7, 28 sector 8, and 30 to 38 read
 // them again: a check ends at the first difference.
+const SESSIONS: [(Row, Spoil, (Refusal, u64)); 9] = [
+    (Row::ABitRises, Spoil::Fill(0xFF), (TIMEOUT, 65_536)),
+    (Row::ABitRises, Spoil::Fill(0x00), (Refusal::NoChip, 2)),
+    (Row::ABitRises, Spoil::BusyFrom(26), (TIMEOUT, 25 + 65_536)),
+    (Row::ABitRises, Spoil::Drop(24), (MISMATCH, 30)),
+    (
+        Row::ABitRises,
+        Spoil::Low(0),
+        (Refusal::UnknownChip(SfdpFault::Signature), 5),
+    ),
+    (
+        Row::AByteIsProgrammed,
+        Spoil::BusyFrom(27),
+        (Refusal::Timeout { address: 0x100 }, 26 + 65_536),
+    ),
+    (
+        Row::AByteIsProgrammed,
+        Spoil::Drop(26),
+        (Refusal::Mismatch { address: 0x100 }, 28),
+    ),
+    (Row::NineSectorsAreErased, Spoil::Drop(25), (MISMATCH, 30)),
+    (
+        Row::NineSectorsAreErased,
+        Spoil::Drop(28),
+        (Refusal::Mismatch { address: 0x8000 }, 38),
+    ),
+];
+
 #[test]
 fn a_session_that_changes(rt: HostRuntime) {
-    let erases = a_bit_rises();
-    let programs = a_byte_is_programmed();
-    let erases_nine = nine_sectors_are_erased();
-    let rows = [
-        (erases, Spoil::Fill(0xFF), (TIMEOUT, 65_536)),
-        (erases, Spoil::Fill(0x00), (Refusal::NoChip, 2)),
-        (erases, Spoil::BusyFrom(26), (TIMEOUT, 25 + 65_536)),
-        (erases, Spoil::Drop(24), (MISMATCH, 30)),
-        (erases, Spoil::Low(0), (no_sfdp(SfdpFault::Signature), 5)),
-        (
-            programs,
-            Spoil::BusyFrom(27),
-            (Refusal::Timeout { address: 0x100 }, 26 + 65_536),
-        ),
-        (
-            programs,
-            Spoil::Drop(26),
-            (Refusal::Mismatch { address: 0x100 }, 28),
-        ),
-        (erases_nine, Spoil::Drop(25), (MISMATCH, 30)),
-        (
-            erases_nine,
-            Spoil::Drop(28),
-            (Refusal::Mismatch { address: 0x8000 }, 38),
-        ),
-    ];
-    for (row, spoil, told) in rows {
-        let lied = Lied::session(&rt, rt.alloc(), &row, spoil);
-        assert_lied(&rt, rt.alloc(), &row, lied, told);
+    for (row, spoil, told) in SESSIONS {
+        let lied = Lied::session(&rt, rt.alloc(), row, spoil);
+        assert_lied(&rt, rt.alloc(), row, lied, told);
     }
 }
 
 // The session was stopped behind its erase. Of the restore 1 is a poll, 2 the ID, 3 to 5 the SFDP, whose parts are FFh
 // where they were dropped, 6 status 2 and 7 the unique ID; 8 and 9 read the sector, 10 enables the program, 11 is the
 // program, 12 its poll, and 13 reads the sector again.
+const RESTORES: [(Spoil, (Refusal, u64)); 12] = [
+    (Spoil::Fill(0xFF), (TIMEOUT, 65_536)),
+    (Spoil::Fill(0x00), (Refusal::NoChip, 2)),
+    (Spoil::BusyFrom(12), (TIMEOUT, 11 + 65_536)),
+    (Spoil::Drop(2), (Refusal::NoChip, 2)),
+    (
+        Spoil::Drop(3),
+        (Refusal::UnknownChip(SfdpFault::Signature), 5),
+    ),
+    (
+        Spoil::Drop(4),
+        (Refusal::UnknownChip(SfdpFault::FirstHeader), 5),
+    ),
+    (
+        Spoil::Drop(5),
+        (Refusal::UnknownChip(SfdpFault::Address), 5),
+    ),
+    (Spoil::Drop(6), (Refusal::StatusDiffers, 7)),
+    (Spoil::Drop(7), (Refusal::OtherUnit, 7)),
+    (Spoil::Drop(10), (MISMATCH, 13)),
+    (Spoil::Drop(11), (MISMATCH, 13)),
+    (
+        Spoil::Low(0),
+        (Refusal::UnknownChip(SfdpFault::Signature), 5),
+    ),
+];
+
 #[test]
 fn a_restore_that_programs(rt: HostRuntime) {
-    let row = a_bit_rises();
-    let runs = Runs::new(&rt, rt.alloc(), &row, Start::IDLE);
-    let rows = [
-        (Spoil::Fill(0xFF), (TIMEOUT, 65_536)),
-        (Spoil::Fill(0x00), (Refusal::NoChip, 2)),
-        (Spoil::BusyFrom(12), (TIMEOUT, 11 + 65_536)),
-        (Spoil::Drop(2), (Refusal::NoChip, 2)),
-        (Spoil::Drop(3), (no_sfdp(SfdpFault::Signature), 5)),
-        (Spoil::Drop(4), (no_sfdp(SfdpFault::FirstHeader), 5)),
-        (Spoil::Drop(5), (no_sfdp(SfdpFault::Address), 5)),
-        (Spoil::Drop(6), (Refusal::StatusDiffers, 7)),
-        (Spoil::Drop(7), (Refusal::OtherUnit, 7)),
-        (Spoil::Drop(10), (MISMATCH, 13)),
-        (Spoil::Drop(11), (MISMATCH, 13)),
-        (Spoil::Low(0), (no_sfdp(SfdpFault::Signature), 5)),
-    ];
-    for (spoil, told) in rows {
+    let row = Row::ABitRises;
+    let runs = Runs::new(&rt, rt.alloc(), row, Start::IDLE);
+    for (spoil, told) in RESTORES {
         let lied = Lied::restore(&rt, runs.cut(&rt, 25), spoil);
-        assert_lied(&rt, rt.alloc(), &row, lied, told);
+        assert_lied(&rt, rt.alloc(), row, lied, told);
     }
 }
 
@@ -106,13 +115,13 @@ fn is_fitting(spoil: Spoil, refusal: Option<Refusal>) -> bool {
 
 // Drops each transaction past the seal of a row's session in turn, and shows BUSY from each of them on. Answers how
 // many runs there were.
-fn lie_past_the_seal(rt: &impl Abort, alloc: Global, row: &Row) -> u64 {
+fn lie_past_the_seal(rt: &impl Abort, alloc: Global, row: Row) -> u64 {
     let mut runs: u64 = 0;
     for n in row.sealed_at(Start::IDLE)..row.ends_at(Start::IDLE) {
         for spoil in [Spoil::Drop(n + 1), Spoil::BusyFrom(n + 1)] {
             let lied = Lied::session(rt, alloc, row, spoil);
-            let held = (is_fitting(spoil, lied.refusal), lied.cut.vault.is_sealed());
-            assert_eq!(rt; held, (true, true), "{spoil:?}");
+            let holds = is_fitting(spoil, lied.refusal) && lied.cut.vault.is_sealed();
+            assert_held(rt, holds, n);
             lied.assert_given_back(rt, alloc, row);
             runs = runs.saturating_add(1);
         }
@@ -122,26 +131,28 @@ fn lie_past_the_seal(rt: &impl Abort, alloc: Global, row: &Row) -> u64 {
 
 // Past the seal all that a session sends aims at the saved sectors or the protection bits, and what was saved was read
 // on a bus that was still honest. So the restore gives back what any one lie made of the chip.
+const PAST_THE_SEAL: [(Row, u64); 6] = [
+    (Row::AByteIsProgrammed, 2 * 5),
+    (Row::ABitRises, 2 * 7),
+    (Row::TwoPagesAreProgrammed, 2 * 8),
+    (Row::NineSectorsAreErased, 2 * 15),
+    (Row::TheRestOfASectorStays, 2 * 49),
+    (Row::AGuardedByteIsProgrammed, 2 * 11),
+];
+
 #[test]
 fn any_lie_past_the_seal_is_undone(rt: HostRuntime) {
-    let rows = [
-        (a_byte_is_programmed(), 2 * 5),
-        (a_bit_rises(), 2 * 7),
-        (two_pages_are_programmed(), 2 * 8),
-        (nine_sectors_are_erased(), 2 * 15),
-        (the_rest_of_a_sector_stays(), 2 * 49),
-        (a_guarded_byte_is_programmed(), 2 * 11),
-    ];
-    for (row, runs) in rows {
-        assert_eq!(rt; lie_past_the_seal(&rt, rt.alloc(), &row), runs);
+    for (row, runs) in PAST_THE_SEAL {
+        assert!(rt; lie_past_the_seal(&rt, rt.alloc(), row) == runs);
     }
 }
 
 // Drops each transaction of the restore behind a stop of a row's session, and shows BUSY from each of them on. A
 // restore on the honest bus follows.
-fn lie_to_restores(rt: &impl Abort, alloc: Global, row: &Row, stop: u64, length: u64) {
+fn lie_to_restores(rt: &impl Abort, alloc: Global, row: Row, stop: u64, length: u64) {
     let runs = Runs::new(rt, alloc, row, Start::IDLE);
-    assert_eq!(rt; runs.cut(rt, stop).restore(rt, length), Some(length));
+    let sent = runs.cut(rt, stop).restore(rt, length);
+    assert_held(rt, sent == Some(length), stop);
     for n in 0..length {
         for spoil in [Spoil::Drop(n + 1), Spoil::BusyFrom(n + 1)] {
             let lied = Lied::restore(rt, runs.cut(rt, stop), spoil);
@@ -151,16 +162,17 @@ fn lie_to_restores(rt: &impl Abort, alloc: Global, row: &Row, stop: u64, length:
 }
 
 // Behind stops that leave a sector erased, a byte programmed, and protection lifted or given back.
+const BEHIND: [(Row, u64, u64); 5] = [
+    (Row::ABitRises, 25, 13),
+    (Row::AByteIsProgrammed, 26, 12),
+    (Row::TheRestOfASectorStays, 10, 58),
+    (Row::AGuardedByteIsProgrammed, 2054, 8),
+    (Row::AGuardedByteIsProgrammed, 2061, 15),
+];
+
 #[test]
 fn any_lie_to_a_restore_is_undone(rt: HostRuntime) {
-    let rows = [
-        (a_bit_rises(), 25, 13),
-        (a_byte_is_programmed(), 26, 12),
-        (the_rest_of_a_sector_stays(), 10, 58),
-        (a_guarded_byte_is_programmed(), 2054, 8),
-        (a_guarded_byte_is_programmed(), 2061, 15),
-    ];
-    for (row, stop, length) in rows {
-        lie_to_restores(&rt, rt.alloc(), &row, stop, length);
+    for (row, stop, length) in BEHIND {
+        lie_to_restores(&rt, rt.alloc(), row, stop, length);
     }
 }

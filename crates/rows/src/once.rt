@@ -1,9 +1,10 @@
 //! After a stop nothing more is sent: each call ends with it, on a bus that would go on rightly. And nothing is read
 //! again that was spoilt once.
 use crate::failing::{Fault, OnceBus};
-use crate::row::{Start, a_bit_rises, erased};
+use crate::held::assert_held;
+use crate::row::{Row, Start, erased};
 use crate::spoilt::most;
-use crate::stages::{Call, Stage, on_two_blocks, on_w25q64fv};
+use crate::stages::{Call, Job, Stage};
 use nor_chip::{Config, Delays, Status, Stopped};
 use nor_driver::{
     Erase, EraseUnit, Halt, erase, poll, program_page, read_id, read_sector, read_sfdp,
@@ -15,7 +16,7 @@ use std::alloc::Global;
 use std::process::Abort;
 
 // What nor_driver sends.
-#[derive(Clone, Copy, Debug)]
+#[derive(Clone, Copy)]
 enum Command {
     Poll,
     Wait,
@@ -55,35 +56,32 @@ impl Command {
             let mut bus = OnceBus::new(bus, 65_538, Fault::Stop, Some(n));
             let is_stopped = self.is_stopped(&mut bus);
             let asked = length.min(n.saturating_add(1));
-            assert_eq!(rt;
-                (is_stopped, bus.asked),
-                (n < length, asked),
-                "{self:?} at {n}"
-            );
+            assert_held(rt, is_stopped == (n < length) && bus.asked == asked, n);
         }
     }
 }
 
 // The chip answers BUSY twice, at first or, where it is operated, after each operation. So a wait has three polls, and
 // an operation five transactions.
+const COMMANDS: [(Command, u64); 13] = [
+    (Command::Poll, 1),
+    (Command::Wait, 3),
+    (Command::Id, 1),
+    (Command::Status2, 1),
+    (Command::Unique, 1),
+    (Command::Sfdp, 1),
+    (Command::Sector, 1),
+    (Command::Erase(EraseUnit::Sector), 5),
+    (Command::Erase(EraseUnit::Block32), 5),
+    (Command::Erase(EraseUnit::Block64), 5),
+    (Command::Erase(EraseUnit::Chip), 5),
+    (Command::Program, 5),
+    (Command::WriteStatus, 5),
+];
+
 #[test]
 fn a_stop_ends_each_command(rt: HostRuntime) {
-    let commands = [
-        (Command::Poll, 1),
-        (Command::Wait, 3),
-        (Command::Id, 1),
-        (Command::Status2, 1),
-        (Command::Unique, 1),
-        (Command::Sfdp, 1),
-        (Command::Sector, 1),
-        (Command::Erase(EraseUnit::Sector), 5),
-        (Command::Erase(EraseUnit::Block32), 5),
-        (Command::Erase(EraseUnit::Block64), 5),
-        (Command::Erase(EraseUnit::Chip), 5),
-        (Command::Program, 5),
-        (Command::WriteStatus, 5),
-    ];
-    for (command, length) in commands {
+    for (command, length) in COMMANDS {
         let now = if length == 5 { 0 } else { 2 };
         command.stop_at_each(&rt, rt.alloc(), Delays { now, each: 2 }, length);
     }
@@ -97,46 +95,53 @@ fn a_stop_ends_each_command(rt: HostRuntime) {
 // and 19 to compare; the restore scans these, has two erases and 17 programs, and reads 17 and 19. On the W25Q64FV
 // both scan two sectors, and read them to compare: the session has two status writes, an erase and two programs, and
 // reads one sector to program it; the restore two status writes, two erases and a program.
+const ON_TWO_BLOCKS: [(Call, u64); 6] = [
+    (Call::Probe, 6),
+    (Call::Protection, 6 + 1),
+    (Call::ReadOut, 6 + 32),
+    (Call::Verify, 6 + 32),
+    (Call::Session, 8 + 32 + 4 * 4 + 2 + 19),
+    (Call::Restore, 8 + 19 + 4 * 19 + 17 + 19),
+];
+
+const ON_W25Q64FV: [(Call, u64); 6] = [
+    (Call::Probe, 3),
+    (Call::Protection, 3 + 1),
+    (Call::ReadOut, 3 + 2),
+    (Call::Verify, 3 + 2),
+    (Call::Session, 5 + 2 + 4 * 5 + 1 + 2),
+    (Call::Restore, 5 + 2 + 4 * 5 + 2),
+];
+
+// Each call of the job has so many transactions, and ends with a stop of any of them.
+fn stop_each_call(rt: &impl Abort, alloc: Global, job: Job, lengths: [(Call, u64); 6]) {
+    let stage = Stage::new(rt, alloc, job, Delays { now: 1, each: 1 });
+    for (call, length) in lengths {
+        assert_held(rt, stage.stop_at_each(rt, call) == length, length);
+    }
+}
+
 #[test]
 fn a_stop_ends_each_call(rt: HostRuntime) {
-    let delays = Delays { now: 1, each: 1 };
-    let lengths = [
-        (Call::Probe, 6, 3),
-        (Call::Protection, 6 + 1, 3 + 1),
-        (Call::ReadOut, 6 + 32, 3 + 2),
-        (Call::Verify, 6 + 32, 3 + 2),
-        (
-            Call::Session,
-            8 + 32 + 4 * 4 + 2 + 19,
-            5 + 2 + 4 * 5 + 1 + 2,
-        ),
-        (Call::Restore, 8 + 19 + 4 * 19 + 17 + 19, 5 + 2 + 4 * 5 + 2),
-    ];
-    let blocks = Stage::new(&rt, rt.alloc(), on_two_blocks(&rt), delays);
-    let large = Stage::new(&rt, rt.alloc(), on_w25q64fv(), delays);
-    for (call, on_blocks, on_large) in lengths {
-        let sent = (
-            blocks.stop_at_each(&rt, call),
-            large.stop_at_each(&rt, call),
-        );
-        assert_eq!(rt; sent, (on_blocks, on_large), "{call:?}");
-    }
+    stop_each_call(&rt, rt.alloc(), Job::OnTwoBlocks, ON_TWO_BLOCKS);
+    stop_each_call(&rt, rt.alloc(), Job::OnW25q64fv, ON_W25Q64FV);
 }
 
 // An idle chip's polls show BUSY clear, so a spoilt one is followed by another, and nothing else changes. What was read
 // to be compared is told as another byte at the sector's first address, or given out as it was read: it isn't read
 // again. Each operation has a poll, and so has the opening.
+const REPLIES: [(Call, u64); 4] = [
+    (Call::ReadOut, 1 + 2),
+    (Call::Verify, 1 + 2),
+    (Call::Session, 1 + 5 + 2),
+    (Call::Restore, 1 + 5 + 2),
+];
+
 #[test]
 fn a_spoilt_reply_is_taken_as_it_is(rt: HostRuntime) {
-    let stage = Stage::new(&rt, rt.alloc(), on_w25q64fv(), Start::IDLE.delays);
-    let replies = [
-        (Call::ReadOut, 1 + 2),
-        (Call::Verify, 1 + 2),
-        (Call::Session, 1 + 5 + 2),
-        (Call::Restore, 1 + 5 + 2),
-    ];
-    for (call, count) in replies {
-        assert_eq!(rt; stage.spoil_each(&rt, call, 2), count, "{call:?}");
+    let stage = Stage::new(&rt, rt.alloc(), Job::OnW25q64fv, Start::IDLE.delays);
+    for (call, count) in REPLIES {
+        assert_held(&rt, stage.spoil_each(&rt, call, 2) == count, count);
     }
 }
 
@@ -150,9 +155,12 @@ fn restore_behind(sent: u64) -> Option<u64> {
     }
 }
 
+// What a rehearsal tells, and how many transactions were asked for in all.
+type Rehearsed = (Result<Rehearsal, Refusal>, u64);
+
 // What a rehearsal tells where so many transactions go before a stop, and how many were asked for in all. A stop ends
 // the last call that is allowed; else a restore follows, and nothing else.
-fn rehearsed(behind: u64, stops: usize) -> (Result<Rehearsal, Refusal>, u64) {
+fn rehearsed(behind: u64, stops: usize) -> Rehearsed {
     let asked = behind.saturating_add(1);
     let ended = behind >= 30;
     if stops == 0 || ended && stops == 1 {
@@ -167,24 +175,32 @@ fn rehearsed(behind: u64, stops: usize) -> (Result<Rehearsal, Refusal>, u64) {
     (Ok(told), asked.saturating_add(needed.unwrap_or(0)))
 }
 
+// Rehearses under so many stops, of which none comes, on a bus with so many transactions before the one that is
+// stopped. Answers what that told, and how many were asked for.
+fn rehearse_behind(rt: &impl Abort, alloc: Global, behind: u64, stops: usize) -> Rehearsed {
+    let row = Row::ABitRises;
+    let mut bus = OnceBus::new(
+        row.bus(rt, alloc, Start::IDLE),
+        0,
+        Fault::Stop,
+        Some(behind),
+    );
+    let mut vault = MemVault::new(alloc);
+    let mut image = row.wanted(rt, alloc);
+    let request = row.request(rt, alloc);
+    let all = [most(16); 2];
+    let stops = all.get(..stops).unwrap_or(&all);
+    let told = rehearse(&mut bus, &mut vault, &mut image, &request, stops);
+    (told, bus.asked)
+}
+
 // The session sends 30 transactions, and the restore behind it thirteen, of which the eleventh programs the byte.
 #[test]
 fn a_stop_in_a_rehearsal(rt: HostRuntime) {
-    let row = a_bit_rises();
-    let request = row.request(&rt, rt.alloc());
-    let all = [most(16); 2];
     for n in 0..30 + 13 {
         for stops in 0..3 {
-            let bus = row.bus(&rt, rt.alloc(), Start::IDLE);
-            let mut bus = OnceBus::new(bus, 0, Fault::Stop, Some(n));
-            let mut vault = MemVault::new(rt.alloc());
-            let mut image = row.wanted(&rt, rt.alloc());
-            let told = rehearse(&mut bus, &mut vault, &mut image, &request, &all[..stops]);
-            assert_eq!(rt;
-                (told, bus.asked),
-                rehearsed(n, stops),
-                "at {n}, {stops} stops"
-            );
+            let came = rehearse_behind(&rt, rt.alloc(), n, stops);
+            assert_held(&rt, came == rehearsed(n, stops), n);
         }
     }
 }

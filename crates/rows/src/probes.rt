@@ -1,5 +1,6 @@
 //! Probes of chips, by what SFDP bytes say (JESD216), which chips are found, what is sent and how long is waited.
-use crate::row::{Start, erased};
+use crate::held::assert_held;
+use crate::row::{Start, erased, put_run};
 use nor_chip::{Config, Delays, Meter, SimBus, Spoil, SpoiltBus, TINY64_SFDP, TraceBus};
 use nor_probe::{ChipName, Found, Kinds, ProbeFault, Probed, SfdpFault, probe_counted};
 use std::alloc::Global;
@@ -46,26 +47,37 @@ const W25Q128FV: Found = Found {
 // What a probe answers.
 type Answer = Result<Probed, ProbeFault>;
 
-const fn finds(found: Found, transactions: u64) -> Answer {
-    Ok(Probed {
-        found,
-        transactions,
-    })
-}
+const SMALL: Answer = Ok(Probed {
+    found: W25Q64FV,
+    transactions: 2,
+});
 
-// The chip of no name in the table, by its SFDP: its size and erase kinds, or why it is refused.
-const fn says(size: u32, kinds: Kinds) -> Answer {
+const LARGE: Answer = Ok(Probed {
+    found: W25Q128FV,
+    transactions: 2,
+});
+
+const BY_SFDP: Answer = Ok(Probed {
+    found: TINY64,
+    transactions: 5,
+});
+
+// What a probe answers on the chip of no name in the table, whose SFDP bytes say this.
+fn answer_of(said: Said) -> Answer {
+    let (size, kinds) = match said {
+        Ok(geometry) => geometry,
+        Err(fault) => return Err(ProbeFault::UnknownChip(fault)),
+    };
     let found = Found {
         id: [0xAA, 0x11, 0x22],
         size,
         kinds,
         ..TINY64
     };
-    finds(found, 5)
-}
-
-const fn refuses(fault: SfdpFault) -> Answer {
-    Err(ProbeFault::UnknownChip(fault))
+    Ok(Probed {
+        found,
+        transactions: 5,
+    })
 }
 
 // A chip of 64 KiB with this ID and these SFDP bytes.
@@ -83,12 +95,13 @@ fn bus_to(rt: &impl Abort, alloc: Global, config: Config, delays: Delays, allowe
 // What a probe answers on a chip of no name in the table, whose SFDP bytes are a TINY64's but for a run of them.
 fn answer_to(rt: &impl Abort, alloc: Global, at: usize, run: &[u8]) -> Answer {
     let mut sfdp = TINY64_SFDP;
-    for (place, byte) in sfdp.iter_mut().skip(at).zip(run) {
-        *place = *byte;
-    }
+    put_run(&mut sfdp, at, run);
     let config = chip(rt, [0xAA, 0x11, 0x22], &sfdp);
     probe_counted(&mut bus_to(rt, alloc, config, Start::IDLE.delays, 5), None)
 }
+
+// What SFDP bytes say: a size and erase kinds, or a fault.
+type Said = Result<(u32, Kinds), SfdpFault>;
 
 // Each row changes a run of a TINY64's SFDP bytes. From 0 on they are the header, with the major revision at 5; from 8
 // on the parameter header, with its revision at 0Ah, the length at 0Bh and the pointer at 0Ch; from 10h on the table,
@@ -96,52 +109,53 @@ fn answer_to(rt: &impl Abort, alloc: Global, at: usize, run: &[u8]) -> Answer {
 //
 // A table at FFFFFFh lies past the SFDP bytes, so each of its bytes is FFh; one at 0 is the header, which begins with
 // 53 46 44 50. As double word 1, both have a 2 or a 3 where they tell how many address bytes there are.
+const SAYINGS: &[(usize, &[u8], Said)] = &[
+    (0x00, &[], Ok((65_536, ALL))),
+    (0x0C, &[0xFF, 0xFF, 0xFF], Err(SfdpFault::Address)),
+    (0x0C, &[0x00, 0x00, 0x00], Err(SfdpFault::Address)),
+    (0x05, &[0x02], Err(SfdpFault::Major)),
+    (
+        0x00,
+        &[0x00, 0x46, 0x44, 0x50, 0x00, 0x02],
+        Err(SfdpFault::Signature),
+    ),
+    (
+        0x0B,
+        &[0x08, 0x10, 0x00, 0x00, 0xFF, 0x01],
+        Err(SfdpFault::Length),
+    ),
+    (
+        0x0A,
+        &[0x02, 0x08, 0x10, 0x00, 0x00, 0xFF, 0x01],
+        Err(SfdpFault::FirstHeader),
+    ),
+    (0x10, &[0x01], Err(SfdpFault::Granularity)),
+    (0x10, &[0x01, 0x20, 0x04], Err(SfdpFault::Address)),
+    (0x12, &[0x02], Ok((65_536, ALL))),
+    (0x14, &[0xFF, 0xFF, 0xFF, 0x03], Ok((8_388_608, ALL))),
+    (0x14, &[0xFF, 0xFF, 0xFF, 0x07], Ok((16_777_216, ALL))),
+    (0x14, &[0x13, 0x00, 0x00, 0x80], Ok((65_536, ALL))),
+    (0x14, &[0x1C, 0x00, 0x00, 0x80], Err(SfdpFault::Size)),
+    (0x14, &[0xFE, 0xFF, 0x07, 0x00], Err(SfdpFault::Size)),
+    (0x14, &[0xFF, 0xFF, 0x03, 0x00], Err(SfdpFault::Size)),
+    (0x14, &[0xFF, 0xFF, 0xFF, 0x0F], Err(SfdpFault::Size)),
+    (
+        0x2C,
+        &[0x0F, 0x52, 0x0C, 0x21, 0x10, 0xD8, 0x00, 0x00],
+        Err(SfdpFault::NoSector),
+    ),
+    (
+        0x2C,
+        &[0x10, 0x52, 0x0F, 0xD8, 0x00, 0x00, 0x0C, 0x20],
+        Ok((65_536, SECTORS_ALONE)),
+    ),
+];
+
 #[test]
 fn sfdp_says_a_geometry_or_its_first_fault(rt: HostRuntime) {
-    let cases: [(usize, &[u8], Answer); 19] = [
-        (0x00, &[], says(65_536, ALL)),
-        (0x0C, &[0xFF, 0xFF, 0xFF], refuses(SfdpFault::Address)),
-        (0x0C, &[0x00, 0x00, 0x00], refuses(SfdpFault::Address)),
-        (0x05, &[0x02], refuses(SfdpFault::Major)),
-        (
-            0x00,
-            &[0x00, 0x46, 0x44, 0x50, 0x00, 0x02],
-            refuses(SfdpFault::Signature),
-        ),
-        (
-            0x0B,
-            &[0x08, 0x10, 0x00, 0x00, 0xFF, 0x01],
-            refuses(SfdpFault::Length),
-        ),
-        (
-            0x0A,
-            &[0x02, 0x08, 0x10, 0x00, 0x00, 0xFF, 0x01],
-            refuses(SfdpFault::FirstHeader),
-        ),
-        (0x10, &[0x01], refuses(SfdpFault::Granularity)),
-        (0x10, &[0x01, 0x20, 0x04], refuses(SfdpFault::Address)),
-        (0x12, &[0x02], says(65_536, ALL)),
-        (0x14, &[0xFF, 0xFF, 0xFF, 0x03], says(8_388_608, ALL)),
-        (0x14, &[0xFF, 0xFF, 0xFF, 0x07], says(16_777_216, ALL)),
-        (0x14, &[0x13, 0x00, 0x00, 0x80], says(65_536, ALL)),
-        (0x14, &[0x1C, 0x00, 0x00, 0x80], refuses(SfdpFault::Size)),
-        (0x14, &[0xFE, 0xFF, 0x07, 0x00], refuses(SfdpFault::Size)),
-        (0x14, &[0xFF, 0xFF, 0x03, 0x00], refuses(SfdpFault::Size)),
-        (0x14, &[0xFF, 0xFF, 0xFF, 0x0F], refuses(SfdpFault::Size)),
-        (
-            0x2C,
-            &[0x0F, 0x52, 0x0C, 0x21, 0x10, 0xD8, 0x00, 0x00],
-            refuses(SfdpFault::NoSector),
-        ),
-        (
-            0x2C,
-            &[0x10, 0x52, 0x0F, 0xD8, 0x00, 0x00, 0x0C, 0x20],
-            says(65_536, SECTORS_ALONE),
-        ),
-    ];
-    for (at, run, answer) in cases {
-        let told = answer_to(&rt, rt.alloc(), at, run);
-        assert_eq!(rt; told, answer, "{run:?} at {at}");
+    for (at, run, said) in SAYINGS {
+        let told = answer_to(&rt, rt.alloc(), *at, run);
+        assert_held(&rt, told == answer_of(*said), *at as u64);
     }
 }
 
@@ -155,6 +169,40 @@ const SILENT_SENT: &str = "05 > 04\n9f > aa1122\n\
 const W25Q64FV_SENT: &str = "05 > 04\n9f > ef4017\n";
 
 const W25Q128FV_SENT: &str = "05 > 04\n9f > ef4018\n";
+
+// The chips that are probed by names.
+#[derive(Clone, Copy)]
+enum Sample {
+    Small,
+    Large,
+    BySfdp,
+    // A chip with the ID of the small one.
+    Believed,
+    // A chip of no name in the table, without SFDP bytes.
+    Silent,
+    Ones,
+    Zeros,
+}
+
+impl Sample {
+    fn config(self, rt: &impl Abort) -> Config {
+        match self {
+            Sample::Small => Config::w25q64fv(),
+            Sample::Large => Config::w25q128fv(),
+            Sample::BySfdp => Config::tiny64(),
+            Sample::Believed => chip(rt, [0xEF, 0x40, 0x17], &TINY64_SFDP),
+            Sample::Silent => chip(rt, [0xAA, 0x11, 0x22], &[]),
+            Sample::Ones => chip(rt, [0xFF; 3], &[]),
+            Sample::Zeros => chip(rt, [0x00; 3], &[]),
+        }
+    }
+}
+
+const OTHER: Answer = Err(ProbeFault::OtherName);
+
+const NONE: Answer = Err(ProbeFault::NoChip);
+
+const UNKNOWN: Answer = Err(ProbeFault::UnknownChip(SfdpFault::Signature));
 
 // What a probe by a name answers, and whether it sent just that.
 fn probed(
@@ -172,64 +220,76 @@ fn probed(
 
 // An ID of the table is believed, whatever the chip's SFDP says; names are compared letter by letter; nothing drives a
 // bus whose ID has equal bits throughout.
+const PROBES: &[(Sample, Option<&str>, Answer, &str)] = &[
+    (Sample::Small, None, SMALL, W25Q64FV_SENT),
+    (Sample::Small, Some("W25Q64FV"), SMALL, W25Q64FV_SENT),
+    (Sample::Small, Some("W25Q128FV"), OTHER, W25Q64FV_SENT),
+    (Sample::Small, Some("w25q64fv"), OTHER, W25Q64FV_SENT),
+    (Sample::Small, Some("W25Q64FV "), OTHER, W25Q64FV_SENT),
+    (Sample::Small, Some(""), OTHER, W25Q64FV_SENT),
+    (Sample::Large, Some("W25Q128FV"), LARGE, W25Q128FV_SENT),
+    (Sample::BySfdp, None, BY_SFDP, TINY64_SENT),
+    (Sample::BySfdp, Some("SFDP"), BY_SFDP, TINY64_SENT),
+    (Sample::BySfdp, Some("TINY64"), OTHER, TINY64_SENT),
+    (Sample::Believed, None, SMALL, W25Q64FV_SENT),
+    (Sample::Silent, Some("W25Q64FV"), UNKNOWN, SILENT_SENT),
+    (
+        Sample::Ones,
+        Some("W25Q64FV"),
+        NONE,
+        "05 > 04\n9f > ffffff\n",
+    ),
+    (
+        Sample::Zeros,
+        Some("W25Q64FV"),
+        NONE,
+        "05 > 04\n9f > 000000\n",
+    ),
+];
+
 #[test]
 fn probes_find_the_chips_that_are_known(rt: HostRuntime) {
-    let small = Config::w25q64fv();
-    let large = Config::w25q128fv();
-    let by_sfdp = Config::tiny64();
-    let believed = chip(&rt, [0xEF, 0x40, 0x17], &TINY64_SFDP);
-    let silent = chip(&rt, [0xAA, 0x11, 0x22], &[]);
-    let ones = chip(&rt, [0xFF; 3], &[]);
-    let zeros = chip(&rt, [0x00; 3], &[]);
-    let other = Err(ProbeFault::OtherName);
-    let none = Err(ProbeFault::NoChip);
-    let unknown = refuses(SfdpFault::Signature);
-    let cases = [
-        (small, None, finds(W25Q64FV, 2), W25Q64FV_SENT),
-        (small, Some("W25Q64FV"), finds(W25Q64FV, 2), W25Q64FV_SENT),
-        (small, Some("W25Q128FV"), other, W25Q64FV_SENT),
-        (small, Some("w25q64fv"), other, W25Q64FV_SENT),
-        (small, Some("W25Q64FV "), other, W25Q64FV_SENT),
-        (small, Some(""), other, W25Q64FV_SENT),
-        (
-            large,
-            Some("W25Q128FV"),
-            finds(W25Q128FV, 2),
-            W25Q128FV_SENT,
-        ),
-        (by_sfdp, None, finds(TINY64, 5), TINY64_SENT),
-        (by_sfdp, Some("SFDP"), finds(TINY64, 5), TINY64_SENT),
-        (by_sfdp, Some("TINY64"), other, TINY64_SENT),
-        (believed, None, finds(W25Q64FV, 2), W25Q64FV_SENT),
-        (silent, Some("W25Q64FV"), unknown, SILENT_SENT),
-        (ones, Some("W25Q64FV"), none, "05 > 04\n9f > ffffff\n"),
-        (zeros, Some("W25Q64FV"), none, "05 > 04\n9f > 000000\n"),
-    ];
-    for (config, name, answer, sent) in cases {
-        let told = probed(&rt, rt.alloc(), config, name, sent);
-        assert_eq!(rt; told, (answer, true), "{name:?}: {sent}");
+    for (chip, name, answer, sent) in PROBES {
+        let config = chip.config(&rt);
+        let told = probed(&rt, rt.alloc(), config, *name, sent);
+        assert!(rt; told == (*answer, true));
     }
 }
 
+const HONEST: Spoil = Spoil::BusyFrom(u64::MAX);
+
+const STUCK: Spoil = Spoil::BusyFrom(1);
+
+const WAITED: Answer = Ok(Probed {
+    found: TINY64,
+    transactions: 8,
+});
+
+const WAITED_LONG: Answer = Ok(Probed {
+    found: TINY64,
+    transactions: 65_540,
+});
+
+const STOPPED: Answer = Err(ProbeFault::Stopped);
+
 // A bus that lies from the last of all transactions on is honest. No clause tells a stop from a timeout on a bus that
 // lies, so that is shown here.
+const WAITS: [(u16, Spoil, u64, Answer); 6] = [
+    (3, HONEST, 8, WAITED),
+    (3, HONEST, 7, STOPPED),
+    (65_535, HONEST, 65_540, WAITED_LONG),
+    (65_535, HONEST, 65_539, STOPPED),
+    (0, STUCK, 65_536, Err(ProbeFault::Timeout)),
+    (0, STUCK, 65_535, STOPPED),
+];
+
 #[test]
 fn the_longest_wait_and_one_transaction_too_few(rt: HostRuntime) {
-    let honest = Spoil::BusyFrom(u64::MAX);
-    let stuck = Spoil::BusyFrom(1);
-    let stopped = Err(ProbeFault::Stopped);
-    let cases = [
-        (3, honest, 8, finds(TINY64, 8)),
-        (3, honest, 7, stopped),
-        (65_535, honest, 65_540, finds(TINY64, 65_540)),
-        (65_535, honest, 65_539, stopped),
-        (0, stuck, 65_536, Err(ProbeFault::Timeout)),
-        (0, stuck, 65_535, stopped),
-    ];
-    for (now, spoil, allowed, answer) in cases {
+    for (now, spoil, allowed, answer) in WAITS {
         let delays = Delays { now, each: 0 };
         let bus = bus_to(&rt, rt.alloc(), Config::tiny64(), delays, allowed);
         let mut bus = SpoiltBus::new(bus, spoil);
-        assert_eq!(rt; probe_counted(&mut bus, None), answer, "{allowed}");
+        let told = probe_counted(&mut bus, None);
+        assert_held(&rt, told == answer, allowed);
     }
 }

@@ -1,44 +1,55 @@
 //! Readings whose vault refuses a piece, and readings that are stopped.
-use crate::row::{Start, a_bit_rises, a_byte_below_the_guard_is_programmed};
+use crate::held::assert_held;
+use crate::row::{Row, Start};
 use crate::runs::AMPLE;
-use nor_chip::Meter;
+use nor_chip::{Meter, SimBus};
 use nor_journal::{BrokenVault, MemVault};
 use nor_read::{Protection, read_out, verify, wp_status};
 use nor_session::{Refusal, Report};
+use std::alloc::Global;
 
 // The chip's sixteen sectors are one piece, so that there is no second call. The refused piece is kept up to some byte.
+const CASES: [(u64, usize, Option<Refusal>, usize); 4] = [
+    (1, 0, Some(Refusal::Output { written: 0 }), 0),
+    (1, 5000, Some(Refusal::Output { written: 5000 }), 5000),
+    (1, 65_535, Some(Refusal::Output { written: 65_535 }), 65_535),
+    (2, 0, None, 65_536),
+];
+
 #[test]
 fn a_vault_that_refuses_ends_the_reading(rt: HostRuntime) {
-    let row = a_bit_rises();
-    let cases = [
-        (1, 0, Some(Refusal::Output { written: 0 }), 0),
-        (1, 5000, Some(Refusal::Output { written: 5000 }), 5000),
-        (1, 65_535, Some(Refusal::Output { written: 65_535 }), 65_535),
-        (2, 0, None, 65_536),
-    ];
-    for (nth, kept, refusal, held) in cases {
+    let row = Row::ABitRises;
+    for (nth, kept, refusal, held) in CASES {
         let mut bus = row.bus(&rt, rt.alloc(), Start::IDLE);
         bus.allow(AMPLE);
         let mut out = BrokenVault::new(MemVault::new(rt.alloc()), nth, kept);
         let answer = read_out(&mut bus, None, None, &mut out).err();
         let told = (answer, out.inner().bytes().len(), out.failures());
-        assert_eq!(rt;
-            told,
-            (refusal, held, u64::from(refusal.is_some())),
-            "{nth}"
-        );
+        let wanted = (refusal, held, u64::from(refusal.is_some()));
+        assert_held(&rt, told == wanted, nth);
     }
 }
 
+type Sent = Result<u64, Refusal>;
+
 // How many transactions a reading sent.
-fn sent(answer: Result<Report, Refusal>) -> Result<u64, Refusal> {
+fn sent(answer: Result<Report, Refusal>) -> Sent {
     Ok(answer?.transactions)
+}
+
+// Reads and verifies a TINY64 under so many transactions each. Answers what they sent.
+fn read_under(alloc: Global, bus: &mut SimBus, before: &[u8], left: u64) -> [Sent; 2] {
+    bus.allow(left);
+    let mut out = MemVault::new(alloc);
+    let read = sent(read_out(bus, None, None, &mut out));
+    bus.allow(left);
+    [read, sent(verify(bus, before, None, None))]
 }
 
 // A reading of a TINY64 sends 21 transactions.
 #[test]
 fn any_stop_is_told(rt: HostRuntime) {
-    let row = a_bit_rises();
+    let row = Row::ABitRises;
     let before = row.before(&rt, rt.alloc());
     let mut bus = row.bus(&rt, rt.alloc(), Start::IDLE);
     for left in 0..=21 {
@@ -47,12 +58,8 @@ fn any_stop_is_told(rt: HostRuntime) {
         } else {
             Ok(21)
         };
-        bus.allow(left);
-        let mut out = MemVault::new(rt.alloc());
-        let read = sent(read_out(&mut bus, None, None, &mut out));
-        bus.allow(left);
-        let verified = sent(verify(&mut bus, &before, None, None));
-        assert_eq!(rt; (read, verified), (wanted, wanted));
+        let told = read_under(rt.alloc(), &mut bus, &before, left);
+        assert_held(&rt, told == [wanted; 2], left);
         assert!(rt; bus.bytes() == before.as_slice());
     }
 }
@@ -66,8 +73,8 @@ fn any_stop_of_a_look_at_the_protection_is_told(rt: HostRuntime) {
         size: 8_388_608,
     };
     let cases = [
-        (a_bit_rises(), 6, Err(Refusal::NoProtection)),
-        (a_byte_below_the_guard_is_programmed(), 3, Ok(protection)),
+        (Row::ABitRises, 6, Err(Refusal::NoProtection)),
+        (Row::AByteBelowTheGuardIsProgrammed, 3, Ok(protection)),
     ];
     for (row, needed, told) in cases {
         let mut bus = row.bus(&rt, rt.alloc(), Start::IDLE);
@@ -78,7 +85,8 @@ fn any_stop_of_a_look_at_the_protection_is_told(rt: HostRuntime) {
             } else {
                 told
             };
-            assert_eq!(rt; wp_status(&mut bus, None), wanted);
+            let told = wp_status(&mut bus, None);
+            assert_held(&rt, told == wanted, left);
         }
     }
 }

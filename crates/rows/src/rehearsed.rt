@@ -1,5 +1,6 @@
 //! Rehearsals under each stop of the session and each of the restore behind it, by what they tell.
-use crate::row::{Row, Start, a_bit_rises};
+use crate::held::assert_held;
+use crate::row::{Row, Start};
 use crate::runs::Runs;
 use nor_journal::MemVault;
 use nor_session::{Refusal, Rehearsal, rehearse};
@@ -10,7 +11,7 @@ use std::process::Abort;
 fn rehearsed(
     rt: &impl Abort,
     alloc: Global,
-    row: &Row,
+    row: Row,
     stops: [u64; 2],
 ) -> (Result<Rehearsal, Refusal>, bool) {
     let mut bus = row.bus(rt, alloc, Start::IDLE);
@@ -35,7 +36,7 @@ fn restore_behind(stop: u64) -> Option<u64> {
 // The session sends 30 transactions. A restore that was stopped is followed by one that isn't.
 #[test]
 fn each_pair_of_stops_tells_how_it_went(rt: HostRuntime) {
-    let row = a_bit_rises();
+    let row = Row::ABitRises;
     for n in 0..=31 {
         for m in 0..=14 {
             let restores = match restore_behind(n) {
@@ -48,8 +49,8 @@ fn each_pair_of_stops_tells_how_it_went(rt: HostRuntime) {
                 sealed,
                 restores,
             };
-            let told = rehearsed(&rt, rt.alloc(), &row, [n, m]);
-            assert_eq!(rt; told, (Ok(wanted), sealed), "at {n}, {m}");
+            let told = rehearsed(&rt, rt.alloc(), row, [n, m]);
+            assert_held(&rt, told == (Ok(wanted), sealed), n);
         }
     }
 }

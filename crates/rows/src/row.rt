@@ -5,20 +5,39 @@ use nor_session::{Request, What};
 use std::alloc::Global;
 use std::process::Abort;
 
-/// The bytes of a whole chip: FFh, but for a run of others from one address on.
+// The bytes of a whole chip: FFh, but for so many of one value from address 0 on, and for a run of others from one
+// address on.
 #[derive(Clone, Copy)]
-pub struct Bytes {
+struct Bytes {
+    count: usize,
+    byte: u8,
     at: usize,
     run: &'static [u8],
 }
 
 impl Bytes {
-    fn whole(self, rt: &impl Abort, alloc: Global, size: usize) -> Vec<u8> {
+    fn whole(self, rt: &impl Abort, alloc: Global, sectors: u32) -> Vec<u8> {
+        let size = sectors as usize * 4096;
         let mut whole = vec![in alloc; 0xFF; size].expect(rt, "memory");
-        for (place, byte) in whole.iter_mut().skip(self.at).zip(self.run) {
-            *place = *byte;
+        for place in 0..self.count {
+            put(&mut whole, place, self.byte);
         }
+        put_run(&mut whole, self.at, self.run);
         whole
+    }
+}
+
+/// Puts bytes at the places from this one on.
+pub fn put_run(bytes: &mut [u8], at: usize, run: &[u8]) {
+    for (n, byte) in run.iter().enumerate() {
+        put(bytes, at.saturating_add(n), *byte);
+    }
+}
+
+/// Puts a byte at a place, where there is that place.
+pub fn put(bytes: &mut [u8], place: usize, byte: u8) {
+    if let Some(found) = bytes.get_mut(place) {
+        *found = byte;
     }
 }
 
@@ -79,53 +98,113 @@ impl Start {
     }
 }
 
-/// A session that writes to a chip, with what it sends where nothing stops it. It owns nothing, so that a table of
-/// rows costs its proof little.
+/// The sessions, each of which writes to a chip of its own.
 #[derive(Clone, Copy)]
-pub struct Row {
-    pub config: Config,
-    /// The kept bits alone.
-    pub status: [u8; 2],
-    pub old: Bytes,
-    pub image: Bytes,
-    /// The line of a layout whose region `part` is included; without one that is the whole chip.
-    pub part: Option<&'static [u8]>,
-    pub unlock: bool,
-    /// How many transactions go before the seal, on a chip without delays.
-    pub sealed: u32,
-    /// How many there are in all, on a chip without delays.
-    pub length: u32,
-    /// How many of them are erases, page programs and status writes, each of which is waited for.
-    pub operations: u32,
+pub enum Row {
+    /// One byte of an erased chip is programmed.
+    AByteIsProgrammed,
+    /// A byte is to get a bit back, so its sector is erased.
+    ABitRises,
+    /// A byte is to lose a bit, which takes no erase.
+    ABitFalls,
+    /// A run of bytes goes over a page's end.
+    TwoPagesAreProgrammed,
+    /// Nine sectors are erased, by a large unit and a small one.
+    NineSectorsAreErased,
+    /// The whole chip is erased.
+    TheChipIsErased,
+    /// One page of a cleared sector is included and becomes FFh, so the other fifteen are programmed again.
+    TheRestOfASectorStays,
+    /// The byte below the guarded places is programmed.
+    AByteBelowTheGuardIsProgrammed,
+    /// The first guarded byte is programmed, with protection lifted and given back.
+    AGuardedByteIsProgrammed,
+    /// All of a TINY64 with no erases but those of sectors and of the whole chip is changed: fifteen sectors are
+    /// erased, and of all sixteen each page is programmed.
+    EachPageIsProgrammed,
+}
+
+// The chips of the rows.
+#[derive(Clone, Copy)]
+enum Chip {
+    Tiny64,
+    // A TINY64 that lacks the erases of 32 and 64 KiB.
+    SectorsAlone,
+    W25q64fv,
+}
+
+impl Chip {
+    fn config(self, rt: &impl Abort) -> Config {
+        match self {
+            Chip::Tiny64 => Config::tiny64(),
+            Chip::SectorsAlone => sectors_alone(rt),
+            Chip::W25q64fv => Config::w25q64fv(),
+        }
+    }
+
+    fn sectors(self) -> u32 {
+        match self {
+            Chip::Tiny64 | Chip::SectorsAlone => 16,
+            Chip::W25q64fv => 2048,
+        }
+    }
+}
+
+fn sectors_alone(rt: &impl Abort) -> Config {
+    let mut sfdp = TINY64_SFDP;
+    sfdp[0x2E] = 0x00;
+    sfdp[0x30] = 0x00;
+    Config::new([0xFE, 0x10, 0x10], 65_536, false, false, false, &sfdp).expect(rt, "a size")
+}
+
+// What a row's session writes, and what it sends where nothing stops it.
+#[derive(Clone, Copy)]
+struct Written {
+    chip: Chip,
+    // the kept bits alone
+    status: [u8; 2],
+    old: Bytes,
+    image: Bytes,
+    // the line of a layout whose region `part` is included; without one that is the whole chip
+    part: Option<&'static [u8]>,
+    unlock: bool,
+    // how many transactions go before the seal, on a chip without delays
+    sealed: u32,
+    // how many there are in all, on a chip without delays
+    length: u32,
+    // how many of them are erases, page programs and status writes, each of which is waited for
+    operations: u32,
 }
 
 impl Row {
     /// The chip's bytes at the start.
-    pub fn before(&self, rt: &impl Abort, alloc: Global) -> Vec<u8> {
-        self.old.whole(rt, alloc, self.config.size as usize)
+    pub fn before(self, rt: &impl Abort, alloc: Global) -> Vec<u8> {
+        self.written().old.whole(rt, alloc, self.sectors())
     }
 
     /// The session's image.
-    pub fn wanted(&self, rt: &impl Abort, alloc: Global) -> Vec<u8> {
-        self.image.whole(rt, alloc, self.config.size as usize)
+    pub fn wanted(self, rt: &impl Abort, alloc: Global) -> Vec<u8> {
+        self.written().image.whole(rt, alloc, self.sectors())
     }
 
     /// The session's request.
-    pub fn request(&self, rt: &impl Abort, alloc: Global) -> Request {
+    pub fn request(self, rt: &impl Abort, alloc: Global) -> Request {
+        let Written { part, unlock, .. } = self.written();
         Request {
             what: What::Write,
             named: None,
-            included: included(rt, alloc, self.part),
-            unlock: self.unlock,
+            included: included(rt, alloc, part),
+            unlock,
             verify: true,
         }
     }
 
     /// A bus to the row's chip.
-    pub fn bus(&self, rt: &impl Abort, alloc: Global, start: Start) -> SimBus {
+    pub fn bus(self, rt: &impl Abort, alloc: Global, start: Start) -> SimBus {
         let bytes = self.before(rt, alloc);
-        let status = start.status(self.status);
-        let mut bus = SimBus::new(self.config, bytes, status, start.delays).expect(
+        let config = self.written().chip.config(rt);
+        let status = start.status(self.status());
+        let mut bus = SimBus::new(config, bytes, status, start.delays).expect(
             rt,
             "as many bytes as the chip has",
         );
@@ -133,21 +212,53 @@ impl Row {
         bus
     }
 
+    /// The kept bits alone, at the start.
+    pub fn status(self) -> [u8; 2] {
+        self.written().status
+    }
+
+    /// How many sectors the chip has.
+    pub fn sectors(self) -> u32 {
+        self.written().chip.sectors()
+    }
+
     /// The fewest transactions with which the vault is sealed.
-    pub fn sealed_at(&self, start: Start) -> u64 {
-        u64::from(self.sealed) + u64::from(start.delays.now)
+    pub fn sealed_at(self, start: Start) -> u64 {
+        u64::from(self.written().sealed) + u64::from(start.delays.now)
     }
 
     /// The fewest transactions with which the session ends.
-    pub fn ends_at(&self, start: Start) -> u64 {
-        let waits = u64::from(start.delays.each).saturating_mul(u64::from(self.operations));
-        u64::from(self.length)
+    pub fn ends_at(self, start: Start) -> u64 {
+        let Written {
+            length,
+            operations,
+            ..
+        } = self.written();
+        let waits = u64::from(start.delays.each).saturating_mul(u64::from(operations));
+        u64::from(length)
             .saturating_add(u64::from(start.delays.now))
             .saturating_add(waits)
     }
-}
 
-const ZEROS: &[u8] = &[0x00; 65_536];
+    fn written(self) -> Written {
+        match self {
+            Row::AByteIsProgrammed => on_tiny64(ERASED, run(0x100, &[0xA5]), 28, 1),
+            Row::ABitRises => on_tiny64(run(0, &[0x00]), run(0, &[0x01]), 30, 2),
+            Row::ABitFalls => on_tiny64(run(0, &[0xA5]), run(0, &[0xA4]), 28, 1),
+            Row::TwoPagesAreProgrammed => {
+                on_tiny64(ERASED, run(0xFE, &[0x11, 0x22, 0x33, 0x44]), 31, 2)
+            }
+            Row::NineSectorsAreErased => on_tiny64(first(36_864, 0x00), ERASED, 38, 2),
+            Row::TheChipIsErased => on_tiny64(first(65_536, 0x00), ERASED, 42, 1),
+            Row::TheRestOfASectorStays => the_rest_of_a_sector_stays(),
+            Row::AByteBelowTheGuardIsProgrammed => {
+                on_w25q64fv(run(0x7D_FFFF, &[0x00]), false, 2057, 1)
+            }
+            Row::AGuardedByteIsProgrammed => on_w25q64fv(run(0x7E_0000, &[0x00]), true, 2063, 3),
+            Row::EachPageIsProgrammed => each_page_is_programmed(),
+        }
+    }
+}
 
 /// A bus to an erased chip.
 pub fn erased(
@@ -167,16 +278,30 @@ pub fn included(rt: &impl Abort, alloc: Global, layout: Option<&[u8]>) -> Option
     Some(layout.include("part").expect(rt, "a region"))
 }
 
-const ERASED: Bytes = Bytes { at: 0, run: &[] };
+const ERASED: Bytes = Bytes {
+    count: 0,
+    byte: 0xFF,
+    at: 0,
+    run: &[],
+};
+
+// So many bytes of one value from address 0 on.
+const fn first(count: usize, byte: u8) -> Bytes {
+    Bytes {
+        count,
+        byte,
+        ..ERASED
+    }
+}
 
 const fn run(at: usize, run: &'static [u8]) -> Bytes {
-    Bytes { at, run }
+    Bytes { at, run, ..ERASED }
 }
 
 // A write on a TINY64. The opening has seven transactions, the scan sixteen.
-fn on_tiny64(old: Bytes, image: Bytes, length: u32, operations: u32) -> Row {
-    Row {
-        config: Config::tiny64(),
+fn on_tiny64(old: Bytes, image: Bytes, length: u32, operations: u32) -> Written {
+    Written {
+        chip: Chip::Tiny64,
         status: [0x00, 0x00],
         old,
         image,
@@ -188,50 +313,19 @@ fn on_tiny64(old: Bytes, image: Bytes, length: u32, operations: u32) -> Row {
     }
 }
 
-/// One byte of an erased chip is programmed.
-pub fn a_byte_is_programmed() -> Row {
-    on_tiny64(ERASED, run(0x100, &[0xA5]), 28, 1)
-}
-
-/// A byte is to get a bit back, so its sector is erased.
-pub fn a_bit_rises() -> Row {
-    on_tiny64(run(0, &[0x00]), run(0, &[0x01]), 30, 2)
-}
-
-/// A byte is to lose a bit, which takes no erase.
-pub fn a_bit_falls() -> Row {
-    on_tiny64(run(0, &[0xA5]), run(0, &[0xA4]), 28, 1)
-}
-
-/// A run of bytes goes over a page's end.
-pub fn two_pages_are_programmed() -> Row {
-    on_tiny64(ERASED, run(0xFE, &[0x11, 0x22, 0x33, 0x44]), 31, 2)
-}
-
-/// Nine sectors are erased, by a large unit and a small one.
-pub fn nine_sectors_are_erased() -> Row {
-    on_tiny64(run(0, &[0x00; 36_864]), ERASED, 38, 2)
-}
-
-/// The whole chip is erased.
-pub fn the_chip_is_erased() -> Row {
-    on_tiny64(run(0, ZEROS), ERASED, 42, 1)
-}
-
-/// One page of a cleared sector is included and becomes FFh, so the other fifteen are programmed again. The scan has
-/// one transaction.
-pub fn the_rest_of_a_sector_stays() -> Row {
-    Row {
+// The scan has one transaction.
+fn the_rest_of_a_sector_stays() -> Written {
+    Written {
         part: Some(b"0x800:0x8ff part"),
         sealed: 8,
-        ..on_tiny64(run(0, &[0x00; 4096]), ERASED, 57, 16)
+        ..on_tiny64(first(4096, 0x00), ERASED, 57, 16)
     }
 }
 
 // A write on an erased W25Q64FV whose last 128 KiB are guarded. The opening has four transactions, the scan 2,048.
-fn on_w25q64fv(image: Bytes, unlock: bool, length: u32, operations: u32) -> Row {
-    Row {
-        config: Config::w25q64fv(),
+fn on_w25q64fv(image: Bytes, unlock: bool, length: u32, operations: u32) -> Written {
+    Written {
+        chip: Chip::W25q64fv,
         status: [0x04, 0x00],
         old: ERASED,
         image,
@@ -243,34 +337,14 @@ fn on_w25q64fv(image: Bytes, unlock: bool, length: u32, operations: u32) -> Row 
     }
 }
 
-/// The byte below the guarded places is programmed.
-pub fn a_byte_below_the_guard_is_programmed() -> Row {
-    on_w25q64fv(run(0x7D_FFFF, &[0x00]), false, 2057, 1)
-}
-
-/// The first guarded byte is programmed, with protection lifted and given back.
-pub fn a_guarded_byte_is_programmed() -> Row {
-    on_w25q64fv(run(0x7E_0000, &[0x00]), true, 2063, 3)
-}
-
-/// All of a TINY64 with no erases but those of sectors and of the whole chip is changed: fifteen sectors are erased,
-/// and of all sixteen each page is programmed.
-pub fn each_page_is_programmed(rt: &impl Abort) -> Row {
-    let mut sfdp = TINY64_SFDP;
-    sfdp[0x2E] = 0x00;
-    sfdp[0x30] = 0x00;
-    let id = [0xFE, 0x10, 0x10];
-    let config = Config::new(id, 65_536, false, false, false, &sfdp).expect(rt, "a size");
+fn each_page_is_programmed() -> Written {
     // Behind opening and scan: three for each operation, one for the sector that isn't erased, sixteen to compare.
     let operations = 15 + 16 * 16;
     let length = 23 + 3 * operations + 1 + 16;
-    Row {
-        config,
-        ..on_tiny64(
-            run(0, &[0x00; 61_440]),
-            run(0, &[0x5A; 65_536]),
-            length,
-            operations,
-        )
+    let old = first(61_440, 0x00);
+    let image = first(65_536, 0x5A);
+    Written {
+        chip: Chip::SectorsAlone,
+        ..on_tiny64(old, image, length, operations)
     }
 }

@@ -1,6 +1,7 @@
 //! Runs of a row: its session, stopped after so many transactions, and the restores behind it.
 ghost use Rattle.nor_journal.specs.Vault.{IsFresh};
 
+use crate::held::assert_held;
 use crate::row::{Row, Start};
 use nor_chip::{Bus, Meter, SimBus};
 use nor_journal::{Journal, MemVault, Vault};
@@ -15,7 +16,7 @@ pub const AMPLE: u64 = 10_000;
 pub fn keep<B: Bus, V: Vault>(
     rt: &impl Abort,
     alloc: Global,
-    row: &Row,
+    row: Row,
     bus: &mut B,
     vault: &mut V,
 ) -> Result<Report, Refusal>
@@ -48,7 +49,7 @@ fn ended(rt: &impl Abort, answer: Result<Report, Refusal>) -> Option<u64> {
     match answer {
         Ok(report) => Some(report.transactions),
         Err(refusal) => {
-            assert_eq!(rt; refusal, Refusal::Stopped);
+            assert!(rt; matches!(refusal, Refusal::Stopped));
             None
         }
     }
@@ -56,15 +57,15 @@ fn ended(rt: &impl Abort, answer: Result<Report, Refusal>) -> Option<u64> {
 
 /// The runs of a row that begin in one way.
 #[derive(Drop)]
-pub struct Runs<'a> {
+pub struct Runs {
     alloc: Global,
-    row: &'a Row,
+    row: Row,
     start: Start,
     before: Vec<u8>,
 }
 
-impl<'a> Runs<'a> {
-    pub fn new(rt: &impl Abort, alloc: Global, row: &'a Row, start: Start) -> Runs<'a> {
+impl Runs {
+    pub fn new(rt: &impl Abort, alloc: Global, row: Row, start: Start) -> Runs {
         Runs {
             alloc,
             row,
@@ -80,30 +81,29 @@ impl<'a> Runs<'a> {
         bus.allow(allowed);
         let mut vault = MemVault::new(self.alloc);
         let answer = keep(rt, self.alloc, self.row, &mut bus, &mut vault);
-        let ended = ended(rt, answer);
+        let told = (ended(rt, answer), vault.is_sealed());
+        assert_held(rt, told == self.told_at(allowed), allowed);
+        Cut { bus, vault }
+    }
+
+    // What the session tells with so many transactions allowed: how many it sent, where it ends, and whether its vault
+    // is sealed.
+    fn told_at(&self, allowed: u64) -> (Option<u64>, bool) {
         let length = self.row.ends_at(self.start);
-        let wanted = if allowed >= length {
+        let sealed = allowed >= self.row.sealed_at(self.start);
+        let sent = if allowed >= length {
             Some(length)
         } else {
             None
         };
-        let sealed = allowed >= self.row.sealed_at(self.start);
-        assert_eq!(rt;
-            (ended, vault.is_sealed()),
-            (wanted, sealed),
-            "at {allowed}"
-        );
-        Cut { bus, vault }
+        (sent, sealed)
     }
 
     /// The chip has the bytes and the kept bits that it had before the session.
     pub fn assert_as_before(&self, rt: &impl Abort, bus: &SimBus) {
-        let has_bytes = bus.bytes() == self.before.as_slice();
         let [one, two] = bus.status();
-        assert_eq!(rt;
-            (has_bytes, [one & 0xFC, two & 0x7F]),
-            (true, self.row.status)
-        );
+        assert!(rt; bus.bytes() == self.before.as_slice());
+        assert!(rt; [one & 0xFC, two & 0x7F] == self.row.status());
     }
 
     /// Stops the session after each number of transactions from `first` up to that with which it ends, and restores
@@ -155,12 +155,12 @@ fn ends_within(rt: &impl Abort, cut: &mut Cut, allowed: u64) -> bool {
         cut.restore(rt, AMPLE).expect(rt, "the second restore ends");
         return false;
     }
-    assert_eq!(rt; sent, Some(allowed));
+    assert!(rt; sent == Some(allowed));
     true
 }
 
 /// The chip is as a row's session found it, with its latch clear: no write enable was sent.
-pub fn assert_untouched(rt: &impl Abort, alloc: Global, row: &Row, bus: &SimBus) {
+pub fn assert_untouched(rt: &impl Abort, alloc: Global, row: Row, bus: &SimBus) {
     Runs::new(rt, alloc, row, Start::IDLE).assert_as_before(rt, bus);
-    assert_eq!(rt; bus.status(), row.status);
+    assert!(rt; bus.status() == row.status());
 }

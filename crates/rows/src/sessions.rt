@@ -1,5 +1,6 @@
 //! Sessions, and a rehearsal, on chips and buses that no file of a chip gives.
-use crate::row::{Start, a_bit_rises};
+use crate::held::assert_held;
+use crate::row::{Row, Start};
 use nor_chip::{Config, Delays, Meter, SimBus, Spoil, SpoiltBus, TINY64_SFDP};
 use nor_journal::MemVault;
 use nor_session::{Refusal, Rehearsal, Report, rehearse, session};
@@ -23,7 +24,7 @@ fn blank(
     let mut bus = SimBus::new(config, bytes, status, delays).expect(rt, "as many bytes");
     bus.allow(u64::MAX);
     let mut vault = MemVault::new(alloc);
-    let request = a_bit_rises().request(rt, alloc);
+    let request = Row::ABitRises.request(rt, alloc);
     session(&mut bus, &mut vault, &mut image, &request).expect(rt, "the session ends")
 }
 
@@ -41,23 +42,22 @@ fn chip_by_sfdp(rt: &impl Abort, k32: bool, k64: bool) -> Config {
 }
 
 // Sectors 8 to 39. Beside the erases' three each, seven transactions open, 64 scan and 32 check.
+const UNITS: [(bool, bool, u32, u64); 4] = [
+    (false, true, 17, 154),
+    (true, false, 4, 115),
+    (false, false, 32, 199),
+    (true, true, 3, 112),
+];
+
 #[test]
 fn sectors_are_erased_by_the_largest_units(rt: HostRuntime) {
-    let cases = [
-        (false, true, 17, 154),
-        (true, false, 4, 115),
-        (false, false, 32, 199),
-        (true, true, 3, 112),
-    ];
-    for (k32, k64, erases, transactions) in cases {
+    for (k32, k64, erases, transactions) in UNITS {
         let config = chip_by_sfdp(&rt, k32, k64);
         let idle = Start::IDLE.delays;
         let report = blank(&rt, rt.alloc(), config, 131_072, [0x00, 0x00], idle);
-        assert_eq!(rt; (report.touched, report.programs), (32, 0));
-        assert_eq!(rt;
-            (report.erases, report.transactions),
-            (erases, transactions)
-        );
+        let told = (report.touched, report.programs, report.erases);
+        let holds = told == (32, 0, erases) && report.transactions == transactions;
+        assert_held(&rt, holds, transactions);
     }
 }
 
@@ -70,33 +70,41 @@ fn a_busy_chip_is_waited_for(rt: HostRuntime) {
         each: 0,
     };
     let report = blank(&rt, rt.alloc(), Config::tiny64(), 0, [0x02, 0x00], busy);
-    assert_eq!(rt; (report.transactions, report.found.status1), (65_558, 0x00));
+    assert!(rt; report.transactions == 65_558 && report.found.status1 == 0x00);
 }
+
+// Rehearses, with no stop, on a bus on which each poll from the one of this number on shows BUSY. Answers what that
+// tells, whether the vault is sealed, and whether the chip is as before.
+fn rehearsed(
+    rt: &impl Abort,
+    alloc: Global,
+    busy_from: u64,
+) -> (Result<Rehearsal, Refusal>, bool, bool) {
+    let row = Row::ABitRises;
+    let bus = row.bus(rt, alloc, Start::IDLE);
+    let mut bus = SpoiltBus::new(bus, Spoil::BusyFrom(busy_from));
+    let mut vault = MemVault::new(alloc);
+    let mut image = row.wanted(rt, alloc);
+    let request = row.request(rt, alloc);
+    let told = rehearse(&mut bus, &mut vault, &mut image, &request, &[]);
+    let before = row.before(rt, alloc);
+    let bus = bus.into_inner();
+    (told, vault.is_sealed(), bus.bytes() == before.as_slice())
+}
+
+const ENDED: Rehearsal = Rehearsal {
+    ended: true,
+    sealed: true,
+    restores: 1,
+};
 
 // Without a stop the session ends, with its 30th transaction, and its restore gives the chip back. Where each poll from
 // the next one on shows BUSY, the restore's first wait has no end; the address of the opening is 0.
 #[test]
 fn the_refusal_of_a_restore_is_told(rt: HostRuntime) {
-    let row = a_bit_rises();
-    let before = row.before(&rt, rt.alloc());
-    let request = row.request(&rt, rt.alloc());
-    let ended = Rehearsal {
-        ended: true,
-        sealed: true,
-        restores: 1,
-    };
-    let cases = [
-        (u64::MAX, Ok(ended), true),
-        (31, Err(Refusal::Timeout { address: 0 }), false),
-    ];
-    for (busy_from, answer, given_back) in cases {
-        let bus = row.bus(&rt, rt.alloc(), Start::IDLE);
-        let mut bus = SpoiltBus::new(bus, Spoil::BusyFrom(busy_from));
-        let mut vault = MemVault::new(rt.alloc());
-        let mut image = row.wanted(&rt, rt.alloc());
-        let told = rehearse(&mut bus, &mut vault, &mut image, &request, &[]);
-        let is_as_before = bus.into_inner().bytes() == before.as_slice();
-        let left = (told, vault.is_sealed(), is_as_before);
-        assert_eq!(rt; left, (answer, true, given_back));
-    }
+    let told = rehearsed(&rt, rt.alloc(), u64::MAX);
+    assert!(rt; told == (Ok(ENDED), true, true));
+    let told = rehearsed(&rt, rt.alloc(), 31);
+    let timeout = Err(Refusal::Timeout { address: 0 });
+    assert!(rt; told == (timeout, true, false));
 }

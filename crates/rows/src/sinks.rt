@@ -2,6 +2,7 @@
 ghost use Rattle.std.specs.Prelude.{take, Some};
 ghost use Rattle.nor_journal.specs.Vault.{IsFresh};
 
+use crate::held::assert_held;
 use nor_journal::{
     BrokenVault, FileVault, Journal, MemVault, Vault, VaultFault, VaultFile, Writer,
 };
@@ -51,11 +52,9 @@ fn mem_vault_refuses(rt: HostRuntime) {
         vault.put(b"nal"),
         vault.seal(),
     ];
-    assert_eq!(rt;
-        (at_first, puts, vault.is_sealed()),
-        (false, [Ok(()); 4], true)
-    );
-    assert_eq!(rt; vault.bytes(), b"journal".as_slice());
+    assert!(rt; !at_first && vault.is_sealed());
+    assert!(rt; puts == [Ok(()); 4]);
+    assert!(rt; vault.bytes() == b"journal".as_slice());
 }
 
 // The nine calls that make the journal: five put the head, one the record, two the end mark and the digest, and the
@@ -87,8 +86,18 @@ fn assert_broken(
     let answer = save(&mut vault, &chip);
     let held = vault.inner();
     let left = (answer, vault.failures(), held.is_sealed());
-    assert_eq!(rt; left, told, "call {nth}, {kept} bytes");
-    assert!(rt; beginning == Some(held.bytes()), "call {nth}, {kept} bytes");
+    let holds = left == told && beginning == Some(held.bytes());
+    assert_held(rt, holds, nth);
+}
+
+// Refuses each call, after so many bytes of its piece. What the vault holds is a beginning of the right journal.
+fn refuse_each(rt: &impl Abort, alloc: Global, right: &[u8], kept: usize) {
+    for (nth, before, piece) in CALLS {
+        let put = piece.min(kept);
+        let told = (Err(VaultFault { kept: put }), 1, false);
+        let beginning = right.get(0..put.saturating_add(before));
+        assert_broken(rt, alloc, (nth, kept), told, beginning);
+    }
 }
 
 // Of the piece of a refused call the vault keeps a beginning, and the refusal tells how much: what it holds is a
@@ -97,20 +106,15 @@ fn assert_broken(
 fn each_call_of_a_writer_is_refused(rt: HostRuntime) {
     let chip = Journal::read(&EMPTY).expect(&rt, "a journal");
     let mut vault = MemVault::new(rt.alloc());
-    assert_eq!(rt; save(&mut vault, &chip), Ok(()));
+    assert!(rt; save(&mut vault, &chip).is_ok());
     let right = vault.bytes();
     assert!(rt; vault.is_sealed() && is_whole(right));
     for kept in [0, 1, 4095, 5000] {
-        for (nth, before, piece) in CALLS {
-            let put = piece.min(kept);
-            let told = (Err(VaultFault { kept: put }), 1, false);
-            let beginning = right.get(0..put.saturating_add(before));
-            assert_broken(&rt, rt.alloc(), (nth, kept), told, beginning);
-        }
+        refuse_each(&rt, rt.alloc(), right, kept);
     }
-    for nth in [0, 10] {
-        assert_broken(&rt, rt.alloc(), (nth, 0), (Ok(()), 0, true), Some(right));
-    }
+    let told = (Ok(()), 0, true);
+    assert_broken(&rt, rt.alloc(), (0, 0), told, Some(right));
+    assert_broken(&rt, rt.alloc(), (10, 0), told, Some(right));
 }
 
 /// A file in memory that takes at most `most` bytes a write, and fails after `writes` of them. One of `sync_all` and
@@ -179,39 +183,46 @@ impl OpenFile for SmallFile {
     }
 }
 
+// The most bytes of a write, how many writes there are, whether a sync succeeds; the answer, the bytes in the file.
+const FILES: [(usize, u32, bool, Result<(), VaultFault>, usize); 9] = [
+    (1, u32::MAX, true, Ok(()), 4161),
+    (4096, u32::MAX, true, Ok(()), 4161),
+    (usize::MAX, 8, true, Ok(()), 4161),
+    // no write, and a write of nothing
+    (2, 0, true, Err(VaultFault { kept: 0 }), 0),
+    (0, u32::MAX, true, Err(VaultFault { kept: 0 }), 0),
+    // the second write of the first piece
+    (2, 1, true, Err(VaultFault { kept: 2 }), 2),
+    // five writes are the head, and the sixth is half of the record
+    (2050, 6, true, Err(VaultFault { kept: 2050 }), 2075),
+    // the digest, and the sync
+    (usize::MAX, 7, true, Err(VaultFault { kept: 0 }), 4129),
+    (usize::MAX, 8, false, Err(VaultFault { kept: 0 }), 4161),
+];
+
+// Saves the journal of the chip in the file. Answers what the vault told, how many bytes the file has, whether they are
+// that journal, and whether it was resized.
+fn saved(chip: &Journal<'_>, file: SmallFile) -> (Result<(), VaultFault>, usize, bool, bool) {
+    let mut vault = FileVault::new(file);
+    let told = save(&mut vault, chip);
+    let file = vault.into_inner();
+    (
+        told,
+        file.bytes.len(),
+        is_whole(&file.bytes),
+        file.resized.get(),
+    )
+}
+
 // A write that takes nothing is a refusal too, and a sync that fails keeps nothing.
 #[test]
 fn files_that_refuse(rt: HostRuntime) {
     let chip = Journal::read(&EMPTY).expect(&rt, "a journal");
-    let many = u32::MAX;
-    // the most bytes of a write, how many writes there are, whether a sync succeeds; the answer, the bytes in the file
-    let rows = [
-        (1, many, true, Ok(()), 4161),
-        (4096, many, true, Ok(()), 4161),
-        (usize::MAX, 8, true, Ok(()), 4161),
-        // no write, and a write of nothing
-        (2, 0, true, Err(VaultFault { kept: 0 }), 0),
-        (0, many, true, Err(VaultFault { kept: 0 }), 0),
-        // the second write of the first piece
-        (2, 1, true, Err(VaultFault { kept: 2 }), 2),
-        // five writes are the head, and the sixth is half of the record
-        (2050, 6, true, Err(VaultFault { kept: 2050 }), 2075),
-        // the digest, and the sync
-        (usize::MAX, 7, true, Err(VaultFault { kept: 0 }), 4129),
-        (usize::MAX, 8, false, Err(VaultFault { kept: 0 }), 4161),
-    ];
-    for (most, writes, syncs, answer, length) in rows {
-        let mut vault = FileVault::new(SmallFile::new(rt.alloc(), most, writes, syncs));
-        let told = save(&mut vault, &chip);
-        let file = vault.into_inner();
-        let left = (
-            told,
-            file.bytes.len(),
-            is_whole(&file.bytes),
-            file.resized.get(),
-        );
+    for (most, writes, syncs, answer, length) in FILES {
+        let file = SmallFile::new(rt.alloc(), most, writes, syncs);
+        let left = saved(&chip, file);
         let wanted = (answer, length, length == 4161, false);
-        assert_eq!(rt; left, wanted, "{writes} writes of {most} bytes");
+        assert_held(&rt, left == wanted, most as u64);
     }
 }
 
@@ -220,6 +231,12 @@ fn files_that_refuse(rt: HostRuntime) {
 struct KnownFile {
     bytes: Vec<u8>,
     synced: usize,
+}
+
+impl KnownFile {
+    fn is_synced_with(&self, bytes: &[u8]) -> bool {
+        self.bytes.as_slice() == bytes && self.synced == bytes.len()
+    }
 }
 
 impl VaultFile for KnownFile {
@@ -245,11 +262,10 @@ fn assert_taken(rt: &impl Abort, alloc: Global, length: usize) {
     let bytes = Vec::new(alloc);
     let mut vault = FileVault::new(KnownFile { bytes, synced: 0 });
     let told = [memory.put(&piece), vault.put(&piece), vault.seal()];
-    assert_eq!(rt; told, [Ok(()); 3], "{length}");
     let file = vault.into_inner();
-    assert!(rt; memory.bytes() == piece.as_slice(), "{length}");
-    assert!(rt; file.bytes.as_slice() == piece.as_slice(), "{length}");
-    assert_eq!(rt; file.synced, length);
+    assert_held(rt, told == [Ok(()); 3], length as u64);
+    assert_held(rt, memory.bytes() == piece.as_slice(), length as u64);
+    assert_held(rt, file.is_synced_with(&piece), length as u64);
 }
 
 #[test]

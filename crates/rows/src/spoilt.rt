@@ -1,4 +1,5 @@
 //! Sessions and restores on a bus that lies in one way, and what may be asked of them all the same.
+use crate::held::assert_held;
 use crate::row::{Row, Start};
 use crate::runs::{AMPLE, Cut, Runs, keep};
 use nor_chip::{Meter, SimBus, Spoil, SpoiltBus};
@@ -42,15 +43,12 @@ pub struct Lied {
 
 impl Lied {
     /// The row's session, which keeps its bound.
-    pub fn session(rt: &impl Abort, alloc: Global, row: &Row, spoil: Spoil) -> Lied {
+    pub fn session(rt: &impl Abort, alloc: Global, row: Row, spoil: Spoil) -> Lied {
         let mut bus = spoilt(row.bus(rt, alloc, Start::IDLE), spoil);
         let mut vault = MemVault::new(alloc);
         let refusal = keep(rt, alloc, row, &mut bus, &mut vault).err();
         let sent = bus.sent();
-        assert!(rt;
-            0 < sent && sent <= most(row.config.size / 4096),
-            "{spoil:?}: {sent}"
-        );
+        assert_held(rt, 0 < sent && sent <= most(row.sectors()), sent);
         let bus = bus.into_inner();
         let cut = Cut { bus, vault };
         Lied { refusal, sent, cut }
@@ -64,14 +62,14 @@ impl Lied {
         let saved = u32::try_from(journal.count()).expect(rt, "a count of sectors");
         let refusal = restore(&mut bus, &journal).err();
         let sent = bus.sent();
-        assert!(rt; 0 < sent && sent <= most(saved), "{spoil:?}: {sent}");
+        assert_held(rt, 0 < sent && sent <= most(saved), sent);
         let bus = bus.into_inner();
         let cut = Cut { bus, vault };
         Lied { refusal, sent, cut }
     }
 
     /// Restores on the honest bus, where the vault was sealed. The chip is as before.
-    pub fn assert_given_back(self, rt: &impl Abort, alloc: Global, row: &Row) {
+    pub fn assert_given_back(self, rt: &impl Abort, alloc: Global, row: Row) {
         let Lied { mut cut, .. } = self;
         if cut.vault.is_sealed() {
             cut.restore(rt, AMPLE).expect(rt, "the restore ends");

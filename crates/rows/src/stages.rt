@@ -2,7 +2,8 @@
 ghost use Rattle.nor_journal.specs.Vault.{IsFresh};
 
 use crate::failing::{Fault, OnceBus};
-use crate::row::included;
+use crate::held::assert_held;
+use crate::row::{included, put, put_run};
 use crate::spoilt::most;
 use nor_chip::{Config, Delays, SimBus, TINY64_SFDP};
 use nor_journal::{Journal, MemVault, Vault};
@@ -15,68 +16,94 @@ use std::process::Abort;
 /// A session on a chip that is all FFh, but that a byte of each of some sectors is 00h. It is to be all FFh, but for
 /// four bytes from one address on.
 #[derive(Clone, Copy)]
-pub struct Job {
-    config: Config,
-    // the kept bits alone
-    status: [u8; 2],
-    // where the first of these bytes is, and how many there are
-    cleared: (usize, usize),
-    written: usize,
-    // the line of a layout whose region `part` is included
-    part: Option<&'static [u8]>,
+pub enum Job {
+    /// A chip of two blocks. A sector and a block of 64 KiB are erased, and the bytes lie in the two sectors before
+    /// them.
+    OnTwoBlocks,
+    /// Protection of the last 128 KiB is lifted and given back. Two of the bytes lie in the first sector of these, two
+    /// in the next one, which is erased.
+    OnW25q64fv,
 }
 
-/// A chip of two blocks. A sector and a block of 64 KiB are erased, and the bytes lie in the two sectors before them.
-pub fn on_two_blocks(rt: &impl Abort) -> Job {
+fn two_blocks(rt: &impl Abort) -> Config {
     let mut sfdp = TINY64_SFDP;
     // of two to the 20th bits, minus one
     sfdp[0x16] = 0x0F;
-    let id = [0xFE, 0x10, 0x11];
-    Job {
-        config: Config::new(id, 131_072, true, true, false, &sfdp).expect(rt, "a size"),
-        status: [0x00, 0x00],
-        cleared: (0xF010, 17),
-        written: 0xDFFE,
-        part: None,
-    }
-}
-
-/// Protection of the last 128 KiB is lifted and given back. Two of the bytes lie in the first sector of these, two in
-/// the next one, which is erased.
-pub fn on_w25q64fv() -> Job {
-    Job {
-        config: Config::w25q64fv(),
-        status: [0x04, 0x00],
-        cleared: (0x7E_1010, 1),
-        written: 0x7E_0FFE,
-        part: Some(b"7e0000:7e1fff part"),
-    }
+    Config::new([0xFE, 0x10, 0x11], 131_072, true, true, false, &sfdp).expect(rt, "a size")
 }
 
 impl Job {
-    fn before(&self, rt: &impl Abort, alloc: Global) -> Vec<u8> {
-        let mut bytes = vec![in alloc; 0xFF; self.config.size as usize].expect(rt, "memory");
-        let (first, count) = self.cleared;
-        for byte in bytes.iter_mut().skip(first).step_by(4096).take(count) {
-            *byte = 0x00;
+    fn config(self, rt: &impl Abort) -> Config {
+        match self {
+            Job::OnTwoBlocks => two_blocks(rt),
+            Job::OnW25q64fv => Config::w25q64fv(),
+        }
+    }
+
+    fn size(self) -> u32 {
+        match self {
+            Job::OnTwoBlocks => 131_072,
+            Job::OnW25q64fv => 8_388_608,
+        }
+    }
+
+    // The kept bits alone.
+    fn status(self) -> [u8; 2] {
+        match self {
+            Job::OnTwoBlocks => [0x00, 0x00],
+            Job::OnW25q64fv => [0x04, 0x00],
+        }
+    }
+
+    // Where the first of the bytes 00h is, and how many there are.
+    fn cleared(self) -> (usize, usize) {
+        match self {
+            Job::OnTwoBlocks => (0xF010, 17),
+            Job::OnW25q64fv => (0x7E_1010, 1),
+        }
+    }
+
+    // Where the four bytes are.
+    fn written(self) -> usize {
+        match self {
+            Job::OnTwoBlocks => 0xDFFE,
+            Job::OnW25q64fv => 0x7E_0FFE,
+        }
+    }
+
+    // The line of a layout whose region `part` is included.
+    fn part(self) -> Option<&'static [u8]> {
+        match self {
+            Job::OnTwoBlocks => None,
+            Job::OnW25q64fv => Some(b"7e0000:7e1fff part"),
+        }
+    }
+
+    fn erased(self, rt: &impl Abort, alloc: Global) -> Vec<u8> {
+        vec![in alloc; 0xFF; self.size() as usize].expect(rt, "memory")
+    }
+
+    fn before(self, rt: &impl Abort, alloc: Global) -> Vec<u8> {
+        let mut bytes = self.erased(rt, alloc);
+        let (mut place, count) = self.cleared();
+        for _ in 0..count {
+            put(&mut bytes, place, 0x00);
+            place = place.saturating_add(4096);
         }
         bytes
     }
 
-    fn image(&self, rt: &impl Abort, alloc: Global) -> Vec<u8> {
-        let mut image = vec![in alloc; 0xFF; self.config.size as usize].expect(rt, "memory");
-        let written = [0x11, 0x22, 0x33, 0x44];
-        for (place, byte) in image.iter_mut().skip(self.written).zip(written) {
-            *place = byte;
-        }
+    fn image(self, rt: &impl Abort, alloc: Global) -> Vec<u8> {
+        let mut image = self.erased(rt, alloc);
+        put_run(&mut image, self.written(), &[0x11, 0x22, 0x33, 0x44]);
         image
     }
 
-    fn request(&self, rt: &impl Abort, alloc: Global) -> Request {
+    fn request(self, rt: &impl Abort, alloc: Global) -> Request {
         Request {
             what: What::Write,
             named: None,
-            included: included(rt, alloc, self.part),
+            included: included(rt, alloc, self.part()),
             unlock: true,
             verify: true,
         }
@@ -84,7 +111,7 @@ impl Job {
 }
 
 /// The calls that send.
-#[derive(Clone, Copy, Debug, PartialEq, Eq)]
+#[derive(Clone, Copy, PartialEq, Eq)]
 pub enum Call {
     Probe,
     Protection,
@@ -139,11 +166,12 @@ impl Stage {
             &self.old
         };
         let bytes = bytes.to_vec(self.alloc).expect(rt, "memory");
-        let bus = SimBus::new(self.job.config, bytes, self.job.status, self.delays).expect(
+        let config = self.job.config(rt);
+        let bus = SimBus::new(config, bytes, self.job.status(), self.delays).expect(
             rt,
             "as many bytes as the chip has",
         );
-        OnceBus::new(bus, most(self.job.config.size / 4096), fault, behind)
+        OnceBus::new(bus, most(self.job.size() / 4096), fault, behind)
     }
 
     fn session(
@@ -194,7 +222,7 @@ impl Stage {
                 right
             };
             let asked = length.min(n.saturating_add(1));
-            assert_eq!(rt; (refusal, bus.asked), (told, asked), "{call:?} at {n}");
+            assert_held(rt, refusal == told && bus.asked == asked, n);
         }
         length
     }
@@ -208,7 +236,7 @@ impl Stage {
             let mut bus = self.bus(rt, call, Fault::Spoil, Some(n));
             let refusal = self.refusal(rt, call, &mut bus);
             if let Some(told) = told_of_spoilt(call, touched, right, n, bus.met) {
-                assert_eq!(rt; (refusal, bus.asked), told, "{call:?} at {n}");
+                assert_held(rt, (refusal, bus.asked) == told, n);
                 spoilt = spoilt.saturating_add(1);
             }
         }

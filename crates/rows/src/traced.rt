@@ -1,4 +1,5 @@
 //! What a trace tells of the lines that its log refuses. That nothing else changes by them is a clause.
+use crate::held::assert_held;
 use crate::row::{Start, erased};
 use nor_chip::{Bus, Config, Meter, SimBus, TraceBus};
 use std::alloc::Global;
@@ -40,38 +41,87 @@ fn bus(rt: &impl Abort, alloc: Global) -> SimBus {
     bus
 }
 
-// Sends a transaction, with a log that takes so many writes. Answers whether its line is lost, and what the log has.
-fn sent(rt: &impl Abort, alloc: Global, out: &[u8], reply: &mut [u8], good: u8) -> (bool, Vec<u8>) {
-    let mut lines = Vec::new(alloc);
+// A transaction, what comes in, and its line.
+#[derive(Clone, Copy)]
+struct Form {
+    out: &'static [u8],
+    reply: &'static [u8],
+    line: &'static [u8],
+}
+
+const FORMS: [Form; 3] = [
+    Form {
+        out: &[0x06],
+        reply: &[],
+        line: b"06\n",
+    },
+    Form {
+        out: &[0x9F],
+        reply: &[0xFE, 0x10, 0x10],
+        line: b"9f > fe1010\n",
+    },
+    Form {
+        out: &[0x9F],
+        reply: &[0xFE, 0x10, 0x10, 0xFF],
+        line: b"9f > 4 bytes\n",
+    },
+];
+
+// Sends a transaction, with a log that takes so many writes. Answers whether its line is lost.
+fn loses(
+    rt: &impl Abort,
+    alloc: Global,
+    lines: &mut Vec<u8>,
+    out: &[u8],
+    reply: &mut [u8],
+    good: u8,
+) -> bool {
+    let flushes = false;
     let log = Failing {
-        lines: &mut lines,
+        lines,
         good,
-        flushes: false,
+        flushes,
     };
     let mut bus = TraceBus::new(bus(rt, alloc), log);
-    assert_eq!(rt; bus.transfer(out, reply), Ok(()));
-    let lost = bus.lost();
-    drop(bus);
-    (lost, lines)
+    assert!(rt; bus.transfer(out, reply).is_ok());
+    bus.lost()
+}
+
+// Sends a transaction of this form. Answers whether its line is lost, and whether the log has the whole of it.
+fn sent(rt: &impl Abort, alloc: Global, form: Form, good: u8) -> (bool, bool) {
+    let mut lines = Vec::new(alloc);
+    let mut reply = vec![in alloc; 0xAA; form.reply.len()].expect(rt, "memory");
+    let is_lost = loses(rt, alloc, &mut lines, form.out, &mut reply, good);
+    assert!(rt; reply.as_slice() == form.reply);
+    (is_lost, lines.as_slice() == form.line)
 }
 
 // Whichever write of it fails, a line is lost exactly where it isn't whole. What comes in is the same.
 #[test]
 fn a_line_is_lost_exactly_where_it_is_not_whole(rt: HostRuntime) {
-    let forms: [(&[u8], &[u8], &[u8]); 3] = [
-        (&[0x06], &[], b"06\n"),
-        (&[0x9F], &[0xFE, 0x10, 0x10], b"9f > fe1010\n"),
-        (&[0x9F], &[0xFE, 0x10, 0x10, 0xFF], b"9f > 4 bytes\n"),
-    ];
-    for (out, expected, whole) in forms {
+    for form in FORMS {
         for good in 0..8u8 {
-            let mut reply = vec![in rt.alloc(); 0xAA; expected.len()].expect(&rt, "memory");
-            let (lost, lines) = sent(&rt, rt.alloc(), out, &mut reply, good);
-            assert_eq!(rt; reply.as_slice(), expected);
-            assert_eq!(rt; lost, lines.as_slice() != whole);
-            assert!(rt; (lost || good > 1) && (!lost || good < 7), "{good}");
+            let (is_lost, is_whole) = sent(&rt, rt.alloc(), form, good);
+            let fits = (is_lost || good > 1) && (!is_lost || good < 7);
+            assert_held(&rt, is_lost != is_whole && fits, u64::from(good));
         }
     }
+}
+
+// Sends a transaction, with a log whose sink takes one write, and flushes or refuses to. Answers whether its line is
+// lost before a flush of the bus, and behind it.
+fn flushed(rt: &impl Abort, alloc: Global, lines: &mut Vec<u8>, flushes: bool) -> (bool, bool) {
+    let sink = Failing {
+        lines,
+        good: 1,
+        flushes,
+    };
+    let log = BufWriter::new(alloc, sink).expect(rt, "memory");
+    let mut bus = TraceBus::new(bus(rt, alloc), log);
+    assert!(rt; bus.transfer(&[0x06], &mut []).is_ok());
+    let before = bus.lost();
+    bus.flush();
+    (before, bus.lost())
 }
 
 // What a log with a buffer keeps back is lost at the latest by a flush, and nothing is where nothing fails.
@@ -79,19 +129,8 @@ fn a_line_is_lost_exactly_where_it_is_not_whole(rt: HostRuntime) {
 fn what_the_sink_refuses_is_lost_at_the_latest_by_a_flush(rt: HostRuntime) {
     for flushes in [true, false] {
         let mut lines = Vec::new(rt.alloc());
-        let sink = Failing {
-            lines: &mut lines,
-            good: 1,
-            flushes,
-        };
-        let log = BufWriter::new(rt.alloc(), sink).expect(&rt, "memory");
-        let mut bus = TraceBus::new(bus(&rt, rt.alloc()), log);
-        let sent = bus.transfer(&[0x06], &mut []);
-        let lost = bus.lost();
-        bus.flush();
-        let told = (sent, lost, bus.lost());
-        drop(bus);
-        assert_eq!(rt; told, (Ok(()), false, !flushes));
-        assert_eq!(rt; lines.as_slice(), b"06\n".as_slice());
+        let lost = flushed(&rt, rt.alloc(), &mut lines, flushes);
+        assert!(rt; lost == (false, !flushes));
+        assert!(rt; lines.as_slice() == b"06\n".as_slice());
     }
 }

@@ -5,10 +5,7 @@
 //! it is stopped after 0, 1, .. transactions. A restore opens with seven transactions on a TINY64, with four on a
 //! W25Q64FV, and reads the one saved sector. Where that is as saved it ends; else it reads the sector again where it
 //! isn't erased, sends its operations, each with a write enable and a poll, and reads the sector to compare.
-use crate::row::{
-    Start, a_bit_rises, a_byte_is_programmed, a_guarded_byte_is_programmed,
-    the_rest_of_a_sector_stays, two_pages_are_programmed,
-};
+use crate::row::{Row, Start};
 use crate::runs::Runs;
 
 // Behind a programmed byte: 23 stops before the seal. Three leave the byte as it was: 8 transactions. Three leave it
@@ -35,33 +32,35 @@ const TWO_PAGES: u64 = 23 + 3 * 9 + 6 * 13;
 // three stops each leave 16, 15, .. 1 pages to be programmed again: 10 transactions, and three for each page.
 const MOST_OF_A_SECTOR: u64 = 8 + 2 * 9 + 3 * (16 * 11 + 3 * 16 * 17 / 2);
 
+const SMALL: [(Row, Start, u64); 6] = [
+    (Row::AByteIsProgrammed, Start::IDLE, BYTE),
+    (Row::AByteIsProgrammed, Start::SLOW, SLOW_BYTE),
+    (Row::ABitRises, Start::IDLE, BIT),
+    (Row::ABitRises, Start::SLOW, SLOW_BIT),
+    (Row::TwoPagesAreProgrammed, Start::IDLE, TWO_PAGES),
+    (Row::TheRestOfASectorStays, Start::IDLE, MOST_OF_A_SECTOR),
+];
+
 #[test]
 fn each_stop_on_a_small_chip(rt: HostRuntime) {
-    let rows = [
-        (a_byte_is_programmed(), Start::IDLE, BYTE),
-        (a_byte_is_programmed(), Start::SLOW, SLOW_BYTE),
-        (a_bit_rises(), Start::IDLE, BIT),
-        (a_bit_rises(), Start::SLOW, SLOW_BIT),
-        (two_pages_are_programmed(), Start::IDLE, TWO_PAGES),
-        (the_rest_of_a_sector_stays(), Start::IDLE, MOST_OF_A_SECTOR),
-    ];
-    for (row, start, runs) in rows {
-        let behind = Runs::new(&rt, rt.alloc(), &row, start);
-        assert_eq!(rt; behind.stop_restores_at_each(&rt, 0), runs);
+    for (row, start, runs) in SMALL {
+        let behind = Runs::new(&rt, rt.alloc(), row, start);
+        assert!(rt; behind.stop_restores_at_each(&rt, 0) == runs);
     }
 }
 
+const LATCHED: [(Row, Start, u64); 4] = [
+    (Row::AByteIsProgrammed, Start::IDLE, BYTE),
+    (Row::AByteIsProgrammed, Start::SLOW, SLOW_BYTE),
+    (Row::ABitRises, Start::IDLE, BIT),
+    (Row::ABitRises, Start::SLOW, SLOW_BIT),
+];
+
 #[test]
 fn each_stop_on_a_chip_with_its_latch_set(rt: HostRuntime) {
-    let rows = [
-        (a_byte_is_programmed(), Start::IDLE, BYTE),
-        (a_byte_is_programmed(), Start::SLOW, SLOW_BYTE),
-        (a_bit_rises(), Start::IDLE, BIT),
-        (a_bit_rises(), Start::SLOW, SLOW_BIT),
-    ];
-    for (row, start, runs) in rows {
-        let behind = Runs::new(&rt, rt.alloc(), &row, start.latched());
-        assert_eq!(rt; behind.stop_restores_at_each(&rt, 0), runs);
+    for (row, start, runs) in LATCHED {
+        let behind = Runs::new(&rt, rt.alloc(), row, start.latched());
+        assert!(rt; behind.stop_restores_at_each(&rt, 0) == runs);
     }
 }
 
@@ -69,8 +68,8 @@ fn each_stop_on_a_chip_with_its_latch_set(rt: HostRuntime) {
 // programmed too, and three with protection given back: 5, 8, 12 and 15 transactions.
 #[test]
 fn each_stop_behind_a_guarded_byte(rt: HostRuntime) {
-    let row = a_guarded_byte_is_programmed();
-    let behind = Runs::new(&rt, rt.alloc(), &row, Start::IDLE);
+    let row = Row::AGuardedByteIsProgrammed;
+    let behind = Runs::new(&rt, rt.alloc(), row, Start::IDLE);
     let runs = 3 + 2 * 6 + 4 * 9 + 3 * 13 + 3 * 16;
-    assert_eq!(rt; behind.stop_restores_at_each(&rt, 2049), runs);
+    assert!(rt; behind.stop_restores_at_each(&rt, 2049) == runs);
 }

@@ -1,5 +1,6 @@
 //! Sessions whose vault refuses one of its calls.
-use crate::row::{Row, Start, a_bit_rises, nine_sectors_are_erased};
+use crate::held::assert_held;
+use crate::row::{Row, Start};
 use crate::runs::{assert_untouched, keep};
 use nor_chip::Meter;
 use nor_journal::{BrokenVault, Journal, MemVault};
@@ -12,7 +13,7 @@ use std::process::Abort;
 fn refuse(
     rt: &impl Abort,
     alloc: Global,
-    row: &Row,
+    row: Row,
     nth: u64,
     kept: usize,
 ) -> (Option<Refusal>, u64, bool, bool) {
@@ -31,34 +32,28 @@ fn refuse(
 }
 
 // Refuses each of so many calls, and one more that doesn't come. From some call on the journal is whole already.
-fn refuse_each(
-    rt: &impl Abort,
-    alloc: Global,
-    row: &Row,
-    calls: u64,
-    kept: usize,
-    whole_from: u64,
-) {
+fn refuse_each(rt: &impl Abort, alloc: Global, row: Row, calls: u64, kept: usize, whole_from: u64) {
     for nth in 1..=calls {
         let left = refuse(rt, alloc, row, nth, kept);
         let told = (Some(Refusal::Vault), 1, false, nth >= whole_from);
-        assert_eq!(rt; left, told, "call {nth}, {kept} bytes");
+        assert_held(rt, left == told, nth);
     }
     let left = refuse(rt, alloc, row, calls.saturating_add(1), kept);
-    assert_eq!(rt; left, (None, 0, true, true), "{kept} bytes");
+    assert!(rt; left == (None, 0, true, true));
 }
 
 // The head has five pieces, each record is one, the end has two; the last call is the seal. The piece before it is
 // shorter than 4,095 bytes, so where so many are kept of it the journal is whole already.
+const ROWS: [(Row, u64); 2] = [
+    (Row::ABitRises, 5 + 1 + 2 + 1),
+    (Row::NineSectorsAreErased, 5 + 9 + 2 + 1),
+];
+
 #[test]
 fn each_call_of_a_vault_is_refused(rt: HostRuntime) {
-    let rows = [
-        (a_bit_rises(), 5 + 1 + 2 + 1),
-        (nine_sectors_are_erased(), 5 + 9 + 2 + 1),
-    ];
-    for (row, calls) in rows {
-        refuse_each(&rt, rt.alloc(), &row, calls, 0, calls);
-        refuse_each(&rt, rt.alloc(), &row, calls, 1, calls);
-        refuse_each(&rt, rt.alloc(), &row, calls, 4095, calls - 1);
+    for (row, calls) in ROWS {
+        refuse_each(&rt, rt.alloc(), row, calls, 0, calls);
+        refuse_each(&rt, rt.alloc(), row, calls, 1, calls);
+        refuse_each(&rt, rt.alloc(), row, calls, 4095, calls - 1);
     }
 }
