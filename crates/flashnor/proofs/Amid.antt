@@ -16,7 +16,7 @@ use Rattle.nor_session.specs.Restore.{CanGiveBack}
 use Rattle.nor_session.specs.WrittenOver.{IsWrittenOver}
 use Rattle.nor_session.proofs.WrittenBack.{restore_over, same_over}
 use Rattle.nor_words.specs.declared.programmer.Programmer.{Programmer}
-use Rattle.flashnor.specs.Chips.{Opens}
+use Rattle.flashnor.specs.Chips.{OpensChip}
 use Rattle.flashnor.specs.WrittenOver.{AreOver, IsCutOff, IsEither, IsOver, OpensAmid}
 use Rattle.flashnor.specs.declared.chips.Content.{Content}
 
@@ -100,7 +100,7 @@ quarter kept true false = omega arith
 quarter kept false true = omega arith
 quarter kept false false = omega arith
 
-pub opened_over : (programmer : Programmer) (content : Content) (old new : BusState) → Opens programmer content old → new.chip.kept2 < 128
+pub opened_over : (programmer : Programmer) (content : Content) (old new : BusState) → OpensChip programmer content old → new.chip.kept2 < 128
     → (opened : BusState) → OpensAmid content old.chip new.chip opened → IsWrittenOver old.chip new.chip opened.chip
 opened_over programmer content old new opens small opened amid = record {
   config = amid.config;

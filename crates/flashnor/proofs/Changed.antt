@@ -14,7 +14,7 @@ use Rattle.nor_probe.specs.Known.{IsModelled}
 use Rattle.nor_session.specs.WrittenOver.{IsWrittenOver}
 use Rattle.nor_session.proofs.WrittenBack.{same_over, session_over}
 use Rattle.nor_session.specs.Session.{CanBeUndone, HonestTells, IsDone, SessionTells}
-use Rattle.flashnor.specs.Changes.{HasKept, IsSafe}
+use Rattle.flashnor.specs.Changes.{HasKeptChange, IsSafe}
 use Rattle.flashnor.specs.declared.answers.Answer.TheVariants as answer
 
 -- after those from 1 to 11 the chip is as before
@@ -56,12 +56,12 @@ module _ (request : Request) (image : List ℕ) (old new : BusState) (vault vaul
 
   -- a change that ended keeps the sealed journal
   pub kept_done : (report : Report) → IsDone request image old new report → vault'.sealed ≡ true
-      → HasKept request image old new vault vault' (Ok (answer.Done report))
+      → HasKeptChange request image old new vault vault' (Ok (answer.Done report))
   kept_done report done sealed = record { told = done; sealed = λ ok. sealed; same = same; undo = undo; over = over }
 
   -- and one that gave up keeps it from when it was sealed on
   pub kept_refused : (refusal : Refusal) → SessionTells request image old new vault vault' refusal → HonestTells (most_of 4096) (λ refusal. number_of refusal ≤ 11) old new refusal
-      → (number_of refusal ≤ 8 → vault' ≡ vault) → HasKept request image old new vault vault' (Err refusal)
+      → (number_of refusal ≤ 8 → vault' ≡ vault) → HasKeptChange request image old new vault vault' (Err refusal)
   kept_refused refusal tells honest_tells unused = record {
     told = record { refuses = tells; same = stays old new refusal honest_tells; unused = unused };
     sealed = λ ok. cc;

@@ -17,11 +17,11 @@ use Rattle.nor_words.specs.declared.job.Wanted.{Wanted}
 use Rattle.nor_words.specs.declared.job.Wanted.TheVariants as wanted
 use Rattle.nor_words.specs.declared.words.UsageFault.{UsageFault}
 use Rattle.nor_words.specs.declared.words.UsageFault.TheVariants as usage
-use Rattle.flashnor.specs.Chips.{IsContentOf, IsReady, Opens}
+use Rattle.flashnor.specs.Chips.{IsContentOf, IsReady, OpensChip}
 use Rattle.flashnor.specs.Endings.{HasPrinted, PrintsAnswer, all_written}
 use Rattle.flashnor.specs.Events.{Happened}
 use Rattle.flashnor.specs.Requests.{FailsToInclude}
-use Rattle.flashnor.specs.Run.{AreLeft, Does, EndsJob, FailsBefore, FailsJob, FailsToKeep, FailsToRead, IsAnswer, IsCalled, IsToldAs}
+use Rattle.flashnor.specs.Run.{AreLeft, DoesJob, EndsJob, FailsBefore, FailsJob, FailsToKeep, FailsToRead, AnswersWords, IsCalled, IsToldAs}
 use Rattle.flashnor.specs.Run.{IsStatus, Succeeds, changes_chip}
 use Rattle.flashnor.proofs.Amid.{opened_over}
 use Rattle.flashnor.specs.declared.answers.Answer.{Answer}
@@ -89,8 +89,8 @@ module _ (happened : Happened) where
 
   -- a call that was made ends its job
   called : (on_chip : ChipJob) (content : Content) (old new : BusState) (unwritten : Unwritten) (outcome : Result Answer Refusal)
-      → IsContentOf happened on_chip.programmer content → Opens on_chip.programmer content old
-      → (IsReady on_chip.programmer old → Does happened on_chip.programmer on_chip.named on_chip.task old new outcome)
+      → IsContentOf happened on_chip.programmer content → OpensChip on_chip.programmer content old
+      → (IsReady on_chip.programmer old → DoesJob happened on_chip.programmer on_chip.named on_chip.task old new outcome)
       → AreLeft (changes_chip on_chip.task) happened on_chip.programmer new.chip unwritten
       → new.chip.kept2 < 128 → OnSome unwritten.trace (unwritten.trace ≡ on_chip.programmer.trace)
       → IsCalled happened on_chip unwritten outcome
@@ -107,8 +107,8 @@ module _ (happened : Happened) where
   }
 
   pub ends_called : (on_chip : ChipJob) (content : Content) (old new : BusState) (unwritten : Unwritten) (outcome : Result Answer Refusal)
-      (told : Result Answer Fault) → IsContentOf happened on_chip.programmer content → Opens on_chip.programmer content old
-      → (IsReady on_chip.programmer old → Does happened on_chip.programmer on_chip.named on_chip.task old new outcome)
+      (told : Result Answer Fault) → IsContentOf happened on_chip.programmer content → OpensChip on_chip.programmer content old
+      → (IsReady on_chip.programmer old → DoesJob happened on_chip.programmer on_chip.named on_chip.task old new outcome)
       → AreLeft (changes_chip on_chip.task) happened on_chip.programmer new.chip unwritten
       → new.chip.kept2 < 128 → OnSome unwritten.trace (unwritten.trace ≡ on_chip.programmer.trace) → IsToldAs outcome told
       → EndsJob happened on_chip unwritten told
@@ -130,7 +130,7 @@ module _ (happened : Happened) where
 
   pub answer_ended : (words : List Text) (on_chip : ChipJob) (unwritten : Unwritten) (told : Result Answer Fault)
       → IsJob words (job.Chip on_chip)
-      → EndsJob happened on_chip unwritten told → IsAnswer happened words told unwritten
+      → EndsJob happened on_chip unwritten told → AnswersWords happened words told unwritten
   answer_ended words on_chip unwritten (Ok found) asks ends = (job.Chip on_chip, asks, ends)
   answer_ended words on_chip unwritten (Err (end.Usage fault)) asks ends = absurd (no_usage on_chip fault ends)
   answer_ended words on_chip unwritten (Err (end.Refused refusal)) asks ends = (job.Chip on_chip, asks, ends)
@@ -139,24 +139,24 @@ module _ (happened : Happened) where
   answer_ended words on_chip unwritten (Err (end.File fault name)) asks ends = (job.Chip on_chip, asks, ends)
 
   pub answer_failed : (words : List Text) (on_chip : ChipJob) (unwritten : Unwritten) (fault : Fault) (told : Result Answer Fault)
-      → told ≡ Err fault → IsJob words (job.Chip on_chip) → FailsJob happened on_chip fault → IsAnswer happened words told unwritten
+      → told ≡ Err fault → IsJob words (job.Chip on_chip) → FailsJob happened on_chip fault → AnswersWords happened words told unwritten
   answer_failed words on_chip unwritten fault told is asks fails =
       rw is (answer_ended words on_chip unwritten (Err fault) asks (fails_ends on_chip unwritten fault fails))
 
   pub answer_listed : (words : List Text) (unwritten : Unwritten) (told : Result Answer Fault)
       → told ≡ Ok answer.Chips → IsJob words job.List
-      → IsAnswer happened words told unwritten
+      → AnswersWords happened words told unwritten
   answer_listed words unwritten told is asks = rw is (job.List, asks, tt)
 
   pub answer_usage : (words : List Text) (unwritten : Unwritten) (fault : UsageFault) (told : Result Answer Fault)
       → told ≡ Err (end.Usage fault)
-      → IsFault words fault → IsAnswer happened words told unwritten
+      → IsFault words fault → AnswersWords happened words told unwritten
   answer_usage words unwritten fault told is faulty = rw is faulty
 
   -- ---- runs without a fault
 
   succeeds_by : (words : List Text) (outcome : Result Answer Fault) (out out' : Option (List ℕ))
-      → IsAnswer happened words outcome all_written → PrintsAnswer outcome out out' → Succeeds happened words out out'
+      → AnswersWords happened words outcome all_written → PrintsAnswer outcome out out' → Succeeds happened words out out'
   succeeds_by words (Ok found) out out' answers prints = inr (found, answers, prints)
   succeeds_by words (Err (end.Usage (usage.Words error))) out out' answers prints =
       inl (subst (λ k. IsAmong k (refusals_of words)) prints answers)
@@ -175,11 +175,11 @@ module _ (happened : Happened) where
   succeeds_by words (Err (end.Refused refusal)) out out' answers prints = absurd prints
 
   pub succeeds : (words : List Text) (outcome : Result Answer Fault) (unwritten : Unwritten) (out out' err err' : Option (List ℕ))
-      (ending : Ending) → IsAnswer happened words outcome unwritten → HasPrinted outcome unwritten out out' err err' ending
+      (ending : Ending) → AnswersWords happened words outcome unwritten → HasPrinted outcome unwritten out out' err err' ending
       → ending.status ≡ 0 → Succeeds happened words out out'
   succeeds words outcome unwritten out out' err err' ending answers prints none =
       let well = prints.exact.0 none in
-      succeeds_by words outcome out out' (subst (IsAnswer happened words outcome) well.1 answers) (prints.printed well.0)
+      succeeds_by words outcome out out' (subst (AnswersWords happened words outcome) well.1 answers) (prints.printed well.0)
 
   -- where the words ask for nothing there is no such run
   fails : (words : List Text) (out out' : Option (List ℕ)) → IsRefused words → Succeeds happened words out out' → ⊥
@@ -189,7 +189,7 @@ module _ (happened : Happened) where
   ]
 
   pub is_status : (words : List Text) (outcome : Result Answer Fault) (unwritten : Unwritten) (out out' err err' : Option (List ℕ))
-      (ending : Ending) → IsAnswer happened words outcome unwritten → HasPrinted outcome unwritten out out' err err' ending
+      (ending : Ending) → AnswersWords happened words outcome unwritten → HasPrinted outcome unwritten out out' err err' ending
       → IsStatus happened words out out' err err' ending
   is_status words outcome unwritten out out' err err' ending answers prints =
       let well = succeeds words outcome unwritten out out' err err' ending answers prints in

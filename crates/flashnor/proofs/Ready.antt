@@ -9,8 +9,8 @@ use Rattle.nor_driver.specs.Looks.{IsCalm, Looks}
 use Rattle.nor_driver.specs.Reads.{shown}
 use Rattle.nor_journal.specs.Text.{Content as Journal}
 use Rattle.nor_probe.specs.Known.{IsGenuine, chip_says, id_of, is_no_chip, listed_or, part_by_sfdp, shown_as, IsModelled}
-use Rattle.nor_probe.specs.Found.{Finds, IsWanted, Tells, part_in}
-use Rattle.nor_probe.specs.Table.{part_of as row_of}
+use Rattle.nor_probe.specs.Found.{Finds, IsWanted, Tells, part_in, most_probe}
+use Rattle.nor_probe.specs.Table.{part_with_id as row_of}
 use Rattle.nor_probe.specs.declared.probes.Found.{Found}
 use Rattle.nor_probe.specs.declared.probes.ProbeFault.{ProbeFault}
 use Rattle.nor_probe.specs.declared.probes.ProbeFault.TheVariants as Probes
@@ -21,16 +21,16 @@ use Rattle.nor_save.specs.Refusal.{of_probe}
 use Rattle.nor_save.specs.declared.refusal.Refusal.{Refusal}
 use Rattle.nor_save.specs.declared.report.Report.{Report}
 use Rattle.nor_session.specs.Restore.{CanGiveBack, IsJudgedFirst, IsRestored, RestoreTells}
-use Rattle.nor_words.specs.Programmer.{IsConfigOf}
+use Rattle.nor_words.specs.Programmer.{IsConfigOfEmulated}
 use Rattle.nor_words.specs.Text.{Text}
 use Rattle.nor_words.specs.declared.programmer.Emulated.{Emulated}
 use Rattle.nor_words.specs.declared.programmer.Emulated.TheVariants.{Tiny64, W25q64fv, W25q128fv}
 use Rattle.nor_words.specs.declared.programmer.Programmer.{Programmer}
 use Rattle.flashnor.specs.Changes.{HasGivenName, HasRestored, Passes, ProbeRefuses}
 use Rattle.flashnor.specs.declared.answers.Answer.TheVariants as answer
-use Rattle.flashnor.specs.Chips.{IsConfigWith, IsReady, Holds, Opens, allowance_of}
+use Rattle.flashnor.specs.Chips.{IsConfigWith, IsReady, HoldsFiles, OpensChip, allowance_of}
 use Rattle.flashnor.specs.declared.chips.Content.{Content}
-use Rattle.flashnor.specs.Found.{IsFound, part_of, wanted}
+use Rattle.flashnor.specs.Found.{IsEmulatedFound, emulated_part, wanted_name}
 use Rattle.flashnor.specs.Readings.{FindRefuses}
 use Rattle.flashnor.proofs.Amid.{restored_over, unfound_over}
 use Rattle.flashnor.proofs.Shown.{ok-same, shown-emulated}
@@ -60,12 +60,12 @@ genuine-free config number is = record {
 
 -- ---- the emulated chips
 
-genuine-emulated : (chip : Emulated) (config : Config) → IsConfigOf chip config → IsGenuine config
+genuine-emulated : (chip : Emulated) (config : Config) → IsConfigOfEmulated chip config → IsGenuine config
 genuine-emulated Tiny64 config is = (tiny64_known config is).genuine
 genuine-emulated W25q64fv config is = (w25q64fv_known config is).genuine
 genuine-emulated W25q128fv config is = (w25q128fv_known config is).genuine
 
-pub size_emulated : (chip : Emulated) (config : Config) → IsConfigOf chip config → config.size ≡ (part_of chip).size
+pub size_emulated : (chip : Emulated) (config : Config) → IsConfigOfEmulated chip config → config.size ≡ (emulated_part chip).size
 size_emulated Tiny64 config is = is.size
 size_emulated W25q64fv config is = is.size
 size_emulated W25q128fv config is = is.size
@@ -75,7 +75,7 @@ genuine-with chip None config is = genuine-emulated chip config is
 genuine-with chip (Some number) config is = genuine-free config (replicate 8 0) (genuine-emulated chip _ is.0)
 
 shown-with : (chip : Emulated) (number : Option (List ℕ)) (config : Config) → IsConfigWith chip number config → shown_as
-    config ≡ Ok (part_of chip)
+    config ≡ Ok (emulated_part chip)
 shown-with chip None config is = shown-emulated chip config is
 shown-with chip (Some number) config is = sym (shown-free config (replicate 8 0)) ∙ shown-emulated chip _ is.0
 
@@ -90,21 +90,21 @@ modelled_ready programmer bus ready = record {
 pub calm_ready : (programmer : Programmer) (bus : BusState) → IsReady programmer bus → IsCalm bus
 calm_ready programmer bus ready = inr ready.idle
 
-shown-ready : (programmer : Programmer) (bus : BusState) → IsReady programmer bus → shown_as bus.chip.config ≡ Ok (part_of programmer.chip)
+shown-ready : (programmer : Programmer) (bus : BusState) → IsReady programmer bus → shown_as bus.chip.config ≡ Ok (emulated_part programmer.chip)
 shown-ready programmer bus ready = shown-with programmer.chip programmer.unique bus.chip.config ready.config
 
 -- what is found on it
 pub finds_ready : (programmer : Programmer) (named : Option (Bor Text)) (asked : Option ChipName) (old new : BusState) (found : Found)
-    → asked ≡ wanted named → IsReady programmer old → IsWanted asked found.name → Finds old new found → IsFound named programmer.chip found
+    → asked ≡ wanted_name named → IsReady programmer old → IsWanted asked found.name → Finds old new found → IsEmulatedFound named programmer.chip found
 finds_ready programmer named asked old new found same ready name finds =
-    let part : part_of programmer.chip ≡ part_in found =
-    ok-same (part_of programmer.chip) (part_in found) (shown_as old.chip.config) (shown-ready programmer old ready) finds.part in
+    let part : emulated_part programmer.chip ≡ part_in found =
+    ok-same (emulated_part programmer.chip) (part_in found) (shown_as old.chip.config) (shown-ready programmer old ready) finds.part in
     record { part = sym part; name = rw (← same, part) name }
 
 -- and what is refused
 pub refuses_ready : (programmer : Programmer) (named : Option (Bor Text)) (asked : Option ChipName) (old new : BusState)
     (fault : ProbeFault)
-    → asked ≡ wanted named → IsReady programmer old → Tells asked old new fault → FindRefuses programmer named (of_probe fault)
+    → asked ≡ wanted_name named → IsReady programmer old → Tells asked old new fault → FindRefuses programmer named (of_probe fault)
 refuses_ready programmer named asked old new Probes.NoChip same ready tells =
     let bad = sym (shown-ready programmer old ready) ∙ tells.0 in
     cc
@@ -113,17 +113,17 @@ refuses_ready programmer named asked old new (Probes.UnknownChip fault) same rea
     cc
 refuses_ready programmer named asked old new Probes.OtherName same ready tells = λ has.
     let other = tells.0 in
-    let part : part_of programmer.chip ≡ other.part =
-    ok-same (part_of programmer.chip) other.part (shown_as old.chip.config) (shown-ready programmer old ready) other.shown in
+    let part : emulated_part programmer.chip ≡ other.part =
+    ok-same (emulated_part programmer.chip) other.part (shown_as old.chip.config) (shown-ready programmer old ready) other.shown in
     other.other (rw (same, ← part) has)
 refuses_ready programmer named asked old new Probes.Stopped same ready tells =
-    subst (λ (n : ℕ). n < 65540) ready.left tells.1
+    subst (λ (n : ℕ). n < most_probe) ready.left tells.1
 refuses_ready programmer named asked old new Probes.Timeout same ready tells = tells
 
 -- how it is started: with all that its files tell, then the power that may be lost, then its allowance
 pub opens_held : (programmer : Programmer) (content : Content) (allowed : ℕ) (first lost last : BusState)
-    → Holds programmer content first → lost ≡ record first { steady = is_none programmer.power }
-    → allowed ≡ allowance_of programmer → Allows allowed lost last → Opens programmer content last
+    → HoldsFiles programmer content first → lost ≡ record first { steady = is_none programmer.power }
+    → allowed ≡ allowance_of programmer → Allows allowed lost last → OpensChip programmer content last
 opens_held programmer content allowed first lost last held lose allowance allows =
     let chip : last.chip ≡ first.chip = allows.chip ∙ ap (λ state. state.chip) lose in
     let honest : lost.honest ≡ true = ap (λ state. state.honest) lose ∙ held.honest in
@@ -156,12 +156,12 @@ modelled_same old new honest same modelled = record {
 }
 
 given_name : (named : Option (Bor Text)) (chip : Chip) (part : Part) → shown_as chip.config ≡ Ok part → IsWanted
-    (wanted named) part.name → HasGivenName named chip
+    (wanted_name named) part.name → HasGivenName named chip
 given_name None chip part shown name = tt
 given_name (Some text) chip part shown name = record { part = part; shown = shown; wanted = name }
 
 pub passes_probe : (named : Option (Bor Text)) (asked : Option ChipName) (old new : BusState) (found : Found)
-    → asked ≡ wanted named → IsModelled old → new.honest ≡ old.honest → IsWanted asked found.name → Finds old new found →
+    → asked ≡ wanted_name named → IsModelled old → new.honest ≡ old.honest → IsWanted asked found.name → Finds old new found →
     Passes named old new
 passes_probe named asked old new found same modelled honest name finds = record {
   same = finds.rested.unchanged.same;

@@ -4,22 +4,22 @@ use Rattle.std.specs.Prelude.{IsOk, if◌then◌else◌}
 use Rattle.nor_chip.specs.declared.config.Config.{Config}
 use Rattle.nor_chip.specs.Makers.{IsTiny64}
 use Rattle.nor_probe.specs.Known.{HasGeometry, chip_says, id_of, is_no_chip, listed_or, part_by_sfdp, shown_as}
-use Rattle.nor_probe.specs.Table.{part_of as row_of}
+use Rattle.nor_probe.specs.Table.{part_with_id as row_of}
 use Rattle.nor_probe.proofs.Emulated.{tiny64_known}
 use Rattle.nor_probe.specs.declared.probes.ProbeFault.{ProbeFault}
 use Rattle.nor_probe.specs.declared.probes.ProbeFault.TheVariants.{NoChip}
 use Rattle.nor_probe.specs.declared.sfdp.Geometry.{Geometry}
 use Rattle.nor_probe.specs.declared.sfdp.SfdpFault.{SfdpFault}
 use Rattle.nor_probe.specs.declared.table.Part.{Part}
-use Rattle.flashnor.specs.Found.{part_of}
-use Rattle.nor_words.specs.Programmer.{IsConfigOf}
+use Rattle.flashnor.specs.Found.{emulated_part}
+use Rattle.nor_words.specs.Programmer.{IsConfigOfEmulated}
 use Rattle.nor_words.specs.declared.programmer.Emulated.{Emulated}
 use Rattle.nor_words.specs.declared.programmer.Emulated.TheVariants.{Tiny64, W25q64fv, W25q128fv}
 
 -- what a geometry makes of TINY64, where it is that of the chip
 by_geometry : (config : Config) → IsTiny64 config → (says : Result Geometry SfdpFault)
     → ((geometry : Geometry) → says ≡ Ok geometry → HasGeometry geometry config)
-    → IsOk (part_by_sfdp (254 ∷ 16 ∷ 16 ∷ []) says) → part_by_sfdp (254 ∷ 16 ∷ 16 ∷ []) says ≡ Ok (part_of Tiny64)
+    → IsOk (part_by_sfdp (254 ∷ 16 ∷ 16 ∷ []) says) → part_by_sfdp (254 ∷ 16 ∷ 16 ∷ []) says ≡ Ok (emulated_part Tiny64)
 by_geometry config is (Ok geometry) described ok =
     let has = described geometry refl in
     let size : geometry.size ≡ 65536 = sym has.size ∙ is.size in
@@ -35,7 +35,7 @@ shown-by : (config : Config) (id : List ℕ) → id ≡ 254 ∷ 16 ∷ 16 ∷ []
 shown-by config id same = rw same refl
 
 -- each is found as what it is
-pub shown-emulated : (chip : Emulated) (config : Config) → IsConfigOf chip config → shown_as config ≡ Ok (part_of chip)
+pub shown-emulated : (chip : Emulated) (config : Config) → IsConfigOfEmulated chip config → shown_as config ≡ Ok (emulated_part chip)
 shown-emulated Tiny64 config is =
     let known = tiny64_known config is in
     let id : id_of config ≡ 254 ∷ 16 ∷ 16 ∷ [] = rw is.id refl in

@@ -3,13 +3,13 @@ use Rattle.std.proofs.Common.{ℕ, inr}
 use Rattle.nor_words.specs.Text.{Text}
 use Rattle.flashnor.specs.Events.{Happened}
 use Rattle.flashnor.specs.Events.FileEvent.{Unread}
-use Rattle.flashnor.specs.Files.{IsOpening, IsReading, IsUnread}
+use Rattle.flashnor.specs.Files.{IsOpeningFault, IsReadingFault, IsUnreadFault}
 use Rattle.flashnor.specs.declared.messages.Fault.{Fault}
 use Rattle.flashnor.specs.declared.messages.Fault.TheVariants as end
 use Rattle.flashnor.specs.declared.messages.FileFault.TheVariants as file
 
 module _ (happened : Happened) (name : Text) (size : ℕ) (unread : happened (Unread name)) where
-  pub unread_reading : (fault : Fault) → IsUnread name fault → IsReading happened name size fault
+  pub unread_reading : (fault : Fault) → IsUnreadFault name fault → IsReadingFault happened name size fault
   unread_reading (end.Refused refusal) is = is
   unread_reading (end.File file.Read of) is = (is, inr unread)
   unread_reading (end.File file.Write of) is = is
@@ -19,7 +19,7 @@ module _ (happened : Happened) (name : Text) (size : ℕ) (unread : happened (Un
   unread_reading end.NoText is = is
   unread_reading (end.Layout fault) is = is
 
-  pub unread_opening : (fault : Fault) → IsUnread name fault → IsOpening happened name size fault
+  pub unread_opening : (fault : Fault) → IsUnreadFault name fault → IsOpeningFault happened name size fault
   unread_opening (end.Refused refusal) is = is
   unread_opening (end.File file.Read of) is = (is, unread)
   unread_opening (end.File file.Write of) is = is

@@ -3,7 +3,7 @@ use Rattle.std.specs.Prelude.{◌≡◌, ℕ, Bool, List, [], ◌∷◌, ◌++�
 use Rattle.std.specs.Iterator.{Drains}
 use Rattle.nor_chip.specs.Offered.{GivesNextSet}
 use Rattle.nor_chip.specs.declared.guard.walk.Offered.{Offered}
-use Rattle.nor_probe.specs.Table.{chips, text_of}
+use Rattle.nor_probe.specs.Table.{chips, name_text}
 use Rattle.nor_probe.specs.declared.probes.Found.{Found}
 use Rattle.nor_probe.specs.declared.table.ChipName.{ChipName}
 use Rattle.nor_probe.specs.declared.table.ChipName.TheVariants.{Sfdp}
@@ -17,11 +17,11 @@ use Rattle.flashnor.specs.declared.answers.Answer.TheVariants as answer
 
 -- a chip of the table
 abbrev pub chip_line : Part → List ℕ
-chip_line part = line (text_of part.name ∷ codes " " ∷ id_digits part.id ∷ codes " " ∷ decimal part.size ∷ [])
+chip_line part = line (name_text part.name ∷ codes " " ∷ id_digits part.id ∷ codes " " ∷ decimal part.size ∷ [])
 
 -- a name alone
 abbrev pub name_line : ChipName → List ℕ
-name_line name = line (text_of name ∷ [])
+name_line name = line (name_text name ∷ [])
 
 -- those of the table, and the name of what is known by its SFDP alone
 abbrev pub chip_lines : List ℕ
@@ -29,7 +29,7 @@ chip_lines = flat_map chip_line chips ++ name_line Sfdp
 
 -- the chip that was found
 abbrev pub found_line : Found → List ℕ
-found_line found = line (codes "Found " ∷ text_of found.name ∷ codes " (" ∷ id_digits found.id ∷ codes "), "
+found_line found = line (codes "Found " ∷ name_text found.name ∷ codes " (" ∷ id_digits found.id ∷ codes "), "
     ∷ decimal found.size ∷ codes " bytes." ∷ [])
 
 -- its size alone

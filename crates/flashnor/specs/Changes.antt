@@ -29,7 +29,7 @@ use Rattle.nor_words.specs.declared.job.Keeping.{Keeping}
 use Rattle.nor_words.specs.declared.job.Keeping.TheVariants as keeping
 use Rattle.flashnor.specs.Events.{Happened}
 use Rattle.flashnor.specs.Events.FileEvent.{Made}
-use Rattle.flashnor.specs.Found.{wanted}
+use Rattle.flashnor.specs.Found.{wanted_name}
 use Rattle.flashnor.specs.declared.answers.Answer.{Answer}
 use Rattle.flashnor.specs.declared.answers.Answer.TheVariants as answer
 
@@ -58,7 +58,7 @@ pub record IsSafe (old opened : BusState) (vault : VaultState) : Type 0 where
 -- A change was made, or begun, with its journal in a vault: until that is sealed the chip is as before, and from then
 -- on the journal leads back, at every end; and so it does from files that had the old chip, at each moment of their
 -- being written over with the new one.
-pub record HasKept (request : Request) (image : List ℕ) (old new : BusState) (vault vault' : VaultState)
+pub record HasKeptChange (request : Request) (image : List ℕ) (old new : BusState) (vault vault' : VaultState)
     (outcome : Result Answer Refusal) : Type 0 where
   pub told : MatchResult outcome (TellsDone request image old new) (GivesUp request image old new vault vault')
   pub sealed : IsOk outcome → vault'.sealed ≡ true
@@ -107,12 +107,12 @@ IsVaultOf happened (keeping.Rehearse stops) vault = vault.telling ≡ true
 abbrev pub HasDone : Request → List ℕ → Keeping → BusState → BusState → VaultState
     → VaultState → Result Answer Refusal → Type 0
 HasDone request image (keeping.Journal file) old new vault vault' outcome =
-    HasKept request image old new vault vault' outcome
+    HasKeptChange request image old new vault vault' outcome
 HasDone request image (keeping.Rehearse stops) old new vault vault' outcome =
     HasRehearsed request image stops.items old new vault vault' outcome
 
 -- A change was made, or rehearsed, with its journal where it is to be kept.
-pub record HasChanged (happened : Happened) (request : Request) (image : List ℕ) (kept : Keeping)
+pub record HasMadeChange (happened : Happened) (request : Request) (image : List ℕ) (kept : Keeping)
     (old new : BusState) (outcome : Result Answer Refusal) : Type 0 where
   pub vault : VaultState
   pub vault' : VaultState
@@ -130,7 +130,7 @@ TellsRestored journal old new _ = ⊥
 -- a probe refused, for the name or before
 abbrev pub ProbeRefuses : Option (Bor Text) → BusState → BusState → Refusal → Type 0
 ProbeRefuses named old new refusal =
-    (fault : ProbeFault) × (refusal ≡ of_probe fault) × Tells (wanted named) old new fault
+    (fault : ProbeFault) × (refusal ≡ of_probe fault) × Tells (wanted_name named) old new fault
 
 -- A restore refused: for its verdict on the chip, which is as before then, or since the bus stopped.
 pub record RestoreRefuses (journal : Journal) (old new : BusState) (refusal : Refusal) : Type 0 where
@@ -140,7 +140,7 @@ pub record RestoreRefuses (journal : Journal) (old new : BusState) (refusal : Re
 -- the chip has the name that is given, if one is
 abbrev pub HasGivenName : Option (Bor Text) → Chip → Type 0
 HasGivenName None chip = ⊤
-HasGivenName (Some name) chip = IsNamed (wanted (Some name)) chip.config
+HasGivenName (Some name) chip = IsNamed (wanted_name (Some name)) chip.config
 
 -- A probe for that name was passed.
 pub record Passes (named : Option (Bor Text)) (old new : BusState) : Type 0 where

@@ -7,22 +7,22 @@ use Rattle.nor_chip.specs.Chip.{Chip}
 use Rattle.nor_chip.specs.Start.{AreBytesOf, status_of}
 use Rattle.nor_chip.specs.declared.config.Config.{Config}
 use Rattle.nor_save.specs.declared.refusal.Refusal.TheVariants.{Memory}
-use Rattle.nor_words.specs.Programmer.{IsConfigOf}
+use Rattle.nor_words.specs.Programmer.{IsConfigOfEmulated}
 use Rattle.nor_words.specs.declared.programmer.Emulated.{Emulated}
 use Rattle.nor_words.specs.declared.programmer.Programmer.{Programmer}
 use Rattle.nor_words.specs.Text.{Text}
 use Rattle.flashnor.specs.Events.{AreOfFile, Happened, IsPutBack}
-use Rattle.flashnor.specs.Files.{IsOpening}
-use Rattle.flashnor.specs.Found.{part_of}
+use Rattle.flashnor.specs.Files.{IsOpeningFault}
+use Rattle.flashnor.specs.Found.{emulated_part}
 use Rattle.flashnor.specs.declared.chips.Content.{Content}
 use Rattle.flashnor.specs.declared.messages.Fault.{Fault}
 use Rattle.flashnor.specs.declared.messages.Fault.TheVariants as end
 
 -- the configuration of an emulated chip, with this unique ID in place of eight zeros, if one is given
 abbrev pub IsConfigWith : Emulated → Option (List ℕ) → Config → Type 0
-IsConfigWith chip None config = IsConfigOf chip config
+IsConfigWith chip None config = IsConfigOfEmulated chip config
 IsConfigWith chip (Some unique) config =
-    IsConfigOf chip (record config { unique = replicate 8 0 }) × (config.unique ≡ unique)
+    IsConfigOfEmulated chip (record config { unique = replicate 8 0 }) × (config.unique ≡ unique)
 
 -- how many transactions are allowed; without `stop=` the most that can be
 abbrev pub allowance_of : Programmer → ℕ
@@ -40,8 +40,8 @@ pub record IsReady (programmer : Programmer) (bus : BusState) : Type 0 where
 
 -- It is what the chip's files have: FFh and clear status bytes where none is named or there.
 pub record IsContentOf (happened : Happened) (programmer : Programmer) (content : Content) : Type 0 where
-  pub bytes : AreOfFile happened programmer.image (part_of programmer.chip).size
-      (replicate (part_of programmer.chip).size 255) content.bytes.items
+  pub bytes : AreOfFile happened programmer.image (emulated_part programmer.chip).size
+      (replicate (emulated_part programmer.chip).size 255) content.bytes.items
   pub status : AreOfFile happened programmer.status 2 (0 ∷ 0 ∷ []) content.status
 
 -- The chip has these bytes, and the kept bits and the latch of these status bytes.
@@ -52,12 +52,12 @@ pub record HasContent (content : Content) (chip : Chip) : Type 0 where
   pub latch : chip.latch ≡ (slice_index content.status 0 / 2 % 2 == 1)
 
 -- The bus is ready, and the chip as its files tell it.
-pub record Opens (programmer : Programmer) (content : Content) (bus : BusState) : Type 0 where
+pub record OpensChip (programmer : Programmer) (content : Content) (bus : BusState) : Type 0 where
   pub ready : IsReady programmer bus
   pub holds : HasContent content bus.chip
 
 -- The same before anything is allowed, while the bus keeps its power.
-pub record Holds (programmer : Programmer) (content : Content) (bus : BusState) : Type 0 where
+pub record HoldsFiles (programmer : Programmer) (content : Content) (bus : BusState) : Type 0 where
   pub config : IsConfigWith programmer.chip programmer.unique bus.chip.config
   pub idle : bus.chip.busy ≡ 0
   pub honest : bus.honest ≡ true
@@ -70,8 +70,8 @@ pub record Holds (programmer : Programmer) (content : Content) (bus : BusState) 
 -- how the opening of a chip may end a run: by one of its files, or for want of memory
 abbrev pub FailsToOpen : Happened → Programmer → Fault → Type 0
 FailsToOpen happened programmer fault = (fault ≡ end.Refused Memory)
-    ⊎ (IsSomeAnd programmer.image (λ name. IsOpening happened name.now (part_of programmer.chip).size fault)
-    ⊎ IsSomeAnd programmer.status (λ name. IsOpening happened name.now 2 fault))
+    ⊎ (IsSomeAnd programmer.image (λ name. IsOpeningFault happened name.now (emulated_part programmer.chip).size fault)
+    ⊎ IsSomeAnd programmer.status (λ name. IsOpeningFault happened name.now 2 fault))
 
 -- Its bytes and status bytes were written into the files that are named; or the names of those that couldn't be are
 -- these.

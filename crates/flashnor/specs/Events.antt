@@ -38,14 +38,14 @@ abbrev pub IsRead : Happened → Text → ℕ → List ℕ → Type 0
 IsRead happened name most bytes = happened (Read name most (Some bytes))
 
 -- what there is of a file, if one is named: of more than so many bytes one more is read
-abbrev pub IsFound : Happened → Option (Bor Text) → ℕ → Option (List ℕ) → Type 0
-IsFound happened None len found = found ≡ None
-IsFound happened (Some name) len found = happened (Read name.now (len + 1) found)
+abbrev pub IsFileFound : Happened → Option (Bor Text) → ℕ → Option (List ℕ) → Type 0
+IsFileFound happened None len found = found ≡ None
+IsFileFound happened (Some name) len found = happened (Read name.now (len + 1) found)
 
 -- The bytes are those of the file that is named, or these ones where none is named or there.
 pub record AreOfFile (happened : Happened) (name : Option (Bor Text)) (len : ℕ) (missing bytes : List ℕ) : Type 0 where
   pub found : Option (List ℕ)
-  pub is_found : IsFound happened name len found
+  pub is_found : IsFileFound happened name len found
   pub same : bytes ≡ unwrap_or found missing
 
 -- The bytes couldn't be written over the file: a beginning of them was.

@@ -5,11 +5,11 @@ use Rattle.std.specs.Fmt.{with_newline}
 use Rattle.std.specs.List.{concat}
 use Rattle.nor_journal.specs.Fault.{number_of_fault as journal_number}
 use Rattle.nor_layout.specs.Faults.{line_of_fault, number_of_fault as layout_number}
-use Rattle.nor_probe.specs.Sfdp.{number_of as sfdp_number}
+use Rattle.nor_probe.specs.Sfdp.{number_of_sfdp_fault as sfdp_number}
 use Rattle.nor_save.specs.Refusal.{number_of}
 use Rattle.nor_save.specs.declared.refusal.Refusal.{Refusal}
 use Rattle.nor_save.specs.declared.refusal.Refusal.TheVariants as why
-use Rattle.nor_words.specs.Faults.{text_of as usage_text}
+use Rattle.nor_words.specs.Faults.{usage_fault_text as usage_text}
 use Rattle.nor_words.specs.Text.{Text}
 use Rattle.flashnor.specs.Lines.{hex_digits}
 use Rattle.flashnor.specs.Messages.{file_number}

@@ -9,17 +9,17 @@ use Rattle.flashnor.specs.declared.messages.Fault.TheVariants as end
 use Rattle.flashnor.specs.declared.messages.FileFault.TheVariants as file
 
 -- the fault of a file of this name that fails while it is read; or memory runs out
-abbrev pub IsUnread : Text → Fault → Type 0
-IsUnread name (end.Refused refusal) = refusal ≡ Memory
-IsUnread name (end.File file.Read of) = of.now ≡ name
-IsUnread name _ = ⊥
+abbrev pub IsUnreadFault : Text → Fault → Type 0
+IsUnreadFault name (end.Refused refusal) = refusal ≡ Memory
+IsUnreadFault name (end.File file.Read of) = of.now ≡ name
+IsUnreadFault name _ = ⊥
 
 -- at most so many bytes of the file of this name are read: it isn't there, or can't be read; or memory runs out
-abbrev pub IsReading : Happened → Text → ℕ → Fault → Type 0
-IsReading happened name most (end.Refused refusal) = refusal ≡ Memory
-IsReading happened name most (end.File file.Read of) =
+abbrev pub IsReadingFault : Happened → Text → ℕ → Fault → Type 0
+IsReadingFault happened name most (end.Refused refusal) = refusal ≡ Memory
+IsReadingFault happened name most (end.File file.Read of) =
     (of.now ≡ name) × (happened (Read name most None) ⊎ happened (Unread name))
-IsReading happened name most _ = ⊥
+IsReadingFault happened name most _ = ⊥
 
 -- the text in the file of this name, which may have so many bytes, has more
 abbrev pub IsTooLong : Happened → Text → ℕ → Fault → Type 0
@@ -29,12 +29,12 @@ IsTooLong happened name most _ = ⊥
 
 -- the chip's file of this name is read, which is to have so many bytes: it has another length, or can't be read; or
 -- memory runs out. That it isn't there is no fault
-abbrev pub IsOpening : Happened → Text → ℕ → Fault → Type 0
-IsOpening happened name len (end.Refused refusal) = refusal ≡ Memory
-IsOpening happened name len (end.File file.Read of) = (of.now ≡ name) × happened (Unread name)
-IsOpening happened name len (end.File file.Length of) =
+abbrev pub IsOpeningFault : Happened → Text → ℕ → Fault → Type 0
+IsOpeningFault happened name len (end.Refused refusal) = refusal ≡ Memory
+IsOpeningFault happened name len (end.File file.Read of) = (of.now ≡ name) × happened (Unread name)
+IsOpeningFault happened name len (end.File file.Length of) =
     (of.now ≡ name) × ((bytes : List ℕ) × IsRead happened name (len + 1) bytes × (length bytes ≢ len))
-IsOpening happened name len _ = ⊥
+IsOpeningFault happened name len _ = ⊥
 
 -- the file of this name can't be made or emptied
 abbrev pub IsMaking : Happened → Text → Fault → Type 0

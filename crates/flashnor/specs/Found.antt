@@ -12,26 +12,26 @@ use Rattle.nor_words.specs.declared.programmer.Emulated.{Emulated}
 use Rattle.nor_words.specs.declared.programmer.Emulated.TheVariants.{Tiny64, W25q64fv, W25q128fv}
 
 -- what an emulated chip is found as: a Winbond chip as its row of the table, TINY64 as its SFDP says
-abbrev pub part_of : Emulated → Part
-part_of Tiny64 = record {
+abbrev pub emulated_part : Emulated → Part
+emulated_part Tiny64 = record {
   name = Sfdp;
   id = 0xFE ∷ 0x10 ∷ 0x10 ∷ [];
   size = 65536;
   kinds = record { k32 = true; k64 = true };
   scheme = false;
 }
-part_of W25q64fv = w25q64fv
-part_of W25q128fv = w25q128fv
+emulated_part W25q64fv = w25q64fv
+emulated_part W25q128fv = w25q128fv
 
 -- the name that the chip must have, if one is given
-abbrev pub wanted : Option (Bor Text) → Option ChipName
-wanted = option_map (λ name. name_of name.now)
+abbrev pub wanted_name : Option (Bor Text) → Option ChipName
+wanted_name = option_map (λ name. name_of name.now)
 
 -- the chip is found under the name that is given, if one is
 abbrev pub HasName : Option (Bor Text) → Emulated → Type 0
-HasName named chip = IsWanted (wanted named) (part_of chip).name
+HasName named chip = IsWanted (wanted_name named) (emulated_part chip).name
 
 -- This chip was found.
-pub record IsFound (named : Option (Bor Text)) (chip : Emulated) (found : Found) : Type 0 where
-  pub part : part_in found ≡ part_of chip
+pub record IsEmulatedFound (named : Option (Bor Text)) (chip : Emulated) (found : Found) : Type 0 where
+  pub part : part_in found ≡ emulated_part chip
   pub name : HasName named chip

@@ -7,6 +7,7 @@ use Rattle.nor_driver.specs.Looks.{Looks}
 use Rattle.nor_journal.specs.Vault.{VaultState}
 use Rattle.nor_layout.specs.declared.ranges.Span.{Span}
 use Rattle.nor_probe.specs.Known.{IsModelled}
+use Rattle.nor_probe.specs.Found.{most_probe}
 use Rattle.nor_read.specs.Protecting.{ProtectionAlways, ProtectionHonest, ProtectionModelled}
 use Rattle.nor_read.specs.Reading.{ReadOutAlways, ReadOutHonest, ReadOutModelled}
 use Rattle.nor_read.specs.Verifying.{VerifyAlways, VerifyHonest, VerifyModelled}
@@ -19,7 +20,7 @@ use Rattle.nor_words.specs.declared.programmer.Programmer.{Programmer}
 use Rattle.flashnor.specs.Chips.{allowance_of}
 use Rattle.flashnor.specs.Events.{Happened}
 use Rattle.flashnor.specs.Events.FileEvent.{Emptied}
-use Rattle.flashnor.specs.Found.{HasName, IsFound, part_of, wanted}
+use Rattle.flashnor.specs.Found.{HasName, IsEmulatedFound, emulated_part, wanted_name}
 use Rattle.flashnor.specs.declared.answers.Answer.{Answer}
 use Rattle.flashnor.specs.declared.answers.Answer.TheVariants as answer
 
@@ -27,24 +28,25 @@ use Rattle.flashnor.specs.declared.answers.Answer.TheVariants as answer
 -- allowed than it may take. An emulated chip is known, and nothing else is ever wrong with it.
 abbrev pub FindRefuses : Programmer → Option (Bor Text) → Refusal → Type 0
 FindRefuses programmer named OtherName = HasName named programmer.chip → ⊥
-FindRefuses programmer named Stopped = allowance_of programmer < 65540
+FindRefuses programmer named Stopped = allowance_of programmer < most_probe
 FindRefuses programmer named _ = ⊥
 
 -- the programmer's chip, which has the name that is given
 abbrev pub TellsFound : Programmer → Option (Bor Text) → Answer → Type 0
-TellsFound programmer named (answer.Found found) = IsFound named programmer.chip found
+TellsFound programmer named (answer.Found found) = IsEmulatedFound named programmer.chip found
 TellsFound programmer named _ = ⊥
 
 -- its size
 abbrev pub TellsSize : Programmer → Option (Bor Text) → Answer → Type 0
-TellsSize programmer named (answer.Size size) = HasName named programmer.chip × (size ≡ (part_of programmer.chip).size)
+TellsSize programmer named (answer.Size size) =
+    HasName named programmer.chip × (size ≡ (emulated_part programmer.chip).size)
 TellsSize programmer named _ = ⊥
 
 -- What a job answers of what its call came to: it tells it, or passes the refusal on.
-abbrev pub IsAnswer : {T : Type 0} → (T → Answer → Type 0) → Result T Refusal → Result Answer Refusal → Type 0
-IsAnswer tells (Ok told) (Ok answer) = tells told answer
-IsAnswer tells (Err refusal) (Err passed) = passed ≡ refusal
-IsAnswer tells _ _ = ⊥
+abbrev pub AnswersCall : {T : Type 0} → (T → Answer → Type 0) → Result T Refusal → Result Answer Refusal → Type 0
+AnswersCall tells (Ok told) (Ok answer) = tells told answer
+AnswersCall tells (Err refusal) (Err passed) = passed ≡ refusal
+AnswersCall tells _ _ = ⊥
 
 -- the protection itself
 abbrev pub TellsGuarded : Protection → Answer → Type 0
@@ -71,33 +73,33 @@ pub record HasTold (tells : Protection → Answer → Type 0) (named : Option (B
     (outcome : Result Answer Refusal) : Type 0 where
   pub result : Result Protection Refusal
   pub always : ProtectionAlways old new result
-  pub honest : old.honest ≡ true → ProtectionHonest (wanted named) old new result
-  pub modelled : IsModelled old → ProtectionModelled (wanted named) old result
-  pub told : IsAnswer tells result outcome
+  pub honest : old.honest ≡ true → ProtectionHonest (wanted_name named) old new result
+  pub modelled : IsModelled old → ProtectionModelled (wanted_name named) old result
+  pub told : AnswersCall tells result outcome
 
 -- The chip was found, or not, and only looked at.
-pub record HasFound (tells : Answer → Type 0) (programmer : Programmer) (named : Option (Bor Text))
+pub record HasProbed (tells : Answer → Type 0) (programmer : Programmer) (named : Option (Bor Text))
     (old new : BusState) (outcome : Result Answer Refusal) : Type 0 where
-  pub looks : Looks 65540 old new
+  pub looks : Looks most_probe old new
   pub told : MatchResult outcome tells (FindRefuses programmer named)
 
 -- The chip was read out, in these ranges, into a vault in the file of this name, or the reading refused.
-pub record HasRead (happened : Happened) (named : Option (Bor Text)) (file : Text) (ranges : Option (List Span))
+pub record HasReadOut (happened : Happened) (named : Option (Bor Text)) (file : Text) (ranges : Option (List Span))
     (old new : BusState) (outcome : Result Answer Refusal) : Type 0 where
   pub empty : VaultState
   pub filled : VaultState
   pub emptied : happened (Emptied file empty)
   pub result : Result Report Refusal
-  pub always : ReadOutAlways (wanted named) ranges old new empty filled result
-  pub honest : old.honest ≡ true → ReadOutHonest (wanted named) ranges old new result
-  pub modelled : IsModelled old → ReadOutModelled (wanted named) ranges old new empty filled result
-  pub told : IsAnswer TellsRead result outcome
+  pub always : ReadOutAlways (wanted_name named) ranges old new empty filled result
+  pub honest : old.honest ≡ true → ReadOutHonest (wanted_name named) ranges old new result
+  pub modelled : IsModelled old → ReadOutModelled (wanted_name named) ranges old new empty filled result
+  pub told : AnswersCall TellsRead result outcome
 
 -- The chip was compared with this image, in these ranges, or the comparison refused.
 pub record HasVerified (named : Option (Bor Text)) (ranges : Option (List Span)) (image : List ℕ)
     (old new : BusState) (outcome : Result Answer Refusal) : Type 0 where
   pub result : Result Report Refusal
-  pub always : VerifyAlways (wanted named) ranges image old new result
-  pub honest : old.honest ≡ true → VerifyHonest (wanted named) ranges old new result
-  pub modelled : IsModelled old → VerifyModelled (wanted named) ranges image old new result
-  pub told : IsAnswer TellsVerified result outcome
+  pub always : VerifyAlways (wanted_name named) ranges image old new result
+  pub honest : old.honest ≡ true → VerifyHonest (wanted_name named) ranges old new result
+  pub modelled : IsModelled old → VerifyModelled (wanted_name named) ranges image old new result
+  pub told : AnswersCall TellsVerified result outcome

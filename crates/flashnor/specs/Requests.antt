@@ -1,5 +1,5 @@
 -- What a job asks of the calls.
-use Rattle.std.specs.Prelude.{◌≡◌, ◌≤◌, ◌⊎◌, [], ℕ, List, Option, Some, None, length, replicate}
+use Rattle.std.specs.Prelude.{◌≡◌, ◌≤◌, ◌⊎◌, [], ℕ, List, Option, Some, None, length, replicate, ⊤}
 use Rattle.nor_layout.specs.declared.ranges.Span.{Span}
 use Rattle.nor_layout.specs.declared.region.Region.{Region}
 use Rattle.nor_layout.specs.Grammar.{IsLayout}
@@ -16,8 +16,8 @@ use Rattle.nor_words.specs.Text.{Text}
 use Rattle.nor_words.specs.declared.programmer.Emulated.{Emulated}
 use Rattle.std.specs.Borrow.{Bor}
 use Rattle.flashnor.specs.Events.{Happened, IsRead}
-use Rattle.flashnor.specs.Files.{IsReading, IsTooLong}
-use Rattle.flashnor.specs.Found.{part_of, wanted as name_wanted}
+use Rattle.flashnor.specs.Files.{IsReadingFault, IsTooLong}
+use Rattle.flashnor.specs.Found.{emulated_part, wanted_name as name_wanted}
 use Rattle.flashnor.specs.declared.messages.Fault.{Fault}
 use Rattle.flashnor.specs.declared.messages.Fault.TheVariants as end
 
@@ -60,12 +60,12 @@ AreRangesOf happened (Some regions) (Some ranges) = AreOfLayout happened regions
 -- as many bytes as the chip has, or nothing
 abbrev pub IsBufferOf : Happened → Emulated → Wanted → List ℕ → Type 0
 IsBufferOf happened chip (wanted.Write image) bytes = IsRead happened image.now 16777217 bytes
-IsBufferOf happened chip wanted.Erase bytes = bytes ≡ replicate (part_of chip).size 255
+IsBufferOf happened chip wanted.Erase bytes = bytes ≡ replicate (emulated_part chip).size 255
 IsBufferOf happened chip (wanted.Range start len) bytes = bytes ≡ []
 
 -- how the reading of a layout may end a run: by its text and the names, or by its file, which has at most 16 MiB
 abbrev pub FailsToInclude : Happened → Option Regions → Fault → Type 0
 FailsToInclude happened None fault = ⊥
-FailsToInclude happened (Some regions) (end.Layout fault) = Unit {0}
+FailsToInclude happened (Some regions) (end.Layout fault) = ⊤
 FailsToInclude happened (Some regions) fault =
-    IsReading happened regions.layout.now 16777217 fault ⊎ IsTooLong happened regions.layout.now 16777216 fault
+    IsReadingFault happened regions.layout.now 16777217 fault ⊎ IsTooLong happened regions.layout.now 16777216 fault

@@ -27,12 +27,12 @@ use Rattle.nor_words.specs.declared.job.Wanted.TheVariants as wanted
 use Rattle.nor_words.specs.declared.programmer.Emulated.{Emulated}
 use Rattle.nor_words.specs.declared.programmer.Programmer.{Programmer}
 use Rattle.flashnor.specs.AnswerLines.{AreLines}
-use Rattle.flashnor.specs.Changes.{HasChanged, HasRestored}
-use Rattle.flashnor.specs.Chips.{ArePutBack, FailsToOpen, IsContentOf, Opens}
+use Rattle.flashnor.specs.Changes.{HasMadeChange, HasRestored}
+use Rattle.flashnor.specs.Chips.{ArePutBack, FailsToOpen, IsContentOf, OpensChip}
 use Rattle.flashnor.specs.Endings.{HasPrinted, Prints, all_written}
 use Rattle.flashnor.specs.Events.{Happened, IsRead}
-use Rattle.flashnor.specs.Files.{IsLogging, IsMaking, IsMakingNew, IsReading}
-use Rattle.flashnor.specs.Readings.{HasFound, HasRead, HasTold, HasVerified, ListsRanges, TellsFound, TellsGuarded, TellsSize}
+use Rattle.flashnor.specs.Files.{IsLogging, IsMaking, IsMakingNew, IsReadingFault}
+use Rattle.flashnor.specs.Readings.{HasProbed, HasReadOut, HasTold, HasVerified, ListsRanges, TellsFound, TellsGuarded, TellsSize}
 use Rattle.flashnor.specs.Requests.{AreRangesOf, FailsToInclude, IsBufferOf, request_for}
 use Rattle.flashnor.specs.WrittenOver.{OpensAmid}
 use Rattle.flashnor.specs.declared.answers.Answer.{Answer}
@@ -51,20 +51,20 @@ keeps (keeping.Journal file) = true
 keeps (keeping.Rehearse stops) = false
 
 -- A change was asked for, in the ranges of the regions and with the image.
-pub record DoesChange (happened : Happened) (chip : Emulated) (named : Option (Bor Text)) (change : Change)
+pub record ChangesChip (happened : Happened) (chip : Emulated) (named : Option (Bor Text)) (change : Change)
     (old new : BusState) (outcome : Result Answer Refusal) : Type 0 where
   pub ranges : Option (List Span)
   pub included : AreRangesOf happened change.regions ranges
   pub image : List ℕ
   pub buffer : IsBufferOf happened chip change.wanted image
-  pub changed : HasChanged happened (request_for change named ranges) image change.keeping old new outcome
+  pub changed : HasMadeChange happened (request_for change named ranges) image change.keeping old new outcome
 
 -- The chip was read out into the file in the ranges of the regions, if there are any.
 pub record DoesRead (happened : Happened) (named : Option (Bor Text)) (file : Text) (regions : Option Regions)
     (old new : BusState) (outcome : Result Answer Refusal) : Type 0 where
   pub ranges : Option (List Span)
   pub included : AreRangesOf happened regions ranges
-  pub read : HasRead happened named file ranges old new outcome
+  pub read : HasReadOut happened named file ranges old new outcome
 
 -- It was compared in these ranges with the image in the file, of which at most one byte more is read than the largest
 -- chip has.
@@ -85,22 +85,22 @@ pub record DoesRestore (happened : Happened) (named : Option (Bor Text)) (file :
   pub restored : HasRestored journal named old new outcome
 
 -- what the call for a task came to, on a bus to the programmer's chip
-abbrev pub Does : Happened → Programmer → Option (Bor Text) → Task
+abbrev pub DoesJob : Happened → Programmer → Option (Bor Text) → Task
     → BusState → BusState → Result Answer Refusal → Type 0
-Does happened programmer named task.Probe old new outcome =
-    HasFound (TellsFound programmer named) programmer named old new outcome
-Does happened programmer named task.FlashSize old new outcome =
-    HasFound (TellsSize programmer named) programmer named old new outcome
-Does happened programmer named task.WpStatus old new outcome =
+DoesJob happened programmer named task.Probe old new outcome =
+    HasProbed (TellsFound programmer named) programmer named old new outcome
+DoesJob happened programmer named task.FlashSize old new outcome =
+    HasProbed (TellsSize programmer named) programmer named old new outcome
+DoesJob happened programmer named task.WpStatus old new outcome =
     HasTold TellsGuarded named old new outcome
-Does happened programmer named task.WpList old new outcome = HasTold ListsRanges named old new outcome
-Does happened programmer named (task.Read file regions) old new outcome =
+DoesJob happened programmer named task.WpList old new outcome = HasTold ListsRanges named old new outcome
+DoesJob happened programmer named (task.Read file regions) old new outcome =
     DoesRead happened named file.now regions old new outcome
-Does happened programmer named (task.Verify file regions) old new outcome =
+DoesJob happened programmer named (task.Verify file regions) old new outcome =
     DoesVerify happened named file.now regions old new outcome
-Does happened programmer named (task.Change change) old new outcome =
-    DoesChange happened programmer.chip named change old new outcome
-Does happened programmer named (task.Restore journal) old new outcome =
+DoesJob happened programmer named (task.Change change) old new outcome =
+    ChangesChip happened programmer.chip named change old new outcome
+DoesJob happened programmer named (task.Restore journal) old new outcome =
     DoesRestore happened named journal.now old new outcome
 
 -- after the call the chip is written into its files: it was changed, and that was no rehearsal
@@ -124,8 +124,8 @@ pub record IsCalled (happened : Happened) (job : ChipJob) (unwritten : Unwritten
   pub read : IsContentOf happened job.programmer content
   pub old : BusState
   pub new : BusState
-  pub opened : Opens job.programmer content old
-  pub does : Does happened job.programmer job.named job.task old new outcome
+  pub opened : OpensChip job.programmer content old
+  pub does : DoesJob happened job.programmer job.named job.task old new outcome
   pub left : AreLeft (changes_chip job.task) happened job.programmer new.chip unwritten
   pub over : (opened : BusState) → OpensAmid content old.chip new.chip opened
       → IsWrittenOver old.chip new.chip opened.chip
@@ -135,7 +135,7 @@ pub record IsCalled (happened : Happened) (job : ChipJob) (unwritten : Unwritten
 
 -- how the reading of a change's image may end a run
 abbrev pub FailsToRead : Happened → Wanted → Fault → Type 0
-FailsToRead happened (wanted.Write image) fault = IsReading happened image.now 16777217 fault
+FailsToRead happened (wanted.Write image) fault = IsReadingFault happened image.now 16777217 fault
 FailsToRead happened wanted.Erase fault = fault ≡ end.Refused Memory
 FailsToRead happened (wanted.Range start len) fault = ⊥
 
@@ -148,14 +148,14 @@ FailsToKeep happened (keeping.Rehearse stops) fault = ⊥
 abbrev pub FailsToRestore : Happened → Text → Fault → Type 0
 FailsToRestore happened name (end.Refused (BadJournal fault)) =
     (bytes : List ℕ) × IsRead happened name 16793662 bytes × HasFault bytes fault
-FailsToRestore happened name fault = IsReading happened name 16793662 fault
+FailsToRestore happened name fault = IsReadingFault happened name 16793662 fault
 
 -- how a task may end a run before its call is made
 abbrev pub FailsBefore : Happened → Task → Fault → Type 0
 FailsBefore happened (task.Read file regions) fault =
     FailsToInclude happened regions fault ⊎ IsMaking happened file.now fault
 FailsBefore happened (task.Verify file regions) fault =
-    FailsToInclude happened regions fault ⊎ IsReading happened file.now 16777217 fault
+    FailsToInclude happened regions fault ⊎ IsReadingFault happened file.now 16777217 fault
 FailsBefore happened (task.Change change) fault =
     FailsToInclude happened change.regions fault
     ⊎ (FailsToRead happened change.wanted fault ⊎ FailsToKeep happened change.keeping fault)
@@ -183,22 +183,23 @@ EndsJob happened on_chip unwritten (Err (end.Refused refusal)) =
 EndsJob happened on_chip unwritten (Err fault) = FailsJob happened on_chip fault
 
 -- the list of chips is the answer to nothing else
-abbrev pub Answers : Happened → Job → Unwritten → Result Answer Fault → Type 0
-Answers happened job.List unwritten (Ok answer.Chips) = ⊤
-Answers happened job.List unwritten _ = ⊥
-Answers happened (job.Chip on_chip) unwritten outcome = EndsJob happened on_chip unwritten outcome
+abbrev pub AnswersJob : Happened → Job → Unwritten → Result Answer Fault → Type 0
+AnswersJob happened job.List unwritten (Ok answer.Chips) = ⊤
+AnswersJob happened job.List unwritten _ = ⊥
+AnswersJob happened (job.Chip on_chip) unwritten outcome = EndsJob happened on_chip unwritten outcome
 
 -- A usage fault is that of the words, and all else the answer to the job that the words ask for, with the names of the
 -- files that couldn't be written.
-abbrev pub IsAnswer : Happened → List Text → Result Answer Fault → Unwritten → Type 0
-IsAnswer happened words (Err (end.Usage fault)) unwritten = IsFault words fault
-IsAnswer happened words outcome unwritten = (asked : Job) × IsJob words asked × Answers happened asked unwritten outcome
+abbrev pub AnswersWords : Happened → List Text → Result Answer Fault → Unwritten → Type 0
+AnswersWords happened words (Err (end.Usage fault)) unwritten = IsFault words fault
+AnswersWords happened words outcome unwritten =
+    (asked : Job) × IsJob words asked × AnswersJob happened asked unwritten outcome
 
 -- A run without a fault: the words ask for help; or for a job, which was done, each file was written, and to standard
 -- output went the lines of just this answer.
 abbrev pub Succeeds : Happened → List Text → Option (List ℕ) → Option (List ℕ) → Type 0
 Succeeds happened words out out' = IsAmong kind.DisplayHelp (refusals_of words)
-    ⊎ ((found : Answer) × IsAnswer happened words (Ok found) all_written × Prints (AreLines found) out out')
+    ⊎ ((found : Answer) × AnswersWords happened words (Ok found) all_written × Prints (AreLines found) out out')
 
 -- How a run ended, by what standard output and standard error hold before and after, where that is known. The status is
 -- 0 or 1; 1 where the words ask for nothing, and 0 only where the run has no fault.
@@ -210,5 +211,5 @@ pub record IsStatus (happened : Happened) (words : List Text) (out out' err err'
   -- what it came to, and what was printed of that
   pub outcome : Result Answer Fault
   pub unwritten : Unwritten
-  pub answers : IsAnswer happened words outcome unwritten
+  pub answers : AnswersWords happened words outcome unwritten
   pub prints : HasPrinted outcome unwritten out out' err err' ending

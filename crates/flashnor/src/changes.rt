@@ -4,9 +4,9 @@ ghost use Rattle.nor_chip.specs.Chip.{IsSame};
 ghost use Rattle.nor_driver.specs.Looks.{IsCalm};
 ghost use Rattle.nor_journal.specs.Vault.{IsFresh};
 ghost use Rattle.nor_probe.specs.Known.{IsModelled};
-ghost use Rattle.flashnor.specs.Changes.{HasChanged, HasKept, HasRehearsed, HasRestored, Passes, ProbeRefuses};
+ghost use Rattle.flashnor.specs.Changes.{HasMadeChange, HasKeptChange, HasRehearsed, HasRestored, Passes, ProbeRefuses};
 ghost use Rattle.flashnor.specs.Requests.{FailsToInclude, IsBufferOf};
-ghost use Rattle.flashnor.specs.Run.{DoesChange, DoesRestore, FailsToKeep, FailsToRead, FailsToRestore};
+ghost use Rattle.flashnor.specs.Run.{ChangesChip, DoesRestore, FailsToKeep, FailsToRead, FailsToRestore};
 
 use crate::answers::{Answer, Outcome};
 use crate::chips::erased;
@@ -30,7 +30,8 @@ pub fn change_chip<'a, R: Store, B: Meter>(
     change: &Change<'a>,
 ) -> Result<Outcome, Fault<'a>>
     ensures ok { IsModelled (B.state bus.old) → IsCalm (B.state bus.old)
-        → IfOk result (DoesChange (R.happened rt.now) chip named.entry change.now (B.state bus.old) (B.state bus.new)) }
+        → IfOk result (ChangesChip (R.happened rt.now) chip named.entry change.now (B.state bus.old)
+        (B.state bus.new)) }
     ensures err { IfErr result (λ fault. FailsToInclude (R.happened rt.now) change.now.regions fault
         ⊎ (FailsToRead (R.happened rt.now) change.now.wanted fault
         ⊎ FailsToKeep (R.happened rt.now) change.now.keeping fault)) }
@@ -67,7 +68,7 @@ fn change_with<'a, R: Store, B: Meter>(
 ) -> Result<Outcome, Fault<'a>>
     ensures ok { IsModelled (B.state bus.old) → IsCalm (B.state bus.old)
         → IfOk result
-        (HasChanged (R.happened rt.now) request.now image.old keeping.now (B.state bus.old) (B.state bus.new)) }
+        (HasMadeChange (R.happened rt.now) request.now image.old keeping.now (B.state bus.old) (B.state bus.new)) }
     ensures err { IfErr result (FailsToKeep (R.happened rt.now) keeping.now) }
 {
     match keeping {
@@ -91,7 +92,7 @@ fn keep_change<B: Bus, V: Vault>(
 ) -> Outcome
     requires { IsFresh (V.state vault.old) }
     ensures { IsModelled (B.state bus.old) → IsCalm (B.state bus.old)
-        → HasKept request.now image.old (B.state bus.old) (B.state bus.new)
+        → HasKeptChange request.now image.old (B.state bus.old) (B.state bus.new)
         (V.state vault.old) (V.state vault.new) result }
 {
     let report = session(bus, vault, image, request)?;

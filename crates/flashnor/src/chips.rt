@@ -4,10 +4,10 @@ ghost use Rattle.std.specs.Prelude.{unwrap_or, vec_len};
 ghost use Rattle.nor_chip.specs.Chip.{Chip};
 ghost use Rattle.nor_chip.specs.Start.{AreBytesOf, status_of};
 ghost use Rattle.nor_chip.specs.Sim.{fill_of, pace_of};
-ghost use Rattle.flashnor.specs.Chips.{ArePutBack, FailsToOpen, Holds, IsConfigWith, IsContentOf, Opens};
-ghost use Rattle.flashnor.specs.Events.{AreOfFile, IsFound, IsPutBack};
-ghost use Rattle.flashnor.specs.Files.{IsOpening};
-ghost use Rattle.flashnor.specs.Found.{part_of};
+ghost use Rattle.flashnor.specs.Chips.{ArePutBack, FailsToOpen, HoldsFiles, IsConfigWith, IsContentOf, OpensChip};
+ghost use Rattle.flashnor.specs.Events.{AreOfFile, IsFileFound, IsPutBack};
+ghost use Rattle.flashnor.specs.Files.{IsOpeningFault};
+ghost use Rattle.flashnor.specs.Found.{emulated_part};
 ghost use Rattle.flashnor.specs.declared.chips.Content.{Content};
 ghost use Rattle.flashnor.specs.WrittenOver.{AreOver, IsCutOff};
 
@@ -27,7 +27,7 @@ pub struct Content {
 
 /// Reads the chip's files: FFh and clear status bytes where none is named or there.
 pub fn read_content<'a, R: Store>(rt: &R, programmer: &Programmer<'a>) -> Result<Content, Fault<'a>>
-    ensures len { IfOk result (λ content. vec_len content.bytes ≡ (part_of programmer.now.chip).size) }
+    ensures len { IfOk result (λ content. vec_len content.bytes ≡ (emulated_part programmer.now.chip).size) }
     ensures ok { IfOk result (IsContentOf (R.happened rt.now) programmer.now) }
     ensures err { IfErr result (FailsToOpen (R.happened rt.now) programmer.now) }
 {
@@ -38,8 +38,8 @@ pub fn read_content<'a, R: Store>(rt: &R, programmer: &Programmer<'a>) -> Result
 
 // The chip's bytes.
 fn read_image<'a, R: Store>(rt: &R, programmer: &Programmer<'a>) -> Result<Vec<u8>, Fault<'a>>
-    ensures len { IfOk result (λ bytes. vec_len bytes ≡ (part_of programmer.now.chip).size) }
-    ensures ok { let size = (part_of programmer.now.chip).size in
+    ensures len { IfOk result (λ bytes. vec_len bytes ≡ (emulated_part programmer.now.chip).size) }
+    ensures ok { let size = (emulated_part programmer.now.chip).size in
         IfOk result (λ bytes. AreOfFile (R.happened rt.now) programmer.now.image size
         (replicate size 255) bytes.items) }
     ensures err { IfErr result (FailsToOpen (R.happened rt.now) programmer.now) }
@@ -70,10 +70,10 @@ fn read_whole<'a, R: Store>(
     len: u32,
 ) -> Result<Option<Vec<u8>>, Fault<'a>>
     ensures len { IfOk result (λ found. IfSome found (λ bytes. vec_len bytes ≡ len)) }
-    ensures ok { IfOk result (λ found. IsFound (R.happened rt.now) name.entry len
+    ensures ok { IfOk result (λ found. IsFileFound (R.happened rt.now) name.entry len
         (option_map (λ bytes. bytes.items) found)) }
     ensures err { IfErr result (λ fault.
-        IsSomeAnd name.entry (λ given. IsOpening (R.happened rt.now) given.now len fault)) }
+        IsSomeAnd name.entry (λ given. IsOpeningFault (R.happened rt.now) given.now len fault)) }
 {
     let Some(name) = name else {
         return Ok(None);
@@ -110,8 +110,8 @@ pub fn erased(alloc: Global, size: u32) -> Result<Vec<u8>, AllocError>
 /// answering BUSY to as many polls after each operation. A stop loses the power where the programmer says what that
 /// leaves.
 pub fn start(programmer: &Programmer<'_>, content: Content) -> SimBus
-    requires { vec_len content.bytes ≡ (part_of programmer.now.chip).size }
-    ensures opens { Opens programmer.now content (⟦<SimBus as Bus>⟧.state result) }
+    requires { vec_len content.bytes ≡ (emulated_part programmer.now.chip).size }
+    ensures opens { OpensChip programmer.now content (⟦<SimBus as Bus>⟧.state result) }
     ensures pace { pace_of result ≡ unwrap_or programmer.now.busy 0 }
     ensures fill { fill_of result ≡ programmer.now.power }
 {
@@ -123,8 +123,8 @@ pub fn start(programmer: &Programmer<'_>, content: Content) -> SimBus
 
 // A bus to the programmer's chip with this content, which keeps its power and lets nothing through yet.
 fn hold(programmer: &Programmer<'_>, content: Content) -> SimBus
-    requires { vec_len content.bytes ≡ (part_of programmer.now.chip).size }
-    ensures held { Holds programmer.now content (⟦<SimBus as Bus>⟧.state result) }
+    requires { vec_len content.bytes ≡ (emulated_part programmer.now.chip).size }
+    ensures held { HoldsFiles programmer.now content (⟦<SimBus as Bus>⟧.state result) }
     ensures pace { pace_of result ≡ unwrap_or programmer.now.busy 0 }
 {
     let config = config_of(programmer);

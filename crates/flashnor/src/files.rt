@@ -5,7 +5,7 @@ ghost use Rattle.std.specs.declared.io.ErrorKind.TheVariants as Kinds;
 ghost use Rattle.nor_journal.specs.Vault.{IsFresh};
 ghost use Rattle.flashnor.specs.Events.{IsRead};
 ghost use Rattle.flashnor.specs.Events.FileEvent.{Emptied, Made};
-ghost use Rattle.flashnor.specs.Files.{IsReading, IsMaking, IsMakingNew, IsLogging, IsUnread};
+ghost use Rattle.flashnor.specs.Files.{IsReadingFault, IsMaking, IsMakingNew, IsLogging, IsUnreadFault};
 ghost use Rattle.flashnor.specs.declared.messages.Fault.TheVariants as Faults;
 ghost use Rattle.flashnor.specs.declared.messages.FileFault.TheVariants as FileFaults;
 ghost use Rattle.nor_save.specs.declared.refusal.Refusal.TheVariants as Refusals;
@@ -34,7 +34,7 @@ pub const MOST_LAYOUT_BYTES: u64 = 16_777_216;
 #[tactic(auto, using(crate::proofs::Unread::unread_reading))]
 pub fn read_file<'a, R: Store>(rt: &R, name: &'a str, most: u64) -> Result<Vec<u8>, Fault<'a>>
     ensures ok { IfOk result (λ bytes. IsRead (R.happened rt.now) name.now most bytes.items) }
-    ensures err { IfErr result (IsReading (R.happened rt.now) name.now most) }
+    ensures err { IfErr result (IsReadingFault (R.happened rt.now) name.now most) }
 {
     match rt.read_named(name, most) {
         Ok(Some(bytes)) => Ok(bytes),
@@ -63,7 +63,7 @@ where
 
 /// The fault of a file that can't be opened or read.
 pub fn reading(error: io::Error, name: &str) -> Fault<'_>
-    ensures file { IsUnread name.now result }
+    ensures file { IsUnreadFault name.now result }
     ensures memory { result ≡ Faults.Refused Refusals.Memory ↔ error_kind error ≡ Kinds.OutOfMemory }
 {
     match error.kind() {

@@ -1,13 +1,13 @@
 //! Jobs that leave a chip as it is.
 ghost use Rattle.std.specs.Prelude.{◌≡◌, ◌⊎◌, IfOk, IfErr, MatchResult, true};
 ghost use Rattle.nor_driver.specs.Looks.{Looks};
-ghost use Rattle.nor_probe.specs.Found.{Finds, IsWanted};
+ghost use Rattle.nor_probe.specs.Found.{Finds, IsWanted, most_probe};
 ghost use Rattle.nor_words.specs.declared.programmer.Programmer.{Programmer};
 ghost use Rattle.flashnor.specs.Changes.{ProbeRefuses};
 ghost use Rattle.flashnor.specs.Chips.{IsReady};
-ghost use Rattle.flashnor.specs.Files.{IsMaking, IsReading};
-ghost use Rattle.flashnor.specs.Found.{IsFound, wanted};
-ghost use Rattle.flashnor.specs.Readings.{FindRefuses, HasFound, HasTold, ListsRanges, TellsFound, TellsGuarded, TellsSize};
+ghost use Rattle.flashnor.specs.Files.{IsMaking, IsReadingFault};
+ghost use Rattle.flashnor.specs.Found.{IsEmulatedFound, wanted_name};
+ghost use Rattle.flashnor.specs.Readings.{FindRefuses, HasProbed, HasTold, ListsRanges, TellsFound, TellsGuarded, TellsSize};
 ghost use Rattle.flashnor.specs.Requests.{FailsToInclude};
 ghost use Rattle.flashnor.specs.Run.{DoesRead, DoesVerify};
 
@@ -25,7 +25,7 @@ use nor_words::Regions;
 /// Finds the chip.
 pub fn find_chip<B: Bus>(bus: &mut B, named: Option<&str>) -> Outcome
     ensures { (programmer : Programmer) → IsReady programmer (B.state bus.old)
-        → HasFound (TellsFound programmer named.entry) programmer named.entry
+        → HasProbed (TellsFound programmer named.entry) programmer named.entry
         (B.state bus.old) (B.state bus.new) result }
 {
     let found = find(bus, named)?;
@@ -35,7 +35,7 @@ pub fn find_chip<B: Bus>(bus: &mut B, named: Option<&str>) -> Outcome
 /// Tells the chip's size.
 pub fn tell_size<B: Bus>(bus: &mut B, named: Option<&str>) -> Outcome
     ensures { (programmer : Programmer) → IsReady programmer (B.state bus.old)
-        → HasFound (TellsSize programmer named.entry) programmer named.entry
+        → HasProbed (TellsSize programmer named.entry) programmer named.entry
         (B.state bus.old) (B.state bus.new) result }
 {
     let found = find(bus, named)?;
@@ -45,13 +45,13 @@ pub fn tell_size<B: Bus>(bus: &mut B, named: Option<&str>) -> Outcome
 /// The chip, which must have the name that is given, if one is.
 #[tactic(auto, using(crate::proofs::Ready::finds_ready))]
 pub fn find<B: Bus>(bus: &mut B, named: Option<&str>) -> Result<Found, Refusal>
-    ensures looks { Looks 65540 (B.state bus.old) (B.state bus.new) }
-    ensures wanted { IfOk result (λ found. IsWanted (wanted named.entry) found.name) }
+    ensures looks { Looks most_probe (B.state bus.old) (B.state bus.new) }
+    ensures wanted_name { IfOk result (λ found. IsWanted (wanted_name named.entry) found.name) }
     ensures finds { (B.state bus.old).honest ≡ true → IfOk result (Finds (B.state bus.old) (B.state bus.new)) }
     ensures refuses { (B.state bus.old).honest ≡ true
         → IfErr result (ProbeRefuses named.entry (B.state bus.old) (B.state bus.new)) }
     ensures found { (programmer : Programmer) → IsReady programmer (B.state bus.old)
-        → MatchResult result (IsFound named.entry programmer.chip) (FindRefuses programmer named.entry) }
+        → MatchResult result (IsEmulatedFound named.entry programmer.chip) (FindRefuses programmer named.entry) }
 {
     match probe(bus, read_name(named)) {
         Ok(found) => Ok(found),
@@ -107,7 +107,7 @@ pub fn verify_chip<'a, R: Store, B: Bus>(
     ensures ok { IfOk result
         (DoesVerify (R.happened rt.now) named.entry file.now regions.entry (B.state bus.old) (B.state bus.new)) }
     ensures err { IfErr result (λ fault. FailsToInclude (R.happened rt.now) regions.entry fault
-        ⊎ IsReading (R.happened rt.now) file.now 16777217 fault) }
+        ⊎ IsReadingFault (R.happened rt.now) file.now 16777217 fault) }
 {
     let included = read_included(rt, regions)?;
     let image = read_file(rt, file, MOST_IMAGE_BYTES)?;

@@ -1,6 +1,6 @@
 //! What is asked of a chip, in the words of the calls that work on it.
 ghost use Rattle.std.specs.Prelude.{◌≡◌, IfOk, IfErr, option_copied};
-ghost use Rattle.flashnor.specs.Found.{wanted};
+ghost use Rattle.flashnor.specs.Found.{wanted_name};
 ghost use Rattle.flashnor.specs.Requests.{AreIncluded, AreRangesOf, FailsToInclude, request_for, what_of};
 
 use crate::files::{MOST_LAYOUT_BYTES, read_file};
@@ -14,7 +14,7 @@ use std::alloc::Global;
 
 /// The chip's name that the text says, if there is one.
 pub fn read_name(named: Option<&str>) -> Option<ChipName>
-    ensures { result ≡ wanted named.entry }
+    ensures { result ≡ wanted_name named.entry }
 {
     named.map(ChipName::of)
 }

@@ -1,10 +1,10 @@
 //! A run of the program.
 ghost use Rattle.std.specs.Prelude.{◌≡◌, ◌≤◌, ◌⊎◌, IfOk, IfErr, IsSomeAnd, OnSome, map, string_bytes};
-ghost use Rattle.flashnor.specs.Chips.{IsReady, Opens};
+ghost use Rattle.flashnor.specs.Chips.{IsReady, OpensChip};
 ghost use Rattle.flashnor.specs.Files.{IsLogging};
 ghost use Rattle.flashnor.specs.Events.{unseen};
 ghost use Rattle.flashnor.specs.Endings.{EndsWith, IsUnread, all_written};
-ghost use Rattle.flashnor.specs.Run.{AreLeft, Does, EndsJob, FailsBefore, FailsJob, IsAnswer, IsStatus, IsToldAs, changes_chip};
+ghost use Rattle.flashnor.specs.Run.{AreLeft, DoesJob, EndsJob, FailsBefore, FailsJob, AnswersWords, IsStatus, IsToldAs, changes_chip};
 
 use crate::answers::{Answer, Outcome};
 use crate::changes::{change_chip, restore_chip};
@@ -96,7 +96,7 @@ impl<'a> Ended<'a> {
 
 // Does what the words ask for.
 fn run<'a, R: Store>(rt: &R, words: &'a [String]) -> Ended<'a>
-    ensures { IsAnswer (R.happened rt.now) (map string_bytes words.now) result.answer result.unwritten }
+    ensures { AnswersWords (R.happened rt.now) (map string_bytes words.now) result.answer result.unwritten }
 {
     match request_of(rt.alloc(), words) {
         Ok(Job::List) => Ended::before(Ok(Answer::Chips)),
@@ -172,7 +172,7 @@ fn call_on<'a, R: Store>(
     job: &ChipJob<'a>,
 ) -> Result<Called<'a>, Fault<'a>>
     ensures ok { let old = ⟦<SimBus as Bus>⟧.state bus in IsReady job.now.programmer old
-        → IfOk result (λ called. Does (R.happened rt.now) job.now.programmer job.now.named job.now.task old
+        → IfOk result (λ called. DoesJob (R.happened rt.now) job.now.programmer job.now.named job.now.task old
         (⟦<SimBus as Bus>⟧.state called.bus) called.outcome) }
     ensures lost { IfOk result (λ called. OnSome called.lost (called.lost ≡ job.now.programmer.trace)) }
     ensures err { IfErr result (λ fault.
@@ -205,7 +205,7 @@ fn do_task<'a, R: Store, B: Meter>(
     job: &ChipJob<'a>,
 ) -> Result<Outcome, Fault<'a>>
     ensures ok { IsReady job.now.programmer (B.state bus.old)
-        → IfOk result (Does (R.happened rt.now) job.now.programmer job.now.named job.now.task
+        → IfOk result (DoesJob (R.happened rt.now) job.now.programmer job.now.named job.now.task
         (B.state bus.old) (B.state bus.new)) }
     ensures err { IfErr result (FailsBefore (R.happened rt.now) job.now.task) }
 {

@@ -4,6 +4,7 @@ use Rattle.std.specs.Prelude.{◌&&◌, if◌then◌else◌}
 use Rattle.nor_chip.specs.Bus.{BusState}
 use Rattle.nor_driver.specs.declared.waits.Halt.{Halt}
 use Rattle.nor_driver.specs.StatusWrites.{KeepsFixed}
+use Rattle.nor_driver.specs.Operations.{most_operation}
 use Rattle.nor_apply.specs.declared.changes.Changes.{Changes}
 use Rattle.nor_apply.specs.declared.changes.Work.{Work}
 use Rattle.nor_apply.specs.declared.tally.Tally.{Tally}
@@ -15,7 +16,7 @@ use Rattle.nor_apply.specs.Change.{MayChange, HasChanged, blank, none}
 use Rattle.nor_apply.specs.Spending.{Spends, HaltsBelow}
 use Rattle.nor_apply.specs.Protecting.{LeavesCode, DoesCode}
 use Rattle.nor_apply.specs.Erasing.{LeavesErases, DoesErases}
-use Rattle.nor_apply.specs.Programming.{LeavesPrograms, DoesPrograms}
+use Rattle.nor_apply.specs.Programming.{LeavesPrograms, DoesPrograms, most_sector}
 use Rattle.nor_apply.specs.Applying.{touched_in, raised_in, writes_code, most_applied, CanApply, LeavesApply, DoesApply}
 use Rattle.nor_apply.proofs.Kept.{fixed_refl, writable_same}
 use Rattle.nor_apply.proofs.Counting.{count_below-same, count_below-most, any_below-same}
@@ -41,7 +42,7 @@ count_below-fewer (suc n) p q wider =
 pub raised_few : (changes : Changes) → ((s : ℕ) → raised_in changes s ≡ true → touched_in changes s ≡ true) → sector_count (raised_in changes) ≤ sector_count (touched_in changes)
 raised_few changes inside = count_below-fewer 4096 (raised_in changes) (touched_in changes) inside
 
-pub write_most : (b : Bool) → (if b then 65538 else 0) ≤ 65538
+pub write_most : (b : Bool) → (if b then most_operation else 0) ≤ most_operation
 write_most true = omega arith
 write_most false = omega arith
 
@@ -111,21 +112,21 @@ pub third_done : (changes : Changes) (wanted : ℕ → ℕ) (old free mid new : 
     → ThirdDone changes wanted old free mid new sent erased programmed
 third_done changes wanted old free mid new sent erased programmed second leaves does = record { second = second; leaves = leaves; does = does }
 
-first_spends : (changes : Changes) (old new : BusState) → LeavesCode changes.status 0 changes.unlock old new → Spends 65538 old new
-first_spends changes old new leaves = spends_more (if changes.unlock then 65538 else 0) 65538 old new (write_most changes.unlock) leaves.spends
+first_spends : (changes : Changes) (old new : BusState) → LeavesCode changes.status 0 changes.unlock old new → Spends most_operation old new
+first_spends changes old new leaves = spends_more (if changes.unlock then most_operation else 0) most_operation old new (write_most changes.unlock) leaves.spends
 
 second_spends : (changes : Changes) (old mid new : BusState) (sent : ℕ) → FirstDone changes old mid sent → LeavesErases (raised_in changes) changes.kinds changes.size mid new
-    → Spends (65538 + 65538 * sector_count (touched_in changes)) old new
+    → Spends (most_operation + most_operation * sector_count (touched_in changes)) old new
 second_spends changes old mid new sent first leaves =
     let few = raised_few changes first.inside in
-    spends_more (65538 + 65538 * sector_count (raised_in changes)) (65538 + 65538 * sector_count (touched_in changes)) old new (omega (arith, few))
-    (spends_then 65538 (65538 * sector_count (raised_in changes)) old mid new (first_spends changes old mid first.leaves) leaves.spends)
+    spends_more (most_operation + most_operation * sector_count (raised_in changes)) (most_operation + most_operation * sector_count (touched_in changes)) old new (omega (arith, few))
+    (spends_then most_operation (most_operation * sector_count (raised_in changes)) old mid new (first_spends changes old mid first.leaves) leaves.spends)
 
 third_spends : (changes : Changes) (wanted : ℕ → ℕ) (old free mid new : BusState) (sent : ℕ) (erased : Tally) → SecondDone changes old free mid sent erased
     → LeavesPrograms (touched_in changes) (raised_in changes) wanted mid new
-    → Spends (65538 + 65538 * sector_count (touched_in changes) + 1048609 * sector_count (touched_in changes)) old new
+    → Spends (most_operation + most_operation * sector_count (touched_in changes) + most_sector * sector_count (touched_in changes)) old new
 third_spends changes wanted old free mid new sent erased second leaves =
-    spends_then (65538 + 65538 * sector_count (touched_in changes)) (1048609 * sector_count (touched_in changes)) old mid new
+    spends_then (most_operation + most_operation * sector_count (touched_in changes)) (most_sector * sector_count (touched_in changes)) old mid new
     (second_spends changes old free mid sent second.first second.leaves) leaves.spends
 
 -- ---- changes
@@ -203,14 +204,14 @@ fourth_change changes wanted needed old free mid made new sent erased programmed
 
 pub leaves_first : (changes : Changes) (wanted : ℕ → ℕ) (old new : BusState) → LeavesCode changes.status 0 changes.unlock old new → LeavesApply changes wanted old new
 leaves_first changes wanted old new leaves = record {
-  spends = spends_more 65538 (most_applied (sector_count (touched_in changes))) old new (omega arith) (first_spends changes old new leaves);
+  spends = spends_more most_operation (most_applied (sector_count (touched_in changes))) old new (omega arith) (first_spends changes old new leaves);
   reached = first_change changes wanted old new leaves;
 }
 
 pub leaves_second : (changes : Changes) (wanted : ℕ → ℕ) (old mid new : BusState) (sent : ℕ) → FirstDone changes old mid sent
     → LeavesErases (raised_in changes) changes.kinds changes.size mid new → LeavesApply changes wanted old new
 leaves_second changes wanted old mid new sent first leaves = record {
-  spends = spends_more (65538 + 65538 * sector_count (touched_in changes)) (most_applied (sector_count (touched_in changes))) old new (omega arith)
+  spends = spends_more (most_operation + most_operation * sector_count (touched_in changes)) (most_applied (sector_count (touched_in changes))) old new (omega arith)
       (second_spends changes old mid new sent first leaves);
   reached = second_change changes wanted old mid new sent first leaves;
 }
@@ -218,7 +219,7 @@ leaves_second changes wanted old mid new sent first leaves = record {
 pub leaves_third : (changes : Changes) (wanted : ℕ → ℕ) (old free mid new : BusState) (sent : ℕ) (erased : Tally) → SecondDone changes old free mid sent erased
     → LeavesPrograms (touched_in changes) (raised_in changes) wanted mid new → LeavesApply changes wanted old new
 leaves_third changes wanted old free mid new sent erased second leaves = record {
-  spends = spends_more (65538 + 65538 * sector_count (touched_in changes) + 1048609 * sector_count (touched_in changes)) (most_applied (sector_count (touched_in changes))) old new (omega arith)
+  spends = spends_more (most_operation + most_operation * sector_count (touched_in changes) + most_sector * sector_count (touched_in changes)) (most_applied (sector_count (touched_in changes))) old new (omega arith)
       (third_spends changes wanted old free mid new sent erased second leaves);
   reached = third_change changes wanted old free mid new sent erased second leaves;
 }
@@ -226,40 +227,40 @@ leaves_third changes wanted old free mid new sent erased second leaves = record 
 pub leaves_fourth : (changes : Changes) (wanted : ℕ → ℕ) (needed : Bool) (old free mid made new : BusState) (sent : ℕ) (erased programmed : Tally) → writes_code changes ≡ needed
     → ThirdDone changes wanted old free mid made sent erased programmed → LeavesCode changes.status changes.code needed made new → LeavesApply changes wanted old new
 leaves_fourth changes wanted needed old free mid made new sent erased programmed is third leaves = record {
-  spends = spends_more (65538 + 65538 * sector_count (touched_in changes) + 1048609 * sector_count (touched_in changes) + 65538) (most_applied (sector_count (touched_in changes))) old new (omega arith)
-      (spends_then (65538 + 65538 * sector_count (touched_in changes) + 1048609 * sector_count (touched_in changes)) 65538 old made new
+  spends = spends_more (most_operation + most_operation * sector_count (touched_in changes) + most_sector * sector_count (touched_in changes) + most_operation) (most_applied (sector_count (touched_in changes))) old new (omega arith)
+      (spends_then (most_operation + most_operation * sector_count (touched_in changes) + most_sector * sector_count (touched_in changes)) most_operation old made new
       (third_spends changes wanted old free mid made sent erased third.second third.leaves)
-      (spends_more (if needed then 65538 else 0) 65538 made new (write_most needed) leaves.spends));
+      (spends_more (if needed then most_operation else 0) most_operation made new (write_most needed) leaves.spends));
   reached = fourth_change changes wanted needed old free mid made new sent erased programmed is third leaves;
 }
 
-pub halts_first : (changes : Changes) (old new : BusState) (halt : Halt) → HaltsBelow 65538 old new halt → HaltsBelow (most_applied (sector_count (touched_in changes))) old new halt
-halts_first changes old new halt halts = halts_more 65538 (most_applied (sector_count (touched_in changes))) old new halt (omega arith) halts
+pub halts_first : (changes : Changes) (old new : BusState) (halt : Halt) → HaltsBelow most_operation old new halt → HaltsBelow (most_applied (sector_count (touched_in changes))) old new halt
+halts_first changes old new halt halts = halts_more most_operation (most_applied (sector_count (touched_in changes))) old new halt (omega arith) halts
 
 pub halts_second : (changes : Changes) (old mid new : BusState) (sent : ℕ) (halt : Halt) → FirstDone changes old mid sent
-    → HaltsBelow (65538 * sector_count (raised_in changes)) mid new halt → HaltsBelow (most_applied (sector_count (touched_in changes))) old new halt
+    → HaltsBelow (most_operation * sector_count (raised_in changes)) mid new halt → HaltsBelow (most_applied (sector_count (touched_in changes))) old new halt
 halts_second changes old mid new sent halt first halts =
     let few = raised_few changes first.inside in
-    halts_more (65538 + 65538 * sector_count (raised_in changes)) (most_applied (sector_count (touched_in changes))) old new halt (omega (arith, few))
-    (halts_then 65538 (65538 * sector_count (raised_in changes)) old mid new halt (first_spends changes old mid first.leaves) halts)
+    halts_more (most_operation + most_operation * sector_count (raised_in changes)) (most_applied (sector_count (touched_in changes))) old new halt (omega (arith, few))
+    (halts_then most_operation (most_operation * sector_count (raised_in changes)) old mid new halt (first_spends changes old mid first.leaves) halts)
 
 pub halts_third : (changes : Changes) (old free mid new : BusState) (sent : ℕ) (erased : Tally) (halt : Halt) → SecondDone changes old free mid sent erased
-    → HaltsBelow (1048609 * sector_count (touched_in changes)) mid new halt → HaltsBelow (most_applied (sector_count (touched_in changes))) old new halt
+    → HaltsBelow (most_sector * sector_count (touched_in changes)) mid new halt → HaltsBelow (most_applied (sector_count (touched_in changes))) old new halt
 halts_third changes old free mid new sent erased halt second halts =
-    halts_more (65538 + 65538 * sector_count (touched_in changes) + 1048609 * sector_count (touched_in changes)) (most_applied (sector_count (touched_in changes))) old new halt (omega arith)
-    (halts_then (65538 + 65538 * sector_count (touched_in changes)) (1048609 * sector_count (touched_in changes)) old mid new halt
+    halts_more (most_operation + most_operation * sector_count (touched_in changes) + most_sector * sector_count (touched_in changes)) (most_applied (sector_count (touched_in changes))) old new halt (omega arith)
+    (halts_then (most_operation + most_operation * sector_count (touched_in changes)) (most_sector * sector_count (touched_in changes)) old mid new halt
     (second_spends changes old free mid sent second.first second.leaves) halts)
 
 pub halts_fourth : (changes : Changes) (wanted : ℕ → ℕ) (old free mid made new : BusState) (sent : ℕ) (erased programmed : Tally) (halt : Halt)
-    → ThirdDone changes wanted old free mid made sent erased programmed → HaltsBelow 65538 made new halt → HaltsBelow (most_applied (sector_count (touched_in changes))) old new halt
+    → ThirdDone changes wanted old free mid made sent erased programmed → HaltsBelow most_operation made new halt → HaltsBelow (most_applied (sector_count (touched_in changes))) old new halt
 halts_fourth changes wanted old free mid made new sent erased programmed halt third halts =
-    halts_more (65538 + 65538 * sector_count (touched_in changes) + 1048609 * sector_count (touched_in changes) + 65538) (most_applied (sector_count (touched_in changes))) old new halt (omega arith)
-    (halts_then (65538 + 65538 * sector_count (touched_in changes) + 1048609 * sector_count (touched_in changes)) 65538 old made new halt
+    halts_more (most_operation + most_operation * sector_count (touched_in changes) + most_sector * sector_count (touched_in changes) + most_operation) (most_applied (sector_count (touched_in changes))) old new halt (omega arith)
+    (halts_then (most_operation + most_operation * sector_count (touched_in changes) + most_sector * sector_count (touched_in changes)) most_operation old made new halt
     (third_spends changes wanted old free mid made sent erased third.second third.leaves) halts)
 
 -- ---- the end
 
-cost : (b : Bool) (n : ℕ) → n ≤ (if b then 65538 else 0) → n ≤ 65538 * (if b then 1 else 0)
+cost : (b : Bool) (n : ℕ) → n ≤ (if b then most_operation else 0) → n ≤ most_operation * (if b then 1 else 0)
 cost true n few = omega (arith, few)
 cost false n few = omega (arith, few)
 
@@ -267,8 +268,8 @@ least_cost : (b : Bool) (n : ℕ) → (if b then 3 else 0) ≤ n → 3 * (if b t
 least_cost true n least = omega (arith, least)
 least_cost false n least = omega (arith, least)
 
-few_of : (lifts erases programs writes all sent erased programmed last touched : ℕ) → sent ≤ 65538 * lifts → erased ≤ 0 + 65538 * erases
-    → programmed ≤ touched + 65538 * programs → last ≤ 65538 * writes → all ≡ sent + erased + programmed + last → all ≤ touched + 65538 * (erases + programs + (lifts + writes))
+few_of : (lifts erases programs writes all sent erased programmed last touched : ℕ) → sent ≤ most_operation * lifts → erased ≤ 0 + most_operation * erases
+    → programmed ≤ touched + most_operation * programs → last ≤ most_operation * writes → all ≡ sent + erased + programmed + last → all ≤ touched + most_operation * (erases + programs + (lifts + writes))
 few_of lifts erases programs writes all sent erased programmed last touched one two three four sum = omega (arith, one, two, three, four, sum)
 
 least_of : (lifts erases programs writes all sent erased programmed last : ℕ) → 3 * lifts ≤ sent → 3 * erases ≤ erased
@@ -298,7 +299,7 @@ does_applied changes wanted needed old free mid made new sent erased programmed 
     let second = third.second in let first = second.first in
     let before = second_spends changes old free mid sent first second.leaves in
     let after = third_spends changes wanted old free mid made sent erased second third.leaves in
-    let More : Bool → Type 0 = λ b. last ≤ 65538 * (if b then 1 else 0) in
+    let More : Bool → Type 0 = λ b. last ≤ most_operation * (if b then 1 else 0) in
     let Less : Bool → Type 0 = λ b. 3 * (if b then 1 else 0) ≤ last in
     let fewer_erased = second.does.fewer in let fewer_programmed = third.does.fewer in
     let few_erased = second.does.tallies.few in let few_programmed = third.does.tallies.few in

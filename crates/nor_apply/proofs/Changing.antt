@@ -4,9 +4,9 @@ use Rattle.std.specs.Prelude.{Bool, ◌||◌, if◌then◌else◌}
 use Rattle.nor_chip.specs.declared.running.Running.{Running}
 use Rattle.nor_chip.specs.declared.running.Running.TheVariants.{StatusWrite}
 use Rattle.nor_chip.specs.Chip.{Chip, IsSame}
-use Rattle.nor_chip.specs.Power.{is_known, is_in_work}
+use Rattle.nor_chip.specs.Power.{is_known_running, is_in_work}
 use Rattle.nor_chip.specs.Bus.{BusState}
-use Rattle.nor_driver.specs.Looks.{Looked}
+use Rattle.nor_driver.specs.Looks.{LooksHonest}
 use Rattle.nor_driver.specs.StatusWrites.{KeepsFixed, MayWriteStatus}
 use Rattle.nor_apply.specs.Within.{is_writable, WorksIn, IsWithin, places_of}
 use Rattle.nor_apply.specs.Change.{MayChange, HasChanged}
@@ -88,7 +88,7 @@ same_within p first state same idle = record {
 -- ---- changes
 
 -- readings of an idle chip are no change, wherever they end
-pub looks_change : (t r : ℕ → Bool) (w : ℕ → ℕ) (most : ℕ) (old new : BusState) → old.chip.busy ≡ 0 → Looked most old new → MayChange t r w old new
+pub looks_change : (t r : ℕ → Bool) (w : ℕ → ℕ) (most : ℕ) (old new : BusState) → old.chip.busy ≡ 0 → LooksHonest most old new → MayChange t r w old new
 looks_change t r w most old new idle looked =
     let same = looked.stays.calm (inr idle) in
     let still : new.chip.busy ≡ 0 = let less = looked.stays.busy in omega (arith, less, idle) in
@@ -175,7 +175,7 @@ status_change t r w code old new writable wrote = record {
     runs = λ loses works.
         let is = wrote.runs works in
         record {
-          known = ap is_known is;
+          known = ap is_known_running is;
           inside = λ a in_work. absurd (true≢false (sym in_work ∙ ap (λ (r : Running). is_in_work r a) is));
           status = λ one two runs.
               let same = sym is ∙ runs in

@@ -6,7 +6,7 @@ use Rattle.nor_chip.specs.declared.running.Running.TheVariants.{Program, Erase, 
 use Rattle.nor_chip.specs.Chip.{Chip, IsSame}
 use Rattle.nor_chip.specs.Power.{is_in_work, KeptStay, KeptCut}
 use Rattle.nor_chip.specs.Bus.{BusState}
-use Rattle.nor_driver.specs.Looks.{IsCalm, Stays, Looked, Looks}
+use Rattle.nor_driver.specs.Looks.{IsCalm, Stays, LooksHonest, Looks}
 use Rattle.nor_driver.proofs.Cuts.{unchanged_none, unchanged_stays}
 
 -- kept bits of what was cut off already
@@ -74,7 +74,7 @@ stays_then old mid new steady first second = elim (cases_eq mid.chip.busy 0) [
   | inr busy ↦ stays_busy old mid new steady busy first second
 ]
 
-pub looked_then : (m n : ℕ) (old mid new : BusState) → mid.steady ≡ old.steady → Looked m old mid → Looked n mid new → Looked (m + n) old new
+pub looked_then : (m n : ℕ) (old mid new : BusState) → mid.steady ≡ old.steady → LooksHonest m old mid → LooksHonest n mid new → LooksHonest (m + n) old new
 looked_then m n old mid new steady first second = record {
   stays = stays_then old mid new steady first.stays second.stays;
   latch = λ set. first.latch (second.latch set);
@@ -96,7 +96,7 @@ looks_then m n old mid new first second = record {
 }
 
 -- no reading
-pub looked_none : (state : BusState) → Looked 0 state state
+pub looked_none : (state : BusState) → LooksHonest 0 state state
 looked_none state = record {
   stays = unchanged_stays state state (unchanged_none state);
   latch = λ set. set;

@@ -4,7 +4,7 @@ use Rattle.std.proofs.lemmas.Bool.{cases_eq}
 use Rattle.std.specs.Prelude.{if◌then◌else◌}
 use Rattle.nor_chip.specs.declared.config.Config.{Config}
 use Rattle.nor_chip.specs.Bus.{BusState}
-use Rattle.nor_driver.specs.Looks.{Rested, Looks, RanOut, RunsOut}
+use Rattle.nor_driver.specs.Looks.{Rested, Looks, RanOut, RanOutIfHonest}
 use Rattle.nor_driver.specs.Reads.{IsSectorOf, ReadsSector}
 use Rattle.nor_plan.specs.Bytes.{AllAgree, IsFirstDifference}
 use Rattle.nor_layout.specs.Below.{count_below}
@@ -65,7 +65,7 @@ differs sector first wanted bytes old new long reads difference = λ honest can.
           read_at sector old.chip.bytes bytes a shown here ∙ difference.before (a - 4096 * sector) (omega arith);
     }
 
-pub stops : (sector : ℕ) (wanted : List ℕ) (old new : BusState) → sector < 4096 → RunsOut 1 old new → CheckTells (only sector) (byte_of sector wanted) old new Stopped
+pub stops : (sector : ℕ) (wanted : List ℕ) (old new : BusState) → sector < 4096 → RanOutIfHonest 1 old new → CheckTells (only sector) (byte_of sector wanted) old new Stopped
 stops sector wanted old new below out = λ honest. subst (λ (n : ℕ). RanOut n old new) (sym (sector_count-only sector below)) (out honest)
 
 -- ---- sector by sector

@@ -8,6 +8,7 @@ use Rattle.nor_driver.specs.declared.units.Erase.{Erase}
 use Rattle.nor_driver.specs.declared.waits.Halt.{Halt}
 use Rattle.nor_driver.specs.Waits.{Halts}
 use Rattle.nor_driver.specs.Erases.{sectors_of, LeavesErase, Erases}
+use Rattle.nor_driver.specs.Operations.{most_operation}
 use Rattle.nor_plan.specs.Erase.{Covers}
 use Rattle.nor_plan.specs.Planned.{planned}
 use Rattle.nor_apply.specs.declared.tally.Tally.{Tally}
@@ -138,7 +139,7 @@ leaves_halted kinds size set units unit old mid new tally next so leaves =
     }
 
 pub halts_below : (kinds : Kinds) (size : ℕ) (set : ℕ → Bool) (units : List Erase) (unit : Erase) (at : ℕ) (old mid new : BusState) (tally : Tally) (halt : Halt)
-    → IsNext kinds size set units unit → ErasesSoFar kinds size set units old mid tally → Halts at 65538 mid new halt → HaltsBelow (65538 * sector_count set) old new halt
+    → IsNext kinds size set units unit → ErasesSoFar kinds size set units old mid tally → Halts at most_operation mid new halt → HaltsBelow (most_operation * sector_count set) old new halt
 halts_below kinds size set units unit at old mid new tally halt next so halts =
     let few = next.few in let count = so.count in let most = so.tallies.few in
     record {

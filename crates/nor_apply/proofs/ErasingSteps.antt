@@ -7,7 +7,7 @@ use Rattle.nor_chip.specs.declared.config.Config.{Config}
 use Rattle.nor_chip.specs.declared.running.Running.{Running}
 use Rattle.nor_chip.specs.declared.running.Running.TheVariants as Runs
 use Rattle.nor_chip.specs.Chip.{Chip}
-use Rattle.nor_chip.specs.Power.{KeptStay, is_known, is_in_work}
+use Rattle.nor_chip.specs.Power.{KeptStay, is_known_running, is_in_work}
 use Rattle.nor_chip.specs.Guard.{is_guarded, is_unit_guarded, guarded_by, code_of}
 use Rattle.nor_chip.specs.Bus.{BusState}
 use Rattle.nor_probe.specs.declared.sfdp.Kinds.{Kinds}
@@ -15,7 +15,7 @@ use Rattle.nor_driver.specs.declared.units.Erase.{Erase}
 use Rattle.nor_driver.specs.declared.units.EraseUnit.{EraseUnit}
 use Rattle.nor_driver.specs.declared.units.EraseUnit.TheVariants as Units
 use Rattle.nor_driver.specs.Units.{sectors_in, has_unit, erases_sector}
-use Rattle.nor_driver.specs.Erases.{sectors_of, is_sector_of, CanErase, MayErase, HasErased}
+use Rattle.nor_driver.specs.Erases.{sectors_of, is_sector_in_unit, CanErase, MayErase, HasErased}
 use Rattle.nor_plan.specs.Erase.{is_offered}
 use Rattle.nor_apply.specs.Within.{WorksIn, places_of}
 use Rattle.nor_apply.specs.Change.{MayChange, HasChanged, blank}
@@ -84,7 +84,7 @@ is_erase _ = false
 works_unit : (sectors : ℕ → Bool) (first : Chip) (running : Running) (from n : ℕ) → ((s : ℕ) → from ≤ s → s < from + n → sectors s ≡ true)
     → running ≡ Runs.Erase (4096 * from) (4096 * n) → WorksIn (places_of sectors) first running
 works_unit sectors first running from n inside runs = record {
-  known = ap is_known runs;
+  known = ap is_known_running runs;
   inside = λ a works.
       let parts = and_parts _ _ (ap (λ (r : Running). is_in_work r a) (sym runs) ∙ works) in
       let low : 4096 * from ≤ a = leb-true _ _ parts.0 in
@@ -96,7 +96,7 @@ works_unit sectors first running from n inside runs = record {
 pub erase_change : (kinds : Kinds) (total : ℕ) (set : ℕ → Bool) (unit : Erase) (mid new : BusState)
     → sectors_of mid.chip ≡ total → IsOfPlan kinds total set unit → MayErase unit mid new → MayChange set set blank mid new
 erase_change kinds total set unit mid new same plan may =
-    let wider : (s : ℕ) → is_sector_of unit mid.chip s ≡ true → set s ≡ true = λ s erased. plan.inside s (ap (λ (n : ℕ). erases_sector n s unit) (sym same) ∙ erased) in
+    let wider : (s : ℕ) → is_sector_in_unit unit mid.chip s ≡ true → set s ≡ true = λ s erased. plan.inside s (ap (λ (n : ℕ). erases_sector n s unit) (sym same) ∙ erased) in
     let outside : (a : ℕ) → set (a / 4096) ≡ false → new.chip.bytes a ≡ mid.chip.bytes a = λ a out. untouched _ _ _ _ _ (wider (a / 4096)) out (may.bytes a) in
     record {
       within = record {
@@ -123,13 +123,13 @@ pub erased_more : (total : ℕ) (done both : ℕ → Bool) (unit : Erase) (old m
     → sectors_of mid.chip ≡ total → ((s : ℕ) → both s ≡ (done s || erases_sector total s unit))
     → HasChanged done blank done old mid → HasErased unit mid new → new.chip.busy ≡ 0 → HasChanged both blank both old new
 erased_more total done both unit old mid new same joins has erased idle =
-    let together : (s : ℕ) → both s ≡ (done s || is_sector_of unit mid.chip s) = λ s. joins s ∙ ap (λ (n : ℕ). done s || erases_sector n s unit) (sym same) in
+    let together : (s : ℕ) → both s ≡ (done s || is_sector_in_unit unit mid.chip s) = λ s. joins s ∙ ap (λ (n : ℕ). done s || erases_sector n s unit) (sym same) in
     record {
       config = erased.config ∙ has.config;
-      bytes = λ a. more_bytes (done (a / 4096)) (is_sector_of unit mid.chip (a / 4096)) (both (a / 4096)) _ _ _ 255 (together (a / 4096)) (erased.bytes a) (has.bytes a);
+      bytes = λ a. more_bytes (done (a / 4096)) (is_sector_in_unit unit mid.chip (a / 4096)) (both (a / 4096)) _ _ _ 255 (together (a / 4096)) (erased.bytes a) (has.bytes a);
       kept = kept_then old.chip mid.chip new.chip has.kept erased.kept;
-      worn = λ s. erased.worn s ∙ ap (λ b. b || is_sector_of unit mid.chip s) (has.worn s)
-          ∙ or_assoc (old.worn s) (done s) (is_sector_of unit mid.chip s) ∙ ap (λ b. old.worn s || b) (sym (together s));
+      worn = λ s. erased.worn s ∙ ap (λ b. b || is_sector_in_unit unit mid.chip s) (has.worn s)
+          ∙ or_assoc (old.worn s) (done s) (is_sector_in_unit unit mid.chip s) ∙ ap (λ b. old.worn s || b) (sym (together s));
       idle = idle;
       latch = λ set. absurd (true≢false (sym set ∙ erased.latch));
     }

@@ -6,13 +6,14 @@ use Rattle.nor_chip.specs.Bus.{BusState}
 use Rattle.nor_driver.specs.declared.waits.Halt.{Halt}
 use Rattle.nor_driver.specs.Waits.{Halts}
 use Rattle.nor_driver.specs.Programs.{LeavesProgram, Programs}
+use Rattle.nor_driver.specs.Operations.{most_operation}
 use Rattle.nor_plan.specs.declared.page.Span.{Span}
 use Rattle.nor_plan.specs.Span.{spans_of}
 use Rattle.nor_plan.specs.SpanFacts.{IsSpan, AreSpans}
 use Rattle.nor_apply.specs.declared.tally.Tally.{Tally}
 use Rattle.nor_apply.specs.Change.{only, none, byte_of}
 use Rattle.nor_apply.specs.Spending.{HaltsBelow}
-use Rattle.nor_apply.specs.Programming.{CanProgramSpans, LeavesSpans, DoesSpans}
+use Rattle.nor_apply.specs.Programming.{CanProgramSpans, LeavesSpans, DoesSpans, most_pages}
 use Rattle.nor_apply.proofs.Changing.{has_may}
 use Rattle.nor_apply.proofs.ProgrammingPages.{spans_pages, spans_most}
 use Rattle.nor_apply.proofs.ProgrammingSpans.{HasFilled, Spanned, part, can_span, span_filled, span_may, filled_none, filled_all}
@@ -23,7 +24,7 @@ pub record SpansSoFar (sector : ℕ) (old wanted : List ℕ) (spans : List Span)
   pub steady : now.steady ≡ first.steady
   pub counted : tally.count ≡ length spans
   pub least : 3 * tally.count ≤ tally.transactions
-  pub few : tally.transactions ≤ 65538 * tally.count
+  pub few : tally.transactions ≤ most_operation * tally.count
   pub sent : first.honest ≡ true → first.left ≡ now.left + tally.transactions
   pub done : first.honest ≡ true → CanProgramSpans sector old wanted first.chip → HasFilled sector wanted spans first now
 
@@ -112,7 +113,7 @@ leaves_halted sector old wanted spans span first now new tally next before leave
 
 pub halts_below : (sector : ℕ) (old wanted : List ℕ) (spans : List Span) (span : Span) (first now new : BusState) (tally : Tally) (halt : Halt)
     → IsNext sector old wanted spans span → SpansSoFar sector old wanted spans first now tally
-    → Halts (4096 * sector + span.first) 65538 now new halt → HaltsBelow 1048608 first new halt
+    → Halts (4096 * sector + span.first) most_operation now new halt → HaltsBelow most_pages first new halt
 halts_below sector old wanted spans span first now new tally halt next before halts =
     let small = few_spans sector old wanted spans span first now tally next before in
     let few = small.1 in

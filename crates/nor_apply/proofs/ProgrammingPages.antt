@@ -3,7 +3,7 @@ use Rattle.std.proofs.Common.{◌≡◌, ◌<◌, ◌≤◌, ◌+◌, ◌-◌, �
 use Rattle.std.specs.Prelude.{◌==◌, ◌||◌, not, min, filter, if◌then◌else◌}
 use Rattle.std.specs.List.{filter_map, cons_option, range_with_len}
 use Rattle.std.proofs.Math.Bool.{or-false, or_assoc}
-use Rattle.nor_plan.specs.Span.{ends, page_span, spans_in, spans_of, pages_of}
+use Rattle.nor_plan.specs.Span.{ends, page_span, spans_in, spans_of, page_count}
 use Rattle.nor_driver.specs.Reads.{IsSectorOf}
 use Rattle.nor_layout.specs.Below.{any_below, count_below}
 use Rattle.nor_apply.specs.Content.{is_other, is_page_other}
@@ -81,7 +81,7 @@ page_some old wanted page whole below =
 pub spans_count : (old wanted : List ℕ) → length old ≡ 4096
     → length (spans_of old wanted) ≡ count_below 16 (λ page. any_below 256 (λ i. is_other (slice_index old (256 * page + i)) (slice_index wanted (256 * page + i))))
 spans_count old wanted whole =
-    let pages : pages_of old - 0 ≡ 16 = omega arith in
+    let pages : page_count old - 0 ≡ 16 = omega arith in
     ap (λ (n : ℕ). length (spans_in old wanted 0 n)) pages
     ∙ length_some (page_span old wanted) 0 16
     ∙ count_below-same 16 (λ i. is_some (page_span old wanted (0 + i))) (λ page. any_below 256 (λ i. is_other (slice_index old (256 * page + i)) (slice_index wanted (256 * page + i))))

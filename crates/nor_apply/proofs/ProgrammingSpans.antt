@@ -14,7 +14,7 @@ use Rattle.nor_chip.specs.declared.running.Running.{Running}
 use Rattle.nor_chip.specs.declared.running.Running.TheVariants as Runs
 use Rattle.nor_chip.specs.Chip.{Chip}
 use Rattle.nor_chip.specs.Guard.{guarded_by, is_guarded, code_of}
-use Rattle.nor_chip.specs.Power.{KeptStay, is_known, is_in_work}
+use Rattle.nor_chip.specs.Power.{KeptStay, is_known_running, is_in_work}
 use Rattle.nor_chip.specs.Bus.{BusState}
 use Rattle.nor_driver.specs.Programs.{CanProgram, MayProgram, HasProgrammed, programmed, is_in_page}
 use Rattle.nor_driver.specs.Reads.{IsSectorOf}
@@ -250,7 +250,7 @@ program_may sector wanted span now new small bytes may =
         runs = λ loses works.
             let is = may.runs works in
             record {
-              known = ap is_known is;
+              known = ap is_known_running is;
               inside = λ a in_work.
                   only-here sector (a / 4096) (in_page_sector sector (4096 * sector + span.first) a at_sector (sym (ap (λ (r : Running). is_in_work r a) is) ∙ in_work));
               status = λ one two runs. absurd (true≢false (sym (ap is_write runs) ∙ ap is_write is));

@@ -8,6 +8,7 @@ use Rattle.nor_chip.specs.declared.config.Config.{Config}
 use Rattle.nor_chip.specs.Bus.{BusState}
 use Rattle.nor_chip.proofs.Sizes.{sized_bounds}
 use Rattle.nor_driver.specs.declared.waits.Halt.{Halt}
+use Rattle.nor_driver.specs.Operations.{most_operation}
 use Rattle.nor_apply.specs.declared.tally.Tally.{Tally}
 use Rattle.nor_layout.specs.Below.{count_below}
 use Rattle.nor_apply.specs.Counts.{sector_count}
@@ -15,7 +16,7 @@ use Rattle.nor_apply.specs.Content.{is_page_other, is_programmed}
 use Rattle.nor_apply.specs.Within.{places_of}
 use Rattle.nor_apply.specs.Change.{MayChange, HasChanged, only, none, byte_of}
 use Rattle.nor_apply.specs.Spending.{HaltsBelow}
-use Rattle.nor_apply.specs.Programming.{CanProgramSector, LeavesSector, DoesSector, CanProgramAll, LeavesPrograms, DoesPrograms}
+use Rattle.nor_apply.specs.Programming.{CanProgramSector, LeavesSector, DoesSector, CanProgramAll, LeavesPrograms, DoesPrograms, most_sector}
 use Rattle.nor_apply.proofs.Kept.{kept_then}
 use Rattle.nor_apply.proofs.Alone.{only-is}
 use Rattle.nor_apply.proofs.Changing.{change_then, change_wider, within_wider, has_may}
@@ -62,7 +63,7 @@ pub record SectorsSoFar (touched raised : ℕ → Bool) (wanted : ℕ → ℕ) (
   pub fewer : tally.count ≤ 16 * count_below n touched
   pub still : count_below n touched ≡ 0 → now.stirred ≡ first.stirred
   pub least : 3 * tally.count ≤ tally.transactions
-  pub few : tally.transactions ≤ count_below n touched + 65538 * tally.count
+  pub few : tally.transactions ≤ count_below n touched + most_operation * tally.count
   pub sent : first.honest ≡ true → first.left ≡ now.left + tally.transactions
   pub done : first.honest ≡ true → CanProgramAll touched raised wanted first.chip → HasChanged (before touched n) wanted none first now
   pub counted : first.honest ≡ true → CanProgramAll touched raised wanted first.chip
@@ -284,7 +285,7 @@ leaves_halted touched raised wanted n bytes erased first now new tally erased_is
 
 pub halts_below : (touched raised : ℕ → Bool) (wanted : ℕ → ℕ) (n : ℕ) (bytes : List ℕ) (first now new : BusState) (tally : Tally) (halt : Halt)
     → IsTouched touched wanted n bytes → SectorsSoFar touched raised wanted n first now tally
-    → HaltsBelow 1048609 now new halt → HaltsBelow (1048609 * sector_count touched) first new halt
+    → HaltsBelow most_sector now new halt → HaltsBelow (most_sector * sector_count touched) first new halt
 halts_below touched raised wanted n bytes first now new tally halt is so_far halts =
     let fewer = so_far.fewer in let few = so_far.few in let more = room touched n is.below is.is in
     record {

@@ -1,5 +1,5 @@
 -- What the whole of the changes of a session or restore leaves: unlock, erases, programs, the status.
-use Rattle.std.specs.Prelude.{◌≡◌, ◌≤◌, ◌<◌, ◌+◌, ◌*◌, ◌/◌, ◌%◌, ◌||◌, ◌⊎◌, ◌==◌, ℕ, Bool, true, false, not, length, bit_and, if◌then◌else◌}
+use Rattle.std.specs.Prelude.{◌≡◌, ◌≤◌, ◌<◌, ◌+◌, ◌*◌, ◌/◌, ◌%◌, ◌||◌, ◌⊎◌, ◌==◌, ℕ, Bool, true, false, not, length, bit_and, if◌then◌else◌, ⊤}
 use Rattle.nor_chip.specs.Code.{code_in}
 use Rattle.nor_chip.specs.Status.{bytes_of}
 use Rattle.nor_chip.specs.Chip.{Chip}
@@ -8,6 +8,7 @@ use Rattle.nor_chip.specs.Bus.{BusState}
 use Rattle.nor_driver.specs.declared.waits.Halt.{Halt}
 use Rattle.nor_driver.specs.declared.waits.Halt.TheVariants.{Stopped, Timeout}
 use Rattle.nor_driver.specs.StatusWrites.{KeepsFixed, HasCode}
+use Rattle.nor_driver.specs.Operations.{most_operation}
 use Rattle.nor_plan.specs.Planned.{planned}
 use Rattle.nor_plan.specs.SectorSet.{has}
 use Rattle.nor_apply.specs.declared.changes.Changes.{Changes}
@@ -70,7 +71,7 @@ pub record HasApplied (changes : Changes) (wanted : ℕ → ℕ) (old new : BusS
 -- The most transactions: each touched sector is read once for its programs, it is erased once and has sixteen pages,
 -- and the status is written twice.
 abbrev pub most_applied : ℕ → ℕ
-most_applied touched = touched + 65538 * (17 * touched + 2)
+most_applied touched = touched + most_operation * (17 * touched + 2)
 
 -- At every exit.
 pub record LeavesApply (changes : Changes) (wanted : ℕ → ℕ) (old new : BusState) : Type 0 where
@@ -84,7 +85,7 @@ pub record DoesApply (changes : Changes) (wanted : ℕ → ℕ) (old new : BusSt
   pub fewer_erases : work.erases ≤ sector_count (raised_in changes)
   pub fewer_programs : work.programs ≤ 16 * sector_count (touched_in changes)
   pub few : work.transactions
-      ≤ sector_count (touched_in changes) + 65538 * (work.erases + work.programs + status_writes changes)
+      ≤ sector_count (touched_in changes) + most_operation * (work.erases + work.programs + status_writes changes)
   pub least : 3 * (work.erases + work.programs + status_writes changes) ≤ work.transactions
   pub sent : old.honest ≡ true → old.left ≡ new.left + work.transactions
   pub still : sector_count (touched_in changes) + status_writes changes ≡ 0 → new.stirred ≡ old.stirred
@@ -95,6 +96,6 @@ pub record DoesApply (changes : Changes) (wanted : ℕ → ℕ) (old new : BusSt
 
 -- whatever the bus, a timeout names 0, where the status is written, or an address in a touched sector
 abbrev pub NamesChange : Changes → Halt → Type 0
-NamesChange changes Stopped = Unit {0}
+NamesChange changes Stopped = ⊤
 NamesChange changes (Timeout address) =
     ((1 ≤ status_writes changes) × (address ≡ 0)) ⊎ (touched_in changes (address / 4096) ≡ true)

@@ -1,8 +1,8 @@
 -- What a check tells of touched sectors.
-use Rattle.std.specs.Prelude.{◌≡◌, ◌≢◌, ◌≤◌, ◌<◌, ◌+◌, ◌*◌, ◌/◌, ℕ, Bool, true}
+use Rattle.std.specs.Prelude.{◌≡◌, ◌≢◌, ◌≤◌, ◌<◌, ◌+◌, ◌*◌, ◌/◌, ℕ, Bool, true, ⊤}
 use Rattle.nor_chip.specs.Chip.{Chip}
 use Rattle.nor_chip.specs.Bus.{BusState}
-use Rattle.nor_driver.specs.Looks.{Rested, RunsOut}
+use Rattle.nor_driver.specs.Looks.{Rested, RanOutIfHonest}
 use Rattle.nor_apply.specs.declared.checks.CheckFault.{CheckFault}
 use Rattle.nor_apply.specs.declared.checks.CheckFault.TheVariants.{Stopped, Mismatch}
 use Rattle.nor_apply.specs.Counts.{sector_count}
@@ -28,11 +28,11 @@ pub record DoesChecks (sectors : ℕ → Bool) (wanted : ℕ → ℕ) (old new :
 
 -- A check wasn't passed: the bus stopped, with fewer transactions than sectors, or this is the first difference.
 abbrev pub CheckTells : (ℕ → Bool) → (ℕ → ℕ) → BusState → BusState → CheckFault → Type 0
-CheckTells sectors wanted old new Stopped = RunsOut (sector_count sectors) old new
+CheckTells sectors wanted old new Stopped = RanOutIfHonest (sector_count sectors) old new
 CheckTells sectors wanted old new (Mismatch address) =
     old.honest ≡ true → CanCheck sectors old.chip → IsFirstMismatch sectors wanted old.chip.bytes address
 
 -- whatever the bus, a difference lies in one of these sectors
 abbrev pub NamesDifference : (ℕ → Bool) → CheckFault → Type 0
-NamesDifference sectors Stopped = Unit {0}
+NamesDifference sectors Stopped = ⊤
 NamesDifference sectors (Mismatch address) = sectors (address / 4096) ≡ true

@@ -2,6 +2,7 @@
 use Rattle.std.specs.Prelude.{◌≡◌, ◌≤◌, ◌*◌, ◌/◌, ℕ, Bool, true, length}
 use Rattle.nor_chip.specs.Chip.{Chip}
 use Rattle.nor_chip.specs.Bus.{BusState}
+use Rattle.nor_driver.specs.Operations.{most_operation}
 use Rattle.nor_probe.specs.declared.sfdp.Kinds.{Kinds}
 use Rattle.nor_plan.specs.Planned.{planned}
 use Rattle.nor_apply.specs.declared.tally.Tally.{Tally}
@@ -16,7 +17,7 @@ pub record CanEraseAll (sectors : ℕ → Bool) (kinds : Kinds) (size : ℕ) (ch
 
 -- At every exit, on the way to sectors that are all FFh.
 pub record LeavesErases (sectors : ℕ → Bool) (kinds : Kinds) (size : ℕ) (old new : BusState) : Type 0 where
-  pub spends : Spends (65538 * sector_count sectors) old new
+  pub spends : Spends (most_operation * sector_count sectors) old new
   pub reached : old.honest ≡ true → CanEraseAll sectors kinds size old.chip → MayChange sectors sectors blank old new
 
 -- At the end. There were as many erases as the planner's list has, which is the shortest that covers the set; where

@@ -3,7 +3,7 @@ use Rattle.std.specs.Prelude.{◌≡◌, ◌≤◌, ◌<◌, ◌+◌, ◌*◌, �
 use Rattle.nor_chip.specs.declared.bus.Stopped.{Stopped}
 use Rattle.nor_chip.specs.Chip.{Chip}
 use Rattle.nor_chip.specs.Bus.{BusState}
-use Rattle.nor_driver.specs.Looks.{Looks, RunsOut}
+use Rattle.nor_driver.specs.Looks.{Looks, RanOutIfHonest}
 use Rattle.nor_driver.specs.Reads.{IsSectorOf, HasRead}
 use Rattle.nor_apply.specs.declared.tally.Tally.{Tally}
 use Rattle.nor_layout.specs.Below.{count_below}
@@ -14,6 +14,14 @@ use Rattle.nor_apply.specs.Spending.{Spends, Tallies}
 
 -- ---- the spans of a sector
 
+-- the same with the reading before it
+abbrev pub most_sector : ℕ
+most_sector = 1048609
+
+-- the most transactions by which a sector is programmed: an operation for each of its sixteen pages
+abbrev pub most_pages : ℕ
+most_pages = 1048608
+
 -- A sector that can be changed holds `old`, and no bit of it has to rise.
 pub record CanProgramSpans (sector : ℕ) (old wanted : List ℕ) (chip : Chip) : Type 0 where
   pub can : CanChange (only sector) chip
@@ -21,7 +29,7 @@ pub record CanProgramSpans (sector : ℕ) (old wanted : List ℕ) (chip : Chip) 
   pub falls : (i : ℕ) → i < 4096 → bit_and (slice_index wanted i) (slice_index old i) ≡ slice_index wanted i
 
 pub record LeavesSpans (sector : ℕ) (bytes wanted : List ℕ) (old new : BusState) : Type 0 where
-  pub spends : Spends 1048608 old new
+  pub spends : Spends most_pages old new
   pub reached : old.honest ≡ true → CanProgramSpans sector bytes wanted old.chip
       → MayChange (only sector) none (byte_of sector wanted) old new
 
@@ -52,7 +60,7 @@ pub record LoadsOk (sector : ℕ) (erased : Bool) (bytes bytes' : List ℕ) (rea
 
 abbrev pub LoadEnds : ℕ → Bool → List ℕ → List ℕ → Result ℕ Stopped → BusState → BusState → Type 0
 LoadEnds sector erased bytes bytes' (Ok reads) old new = LoadsOk sector erased bytes bytes' reads old new
-LoadEnds sector erased bytes bytes' (Err stopped) old new = RunsOut 1 old new
+LoadEnds sector erased bytes bytes' (Err stopped) old new = RanOutIfHonest 1 old new
 
 pub record Loads (sector : ℕ) (erased : Bool) (bytes bytes' : List ℕ) (outcome : Result ℕ Stopped)
     (old new : BusState) : Type 0 where
@@ -60,7 +68,7 @@ pub record Loads (sector : ℕ) (erased : Bool) (bytes bytes' : List ℕ) (outco
   pub ends : LoadEnds sector erased bytes bytes' outcome old new
 
 pub record LeavesSector (sector : ℕ) (wanted : List ℕ) (erased : Bool) (old new : BusState) : Type 0 where
-  pub spends : Spends 1048609 old new
+  pub spends : Spends most_sector old new
   pub reached : old.honest ≡ true → CanProgramSector sector wanted erased old.chip
       → MayChange (only sector) none (byte_of sector wanted) old new
 
@@ -82,7 +90,7 @@ pub record CanProgramAll (touched raised : ℕ → Bool) (wanted : ℕ → ℕ) 
 
 -- At every exit, on the way to the wanted bytes.
 pub record LeavesPrograms (touched raised : ℕ → Bool) (wanted : ℕ → ℕ) (old new : BusState) : Type 0 where
-  pub spends : Spends (1048609 * sector_count touched) old new
+  pub spends : Spends (most_sector * sector_count touched) old new
   pub reached : old.honest ≡ true → CanProgramAll touched raised wanted old.chip → MayChange touched none wanted old new
 
 -- At the end: a program for each page of the touched sectors that wasn't as wanted; nothing changing was sent where no

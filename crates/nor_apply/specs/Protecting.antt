@@ -5,15 +5,16 @@ use Rattle.nor_chip.specs.Bus.{BusState}
 use Rattle.nor_driver.specs.declared.waits.Halt.{Halt}
 use Rattle.nor_driver.specs.Waits.{NamesTimeout}
 use Rattle.nor_driver.specs.StatusWrites.{CanWriteStatus, MayWriteStatus, HasWrittenStatus}
+use Rattle.nor_driver.specs.Operations.{most_operation}
 use Rattle.nor_apply.specs.Spending.{Spends}
 
 pub record LeavesCode (status : Status) (code : ℕ) (needed : Bool) (old new : BusState) : Type 0 where
-  pub spends : Spends (if needed then 65538 else 0) old new
+  pub spends : Spends (if needed then most_operation else 0) old new
   pub still : needed ≡ false → new ≡ old
   pub reached : needed ≡ true → old.honest ≡ true → CanWriteStatus status old.chip → MayWriteStatus code old new
 
 pub record DoesCode (status : Status) (code : ℕ) (needed : Bool) (old new : BusState) (sent : ℕ) : Type 0 where
-  pub few : sent ≤ (if needed then 65538 else 0)
+  pub few : sent ≤ (if needed then most_operation else 0)
   pub least : (if needed then 3 else 0) ≤ sent
   pub count : old.honest ≡ true → old.left ≡ new.left + sent
   pub idle : needed ≡ true → old.honest ≡ true → new.chip.busy ≡ 0

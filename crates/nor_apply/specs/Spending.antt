@@ -1,9 +1,10 @@
 -- How many transactions a part of a session or restore sends, and how it halts.
-use Rattle.std.specs.Prelude.{◌≡◌, ◌≤◌, ◌+◌, ◌*◌, ◌/◌, ℕ, Bool, true}
+use Rattle.std.specs.Prelude.{◌≡◌, ◌≤◌, ◌+◌, ◌*◌, ◌/◌, ℕ, Bool, true, ⊤}
 use Rattle.nor_chip.specs.Bus.{BusState}
 use Rattle.nor_driver.specs.declared.waits.Halt.{Halt}
 use Rattle.nor_driver.specs.declared.waits.Halt.TheVariants.{Stopped, Timeout}
 use Rattle.nor_driver.specs.Looks.{Falls, RanOut}
+use Rattle.nor_driver.specs.Operations.{most_operation}
 use Rattle.nor_apply.specs.declared.tally.Tally.{Tally}
 
 -- At every exit: the bus keeps its honesty and its steadiness; an honest one sent at most so many transactions.
@@ -20,12 +21,12 @@ pub record HaltsBelow (needed : ℕ) (old new : BusState) (halt : Halt) : Type 0
 
 -- whatever the bus, a timeout names an address in one of these sectors
 abbrev pub NamesSector : (ℕ → Bool) → Halt → Type 0
-NamesSector sectors Stopped = Unit {0}
+NamesSector sectors Stopped = ⊤
 NamesSector sectors (Timeout address) = sectors (address / 4096) ≡ true
 
 -- A part succeeded, after so many operations and beside at most so many readings. On an honest bus so many
 -- transactions fewer are left.
 pub record Tallies (readings : ℕ) (old new : BusState) (tally : Tally) : Type 0 where
   pub least : 3 * tally.count ≤ tally.transactions
-  pub few : tally.transactions ≤ readings + 65538 * tally.count
+  pub few : tally.transactions ≤ readings + most_operation * tally.count
   pub sent : old.honest ≡ true → old.left ≡ new.left + tally.transactions

@@ -3,7 +3,7 @@ use Rattle.std.specs.Prelude.{◌≡◌, ◌≢◌, ◌/◌, ◌%◌, ◌&&◌, 
 use Rattle.nor_chip.specs.declared.running.Running.{Running}
 use Rattle.nor_chip.specs.declared.running.Running.TheVariants.{StatusWrite}
 use Rattle.nor_chip.specs.Chip.{Chip, is_locked}
-use Rattle.nor_chip.specs.Power.{KeptStay, is_known, is_in_work}
+use Rattle.nor_chip.specs.Power.{KeptStay, is_known_running, is_in_work}
 use Rattle.nor_chip.specs.Bus.{BusState}
 use Rattle.nor_driver.specs.StatusWrites.{KeepsFixed}
 
@@ -14,7 +14,7 @@ is_writable chip = chip.config.scheme && not (is_locked chip)
 -- What may run on a chip that is to be given back: an operation that is known and aims at these places alone; a
 -- status write only where the first chip's status can be written, and from that chip's fixed bits.
 pub record WorksIn (places : ℕ → Bool) (first : Chip) (running : Running) : Type 0 where
-  pub known : is_known running ≡ true
+  pub known : is_known_running running ≡ true
   pub inside : (a : ℕ) → is_in_work running a ≡ true → places a ≡ true
   pub status : (one two : ℕ) → running ≡ StatusWrite one two
       → (is_writable first ≡ true) × (one / 32 ≡ first.kept1 / 32) × (two % 64 ≡ first.kept2 % 64)

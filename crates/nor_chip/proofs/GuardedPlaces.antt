@@ -5,7 +5,7 @@ use Rattle.std.proofs.lemmas.Bool.{cases_lt, lt-ltb, le-ltb, le-leb, lt-leb, ltb
 use Rattle.std.proofs.Math.Bool.{or-true}
 use Rattle.nor_chip.proofs.Sizes.{IsInBlocks}
 use Rattle.nor_chip.specs.Offer.{GuardsExactly}
-use Rattle.nor_chip.specs.Guard.{guarded_by, named_length, is_undefined, is_complement, is_bottom, is_sector, bp_of}
+use Rattle.nor_chip.specs.Guard.{guarded_by, named_length, is_undefined, is_complement, is_bottom, names_sectors, bp_of}
 use Rattle.nor_chip.specs.Units.{LieAtAnEnd, HoldsSomewhere}
 
 -- a number of bytes of the chip, in whole KiB, and in whole sectors where the 64th part of the chip is one
@@ -43,7 +43,7 @@ named_length-part size code large blocks =
     let eight : IsPart size 32768 = record { within = omega arith; whole = refl; sectors = λ quarter. refl } in
     part_if_not size (bp_of code == 0) _ _ record { within = omega arith; whole = refl; sectors = λ quarter. refl }
     (λ some. part_if size (bp_of code == 7) _ _ record { within = omega arith; whole = omega arith; sectors = λ quarter. omega arith }
-    (part_if size (not (is_sector code)) _ _ (part_of_blocks size (bp_of code) large blocks (eqb-false (bp_of code) 0 some) (omega arith))
+    (part_if size (not (names_sectors code)) _ _ (part_of_blocks size (bp_of code) large blocks (eqb-false (bp_of code) 0 some) (omega arith))
     (part_if size (bp_of code == 1) _ _ small (part_if size (bp_of code == 2) _ _ two (part_if size (bp_of code == 3) _ _ four eight)))))
 
 -- the tests that `guarded_by` is made of

@@ -7,7 +7,7 @@ use Rattle.std.proofs.lemmas.Nat.{and_le_l}
 use Rattle.nor_chip.specs.declared.command.Command.TheVariants.{Program}
 use Rattle.nor_chip.specs.Chip.{Chip}
 use Rattle.nor_chip.specs.Step.{last_for, lowered, byte_after}
-use Rattle.nor_chip.specs.Cells.{IsProgrammed}
+use Rattle.nor_chip.specs.Cells.{HasPageProgrammed}
 
 -- two numbers that differ are no equals
 eqb-apart : (a b : ℕ) → a ≢ b → (a == b) ≡ false
@@ -98,7 +98,7 @@ in_page at sent skipped start front back old mid new parted first second a here 
     ]
 
 -- both parts together are the program of the page
-pub programmed : (at : ℕ) (sent : List ℕ) (skipped start : ℕ) (front back old mid new : List ℕ) → IsParted at sent skipped start front back → ClearsFrom (at / 256 * 256 + start) front old mid → ClearsFrom (at / 256 * 256) back mid new → IsProgrammed at sent old new
+pub programmed : (at : ℕ) (sent : List ℕ) (skipped start : ℕ) (front back old mid new : List ℕ) → IsParted at sent skipped start front back → ClearsFrom (at / 256 * 256 + start) front old mid → ClearsFrom (at / 256 * 256) back mid new → HasPageProgrammed at sent old new
 programmed at sent skipped start front back old mid new parted first second a =
     elim (eqb_tells (a / 256) (at / 256)) [
       | inl same ↦ rw same.0 (in_page at sent skipped start front back old mid new parted first second a same.1)
@@ -118,7 +118,7 @@ pub lowered-le : (old : ℕ) (sent : Option ℕ) → lowered old sent ≤ old
 lowered-le old None = omega arith
 lowered-le old (Some byte) = and_le_l old byte
 
-pub IsProgrammed-le : (at : ℕ) (sent old new : List ℕ) → IsProgrammed at sent old new → (a : ℕ) → slice_index new a ≤ slice_index old a
+pub IsProgrammed-le : (at : ℕ) (sent old new : List ℕ) → HasPageProgrammed at sent old new → (a : ℕ) → slice_index new a ≤ slice_index old a
 IsProgrammed-le at sent old new programmed a =
     let now = programmed a in
     elim (eqb_tells (a / 256) (at / 256)) [

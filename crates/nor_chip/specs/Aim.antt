@@ -1,5 +1,5 @@
 -- Where a command may aim.
-use Rattle.std.specs.Prelude.{◌≡◌, ◌<◌, ◌≤◌, ◌+◌, ◌%◌, ℕ}
+use Rattle.std.specs.Prelude.{◌≡◌, ◌<◌, ◌≤◌, ◌+◌, ◌%◌, ℕ, ⊤}
 use Rattle.nor_chip.specs.declared.command.Command.{Command}
 use Rattle.nor_chip.specs.declared.command.Command.TheVariants.{Program, Erase, ReadData, ReadSfdp}
 
@@ -16,4 +16,4 @@ IsAimed size (Program at) = at < size
 IsAimed size (ReadData at) = at < size
 IsAimed size (ReadSfdp at) = at < size
 IsAimed size (Erase start len) = IsUnit size start len
-IsAimed size _ = Unit {0}
+IsAimed size _ = ⊤

@@ -3,8 +3,8 @@ use Rattle.std.specs.Prelude.{◌≡◌, ◌/◌, ◌+◌, ◌==◌, ◌&&◌, �
 use Rattle.nor_chip.specs.Step.{last_for, lowered}
 
 -- the page that holds `at` is programmed with the bytes sent, and all else stays
-abbrev pub IsProgrammed : ℕ → List ℕ → List ℕ → List ℕ → Type 0
-IsProgrammed at sent old new =
+abbrev pub HasPageProgrammed : ℕ → List ℕ → List ℕ → List ℕ → Type 0
+HasPageProgrammed at sent old new =
     (a : ℕ) → slice_index new a
     ≡ (if a / 256 == at / 256 then lowered (slice_index old a) (last_for at sent a) else slice_index old a)
 

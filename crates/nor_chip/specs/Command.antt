@@ -9,8 +9,8 @@ abbrev pub address_of : Config → (x y z : ℕ) → ℕ
 address_of config x y z = (65536 * x + 256 * y + z) % config.size
 
 -- an erase of the aligned unit of so many places that holds an address
-abbrev pub unit_at : (len at : ℕ) → Command
-unit_at len at = Erase (at / len * len) len
+abbrev pub aligned_erase : (len at : ℕ) → Command
+aligned_erase len at = Erase (at / len * len) len
 
 -- what an opcode alone asks for, where so many replies are taken in
 abbrev pub bare_command : Config → (opcode replies : ℕ) → Command
@@ -27,9 +27,9 @@ bare_command config opcode replies =
 abbrev pub addressed_command : Config → (opcode at replies : ℕ) → Command
 addressed_command config opcode at replies =
     if opcode == 0x03 then ReadData at
-    else if opcode == 0x20 && replies == 0 then unit_at 4096 at
-    else if opcode == 0x52 && replies == 0 && config.k32 then unit_at 32768 at
-    else if opcode == 0xD8 && replies == 0 && config.k64 then unit_at 65536 at
+    else if opcode == 0x20 && replies == 0 then aligned_erase 4096 at
+    else if opcode == 0x52 && replies == 0 && config.k32 then aligned_erase 32768 at
+    else if opcode == 0xD8 && replies == 0 && config.k64 then aligned_erase 65536 at
     else Ignored
 
 -- What a transaction asks for, by how many bytes go out, the first of them and how many replies are taken in.

@@ -4,7 +4,7 @@ use Rattle.nor_chip.specs.declared.command.Command.{Command}
 use Rattle.nor_chip.specs.declared.running.Running.{Running}
 use Rattle.nor_chip.specs.declared.sim.flash.Flash.{Flash}
 use Rattle.nor_chip.specs.Chip.{Chip}
-use Rattle.nor_chip.specs.Power.{is_known, is_in_work, kept1_before, kept2_before}
+use Rattle.nor_chip.specs.Power.{is_known_running, is_in_work, kept1_before, kept2_before}
 use Rattle.nor_chip.specs.Step.{is_operation}
 
 -- the chip that it simulates
@@ -30,9 +30,10 @@ pub record Begins (runs : Running) (polls : ℕ) (old new : Chip) : Type 0 where
   pub latch : new.latch ≡ not (new.busy == 0)
 
 -- what runs is cut off: each byte of it becomes this fill, and for a status write an even fill brings the old bits back
-pub record Cuts (fill : ℕ) (old new : Chip) : Type 0 where
+pub record CutsOff (fill : ℕ) (old new : Chip) : Type 0 where
   pub config : new.config ≡ old.config
-  pub bytes : (a : ℕ) → new.bytes a ≡ (if is_known old.running && is_in_work old.running a then fill else old.bytes a)
+  pub bytes : (a : ℕ)
+      → new.bytes a ≡ (if is_known_running old.running && is_in_work old.running a then fill else old.bytes a)
   pub kept1 : new.kept1 ≡ (if fill % 2 == 0 then kept1_before old else old.kept1)
   pub kept2 : new.kept2 ≡ (if fill % 2 == 0 then kept2_before old else old.kept2)
 

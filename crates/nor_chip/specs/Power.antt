@@ -1,5 +1,5 @@
 -- Loss of power: what it leaves of a chip, and what a stop may leave.
-use Rattle.std.specs.Prelude.{◌≡◌, ◌<◌, ◌≤◌, ◌+◌, ◌*◌, ◌/◌, ◌%◌, ◌==◌, ◌&&◌, ◌⊎◌, ℕ, Bool, true, false, not, nat_lt, nat_le, if◌then◌else◌}
+use Rattle.std.specs.Prelude.{◌≡◌, ◌<◌, ◌≤◌, ◌+◌, ◌*◌, ◌/◌, ◌%◌, ◌==◌, ◌&&◌, ◌⊎◌, ℕ, Bool, true, false, not, nat_lt, nat_le, if◌then◌else◌, ⊤}
 use Rattle.nor_chip.specs.declared.running.Running.{Running}
 use Rattle.nor_chip.specs.declared.running.Running.TheVariants.{Program, Erase, StatusWrite, Unknown}
 use Rattle.nor_chip.specs.Chip.{Chip, IsSame}
@@ -12,9 +12,9 @@ is_in_work (StatusWrite one two) a = false
 is_in_work Unknown a = true
 
 -- something is known of what runs
-abbrev pub is_known : Running → Bool
-is_known Unknown = false
-is_known _ = true
+abbrev pub is_known_running : Running → Bool
+is_known_running Unknown = false
+is_known_running _ = true
 
 -- What runs is inside the chip, and the bits that it knows are kept bits.
 pub record RunsInside (size : ℕ) (running : Running) : Type 0 where
@@ -31,7 +31,7 @@ KeptStay old new = (new.kept1 ≡ old.kept1) × (new.kept2 ≡ old.kept2)
 -- is known of it, any.
 abbrev pub KeptCut : Running → (old new : Chip) → Type 0
 KeptCut (StatusWrite one two) old new = KeptStay old new ⊎ ((new.kept1 ≡ one) × (new.kept2 ≡ two))
-KeptCut Unknown old new = Unit {0}
+KeptCut Unknown old new = ⊤
 KeptCut _ old new = KeptStay old new
 
 -- The power was lost: the latch is clear and nothing runs. An idle chip is the same; of a busy one, what ran is cut
@@ -46,7 +46,7 @@ pub record PowerLost (old new : Chip) : Type 0 where
 
 -- the places that are known to be worked on
 abbrev pub is_cut : Chip → ℕ → Bool
-is_cut chip a = not (chip.busy == 0) && is_known chip.running && is_in_work chip.running a
+is_cut chip a = not (chip.busy == 0) && is_known_running chip.running && is_in_work chip.running a
 
 -- the kept bits of status 1 and of status 2 before a status write that runs, else the chip's
 abbrev pub kept1_before : Chip → ℕ
@@ -57,7 +57,7 @@ kept2_before chip = elim chip.running [ StatusWrite one two ↦ two | _ ↦ chip
 
 -- The power was lost while each byte that was worked on became this fill: a status write that ran leaves the old
 -- bits where the fill is even and the new ones where it is odd, and where nothing is known of what ran, all stays.
-pub record CutBy (fill : ℕ) (old new : Chip) : Type 0 where
+pub record PowerLostWith (fill : ℕ) (old new : Chip) : Type 0 where
   pub config : new.config ≡ old.config
   pub latch : new.latch ≡ false
   pub busy : new.busy ≡ 0

@@ -4,7 +4,7 @@ use Rattle.std.specs.Option.{is_none}
 use Rattle.nor_chip.specs.declared.sim.SimBus.{SimBus}
 use Rattle.nor_chip.specs.declared.bus.Stopped.{Stopped}
 use Rattle.nor_chip.specs.Flash.{chip_of}
-use Rattle.nor_chip.specs.Power.{CutBy}
+use Rattle.nor_chip.specs.Power.{PowerLostWith}
 use Rattle.nor_chip.specs.Step.{is_operation, done_of}
 use Rattle.nor_chip.specs.Bus.{BusState}
 
@@ -36,4 +36,4 @@ pub record Simulates (out answer : List ℕ) (outcome : Result Unit Stopped) (ol
       (is_operation (done_of (chip_of old.flash) out (length answer)) ≡ true → new.flash.busy ≡ pace_of old)
   pub cut : OnErr outcome
       (MatchOption (fill_of old) (chip_of new.flash ≡ chip_of old.flash)
-      (λ fill. CutBy fill (chip_of old.flash) (chip_of new.flash)))
+      (λ fill. PowerLostWith fill (chip_of old.flash) (chip_of new.flash)))

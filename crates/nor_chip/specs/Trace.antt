@@ -23,8 +23,8 @@ told_of answer =
     else codes " > " ++ encode_lower answer
 
 -- the line of a transaction: the digits of the bytes sent, and what it tells of those taken in
-abbrev pub line_of : List ℕ → List ℕ → List ℕ
-line_of out answer = encode_lower out ++ told_of answer ++ codes "\n"
+abbrev pub traced_line : List ℕ → List ℕ → List ℕ
+traced_line out answer = encode_lower out ++ told_of answer ++ codes "\n"
 
 -- Once a line is lost this stays so; a transaction that the bus inside stops has no line, and any other has its own,
 -- as far as what the log holds is known.
@@ -34,4 +34,4 @@ pub record Traces {B L : Type 0} (contents : L → Option (List ℕ)) (out answe
   pub no_line : OnErr outcome (log_of new ≡ log_of old)
   pub none_lost : OnErr outcome (has_lost new ≡ has_lost old)
   pub line : OnOk outcome
-      (has_lost new ≡ false → Appends (contents (log_of old)) (contents (log_of new)) (line_of out answer))
+      (has_lost new ≡ false → Appends (contents (log_of old)) (contents (log_of new)) (traced_line out answer))

@@ -1,6 +1,6 @@
 //! What the bytes of a transaction ask for.
 ghost use Rattle.std.specs.Prelude.{◌≡◌, ◌<◌};
-ghost use Rattle.nor_chip.specs.Command.{command_of, bare_command, addressed_command, unit_at, address_of, begins_change};
+ghost use Rattle.nor_chip.specs.Command.{command_of, bare_command, addressed_command, aligned_erase, address_of, begins_change};
 
 use crate::Config;
 
@@ -83,7 +83,7 @@ impl Command {
 
     fn unit(len: u32, at: u32) -> Command
         requires { 0 < len }
-        ensures { result ≡ unit_at len at }
+        ensures { result ≡ aligned_erase len at }
     {
         Command::Erase(at / len * len, len)
     }

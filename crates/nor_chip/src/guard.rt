@@ -3,7 +3,7 @@
 ghost use Rattle.std.specs.Prelude.{◌≡◌, ◌≤◌, ◌<◌, ◌+◌, ◌-◌, ◌*◌, ◌/◌, ◌%◌, ◌==◌, ◌||◌, ◌↔◌, ℕ, true, false, if◌then◌else◌, IsTrue, IfSome, IfNone};
 ghost use Rattle.nor_chip.specs.Size.{is_chip_size};
 ghost use Rattle.nor_chip.specs.Code.{code_in};
-ghost use Rattle.nor_chip.specs.Guard.{guarded_by, is_named, named_length, is_bottom, is_sector, is_complement, is_undefined};
+ghost use Rattle.nor_chip.specs.Guard.{guarded_by, is_place_named, named_length, is_bottom, names_sectors, is_complement, is_undefined};
 ghost use Rattle.nor_chip.specs.Units.{LieAtAnEnd, HoldsSomewhere};
 ghost use Rattle.nor_chip.specs.Offer.{GuardsExactly, IsLeastCode, IsNotOffered};
 ghost use Rattle.nor_chip.specs.Offered.{IsStart};
@@ -32,7 +32,7 @@ fn is_bottom(code: u8) -> bool
 
 // BP counts sectors, not blocks.
 fn is_sector(code: u8) -> bool
-    ensures { result ≡ is_sector code }
+    ensures { result ≡ names_sectors code }
 {
     code / 16 % 2 == 1
 }
@@ -71,7 +71,7 @@ fn named_length(size: u32, code: u8) -> u32
 // The code names this place.
 fn is_named(size: u32, code: u8, at: u32) -> bool
     requires { 65536 ≤ size }
-    ensures { result ≡ is_named size code at }
+    ensures { result ≡ is_place_named size code at }
 {
     let length = named_length(size, code);
     if is_bottom(code) {

@@ -1,5 +1,5 @@
 //! A bus that lies.
-ghost use Rattle.std.specs.Prelude.{◌≡◌, Bool, true, false, OnOk, OnErr, MatchBool, EachIndex, slice_index};
+ghost use Rattle.std.specs.Prelude.{◌≡◌, Bool, true, false, OnOk, OnErr, MatchBool, EachIndex, slice_index, ⊤};
 ghost use Rattle.std.proofs.Common.{subst};
 ghost use Rattle.nor_chip.specs.Chip.{IsChip};
 ghost use Rattle.nor_chip.specs.Bus.{Sends, Stops, Carries, Allows};
@@ -71,7 +71,7 @@ impl<B: Bus> Bus for SpoiltBus<B> {
     ghost state = { spoilt_state B.state };
 
     ghost reaches = { λ spoilt honest.
-        subst (λ (b : Bool). MatchBool b (IsChip (spoilt_state B.state spoilt).chip) (Unit {0})) honest tt };
+        subst (λ (b : Bool). MatchBool b (IsChip (spoilt_state B.state spoilt).chip) ⊤) honest tt };
 
     fn transfer(&mut self, out: &[u8], reply: &mut [u8]) -> Result<(), Stopped>
         ensures sends { Sends out.now (spoilt_state B.state self.old) (spoilt_state B.state self.new) }

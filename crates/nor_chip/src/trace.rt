@@ -3,7 +3,7 @@ ghost use Rattle.std.specs.Prelude.{◌≡◌, true, false, OnOk, OnErr};
 ghost use Rattle.std.specs.Io.KnownBytes.{Appends, Keeps};
 ghost use Rattle.hex.specs.Hex.{encode_lower};
 ghost use Rattle.nor_chip.specs.Bus.{Sends, Stops, Carries, Allows};
-ghost use Rattle.nor_chip.specs.Trace.{traced_by, log_of, has_lost, line_of, Traces};
+ghost use Rattle.nor_chip.specs.Trace.{traced_by, log_of, has_lost, traced_line, Traces};
 
 use crate::{Bus, Meter, Stopped};
 use std::io::{self, Write};
@@ -102,7 +102,7 @@ impl<B: Meter, L: Write> Meter for TraceBus<B, L> {
 }
 
 fn write_line<L: Write>(log: &mut L, out: &[u8], reply: &[u8]) -> io::Result<()>
-    ensures { OnOk result (Appends (L.contents log.old) (L.contents log.new) (line_of out.now reply.now)) }
+    ensures { OnOk result (Appends (L.contents log.old) (L.contents log.new) (traced_line out.now reply.now)) }
 {
     write_digits(log, out)?;
     if reply.len() > 3 {

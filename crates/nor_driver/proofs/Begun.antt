@@ -14,11 +14,11 @@ use Rattle.nor_chip.specs.Bus.{BusState, Carries}
 use Rattle.nor_chip.proofs.Steps.{done-agrees}
 use Rattle.nor_driver.specs.Looks.{Unchanged, Stays}
 use Rattle.nor_driver.specs.Waits.{HasWaited, latch_when_idle}
-use Rattle.nor_driver.specs.Operations.{operation_of, is_change, IsOperation, MayOperate, HasOperated}
+use Rattle.nor_driver.specs.Operations.{operation_of, is_operation_or_none, AsksForOperation, MayOperate, HasOperated}
 use Rattle.nor_driver.proofs.Readings.{carried_ignored}
 
 -- a busy chip carries no operation out
-busy-refuses : (chip : Chip) (command : Command) → is_change command ≡ true → (chip.busy == 0) ≡ false → cond (is_carried_out chip command) command Ignored ≡ Ignored
+busy-refuses : (chip : Chip) (command : Command) → is_operation_or_none command ≡ true → (chip.busy == 0) ≡ false → cond (is_carried_out chip command) command Ignored ≡ Ignored
 busy-refuses chip (WriteStatus one two) is busy = rw busy refl
 busy-refuses chip (Program at) is busy = rw busy refl
 busy-refuses chip (Erase start len) is busy = rw busy refl
@@ -26,7 +26,7 @@ busy-refuses chip Ignored is busy = refl
 busy-refuses chip _ is busy = absurd cc
 
 -- what is no operation, of what an operation may ask for, is ignored
-no-operation : (command : Command) → is_change command ≡ true → is_operation command ≡ false → command ≡ Ignored
+no-operation : (command : Command) → is_operation_or_none command ≡ true → is_operation command ≡ false → command ≡ Ignored
 no-operation Ignored is none = refl
 no-operation _ is none = absurd cc
 
@@ -68,7 +68,7 @@ enabled old new answer none carries =
     ] refl
 
 -- what the command does then is what the operation does
-pub then_done : (out : List ℕ) (old ready : BusState) → IsOperation out → IsEnabled old ready → done_of ready.chip out 0 ≡ operation_of old.chip out
+pub then_done : (out : List ℕ) (old ready : BusState) → AsksForOperation out → IsEnabled old ready → done_of ready.chip out 0 ≡ operation_of old.chip out
 then_done out old ready asks enabling =
     elim (nat_eq old.chip.busy 0) as (λ b. nat_eq old.chip.busy 0 ≡ b → done_of ready.chip out 0 ≡ operation_of old.chip out) [
       | true ↦ λ idle. done-agrees (record old.chip { latch = true }) ready.chip out 0 (record {
@@ -83,11 +83,11 @@ then_done out old ready asks enabling =
           ∙ sym (busy-refuses (record old.chip { latch = true }) (command_of old.chip.config out 0) (asks old.chip.config) busy)
     ] refl
 
-change_or_ignored : (carried : Bool) (command : Command) → is_change command ≡ true → is_change (cond carried command Ignored) ≡ true
+change_or_ignored : (carried : Bool) (command : Command) → is_operation_or_none command ≡ true → is_operation_or_none (cond carried command Ignored) ≡ true
 change_or_ignored true command is = is
 change_or_ignored false command is = refl
 
-pub operation-ignored : (chip : Chip) (out : List ℕ) → IsOperation out → is_operation (operation_of chip out) ≡ false → operation_of chip out ≡ Ignored
+pub operation-ignored : (chip : Chip) (out : List ℕ) → AsksForOperation out → is_operation (operation_of chip out) ≡ false → operation_of chip out ≡ Ignored
 operation-ignored chip out asks none =
     no-operation (operation_of chip out)
     (change_or_ignored (is_carried_out (record chip { latch = true }) (command_of chip.config out 0)) (command_of chip.config out 0) (asks chip.config)) none

@@ -16,8 +16,8 @@ use Rattle.nor_driver.specs.declared.units.Erase.{Erase}
 use Rattle.nor_driver.specs.declared.units.EraseUnit.{EraseUnit}
 use Rattle.nor_driver.specs.declared.units.EraseUnit.TheVariants as Units
 use Rattle.nor_driver.specs.Units.{opcode_of, sectors_in}
-use Rattle.nor_driver.specs.Operations.{operation_of, is_change, IsOperation, MayOperate, HasOperated, LeavesOperation, Operates}
-use Rattle.nor_driver.specs.Erases.{sectors_of, unit_length, IsOnChip, CanErase, takes_erase, is_sector_of, is_place_of, MayErase, HasErased, LeavesErase, Erases}
+use Rattle.nor_driver.specs.Operations.{operation_of, is_operation_or_none, AsksForOperation, MayOperate, HasOperated, LeavesOperation, Operates}
+use Rattle.nor_driver.specs.Erases.{sectors_of, unit_length, IsOnChip, CanErase, takes_erase, is_sector_in_unit, is_place_in_unit, MayErase, HasErased, LeavesErase, Erases}
 use Rattle.nor_driver.proofs.Programming.{same_address}
 
 -- the bytes that are sent for a unit
@@ -27,12 +27,12 @@ erase_bytes Units.Block32 x y z = 0x52 ∷ x ∷ y ∷ z ∷ []
 erase_bytes Units.Block64 x y z = 0xD8 ∷ x ∷ y ∷ z ∷ []
 erase_bytes Units.Chip x y z = 0xC7 ∷ []
 
-either_change : (has : Bool) (command : Command) → is_change command ≡ true → is_change (cond has command Commands.Ignored) ≡ true
+either_change : (has : Bool) (command : Command) → is_operation_or_none command ≡ true → is_operation_or_none (cond has command Commands.Ignored) ≡ true
 either_change true command is = is
 either_change false command is = refl
 
 -- they ask for nothing else
-pub asks_to_erase : (unit : EraseUnit) (x y z : ℕ) → IsOperation (erase_bytes unit x y z)
+pub asks_to_erase : (unit : EraseUnit) (x y z : ℕ) → AsksForOperation (erase_bytes unit x y z)
 asks_to_erase Units.Sector x y z config = refl
 asks_to_erase Units.Block32 x y z config = either_change config.k32 (Commands.Erase (address_of config x y z / 32768 * 32768) 32768) refl
 asks_to_erase Units.Block64 x y z config = either_change config.k64 (Commands.Erase (address_of config x y z / 65536 * 65536) 65536) refl
@@ -85,11 +85,11 @@ taken chip erase can = let idle = can.idle in let offered = can.offered in let f
 
 module _ (erase : Erase) (old new : BusState) where
   -- a place and a sector of the unit
-  place : (a : ℕ) → (nat_le (4096 * erase.sector) a && nat_lt a (4096 * erase.sector + unit_length old.chip erase)) ≡ is_place_of erase old.chip a
+  place : (a : ℕ) → (nat_le (4096 * erase.sector) a && nat_lt a (4096 * erase.sector + unit_length old.chip erase)) ≡ is_place_in_unit erase old.chip a
   place a = in_unit erase.sector (sectors_in (sectors_of old.chip) erase.unit) a
 
-  sector : (s : ℕ) → (nat_le (4096 * erase.sector) (4096 * s) && nat_lt (4096 * s) (4096 * erase.sector + unit_length old.chip erase)) ≡ is_sector_of erase old.chip s
-  sector s = in_unit erase.sector (sectors_in (sectors_of old.chip) erase.unit) (4096 * s) ∙ ap (is_sector_of erase old.chip) (let same : 4096 * s / 4096 ≡ s = omega arith in same)
+  sector : (s : ℕ) → (nat_le (4096 * erase.sector) (4096 * s) && nat_lt (4096 * s) (4096 * erase.sector + unit_length old.chip erase)) ≡ is_sector_in_unit erase old.chip s
+  sector s = in_unit erase.sector (sectors_in (sectors_of old.chip) erase.unit) (4096 * s) ∙ ap (is_sector_in_unit erase old.chip) (let same : 4096 * s / 4096 ≡ s = omega arith in same)
 
   may_erase : MayOperate (erase_done erase old.chip) [] old new → MayErase erase old new
   may_erase may = record {

@@ -8,7 +8,7 @@ use Rattle.nor_driver.specs.declared.waits.Waited.{Waited}
 use Rattle.nor_driver.specs.Looks.{Unchanged, Stays, Looks}
 use Rattle.nor_driver.specs.Waits.{Waits, HasWaited}
 use Rattle.nor_driver.specs.Reads.{HasRead}
-use Rattle.nor_driver.specs.Operations.{operation_of, IsOperation, Stirs, LeavesOperation, Operates}
+use Rattle.nor_driver.specs.Operations.{operation_of, AsksForOperation, Stirs, LeavesOperation, Operates}
 use Rattle.nor_driver.proofs.Cuts.{stays_at_stop, stays_after, unchanged_then}
 use Rattle.nor_driver.proofs.Readings.{carried_ignored}
 use Rattle.nor_driver.proofs.Begun.{IsEnabled, enabled, then_done, operation-ignored, idle-takes, HasBegun, operation-begins, may-before, may-after, operated, latch-kept}
@@ -26,7 +26,7 @@ either : (b : Bool) → cond b true true ≡ true
 either true = refl
 either false = refl
 
-module _ (out : List ℕ) (asks : IsOperation out) (old ready : BusState) (first : List ℕ) (none : length first ≡ 0) (sends : Sends (6 ∷ []) old ready) (carries : old.honest ≡ true → Carries (6 ∷ []) first old ready) where
+module _ (out : List ℕ) (asks : AsksForOperation out) (old ready : BusState) (first : List ℕ) (none : length first ≡ 0) (sends : Sends (6 ∷ []) old ready) (carries : old.honest ≡ true → Carries (6 ∷ []) first old ready) where
   enabling : old.honest ≡ true → IsEnabled old ready
   enabling honest = enabled old ready first none (carries honest)
 

@@ -12,7 +12,7 @@ use Rattle.nor_chip.specs.Command.{address_of}
 use Rattle.nor_chip.specs.Step.{is_idle, is_operation, byte_after}
 use Rattle.nor_chip.specs.Bus.{BusState}
 use Rattle.nor_chip.proofs.Page.{byte_after-program, byte_after-program_other}
-use Rattle.nor_driver.specs.Operations.{operation_of, IsOperation, IsCommandAt, MayOperate, HasOperated, LeavesOperation, Operates}
+use Rattle.nor_driver.specs.Operations.{operation_of, AsksForOperation, IsCommandAt, MayOperate, HasOperated, LeavesOperation, Operates}
 use Rattle.nor_driver.specs.Programs.{CanProgram, takes_program, programmed, MayProgram, HasProgrammed, LeavesProgram, Programs}
 
 -- an address below the chip's size is itself
@@ -35,7 +35,7 @@ program_byte chip at sent a fits =
     ] refl
 
 -- the bytes of a program ask for nothing else
-asks_program : (x y z byte : ℕ) (rest : List ℕ) → IsOperation (0x02 ∷ x ∷ y ∷ z ∷ byte ∷ rest)
+asks_program : (x y z byte : ℕ) (rest : List ℕ) → AsksForOperation (0x02 ∷ x ∷ y ∷ z ∷ byte ∷ rest)
 asks_program x y z byte [] config = refl
 asks_program x y z byte (next ∷ rest) config = refl
 
@@ -108,10 +108,10 @@ module _ (x y z at byte : ℕ) (rest : List ℕ) (names : 65536 * x + 256 * y + 
 
 -- the command as a whole
 module _ (at : ℕ) (sent command : List ℕ) (sends : IsCommandAt 0x02 at sent command) (some : 0 < length sent) (fits : at % 256 + length sent ≤ 256) where
-  pub asks_to_program : IsOperation command
-  asks_to_program = elim sent as (λ sent. 0 < length sent → IsCommandAt 0x02 at sent command → IsOperation command) [
+  pub asks_to_program : AsksForOperation command
+  asks_to_program = elim sent as (λ sent. 0 < length sent → IsCommandAt 0x02 at sent command → AsksForOperation command) [
     | [] ↦ λ some sends. absurd (omega arith)
-    | byte ∷ rest ↦ λ some sends. subst IsOperation (sym sends.4) (asks_program sends.0 sends.1 sends.2 byte rest)
+    | byte ∷ rest ↦ λ some sends. subst AsksForOperation (sym sends.4) (asks_program sends.0 sends.1 sends.2 byte rest)
   ] some sends
 
   pub leaves_program : (old new : BusState) → LeavesOperation command old new → LeavesProgram at sent old new

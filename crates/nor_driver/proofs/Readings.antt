@@ -8,7 +8,7 @@ use Rattle.nor_chip.specs.Chip.{Chip}
 use Rattle.nor_chip.specs.Command.{command_of, begins_change}
 use Rattle.nor_chip.specs.Step.{Does, is_carried_out, done_of, wears}
 use Rattle.nor_chip.specs.Bus.{BusState, Sends, Stops, Carries}
-use Rattle.nor_driver.specs.Looks.{Rested, Looked, Looks, RanOut}
+use Rattle.nor_driver.specs.Looks.{Rested, LooksHonest, Looks, RanOut}
 use Rattle.nor_driver.specs.Waits.{HasPolled}
 use Rattle.nor_driver.specs.Reads.{is_reading, IsReading, HasRead, Replies}
 use Rattle.nor_driver.proofs.Cuts.{stays_at_stop, stays_after, unchanged_none, unchanged_then, unchanged_stays}
@@ -75,7 +75,7 @@ carried_ignored out answer old new ignored carries =
     read_by (done_of old.chip out (length answer)) _ answer old new (ap is_reading ignored) carries.step carries.worn carries.left
 
 -- what was only read, as what any exit leaves
-pub looked_by : (old new : BusState) (most : ℕ) → Rested old new → old.left ≡ new.left + most → Looked most old new
+pub looked_by : (old new : BusState) (most : ℕ) → Rested old new → old.left ≡ new.left + most → LooksHonest most old new
 looked_by old new most rested count = record {
   stays = unchanged_stays old new rested.unchanged;
   latch = rested.latch;
@@ -95,7 +95,7 @@ steady_latch old new stops steady = elim stops.chip [
   | inr cut ↦ absurd (let off = cut.0 in cc)
 ]
 
-pub looked_at_stop : (old new : BusState) (most : ℕ) → Stops old new → Looked most old new
+pub looked_at_stop : (old new : BusState) (most : ℕ) → Stops old new → LooksHonest most old new
 looked_at_stop old new most stops = record {
   stays = stays_at_stop old new stops;
   latch = no_latch old new stops;
@@ -110,7 +110,7 @@ ran_out old new needed some stops = record {
 }
 
 -- readings, and one more call that looks
-pub looked_after : (old mid new : BusState) (m n : ℕ) → mid.steady ≡ old.steady → Rested old mid → old.left ≡ mid.left + m → Looked n mid new → Looked (m + n) old new
+pub looked_after : (old mid new : BusState) (m n : ℕ) → mid.steady ≡ old.steady → Rested old mid → old.left ≡ mid.left + m → LooksHonest n mid new → LooksHonest (m + n) old new
 looked_after old mid new m n steady rested count looked = record {
   stays = stays_after old mid new steady rested.unchanged looked.stays;
   latch = λ set. rested.latch (looked.latch set);
@@ -118,7 +118,7 @@ looked_after old mid new m n steady rested count looked = record {
   falls = let fell = looked.falls.fell in let bound = looked.falls.bound in record { fell = omega arith; bound = omega arith };
 }
 
-pub looked_more : (old new : BusState) (m n : ℕ) → m ≤ n → Looked m old new → Looked n old new
+pub looked_more : (old new : BusState) (m n : ℕ) → m ≤ n → LooksHonest m old new → LooksHonest n old new
 looked_more old new m n fits looked = record {
   stays = looked.stays;
   latch = looked.latch;
@@ -165,7 +165,7 @@ carried_poll answer old new one carries =
     }
 
 -- a transaction that doesn't begin a change is quiet
-pub quiet_send : (out : List ℕ) (most : ℕ) (old new : BusState) → begins_change out ≡ false → Sends out old new → (old.honest ≡ true → Looked most old new) → Looks most old new
+pub quiet_send : (out : List ℕ) (most : ℕ) (old new : BusState) → begins_change out ≡ false → Sends out old new → (old.honest ≡ true → LooksHonest most old new) → Looks most old new
 quiet_send out most old new quiet sends looked = record {
   honest = sends.honest;
   steady = sends.steady;

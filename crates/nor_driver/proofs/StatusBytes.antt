@@ -11,7 +11,7 @@ use Rattle.nor_chip.specs.Status.{bytes_with_code}
 use Rattle.nor_chip.specs.Step.{is_idle, is_operation}
 use Rattle.nor_chip.specs.Bus.{BusState}
 use Rattle.nor_driver.proofs.Bools.{left_of, right_of, tested}
-use Rattle.nor_driver.specs.Operations.{operation_of, IsOperation, MayOperate, HasOperated, LeavesOperation, Operates}
+use Rattle.nor_driver.specs.Operations.{operation_of, AsksForOperation, MayOperate, HasOperated, LeavesOperation, Operates}
 use Rattle.nor_driver.specs.StatusWrites.{KeepsFixed, HasCode, HasFixed, CanWriteStatus, takes_status, MayWriteStatus, HasWrittenStatus, LeavesStatusWrite, WritesStatus}
 
 -- what a status write leaves of the kept bits of status 2
@@ -59,7 +59,7 @@ module _ (status : Status) (code : ℕ) (below : code < 64) where
   two = status.two.0 % 64 + 64 * (code / 32)
 
   -- these bytes ask for nothing else
-  pub asks_to_write : IsOperation (1 ∷ one ∷ two ∷ [])
+  pub asks_to_write : AsksForOperation (1 ∷ one ∷ two ∷ [])
   asks_to_write config = refl
 
   -- 01h writes the status, where the chip takes it

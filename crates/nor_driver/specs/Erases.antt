@@ -9,7 +9,7 @@ use Rattle.nor_chip.specs.Bus.{BusState}
 use Rattle.nor_driver.specs.declared.units.Erase.{Erase}
 use Rattle.nor_driver.specs.Units.{sectors_in, has_unit, is_aligned, erases_sector}
 use Rattle.nor_driver.specs.Looks.{Stays, Falls}
-use Rattle.nor_driver.specs.Operations.{ChangesOnly, Stirs, Ends, HasIgnored}
+use Rattle.nor_driver.specs.Operations.{ChangesOnly, Stirs, EndsWaiting, HasIgnored, most_operation}
 
 -- how many sectors the chip has
 abbrev pub sectors_of : Chip → ℕ
@@ -38,38 +38,38 @@ takes_erase chip erase =
     && not (is_unit_guarded chip (4096 * erase.sector) (unit_length chip erase))
 
 -- a sector of the unit, and a place of it
-abbrev pub is_sector_of : Erase → Chip → ℕ → Bool
-is_sector_of erase chip s = erases_sector (sectors_of chip) s erase
+abbrev pub is_sector_in_unit : Erase → Chip → ℕ → Bool
+is_sector_in_unit erase chip s = erases_sector (sectors_of chip) s erase
 
-abbrev pub is_place_of : Erase → Chip → ℕ → Bool
-is_place_of erase chip a = is_sector_of erase chip (a / 4096)
+abbrev pub is_place_in_unit : Erase → Chip → ℕ → Bool
+is_place_in_unit erase chip a = is_sector_in_unit erase chip (a / 4096)
 
 -- On an honest bus, at every exit: bytes and worn sectors outside the unit are as they were, and all kept bits. In
 -- the unit a byte is as it was or FFh, or if the power went any.
 pub record MayErase (erase : Erase) (old new : BusState) : Type 0 where
   pub config : new.chip.config ≡ old.chip.config
-  pub bytes : ChangesOnly old.steady (is_place_of erase old.chip) (λ _. 255) old.chip.bytes new.chip.bytes
+  pub bytes : ChangesOnly old.steady (is_place_in_unit erase old.chip) (λ _. 255) old.chip.bytes new.chip.bytes
   pub kept : KeptStay old.chip new.chip
   pub runs : new.chip.busy ≢ 0 → new.chip.running ≡ Runs.Erase (4096 * erase.sector) (unit_length old.chip erase)
-  pub worn : (s : ℕ) → is_sector_of erase old.chip s ≡ false → new.worn s ≡ old.worn s
+  pub worn : (s : ℕ) → is_sector_in_unit erase old.chip s ≡ false → new.worn s ≡ old.worn s
 
 -- On an honest bus, the unit was erased, and nothing else changed.
 pub record HasErased (erase : Erase) (old new : BusState) : Type 0 where
   pub config : new.chip.config ≡ old.chip.config
-  pub bytes : (a : ℕ) → new.chip.bytes a ≡ (if is_place_of erase old.chip a then 255 else old.chip.bytes a)
+  pub bytes : (a : ℕ) → new.chip.bytes a ≡ (if is_place_in_unit erase old.chip a then 255 else old.chip.bytes a)
   pub kept : KeptStay old.chip new.chip
-  pub worn : (s : ℕ) → new.worn s ≡ (old.worn s || is_sector_of erase old.chip s)
+  pub worn : (s : ℕ) → new.worn s ≡ (old.worn s || is_sector_in_unit erase old.chip s)
   pub latch : new.chip.latch ≡ false
 
 -- What an erase leaves at every exit, by whether the chip can carry it out or ignores it.
 pub record LeavesErase (erase : Erase) (old new : BusState) : Type 0 where
   pub stirs : Stirs old new
-  pub falls : old.honest ≡ true → Falls 65538 old new
+  pub falls : old.honest ≡ true → Falls most_operation old new
   pub reached : old.honest ≡ true → CanErase erase old.chip → MayErase erase old new
   pub ignored : old.honest ≡ true → IsOnChip erase old.chip → takes_erase old.chip erase ≡ false → Stays old new
 
 -- What an erase that succeeded leaves, likewise.
 pub record Erases (erase : Erase) (old new : BusState) (sent : ℕ) : Type 0 where
-  pub ends : Ends old new sent
+  pub ends : EndsWaiting old new sent
   pub done : old.honest ≡ true → CanErase erase old.chip → HasErased erase old new
   pub ignored : old.honest ≡ true → IsOnChip erase old.chip → takes_erase old.chip erase ≡ false → HasIgnored old new

@@ -40,7 +40,7 @@ pub record Falls (most : ℕ) (old new : BusState) : Type 0 where
 
 -- On an honest bus, at every exit of a call that only reads: the latch is set only where it was, on an idle chip of a
 -- steady bus as it was.
-pub record Looked (most : ℕ) (old new : BusState) : Type 0 where
+pub record LooksHonest (most : ℕ) (old new : BusState) : Type 0 where
   pub stays : Stays old new
   pub latch : new.chip.latch ≡ true → old.chip.latch ≡ true
   pub idle_latch : old.steady ≡ true → old.chip.busy ≡ 0 → new.chip.latch ≡ old.chip.latch
@@ -51,7 +51,7 @@ pub record Looks (most : ℕ) (old new : BusState) : Type 0 where
   pub honest : new.honest ≡ old.honest
   pub steady : new.steady ≡ old.steady
   pub stirred : new.stirred ≡ old.stirred
-  pub looked : old.honest ≡ true → Looked most old new
+  pub looked : old.honest ≡ true → LooksHonest most old new
 
 -- On an honest bus, a call that needs so many transactions stopped: there were fewer, and they were used up.
 pub record RanOut (needed : ℕ) (old new : BusState) : Type 0 where
@@ -59,5 +59,5 @@ pub record RanOut (needed : ℕ) (old new : BusState) : Type 0 where
   pub below : old.left < needed
 
 -- the same of any bus
-abbrev pub RunsOut : ℕ → BusState → BusState → Type 0
-RunsOut needed old new = old.honest ≡ true → RanOut needed old new
+abbrev pub RanOutIfHonest : ℕ → BusState → BusState → Type 0
+RanOutIfHonest needed old new = old.honest ≡ true → RanOut needed old new

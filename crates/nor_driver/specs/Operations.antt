@@ -10,9 +10,13 @@ use Rattle.nor_chip.specs.Step.{is_idle, is_operation, done_of, byte_after, kept
 use Rattle.nor_chip.specs.Bus.{BusState}
 use Rattle.nor_driver.specs.Looks.{Stays, Falls}
 
+-- the most transactions of an operation: write enable, its command and 65,536 polls
+abbrev pub most_operation : ℕ
+most_operation = 65538
+
 -- three bytes name an address, high byte first
-abbrev pub NamesAddress : ℕ → List ℕ → Type 0
-NamesAddress at bytes = 65536 * slice_index bytes 0 + 256 * slice_index bytes 1 + slice_index bytes 2 ≡ at
+abbrev pub BytesNameAddress : ℕ → List ℕ → Type 0
+BytesNameAddress at bytes = 65536 * slice_index bytes 0 + 256 * slice_index bytes 1 + slice_index bytes 2 ≡ at
 
 -- a command is an opcode, three bytes that name an address and then data
 abbrev pub IsCommandAt : ℕ → ℕ → List ℕ → List ℕ → Type 0
@@ -20,16 +24,16 @@ IsCommandAt opcode at sent command =
     (x : ℕ) × (y : ℕ) × (z : ℕ) × (65536 * x + 256 * y + z ≡ at) × (command ≡ opcode ∷ x ∷ y ∷ z ∷ sent)
 
 -- a command that is an operation, or none
-abbrev pub is_change : Command → Bool
-is_change (WriteStatus one two) = true
-is_change (Program at) = true
-is_change (Erase start len) = true
-is_change Ignored = true
-is_change _ = false
+abbrev pub is_operation_or_none : Command → Bool
+is_operation_or_none (WriteStatus one two) = true
+is_operation_or_none (Program at) = true
+is_operation_or_none (Erase start len) = true
+is_operation_or_none Ignored = true
+is_operation_or_none _ = false
 
 -- these bytes ask no chip for anything but an operation
-abbrev pub IsOperation : List ℕ → Type 0
-IsOperation out = (config : Config) → is_change (command_of config out 0) ≡ true
+abbrev pub AsksForOperation : List ℕ → Type 0
+AsksForOperation out = (config : Config) → is_operation_or_none (command_of config out 0) ≡ true
 
 -- Each byte is as it was, or at these places, where the power stays, as wanted.
 abbrev pub ChangesOnly : Bool → (ℕ → Bool) → (ℕ → ℕ) → (ℕ → ℕ) → (ℕ → ℕ) → Type 0
@@ -51,9 +55,9 @@ pub record HasIgnored (old new : BusState) : Type 0 where
 
 -- An operation succeeded, with so many transactions: whatever the bus, from 3 to 65,538; on an honest one so many
 -- fewer are left, and the chip is idle.
-pub record Ends (old new : BusState) (sent : ℕ) : Type 0 where
+pub record EndsWaiting (old new : BusState) (sent : ℕ) : Type 0 where
   pub least : 3 ≤ sent
-  pub few : sent ≤ 65538
+  pub few : sent ≤ most_operation
   pub count : old.honest ≡ true → old.left ≡ new.left + sent
   pub idle : old.honest ≡ true → new.chip.busy ≡ 0
 
@@ -83,14 +87,14 @@ pub record HasOperated (command : Command) (sent : List ℕ) (old new : BusState
 -- What an operation leaves at every exit.
 pub record LeavesOperation (out : List ℕ) (old new : BusState) : Type 0 where
   pub stirs : Stirs old new
-  pub falls : old.honest ≡ true → Falls 65538 old new
+  pub falls : old.honest ≡ true → Falls most_operation old new
   pub reached : old.honest ≡ true → is_operation (operation_of old.chip out) ≡ true
       → MayOperate (operation_of old.chip out) (drop 4 out) old new
   pub ignored : old.honest ≡ true → is_operation (operation_of old.chip out) ≡ false → Stays old new
 
 -- What an operation that succeeded leaves.
 pub record Operates (out : List ℕ) (old new : BusState) (sent : ℕ) : Type 0 where
-  pub ends : Ends old new sent
+  pub ends : EndsWaiting old new sent
   pub done : old.honest ≡ true → is_operation (operation_of old.chip out) ≡ true
       → HasOperated (operation_of old.chip out) (drop 4 out) old new
   pub ignored : old.honest ≡ true → is_operation (operation_of old.chip out) ≡ false → HasIgnored old new

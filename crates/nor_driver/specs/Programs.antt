@@ -7,7 +7,7 @@ use Rattle.nor_chip.specs.Guard.{is_guarded}
 use Rattle.nor_chip.specs.Step.{is_idle}
 use Rattle.nor_chip.specs.Bus.{BusState}
 use Rattle.nor_driver.specs.Looks.{Stays, Falls}
-use Rattle.nor_driver.specs.Operations.{ChangesOnly, Stirs, Ends, HasIgnored}
+use Rattle.nor_driver.specs.Operations.{ChangesOnly, Stirs, EndsWaiting, HasIgnored, most_operation}
 
 -- The chip is idle, and a part of a page of it free to program.
 pub record CanProgram (at len : ℕ) (chip : Chip) : Type 0 where
@@ -48,12 +48,12 @@ pub record HasProgrammed (at : ℕ) (sent : List ℕ) (old new : BusState) : Typ
 -- What a program leaves at every exit, by whether the chip can carry it out or ignores it.
 pub record LeavesProgram (at : ℕ) (sent : List ℕ) (old new : BusState) : Type 0 where
   pub stirs : Stirs old new
-  pub falls : old.honest ≡ true → Falls 65538 old new
+  pub falls : old.honest ≡ true → Falls most_operation old new
   pub reached : old.honest ≡ true → CanProgram at (length sent) old.chip → MayProgram at sent old new
   pub ignored : old.honest ≡ true → at < old.chip.config.size → takes_program old.chip at ≡ false → Stays old new
 
 -- What a program that succeeded leaves, likewise.
 pub record Programs (at : ℕ) (bytes : List ℕ) (old new : BusState) (sent : ℕ) : Type 0 where
-  pub ends : Ends old new sent
+  pub ends : EndsWaiting old new sent
   pub done : old.honest ≡ true → CanProgram at (length bytes) old.chip → HasProgrammed at bytes old new
   pub ignored : old.honest ≡ true → at < old.chip.config.size → takes_program old.chip at ≡ false → HasIgnored old new

@@ -7,7 +7,7 @@ use Rattle.nor_chip.specs.Power.{KeptStay}
 use Rattle.nor_chip.specs.Step.{is_idle}
 use Rattle.nor_chip.specs.Bus.{BusState}
 use Rattle.nor_driver.specs.Looks.{Stays, Falls}
-use Rattle.nor_driver.specs.Operations.{Stirs, Ends, HasIgnored}
+use Rattle.nor_driver.specs.Operations.{Stirs, EndsWaiting, HasIgnored, most_operation}
 
 -- The fixed bits, all kept ones but those of the code, are as they were: SRP0; SRP1, QE, the reserved bit and the LB
 -- bits.
@@ -57,12 +57,12 @@ pub record HasWrittenStatus (code : ℕ) (old new : BusState) : Type 0 where
 -- What a status write leaves at every exit, by whether the chip can carry it out or ignores it.
 pub record LeavesStatusWrite (status : Status) (code : ℕ) (old new : BusState) : Type 0 where
   pub stirs : Stirs old new
-  pub falls : old.honest ≡ true → Falls 65538 old new
+  pub falls : old.honest ≡ true → Falls most_operation old new
   pub reached : old.honest ≡ true → CanWriteStatus status old.chip → MayWriteStatus code old new
   pub ignored : old.honest ≡ true → takes_status old.chip ≡ false → Stays old new
 
 -- What a status write that succeeded leaves, likewise.
 pub record WritesStatus (status : Status) (code : ℕ) (old new : BusState) (sent : ℕ) : Type 0 where
-  pub ends : Ends old new sent
+  pub ends : EndsWaiting old new sent
   pub done : old.honest ≡ true → CanWriteStatus status old.chip → HasWrittenStatus code old new
   pub ignored : old.honest ≡ true → takes_status old.chip ≡ false → HasIgnored old new

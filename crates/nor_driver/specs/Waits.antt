@@ -1,5 +1,5 @@
 -- What polls and waits tell, and how they end.
-use Rattle.std.specs.Prelude.{◌≡◌, ◌≤◌, ◌<◌, ◌+◌, ◌-◌, ◌%◌, ◌==◌, ℕ, Bool, true, false, if◌then◌else◌}
+use Rattle.std.specs.Prelude.{◌≡◌, ◌≤◌, ◌<◌, ◌+◌, ◌-◌, ◌%◌, ◌==◌, ℕ, Bool, true, false, if◌then◌else◌, ⊤}
 use Rattle.nor_chip.specs.Chip.{Chip, status1_of}
 use Rattle.nor_chip.specs.Bus.{BusState}
 use Rattle.nor_driver.specs.declared.waits.Halt.{Halt}
@@ -41,7 +41,7 @@ pub record Waits (old new : BusState) (waited : Waited) : Type 0 where
 
 -- whatever the bus, a timeout names this address
 abbrev pub NamesTimeout : ℕ → Halt → Type 0
-NamesTimeout at Stopped = Unit {0}
+NamesTimeout at Stopped = ⊤
 NamesTimeout at (Timeout address) = address ≡ at
 
 -- A call that waits halted. On an honest bus that is a stop, and there were fewer transactions than this.

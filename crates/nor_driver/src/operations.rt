@@ -2,7 +2,7 @@
 
 ghost use Rattle.std.specs.Prelude.{◌≡◌, ◌<◌, ◌≤◌, ◌+◌, ◌*◌, ◌%◌, ◌^◌, length, IfOk, IfErr};
 ghost use Rattle.nor_driver.specs.Waits.{Halts};
-ghost use Rattle.nor_driver.specs.Operations.{NamesAddress, IsCommandAt, IsOperation, LeavesOperation, Operates};
+ghost use Rattle.nor_driver.specs.Operations.{BytesNameAddress, IsCommandAt, AsksForOperation, LeavesOperation, Operates, most_operation};
 ghost use Rattle.nor_driver.specs.Programs.{LeavesProgram, Programs};
 ghost use Rattle.nor_driver.specs.Erases.{LeavesErase, Erases};
 ghost use Rattle.nor_driver.specs.StatusWrites.{LeavesStatusWrite, WritesStatus};
@@ -25,7 +25,7 @@ pub fn program_page<B: Bus>(bus: &mut B, address: u32, bytes: &[u8]) -> Result<u
     requires in_page { address % 256 + length bytes.now ≤ 256 }
     ensures leaves { LeavesProgram address bytes.now (B.state bus.old) (B.state bus.new) }
     ensures does { IfOk result (Programs address bytes.now (B.state bus.old) (B.state bus.new)) }
-    ensures halts { IfErr result (Halts address 65538 (B.state bus.old) (B.state bus.new)) }
+    ensures halts { IfErr result (Halts address most_operation (B.state bus.old) (B.state bus.new)) }
 {
     let command = program_command(address, bytes);
     operation(bus, &command, address)
@@ -36,7 +36,7 @@ pub fn erase<B: Bus>(bus: &mut B, erase: Erase) -> Result<u32, Halt>
     requires { erase.sector < 4096 }
     ensures leaves { LeavesErase erase (B.state bus.old) (B.state bus.new) }
     ensures does { IfOk result (Erases erase (B.state bus.old) (B.state bus.new)) }
-    ensures halts { IfErr result (Halts (4096 * erase.sector) 65538 (B.state bus.old) (B.state bus.new)) }
+    ensures halts { IfErr result (Halts (4096 * erase.sector) most_operation (B.state bus.old) (B.state bus.new)) }
 {
     let address = erase.address();
     let opcode = erase.unit.opcode();
@@ -53,7 +53,7 @@ pub fn write_status<B: Bus>(bus: &mut B, status: Status, code: u8) -> Result<u32
     requires { code < 64 }
     ensures leaves { LeavesStatusWrite status code (B.state bus.old) (B.state bus.new) }
     ensures does { IfOk result (WritesStatus status code (B.state bus.old) (B.state bus.new)) }
-    ensures halts { IfErr result (Halts 0 65538 (B.state bus.old) (B.state bus.new)) }
+    ensures halts { IfErr result (Halts 0 most_operation (B.state bus.old) (B.state bus.new)) }
 {
     let [one, two] = status.with_code(code).bytes();
     operation(bus, &[WRITE_STATUS, one, two], 0)
@@ -61,10 +61,10 @@ pub fn write_status<B: Bus>(bus: &mut B, status: Status, code: u8) -> Result<u32
 
 // One operation: write enable, the command, a wait. Answers the number of transactions.
 fn operation<B: Bus>(bus: &mut B, command: &[u8], address: u32) -> Result<u32, Halt>
-    requires { IsOperation command.now }
+    requires { AsksForOperation command.now }
     ensures leaves { LeavesOperation command.now (B.state bus.old) (B.state bus.new) }
     ensures does { IfOk result (Operates command.now (B.state bus.old) (B.state bus.new)) }
-    ensures halts { IfErr result (Halts address 65538 (B.state bus.old) (B.state bus.new)) }
+    ensures halts { IfErr result (Halts address most_operation (B.state bus.old) (B.state bus.new)) }
 {
     bus.transfer(&[WRITE_ENABLE], &mut [])?;
     bus.transfer(command, &mut [])?;
@@ -75,7 +75,7 @@ fn operation<B: Bus>(bus: &mut B, command: &[u8], address: u32) -> Result<u32, H
 /// The three bytes of an address, high byte first.
 pub(crate) fn address_bytes(address: u32) -> [u8; 3]
     requires { address < 2 ^ 24 }
-    ensures { NamesAddress address result }
+    ensures { BytesNameAddress address result }
 {
     [
         (address / 65536) as u8,

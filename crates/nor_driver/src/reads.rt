@@ -1,7 +1,7 @@
 //! What a chip tells of itself and its bytes.
 
 ghost use Rattle.std.specs.Prelude.{◌≡◌, ◌<◌, ◌^◌, length, IfOk, OnOk, OnErr};
-ghost use Rattle.nor_driver.specs.Looks.{Looks, RunsOut};
+ghost use Rattle.nor_driver.specs.Looks.{Looks, RanOutIfHonest};
 ghost use Rattle.nor_driver.specs.Reads.{IsReading, Replies, ReadsId, ReadsStatus2, ReadsUnique, ReadsSfdp, ReadsSector};
 
 use crate::operations::address_bytes;
@@ -22,7 +22,7 @@ const READ_ID: u8 = 0x9F;
 pub fn read_id<B: Bus>(bus: &mut B) -> Result<[u8; 3], Stopped>
     ensures leaves { Looks 1 (B.state bus.old) (B.state bus.new) }
     ensures does { IfOk result (ReadsId (B.state bus.old) (B.state bus.new)) }
-    ensures halts { OnErr result (RunsOut 1 (B.state bus.old) (B.state bus.new)) }
+    ensures halts { OnErr result (RanOutIfHonest 1 (B.state bus.old) (B.state bus.new)) }
 {
     let mut id = [0; 3];
     read(bus, &[READ_ID], &mut id)?;
@@ -33,7 +33,7 @@ pub fn read_id<B: Bus>(bus: &mut B) -> Result<[u8; 3], Stopped>
 pub fn read_status2<B: Bus>(bus: &mut B) -> Result<u8, Stopped>
     ensures leaves { Looks 1 (B.state bus.old) (B.state bus.new) }
     ensures does { IfOk result (ReadsStatus2 (B.state bus.old) (B.state bus.new)) }
-    ensures halts { OnErr result (RunsOut 1 (B.state bus.old) (B.state bus.new)) }
+    ensures halts { OnErr result (RanOutIfHonest 1 (B.state bus.old) (B.state bus.new)) }
 {
     let mut reply = [0];
     read(bus, &[READ_STATUS2], &mut reply)?;
@@ -44,7 +44,7 @@ pub fn read_status2<B: Bus>(bus: &mut B) -> Result<u8, Stopped>
 pub fn read_unique<B: Bus>(bus: &mut B) -> Result<[u8; 8], Stopped>
     ensures leaves { Looks 1 (B.state bus.old) (B.state bus.new) }
     ensures does { IfOk result (ReadsUnique (B.state bus.old) (B.state bus.new)) }
-    ensures halts { OnErr result (RunsOut 1 (B.state bus.old) (B.state bus.new)) }
+    ensures halts { OnErr result (RanOutIfHonest 1 (B.state bus.old) (B.state bus.new)) }
 {
     let mut unique = [0; 8];
     read(bus, &[READ_UNIQUE, 0, 0, 0, 0], &mut unique)?;
@@ -56,7 +56,7 @@ pub fn read_sfdp<B: Bus>(bus: &mut B, address: u32, bytes: &mut [u8]) -> Result<
     requires { address < 2 ^ 24 }
     ensures leaves { Looks 1 (B.state bus.old) (B.state bus.new) }
     ensures does { OnOk result (ReadsSfdp address (length bytes.old) (B.state bus.old) (B.state bus.new) bytes.new) }
-    ensures halts { OnErr result (RunsOut 1 (B.state bus.old) (B.state bus.new)) }
+    ensures halts { OnErr result (RanOutIfHonest 1 (B.state bus.old) (B.state bus.new)) }
 {
     let [high, middle, low] = address_bytes(address);
     read(bus, &[READ_SFDP, high, middle, low, 0], bytes)
@@ -68,7 +68,7 @@ pub fn read_sector<B: Bus>(bus: &mut B, sector: u32, bytes: &mut [u8]) -> Result
     requires whole { length bytes.old ≡ 4096 }
     ensures leaves { Looks 1 (B.state bus.old) (B.state bus.new) }
     ensures does { OnOk result (ReadsSector sector (B.state bus.old) (B.state bus.new) bytes.new) }
-    ensures halts { OnErr result (RunsOut 1 (B.state bus.old) (B.state bus.new)) }
+    ensures halts { OnErr result (RanOutIfHonest 1 (B.state bus.old) (B.state bus.new)) }
 {
     let [high, middle, low] = address_bytes(4096 * sector);
     read(bus, &[READ_DATA, high, middle, low], bytes)
@@ -79,7 +79,7 @@ fn read<B: Bus>(bus: &mut B, out: &[u8], reply: &mut [u8]) -> Result<(), Stopped
     requires { IsReading out.now }
     ensures leaves { Looks 1 (B.state bus.old) (B.state bus.new) }
     ensures does { OnOk result (Replies out.now (B.state bus.old) (B.state bus.new) reply.new) }
-    ensures halts { OnErr result (RunsOut 1 (B.state bus.old) (B.state bus.new)) }
+    ensures halts { OnErr result (RanOutIfHonest 1 (B.state bus.old) (B.state bus.new)) }
 {
     bus.transfer(out, reply)
 }

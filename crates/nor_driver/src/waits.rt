@@ -2,7 +2,7 @@
 
 ghost use Rattle.std.specs.Prelude.{◌≡◌, IfOk, IfErr, OnErr};
 ghost use Rattle.nor_driver.specs.declared.waits.Halt.TheVariants as Halts;
-ghost use Rattle.nor_driver.specs.Looks.{Looks, RunsOut};
+ghost use Rattle.nor_driver.specs.Looks.{Looks, RanOutIfHonest};
 ghost use Rattle.nor_driver.specs.Waits.{Polls, Waits, WaitHalts};
 
 use bitflags::Flags;
@@ -18,7 +18,7 @@ const MOST_POLLS: u32 = 65536;
 pub fn poll<B: Bus>(bus: &mut B) -> Result<u8, Stopped>
     ensures leaves { Looks 1 (B.state bus.old) (B.state bus.new) }
     ensures does { IfOk result (Polls (B.state bus.old) (B.state bus.new)) }
-    ensures halts { OnErr result (RunsOut 1 (B.state bus.old) (B.state bus.new)) }
+    ensures halts { OnErr result (RanOutIfHonest 1 (B.state bus.old) (B.state bus.new)) }
 {
     let mut reply = [0];
     bus.transfer(&[READ_STATUS1], &mut reply)?;

@@ -5,7 +5,7 @@ use Rattle.std.specs.Option.{unwrap_or}
 use Rattle.std.proofs.lemmas.List.{length-append, append-nil}
 use Rattle.sha2.specs.Sha256.{sha256}
 use Rattle.nor_journal.specs.Number.{number_text, number_at}
-use Rattle.nor_journal.specs.Text.{SavedSector, Content, IsContent, IsChipSize, AreRising, Format, First, Second, format_of, magic, SameHead, head, record_text, records_text, front, body, text, end_mark}
+use Rattle.nor_journal.specs.Text.{SavedSector, Content, IsContent, IsJournalSize, AreRising, Format, First, Second, format_of, magic, SameHead, head, record_text, records_text, front, body, text, end_mark}
 use Rattle.nor_journal.specs.Fault.{head_length}
 use Rattle.nor_journal.proofs.Numbers.{length-number_text, number_at-number_text, number_at-take}
 
@@ -98,7 +98,7 @@ sectors_are sectors least [] few rising = tt
 sectors_are sectors least (s ∷ ss) few rising =
     (record { number = omega (arith, rising.0.place); whole = rising.0.whole }, sectors_are sectors (s.number + 1) ss few rising.2)
 
-pub few_sectors : (size : ℕ) → IsChipSize size → size / 4096 ≤ 4096
+pub few_sectors : (size : ℕ) → IsJournalSize size → size / 4096 ≤ 4096
 few_sectors size is = omega (arith, is.most)
 
 saved_are : (c : Content) → IsContent c → AreSectors c.saved

@@ -8,7 +8,7 @@ use Rattle.nor_journal.specs.declared.fault.JournalFault.{JournalFault}
 use Rattle.nor_journal.specs.declared.fault.JournalFault.TheVariants.{Short, Magic, Size, Place, Order, Long, Digest}
 use Rattle.nor_journal.specs.Number.{number_at}
 use Rattle.nor_journal.specs.Text.{SavedSector, Content, IsContent, Format, First, Second, magic, SameHead, AreRising, next_number, records_text, front, end_mark}
-use Rattle.nor_journal.specs.Fault.{HasFault, HeadFault, IsCut, HasWrongSize, head_length, FaultBehindFront, NextFault, RecordFault, EndFault}
+use Rattle.nor_journal.specs.Fault.{HasFault, HeadFault, IsHeadCut, HasWrongSize, head_length, FaultBehindFront, NextFault, RecordFault, EndFault}
 use Rattle.nor_journal.proofs.Fronts.{same_format, same_fronts, same_content, few_sectors, number_at-marked, records_text-nil, length-end_mark, front_opened}
 use Rattle.nor_journal.proofs.OneForm.{least_head, at_record, AreRising-behind, next_is, swapped, head_faultless}
 
@@ -54,7 +54,7 @@ at_format Second bytes begins =
 behind_magic : (f : Format) (bytes : List ℕ) → 8 ≤ length bytes → take 8 bytes ≡ magic f → the_head_fault bytes ≡ of_format f bytes
 behind_magic f bytes long begins = passed (ltb (length bytes) 8) Short (of_magic bytes) (le-ltb (length bytes) 8 long) ∙ at_format f bytes begins
 
-cut_head : (f : Format) (bytes : List ℕ) → IsCut f bytes → the_head_fault bytes ≡ Short
+cut_head : (f : Format) (bytes : List ℕ) → IsHeadCut f bytes → the_head_fault bytes ≡ Short
 cut_head f bytes cut =
     elim (cases_lt (length bytes) 8) [
       | inl below ↦ chosen (ltb (length bytes) 8) Short (of_magic bytes) (lt-ltb (length bytes) 8 below)

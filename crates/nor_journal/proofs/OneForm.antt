@@ -9,7 +9,7 @@ use Rattle.nor_journal.specs.declared.fault.JournalFault.{JournalFault}
 use Rattle.nor_journal.specs.declared.fault.JournalFault.TheVariants.{Short, Magic, Size, Place, Order, Long, Digest}
 use Rattle.nor_journal.specs.Number.{number_text, number_at}
 use Rattle.nor_journal.specs.Text.{SavedSector, Content, IsContent, IsSectorBelow, AreRising, Format, First, Second, format_of, magic, SameHead, least_after, next_number, head, record_text, records_text, front, body, text, end_mark}
-use Rattle.nor_journal.specs.Fault.{HasFault, HeadFault, IsCut, HasWrongSize, head_length, NextFault, RecordFault, EndFault}
+use Rattle.nor_journal.specs.Fault.{HasFault, HeadFault, IsHeadCut, HasWrongSize, head_length, NextFault, RecordFault, EndFault}
 use Rattle.nor_journal.proofs.Numbers.{length-number_text, number_at-number_text}
 use Rattle.nor_journal.proofs.Fronts.{IsSector, same_parts, number_at-end_mark, length-end_mark, number_at-marked, number_at-record, length-record_text, records_text-cons, records_text-nil, few_sectors, length-magic, same_format, head_opened, length-head, front_opened, text_opened, same_fronts, same_content}
 
@@ -140,7 +140,7 @@ head_magic c x = ap (take 8) (head_opened c x) ∙ take_at _ _ _ (length-magic (
 head_format : (f : Format) (c : Content) (x : List ℕ) → take 8 (head c ++ x) ≡ magic f → format_of c.unique ≡ f
 head_format f c x begins = same_format _ _ (sym (head_magic c x) ∙ begins)
 
-not_cut : (f : Format) (c : Content) (x : List ℕ) → IsContent c → IsCut f (head c ++ x) → ⊥
+not_cut : (f : Format) (c : Content) (x : List ℕ) → IsContent c → IsHeadCut f (head c ++ x) → ⊥
 not_cut f c x is cut = omega (arith, cut.cut, length-append (head c) x, length-head c is, ap head_length (head_format f c x cut.begins))
 
 size_is_right : (f : Format) (c : Content) (x : List ℕ) → IsContent c → HasWrongSize f (head c ++ x) → ⊥

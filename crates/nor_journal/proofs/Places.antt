@@ -6,7 +6,7 @@ use Rattle.nor_journal.specs.declared.fault.JournalFault.{JournalFault}
 use Rattle.nor_journal.specs.declared.head.Head.{Head}
 use Rattle.nor_journal.specs.Text.{IsContent, records_text, head, front, body, text, end_mark}
 use Rattle.nor_journal.specs.Fault.{FaultBehindFront, EndFault}
-use Rattle.nor_journal.specs.Reading.{headed, sectors_in, content_at, IsHead, HasRecords, FaultBehindRecords, EndsBehind}
+use Rattle.nor_journal.specs.Reading.{headed, saved_records, content_at, IsHead, HasRecords, FaultBehindRecords, EndsBehind}
 use Rattle.nor_journal.proofs.Numbers.{IsBytes}
 use Rattle.nor_journal.proofs.SectorRecords.{records_text-sectors_in, with_mark}
 
@@ -31,7 +31,7 @@ module _ (h : Head) (bytes records : List ℕ) (split : bytes ≡ head (headed h
       ∙ ap (λ (t : List ℕ). t ++ records) (same_head h k records)
       ∙ ap (λ (t : List ℕ). head (content_at h k records) ++ t) (sym (take-append-drop (4100 * k) records))
       ∙ ap (λ (t : List ℕ). head (content_at h k records) ++ (t ++ drop (4100 * k) records)) (sym (records_text-sectors_in k records (IsBytes-behind (head (headed h)) records bytes split fits) within))
-      ∙ sym (append_assoc (head (content_at h k records)) (records_text (sectors_in k records)) (drop (4100 * k) records))
+      ∙ sym (append_assoc (head (content_at h k records)) (records_text (saved_records k records)) (drop (4100 * k) records))
 
   length-front : length (front (content_at h k records)) ≡ length bytes - length records + 4100 * k
   length-front = omega (arith, ap length split, ap length front_splits, length-append (head (headed h)) records, length-append (front (content_at h k records)) (drop (4100 * k) records), length-drop (4100 * k) records)

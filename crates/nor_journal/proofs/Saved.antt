@@ -7,7 +7,7 @@ use Rattle.std.proofs.lemmas.Option.{same_Some}
 use Rattle.nor_journal.specs.Text.{SavedSector, Content, IsContent, IsSectorBelow, AreRising, MayFollow, least_after, next_number, empty_content, with_sector}
 use Rattle.nor_journal.specs.Saved.{HasRecord, saved_in}
 use Rattle.nor_journal.specs.declared.head.Head.{Head}
-use Rattle.nor_journal.specs.Reading.{sector_at, sectors_in, HasRecords}
+use Rattle.nor_journal.specs.Reading.{sector_at, saved_records, HasRecords}
 use Rattle.nor_journal.proofs.SectorRecords.{least_after-push, slice_get-sectors_in}
 
 pub next_number-empty_content : (id : List ℕ) (unique : Option (List ℕ)) (status : List ℕ) (size : ℕ) → next_number (empty_content id unique status size) ≡ 0
@@ -168,8 +168,8 @@ saved_in-nil n = refl
 -- ---- of the records that bytes begin with
 
 -- record i is a whole sector of the chip, and is saved
-pub sector_saved : (h : Head) (bytes : List ℕ) (k i : ℕ) (s : SavedSector) → HasRecords h bytes k → i < k → s ≡ sector_at bytes i → (saved_in (sectors_in k bytes) s.number ≡ Some s.bytes) × IsSectorBelow (h.size / 4096) s
+pub sector_saved : (h : Head) (bytes : List ℕ) (k i : ℕ) (s : SavedSector) → HasRecords h bytes k → i < k → s ≡ sector_at bytes i → (saved_in (saved_records k bytes) s.number ≡ Some s.bytes) × IsSectorBelow (h.size / 4096) s
 sector_saved h bytes k i s has lt is =
     let some : SavedSector → Option SavedSector = λ u. Some u in
-    let at : slice_get (sectors_in k bytes) i ≡ Some s = slice_get-sectors_in k bytes i lt ∙ ap some (sym is) in
-    (saved_in-at (h.size / 4096) 0 (sectors_in k bytes) i s has.rising at, (rising_at (h.size / 4096) 0 (sectors_in k bytes) i s has.rising at).0)
+    let at : slice_get (saved_records k bytes) i ≡ Some s = slice_get-sectors_in k bytes i lt ∙ ap some (sym is) in
+    (saved_in-at (h.size / 4096) 0 (saved_records k bytes) i s has.rising at, (rising_at (h.size / 4096) 0 (saved_records k bytes) i s has.rising at).0)

@@ -7,9 +7,9 @@ use Rattle.std.proofs.lemmas.Bool.Decides.{eqb_tells}
 use Rattle.nor_journal.specs.declared.writer.Writer.{Writer}
 use Rattle.nor_journal.specs.Vault.{VaultState}
 use Rattle.nor_journal.specs.Text.{Content, IsContent, SameHead, MayFollow, empty_content, with_sector, text}
-use Rattle.nor_journal.specs.Saved.{IsSector, Saves, HasOneMore, JournalSaves, saved_in, is_saved, saved_byte}
+use Rattle.nor_journal.specs.Saved.{IsWholeSector, Saves, HasOneMore, JournalSaves, saved_in, is_saved, saved_byte}
 use Rattle.nor_journal.specs.declared.fault.JournalFault.{JournalFault}
-use Rattle.nor_journal.specs.Writer.{HasWritten, HasKept}
+use Rattle.nor_journal.specs.Writer.{HasWritten, HasPutSectors}
 use Rattle.nor_journal.proofs.Saved.{saved_in-whole, saved_in-with_sector, saved_in-empty_content, next_number-empty_content, next_number-with_sector}
 use Rattle.nor_journal.proofs.Writes.{IsContent-with_sector}
 
@@ -24,17 +24,17 @@ Saves-same chip saved other c same saves = record {
 }
 
 -- one sector more
-pub Saves-more : (chip : ℕ → ℕ) (saved more : ℕ → Bool) (c : Content) (number : ℕ) (bytes : List ℕ) → Saves chip saved c → MayFollow c number → IsSector chip number bytes → HasOneMore saved number more → Saves chip more (with_sector c number bytes)
+pub Saves-more : (chip : ℕ → ℕ) (saved more : ℕ → Bool) (c : Content) (number : ℕ) (bytes : List ℕ) → Saves chip saved c → MayFollow c number → IsWholeSector chip number bytes → HasOneMore saved number more → Saves chip more (with_sector c number bytes)
 Saves-more chip saved more c number bytes saves follows sector one = record {
   is = IsContent-with_sector c number bytes saves.is follows sector.whole;
-  sectors = λ s is. subst (λ (o : Option (List ℕ)). IsSomeAnd o (IsSector chip s)) (sym (saved_in-with_sector c number bytes s saves.is follows)) (of_sector s is);
+  sectors = λ s is. subst (λ (o : Option (List ℕ)). IsSomeAnd o (IsWholeSector chip s)) (sym (saved_in-with_sector c number bytes s saves.is follows)) (of_sector s is);
   others = λ s is. saved_in-with_sector c number bytes s saves.is follows ∙ of_other s is;
 }
   where
-    of_sector : (s : ℕ) → more s ≡ true → IsSomeAnd (cond (eqb number s) (Some bytes) (saved_in c.saved s)) (IsSector chip s)
+    of_sector : (s : ℕ) → more s ≡ true → IsSomeAnd (cond (eqb number s) (Some bytes) (saved_in c.saved s)) (IsWholeSector chip s)
     of_sector s is =
         elim (eqb_tells number s) [
-          | inl hit ↦ rw (eq-eqb number s hit.1) (subst (λ (n : ℕ). IsSector chip n bytes) hit.1 sector)
+          | inl hit ↦ rw (eq-eqb number s hit.1) (subst (λ (n : ℕ). IsWholeSector chip n bytes) hit.1 sector)
           | inr miss ↦ rw (ne_eqb number s miss.1) (saves.sectors s (sym (one.others s (λ e. miss.1 (sym e))) ∙ is))
         ]
 
@@ -46,11 +46,11 @@ Saves-more chip saved more c number bytes saves follows sector one = record {
         ]
 
 -- a sector that is saved is one of the set, and has the chip's bytes
-pub Saves-sector : (chip : ℕ → ℕ) (saved : ℕ → Bool) (c : Content) (s : ℕ) (bytes : List ℕ) → Saves chip saved c → saved_in c.saved s ≡ Some bytes → (saved s ≡ true) × IsSector chip s bytes
+pub Saves-sector : (chip : ℕ → ℕ) (saved : ℕ → Bool) (c : Content) (s : ℕ) (bytes : List ℕ) → Saves chip saved c → saved_in c.saved s ≡ Some bytes → (saved s ≡ true) × IsWholeSector chip s bytes
 Saves-sector chip saved c s bytes saves e = by_cases (saved s) refl
   where
-    by_cases : (b : Bool) → saved s ≡ b → (saved s ≡ true) × IsSector chip s bytes
-    by_cases true is = (is, subst (λ (o : Option (List ℕ)). IsSomeAnd o (IsSector chip s)) e (saves.sectors s is))
+    by_cases : (b : Bool) → saved s ≡ b → (saved s ≡ true) × IsWholeSector chip s bytes
+    by_cases true is = (is, subst (λ (o : Option (List ℕ)). IsSomeAnd o (IsWholeSector chip s)) e (saves.sectors s is))
     by_cases false is = (let none : Some bytes ≡ None = sym e ∙ saves.others s is in absurd cc)
 
 -- the set is that of the saved sectors
@@ -58,7 +58,7 @@ pub Saves-set : (chip : ℕ → ℕ) (saved : ℕ → Bool) (c : Content) (s : �
 Saves-set chip saved c s saves = by_cases (saved_in c.saved s) refl (saved s) refl
   where
     by_cases : (o : Option (List ℕ)) → saved_in c.saved s ≡ o → (b : Bool) → saved s ≡ b → saved s ≡ is_saved c s
-    by_cases None e true is = absurd (subst (λ (o : Option (List ℕ)). IsSomeAnd o (IsSector chip s)) e (saves.sectors s is))
+    by_cases None e true is = absurd (subst (λ (o : Option (List ℕ)). IsSomeAnd o (IsWholeSector chip s)) e (saves.sectors s is))
     by_cases None e false is = is ∙ sym (ap is_some e)
     by_cases (Some bytes) e true is = is ∙ sym (ap is_some e)
     by_cases (Some bytes) e false is = (let none : Some bytes ≡ None = sym e ∙ saves.others s is in absurd cc)
@@ -67,7 +67,7 @@ Saves-set chip saved c s saves = by_cases (saved_in c.saved s) refl (saved s) re
 pub saved_byte-is : (chip : ℕ → ℕ) (saved : ℕ → Bool) (c : Content) (a : ℕ) → Saves chip saved c → saved (a / 4096) ≡ true → saved_byte c a ≡ chip a
 saved_byte-is chip saved c a saves is = of_sector (saved_in c.saved (a / 4096)) (saves.sectors (a / 4096) is)
   where
-    of_sector : (o : Option (List ℕ)) → IsSomeAnd o (IsSector chip (a / 4096)) → slice_index (unwrap_or o []) (a % 4096) ≡ chip a
+    of_sector : (o : Option (List ℕ)) → IsSomeAnd o (IsWholeSector chip (a / 4096)) → slice_index (unwrap_or o []) (a % 4096) ≡ chip a
     of_sector None never = absurd never
     of_sector (Some bytes) sector = sector.same (a % 4096) (omega arith) ∙ ap chip (omega arith)
 
@@ -79,7 +79,7 @@ Saves-itself c is = record { is = is; sectors = λ s e. of_sector s (saved_in c.
     of_other None e = refl
     of_other (Some bytes) e = absurd cc
 
-    of_sector : (s : ℕ) (o : Option (List ℕ)) → saved_in c.saved s ≡ o → is_some o ≡ true → IsSomeAnd o (IsSector (saved_byte c) s)
+    of_sector : (s : ℕ) (o : Option (List ℕ)) → saved_in c.saved s ≡ o → is_some o ≡ true → IsSomeAnd o (IsWholeSector (saved_byte c) s)
     of_sector s None e some = absurd cc
     of_sector s (Some bytes) e some = record {
       whole = (saved_in-whole (c.size / 4096) 0 c.saved s bytes is.saved e).1;
@@ -101,7 +101,7 @@ reads_kept bytes (Err fault) head chip saved kept never = absurd never
 
 -- nothing is saved behind the head
 pub HasKept-none : {V : Type 0} (state : V → VaultState) (w : Writer V) (id : List ℕ) (unique : Option (List ℕ)) (status : List ℕ) (size : ℕ) (chip : ℕ → ℕ) (saved : ℕ → Bool) (n : ℕ)
-    → HasWritten state w (empty_content id unique status size) → ((s : ℕ) → saved s ≡ false) → HasKept state w (empty_content id unique status size) chip saved n
+    → HasWritten state w (empty_content id unique status size) → ((s : ℕ) → saved s ≡ false) → HasPutSectors state w (empty_content id unique status size) chip saved n
 HasKept-none state w id unique status size chip saved n written none = record {
   content = empty_content id unique status size;
   written = written;
@@ -115,7 +115,7 @@ HasKept-none state w id unique status size chip saved n written none = record {
 }
 
 -- the same set by another test, or a bound that is higher
-pub HasKept-same : {V : Type 0} (state : V → VaultState) (w : Writer V) (head : Content) (chip : ℕ → ℕ) (saved other : ℕ → Bool) (n m : ℕ) → ((s : ℕ) → other s ≡ saved s) → n ≤ m → HasKept state w head chip saved n → HasKept state w head chip other m
+pub HasKept-same : {V : Type 0} (state : V → VaultState) (w : Writer V) (head : Content) (chip : ℕ → ℕ) (saved other : ℕ → Bool) (n m : ℕ) → ((s : ℕ) → other s ≡ saved s) → n ≤ m → HasPutSectors state w head chip saved n → HasPutSectors state w head chip other m
 HasKept-same state w head chip saved other n m same above kept = record {
   content = kept.content;
   written = kept.written;
@@ -125,15 +125,15 @@ HasKept-same state w head chip saved other n m same above kept = record {
 }
 
 -- a sector that isn't below the bound may follow
-pub may_follow : {V : Type 0} (state : V → VaultState) (w : Writer V) (head : Content) (chip : ℕ → ℕ) (saved : ℕ → Bool) (n number : ℕ) (kept : HasKept state w head chip saved n) → n ≤ number → number < head.size / 4096 → MayFollow kept.content number
+pub may_follow : {V : Type 0} (state : V → VaultState) (w : Writer V) (head : Content) (chip : ℕ → ℕ) (saved : ℕ → Bool) (n number : ℕ) (kept : HasPutSectors state w head chip saved n) → n ≤ number → number < head.size / 4096 → MayFollow kept.content number
 may_follow state w head chip saved n number kept above place = record {
   rises = omega (arith, kept.next);
   place = subst (λ (size : ℕ). number < size / 4096) kept.same.size place;
 }
 
 -- one sector more
-pub HasKept-more : {V : Type 0} (state : V → VaultState) (old new : Writer V) (head : Content) (chip : ℕ → ℕ) (saved more : ℕ → Bool) (n number : ℕ) (bytes : List ℕ) (kept : HasKept state old head chip saved n)
-    → MayFollow kept.content number → IsSector chip number bytes → HasOneMore saved number more → HasWritten state new (with_sector kept.content number bytes) → HasKept state new head chip more (number + 1)
+pub HasKept-more : {V : Type 0} (state : V → VaultState) (old new : Writer V) (head : Content) (chip : ℕ → ℕ) (saved more : ℕ → Bool) (n number : ℕ) (bytes : List ℕ) (kept : HasPutSectors state old head chip saved n)
+    → MayFollow kept.content number → IsWholeSector chip number bytes → HasOneMore saved number more → HasWritten state new (with_sector kept.content number bytes) → HasPutSectors state new head chip more (number + 1)
 HasKept-more state old new head chip saved more n number bytes kept follows sector one written = record {
   content = with_sector kept.content number bytes;
   written = written;
@@ -143,5 +143,5 @@ HasKept-more state old new head chip saved more n number bytes kept follows sect
 }
 
 -- what was kept is what the journal saves
-pub HasKept-ends : {V : Type 0} (state : V → VaultState) (w : Writer V) (head : Content) (chip : ℕ → ℕ) (saved : ℕ → Bool) (n : ℕ) (bytes : List ℕ) (kept : HasKept state w head chip saved n) → bytes ≡ text kept.content → JournalSaves head chip saved bytes
+pub HasKept-ends : {V : Type 0} (state : V → VaultState) (w : Writer V) (head : Content) (chip : ℕ → ℕ) (saved : ℕ → Bool) (n : ℕ) (bytes : List ℕ) (kept : HasPutSectors state w head chip saved n) → bytes ≡ text kept.content → JournalSaves head chip saved bytes
 HasKept-ends state w head chip saved n bytes kept is = record { content = kept.content; same = kept.same; saves = kept.saves; is = is }

@@ -8,7 +8,7 @@ use Rattle.std.proofs.lemmas.Grind.{flat_map-append}
 use Rattle.nor_journal.specs.Number.{number_text, number_at}
 use Rattle.nor_journal.specs.Text.{SavedSector, IsSectorBelow, AreRising, least_after, record_text, records_text, next_number, end_mark}
 use Rattle.nor_journal.specs.declared.head.Head.{Head}
-use Rattle.nor_journal.specs.Reading.{sector_at, sectors_in, content_at, HasRecords, BeginsRecord}
+use Rattle.nor_journal.specs.Reading.{sector_at, saved_records, content_at, HasRecords, BeginsRecord}
 use Rattle.nor_journal.proofs.Numbers.{IsBytes, IsBytes-drop, number_text-number_at}
 
 -- one more sector at the end
@@ -30,10 +30,10 @@ records_text-push ss s = flat_map-append record_text ss (s ∷ []) ∙ ap (λ (t
 
 -- ---- the records that bytes begin with
 
-pub length-sectors_in : (k : ℕ) (bytes : List ℕ) → length (sectors_in k bytes) ≡ k
-unfolding sectors_in
+pub length-sectors_in : (k : ℕ) (bytes : List ℕ) → length (saved_records k bytes) ≡ k
+unfolding saved_records
 length-sectors_in zero bytes = refl
-length-sectors_in (suc k) bytes = omega (arith, length_push (sectors_in k bytes) (sector_at bytes k), length-sectors_in k bytes)
+length-sectors_in (suc k) bytes = omega (arith, length_push (saved_records k bytes) (sector_at bytes k), length-sectors_in k bytes)
 
 slice_get-push_last : (ss : List SavedSector) (s : SavedSector) (n : ℕ) → length ss ≡ n → slice_get (ss ++ s ∷ []) n ≡ Some s
 slice_get-push_last [] s zero e = refl
@@ -46,13 +46,13 @@ slice_get-push_before [] s n lt = absurd (omega arith)
 slice_get-push_before (x ∷ ss) s zero lt = refl
 slice_get-push_before (x ∷ ss) s (suc n) lt = slice_get-push_before ss s n (omega arith)
 
-pub slice_get-sectors_in : (k : ℕ) (bytes : List ℕ) (i : ℕ) → i < k → slice_get (sectors_in k bytes) i ≡ Some (sector_at bytes i)
-unfolding sectors_in
+pub slice_get-sectors_in : (k : ℕ) (bytes : List ℕ) (i : ℕ) → i < k → slice_get (saved_records k bytes) i ≡ Some (sector_at bytes i)
+unfolding saved_records
 slice_get-sectors_in zero bytes i lt = absurd (omega arith)
 slice_get-sectors_in (suc k) bytes i lt =
     elim (cases_lt i k) [
-      | inl below ↦ slice_get-push_before (sectors_in k bytes) (sector_at bytes k) i (omega (arith, length-sectors_in k bytes)) ∙ slice_get-sectors_in k bytes i below
-      | inr at ↦ (let e : k ≡ i = omega arith in rw (← e) (slice_get-push_last (sectors_in k bytes) (sector_at bytes k) k (length-sectors_in k bytes)))
+      | inl below ↦ slice_get-push_before (saved_records k bytes) (sector_at bytes k) i (omega (arith, length-sectors_in k bytes)) ∙ slice_get-sectors_in k bytes i below
+      | inr at ↦ (let e : k ≡ i = omega arith in rw (← e) (slice_get-push_last (saved_records k bytes) (sector_at bytes k) k (length-sectors_in k bytes)))
     ]
 
 take-nil : (n : ℕ) → take {A = ℕ} n [] ≡ []
@@ -73,41 +73,41 @@ record_text-sector_at k bytes fits long =
     number_text-number_at (drop (4100 * k) bytes) (IsBytes-drop (4100 * k) bytes fits) (omega (arith, length-drop (4100 * k) bytes)) in
     rw number (ap (λ (t : List ℕ). take 4 (drop (4100 * k) bytes) ++ take 4096 t) (sym (drop-drop 4 (4100 * k) bytes)) ∙ take_two 4 4096 (drop (4100 * k) bytes))
 
-pub records_text-sectors_in : (k : ℕ) (bytes : List ℕ) → IsBytes bytes → 4100 * k ≤ length bytes → records_text (sectors_in k bytes) ≡ take (4100 * k) bytes
-unfolding sectors_in
+pub records_text-sectors_in : (k : ℕ) (bytes : List ℕ) → IsBytes bytes → 4100 * k ≤ length bytes → records_text (saved_records k bytes) ≡ take (4100 * k) bytes
+unfolding saved_records
 records_text-sectors_in zero bytes fits long = records_text-nil
 records_text-sectors_in (suc k) bytes fits long =
     let so_far = records_text-sectors_in k bytes fits (omega arith) in
     let next = record_text-sector_at k bytes fits (omega arith) in
-    records_text-push (sectors_in k bytes) (sector_at bytes k) ∙ rw (so_far, next) (take_two (4100 * k) 4100 bytes ∙ ap (λ (n : ℕ). take n bytes) (omega arith))
+    records_text-push (saved_records k bytes) (sector_at bytes k) ∙ rw (so_far, next) (take_two (4100 * k) 4100 bytes ∙ ap (λ (n : ℕ). take n bytes) (omega arith))
 
 -- ---- one record more
 
 -- what the next record adds to those before it
 pub has_one_more : (h : Head) (bytes : List ℕ) (k : ℕ) (least : ℕ) (rest : List ℕ) (n : ℕ) → HasRecords h bytes k → rest ≡ drop (4100 * k) bytes → least ≡ next_number (content_at h k bytes)
     → BeginsRecord (h.size / 4096) least rest n → HasRecords h bytes (k + 1)
-unfolding next_number sectors_in
+unfolding next_number saved_records
 has_one_more h bytes k least rest n so_far rest-is least-is begins =
     let long : 4100 * k + 4100 ≤ length bytes = omega (arith, begins.whole, ap length rest-is, length-drop (4100 * k) bytes) in
     let number : n ≡ number_at (drop (4100 * k) bytes) = rw (← rest-is) begins.is in
     let whole : length (take 4096 (drop (4100 * k + 4) bytes)) ≡ 4096 = omega (arith, length-take 4096 (drop (4100 * k + 4) bytes), length-drop (4100 * k + 4) bytes) in
     record {
       within = omega arith;
-      rising = rw (add-one k) (AreRising-push (h.size / 4096) 0 (sectors_in k bytes) (sector_at bytes k) so_far.rising
+      rising = rw (add-one k) (AreRising-push (h.size / 4096) 0 (saved_records k bytes) (sector_at bytes k) so_far.rising
           (record { place = rw (← number) begins.place; whole = whole })
           (rw (← number, ← least-is) begins.rises));
     }
 
 pub next_number-more : (h : Head) (bytes : List ℕ) (k : ℕ) (n : ℕ) → n ≡ number_at (drop (4100 * k) bytes) → n + 1 ≡ next_number (content_at h (k + 1) bytes)
-unfolding next_number sectors_in
-next_number-more h bytes k n e = rw (add-one k) (ap (λ (m : ℕ). m + 1) e ∙ sym (least_after-push 0 (sectors_in k bytes) (sector_at bytes k)))
+unfolding next_number saved_records
+next_number-more h bytes k n e = rw (add-one k) (ap (λ (m : ℕ). m + 1) e ∙ sym (least_after-push 0 (saved_records k bytes) (sector_at bytes k)))
 
 pub starts : (h : Head) (bytes : List ℕ) → HasRecords h bytes 0
-unfolding sectors_in
+unfolding saved_records
 starts h bytes = record { within = omega arith; rising = tt }
 
 pub next_number-none : (h : Head) (bytes : List ℕ) → 0 ≡ next_number (content_at h 0 bytes)
-unfolding next_number sectors_in
+unfolding next_number saved_records
 next_number-none h bytes = refl
 
 -- up to the end mark, and with it

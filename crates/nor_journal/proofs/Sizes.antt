@@ -4,7 +4,7 @@ use Rattle.std.specs.Int.RustNames.{count_ones}
 use Rattle.std.proofs.lemmas.Bool.{cases_lt}
 use Rattle.std.proofs.lemmas.Bool.Decides.{nat_tests}
 use Rattle.std.proofs.lemmas.Nat.{ones_cat, ones_le_self, zero_from_ones}
-use Rattle.nor_journal.specs.Text.{IsChipSize}
+use Rattle.nor_journal.specs.Text.{IsJournalSize}
 
 some_ones : (n : ℕ) → 0 < n → 0 < count_ones n
 some_ones n positive = elim (cases_lt 0 (count_ones n)) [
@@ -13,7 +13,7 @@ some_ones n positive = elim (cases_lt 0 (count_ones n)) [
 ]
 
 -- a chip is made of whole sectors
-pub whole_sectors : (size : ℕ) → IsChipSize size → 4096 * (size / 4096) ≡ size
+pub whole_sectors : (size : ℕ) → IsJournalSize size → 4096 * (size / 4096) ≡ size
 whole_sectors size is =
     let one : count_ones size ≡ 1 = (let power = is.power in grind (arith, nat_tests)) in
     let parts : size ≡ size / 4096 * 2 ^ 12 + size % 4096 = omega arith in
@@ -23,7 +23,7 @@ whole_sectors size is =
     omega arith
 
 -- two to a power from 16 to 24
-pub IsChipSize-power : (k : ℕ) → 65536 ≤ 2 ^ k → 2 ^ k ≤ 16777216 → IsChipSize (2 ^ k)
+pub IsChipSize-power : (k : ℕ) → 65536 ≤ 2 ^ k → 2 ^ k ≤ 16777216 → IsJournalSize (2 ^ k)
 IsChipSize-power k least most = record {
   power =
       (let whole : 2 ^ k ≡ 1 * 2 ^ k + 0 = omega arith in

@@ -7,7 +7,7 @@ use Rattle.std.proofs.lemmas.List.{append-nil}
 use Rattle.nor_journal.specs.Vault.{VaultState, Took, Seals}
 use Rattle.nor_journal.specs.declared.writer.Writer.{Writer}
 use Rattle.nor_journal.specs.Number.{number_text}
-use Rattle.nor_journal.specs.Text.{SavedSector, Content, IsContent, IsChipSize, Second, magic, MayFollow, next_number, head, record_text, records_text, end_mark, front, body, text, empty_content, with_sector}
+use Rattle.nor_journal.specs.Text.{SavedSector, Content, IsContent, IsJournalSize, Second, magic, MayFollow, next_number, head, record_text, records_text, end_mark, front, body, text, empty_content, with_sector}
 use Rattle.nor_journal.specs.Writer.{HasPut, HasWritten}
 use Rattle.nor_journal.proofs.SectorRecords.{AreRising-push, records_text-push, records_text-nil}
 
@@ -18,7 +18,7 @@ front-empty_content id unique status size =
     ap (λ (t : List ℕ). whole ++ t) records_text-nil ∙ append-nil whole
 
 -- the head makes a content with no sector
-pub opens : {V : Type 0} (state : V → VaultState) (w : Writer V) (id unique status number : List ℕ) (size : ℕ) → length id ≡ 3 → length unique ≡ 8 → length status ≡ 2 → IsChipSize size → number ≡ number_text size
+pub opens : {V : Type 0} (state : V → VaultState) (w : Writer V) (id unique status number : List ℕ) (size : ℕ) → length id ≡ 3 → length unique ≡ 8 → length status ≡ 2 → IsJournalSize size → number ≡ number_text size
     → HasPut state w ((((magic Second ++ id) ++ unique) ++ status) ++ number) → HasWritten state w (empty_content id (Some unique) status size)
 opens state w id unique status number size three eight two is e put = record {
   is = record { id = three; unique = eight; status = two; size = is; saved = tt };

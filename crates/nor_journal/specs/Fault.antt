@@ -2,7 +2,7 @@
 use Rattle.std.specs.Prelude.{◌≡◌, ◌≢◌, ℕ, ◌-◌, ◌/◌, ◌<◌, ◌≤◌, List, ◌++◌, length, take, drop, ◌⊎◌}
 use Rattle.sha2.specs.Sha256.{sha256}
 use Rattle.nor_journal.specs.Number.{number_at}
-use Rattle.nor_journal.specs.Text.{Content, IsContent, IsChipSize, Format, First, Second, magic, front, end_mark, next_number}
+use Rattle.nor_journal.specs.Text.{Content, IsContent, IsJournalSize, Format, First, Second, magic, front, end_mark, next_number}
 use Rattle.nor_journal.specs.declared.fault.JournalFault.{JournalFault}
 use Rattle.nor_journal.specs.declared.fault.JournalFault.TheVariants.{Short, Magic, Size, Place, Order, Long, Digest}
 
@@ -22,7 +22,7 @@ head_length First = 17
 head_length Second = 25
 
 -- The magic is this format's, and the head isn't wholly there.
-pub record IsCut (format : Format) (bytes : List ℕ) : Type 0 where
+pub record IsHeadCut (format : Format) (bytes : List ℕ) : Type 0 where
   pub begins : take 8 bytes ≡ magic format
   pub cut : length bytes < head_length format
 
@@ -30,12 +30,12 @@ pub record IsCut (format : Format) (bytes : List ℕ) : Type 0 where
 pub record HasWrongSize (format : Format) (bytes : List ℕ) : Type 0 where
   pub begins : take 8 bytes ≡ magic format
   pub whole : head_length format ≤ length bytes
-  pub wrong : ¬ IsChipSize (number_at (drop (head_length format - 4) bytes))
+  pub wrong : ¬ IsJournalSize (number_at (drop (head_length format - 4) bytes))
 
 -- The head has this fault.
 abbrev pub HeadFault : List ℕ → JournalFault → Type 0
 -- the magic isn't wholly there, or the magic is and another part of the head isn't
-HeadFault bytes Short = (length bytes < 8) ⊎ (IsCut First bytes ⊎ IsCut Second bytes)
+HeadFault bytes Short = (length bytes < 8) ⊎ (IsHeadCut First bytes ⊎ IsHeadCut Second bytes)
 HeadFault bytes Magic = (8 ≤ length bytes) × (take 8 bytes ≢ magic First) × (take 8 bytes ≢ magic Second)
 HeadFault bytes Size = HasWrongSize First bytes ⊎ HasWrongSize Second bytes
 HeadFault bytes Place = ⊥

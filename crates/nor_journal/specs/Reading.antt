@@ -1,7 +1,7 @@
 -- The content that bytes have at their places.
 use Rattle.std.specs.Prelude.{◌≡◌, ℕ, zero, suc, ◌+◌, ◌*◌, ◌/◌, ◌<◌, ◌≤◌, List, [], ◌∷◌, ◌++◌, length, take, drop, IfSome}
 use Rattle.nor_journal.specs.Number.{number_at}
-use Rattle.nor_journal.specs.Text.{SavedSector, Content, IsChipSize, AreRising, next_number, end_mark}
+use Rattle.nor_journal.specs.Text.{SavedSector, Content, IsJournalSize, AreRising, next_number, end_mark}
 use Rattle.nor_journal.specs.Fault.{RecordFault}
 use Rattle.nor_journal.specs.declared.fault.JournalFault.{JournalFault}
 use Rattle.nor_journal.specs.declared.head.Head.{Head}
@@ -11,9 +11,9 @@ abbrev pub sector_at : List ℕ → ℕ → SavedSector
 sector_at bytes k = record { number = number_at (drop (4100 * k) bytes); bytes = take 4096 (drop (4100 * k + 4) bytes) }
 
 -- the first k records of such bytes
-unfoldable pub sectors_in : ℕ → List ℕ → List SavedSector
-sectors_in zero bytes = []
-sectors_in (suc k) bytes = sectors_in k bytes ++ sector_at bytes k ∷ []
+unfoldable pub saved_records : ℕ → List ℕ → List SavedSector
+saved_records zero bytes = []
+saved_records (suc k) bytes = saved_records k bytes ++ sector_at bytes k ∷ []
 
 -- what a head says, with no sector saved
 abbrev pub headed : Head → Content
@@ -22,19 +22,19 @@ headed h = record { id = h.id; unique = h.unique; status = h.status; size = h.si
 -- the same with the first k records of the bytes behind the head
 abbrev pub content_at : Head → ℕ → List ℕ → Content
 content_at h k bytes =
-    record { id = h.id; unique = h.unique; status = h.status; size = h.size; saved = sectors_in k bytes }
+    record { id = h.id; unique = h.unique; status = h.status; size = h.size; saved = saved_records k bytes }
 
 -- a head that a content may have
 pub record IsHead (h : Head) : Type 0 where
   pub id : length h.id ≡ 3
   pub unique : IfSome h.unique (λ unique. length unique ≡ 8)
   pub status : length h.status ≡ 2
-  pub size : IsChipSize h.size
+  pub size : IsJournalSize h.size
 
 -- The bytes behind the head begin with k records in order.
 pub record HasRecords (h : Head) (bytes : List ℕ) (k : ℕ) : Type 0 where
   pub within : 4100 * k ≤ length bytes
-  pub rising : AreRising (h.size / 4096) 0 (sectors_in k bytes)
+  pub rising : AreRising (h.size / 4096) 0 (saved_records k bytes)
 
 -- The next record behind some of them has this fault.
 pub record FaultBehindRecords (h : Head) (bytes : List ℕ) (fault : JournalFault) : Type 0 where

@@ -22,14 +22,14 @@ abbrev pub saved_byte : Content → (a : ℕ) → ℕ
 saved_byte content a = slice_index (unwrap_or (saved_in content.saved (a / 4096)) []) (a % 4096)
 
 -- The bytes are those of sector s, where each address of a chip has its byte.
-pub record IsSector (chip : ℕ → ℕ) (s : ℕ) (bytes : List ℕ) : Type 0 where
+pub record IsWholeSector (chip : ℕ → ℕ) (s : ℕ) (bytes : List ℕ) : Type 0 where
   pub whole : length bytes ≡ 4096
   pub same : (i : ℕ) → i < 4096 → slice_index bytes i ≡ chip (4096 * s + i)
 
 -- A content saves just these sectors, with the bytes that the chip has in them.
 pub record Saves (chip : ℕ → ℕ) (saved : ℕ → Bool) (content : Content) : Type 0 where
   pub is : IsContent content
-  pub sectors : (s : ℕ) → saved s ≡ true → IsSomeAnd (saved_in content.saved s) (IsSector chip s)
+  pub sectors : (s : ℕ) → saved s ≡ true → IsSomeAnd (saved_in content.saved s) (IsWholeSector chip s)
   pub others : (s : ℕ) → saved s ≡ false → saved_in content.saved s ≡ None
 
 -- The second set is the first with this sector.

@@ -27,7 +27,7 @@ pub record Content : Type 0 where
 -- ---- which contents there are
 
 -- a size that a chip may have: a power of two from 64 KiB to 16 MiB
-pub record IsChipSize (size : ℕ) : Type 0 where
+pub record IsJournalSize (size : ℕ) : Type 0 where
   pub power : is_power_of_two size ≡ true
   pub least : 65536 ≤ size
   pub most : size ≤ 16777216
@@ -48,7 +48,7 @@ pub record IsContent (c : Content) : Type 0 where
   pub id : length c.id ≡ 3
   pub unique : IfSome c.unique (λ unique. length unique ≡ 8)
   pub status : length c.status ≡ 2
-  pub size : IsChipSize c.size
+  pub size : IsJournalSize c.size
   pub saved : AreRising (c.size / 4096) 0 c.saved
 
 -- ---- the text

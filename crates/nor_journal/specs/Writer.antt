@@ -26,7 +26,7 @@ pub record HasWritten {V : Type 0} (state : V → VaultState) (writer : Writer V
   pub put : HasPut state writer (front content)
 
 -- The head went in, and of the chip just these sectors, all below n.
-pub record HasKept {V : Type 0} (state : V → VaultState) (writer : Writer V) (head : Content)
+pub record HasPutSectors {V : Type 0} (state : V → VaultState) (writer : Writer V) (head : Content)
     (chip : ℕ → ℕ) (saved : ℕ → Bool) (n : ℕ) : Type 0 where
   pub content : Content
   pub written : HasWritten state writer content

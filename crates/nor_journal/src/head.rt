@@ -1,6 +1,6 @@
 //! The head of a journal: what stands before its records. It differs by the format.
 ghost use Rattle.std.specs.Prelude.{◌≡◌, ◌↔◌, ◌++◌, take, IsTrue, IfOk, IfErr};
-ghost use Rattle.nor_journal.specs.Text.{IsChipSize, First, Second, head, magic};
+ghost use Rattle.nor_journal.specs.Text.{IsJournalSize, First, Second, head, magic};
 ghost use Rattle.nor_journal.specs.Fault.{HeadFault};
 ghost use Rattle.nor_journal.specs.Reading.{IsHead, headed};
 
@@ -30,7 +30,7 @@ pub struct Head {
 
 /// Whether it is a power of two from 64 KiB to 16 MiB.
 fn is_chip_size(size: u32) -> bool
-    ensures { IsTrue result ↔ IsChipSize size }
+    ensures { IsTrue result ↔ IsJournalSize size }
 {
     size.is_power_of_two() && (0x1_0000..=0x100_0000).contains(&size)
 }

@@ -1,9 +1,9 @@
 //! Writes a journal into a vault, piece by piece.
 ghost use Rattle.std.specs.Prelude.{◌≡◌, ◌+◌, ◌/◌, ◌<◌, ◌≤◌, ◌++◌, List, ℕ, Bool, [], false, true, length, Some, OnOk, IfOk};
 ghost use Rattle.nor_journal.specs.Vault.{Accepted, PutsOn, Completes, IsFresh};
-ghost use Rattle.nor_journal.specs.Text.{Content, IsContent, IsChipSize, MayFollow, empty_content, with_sector, text};
-ghost use Rattle.nor_journal.specs.Saved.{IsSector, HasOneMore, JournalSaves};
-ghost use Rattle.nor_journal.specs.Writer.{vault_of, vault_state, HasPut, HasWritten, HasKept};
+ghost use Rattle.nor_journal.specs.Text.{Content, IsContent, IsJournalSize, MayFollow, empty_content, with_sector, text};
+ghost use Rattle.nor_journal.specs.Saved.{IsWholeSector, HasOneMore, JournalSaves};
+ghost use Rattle.nor_journal.specs.Writer.{vault_of, vault_state, HasPut, HasWritten, HasPutSectors};
 
 use crate::head::MAGIC;
 use crate::number::number_bytes;
@@ -48,7 +48,7 @@ impl<'a, V: Vault> Writer<'a, V> {
         size: u32,
     ) -> Result<Writer<'a, V>, VaultFault>
         requires fresh { IsFresh (V.state vault.old) }
-        requires size { IsChipSize size }
+        requires size { IsJournalSize size }
         ensures same_vault { IfOk result (λ writer. (vault_of writer).ghost_name ≡ vault.entry.ghost_name) }
         ensures vault { IfOk result (λ writer. Accepted (V.state vault.old) (vault_state V.state writer)) }
         ensures written { IfOk result (λ writer. HasWritten V.state writer
@@ -94,7 +94,7 @@ impl<'a, V: Vault> Writer<'a, V> {
         size: u32,
     ) -> Result<(), VaultFault>
         requires unsealed { (vault_state V.state self.old).sealed ≡ false }
-        requires size { IsChipSize size }
+        requires size { IsJournalSize size }
         ensures same_vault { (vault_of self.new).ghost_name ≡ (vault_of self.old).ghost_name }
         ensures vault { PutsOn (vault_state V.state self.old) result (vault_state V.state self.new) }
         ensures written { HasPut V.state self.old []
@@ -115,9 +115,9 @@ impl<'a, V: Vault> Writer<'a, V> {
         ensures written { (c : Content) → HasWritten V.state self.old c → MayFollow c number
             → OnOk result (HasWritten V.state self.new (with_sector c number bytes.now)) }
         ensures kept { (head : Content) (chip : ℕ → ℕ) (saved more : ℕ → Bool) (n : ℕ)
-            → HasKept V.state self.old head chip saved n → n ≤ number → number < head.size / 4096
-            → IsSector chip number bytes.now → HasOneMore saved number more
-            → OnOk result (HasKept V.state self.new head chip more (number + 1)) }
+            → HasPutSectors V.state self.old head chip saved n → n ≤ number → number < head.size / 4096
+            → IsWholeSector chip number bytes.now → HasOneMore saved number more
+            → OnOk result (HasPutSectors V.state self.new head chip more (number + 1)) }
     {
         self.piece(&record_bytes(number, bytes))
     }
@@ -129,7 +129,7 @@ impl<'a, V: Vault> Writer<'a, V> {
         ensures written { (c : Content) → HasWritten V.state self.entry c
             → OnOk result ((V.state self.exit.0.now).telling ≡ true → (V.state self.exit.0.now).bytes ≡ text c) }
         ensures kept { (head : Content) (chip : ℕ → ℕ) (saved : ℕ → Bool) (n : ℕ)
-            → HasKept V.state self.entry head chip saved n
+            → HasPutSectors V.state self.entry head chip saved n
             → OnOk result ((V.state self.exit.0.now).telling ≡ true
             → JournalSaves head chip saved (V.state self.exit.0.now).bytes) }
     {

@@ -4,7 +4,7 @@ use Rattle.std.proofs.Math.Nat.{pow-le-pow_right, pow-suc}
 use Rattle.std.proofs.lemmas.Bool.{cases_Bool}
 use Rattle.std.proofs.lemmas.Bool.Decides.{nat_tests}
 use Rattle.std.proofs.lemmas.List.{drop_more, length-drop}
-use Rattle.nor_layout.specs.Address.{is_hex_digit, hex_value, number_of}
+use Rattle.nor_layout.specs.Address.{is_hex_digit, hex_value, digits_number}
 
 -- a digit is below 16
 pub hex_value-lt : (byte : ℕ) → is_hex_digit byte ≡ true → hex_value byte < 16
@@ -23,12 +23,12 @@ regroup v h p m = omega arith
 
 -- one digit more
 pub number_of-more : (digits : List ℕ) (i value : ℕ) → i < length digits
-    → value * 16 ^ (length digits - i) + number_of (drop i digits) ≡ (value * 16 + hex_value (get_or digits i 0)) * 16 ^ (length digits - (i + 1)) + number_of (drop (i + 1) digits)
+    → value * 16 ^ (length digits - i) + digits_number (drop i digits) ≡ (value * 16 + hex_value (get_or digits i 0)) * 16 ^ (length digits - (i + 1)) + digits_number (drop (i + 1) digits)
 number_of-more digits i value lt =
     let k : length digits - i ≡ suc (length digits - (i + 1)) = omega arith in
     let n : length (drop (i + 1) digits) ≡ length digits - (i + 1) = length-drop (i + 1) digits in
-    let rest : number_of (drop i digits) ≡ hex_value (get_or digits i 0) * 16 ^ length (drop (i + 1) digits) + number_of (drop (i + 1) digits) = ap number_of (drop_more digits i 0 lt) in
-    rw (rest, k, n, pow-suc) (regroup value (hex_value (get_or digits i 0)) (16 ^ (length digits - (i + 1))) (number_of (drop (i + 1) digits)))
+    let rest : digits_number (drop i digits) ≡ hex_value (get_or digits i 0) * 16 ^ length (drop (i + 1) digits) + digits_number (drop (i + 1) digits) = ap digits_number (drop_more digits i 0 lt) in
+    rw (rest, k, n, pow-suc) (regroup value (hex_value (get_or digits i 0)) (16 ^ (length digits - (i + 1))) (digits_number (drop (i + 1) digits)))
 
 -- at most 8 digits fit 32 bits
 pub pow-fits : (i : ℕ) → i ≤ 8 → 16 ^ i ≤ 2 ^ 32

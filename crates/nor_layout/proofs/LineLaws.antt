@@ -5,7 +5,7 @@ use Rattle.std.specs.List.{list_all}
 use Rattle.std.proofs.lemmas.Bool.{cases_Bool, eqb-true, eq-eqb, ltb-false, le-ltb, not-true, not_from_false, false_from_ne_true, both_ways, and_parts, and_from}
 use Rattle.nor_layout.specs.declared.region.Region.{Region}
 use Rattle.nor_layout.specs.declared.fault.LineFault.{LineFault}
-use Rattle.nor_layout.specs.Address.{is_hex_digit, number_of, digits_of, are_digits, address_of}
+use Rattle.nor_layout.specs.Address.{is_hex_digit, digits_number, digits_of, are_digits, digits_address}
 use Rattle.nor_layout.specs.Line.{cut_at, without_spaces, Parts, with_start, parts_behind, parts_of, is_name_byte, is_name, region_of, parts_say, line_says}
 use Rattle.nor_layout.specs.Grammar.{IsAddress, IsLine}
 
@@ -28,14 +28,14 @@ digits_of-is (a ∷ b ∷ text) =
       | inr plain ↦ inl (rw plain refl)
     ]
 
-address_of-found : (text : List ℕ) (address : ℕ) → address_of text ≡ Some address → IsAddress text address
+address_of-found : (text : List ℕ) (address : ℕ) → digits_address text ≡ Some address → IsAddress text address
 address_of-found text address e =
     elim (cases_Bool (are_digits (digits_of text))) [
       | inl hexadecimal ↦ record {
         digits = digits_of text;
         text_is = digits_of-is text;
         hexadecimal = hexadecimal;
-        address_is = some_is (number_of (digits_of text)) address (rw hexadecimal at e);
+        address_is = some_is (digits_number (digits_of text)) address (rw hexadecimal at e);
       }
       | inr isnt ↦ absurd (let f = rw isnt at e in cc)
     ]
@@ -56,7 +56,7 @@ digits_of-digits (a ∷ b ∷ digits) all =
 all_digits : (digits : List ℕ) → are_digits digits ≡ true → list_all is_hex_digit digits ≡ true
 all_digits digits are = (and_parts (leb 1 (length digits) && leb (length digits) 8) (list_all is_hex_digit digits) are).1
 
-address_of-taken : (text : List ℕ) (address : ℕ) → IsAddress text address → address_of text ≡ Some address
+address_of-taken : (text : List ℕ) (address : ℕ) → IsAddress text address → digits_address text ≡ Some address
 address_of-taken text address is =
     let plain : digits_of is.digits ≡ is.digits = digits_of-digits is.digits (all_digits is.digits is.hexadecimal) in
     let same : digits_of text ≡ is.digits = elim is.text_is [ inl e ↦ ap digits_of e ∙ plain | inr e ↦ ap digits_of e ] in
@@ -160,8 +160,8 @@ line_says-taken line region is =
     let first : cut_at 58 line ≡ Some (is.start_text, is.end_text ++ 32 ∷ (is.spaces ++ region.name.items)) = ap (cut_at 58) is.line_is ∙ cut_at-taken 58 is.start_text _ no_colon in
     let second : cut_at 32 (is.end_text ++ 32 ∷ (is.spaces ++ region.name.items)) ≡ Some (is.end_text, is.spaces ++ region.name.items) = cut_at-taken 32 is.end_text _ no_space in
     let third : without_spaces (is.spaces ++ region.name.items) ≡ region.name.items = without_spaces-taken is.spaces region.name.items is.blank (name_bytes region.name.items is.named) in
-    let start : address_of is.start_text ≡ Some region.start = address_of-taken is.start_text region.start is.start_is in
-    let end : address_of is.end_text ≡ Some region.end = address_of-taken is.end_text region.end is.end_is in
+    let start : digits_address is.start_text ≡ Some region.start = address_of-taken is.start_text region.start is.start_is in
+    let end : digits_address is.end_text ≡ Some region.end = address_of-taken is.end_text region.end is.end_is in
     let forward : ltb region.end region.start ≡ false = le-ltb region.end region.start is.forward in
     rw (first, second, third, start, end, forward, is.named) refl
 
@@ -219,7 +219,7 @@ found_parts : (line : List ℕ) (region : Region) (parts : Option Parts) → ((p
 found_parts line region None made e = absurd cc
 found_parts line region (Some parts) made e =
     let m = made parts refl in
-    let r = make_region (address_of parts.start) (address_of parts.end) parts.name region e in
+    let r = make_region (digits_address parts.start) (digits_address parts.end) parts.name region e in
     record {
       start_text = parts.start;
       end_text = parts.end;

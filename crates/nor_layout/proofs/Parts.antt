@@ -5,8 +5,8 @@ use Rattle.std.specs.Prelude.{min, max}
 use Rattle.std.proofs.lemmas.Bool.{cases_Bool, ltb-true, ltb-false, leb-true, le-leb, lt-leb, lt-ltb, and_from, and_parts, and_left, and_right, or_parts, or_cases}
 use Rattle.nor_layout.specs.declared.ranges.Span.{Span}
 use Rattle.nor_layout.specs.declared.places.Places.{Places}
-use Rattle.nor_layout.specs.Ranges.{holds, contains, IsApartFrom, AreApart}
-use Rattle.nor_layout.specs.Places.{covers, is_covered, part_of, parts_of, AreRisingFrom, AreIncludedIn}
+use Rattle.nor_layout.specs.Ranges.{is_in_span, contains, IsApartFrom, AreApart}
+use Rattle.nor_layout.specs.Places.{covers, is_covered, part_in_sector, parts_of, AreRisingFrom, AreIncludedIn}
 use Rattle.nor_layout.proofs.Below.{same_tests}
 
 -- these are the places of a span in a sector
@@ -37,7 +37,7 @@ end_of sector span le =
       | inr inside ↦ rw inside (omega (arith, ltb-false _ _ inside, le))
     ]
 
-part_of-is : (sector : ℕ) (span : Span) → IsAnswer sector span (part_of sector span)
+part_of-is : (sector : ℕ) (span : Span) → IsAnswer sector span (part_in_sector sector span)
 part_of-is sector span =
     elim (cases_Bool (ltb sector (span.first / 4096) || ltb (span.last / 4096) sector)) [
       | inl outside ↦
@@ -53,29 +53,29 @@ part_of-is sector span =
 
 -- ---- each place is in a part where its address is in a span
 
-covers-part : (sector : ℕ) (span : Span) (part : Places) (at : ℕ) → at < 4096 → IsPart sector span part → covers part at ≡ holds span (4096 * sector + at)
+covers-part : (sector : ℕ) (span : Span) (part : Places) (at : ℕ) → at < 4096 → IsPart sector span part → covers part at ≡ is_in_span span (4096 * sector + at)
 covers-part sector span part at lt is =
-    same_tests (covers part at) (holds span (4096 * sector + at))
+    same_tests (covers part at) (is_in_span span (4096 * sector + at))
     (λ yes. let p = and_parts (leb part.start at) (ltb at part.end) yes in
     and_from _ _ (le-leb span.first (4096 * sector + at) (omega (arith, leb-true _ _ p.0, is.start))) (le-leb (4096 * sector + at) span.last (omega (arith, ltb-true _ _ p.1, is.end))))
     (λ yes. let p = and_parts (leb span.first (4096 * sector + at)) (leb (4096 * sector + at) span.last) yes in
     and_from _ _ (le-leb part.start at (omega (arith, leb-true _ _ p.0, is.start))) (lt-ltb at part.end (omega (arith, leb-true _ _ p.1, is.end, lt))))
 
-holds-outside : (sector : ℕ) (span : Span) (at : ℕ) → at < 4096 → IsOutside sector span → holds span (4096 * sector + at) ≡ false
+holds-outside : (sector : ℕ) (span : Span) (at : ℕ) → at < 4096 → IsOutside sector span → is_in_span span (4096 * sector + at) ≡ false
 holds-outside sector span at lt outside =
     elim outside [
       | inl below ↦ and_left _ _ (lt-leb span.first (4096 * sector + at) (omega (arith, below, lt)))
       | inr above ↦ and_right (leb span.first (4096 * sector + at)) _ (lt-leb (4096 * sector + at) span.last (omega (arith, above, lt)))
     ]
 
-is_covered-cons : (sector : ℕ) (span : Span) (part : Option Places) (rest : List Places) (at : ℕ) → at < 4096 → IsAnswer sector span part → is_covered (cons_option part rest) at ≡ (holds span (4096 * sector + at) || is_covered rest at)
+is_covered-cons : (sector : ℕ) (span : Span) (part : Option Places) (rest : List Places) (at : ℕ) → at < 4096 → IsAnswer sector span part → is_covered (cons_option part rest) at ≡ (is_in_span span (4096 * sector + at) || is_covered rest at)
 is_covered-cons sector span None rest at lt is = rw (holds-outside sector span at lt is) refl
 is_covered-cons sector span (Some part) rest at lt is = rw (covers-part sector span part at lt is) refl
 
 is_covered-parts : (sector : ℕ) (spans : List Span) (at : ℕ) → at < 4096 → is_covered (parts_of sector spans) at ≡ contains spans (4096 * sector + at)
 is_covered-parts sector [] at lt = refl
 is_covered-parts sector (span ∷ spans) at lt =
-    is_covered-cons sector span (part_of sector span) (parts_of sector spans) at lt (part_of-is sector span) ∙ ap (λ b. holds span (4096 * sector + at) || b) (is_covered-parts sector spans at lt)
+    is_covered-cons sector span (part_in_sector sector span) (parts_of sector spans) at lt (part_of-is sector span) ∙ ap (λ b. is_in_span span (4096 * sector + at) || b) (is_covered-parts sector spans at lt)
 
 -- ---- the parts rise
 
@@ -101,7 +101,7 @@ rising-cons sector low span (Some part) rest le forward is rising =
 parts_rise : (sector low : ℕ) (spans : List Span) → AreApart spans → IsFrom low spans → AreRisingFrom (low - 4096 * sector) (parts_of sector spans)
 parts_rise sector low [] apart le = tt
 parts_rise sector low (span ∷ spans) apart le =
-    rising-cons sector low span (part_of sector span) (parts_of sector spans) le apart.0 (part_of-is sector span) (parts_rise sector (span.last + 1) spans apart.2 (behind span spans apart.1))
+    rising-cons sector low span (part_in_sector sector span) (parts_of sector spans) le apart.0 (part_of-is sector span) (parts_rise sector (span.last + 1) spans apart.2 (behind span spans apart.1))
 
 any_start : (spans : List Span) → IsFrom 0 spans
 any_start [] = tt

@@ -4,7 +4,7 @@ use Rattle.std.specs.Prelude.{MatchBool}
 use Rattle.std.specs.List.{list_any}
 use Rattle.std.proofs.lemmas.Bool.{cases_Bool, cases_lt, both_ways, leb-true, le-leb, and_from, and_parts, or_left, or_right, or_cases}
 use Rattle.nor_layout.specs.declared.ranges.Span.{Span}
-use Rattle.nor_layout.specs.Ranges.{holds, contains, AreApart}
+use Rattle.nor_layout.specs.Ranges.{is_in_span, contains, AreApart}
 use Rattle.nor_layout.specs.Sectors.{includes, sectors_included, SomeInSector, NoneInSector, has_in_sector, ReachesPast}
 use Rattle.nor_layout.proofs.Below.{same_tests, any_below-some, any_below-found, any_below-cases, count_below-all, count_below-most}
 
@@ -13,7 +13,7 @@ use Rattle.nor_layout.proofs.Below.{same_tests, any_below-some, any_below-found,
 abbrev pub ends_from : ℕ → Span → Bool
 ends_from size span = leb size span.last
 
-last_holds : (span : Span) → span.first ≤ span.last → holds span span.last ≡ true
+last_holds : (span : Span) → span.first ≤ span.last → is_in_span span span.last ≡ true
 last_holds span forward = and_from _ _ (le-leb span.first span.last forward) (le-leb span.last span.last (omega arith))
 
 from_ends : (spans : List Span) (size : ℕ) → AreApart spans → list_any (ends_from size) spans ≡ true → ReachesPast (Some spans) size
@@ -21,13 +21,13 @@ from_ends [] size apart h = absurd cc
 from_ends (span ∷ spans) size apart h =
     elim (or_cases (ends_from size span) (list_any (ends_from size) spans) h) [
       | inl here ↦ (span.last, leb-true _ _ here, or_left _ _ (last_holds span apart.0))
-      | inr later ↦ let rest = from_ends spans size apart.2 later in (rest.0, rest.1, or_right (holds span rest.0) _ rest.2)
+      | inr later ↦ let rest = from_ends spans size apart.2 later in (rest.0, rest.1, or_right (is_in_span span rest.0) _ rest.2)
     ]
 
 ends_from-holds : (spans : List Span) (size : ℕ) → ReachesPast (Some spans) size → list_any (ends_from size) spans ≡ true
 ends_from-holds [] size h = absurd (let e = h.2 in cc)
 ends_from-holds (span ∷ spans) size h =
-    elim (or_cases (holds span h.0) (contains spans h.0) h.2) [
+    elim (or_cases (is_in_span span h.0) (contains spans h.0) h.2) [
       | inl here ↦ or_left _ _ (le-leb size span.last (omega (arith, h.1, leb-true h.0 span.last (and_parts _ _ here).1)))
       | inr later ↦ or_right (ends_from size span) _ (ends_from-holds spans size (h.0, h.1, later))
     ]
@@ -50,7 +50,7 @@ abbrev pub is_in_sector : ℕ → Span → Bool
 is_in_sector sector span = leb (span.first / 4096) sector && leb sector (span.last / 4096)
 
 -- an address of the span in the sector: the span's first, or the sector's first
-common : (span : Span) (sector : ℕ) → span.first ≤ span.last → is_in_sector sector span ≡ true → (address : ℕ) × (address / 4096 ≡ sector) × (holds span address ≡ true)
+common : (span : Span) (sector : ℕ) → span.first ≤ span.last → is_in_sector sector span ≡ true → (address : ℕ) × (address / 4096 ≡ sector) × (is_in_span span address ≡ true)
 common span sector forward h =
     let low : span.first / 4096 ≤ sector = leb-true _ _ (and_parts _ _ h).0 in
     let high : sector ≤ span.last / 4096 = leb-true _ _ (and_parts (leb (span.first / 4096) sector) _ h).1 in
@@ -64,13 +64,13 @@ holds_in_sector [] sector apart h = absurd cc
 holds_in_sector (span ∷ spans) sector apart h =
     elim (or_cases (is_in_sector sector span) (list_any (is_in_sector sector) spans) h) [
       | inl here ↦ let a = common span sector apart.0 here in (a.0, a.1, or_left _ _ a.2)
-      | inr later ↦ let rest = holds_in_sector spans sector apart.2 later in (rest.0, rest.1, or_right (holds span rest.0) _ rest.2)
+      | inr later ↦ let rest = holds_in_sector spans sector apart.2 later in (rest.0, rest.1, or_right (is_in_span span rest.0) _ rest.2)
     ]
 
 is_in_sector-holds : (spans : List Span) (sector : ℕ) → HoldsInSector spans sector → list_any (is_in_sector sector) spans ≡ true
 is_in_sector-holds [] sector h = absurd (let e = h.2 in cc)
 is_in_sector-holds (span ∷ spans) sector h =
-    elim (or_cases (holds span h.0) (contains spans h.0) h.2) [
+    elim (or_cases (is_in_span span h.0) (contains spans h.0) h.2) [
       | inl here ↦
           let low : span.first ≤ h.0 = leb-true _ _ (and_parts _ _ here).0 in
           let high : h.0 ≤ span.last = leb-true _ _ (and_parts (leb span.first h.0) _ here).1 in

@@ -5,7 +5,7 @@ use Rattle.std.proofs.lemmas.Bool.Decides.{nat_tests}
 use Rattle.std.proofs.lemmas.List.{drop_more, at_drop_all}
 use Rattle.std.proofs.Math.Bool.{or_assoc}
 use Rattle.nor_layout.specs.declared.ranges.Span.{Span}
-use Rattle.nor_layout.specs.Ranges.{holds, contains, IsApartFrom, AreApart}
+use Rattle.nor_layout.specs.Ranges.{is_in_span, contains, IsApartFrom, AreApart}
 use Rattle.nor_layout.specs.Steps.{join}
 
 abbrev is_below : Span → Span → Bool
@@ -56,22 +56,22 @@ or_swap false true r = refl
 or_swap false false r = refl
 
 -- spans that touch or overlap have the addresses of their join
-holds-join : (a b : Span) (address : ℕ) → a.first ≤ a.last → b.first ≤ b.last → a.first ≤ b.last + 1 → b.first ≤ a.last + 1 → holds (join a b) address ≡ (holds a address || holds b address)
+holds-join : (a b : Span) (address : ℕ) → a.first ≤ a.last → b.first ≤ b.last → a.first ≤ b.last + 1 → b.first ≤ a.last + 1 → is_in_span (join a b) address ≡ (is_in_span a address || is_in_span b address)
 holds-join a b address fa fb ab ba = grind (arith, nat_tests)
 
-pub contains-merged : (new : Span) (spans : List Span) (address : ℕ) → new.first ≤ new.last → AreApart spans → contains (merged new spans) address ≡ (holds new address || contains spans address)
+pub contains-merged : (new : Span) (spans : List Span) (address : ℕ) → new.first ≤ new.last → AreApart spans → contains (merged new spans) address ≡ (is_in_span new address || contains spans address)
 unfolding merged
 contains-merged new [] address forward apart = refl
 contains-merged new (span ∷ spans) address forward apart =
     elim (cases_Bool (is_below span new)) [
-      | inl below ↦ rw (below, contains-merged new spans address forward apart.2) (or_swap (holds span address) (holds new address) (contains spans address))
+      | inl below ↦ rw (below, contains-merged new spans address forward apart.2) (or_swap (is_in_span span address) (is_in_span new address) (contains spans address))
       | inr not_below ↦ elim (cases_Bool (is_below new span)) [
         | inl above ↦ rw (not_below, above, contains-merged span spans address apart.0 apart.2) refl
         | inr not_above ↦
             let le : new.first ≤ span.last + 1 = ltb-false _ _ not_below in
             let ge : span.first ≤ new.last + 1 = ltb-false _ _ not_above in
             let both : (join new span).first ≤ (join new span).last = omega (arith, forward, apart.0) in
-            rw (not_below, not_above, contains-merged (join new span) spans address both apart.2, holds-join new span address forward apart.0 le ge) (or_assoc (holds new address) (holds span address) (contains spans address))
+            rw (not_below, not_above, contains-merged (join new span) spans address both apart.2, holds-join new span address forward apart.0 le ge) (or_assoc (is_in_span new address) (is_in_span span address) (contains spans address))
       ]
     ]
 

@@ -8,7 +8,7 @@ use Rattle.nor_layout.specs.declared.fault.LineFault.{LineFault}
 use Rattle.nor_layout.specs.declared.fault.LayoutFault.{LayoutFault}
 use Rattle.nor_layout.specs.declared.fault.LayoutFault.TheVariants.{InLine, TooMany, Memory, NoRegion}
 use Rattle.nor_layout.specs.Line.{line_says}
-use Rattle.nor_layout.specs.Text.{◌>>=◌, lines_of, is_named, joins, joins_or_fault, with_line, lines_say, layout_says, AreNamedApart, AreRegions, Reads}
+use Rattle.nor_layout.specs.Text.{◌>>=◌, lines_of, is_region_named, joins, joins_or_fault, with_line, lines_say, layout_says, AreNamedApart, AreRegions, ReadsLayout}
 use Rattle.nor_layout.specs.Grammar.{IsLine, full_lines, IsLayout}
 use Rattle.nor_layout.specs.Steps.{Adds}
 use Rattle.nor_layout.proofs.Texts.{all_of, all_are, lines_say-more, lines_say-fault, with_line-keeps, is_named-before, no_regions}
@@ -27,7 +27,7 @@ record Joined (regions more : List Region) (said : Result Region LineFault) : Ty
 
 joins-found : (regions more : List Region) (n : ℕ) (region : Region) → joins regions n region ≡ Ok more → more ≡ regions ++ region ∷ []
 joins-found regions more n region e =
-    elim (cases_Bool (is_named regions region.name.items)) [
+    elim (cases_Bool (is_region_named regions region.name.items)) [
       | inl twice ↦ absurd (let f = rw twice at e in cc)
       | inr once ↦ elim (cases_Bool (ltb (length regions) 64)) [
         | inl room ↦ sym (all_are (regions ++ region ∷ []) more (rw (once, room) at e))
@@ -92,7 +92,7 @@ module _ (regions : List Region) (n : ℕ) (lines : List (List ℕ)) (d : List �
       let g = lines_say-found (drop (n + 1) lines) more [] (n + 1 + 1) left in
       omega (arith, ap length g.all_is, length-append more g.rest, length-append regions (region ∷ []))
 
-  pub reads_fault : (new : List Region) (fault : LayoutFault) → Adds regions new (Err fault) (with_line regions (n + 1) (get_or lines n d)) → Reads (Err fault) said
+  pub reads_fault : (new : List Region) (fault : LayoutFault) → Adds regions new (Err fault) (with_line regions (n + 1) (get_or lines n d)) → ReadsLayout (Err fault) said
   reads_fault new (InLine line fault) e = lines_say-fault regions n lines d said lt same (InLine line fault) e
   reads_fault new TooMany e = lines_say-fault regions n lines d said lt same TooMany e
   reads_fault new Memory e = gives_one e.0 e.1
@@ -122,7 +122,7 @@ layout_says-found text regions e =
 
 joins-taken : (regions : List Region) (region : Region) (rest : List Region) (n : ℕ) → length (regions ++ region ∷ rest) ≤ 64 → AreNamedApart (regions ++ region ∷ rest) → joins regions n region ≡ Ok (regions ++ region ∷ [])
 joins-taken regions region rest n few apart =
-    let once : is_named regions region.name.items ≡ false = is_named-before regions region rest apart in
+    let once : is_region_named regions region.name.items ≡ false = is_named-before regions region rest apart in
     let room : ltb (length regions) 64 ≡ true = lt-ltb (length regions) 64 (omega (arith, few, length-append regions (region ∷ rest))) in
     rw (once, room) refl
 
@@ -163,5 +163,5 @@ unfolding layout_says
 layout_says-taken text regions is = lines_say-taken (lines_of text) [] regions 1 is.lines is.few is.named_apart
 
 -- an answer is what the text says: so regions in its grammar, or want of memory
-pub reads_taken : (text : List ℕ) (result : Result (List Region) LayoutFault) → Reads result (layout_says text) → (regions : List Region) → IsLayout text regions → Reads result (Ok regions)
-reads_taken text result reads regions is = subst (Reads result) (layout_says-taken text regions is) reads
+pub reads_taken : (text : List ℕ) (result : Result (List Region) LayoutFault) → ReadsLayout result (layout_says text) → (regions : List Region) → IsLayout text regions → ReadsLayout result (Ok regions)
+reads_taken text result reads regions is = subst (ReadsLayout result) (layout_says-taken text regions is) reads

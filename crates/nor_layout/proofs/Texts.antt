@@ -12,9 +12,9 @@ use Rattle.nor_layout.specs.declared.region.Region.{Region}
 use Rattle.nor_layout.specs.declared.fault.LineFault.{LineFault}
 use Rattle.nor_layout.specs.declared.fault.LayoutFault.{LayoutFault}
 use Rattle.nor_layout.specs.declared.fault.LayoutFault.TheVariants.{InLine, TooMany, Memory, NoRegion}
-use Rattle.nor_layout.specs.Address.{address_of}
+use Rattle.nor_layout.specs.Address.{digits_address}
 use Rattle.nor_layout.specs.Line.{Parts, parts_of, is_name, region_of, parts_say, line_says}
-use Rattle.nor_layout.specs.Text.{◌>>=◌, lines_of, is_named, joins, joins_or_fault, with_line, lines_say, layout_says, AreNamedApart, AreRegions, AsksMemory}
+use Rattle.nor_layout.specs.Text.{◌>>=◌, lines_of, is_region_named, joins, joins_or_fault, with_line, lines_say, layout_says, AreNamedApart, AreRegions, AsksMemory}
 use Rattle.nor_layout.specs.Steps.{Adds}
 use Rattle.nor_layout.proofs.LineLaws.{region_is}
 
@@ -39,7 +39,7 @@ forward_region (Some start) (Some end) name region e =
 
 forward_parts : (parts : Option Parts) (region : Region) → parts_say parts ≡ Ok region → region.start ≤ region.end
 forward_parts None region e = absurd cc
-forward_parts (Some parts) region e = forward_region (address_of parts.start) (address_of parts.end) parts.name region e
+forward_parts (Some parts) region e = forward_region (digits_address parts.start) (digits_address parts.end) parts.name region e
 
 AllByRecursion-push : (regions : List Region) (region : Region) → AllByRecursion (λ (r : Region). r.start ≤ r.end) regions → region.start ≤ region.end → AllByRecursion (λ (r : Region). r.start ≤ r.end) (regions ++ region ∷ [])
 AllByRecursion-push [] region all forward = (forward, tt)
@@ -55,25 +55,25 @@ all_are a b e = cc
 apart_from : (a b : List ℕ) → bytes_eq a b ≡ false → bytes_eq b a ≡ false
 apart_from a b h = false_from_ne_true (bytes_eq b a) (λ same. both_ways (bytes_eq a b) h ((bytes_eq-Decides a b).1 (sym ((bytes_eq-Decides b a).0 same))))
 
-AreNamedApart-push : (regions : List Region) (region : Region) → AreNamedApart regions → is_named regions region.name.items ≡ false → AreNamedApart (regions ++ region ∷ [])
+AreNamedApart-push : (regions : List Region) (region : Region) → AreNamedApart regions → is_region_named regions region.name.items ≡ false → AreNamedApart (regions ++ region ∷ [])
 AreNamedApart-push [] region apart once = (refl, tt)
 AreNamedApart-push (first ∷ regions) region apart once =
-    let p = or_parts (bytes_eq first.name.items region.name.items) (is_named regions region.name.items) once in
-    let late : is_named (region ∷ []) first.name.items ≡ false = or_from (bytes_eq region.name.items first.name.items) false (apart_from first.name.items region.name.items p.0) refl in
-    (list_any-append (λ (r : Region). bytes_eq r.name.items first.name.items) regions (region ∷ []) ∙ or_from (is_named regions first.name.items) (is_named (region ∷ []) first.name.items) apart.0 late, AreNamedApart-push regions region apart.1 p.1)
+    let p = or_parts (bytes_eq first.name.items region.name.items) (is_region_named regions region.name.items) once in
+    let late : is_region_named (region ∷ []) first.name.items ≡ false = or_from (bytes_eq region.name.items first.name.items) false (apart_from first.name.items region.name.items p.0) refl in
+    (list_any-append (λ (r : Region). bytes_eq r.name.items first.name.items) regions (region ∷ []) ∙ or_from (is_region_named regions first.name.items) (is_region_named (region ∷ []) first.name.items) apart.0 late, AreNamedApart-push regions region apart.1 p.1)
 
 -- a region behind others has another name than each of them
-pub is_named-before : (regions : List Region) (region : Region) (more : List Region) → AreNamedApart (regions ++ region ∷ more) → is_named regions region.name.items ≡ false
+pub is_named-before : (regions : List Region) (region : Region) (more : List Region) → AreNamedApart (regions ++ region ∷ more) → is_region_named regions region.name.items ≡ false
 is_named-before [] region more apart = refl
 is_named-before (first ∷ regions) region more apart =
-    let all : (is_named regions first.name.items || is_named (region ∷ more) first.name.items) ≡ false = sym (list_any-append (λ (r : Region). bytes_eq r.name.items first.name.items) regions (region ∷ more)) ∙ apart.0 in
-    let late = or_parts (is_named regions first.name.items) (is_named (region ∷ more) first.name.items) all in
-    let here = or_parts (bytes_eq region.name.items first.name.items) (is_named more first.name.items) late.1 in
-    or_from (bytes_eq first.name.items region.name.items) (is_named regions region.name.items) (apart_from region.name.items first.name.items here.0) (is_named-before regions region more apart.1)
+    let all : (is_region_named regions first.name.items || is_region_named (region ∷ more) first.name.items) ≡ false = sym (list_any-append (λ (r : Region). bytes_eq r.name.items first.name.items) regions (region ∷ more)) ∙ apart.0 in
+    let late = or_parts (is_region_named regions first.name.items) (is_region_named (region ∷ more) first.name.items) all in
+    let here = or_parts (bytes_eq region.name.items first.name.items) (is_region_named more first.name.items) late.1 in
+    or_from (bytes_eq first.name.items region.name.items) (is_region_named regions region.name.items) (apart_from region.name.items first.name.items here.0) (is_named-before regions region more apart.1)
 
 joins-keeps : (regions more : List Region) (n : ℕ) (region : Region) → AreRegions regions → region.start ≤ region.end → joins regions n region ≡ Ok more → AreRegions more
 joins-keeps regions more n region kept forward e =
-    elim (cases_Bool (is_named regions region.name.items)) [
+    elim (cases_Bool (is_region_named regions region.name.items)) [
       | inl twice ↦ absurd (let f = rw twice at e in cc)
       | inr once ↦ elim (cases_Bool (ltb (length regions) 64)) [
         | inl room ↦

@@ -13,9 +13,9 @@ abbrev pub hex_value : ℕ → ℕ
 hex_value byte = if nat_le byte 57 then byte - 48 else if nat_le byte 70 then byte - 55 else byte - 87
 
 -- the number that digits write: each counts 16 to the number of digits behind it
-abbrev pub number_of : List ℕ → ℕ
-number_of [] = 0
-number_of (digit ∷ digits) = hex_value digit * 16 ^ length digits + number_of digits
+abbrev pub digits_number : List ℕ → ℕ
+digits_number [] = 0
+digits_number (digit ∷ digits) = hex_value digit * 16 ^ length digits + digits_number digits
 
 -- what stands behind an optional 0x
 abbrev pub digits_of : List ℕ → List ℕ
@@ -28,5 +28,5 @@ abbrev pub are_digits : List ℕ → Bool
 are_digits digits = nat_le 1 (length digits) && nat_le (length digits) 8 && list_all is_hex_digit digits
 
 -- the address that a text writes, if it writes one
-abbrev pub address_of : List ℕ → Option ℕ
-address_of text = if are_digits (digits_of text) then Some (number_of (digits_of text)) else None
+abbrev pub digits_address : List ℕ → Option ℕ
+digits_address text = if are_digits (digits_of text) then Some (digits_number (digits_of text)) else None

@@ -2,7 +2,7 @@
 use Rattle.std.specs.Prelude.{◌≡◌, ◌≤◌, ℕ, true, not, ◌==◌, List, ◌∷◌, ◌++◌, length, filter, ◌⊎◌}
 use Rattle.std.specs.List.{list_all, AllZip}
 use Rattle.nor_layout.specs.declared.region.Region.{Region}
-use Rattle.nor_layout.specs.Address.{are_digits, number_of}
+use Rattle.nor_layout.specs.Address.{are_digits, digits_number}
 use Rattle.nor_layout.specs.Line.{is_name}
 use Rattle.nor_layout.specs.Text.{lines_of, AreNamedApart}
 
@@ -11,7 +11,7 @@ pub record IsAddress (text : List ℕ) (address : ℕ) : Type 0 where
   pub digits : List ℕ
   pub text_is : (text ≡ digits) ⊎ (text ≡ 48 ∷ 120 ∷ digits)
   pub hexadecimal : are_digits digits ≡ true
-  pub address_is : number_of digits ≡ address
+  pub address_is : digits_number digits ≡ address
 
 -- an address, a `:`, an address not below the first, one or more spaces, and a name
 pub record IsLine (line : List ℕ) (region : Region) : Type 0 where

@@ -3,7 +3,7 @@ use Rattle.std.specs.Prelude.{ℕ, ◌==◌, Bool, ◌&&◌, nat_le, List}
 use Rattle.std.specs.Str.{bytes_eq}
 use Rattle.std.specs.List.{slice_split, list_any, list_all}
 use Rattle.nor_layout.specs.declared.region.Region.{Region}
-use Rattle.nor_layout.specs.Text.{is_named}
+use Rattle.nor_layout.specs.Text.{is_region_named}
 
 -- what stands between commas; an empty one is a name too, that of no region
 abbrev pub names_of : List ℕ → List (List ℕ)
@@ -11,7 +11,7 @@ names_of text = slice_split (λ b. b == 44) text
 
 -- each name is that of a region
 abbrev pub are_known : List Region → List ℕ → Bool
-are_known regions text = list_all (λ name. is_named regions name) (names_of text)
+are_known regions text = list_all (λ name. is_region_named regions name) (names_of text)
 
 -- a region stands for its addresses, both ends included
 abbrev pub has_address : Region → ℕ → Bool

@@ -5,7 +5,7 @@ use Rattle.std.specs.List.{list_all}
 use Rattle.nor_layout.specs.declared.region.Region.{Region}
 use Rattle.nor_layout.specs.declared.fault.LineFault.{LineFault}
 use Rattle.nor_layout.specs.declared.fault.LineFault.TheVariants.{Line, Address, Backwards, Name}
-use Rattle.nor_layout.specs.Address.{address_of}
+use Rattle.nor_layout.specs.Address.{digits_address}
 
 -- what stands before the first such byte, and what stands behind it
 abbrev pub cut_at : ℕ → List ℕ → Option (List ℕ × List ℕ)
@@ -56,7 +56,7 @@ region_of (Some start) (Some end) name =
 
 abbrev pub parts_say : Option Parts → Result Region LineFault
 parts_say None = Err Line
-parts_say (Some parts) = region_of (address_of parts.start) (address_of parts.end) parts.name
+parts_say (Some parts) = region_of (digits_address parts.start) (digits_address parts.end) parts.name
 
 -- the region that a line gives, or the first fault of it
 abbrev pub line_says : List ℕ → Result Region LineFault

@@ -1,5 +1,5 @@
 -- The places of a sector whose addresses belong to a set.
-use Rattle.std.specs.Prelude.{◌≡◌, ℕ, ◌+◌, ◌*◌, ◌/◌, ◌%◌, ◌<◌, ◌≤◌, Bool, ◌&&◌, ◌||◌, nat_le, nat_lt, if◌then◌else◌, List, [], ◌∷◌, Option, Some, None}
+use Rattle.std.specs.Prelude.{◌≡◌, ℕ, ◌+◌, ◌*◌, ◌/◌, ◌%◌, ◌<◌, ◌≤◌, Bool, ◌&&◌, ◌||◌, nat_le, nat_lt, if◌then◌else◌, List, [], ◌∷◌, Option, Some, None, ⊤}
 use Rattle.std.specs.List.{list_any, filter_map}
 use Rattle.nor_layout.specs.declared.ranges.Span.{Span}
 use Rattle.nor_layout.specs.declared.places.Places.{Places}
@@ -15,7 +15,7 @@ is_covered all at = list_any (λ places. covers places at) all
 
 -- places of a sector, none below a first one; they rise, and none is empty
 abbrev pub AreRisingFrom : ℕ → List Places → Type 0
-AreRisingFrom first [] = Unit {0}
+AreRisingFrom first [] = ⊤
 AreRisingFrom first (places ∷ more) =
     (first ≤ places.start) × (places.start < places.end) × (places.end ≤ 4096)
     × AreRisingFrom places.end more
@@ -26,8 +26,8 @@ pub record AreIncludedIn (spans : List Span) (sector : ℕ) (all : List Places) 
   pub rising : AreRisingFrom 0 all
 
 -- the part of a span in a sector, if it has one
-abbrev pub part_of : ℕ → Span → Option Places
-part_of sector span =
+abbrev pub part_in_sector : ℕ → Span → Option Places
+part_in_sector sector span =
     if nat_lt sector (span.first / 4096) || nat_lt (span.last / 4096) sector then None
     else Some (record {
       start = if nat_lt (span.first / 4096) sector then 0 else span.first % 4096;
@@ -36,7 +36,7 @@ part_of sector span =
 
 -- the parts of the spans in a sector, in their order
 abbrev pub parts_of : ℕ → List Span → List Places
-parts_of sector spans = filter_map (part_of sector) spans
+parts_of sector spans = filter_map (part_in_sector sector) spans
 
 -- what an iterator has left
 abbrev pub places_left : PlacesIn → List Places

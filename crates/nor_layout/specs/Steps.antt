@@ -1,5 +1,5 @@
 -- What private functions answer. No public clause rests on these.
-use Rattle.std.specs.Prelude.{◌≡◌, ◌≢◌, ◌<◌, ℕ, Bool, ◌&&◌, min, max, List, [], ◌∷◌, ◌++◌, length, slice_index, Result, Ok, Err}
+use Rattle.std.specs.Prelude.{◌≡◌, ◌≢◌, ◌<◌, ℕ, Bool, ◌&&◌, min, max, List, [], ◌∷◌, ◌++◌, length, slice_index, Result, Ok, Err, ⊤}
 use Rattle.std.specs.Str.{bytes_eq}
 use Rattle.std.specs.List.{list_any}
 use Rattle.nor_layout.specs.declared.fault.LayoutFault.{LayoutFault}
@@ -15,7 +15,7 @@ pub record IsFirst (byte : ℕ) (text : List ℕ) (at : ℕ) : Type 0 where
   pub before : (k : ℕ) → k < at → slice_index text k ≢ byte
 
 -- The regions are those that a line leaves, unless memory was refused to one more of them.
-abbrev pub Adds : List Region → List Region → Result (Unit {0}) LayoutFault → Result (List Region) LayoutFault → Type 0
+abbrev pub Adds : List Region → List Region → Result ⊤ LayoutFault → Result (List Region) LayoutFault → Type 0
 Adds old new (Ok x) said = said ≡ Ok new
 Adds old new (Err Memory) said = (region : Region) × (said ≡ Ok (old ++ region ∷ []))
 Adds old new (Err fault) said = said ≡ Err fault

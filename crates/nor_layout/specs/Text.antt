@@ -1,5 +1,5 @@
 -- What a layout text says: the regions of its lines, or its first fault.
-use Rattle.std.specs.Prelude.{◌≡◌, ◌≢◌, ℕ, ◌+◌, ◌≤◌, ◌==◌, Bool, false, nat_lt, if◌then◌else◌, List, [], ◌∷◌, ◌++◌, length, Result, Ok, Err}
+use Rattle.std.specs.Prelude.{◌≡◌, ◌≢◌, ℕ, ◌+◌, ◌≤◌, ◌==◌, Bool, false, nat_lt, if◌then◌else◌, List, [], ◌∷◌, ◌++◌, length, Result, Ok, Err, ⊤}
 use Rattle.std.specs.Str.{bytes_eq}
 use Rattle.std.specs.List.{slice_split, list_any, AllByRecursion}
 use Rattle.nor_layout.specs.declared.region.Region.{Region}
@@ -15,13 +15,13 @@ abbrev pub lines_of : List ℕ → List (List ℕ)
 lines_of text = slice_split (λ b. b == 10) text
 
 -- whether one of the regions has the name
-abbrev pub is_named : List Region → List ℕ → Bool
-is_named regions name = list_any (λ region. bytes_eq region.name.items name) regions
+abbrev pub is_region_named : List Region → List ℕ → Bool
+is_region_named regions name = list_any (λ region. bytes_eq region.name.items name) regions
 
 -- a region of line n joins those of the lines before
 abbrev pub joins : List Region → ℕ → Region → Result (List Region) LayoutFault
 joins regions n region =
-    if is_named regions region.name.items then Err (InLine n Twice)
+    if is_region_named regions region.name.items then Err (InLine n Twice)
     else if nat_lt (length regions) 64 then Ok (regions ++ region ∷ [])
     else Err TooMany
 
@@ -50,8 +50,8 @@ layout_says text = lines_say [] 1 (lines_of text)
 
 -- no two regions have one name
 abbrev pub AreNamedApart : List Region → Type 0
-AreNamedApart [] = Unit {0}
-AreNamedApart (region ∷ regions) = (is_named regions region.name.items ≡ false) × AreNamedApart regions
+AreNamedApart [] = ⊤
+AreNamedApart (region ∷ regions) = (is_region_named regions region.name.items ≡ false) × AreNamedApart regions
 
 -- what every layout keeps
 pub record AreRegions (regions : List Region) : Type 0 where
@@ -60,10 +60,10 @@ pub record AreRegions (regions : List Region) : Type 0 where
   pub named_apart : AreNamedApart regions
 
 -- An answer is what the text says, unless memory was refused. A text that gives no region asks for none.
-abbrev pub Reads : Result (List Region) LayoutFault → Result (List Region) LayoutFault → Type 0
-Reads (Ok regions) said = said ≡ Ok regions
-Reads (Err Memory) said = said ≢ Ok []
-Reads (Err fault) said = said ≡ Err fault
+abbrev pub ReadsLayout : Result (List Region) LayoutFault → Result (List Region) LayoutFault → Type 0
+ReadsLayout (Ok regions) said = said ≡ Ok regions
+ReadsLayout (Err Memory) said = said ≢ Ok []
+ReadsLayout (Err fault) said = said ≡ Err fault
 
 -- Memory is asked for: some lines give regions without a fault, and the next one gives one more.
 pub record AsksMemory (text : List ℕ) : Type 0 where

@@ -1,7 +1,7 @@
 //! Addresses as a layout text writes them: an optional `0x` and 1 to 8 hexadecimal digits.
 
 ghost use Rattle.std.specs.Prelude.{◌≡◌, if◌then◌else◌, Some, None};
-ghost use Rattle.nor_layout.specs.Address.{is_hex_digit, hex_value, digits_of, address_of};
+ghost use Rattle.nor_layout.specs.Address.{is_hex_digit, hex_value, digits_of, digits_address};
 
 /// The most digits that an address has.
 const DIGITS: usize = 8;
@@ -30,7 +30,7 @@ fn digits(text: &[u8]) -> &[u8]
 
 /// The address that a text writes, if it writes one.
 pub(crate) fn address(text: &[u8]) -> Option<u32>
-    ensures { result ≡ address_of text.now }
+    ensures { result ≡ digits_address text.now }
 {
     let digits = digits(text);
     if digits.is_empty() || digits.len() > DIGITS {

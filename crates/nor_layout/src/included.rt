@@ -3,7 +3,7 @@
 ghost use Rattle.std.specs.Prelude.{◌≡◌, ◌<◌, ◌+◌, ◌*◌, ℕ, length, slice_index};
 ghost use Rattle.std.specs.Prelude.{MatchBool, if◌then◌else◌, option_copied};
 ghost use Rattle.nor_layout.specs.Sectors.{includes, SomeInSector, NoneInSector, has_in_sector};
-ghost use Rattle.nor_layout.specs.Sectors.{ReachesPast, FitsInto, wanted_of, AreOfSector};
+ghost use Rattle.nor_layout.specs.Sectors.{ReachesPast, FitsInto, merged_byte, AreOfSector};
 
 use crate::ranges::Ranges;
 
@@ -55,7 +55,7 @@ pub fn fill_excluded(included: Option<&Ranges>, sector: u32, bytes: &mut [u8], o
         then slice_index bytes.old i else slice_index other.now i) }
     ensures wanted { (image content : ℕ → ℕ)
         → AreOfSector image sector bytes.old → AreOfSector content sector other.now
-        → AreOfSector (wanted_of (includes (option_copied included.entry)) image content) sector bytes.new }
+        → AreOfSector (merged_byte (includes (option_copied included.entry)) image content) sector bytes.new }
 {
     if let Some(ranges) = included {
         ranges.fill_excluded(sector, bytes, other);

@@ -1,7 +1,7 @@
 //! Layout texts, and the addresses that names of their regions include.
 
 ghost use Rattle.std.specs.Prelude.{◌≡◌, ◌↔◌, ℕ, List, IsTrue, IsOk, IfOk, IfErr};
-ghost use Rattle.nor_layout.specs.Text.{is_named, with_line, layout_says, AreRegions, Reads, AsksMemory};
+ghost use Rattle.nor_layout.specs.Text.{is_region_named, with_line, layout_says, AreRegions, ReadsLayout, AsksMemory};
 ghost use Rattle.nor_layout.specs.Grammar.{IsLayout};
 ghost use Rattle.nor_layout.specs.Included.{are_known, is_included};
 ghost use Rattle.nor_layout.specs.Ranges.{AreRanges, contains};
@@ -34,7 +34,7 @@ impl Model for Layout {
 
 /// Whether one of the regions has the name.
 fn is_named(regions: &[Region], name: &[u8]) -> bool
-    ensures { result ≡ is_named regions.now name.now }
+    ensures { result ≡ is_region_named regions.now name.now }
 {
     regions.iter().any(|region| region.name.as_slice() == name)
 }
@@ -94,12 +94,12 @@ impl Layout {
     pub fn read(alloc: Global, text: &[u8]) -> Result<Layout, LayoutFault>
         // The regions of the lines, in order, or the first fault of the first line that has one. Else
         // memory was refused to one more region, behind lines that have no fault.
-        ensures exact { Reads result (layout_says text.now) }
+        ensures exact { ReadsLayout result (layout_says text.now) }
         ensures asks { IfErr result (λ fault. fault ≡ LayoutFault.Memory → AsksMemory text.now) }
 
         // What is read is in the grammar, and what is in the grammar is read.
         ensures found { IfOk result (λ layout. IsLayout text.now layout) }
-        ensures taken { (regions : List Region) → IsLayout text.now regions → Reads result (Ok regions) }
+        ensures taken { (regions : List Region) → IsLayout text.now regions → ReadsLayout result (Ok regions) }
     {
         let mut regions = Vec::new(alloc);
         let mut number = 0;

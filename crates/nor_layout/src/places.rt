@@ -2,7 +2,7 @@
 
 ghost use Rattle.std.specs.Prelude.{◌≡◌};
 ghost use Rattle.std.specs.Iterator.{YieldsFirst, item_count};
-ghost use Rattle.nor_layout.specs.Places.{part_of, parts_of, places_left};
+ghost use Rattle.nor_layout.specs.Places.{part_in_sector, parts_of, places_left};
 
 use crate::ranges::Span;
 
@@ -33,7 +33,7 @@ impl<'a> PlacesIn<'a> {
 
 /// The part of a span in a sector, if it has one.
 fn part_of(span: &Span, sector: u32) -> Option<Places>
-    ensures { result ≡ part_of sector span.now }
+    ensures { result ≡ part_in_sector sector span.now }
 {
     let (first, last) = (span.first / SECTOR, span.last / SECTOR);
     if sector < first || last < sector {

@@ -1,7 +1,7 @@
 //! Sets of addresses, as a few sorted spans.
 
 ghost use Rattle.std.specs.Prelude.{◌≡◌, ◌≤◌, ◌<◌, ◌+◌, ◌||◌, ◌*◌, ℕ, MatchBool, length, nat_lt, [], slice_index, if◌then◌else◌};
-ghost use Rattle.nor_layout.specs.Ranges.{holds, contains, AreApart, AreRanges};
+ghost use Rattle.nor_layout.specs.Ranges.{is_in_span, contains, AreApart, AreRanges};
 ghost use Rattle.nor_layout.specs.Sectors.{SomeInSector, NoneInSector, has_in_sector, ReachesPast};
 ghost use Rattle.nor_layout.specs.Places.{AreIncludedIn, places_left};
 ghost use Rattle.nor_layout.specs.Steps.{join};
@@ -65,7 +65,7 @@ fn with_span(spans: &[Span], added: Span) -> ArrayVec<Span, REGIONS>
     requires apart { AreApart spans.now }
     ensures apart { AreApart result.items }
     ensures union { (address : ℕ)
-        → contains result.items address ≡ (holds added address || contains spans.now address) }
+        → contains result.items address ≡ (is_in_span added address || contains spans.now address) }
     ensures room { length result.items ≤ length spans.now + 1 }
 {
     let mut all = ArrayVec::new();
@@ -100,7 +100,7 @@ impl Ranges {
         requires room { length self.now < 64 }
         requires forward { added.first ≤ added.last }
         ensures union { (address : ℕ)
-            → contains result address ≡ (holds added address || contains self.now address) }
+            → contains result address ≡ (is_in_span added address || contains self.now address) }
         ensures room { length result ≤ length self.now + 1 }
         ensures ranges { AreRanges result }
     {

@@ -5,7 +5,7 @@ use Rattle.std.specs.List.{list_any, range_with_len}
 use Rattle.std.proofs.lemmas.Bool.{cases_Bool}
 use Rattle.nor_plan.specs.Counts.{IsCount}
 use Rattle.nor_plan.specs.Plan.{AreBytesOf}
-use Rattle.nor_plan.specs.Span.{page_differs, pages_changed, pages_of}
+use Rattle.nor_plan.specs.Span.{page_differs, pages_changed, page_count}
 use Rattle.nor_plan.proofs.Counting.{count_by-range, count_by-same}
 use Rattle.nor_plan.proofs.Masks.{other_from_test, same_from_test}
 use Rattle.nor_plan.proofs.PageSpans.{other}
@@ -54,7 +54,7 @@ pub pages_changed-is : (old target : List ℕ) (content wanted : ℕ → ℕ) (p
     → ((page : ℕ) → page < pages → MatchBool (test page) ((i : ℕ) × (i < 256) × (content (256 * page + i) ≢ wanted (256 * page + i))) ((i : ℕ) → i < 256 → content (256 * page + i) ≡ wanted (256 * page + i)))
     → (count : ℕ → ℕ) → IsCount test count → pages_changed old target ≡ count pages
 pages_changed-is old target content wanted pages long whole old_is target_is test tells count is =
-    let all : pages_of old ≡ pages = omega arith in
+    let all : page_count old ≡ pages = omega arith in
     ap (λ n. count_by (page_differs old target) (range_with_len 0 n)) all
     ∙ count_by-same (page_differs old target) test pages (λ page below.
     same_tests (page_differs old target page) (test page) (λ some none. some.2 (none some.0 some.1))

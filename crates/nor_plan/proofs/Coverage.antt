@@ -10,7 +10,7 @@ use Rattle.nor_driver.specs.declared.units.EraseUnit.{EraseUnit}
 use Rattle.nor_driver.specs.declared.units.EraseUnit.TheVariants.{Sector, Block32, Block64, Chip}
 use Rattle.nor_driver.specs.Units.{sectors_in, is_aligned, erases_sector}
 use Rattle.nor_plan.specs.Erase.{is_offered, IsErase, Covers}
-use Rattle.nor_plan.specs.Planned.{holds_run, unit_at, begins_unit, erase_at, planned_from}
+use Rattle.nor_plan.specs.Planned.{holds_run, planned_unit, begins_unit, erase_at, planned_from}
 use Rattle.nor_plan.proofs.Places.{All-passing, list_any-passing}
 use Rattle.nor_plan.proofs.Units.{holds_run-at, unit_cases, unit_at-chip, unit_at-64, unit_at-32}
 
@@ -24,13 +24,13 @@ pub record IsPlannable (whole : Bool) (total : ℕ) (set : ℕ → Bool) : Type 
 pub begins_in : (whole : Bool) (kinds : Kinds) (set : ℕ → Bool) (q : ℕ) → begins_unit whole kinds set q ≡ true → set q ≡ true
 begins_in whole kinds set q begins = (and_parts _ _ begins).0
 
-pub begins_aligned : (whole : Bool) (kinds : Kinds) (set : ℕ → Bool) (q : ℕ) (unit : EraseUnit) → begins_unit whole kinds set q ≡ true → unit_at whole kinds set q ≡ unit → is_aligned unit q ≡ true
+pub begins_aligned : (whole : Bool) (kinds : Kinds) (set : ℕ → Bool) (q : ℕ) (unit : EraseUnit) → begins_unit whole kinds set q ≡ true → planned_unit whole kinds set q ≡ unit → is_aligned unit q ≡ true
 begins_aligned whole kinds set q unit begins u = ap (λ v. is_aligned v q) (sym u) ∙ (and_parts _ _ begins).1
 
 -- a planned unit lies in the set
-pub unit_within : (whole : Bool) (kinds : Kinds) (total : ℕ) (set : ℕ → Bool) → IsPlannable whole total set → (q : ℕ) → begins_unit whole kinds set q ≡ true → (s : ℕ) → q ≤ s → s < q + sectors_in total (unit_at whole kinds set q) → set s ≡ true
+pub unit_within : (whole : Bool) (kinds : Kinds) (total : ℕ) (set : ℕ → Bool) → IsPlannable whole total set → (q : ℕ) → begins_unit whole kinds set q ≡ true → (s : ℕ) → q ≤ s → s < q + sectors_in total (planned_unit whole kinds set q) → set s ≡ true
 unit_within whole kinds total set can q begins s low high =
-    let reach : (unit : EraseUnit) → unit_at whole kinds set q ≡ unit → s < q + sectors_in total unit =
+    let reach : (unit : EraseUnit) → planned_unit whole kinds set q ≡ unit → s < q + sectors_in total unit =
     λ unit u. let P : EraseUnit → Type 0 = λ v. s < q + sectors_in total v in subst P u high in
     elim (unit_cases whole kinds set q) [
       | inl chip ↦
@@ -68,11 +68,11 @@ planned_IsErase whole kinds total set can q begins = record {
       ]
     ]
   ];
-  aligned = begins_aligned whole kinds set q (unit_at whole kinds set q) begins refl;
+  aligned = begins_aligned whole kinds set q (planned_unit whole kinds set q) begins refl;
   within =
-      let ends : (unit : EraseUnit) → unit_at whole kinds set q ≡ unit → q + sectors_in total unit ≤ total → q + sectors_in total (unit_at whole kinds set q) ≤ total =
+      let ends : (unit : EraseUnit) → planned_unit whole kinds set q ≡ unit → q + sectors_in total unit ≤ total → q + sectors_in total (planned_unit whole kinds set q) ≤ total =
       λ unit u room. let P : EraseUnit → Type 0 = λ v. q + sectors_in total v ≤ total in subst P (sym u) room in
-      let last : (unit : EraseUnit) → unit_at whole kinds set q ≡ unit → (j : ℕ) → j < sectors_in total unit → q + j < total =
+      let last : (unit : EraseUnit) → planned_unit whole kinds set q ≡ unit → (j : ℕ) → j < sectors_in total unit → q + j < total =
       λ unit u j short.
       let P : EraseUnit → Type 0 = λ v. q + j < q + sectors_in total v in
       let high : q + j < q + sectors_in total unit = omega (arith, short) in
@@ -92,11 +92,11 @@ planned_IsErase whole kinds total set can q begins = record {
 }
 
 -- each sector of the set is within the unit that begins at some sector
-pub unit_begins : (whole : Bool) (kinds : Kinds) (total : ℕ) (set : ℕ → Bool) → IsPlannable whole total set → (s : ℕ) → set s ≡ true → (q : ℕ) × (begins_unit whole kinds set q ≡ true) × (q ≤ s) × (s < q + sectors_in total (unit_at whole kinds set q))
+pub unit_begins : (whole : Bool) (kinds : Kinds) (total : ℕ) (set : ℕ → Bool) → IsPlannable whole total set → (s : ℕ) → set s ≡ true → (q : ℕ) × (begins_unit whole kinds set q ≡ true) × (q ≤ s) × (s < q + sectors_in total (planned_unit whole kinds set q))
 unit_begins whole kinds total set can s member =
-    let reach : (unit : EraseUnit) (q : ℕ) → unit_at whole kinds set q ≡ unit → s < q + sectors_in total unit → s < q + sectors_in total (unit_at whole kinds set q) =
+    let reach : (unit : EraseUnit) (q : ℕ) → planned_unit whole kinds set q ≡ unit → s < q + sectors_in total unit → s < q + sectors_in total (planned_unit whole kinds set q) =
     λ unit q u high. let P : EraseUnit → Type 0 = λ v. s < q + sectors_in total v in subst P (sym u) high in
-    let begin : (unit : EraseUnit) (q : ℕ) → unit_at whole kinds set q ≡ unit → set q ≡ true → is_aligned unit q ≡ true → begins_unit whole kinds set q ≡ true =
+    let begin : (unit : EraseUnit) (q : ℕ) → planned_unit whole kinds set q ≡ unit → set q ≡ true → is_aligned unit q ≡ true → begins_unit whole kinds set q ≡ true =
     λ unit q u here aligned. and_from _ _ here (ap (λ v. is_aligned v q) u ∙ aligned) in
     elim (unit_cases whole kinds set s) [
       | inl chip ↦

@@ -10,7 +10,7 @@ use Rattle.std.proofs.lemmas.List.Elements.{All-nil, All-cons, All-weaker}
 use Rattle.std.proofs.lemmas.List.Kept.{AllPairs-cons}
 use Rattle.nor_plan.specs.declared.page.Span.{Span}
 use Rattle.nor_plan.specs.Bytes.{DifferAt}
-use Rattle.nor_plan.specs.Span.{ends, page_span, page_differs, pages_changed, spans_from, pages_of}
+use Rattle.nor_plan.specs.Span.{ends, page_span, page_differs, pages_changed, spans_from, page_count}
 use Rattle.nor_plan.specs.SpanFacts.{IsSpan, AreSpans, spanned_by}
 use Rattle.nor_plan.proofs.Places.{passing, passing-none, ends-passing, is_some-ends, length-filter_map}
 use Rattle.nor_plan.proofs.Masks.{other_from_test}
@@ -198,7 +198,7 @@ tell_step old target page (Some span) spans is rest =
     }
 
 -- downwards from the last page
-tell_from : (old target : List ℕ) (left page : ℕ) → page + left ≡ pages_of old → TellFrom old target page (spans_from old target page)
+tell_from : (old target : List ℕ) (left page : ℕ) → page + left ≡ page_count old → TellFrom old target page (spans_from old target page)
 tell_from old target zero page all =
     let nothing : spans_from old target page ≡ [] = spans_from-end old target page (omega arith) in
     subst (TellFrom old target page) (sym nothing) (record {
@@ -227,20 +227,20 @@ others_agree old target spans complete k within outside =
 -- as many spans as pages that differ
 count_pages : (old target : List ℕ) (start : ℕ) → start ≡ 0 → length (spans_from old target start) ≡ pages_changed old target
 count_pages old target start first =
-    let all : pages_of old - start ≡ pages_of old = omega arith in
+    let all : page_count old - start ≡ page_count old = omega arith in
     let each : (λ page. is_some (page_span old target page)) ≡ page_differs old target =
     λ i page. is_some-ends (other old target) (page * 256) (min 256 (length old - page * 256)) i in
-    length-filter_map (page_span old target) start (pages_of old - start)
+    length-filter_map (page_span old target) start (page_count old - start)
     ∙ ap (λ n. count_by (λ page. is_some (page_span old target page)) (range_with_len start n)) all
-    ∙ ap (λ n. count_by (λ page. is_some (page_span old target page)) (range_with_len n (pages_of old))) first
-    ∙ ap (λ test. count_by test (range_with_len 0 (pages_of old))) each
+    ∙ ap (λ n. count_by (λ page. is_some (page_span old target page)) (range_with_len n (page_count old))) first
+    ∙ ap (λ test. count_by test (range_with_len 0 (page_count old))) each
 
-pub pages_changed-most : (old target : List ℕ) → pages_changed old target ≤ pages_of old
-pages_changed-most old target = omega (arith, count_by-le-length (page_differs old target) (range_with_len 0 (pages_of old)), length-range_with_len 0 (pages_of old))
+pub pages_changed-most : (old target : List ℕ) → pages_changed old target ≤ page_count old
+pages_changed-most old target = omega (arith, count_by-le-length (page_differs old target) (range_with_len 0 (page_count old)), length-range_with_len 0 (page_count old))
 
 pub spans_from-AreSpans : (old target : List ℕ) (start : ℕ) → start ≡ 0 → AreSpans old target (spans_from old target start)
 spans_from-AreSpans old target start first =
-    let told = tell_from old target (pages_of old - start) start (omega arith) in
+    let told = tell_from old target (page_count old - start) start (omega arith) in
     record {
       each = All-weaker (SpanFrom old target start) (IsSpan old target) (λ s is. is.0) (spans_from old target start) told.each;
       complete = λ k differ. told.complete k (omega arith) differ;

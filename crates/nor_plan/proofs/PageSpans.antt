@@ -8,7 +8,7 @@ use Rattle.std.proofs.lemmas.Bool.{cases_lt}
 use Rattle.std.proofs.lemmas.Bool.Decides.{nat_tests}
 use Rattle.nor_plan.specs.declared.page.Span.{Span}
 use Rattle.nor_plan.specs.Bytes.{AllAgree, IsFirstDifference, IsLastDifference}
-use Rattle.nor_plan.specs.Span.{differences, ends, page_span, spans_in, spans_from, pages_of}
+use Rattle.nor_plan.specs.Span.{differences, ends, page_span, spans_in, spans_from, page_count}
 use Rattle.nor_plan.proofs.Places.{passing-none, ends-passing}
 
 abbrev pub other : List ℕ → List ℕ → ℕ → Bool
@@ -56,22 +56,22 @@ bounded_page old target start count first last room f l =
         ∙ test-other _ _ differ
 
 -- from a page on: nothing is left behind the last one,
-pub spans_from-end : (old target : List ℕ) (page : ℕ) → pages_of old ≤ page → spans_from old target page ≡ []
+pub spans_from-end : (old target : List ℕ) (page : ℕ) → page_count old ≤ page → spans_from old target page ≡ []
 spans_from-end old target page past =
-    let none : pages_of old - page ≡ 0 = omega arith in
+    let none : page_count old - page ≡ 0 = omega arith in
     ap (spans_in old target page) none
 
 -- and else the span of this page, where it has one, stands before the others
-pub spans_from-step : (old target : List ℕ) (page : ℕ) → page < pages_of old → spans_from old target page ≡ cons_option (page_span old target page) (spans_from old target (page + 1))
+pub spans_from-step : (old target : List ℕ) (page : ℕ) → page < page_count old → spans_from old target page ≡ cons_option (page_span old target page) (spans_from old target (page + 1))
 spans_from-step old target page there =
-    let more : pages_of old - page ≡ suc (pages_of old - (page + 1)) = omega arith in
+    let more : page_count old - page ≡ suc (page_count old - (page + 1)) = omega arith in
     ap (spans_in old target page) more
 
-pub spans_from-none : (old target : List ℕ) (page : ℕ) → page < pages_of old → page_span old target page ≡ None → spans_from old target (page + 1) ≡ spans_from old target page
+pub spans_from-none : (old target : List ℕ) (page : ℕ) → page < page_count old → page_span old target page ≡ None → spans_from old target (page + 1) ≡ spans_from old target page
 spans_from-none old target page there none =
     sym (spans_from-step old target page there ∙ ap (λ o. cons_option o (spans_from old target (page + 1))) none)
 
-pub spans_from-some : (old target : List ℕ) (page : ℕ) (span : Span) → page < pages_of old → page_span old target page ≡ Some span → spans_from old target page ≡ span ∷ spans_from old target (page + 1)
+pub spans_from-some : (old target : List ℕ) (page : ℕ) (span : Span) → page < page_count old → page_span old target page ≡ Some span → spans_from old target page ≡ span ∷ spans_from old target (page + 1)
 spans_from-some old target page span there some =
     spans_from-step old target page there ∙ ap (λ o. cons_option o (spans_from old target (page + 1))) some
 

@@ -5,7 +5,7 @@ use Rattle.std.proofs.lemmas.Bool.{cases_eq, cases_Bool, and_parts, and_from}
 use Rattle.nor_probe.specs.declared.sfdp.Kinds.{Kinds}
 use Rattle.nor_driver.specs.declared.units.EraseUnit.{EraseUnit}
 use Rattle.nor_driver.specs.declared.units.EraseUnit.TheVariants.{Sector, Block32, Block64, Chip}
-use Rattle.nor_plan.specs.Planned.{holds_run, holds_block, unit_at}
+use Rattle.nor_plan.specs.Planned.{holds_run, holds_block, planned_unit}
 
 -- a run is in the set exactly where each of its sectors is
 pub holds_run-at : (set : ℕ → Bool) (from count : ℕ) → holds_run set from count ≡ true → (s : ℕ) → from ≤ s → s < from + count → set s ≡ true
@@ -28,35 +28,35 @@ holds_run-from set from (suc count) all =
 abbrev choose : Bool → Bool → Bool → EraseUnit
 choose whole wide narrow = if whole then Chip else if wide then Block64 else if narrow then Block32 else Sector
 
-unit_at-is : (whole : Bool) (kinds : Kinds) (set : ℕ → Bool) (q : ℕ) → unit_at whole kinds set q ≡ choose whole (kinds.k64 && holds_block set 16 q) (kinds.k32 && holds_block set 8 q)
-unfolding unit_at
+unit_at-is : (whole : Bool) (kinds : Kinds) (set : ℕ → Bool) (q : ℕ) → planned_unit whole kinds set q ≡ choose whole (kinds.k64 && holds_block set 16 q) (kinds.k32 && holds_block set 8 q)
+unfolding planned_unit
 unit_at-is whole kinds set q = refl
 
-pub unit_at-chip : (whole : Bool) (kinds : Kinds) (set : ℕ → Bool) (q : ℕ) → whole ≡ true → unit_at whole kinds set q ≡ Chip
+pub unit_at-chip : (whole : Bool) (kinds : Kinds) (set : ℕ → Bool) (q : ℕ) → whole ≡ true → planned_unit whole kinds set q ≡ Chip
 unit_at-chip whole kinds set q w =
     unit_at-is whole kinds set q ∙ ap (λ v. choose v (kinds.k64 && holds_block set 16 q) (kinds.k32 && holds_block set 8 q)) w
 
-pub unit_at-64 : (whole : Bool) (kinds : Kinds) (set : ℕ → Bool) (q : ℕ) → whole ≡ false → (kinds.k64 && holds_block set 16 q) ≡ true → unit_at whole kinds set q ≡ Block64
+pub unit_at-64 : (whole : Bool) (kinds : Kinds) (set : ℕ → Bool) (q : ℕ) → whole ≡ false → (kinds.k64 && holds_block set 16 q) ≡ true → planned_unit whole kinds set q ≡ Block64
 unit_at-64 whole kinds set q w b =
     unit_at-is whole kinds set q ∙ ap (λ v. choose v (kinds.k64 && holds_block set 16 q) (kinds.k32 && holds_block set 8 q)) w
     ∙ ap (λ v. choose false v (kinds.k32 && holds_block set 8 q)) b
 
-pub unit_at-32 : (whole : Bool) (kinds : Kinds) (set : ℕ → Bool) (q : ℕ) → whole ≡ false → (kinds.k64 && holds_block set 16 q) ≡ false → (kinds.k32 && holds_block set 8 q) ≡ true → unit_at whole kinds set q ≡ Block32
+pub unit_at-32 : (whole : Bool) (kinds : Kinds) (set : ℕ → Bool) (q : ℕ) → whole ≡ false → (kinds.k64 && holds_block set 16 q) ≡ false → (kinds.k32 && holds_block set 8 q) ≡ true → planned_unit whole kinds set q ≡ Block32
 unit_at-32 whole kinds set q w b n =
     unit_at-is whole kinds set q ∙ ap (λ v. choose v (kinds.k64 && holds_block set 16 q) (kinds.k32 && holds_block set 8 q)) w
     ∙ ap (λ v. choose false v (kinds.k32 && holds_block set 8 q)) b ∙ ap (λ v. choose false false v) n
 
-pub unit_at-sector : (whole : Bool) (kinds : Kinds) (set : ℕ → Bool) (q : ℕ) → whole ≡ false → (kinds.k64 && holds_block set 16 q) ≡ false → (kinds.k32 && holds_block set 8 q) ≡ false → unit_at whole kinds set q ≡ Sector
+pub unit_at-sector : (whole : Bool) (kinds : Kinds) (set : ℕ → Bool) (q : ℕ) → whole ≡ false → (kinds.k64 && holds_block set 16 q) ≡ false → (kinds.k32 && holds_block set 8 q) ≡ false → planned_unit whole kinds set q ≡ Sector
 unit_at-sector whole kinds set q w b n =
     unit_at-is whole kinds set q ∙ ap (λ v. choose v (kinds.k64 && holds_block set 16 q) (kinds.k32 && holds_block set 8 q)) w
     ∙ ap (λ v. choose false v (kinds.k32 && holds_block set 8 q)) b ∙ ap (λ v. choose false false v) n
 
 -- the four cases of a unit
 pub unit_cases : (whole : Bool) (kinds : Kinds) (set : ℕ → Bool) (q : ℕ) →
-    ((unit_at whole kinds set q ≡ Chip) × (whole ≡ true))
-    ⊎ (((unit_at whole kinds set q ≡ Block64) × (whole ≡ false) × ((kinds.k64 && holds_block set 16 q) ≡ true))
-    ⊎ (((unit_at whole kinds set q ≡ Block32) × (whole ≡ false) × ((kinds.k64 && holds_block set 16 q) ≡ false) × ((kinds.k32 && holds_block set 8 q) ≡ true))
-    ⊎ ((unit_at whole kinds set q ≡ Sector) × (whole ≡ false) × ((kinds.k64 && holds_block set 16 q) ≡ false) × ((kinds.k32 && holds_block set 8 q) ≡ false))))
+    ((planned_unit whole kinds set q ≡ Chip) × (whole ≡ true))
+    ⊎ (((planned_unit whole kinds set q ≡ Block64) × (whole ≡ false) × ((kinds.k64 && holds_block set 16 q) ≡ true))
+    ⊎ (((planned_unit whole kinds set q ≡ Block32) × (whole ≡ false) × ((kinds.k64 && holds_block set 16 q) ≡ false) × ((kinds.k32 && holds_block set 8 q) ≡ true))
+    ⊎ ((planned_unit whole kinds set q ≡ Sector) × (whole ≡ false) × ((kinds.k64 && holds_block set 16 q) ≡ false) × ((kinds.k32 && holds_block set 8 q) ≡ false))))
 unit_cases whole kinds set q =
     elim (cases_Bool whole) [
       | inl w ↦ inl (unit_at-chip whole kinds set q w, w)

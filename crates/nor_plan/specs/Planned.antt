@@ -18,8 +18,8 @@ holds_block set count sector = holds_run set (sector - sector % count) count
 
 -- the unit by which a sector of the set is erased: the chip, where the whole chip is in the set; else the
 -- largest block that the chip has and that lies in the set
-unfoldable pub unit_at : Bool → Kinds → (ℕ → Bool) → ℕ → EraseUnit
-unit_at whole kinds set sector =
+unfoldable pub planned_unit : Bool → Kinds → (ℕ → Bool) → ℕ → EraseUnit
+planned_unit whole kinds set sector =
     if whole then Chip
     else if kinds.k64 && holds_block set 16 sector then Block64
     else if kinds.k32 && holds_block set 8 sector then Block32
@@ -27,11 +27,11 @@ unit_at whole kinds set sector =
 
 -- a sector of the set at which its unit begins
 abbrev pub begins_unit : Bool → Kinds → (ℕ → Bool) → ℕ → Bool
-begins_unit whole kinds set sector = set sector && is_aligned (unit_at whole kinds set sector) sector
+begins_unit whole kinds set sector = set sector && is_aligned (planned_unit whole kinds set sector) sector
 
 -- the erase of the unit that begins at a sector
 abbrev pub erase_at : Bool → Kinds → (ℕ → Bool) → ℕ → Erase
-erase_at whole kinds set sector = record { unit = unit_at whole kinds set sector; sector = sector }
+erase_at whole kinds set sector = record { unit = planned_unit whole kinds set sector; sector = sector }
 
 -- the erases from a sector on: one for each unit, rising
 unfoldable pub planned_from : Bool → Kinds → (ℕ → Bool) → ℕ → List Erase

@@ -28,12 +28,12 @@ abbrev pub spans_in : List ℕ → List ℕ → ℕ → ℕ → List Span
 spans_in old target page count = filter_map (page_span old target) (range_with_len page count)
 
 -- how many pages the slice has
-abbrev pub pages_of : List ℕ → ℕ
-pages_of old = div_ceil (length old) 256
+abbrev pub page_count : List ℕ → ℕ
+page_count old = div_ceil (length old) 256
 
 -- the spans of the pages from this one on
 abbrev pub spans_from : List ℕ → List ℕ → ℕ → List Span
-spans_from old target page = spans_in old target page (pages_of old - page)
+spans_from old target page = spans_in old target page (page_count old - page)
 
 -- the spans of all pages, in rising order
 abbrev pub spans_of : List ℕ → List ℕ → List Span
@@ -53,4 +53,4 @@ page_differs old target page =
 
 -- how many pages have a byte that differs
 abbrev pub pages_changed : List ℕ → List ℕ → ℕ
-pages_changed old target = count_by (page_differs old target) (range_with_len 0 (pages_of old))
+pages_changed old target = count_by (page_differs old target) (range_with_len 0 (page_count old))

@@ -5,7 +5,7 @@ ghost use Rattle.nor_driver.specs.Units.{is_aligned};
 ghost use Rattle.nor_probe.specs.declared.sfdp.Kinds.{Kinds};
 ghost use Rattle.nor_plan.specs.Counts.{IsCount};
 ghost use Rattle.nor_plan.specs.Erase.{Covers};
-ghost use Rattle.nor_plan.specs.Planned.{holds_block, holds_run, unit_at, planned, fewest_erases, HeadsPlanned, IsLeastLength};
+ghost use Rattle.nor_plan.specs.Planned.{holds_block, holds_run, planned_unit, planned, fewest_erases, HeadsPlanned, IsLeastLength};
 ghost use Rattle.nor_plan.specs.Erases.{erases_left};
 ghost use Rattle.nor_plan.specs.SectorSet.{has, LiesBelow, member_count};
 
@@ -63,10 +63,10 @@ fn next_erase(set: &SectorSet, kinds: Kinds, whole: bool, from: u32) -> Option<(
 }
 
 /// The unit by which a sector of the set is erased.
-#[tactic(auto, unfolding(crate::specs::Planned::unit_at))]
+#[tactic(auto, unfolding(crate::specs::Planned::planned_unit))]
 fn unit_of(set: &SectorSet, kinds: Kinds, whole: bool, sector: u32) -> EraseUnit
     requires { sector < 4096 }
-    ensures { result ≡ unit_at whole kinds (has set.now) sector }
+    ensures { result ≡ planned_unit whole kinds (has set.now) sector }
 {
     if whole {
         EraseUnit::Chip

@@ -11,7 +11,7 @@ use Rattle.nor_probe.specs.declared.table.Part.{Part}
 use Rattle.nor_probe.specs.declared.probes.Found.{Found}
 use Rattle.nor_probe.specs.declared.probes.ProbeFault.{ProbeFault}
 use Rattle.nor_probe.specs.declared.probes.ProbeFault.TheVariants.{NoChip}
-use Rattle.nor_probe.specs.Table.{chips, part_of}
+use Rattle.nor_probe.specs.Table.{chips, part_with_id}
 use Rattle.nor_probe.specs.Known.{is_no_chip, chip_says, sfdp_part, part_by_sfdp, listed_or, shown_as, IsGenuine}
 use Rattle.nor_probe.specs.Found.{part_in, IsConfigOf}
 
@@ -36,7 +36,7 @@ record IsPartOf (config : Config) (part : Part) : Type 0 where
   k64 : part.kinds.k64 ≡ config.k64
   scheme : part.scheme ≡ config.scheme
 
-by_row : (config : Config) (row : Option Part) (says : Result Geometry SfdpFault) (part : Part) → IsGenuine config → part_of (id_of config) ≡ row → chip_says config ≡ says
+by_row : (config : Config) (row : Option Part) (says : Result Geometry SfdpFault) (part : Part) → IsGenuine config → part_with_id (id_of config) ≡ row → chip_says config ≡ says
     → listed_or (part_by_sfdp (id_of config) says) row ≡ Ok part → (shown : Part) × (shown ≡ part) × IsPartOf config shown
 by_row config (Some row) says part genuine listed tells is =
     let has = genuine.listed row listed in (
@@ -56,10 +56,10 @@ by_row config None (Ok geometry) part genuine listed tells is =
 by_row config None (Err fault) part genuine listed tells is = absurd (cc)
 
 by_test : (none : Bool) (config : Config) (part : Part) → IsGenuine config
-    → (if none then Err NoChip else listed_or (part_by_sfdp (id_of config) (chip_says config)) (part_of (id_of config))) ≡ Ok part
+    → (if none then Err NoChip else listed_or (part_by_sfdp (id_of config) (chip_says config)) (part_with_id (id_of config))) ≡ Ok part
     → (shown : Part) × (shown ≡ part) × IsPartOf config shown
 by_test true config part genuine is = absurd (cc)
-by_test false config part genuine is = by_row config (part_of (id_of config)) (chip_says config) part genuine refl refl is
+by_test false config part genuine is = by_row config (part_with_id (id_of config)) (chip_says config) part genuine refl refl is
 
 -- So what was found of a genuine chip tells its configuration, where it is what the chip shows itself as.
 pub shown_config : (config : Config) (found : Found) → IsGenuine config → shown_as config ≡ Ok (part_in found) → IsConfigOf config found

@@ -11,11 +11,11 @@ use Rattle.nor_chip.specs.Makers.{IsTiny64, IsW25q64fv, IsW25q128fv}
 use Rattle.nor_probe.specs.declared.sfdp.Geometry.{Geometry}
 use Rattle.nor_probe.specs.declared.sfdp.SfdpFault.{SfdpFault}
 use Rattle.nor_probe.specs.declared.sfdp.SfdpFault.TheVariants.{Size}
-use Rattle.nor_probe.specs.Sfdp.{double_word, size_in_bits, is_supported_size, has_signature, is_basic, address_mode, has_write_granularity, has_erase_type, sfdp_says}
+use Rattle.nor_probe.specs.Sfdp.{double_word, size_in_bits, is_chip_size_in_bits, has_signature, is_basic, address_mode, has_write_granularity, has_erase_type, sfdp_says}
 use Rattle.nor_probe.specs.declared.table.Part.{Part}
 use Rattle.nor_probe.specs.declared.probes.ProbeFault.{ProbeFault}
 use Rattle.nor_probe.specs.declared.probes.ProbeFault.TheVariants.{NoChip}
-use Rattle.nor_probe.specs.Table.{w25q64fv, w25q128fv, part_of}
+use Rattle.nor_probe.specs.Table.{w25q64fv, w25q128fv, part_with_id}
 use Rattle.nor_driver.specs.Reads.{id_of, shown}
 use Rattle.nor_probe.specs.Known.{is_no_chip, pointer_in, chip_says, part_by_sfdp, listed_or, HasGeometry, IsKnown}
 
@@ -31,8 +31,8 @@ no_one = refl
 single : count_ones (2 ^ 19) ≡ 1
 single = ones_cat 19 1 0 (omega arith) ∙ ap (λ (n : ℕ). n + ones 0) one_one ∙ ap (λ (n : ℕ). 1 + n) no_one
 
-supported : is_supported_size 524288 ≡ true
-unfolding is_supported_size
+supported : is_chip_size_in_bits 524288 ≡ true
+unfolding is_chip_size_in_bits
 supported = ap (λ (n : ℕ). (n == 1) && nat_le (2 ^ 19) 524288 && nat_le 524288 (2 ^ 27)) single
 
 abbrev tiny64 : Geometry
@@ -67,7 +67,7 @@ tiny64_says config tiny =
 
 -- a chip by its ID and what it says of itself
 abbrev shown_from : List ℕ → Result Geometry SfdpFault → Result Part ProbeFault
-shown_from of_id says = if is_no_chip of_id then Err NoChip else listed_or (part_by_sfdp of_id says) (part_of of_id)
+shown_from of_id says = if is_no_chip of_id then Err NoChip else listed_or (part_by_sfdp of_id says) (part_with_id of_id)
 
 same_id : (config : Config) (of_id : List ℕ) → config.id ≡ of_id → id_of config ≡ slice_index_or of_id 0 255 ∷ slice_index_or of_id 1 255 ∷ slice_index_or of_id 2 255 ∷ []
 same_id config of_id same = ap (λ (i : List ℕ). slice_index_or i 0 255 ∷ slice_index_or i 1 255 ∷ slice_index_or i 2 255 ∷ []) same
@@ -75,7 +75,7 @@ same_id config of_id same = ap (λ (i : List ℕ). slice_index_or i 0 255 ∷ sl
 pub tiny64_known : (config : Config) → IsTiny64 config → IsKnown config
 tiny64_known config tiny =
     let id : id_of config ≡ 254 ∷ 16 ∷ 16 ∷ [] = same_id config _ tiny.id in
-    let unlisted : part_of (id_of config) ≡ None = ap part_of id in
+    let unlisted : part_with_id (id_of config) ≡ None = ap part_with_id id in
     let says = tiny64_says config tiny in
     record {
       genuine = record {
@@ -91,7 +91,7 @@ tiny64_known config tiny =
 
 -- a chip of the table, whatever its SFDP
 listed_known : (config : Config) (part : Part)
-    → part_of (id_of config) ≡ Some part → is_no_chip (id_of config) ≡ false
+    → part_with_id (id_of config) ≡ Some part → is_no_chip (id_of config) ≡ false
     → config.size ≡ part.size → config.k32 ≡ part.kinds.k32 → config.k64 ≡ part.kinds.k64 → config.scheme ≡ part.scheme → IsKnown config
 listed_known config part listed driven size k32 k64 scheme = record {
   genuine = record {
@@ -102,16 +102,16 @@ listed_known config part listed driven size k32 k64 scheme = record {
     described = λ none geometry is. absurd (let both : None ≡ Some part = sym none ∙ listed in cc);
   };
   shown = subst (λ (r : Result Part ProbeFault). IsOk r)
-      (sym (ap (λ (b : Bool). if b then Err NoChip else listed_or (part_by_sfdp (id_of config) (chip_says config)) (part_of (id_of config))) driven
+      (sym (ap (λ (b : Bool). if b then Err NoChip else listed_or (part_by_sfdp (id_of config) (chip_says config)) (part_with_id (id_of config))) driven
       ∙ ap (λ (o : Option Part). listed_or (part_by_sfdp (id_of config) (chip_says config)) o) listed)) refl;
 }
 
 pub w25q64fv_known : (config : Config) → IsW25q64fv config → IsKnown config
 w25q64fv_known config made =
     let id = same_id config _ made.id in
-    listed_known config w25q64fv (ap part_of id) (ap is_no_chip id) made.size made.k32 made.k64 made.scheme
+    listed_known config w25q64fv (ap part_with_id id) (ap is_no_chip id) made.size made.k32 made.k64 made.scheme
 
 pub w25q128fv_known : (config : Config) → IsW25q128fv config → IsKnown config
 w25q128fv_known config made =
     let id = same_id config _ made.id in
-    listed_known config w25q128fv (ap part_of id) (ap is_no_chip id) made.size made.k32 made.k64 made.scheme
+    listed_known config w25q128fv (ap part_with_id id) (ap is_no_chip id) made.size made.k32 made.k64 made.scheme

@@ -1,5 +1,5 @@
 -- What a probe tells of the chip.
-use Rattle.std.specs.Prelude.{◌≡◌, ◌+◌, ◌%◌, ◌≤◌, ◌<◌, ◌⊎◌, ℕ, true, false, List, if◌then◌else◌}
+use Rattle.std.specs.Prelude.{◌≡◌, ◌+◌, ◌%◌, ◌≤◌, ◌<◌, ◌⊎◌, ℕ, true, false, List, if◌then◌else◌, ⊤}
 use Rattle.std.specs.Prelude.{Option, None, Some, Result, Ok, Err, IfOk, IfErr}
 use Rattle.nor_chip.specs.declared.config.Config.{Config}
 use Rattle.nor_chip.specs.Chip.{Chip, status1_of}
@@ -12,10 +12,14 @@ use Rattle.nor_probe.specs.declared.probes.Found.{Found}
 use Rattle.nor_probe.specs.declared.probes.Probed.{Probed}
 use Rattle.nor_probe.specs.declared.probes.ProbeFault.{ProbeFault}
 use Rattle.nor_probe.specs.declared.probes.ProbeFault.TheVariants.{NoChip, UnknownChip, OtherName, Stopped, Timeout}
-use Rattle.nor_probe.specs.Table.{part_of}
+use Rattle.nor_probe.specs.Table.{part_with_id}
 use Rattle.nor_driver.specs.Looks.{Looks, Rested, RanOut}
 use Rattle.nor_driver.specs.Waits.{latch_when_idle}
 use Rattle.nor_probe.specs.Known.{id_of, is_no_chip, shown_as, IsKnown}
+
+-- the most transactions of a probe: 65,536 polls, the ID and three readings of SFDP
+abbrev pub most_probe : ℕ
+most_probe = 65540
 
 -- the part that was found
 abbrev pub part_in : Found → Part
@@ -24,13 +28,13 @@ part_in found =
 
 -- a chip of this name is one that is wanted: where none is named, any is
 abbrev pub IsWanted : (named : Option ChipName) → ChipName → Type 0
-IsWanted None name = Unit {0}
+IsWanted None name = ⊤
 IsWanted (Some wanted) name = wanted ≡ name
 
 -- another name is told only where a name is wanted
 abbrev pub BlamesName : Option ChipName → ProbeFault → Type 0
 BlamesName None OtherName = ⊥
-BlamesName named fault = Unit {0}
+BlamesName named fault = ⊤
 
 -- how many transactions tell which part has this ID: 9Fh, and where the table doesn't have it 5Ah three times
 abbrev pub reads_by : Option Part → ℕ
@@ -38,7 +42,7 @@ reads_by (Some part) = 1
 reads_by None = 4
 
 abbrev pub reads_of : List ℕ → ℕ
-reads_of of_id = if is_no_chip of_id then 1 else reads_by (part_of of_id)
+reads_of of_id = if is_no_chip of_id then 1 else reads_by (part_with_id of_id)
 
 -- how many transactions a probe of this chip takes: a poll for each BUSY, one that sees it idle, and the reads
 abbrev pub needed : Chip → ℕ
@@ -47,8 +51,8 @@ needed chip = chip.busy + 1 + reads_of (id_of chip.config)
 -- Whatever the bus: the part is a row of the table, or one by SFDP, of a size that a chip may have.
 pub record IsPart (found : Found) : Type 0 where
   pub driven : is_no_chip found.id ≡ false
-  pub origin : (part_of found.id ≡ Some (part_in found))
-      ⊎ ((part_of found.id ≡ None) × (found.name ≡ Sfdp) × (found.scheme ≡ false))
+  pub origin : (part_with_id found.id ≡ Some (part_in found))
+      ⊎ ((part_with_id found.id ≡ None) × (found.name ≡ Sfdp) × (found.scheme ≡ false))
   pub sized : is_chip_size found.size ≡ true
   pub at_least : 65536 ≤ found.size
   pub at_most : found.size ≤ 16777216
@@ -59,7 +63,7 @@ pub record IsCounted (old : BusState) (probed : Probed) : Type 0 where
   -- one poll and the reads at least
   pub least : 1 + reads_of probed.found.id ≤ probed.transactions
   -- 65,536 polls and four reads at most
-  pub most : probed.transactions ≤ 65540
+  pub most : probed.transactions ≤ most_probe
   -- on an honest bus as many as the chip needs
   pub sent : old.honest ≡ true → probed.transactions ≡ needed old.chip
 
@@ -105,7 +109,7 @@ abbrev pub Tells : Option ChipName → BusState → BusState → ProbeFault → 
 Tells named old new NoChip = (shown_as old.chip.config ≡ Err NoChip) × HasProbed old new
 Tells named old new (UnknownChip fault) = (shown_as old.chip.config ≡ Err (UnknownChip fault)) × HasProbed old new
 Tells named old new OtherName = HasOtherName named old.chip.config × HasProbed old new
-Tells named old new Stopped = RanOut (needed old.chip) old new × (old.left < 65540)
+Tells named old new Stopped = RanOut (needed old.chip) old new × (old.left < most_probe)
 Tells named old new Timeout = ⊥
 
 -- ---- what a probe promises
@@ -113,7 +117,7 @@ Tells named old new Timeout = ⊥
 -- On every bus.
 pub record ProbeAlways (named : Option ChipName) (old new : BusState) (result : Result Found ProbeFault) : Type 0 where
   -- nothing changing was sent, and at most 65,540 transactions
-  pub looks : Looks 65540 old new
+  pub looks : Looks most_probe old new
   -- what was found is a row of the table, or a part by SFDP, of a size that a chip may have
   pub part : IfOk result IsPart
   -- it has the name that is wanted, if one is

@@ -10,7 +10,7 @@ use Rattle.nor_probe.specs.declared.table.Part.{Part}
 use Rattle.nor_probe.specs.declared.probes.ProbeFault.{ProbeFault}
 use Rattle.nor_probe.specs.declared.probes.ProbeFault.TheVariants.{NoChip, UnknownChip}
 use Rattle.nor_probe.specs.Sfdp.{sfdp_says}
-use Rattle.nor_probe.specs.Table.{part_of}
+use Rattle.nor_probe.specs.Table.{part_with_id}
 
 -- nothing drives the bus, which replies this ID: its lines rest high, or low
 abbrev pub is_no_chip : (of_id : List ℕ) → Bool
@@ -43,7 +43,7 @@ listed_or by_sfdp None = by_sfdp
 abbrev pub shown_as : Config → Result Part ProbeFault
 shown_as config =
     if is_no_chip (id_of config) then Err NoChip
-    else listed_or (part_by_sfdp (id_of config) (chip_says config)) (part_of (id_of config))
+    else listed_or (part_by_sfdp (id_of config) (chip_says config)) (part_with_id (id_of config))
 
 -- The chip has the size and the erase kinds of this geometry.
 pub record HasGeometry (geometry : Geometry) (config : Config) : Type 0 where
@@ -54,10 +54,10 @@ pub record HasGeometry (geometry : Geometry) (config : Config) : Type 0 where
 -- A chip is genuine: if its ID is in the table, size, erase kinds and protection are those of the row; and if it
 -- isn't, the chip has no block protection, and an SFDP that is accepted tells its size and erase kinds.
 pub record IsGenuine (config : Config) : Type 0 where
-  pub listed : (part : Part) → part_of (id_of config) ≡ Some part
+  pub listed : (part : Part) → part_with_id (id_of config) ≡ Some part
       → HasGeometry (record { size = part.size; kinds = part.kinds }) config × (config.scheme ≡ part.scheme)
-  pub unlisted : part_of (id_of config) ≡ None → config.scheme ≡ false
-  pub described : part_of (id_of config) ≡ None
+  pub unlisted : part_with_id (id_of config) ≡ None → config.scheme ≡ false
+  pub described : part_with_id (id_of config) ≡ None
       → (geometry : Geometry) → chip_says config ≡ Ok geometry → HasGeometry geometry config
 
 -- A chip is known: it is genuine, its ID isn't that of no chip, and it is in the table or its SFDP is accepted.

@@ -35,8 +35,8 @@ unfoldable pub size_in_bits : (density : ℕ) → ℕ
 size_in_bits density = if nat_lt density (2 ^ 31) then density + 1 else 2 ^ (density - 2 ^ 31)
 
 -- a power of two from 64 KiB to 16 MiB, in bits
-unfoldable pub is_supported_size : (bits : ℕ) → Bool
-is_supported_size bits = is_power_of_two bits && nat_le (2 ^ 19) bits && nat_le bits (2 ^ 27)
+unfoldable pub is_chip_size_in_bits : (bits : ℕ) → Bool
+is_chip_size_in_bits bits = is_power_of_two bits && nat_le (2 ^ 19) bits && nat_le bits (2 ^ 27)
 
 -- an erase type is a pair of bytes, the exponent of its size and its opcode; this one stands at a place of the table
 abbrev pub is_erase_type_at : (exponent opcode : ℕ) → (table : List ℕ) → (at : ℕ) → Bool
@@ -62,7 +62,7 @@ abbrev pub table_faults : (table : List ℕ) → List (Bool × SfdpFault)
 table_faults table =
     (nat_le 2 (address_mode table), Address)
     ∷ (not (has_write_granularity table), Granularity)
-    ∷ (not (is_supported_size (size_in_bits (double_word 2 table))), Size)
+    ∷ (not (is_chip_size_in_bits (size_in_bits (double_word 2 table))), Size)
     ∷ (not (has_erase_type 0x0C 0x20 table), NoSector)
     ∷ []
 
@@ -83,12 +83,12 @@ abbrev pub sfdp_says : (header first table : List ℕ) → Result Geometry SfdpF
 sfdp_says header first table = first_fault_or (geometry_of table) (header_faults header first ++ table_faults table)
 
 -- the number that a message shows for a fault
-abbrev pub number_of : SfdpFault → ℕ
-number_of Signature = 1
-number_of Major = 2
-number_of FirstHeader = 3
-number_of Length = 4
-number_of Address = 5
-number_of Granularity = 6
-number_of Size = 7
-number_of NoSector = 8
+abbrev pub number_of_sfdp_fault : SfdpFault → ℕ
+number_of_sfdp_fault Signature = 1
+number_of_sfdp_fault Major = 2
+number_of_sfdp_fault FirstHeader = 3
+number_of_sfdp_fault Length = 4
+number_of_sfdp_fault Address = 5
+number_of_sfdp_fault Granularity = 6
+number_of_sfdp_fault Size = 7
+number_of_sfdp_fault NoSector = 8

@@ -1,5 +1,5 @@
 -- What the steps of a probe leave and tell, each of them by itself.
-use Rattle.std.specs.Prelude.{◌≡◌, ◌+◌, ◌<◌, ◌⊎◌, ℕ, true, false, None, Some, Ok, Err, List}
+use Rattle.std.specs.Prelude.{◌≡◌, ◌+◌, ◌<◌, ◌⊎◌, ℕ, true, false, None, Some, Ok, Err, List, ⊤}
 use Rattle.nor_chip.specs.declared.config.Config.{Config}
 use Rattle.nor_chip.specs.Size.{is_chip_size}
 use Rattle.nor_chip.specs.Bus.{BusState}
@@ -12,7 +12,7 @@ use Rattle.nor_probe.specs.declared.probes.ProbeFault.{ProbeFault}
 use Rattle.nor_probe.specs.declared.probes.ProbeFault.TheVariants.{NoChip, UnknownChip, OtherName, Stopped, Timeout}
 use Rattle.nor_driver.specs.declared.waits.Halt.{Halt}
 use Rattle.nor_driver.specs.declared.waits.Halt.TheVariants as Halts
-use Rattle.nor_probe.specs.Table.{part_of}
+use Rattle.nor_probe.specs.Table.{part_with_id}
 use Rattle.nor_driver.specs.Looks.{Rested, RanOut}
 use Rattle.nor_probe.specs.Known.{id_of, is_no_chip, shown, pointer_in, chip_says, shown_as}
 use Rattle.nor_probe.specs.Found.{reads_of}
@@ -37,7 +37,8 @@ pub record AreParameters (config : Config) (parameters : Parameters) : Type 0 wh
 pub record IsIdentified (of_id : List ℕ) (part : Part) : Type 0 where
   pub driven : is_no_chip of_id ≡ false
   pub same_id : part.id ≡ of_id
-  pub origin : (part_of of_id ≡ Some part) ⊎ ((part_of of_id ≡ None) × (part.name ≡ Sfdp) × (part.scheme ≡ false))
+  pub origin : (part_with_id of_id ≡ Some part)
+      ⊎ ((part_with_id of_id ≡ None) × (part.name ≡ Sfdp) × (part.scheme ≡ false))
   pub sized : is_chip_size part.size ≡ true
   pub reads : reads_under part.name ≡ reads_of of_id
 
@@ -64,10 +65,10 @@ GeometryTells old new _ = ⊥
 
 -- the faults of the part alone
 abbrev pub IsIdentityFault : ProbeFault → Type 0
-IsIdentityFault NoChip = Unit {0}
-IsIdentityFault (UnknownChip fault) = Unit {0}
+IsIdentityFault NoChip = ⊤
+IsIdentityFault (UnknownChip fault) = ⊤
 IsIdentityFault OtherName = ⊥
-IsIdentityFault Stopped = Unit {0}
+IsIdentityFault Stopped = ⊤
 IsIdentityFault Timeout = ⊥
 
 -- The part of an idle chip whose ID was read, and that so many transactions were sent for it.

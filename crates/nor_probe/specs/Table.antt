@@ -13,11 +13,11 @@ name_of text =
     else Other
 
 -- the text of a name; what stands for a name that no chip has is no chip's name either
-abbrev pub text_of : ChipName → List ℕ
-text_of W25Q64FV = codes "W25Q64FV"
-text_of W25Q128FV = codes "W25Q128FV"
-text_of Sfdp = codes "SFDP"
-text_of Other = codes "other"
+abbrev pub name_text : ChipName → List ℕ
+name_text W25Q64FV = codes "W25Q64FV"
+name_text W25Q128FV = codes "W25Q128FV"
+name_text Sfdp = codes "SFDP"
+name_text Other = codes "other"
 
 -- Both Winbond chips have all erase kinds and block protection. (W25Q64FV and W25Q128FV datasheets: manufacturer
 -- and device identification, memory organization, instruction set table.)
@@ -38,5 +38,5 @@ abbrev pub chips : List Part
 chips = w25q64fv ∷ w25q128fv ∷ []
 
 -- the chip of the table that has this ID
-abbrev pub part_of : (of_id : List ℕ) → Option Part
-part_of of_id = find (λ part. bytes_eq part.id of_id) chips
+abbrev pub part_with_id : (of_id : List ℕ) → Option Part
+part_with_id of_id = find (λ part. bytes_eq part.id of_id) chips

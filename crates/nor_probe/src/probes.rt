@@ -3,7 +3,7 @@
 ghost use Rattle.std.specs.Prelude.{◌≡◌, ◌<◌, ◌^◌, ◌↔◌, true, IsTrue, IfOk, IfErr, OnErr};
 ghost use Rattle.nor_chip.specs.Size.{is_chip_size};
 ghost use Rattle.nor_probe.specs.declared.probes.ProbeFault.TheVariants as Faults;
-ghost use Rattle.nor_driver.specs.Looks.{Looks, RunsOut};
+ghost use Rattle.nor_driver.specs.Looks.{Looks, RanOutIfHonest};
 ghost use Rattle.nor_probe.specs.Known.{id_of, pointer_in, is_no_chip, IsModelled};
 ghost use Rattle.nor_probe.specs.Found.{found_in, part_in, IsConfigOf, IsCounted, IsWanted, ProbeAlways, ProbeHonest};
 ghost use Rattle.nor_probe.specs.Steps.{Identifies, IdentityTells, IsIdentified, IsIdentityFault};
@@ -173,7 +173,7 @@ fn read_parameters<B: Bus>(bus: &mut B) -> Result<Parameters, Stopped>
     ensures leaves { Looks 3 (B.state bus.old) (B.state bus.new) }
     ensures reads { (B.state bus.old).honest ≡ true
         → IfOk result (ReadsParameters (B.state bus.old) (B.state bus.new)) }
-    ensures halts { OnErr result (RunsOut 3 (B.state bus.old) (B.state bus.new)) }
+    ensures halts { OnErr result (RanOutIfHonest 3 (B.state bus.old) (B.state bus.new)) }
 {
     let mut header = [0; 8];
     let mut first = [0; 8];

@@ -4,7 +4,7 @@
 ghost use Rattle.std.specs.Prelude.{◌≡◌, ◌<◌, ◌≤◌, ◌+◌, ◌*◌, ◌-◌, ◌/◌, true, length, IsTrue, IfSome, IfOk};
 ghost use Rattle.nor_chip.specs.Size.{is_chip_size};
 ghost use Rattle.std.specs.Option.{SomeIff};
-ghost use Rattle.nor_probe.specs.Sfdp.{double_word, size_in_bits, is_supported_size, has_signature, is_basic, address_mode};
+ghost use Rattle.nor_probe.specs.Sfdp.{double_word, size_in_bits, is_chip_size_in_bits, has_signature, is_basic, address_mode};
 ghost use Rattle.nor_probe.specs.Sfdp.{has_write_granularity, is_erase_type_at, has_erase_type, geometry_of};
 ghost use Rattle.nor_probe.specs.Sfdp.{table_faults, first_fault_or, sfdp_says};
 
@@ -49,11 +49,11 @@ pub enum SfdpFault {
 }
 
 impl SfdpFault {
-    ghost use Rattle.nor_probe.specs.Sfdp.{number_of};
+    ghost use Rattle.nor_probe.specs.Sfdp.{number_of_sfdp_fault};
 
     /// The number that a message shows, from 1 on, in the order of the tests.
     pub fn number(self) -> u8
-        ensures { result ≡ number_of self }
+        ensures { result ≡ number_of_sfdp_fault self }
     {
         match self {
             SfdpFault::Signature => 1,
@@ -167,9 +167,9 @@ fn double_word_of(table: &[u8; 36], k: usize) -> u32
 }
 
 /// The size in bytes that the density double word gives, if it is one of those that are supported.
-#[tactic(auto, using(crate::proofs::SfdpLemmas::large_exponent), unfolding(crate::specs::Sfdp::size_in_bits, crate::specs::Sfdp::is_supported_size))]
+#[tactic(auto, using(crate::proofs::SfdpLemmas::large_exponent), unfolding(crate::specs::Sfdp::size_in_bits, crate::specs::Sfdp::is_chip_size_in_bits))]
 fn size_in_bytes(density: u32) -> Option<u32>
-    ensures value { SomeIff result (IsTrue (is_supported_size (size_in_bits density))) (size_in_bits density / 8) }
+    ensures value { SomeIff result (IsTrue (is_chip_size_in_bits (size_in_bits density))) (size_in_bits density / 8) }
     ensures sized { IfSome result (λ size. is_chip_size size ≡ true) }
 {
     let bits = if density < BY_EXPONENT {

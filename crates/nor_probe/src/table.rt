@@ -1,7 +1,7 @@
 //! The chips that are known by their ID, and the names that chips have.
 
 ghost use Rattle.std.specs.Prelude.{◌≡◌};
-ghost use Rattle.nor_probe.specs.Table.{name_of, text_of, chips, part_of};
+ghost use Rattle.nor_probe.specs.Table.{name_of, name_text, chips, part_with_id};
 
 use crate::Kinds;
 
@@ -33,7 +33,7 @@ impl ChipName {
 
     /// The name as a text, which `of` reads back.
     pub fn as_str(self) -> &'static str
-        ensures text { result.now ≡ text_of self }
+        ensures text { result.now ≡ name_text self }
         ensures read_back { name_of result.now ≡ self }
     {
         match self {
@@ -90,7 +90,7 @@ pub fn chips() -> &'static [Part; 2]
 
 /// The chip of the table that has this ID.
 pub fn part_of(id: [u8; 3]) -> Option<Part>
-    ensures { result ≡ part_of id }
+    ensures { result ≡ part_with_id id }
 {
     CHIPS.iter().find(|part| part.id == id).copied()
 }

@@ -4,7 +4,7 @@ use Rattle.std.specs.Prelude.{◌&&◌, ◌||◌, not, nat_le, if◌then◌else�
 use mathlib.Core.Bool.{beq}
 use Rattle.std.proofs.lemmas.Bool.{cases_lt, lt-ltb, le-ltb}
 use Rattle.std.proofs.lemmas.Bool.Decides.{nat_tests}
-use Rattle.nor_chip.specs.Guard.{guarded_by, is_undefined, is_complement, is_named}
+use Rattle.nor_chip.specs.Guard.{guarded_by, is_undefined, is_complement, is_place_named}
 use Rattle.nor_chip.specs.Units.{OnFirst, OnLast, LieAtAnEnd}
 use Rattle.nor_chip.specs.Size.{is_chip_size}
 use Rattle.nor_chip.proofs.Sizes.{is_chip_size-in_blocks}
@@ -117,7 +117,7 @@ border_at_end size code block sized ends all alike =
 guarded_past : (size code a : ℕ) → size ≤ a → guarded_by size code a ≡ false
 unfolding guarded_by
 guarded_past size code a past =
-    ap (λ (b : Bool). b && (is_undefined code || (if is_complement code then not (is_named size code a) else is_named size code a))) (le-ltb a size past)
+    ap (λ (b : Bool). b && (is_undefined code || (if is_complement code then not (is_place_named size code a) else is_place_named size code a))) (le-ltb a size past)
 
 inside : (size code a : ℕ) → guarded_by size code a ≡ true → a < size
 inside size code a is = elim (cases_lt a size) [

@@ -2,19 +2,21 @@
 use Rattle.std.proofs.Common.{◌≡◌, ◌≢◌, ◌∙◌, ℕ, true, List, length, Option, Some, None, Ok, Err, refl, ap, sym, subst, arith}
 use Rattle.std.specs.Prelude.{◌/◌}
 use Rattle.nor_chip.specs.Bus.{BusState}
-use Rattle.nor_driver.specs.Looks.{Looks, Rested, RunsOut}
+use Rattle.nor_driver.specs.Looks.{Looks, Rested, RanOutIfHonest}
 use Rattle.nor_layout.specs.declared.ranges.Span.{Span}
 use Rattle.nor_layout.specs.Sectors.{sectors_included, FitsInto, ReachesPast}
 use Rattle.nor_layout.proofs.Sectors.{sectors_included-most}
 use Rattle.nor_probe.specs.declared.table.ChipName.{ChipName}
 use Rattle.nor_probe.specs.declared.probes.Found.{Found}
 use Rattle.nor_probe.specs.declared.probes.Probed.{Probed}
+use Rattle.nor_probe.specs.Found.{most_probe}
 use Rattle.nor_apply.proofs.CheckingLooks.{looks_more}
 use Rattle.nor_save.specs.declared.refusal.Refusal.{Refusal}
 use Rattle.nor_save.specs.declared.refusal.Refusal.TheVariants.{NoChip, UnknownChip, OtherName, ImageSize, RegionOutside, Stopped, Timeout, Mismatch}
 use Rattle.nor_save.specs.declared.report.Report.{Report}
+use Rattle.nor_save.specs.Opening.{OpeningTells}
 use Rattle.nor_read.specs.declared.verifying.Compared.{Compared}
-use Rattle.nor_read.specs.Finding.{IsModelled, HasFound, ProbeTells, ReportsReads, ReadingTells, most_of}
+use Rattle.nor_read.specs.Finding.{IsModelled, HasFound, ReportsReads, ReadingTells, most_read}
 use Rattle.nor_read.specs.Verifying.{VerifyAlways, VerifyHonest, VerifyModelled, VerifyTells, IsVerifyRefusal, TellsFirst, ComparesAll}
 use Rattle.nor_read.proofs.Differing.{tells_same}
 use Rattle.nor_read.proofs.Whole.{HasReported, find_tells, looks_largest, looks_own, stops_largest, stops_own, rested_after}
@@ -22,7 +24,7 @@ use Rattle.nor_read.proofs.Whole.{size_of, open_after, has_name, is_taken, is_pa
 
 -- ---- no chip is found
 
-unfound_refuses : (named : Option ChipName) (old new : BusState) (refusal : Refusal) → ProbeTells named old new refusal → IsVerifyRefusal refusal
+unfound_refuses : (named : Option ChipName) (old new : BusState) (refusal : Refusal) → OpeningTells most_probe named old new refusal → IsVerifyRefusal refusal
 unfound_refuses named old new NoChip tells = tt
 unfound_refuses named old new (UnknownChip fault) tells = tt
 unfound_refuses named old new OtherName tells = tt
@@ -30,20 +32,20 @@ unfound_refuses named old new Stopped tells = tt
 unfound_refuses named old new (Timeout address) tells = tells.0
 unfound_refuses named old new _ tells = absurd tells
 
-unfound_tells : (named : Option ChipName) (included : Option (List Span)) (image : List ℕ) (old new : BusState) (refusal : Refusal) → ProbeTells named old new refusal → IsModelled old
+unfound_tells : (named : Option ChipName) (included : Option (List Span)) (image : List ℕ) (old new : BusState) (refusal : Refusal) → OpeningTells most_probe named old new refusal → IsModelled old
     → VerifyTells named included image old new refusal
 unfound_tells named included image old new NoChip tells known = tt
 unfound_tells named included image old new (UnknownChip fault) tells known = tt
 unfound_tells named included image old new OtherName tells known = tt
-unfound_tells named included image old new Stopped tells known = find_tells (most_of old.chip.config.size) named old new Stopped (omega arith) tells known.honest
+unfound_tells named included image old new Stopped tells known = find_tells (most_read old.chip.config.size) named old new Stopped (omega arith) tells known.honest
 unfound_tells named included image old new (Timeout address) tells known = tt
 unfound_tells named included image old new _ tells known = absurd tells
 
-module _ (named : Option ChipName) (included : Option (List Span)) (image : List ℕ) (old new : BusState) (refusal : Refusal) (looks : Looks 65540 old new)
-    (tells : ProbeTells named old new refusal) where
+module _ (named : Option ChipName) (included : Option (List Span)) (image : List ℕ) (old new : BusState) (refusal : Refusal) (looks : Looks most_probe old new)
+    (tells : OpeningTells most_probe named old new refusal) where
   pub unfound_always : VerifyAlways named included image old new (Err refusal)
   unfound_always = record {
-    looks = looks_more 65540 (most_of 16777216) old new (omega arith) looks;
+    looks = looks_more most_probe (most_read 16777216) old new (omega arith) looks;
     reports = tt;
     fits = tt;
     whole = tt;
@@ -53,12 +55,12 @@ module _ (named : Option ChipName) (included : Option (List Span)) (image : List
   pub unfound_honest : old.honest ≡ true → VerifyHonest named included old new (Err refusal)
   unfound_honest honest = record {
     reports = tt;
-    tells = find_tells (most_of 16777216) named old new refusal (omega arith) tells honest;
+    tells = find_tells (most_read 16777216) named old new refusal (omega arith) tells honest;
   }
 
   pub unfound_modelled : IsModelled old → VerifyModelled named included image old new (Err refusal)
   unfound_modelled known = record {
-    looks = looks_more 65540 (most_of old.chip.config.size) old new (omega arith) looks;
+    looks = looks_more most_probe (most_read old.chip.config.size) old new (omega arith) looks;
     config = tt;
     equal = tt;
     tells = unfound_tells named included image old new refusal tells known;
@@ -66,24 +68,24 @@ module _ (named : Option ChipName) (included : Option (List Span)) (image : List
 
 -- ---- one is found
 
-module _ (named : Option ChipName) (included : Option (List Span)) (image : List ℕ) (old mid : BusState) (probed : Probed) (found : HasFound named old mid probed) (looks : Looks 65540 old mid) where
+module _ (named : Option ChipName) (included : Option (List Span)) (image : List ℕ) (old mid : BusState) (probed : Probed) (found : HasFound named old mid probed) (looks : Looks most_probe old mid) where
   -- a refusal before anything is read
   pub early_always : (refusal : Refusal) → IsVerifyRefusal refusal → VerifyAlways named included image old mid (Err refusal)
   early_always refusal is = record {
-    looks = looks_more 65540 (most_of 16777216) old mid (omega arith) looks;
+    looks = looks_more most_probe (most_read 16777216) old mid (omega arith) looks;
     reports = tt;
     fits = tt;
     whole = tt;
     refuses = is;
   }
 
-  pub early_honest : (refusal : Refusal) → (Rested old mid → ReadingTells (most_of 16777216) named old mid refusal) → old.honest ≡ true
+  pub early_honest : (refusal : Refusal) → (Rested old mid → ReadingTells (most_read 16777216) named old mid refusal) → old.honest ≡ true
       → VerifyHonest named included old mid (Err refusal)
   early_honest refusal tells honest = record { reports = tt; tells = tells (found.rested honest) }
 
   early_modelled : (refusal : Refusal) → VerifyTells named included image old mid refusal → VerifyModelled named included image old mid (Err refusal)
   early_modelled refusal tells = record {
-    looks = looks_more 65540 (most_of old.chip.config.size) old mid (omega arith) looks;
+    looks = looks_more most_probe (most_read old.chip.config.size) old mid (omega arith) looks;
     config = tt;
     equal = tt;
     tells = tells;
@@ -115,10 +117,10 @@ module _ (named : Option ChipName) (included : Option (List Span)) (image : List
       refuses = tt;
     }
 
-    pub stopped_honest : RunsOut (probed.found.size / 4096) mid new → old.honest ≡ true → VerifyHonest named included old new (Err Stopped)
+    pub stopped_honest : RanOutIfHonest (probed.found.size / 4096) mid new → old.honest ≡ true → VerifyHonest named included old new (Err Stopped)
     stopped_honest out honest = record { reports = tt; tells = stops_largest named old mid probed found looks new out honest }
 
-    pub stopped_modelled : RunsOut (probed.found.size / 4096) mid new → IsModelled old → VerifyModelled named included image old new (Err Stopped)
+    pub stopped_modelled : RanOutIfHonest (probed.found.size / 4096) mid new → IsModelled old → VerifyModelled named included image old new (Err Stopped)
     stopped_modelled out known = record {
       looks = looks_own named old mid probed found looks new after known;
       config = tt;

@@ -6,14 +6,16 @@ use Rattle.nor_chip.specs.Chip.{Chip}
 use Rattle.nor_chip.specs.Guard.{guarded_by, code_of, is_guarded, is_undefined}
 use Rattle.nor_chip.specs.Code.{code_in, is_lock_set}
 use Rattle.nor_chip.specs.Bus.{BusState}
-use Rattle.nor_driver.specs.Looks.{Looks, RunsOut}
+use Rattle.nor_driver.specs.Looks.{Looks, RanOutIfHonest}
 use Rattle.nor_driver.specs.Reads.{ReadsStatus2}
 use Rattle.nor_probe.specs.declared.table.ChipName.{ChipName}
 use Rattle.nor_probe.specs.declared.probes.Probed.{Probed}
+use Rattle.nor_probe.specs.Found.{most_probe}
 use Rattle.nor_apply.proofs.CheckingLooks.{looks_more}
 use Rattle.nor_save.specs.declared.refusal.Refusal.{Refusal}
 use Rattle.nor_save.specs.declared.refusal.Refusal.TheVariants.{NoChip, UnknownChip, OtherName, NoProtection, Stopped, Timeout}
-use Rattle.nor_read.specs.Finding.{IsModelled, HasFound, ProbeTells}
+use Rattle.nor_save.specs.Opening.{OpeningTells}
+use Rattle.nor_read.specs.Finding.{IsModelled, HasFound, most_status}
 use Rattle.nor_read.specs.Protecting.{IsGuardedRange, IsRangeOf, ProtectionAlways, ProtectionHonest, ProtectionModelled, ProtectionTells, IsProtectionRefusal}
 use Rattle.nor_read.proofs.Whole.{find_tells, whole_looks, ran_after, rested_after, has_name, size_of}
 
@@ -46,7 +48,7 @@ range_read chip size code (Some places) of_code of_size scheme is = record {
 
 -- ---- no chip is found
 
-unfound_refuses : (named : Option ChipName) (old new : BusState) (refusal : Refusal) → ProbeTells named old new refusal → IsProtectionRefusal refusal
+unfound_refuses : (named : Option ChipName) (old new : BusState) (refusal : Refusal) → OpeningTells most_probe named old new refusal → IsProtectionRefusal refusal
 unfound_refuses named old new NoChip tells = tt
 unfound_refuses named old new (UnknownChip fault) tells = tt
 unfound_refuses named old new OtherName tells = tt
@@ -54,7 +56,7 @@ unfound_refuses named old new Stopped tells = tt
 unfound_refuses named old new (Timeout address) tells = tells.0
 unfound_refuses named old new _ tells = absurd tells
 
-unfound_tells : (named : Option ChipName) (old new : BusState) (refusal : Refusal) → ProbeTells named old new refusal → ProtectionTells named old.chip refusal
+unfound_tells : (named : Option ChipName) (old new : BusState) (refusal : Refusal) → OpeningTells most_probe named old new refusal → ProtectionTells named old.chip refusal
 unfound_tells named old new NoChip tells = tt
 unfound_tells named old new (UnknownChip fault) tells = tt
 unfound_tells named old new OtherName tells = tt
@@ -62,33 +64,33 @@ unfound_tells named old new Stopped tells = tt
 unfound_tells named old new (Timeout address) tells = tt
 unfound_tells named old new _ tells = absurd tells
 
-module _ (named : Option ChipName) (old new : BusState) (refusal : Refusal) (looks : Looks 65540 old new) (tells : ProbeTells named old new refusal) where
+module _ (named : Option ChipName) (old new : BusState) (refusal : Refusal) (looks : Looks most_probe old new) (tells : OpeningTells most_probe named old new refusal) where
   pub unfound_always : ProtectionAlways old new (Err refusal)
   unfound_always = record {
-    looks = looks_more 65540 65541 old new (omega arith) looks;
+    looks = looks_more most_probe most_status old new (omega arith) looks;
     sized = tt;
     refuses = unfound_refuses named old new refusal tells;
   }
 
   pub unfound_honest : old.honest ≡ true → ProtectionHonest named old new (Err refusal)
-  unfound_honest honest = record { rested = tt; idle = tt; is = tt; tells = find_tells 65541 named old new refusal (omega arith) tells honest }
+  unfound_honest honest = record { rested = tt; idle = tt; is = tt; tells = find_tells most_status named old new refusal (omega arith) tells honest }
 
   pub unfound_modelled : IsModelled old → ProtectionModelled named old (Err refusal)
   unfound_modelled known = record { told = tt; tells = unfound_tells named old new refusal tells }
 
 -- ---- one is found
 
-module _ (named : Option ChipName) (old mid new : BusState) (probed : Probed) (found : HasFound named old mid probed) (looks : Looks 65540 old mid) (after : Looks 1 mid new) where
+module _ (named : Option ChipName) (old mid new : BusState) (probed : Probed) (found : HasFound named old mid probed) (looks : Looks most_probe old mid) (after : Looks 1 mid new) where
   -- status 2 isn't read
   pub stopped_always : ProtectionAlways old new (Err Stopped)
-  stopped_always = record { looks = whole_looks 1 65541 old mid new (omega arith) looks after; sized = tt; refuses = tt }
+  stopped_always = record { looks = whole_looks 1 most_status old mid new (omega arith) looks after; sized = tt; refuses = tt }
 
-  pub stopped_honest : RunsOut 1 mid new → old.honest ≡ true → ProtectionHonest named old new (Err Stopped)
+  pub stopped_honest : RanOutIfHonest 1 mid new → old.honest ≡ true → ProtectionHonest named old new (Err Stopped)
   stopped_honest out honest = record {
     rested = tt;
     idle = tt;
     is = tt;
-    tells = ran_after named old mid probed found looks 1 65541 new out (omega arith) honest;
+    tells = ran_after named old mid probed found looks 1 most_status new out (omega arith) honest;
   }
 
   pub stopped_modelled : IsModelled old → ProtectionModelled named old (Err Stopped)
@@ -97,7 +99,7 @@ module _ (named : Option ChipName) (old mid new : BusState) (probed : Probed) (f
   -- it has no block protection
   module _ (status2 : ℕ) (reads : ReadsStatus2 mid new status2) where
     pub plain_always : ProtectionAlways old new (Err NoProtection)
-    plain_always = record { looks = whole_looks 1 65541 old mid new (omega arith) looks after; sized = tt; refuses = tt }
+    plain_always = record { looks = whole_looks 1 most_status old mid new (omega arith) looks after; sized = tt; refuses = tt }
 
     pub plain_honest : old.honest ≡ true → ProtectionHonest named old new (Err NoProtection)
     plain_honest honest = record {
@@ -116,7 +118,7 @@ module _ (named : Option ChipName) (old mid new : BusState) (probed : Probed) (f
     -- it has
     module _ (bytes : List ℕ) (range : Option (ℕ × ℕ)) (locked : Bool) where
       pub told_always : ProtectionAlways old new (Ok (record { range = range; locked = locked; size = probed.found.size }))
-      told_always = record { looks = whole_looks 1 65541 old mid new (omega arith) looks after; sized = found.is.part.sized; refuses = tt }
+      told_always = record { looks = whole_looks 1 most_status old mid new (omega arith) looks after; sized = found.is.part.sized; refuses = tt }
 
       pub told_honest : old.honest ≡ true → ProtectionHonest named old new (Ok (record { range = range; locked = locked; size = probed.found.size }))
       told_honest honest = record {

@@ -5,7 +5,7 @@ use Rattle.std.proofs.lemmas.Bool.{cases_lt}
 use borrow.Rule.Slice.PartMut.{put_mid}
 use Rattle.nor_chip.specs.declared.config.Config.{Config}
 use Rattle.nor_chip.specs.Bus.{BusState}
-use Rattle.nor_driver.specs.Looks.{Looks, RunsOut}
+use Rattle.nor_driver.specs.Looks.{Looks, RanOutIfHonest}
 use Rattle.nor_layout.specs.declared.ranges.Span.{Span}
 use Rattle.nor_layout.specs.Below.{count_below}
 use Rattle.nor_layout.specs.Sectors.{includes, has_in_sector}
@@ -79,7 +79,7 @@ pieced_all included piece k reads bytes old new all has = record {
 }
 
 -- a stop behind readings that succeeded
-pub runs_out_on : (reads more most : ℕ) (old mid new : BusState) → reads + more ≤ most → HasLooked reads old mid → RunsOut more mid new → RunsOut most old new
+pub runs_out_on : (reads more most : ℕ) (old mid new : BusState) → reads + more ≤ most → HasLooked reads old mid → RanOutIfHonest more mid new → RanOutIfHonest most old new
 runs_out_on reads more most old mid new few has out honest =
     let sent = has.sent honest in let none = out (has.honest ∙ honest) in let below = none.below in
     record { none_left = none.none_left; below = omega arith }

@@ -10,11 +10,13 @@ use Rattle.nor_layout.proofs.Sectors.{sectors_included-most}
 use Rattle.nor_probe.specs.declared.table.ChipName.{ChipName}
 use Rattle.nor_probe.specs.declared.probes.Found.{Found}
 use Rattle.nor_probe.specs.declared.probes.Probed.{Probed}
+use Rattle.nor_probe.specs.Found.{most_probe}
 use Rattle.nor_apply.proofs.CheckingLooks.{looks_more}
 use Rattle.nor_save.specs.declared.refusal.Refusal.{Refusal}
 use Rattle.nor_save.specs.declared.refusal.Refusal.TheVariants.{NoChip, UnknownChip, OtherName, RegionOutside, Stopped, Timeout, Output}
 use Rattle.nor_save.specs.declared.report.Report.{Report}
-use Rattle.nor_read.specs.Finding.{IsModelled, HasFound, ProbeTells, ReportsReads, ReadingTells, most_of}
+use Rattle.nor_save.specs.Opening.{OpeningTells}
+use Rattle.nor_read.specs.Finding.{IsModelled, HasFound, ReportsReads, ReadingTells, most_read}
 use Rattle.nor_read.specs.Reading.{ReadOutAlways, ReadOutHonest, ReadOutModelled, IsReadRefusal, ReadOutTells}
 use Rattle.nor_read.specs.Reading.{Copies, TakesWhole, ReadsAll, CopyTells}
 use Rattle.nor_read.proofs.Whole.{HasReported, find_tells, looks_largest, looks_own, stops_largest, stops_own, rested_after}
@@ -26,7 +28,7 @@ accepted_none vault = record { telling = refl; sealed = refl; failures = refl }
 
 -- ---- no chip is found
 
-unfound_refuses : (named : Option ChipName) (old new : BusState) (vault : VaultState) (refusal : Refusal) → ProbeTells named old new refusal → IsReadRefusal vault vault refusal
+unfound_refuses : (named : Option ChipName) (old new : BusState) (vault : VaultState) (refusal : Refusal) → OpeningTells most_probe named old new refusal → IsReadRefusal vault vault refusal
 unfound_refuses named old new vault NoChip tells = (tt, accepted_none vault)
 unfound_refuses named old new vault (UnknownChip fault) tells = (tt, accepted_none vault)
 unfound_refuses named old new vault OtherName tells = (tt, accepted_none vault)
@@ -34,20 +36,20 @@ unfound_refuses named old new vault Stopped tells = (tt, accepted_none vault)
 unfound_refuses named old new vault (Timeout address) tells = (tells.0, accepted_none vault)
 unfound_refuses named old new vault _ tells = absurd tells
 
-unfound_tells : (named : Option ChipName) (included : Option (List Span)) (old new : BusState) (vault : VaultState) (refusal : Refusal) → ProbeTells named old new refusal → IsModelled old
+unfound_tells : (named : Option ChipName) (included : Option (List Span)) (old new : BusState) (vault : VaultState) (refusal : Refusal) → OpeningTells most_probe named old new refusal → IsModelled old
     → ReadOutTells named included old new vault vault refusal
 unfound_tells named included old new vault NoChip tells known = tt
 unfound_tells named included old new vault (UnknownChip fault) tells known = tt
 unfound_tells named included old new vault OtherName tells known = tt
-unfound_tells named included old new vault Stopped tells known = find_tells (most_of old.chip.config.size) named old new Stopped (omega arith) tells known.honest
+unfound_tells named included old new vault Stopped tells known = find_tells (most_read old.chip.config.size) named old new Stopped (omega arith) tells known.honest
 unfound_tells named included old new vault (Timeout address) tells known = tt
 unfound_tells named included old new vault _ tells known = absurd tells
 
-module _ (named : Option ChipName) (included : Option (List Span)) (old new : BusState) (vault : VaultState) (refusal : Refusal) (looks : Looks 65540 old new)
-    (tells : ProbeTells named old new refusal) where
+module _ (named : Option ChipName) (included : Option (List Span)) (old new : BusState) (vault : VaultState) (refusal : Refusal) (looks : Looks most_probe old new)
+    (tells : OpeningTells most_probe named old new refusal) where
   pub unfound_always : ReadOutAlways named included old new vault vault (Err refusal)
   unfound_always = record {
-    looks = looks_more 65540 (most_of 16777216) old new (omega arith) looks;
+    looks = looks_more most_probe (most_read 16777216) old new (omega arith) looks;
     reports = tt;
     fits = tt;
     whole = tt;
@@ -57,12 +59,12 @@ module _ (named : Option ChipName) (included : Option (List Span)) (old new : Bu
   pub unfound_honest : old.honest ≡ true → ReadOutHonest named included old new (Err refusal)
   unfound_honest honest = record {
     reports = tt;
-    tells = find_tells (most_of 16777216) named old new refusal (omega arith) tells honest;
+    tells = find_tells (most_read 16777216) named old new refusal (omega arith) tells honest;
   }
 
   pub unfound_modelled : IsModelled old → ReadOutModelled named included old new vault vault (Err refusal)
   unfound_modelled known = record {
-    looks = looks_more 65540 (most_of old.chip.config.size) old new (omega arith) looks;
+    looks = looks_more most_probe (most_read old.chip.config.size) old new (omega arith) looks;
     config = tt;
     copy = tt;
     tells = unfound_tells named included old new vault refusal tells known;
@@ -70,11 +72,11 @@ module _ (named : Option ChipName) (included : Option (List Span)) (old new : Bu
 
 -- ---- one is found
 
-module _ (named : Option ChipName) (included : Option (List Span)) (old mid : BusState) (vault : VaultState) (probed : Probed) (found : HasFound named old mid probed) (looks : Looks 65540 old mid) where
+module _ (named : Option ChipName) (included : Option (List Span)) (old mid : BusState) (vault : VaultState) (probed : Probed) (found : HasFound named old mid probed) (looks : Looks most_probe old mid) where
   -- an included address isn't on it
   pub past_always : ReadOutAlways named included old mid vault vault (Err RegionOutside)
   past_always = record {
-    looks = looks_more 65540 (most_of 16777216) old mid (omega arith) looks;
+    looks = looks_more most_probe (most_read 16777216) old mid (omega arith) looks;
     reports = tt;
     fits = tt;
     whole = tt;
@@ -86,7 +88,7 @@ module _ (named : Option ChipName) (included : Option (List Span)) (old mid : Bu
 
   pub past_modelled : ReachesPast included probed.found.size → IsModelled old → ReadOutModelled named included old mid vault vault (Err RegionOutside)
   past_modelled past known = record {
-    looks = looks_more 65540 (most_of old.chip.config.size) old mid (omega arith) looks;
+    looks = looks_more most_probe (most_read old.chip.config.size) old mid (omega arith) looks;
     config = tt;
     copy = tt;
     tells = is_passed named old mid probed found looks included past known;
@@ -109,7 +111,7 @@ module _ (named : Option ChipName) (included : Option (List Span)) (old mid : Bu
     fails_refuses (Output written) breaks = breaks.took
     fails_refuses _ tells = absurd tells
 
-    fails_tells : (refusal : Refusal) → CopyTells included probed.found.size mid new vault vault' refusal → old.honest ≡ true → ReadingTells (most_of 16777216) named old new refusal
+    fails_tells : (refusal : Refusal) → CopyTells included probed.found.size mid new vault vault' refusal → old.honest ≡ true → ReadingTells (most_read 16777216) named old new refusal
     fails_tells Stopped tells honest = stops_largest named old mid probed found looks new tells.0 honest
     fails_tells (Output written) breaks honest = rested_after named old mid probed found looks new breaks.rested honest
     fails_tells _ tells honest = absurd tells

@@ -3,22 +3,23 @@ use Rattle.std.proofs.Common.{◌≡◌, ◌≤◌, ◌+◌, ◌∙◌, ℕ, tru
 use Rattle.std.specs.Prelude.{◌/◌, IsErrAnd}
 use Rattle.nor_chip.specs.declared.config.Config.{Config}
 use Rattle.nor_chip.specs.Bus.{BusState}
-use Rattle.nor_driver.specs.Looks.{Rested, Looks, RanOut, RunsOut}
+use Rattle.nor_driver.specs.Looks.{Rested, Looks, RanOut, RanOutIfHonest}
 use Rattle.nor_layout.specs.declared.ranges.Span.{Span}
 use Rattle.nor_layout.specs.Sectors.{FitsInto, ReachesPast}
 use Rattle.nor_probe.specs.declared.table.ChipName.{ChipName}
 use Rattle.nor_probe.specs.declared.probes.Found.{Found}
 use Rattle.nor_probe.specs.declared.probes.Probed.{Probed}
 use Rattle.nor_probe.specs.Known.{shown_as}
-use Rattle.nor_probe.specs.Found.{part_in, IsConfigOf, IsPart, IsWanted}
+use Rattle.nor_probe.specs.Found.{part_in, IsConfigOf, IsPart, IsWanted, most_probe}
 use Rattle.nor_apply.proofs.CheckingLooks.{looks_then, looks_more}
 use Rattle.nor_save.specs.declared.refusal.Refusal.{Refusal}
 use Rattle.nor_save.specs.declared.refusal.Refusal.TheVariants.{NoChip, UnknownChip, OtherName, Stopped, Timeout}
 use Rattle.nor_save.specs.declared.report.Report.{Report}
 use Rattle.nor_save.specs.Scanning.{IsOpen}
 use Rattle.nor_save.proofs.Rests.{rested_then}
-use Rattle.nor_read.specs.Finding.{IsModelled, HasFound, IsNamed, IsPassed, IsTaken, ProbeTells}
-use Rattle.nor_read.specs.Finding.{ReportsPart, ReportsReads, IsFindRefusal, ReadingTells, most_of}
+use Rattle.nor_save.specs.Opening.{OpeningTells}
+use Rattle.nor_read.specs.Finding.{IsModelled, HasFound, IsNamed, IsPassed, IsTaken}
+use Rattle.nor_read.specs.Finding.{ReportsPart, ReportsReads, IsFindRefusal, ReadingTells, most_read}
 
 -- what `?` passes on
 pub is_err : {T : Type 0} (outcome : Result T Refusal) (refusal : Refusal) → IsErrAnd outcome (λ passed. passed ≡ refusal) → outcome ≡ Err refusal
@@ -26,8 +27,8 @@ is_err (Ok value) refusal is = absurd is
 is_err (Err passed) refusal is = ap Err is
 
 -- at most so many transactions, in all
-pub whole_looks : (n most : ℕ) (old mid new : BusState) → 65540 + n ≤ most → Looks 65540 old mid → Looks n mid new → Looks most old new
-whole_looks n most old mid new fits first second = looks_more (65540 + n) most old new fits (looks_then 65540 n old mid new first second)
+pub whole_looks : (n most : ℕ) (old mid new : BusState) → most_probe + n ≤ most → Looks most_probe old mid → Looks n mid new → Looks most old new
+whole_looks n most old mid new fits first second = looks_more (most_probe + n) most old new fits (looks_then most_probe n old mid new first second)
 
 -- The report of what was found, and of so many sectors that were read.
 pub record HasReported (probed : Probed) (reads : ℕ) (report : Report) : Type 0 where
@@ -39,7 +40,7 @@ pub record HasReported (probed : Probed) (reads : ℕ) (report : Report) : Type 
 
 -- ---- where no chip is found
 
-pub find_refuses : (named : Option ChipName) (old new : BusState) (refusal : Refusal) → ProbeTells named old new refusal → IsFindRefusal refusal
+pub find_refuses : (named : Option ChipName) (old new : BusState) (refusal : Refusal) → OpeningTells most_probe named old new refusal → IsFindRefusal refusal
 find_refuses named old new NoChip tells = tt
 find_refuses named old new (UnknownChip fault) tells = tt
 find_refuses named old new OtherName tells = tt
@@ -47,7 +48,7 @@ find_refuses named old new Stopped tells = tt
 find_refuses named old new (Timeout address) tells = tells.0
 find_refuses named old new _ tells = absurd tells
 
-pub find_tells : (most : ℕ) (named : Option ChipName) (old new : BusState) (refusal : Refusal) → 65540 ≤ most → ProbeTells named old new refusal → old.honest ≡ true
+pub find_tells : (most : ℕ) (named : Option ChipName) (old new : BusState) (refusal : Refusal) → most_probe ≤ most → OpeningTells most_probe named old new refusal → old.honest ≡ true
     → ReadingTells most named old new refusal
 find_tells most named old new NoChip fits tells honest = tells honest
 find_tells most named old new (UnknownChip fault) fits tells honest = tells honest
@@ -60,37 +61,37 @@ find_tells most named old new _ fits tells honest = absurd tells
 
 -- ---- where one is found
 
-module _ (named : Option ChipName) (old mid : BusState) (probed : Probed) (found : HasFound named old mid probed) (looks : Looks 65540 old mid) where
+module _ (named : Option ChipName) (old mid : BusState) (probed : Probed) (found : HasFound named old mid probed) (looks : Looks most_probe old mid) where
   -- what was found is of the chip's size
   pub size_of : IsModelled old → probed.found.size ≡ old.chip.config.size
   size_of known = (found.is.config known).size
 
   -- how much was sent
-  pub looks_largest : (new : BusState) → Looks (probed.found.size / 4096) mid new → Looks (most_of 16777216) old new
+  pub looks_largest : (new : BusState) → Looks (probed.found.size / 4096) mid new → Looks (most_read 16777216) old new
   looks_largest new after =
       let most = found.is.part.at_most in
-      whole_looks (probed.found.size / 4096) (most_of 16777216) old mid new (omega arith) looks after
+      whole_looks (probed.found.size / 4096) (most_read 16777216) old mid new (omega arith) looks after
 
-  pub looks_own : (new : BusState) → Looks (probed.found.size / 4096) mid new → IsModelled old → Looks (most_of old.chip.config.size) old new
+  pub looks_own : (new : BusState) → Looks (probed.found.size / 4096) mid new → IsModelled old → Looks (most_read old.chip.config.size) old new
   looks_own new after known =
       let same = size_of known in
-      whole_looks (probed.found.size / 4096) (most_of old.chip.config.size) old mid new (omega arith) looks after
+      whole_looks (probed.found.size / 4096) (most_read old.chip.config.size) old mid new (omega arith) looks after
 
   -- a stop after the probe
-  pub ran_after : (n most : ℕ) (new : BusState) → RunsOut n mid new → 65540 + n ≤ most → old.honest ≡ true → RanOut most old new
+  pub ran_after : (n most : ℕ) (new : BusState) → RanOutIfHonest n mid new → most_probe + n ≤ most → old.honest ≡ true → RanOut most old new
   ran_after n most new out fits honest =
       let ran = out (looks.honest ∙ honest) in let below = ran.below in let fell = found.fell honest in let few = found.most in
       record { none_left = ran.none_left; below = omega arith }
 
-  pub stops_largest : (new : BusState) → RunsOut (probed.found.size / 4096) mid new → old.honest ≡ true → RanOut (most_of 16777216) old new
+  pub stops_largest : (new : BusState) → RanOutIfHonest (probed.found.size / 4096) mid new → old.honest ≡ true → RanOut (most_read 16777216) old new
   stops_largest new out honest =
       let most = found.is.part.at_most in
-      ran_after (probed.found.size / 4096) (most_of 16777216) new out (omega arith) honest
+      ran_after (probed.found.size / 4096) (most_read 16777216) new out (omega arith) honest
 
-  pub stops_own : (new : BusState) → RunsOut (probed.found.size / 4096) mid new → IsModelled old → RanOut (most_of old.chip.config.size) old new
+  pub stops_own : (new : BusState) → RanOutIfHonest (probed.found.size / 4096) mid new → IsModelled old → RanOut (most_read old.chip.config.size) old new
   stops_own new out known =
       let same = size_of known in
-      ran_after (probed.found.size / 4096) (most_of old.chip.config.size) new out (omega arith) known.honest
+      ran_after (probed.found.size / 4096) (most_read old.chip.config.size) new out (omega arith) known.honest
 
   -- nothing changed by the probe, nor after it
   pub rested_after : (new : BusState) → (mid.honest ≡ true → Rested mid new) → old.honest ≡ true → Rested old new

@@ -1,9 +1,9 @@
 -- What every reading begins with, which chip is there and how many transactions that took; and how it ends, with its
 -- report or a refusal.
-use Rattle.std.specs.Prelude.{◌≡◌, ◌≤◌, ◌+◌, ◌/◌, ℕ, true, Option, Ok, List}
+use Rattle.std.specs.Prelude.{◌≡◌, ◌≤◌, ◌+◌, ◌/◌, ℕ, true, Option, Ok, List, ⊤}
 use Rattle.nor_chip.specs.declared.config.Config.{Config}
 use Rattle.nor_chip.specs.Bus.{BusState}
-use Rattle.nor_driver.specs.Looks.{Rested, RanOut, RunsOut}
+use Rattle.nor_driver.specs.Looks.{Rested, RanOut, RanOutIfHonest}
 use Rattle.nor_layout.specs.declared.ranges.Span.{Span}
 use Rattle.nor_layout.specs.Sectors.{ReachesPast, FitsInto}
 use Rattle.nor_probe.specs.declared.table.ChipName.{ChipName}
@@ -13,10 +13,14 @@ use Rattle.nor_probe.specs.declared.probes.ProbeFault.TheVariants as Probes
 pub use Rattle.nor_probe.specs.Known.{IsModelled}
 use Rattle.nor_probe.specs.Known.{shown_as}
 pub use Rattle.nor_probe.specs.Found.{IsNamed}
-use Rattle.nor_probe.specs.Found.{needed, part_in, IsPart, IsWanted, IsConfigOf, Tells}
+use Rattle.nor_probe.specs.Found.{needed, part_in, IsPart, IsWanted, IsConfigOf, Tells, most_probe}
 use Rattle.nor_save.specs.declared.refusal.Refusal.{Refusal}
 use Rattle.nor_save.specs.declared.refusal.Refusal.TheVariants.{NoChip, UnknownChip, OtherName, Stopped, Timeout}
 use Rattle.nor_save.specs.declared.report.Report.{Report}
+
+-- the most transactions until the status of a chip is read: a probe, and status 2
+abbrev pub most_status : ℕ
+most_status = 65541
 
 -- What was found: whatever the bus, a row of the table or a part by SFDP, with the name that is wanted. On an honest
 -- bus it is what the chip shows itself as, with the kept bits of the chip's status; a genuine chip has its
@@ -31,21 +35,11 @@ pub record IsFound (named : Option ChipName) (old : BusState) (found : Found) : 
 -- The probe found a chip. On an honest bus nothing changed, the chip is idle, and so many transactions were sent.
 pub record HasFound (named : Option ChipName) (old new : BusState) (probed : Probed) : Type 0 where
   pub is : IsFound named old probed.found
-  pub most : probed.transactions ≤ 65540
+  pub most : probed.transactions ≤ most_probe
   pub rested : old.honest ≡ true → Rested old new
   pub idle : old.honest ≡ true → new.chip.busy ≡ 0
   pub count : old.honest ≡ true → probed.transactions ≡ needed old.chip
   pub fell : old.honest ≡ true → old.left ≡ new.left + probed.transactions
-
--- what a refusal of the probe tells: a stop that fewer than 65,540 transactions were left, and a timeout that the bus
--- isn't honest
-abbrev pub ProbeTells : Option ChipName → BusState → BusState → Refusal → Type 0
-ProbeTells named old new NoChip = old.honest ≡ true → Tells named old new Probes.NoChip
-ProbeTells named old new (UnknownChip fault) = old.honest ≡ true → Tells named old new (Probes.UnknownChip fault)
-ProbeTells named old new OtherName = old.honest ≡ true → Tells named old new Probes.OtherName
-ProbeTells named old new Stopped = RunsOut 65540 old new
-ProbeTells named old new (Timeout address) = (address ≡ 0) × (old.honest ≡ true → ⊥)
-ProbeTells named old new _ = ⊥
 
 -- ---- what is judged of the chip that was found
 
@@ -62,8 +56,8 @@ pub record IsTaken (named : Option ChipName) (included : Option (List Span)) (co
 -- ---- how much is sent
 
 -- at most as many transactions as a probe takes, and one for each sector of a chip of this size
-abbrev pub most_of : ℕ → ℕ
-most_of size = 65540 + size / 4096
+abbrev pub most_read : ℕ → ℕ
+most_read size = most_probe + size / 4096
 
 -- ---- what a reading reports
 
@@ -78,7 +72,7 @@ pub record ReportsPart (named : Option ChipName) (report : Report) : Type 0 wher
   pub erases : report.erases ≡ 0
   pub programs : report.programs ≡ 0
   -- no more transactions are told than a chip of this size takes
-  pub most : report.transactions ≤ most_of report.found.size
+  pub most : report.transactions ≤ most_read report.found.size
 
 -- On an honest bus, with so many reads of sectors: what the chip shows itself as, which was only looked at.
 pub record ReportsReads (reads : ℕ) (old new : BusState) (report : Report) : Type 0 where
@@ -99,10 +93,10 @@ pub record ReportsReads (reads : ℕ) (old new : BusState) (report : Report) : T
 
 -- a refusal that finding a chip gives, on every bus; a timeout is told at address 0
 abbrev pub IsFindRefusal : Refusal → Type 0
-IsFindRefusal NoChip = Unit {0}
-IsFindRefusal (UnknownChip fault) = Unit {0}
-IsFindRefusal OtherName = Unit {0}
-IsFindRefusal Stopped = Unit {0}
+IsFindRefusal NoChip = ⊤
+IsFindRefusal (UnknownChip fault) = ⊤
+IsFindRefusal OtherName = ⊤
+IsFindRefusal Stopped = ⊤
 IsFindRefusal (Timeout address) = address ≡ 0
 IsFindRefusal _ = ⊥
 

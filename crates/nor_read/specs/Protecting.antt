@@ -1,5 +1,5 @@
 -- What is told of a chip's block protection.
-use Rattle.std.specs.Prelude.{◌≡◌, ◌<◌, ◌≤◌, ◌+◌, ◌↔◌, ℕ, true, false, not, Option, MatchOption}
+use Rattle.std.specs.Prelude.{◌≡◌, ◌<◌, ◌≤◌, ◌+◌, ◌↔◌, ℕ, true, false, not, Option, MatchOption, ⊤}
 use Rattle.std.specs.Prelude.{Result, IfOk, IfErr, OnOk}
 use Rattle.nor_chip.specs.Chip.{Chip, is_locked}
 use Rattle.nor_chip.specs.Guard.{code_of, guarded_by, is_guarded, is_undefined}
@@ -11,7 +11,7 @@ use Rattle.nor_probe.specs.declared.table.ChipName.{ChipName}
 use Rattle.nor_save.specs.declared.refusal.Refusal.{Refusal}
 use Rattle.nor_save.specs.declared.refusal.Refusal.TheVariants.{NoProtection}
 use Rattle.nor_read.specs.declared.protection.Protection.{Protection}
-use Rattle.nor_read.specs.Finding.{IsNamed, IsFindRefusal, ReadingTells}
+use Rattle.nor_read.specs.Finding.{IsNamed, IsFindRefusal, ReadingTells, most_status}
 
 -- The code is defined, and the guarded places are so many from `start` on. Where there are none, they start at 0.
 pub record IsGuardedRange (chip : Chip) (start len : ℕ) : Type 0 where
@@ -32,13 +32,13 @@ pub record IsProtection (chip : Chip) (protection : Protection) : Type 0 where
 
 -- a refusal that telling the protection gives, on every bus
 abbrev pub IsProtectionRefusal : Refusal → Type 0
-IsProtectionRefusal NoProtection = Unit {0}
+IsProtectionRefusal NoProtection = ⊤
 IsProtectionRefusal refusal = IsFindRefusal refusal
 
 -- On every bus.
 pub record ProtectionAlways (old new : BusState) (result : Result Protection Refusal) : Type 0 where
   -- nothing changing was sent, and at most 65,541 transactions
-  pub looks : Looks 65541 old new
+  pub looks : Looks most_status old new
   -- the size is one that a chip may have
   pub sized : IfOk result (λ protection. is_chip_size protection.size ≡ true)
   -- a refusal is one that telling the protection gives
@@ -54,13 +54,13 @@ pub record ProtectionHonest (named : Option ChipName) (old new : BusState)
   -- it has the name that is wanted
   pub is : OnOk result (IsNamed named old.chip.config)
   -- a refusal tells why the chip is none that is wanted, or a stop; but for a stop nothing changed
-  pub tells : IfErr result (ReadingTells 65541 named old new)
+  pub tells : IfErr result (ReadingTells most_status named old new)
 
 -- What a refusal tells of a chip that is what it shows itself to be: refusal 6, that it has no block protection, and
 -- has the wanted name. (Those of the probe: `ReadingTells`.)
 abbrev pub ProtectionTells : Option ChipName → Chip → Refusal → Type 0
 ProtectionTells named chip NoProtection = IsNamed named chip.config × (chip.config.scheme ≡ false)
-ProtectionTells named chip _ = Unit {0}
+ProtectionTells named chip _ = ⊤
 
 -- On an honest bus whose chip is what it shows itself to be.
 pub record ProtectionModelled (named : Option ChipName) (old : BusState)

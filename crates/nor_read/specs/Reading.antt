@@ -1,8 +1,8 @@
 -- What reading a chip out leaves in a vault.
-use Rattle.std.specs.Prelude.{◌≡◌, ◌≤◌, ◌<◌, ◌+◌, ◌*◌, ◌/◌, ◌++◌, ℕ, true, if◌then◌else◌}
+use Rattle.std.specs.Prelude.{◌≡◌, ◌≤◌, ◌<◌, ◌+◌, ◌*◌, ◌/◌, ◌++◌, ℕ, true, if◌then◌else◌, ⊤}
 use Rattle.std.specs.Prelude.{Option, Result, IfOk, IfErr, List, length, slice_index}
 use Rattle.nor_chip.specs.Bus.{BusState}
-use Rattle.nor_driver.specs.Looks.{Looks, Rested, RanOut, RunsOut}
+use Rattle.nor_driver.specs.Looks.{Looks, Rested, RanOut, RanOutIfHonest}
 use Rattle.nor_journal.specs.Vault.{VaultState, PutRefused, Refused, Accepted}
 use Rattle.nor_layout.specs.declared.ranges.Span.{Span}
 use Rattle.nor_layout.specs.Below.{count_below}
@@ -13,7 +13,7 @@ use Rattle.nor_save.specs.declared.refusal.Refusal.{Refusal}
 use Rattle.nor_save.specs.declared.refusal.Refusal.TheVariants.{RegionOutside, Stopped, Output}
 use Rattle.nor_save.specs.declared.report.Report.{Report}
 use Rattle.nor_save.specs.Scanning.{IsOpen}
-use Rattle.nor_read.specs.Finding.{IsPassed, IsTaken, ReportsPart, ReportsReads, IsFindRefusal, ReadingTells, most_of}
+use Rattle.nor_read.specs.Finding.{IsPassed, IsTaken, ReportsPart, ReportsReads, IsFindRefusal, ReadingTells, most_read}
 
 -- the byte at an address of the copy: the chip's where the address is included, else FFh
 abbrev pub copied : Option (List Span) → (ℕ → ℕ) → ℕ → ℕ
@@ -59,7 +59,7 @@ IsReadRefusal vault vault' refusal = IsFindRefusal refusal × Accepted vault vau
 pub record ReadOutAlways (named : Option ChipName) (included : Option (List Span)) (old new : BusState)
     (vault vault' : VaultState) (result : Result Report Refusal) : Type 0 where
   -- nothing changing was sent, and no more than the largest chip takes
-  pub looks : Looks (most_of 16777216) old new
+  pub looks : Looks (most_read 16777216) old new
   -- the report tells a part with the name that is wanted, of which nothing was touched
   pub reports : IfOk result (ReportsPart named)
   -- no included address is past its end
@@ -75,7 +75,7 @@ pub record ReadOutHonest (named : Option ChipName) (included : Option (List Span
   -- each sector that holds an included address was read once; the chip, which is idle now, was only looked at
   pub reports : IfOk result (λ report. ReportsReads (sectors_included included report.found.size) old new report)
   -- a refusal tells why the chip is none that is wanted, or a stop; but for a stop nothing changed
-  pub tells : IfErr result (ReadingTells (most_of 16777216) named old new)
+  pub tells : IfErr result (ReadingTells (most_read 16777216) named old new)
 
 -- The vault refused, and no refusal before that one holds: it had taken as many bytes of the copy as are told, no more
 -- than the chip has.
@@ -89,15 +89,15 @@ pub record BreaksOff (named : Option ChipName) (included : Option (List Span)) (
 abbrev pub ReadOutTells : Option ChipName → Option (List Span) → BusState → BusState → VaultState → VaultState
     → Refusal → Type 0
 ReadOutTells named included old new vault vault' RegionOutside = IsPassed named included old.chip.config
-ReadOutTells named included old new vault vault' Stopped = RanOut (most_of old.chip.config.size) old new
+ReadOutTells named included old new vault vault' Stopped = RanOut (most_read old.chip.config.size) old new
 ReadOutTells named included old new vault vault' (Output written) = BreaksOff named included written old vault vault'
-ReadOutTells named included old new vault vault' _ = Unit {0}
+ReadOutTells named included old new vault vault' _ = ⊤
 
 -- On an honest bus whose chip is what it shows itself to be.
 pub record ReadOutModelled (named : Option ChipName) (included : Option (List Span)) (old new : BusState)
     (vault vault' : VaultState) (result : Result Report Refusal) : Type 0 where
   -- no more was sent than a chip of this size takes
-  pub looks : Looks (most_of old.chip.config.size) old new
+  pub looks : Looks (most_read old.chip.config.size) old new
   -- the report tells the chip's configuration
   pub config : IfOk result (λ report. IsConfigOf old.chip.config report.found)
   -- a vault that is telling has the chip's included bytes, and FFh for the others
@@ -147,7 +147,7 @@ pub record BreaksCopy (included : Option (List Span)) (size written : ℕ) (old 
 
 -- what a refusal of the copy tells; at a stop the vault took all that it was given
 abbrev pub CopyTells : Option (List Span) → ℕ → BusState → BusState → VaultState → VaultState → Refusal → Type 0
-CopyTells included size old new vault vault' Stopped = RunsOut (size / 4096) old new × Accepted vault vault'
+CopyTells included size old new vault vault' Stopped = RanOutIfHonest (size / 4096) old new × Accepted vault vault'
 CopyTells included size old new vault vault' (Output written) = BreaksCopy included size written old new vault vault'
 CopyTells included size old new vault vault' _ = ⊥
 

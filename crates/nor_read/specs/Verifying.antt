@@ -1,5 +1,5 @@
 -- What a comparison of a chip with an image tells.
-use Rattle.std.specs.Prelude.{◌≡◌, ◌≢◌, ◌≤◌, ◌<◌, ◌+◌, ◌*◌, ℕ, true, if◌then◌else◌}
+use Rattle.std.specs.Prelude.{◌≡◌, ◌≢◌, ◌≤◌, ◌<◌, ◌+◌, ◌*◌, ℕ, true, if◌then◌else◌, ⊤}
 use Rattle.std.specs.Prelude.{Option, Result, IfOk, IfErr, List, length, slice_index, MatchOption}
 use Rattle.nor_chip.specs.declared.config.Config.{Config}
 use Rattle.nor_chip.specs.Chip.{Chip}
@@ -14,7 +14,7 @@ use Rattle.nor_save.specs.declared.refusal.Refusal.TheVariants.{ImageSize, Regio
 use Rattle.nor_save.specs.declared.report.Report.{Report}
 use Rattle.nor_save.specs.Scanning.{IsOpen}
 use Rattle.nor_read.specs.declared.verifying.Compared.{Compared}
-use Rattle.nor_read.specs.Finding.{IsNamed, IsPassed, IsTaken, most_of}
+use Rattle.nor_read.specs.Finding.{IsNamed, IsPassed, IsTaken, most_read}
 use Rattle.nor_read.specs.Finding.{ReportsPart, ReportsReads, IsFindRefusal, ReadingTells}
 
 -- each included byte from one address up to another is the image's
@@ -50,16 +50,16 @@ pub record IsMismatch (named : Option ChipName) (included : Option (List Span)) 
 
 -- a refusal that verifying gives, on every bus
 abbrev pub IsVerifyRefusal : Refusal → Type 0
-IsVerifyRefusal (ImageSize chip len) = Unit {0}
-IsVerifyRefusal RegionOutside = Unit {0}
-IsVerifyRefusal (Mismatch address) = Unit {0}
+IsVerifyRefusal (ImageSize chip len) = ⊤
+IsVerifyRefusal RegionOutside = ⊤
+IsVerifyRefusal (Mismatch address) = ⊤
 IsVerifyRefusal refusal = IsFindRefusal refusal
 
 -- On every bus.
 pub record VerifyAlways (named : Option ChipName) (included : Option (List Span)) (image : List ℕ) (old new : BusState)
     (result : Result Report Refusal) : Type 0 where
   -- nothing changing was sent, and no more than the largest chip takes
-  pub looks : Looks (most_of 16777216) old new
+  pub looks : Looks (most_read 16777216) old new
   -- the report tells a part with the name that is wanted, of which nothing was touched
   pub reports : IfOk result (ReportsPart named)
   -- no included address is past its end
@@ -75,22 +75,22 @@ pub record VerifyHonest (named : Option ChipName) (included : Option (List Span)
   -- each sector that holds an included address was read once; the chip, which is idle now, was only looked at
   pub reports : IfOk result (λ report. ReportsReads (sectors_included included report.found.size) old new report)
   -- a refusal tells why the chip is none that is wanted, or a stop; but for a stop nothing changed
-  pub tells : IfErr result (ReadingTells (most_of 16777216) named old new)
+  pub tells : IfErr result (ReadingTells (most_read 16777216) named old new)
 
 -- What a refusal tells of a chip that is what it shows itself to be. (Those of the probe: `ReadingTells`.)
 abbrev pub VerifyTells : Option ChipName → Option (List Span) → List ℕ → BusState → BusState → Refusal → Type 0
 VerifyTells named included image old new (ImageSize chip len) = IsOtherSize named image old.chip.config chip len
 VerifyTells named included image old new RegionOutside =
     IsPassed named included old.chip.config × (length image ≡ old.chip.config.size)
-VerifyTells named included image old new Stopped = RanOut (most_of old.chip.config.size) old new
+VerifyTells named included image old new Stopped = RanOut (most_read old.chip.config.size) old new
 VerifyTells named included image old new (Mismatch address) = IsMismatch named included image old.chip address
-VerifyTells named included image old new _ = Unit {0}
+VerifyTells named included image old new _ = ⊤
 
 -- On an honest bus whose chip is what it shows itself to be.
 pub record VerifyModelled (named : Option ChipName) (included : Option (List Span)) (image : List ℕ)
     (old new : BusState) (result : Result Report Refusal) : Type 0 where
   -- no more was sent than a chip of this size takes
-  pub looks : Looks (most_of old.chip.config.size) old new
+  pub looks : Looks (most_read old.chip.config.size) old new
   -- the report tells the chip's configuration
   pub config : IfOk result (λ report. IsConfigOf old.chip.config report.found)
   -- each included byte is the image's

@@ -1,7 +1,9 @@
 //! How every reading begins and ends: the chip is found, and reported.
 ghost use Rattle.std.specs.Prelude.{◌≡◌, ◌≤◌, ◌+◌, IfOk, IfErr};
 ghost use Rattle.nor_driver.specs.Looks.{Looks};
-ghost use Rattle.nor_read.specs.Finding.{HasFound, ProbeTells};
+ghost use Rattle.nor_probe.specs.Found.{most_probe};
+ghost use Rattle.nor_save.specs.Opening.{OpeningTells};
+ghost use Rattle.nor_read.specs.Finding.{HasFound};
 
 use nor_chip::Bus;
 use nor_probe::{ChipName, Probed, probe_counted};
@@ -9,9 +11,9 @@ use nor_save::{Refusal, Report};
 
 /// Tells which chip is on the bus.
 pub fn find<B: Bus>(bus: &mut B, named: Option<ChipName>) -> Result<Probed, Refusal>
-    ensures leaves { Looks 65540 (B.state bus.old) (B.state bus.new) }
+    ensures leaves { Looks most_probe (B.state bus.old) (B.state bus.new) }
     ensures finds { IfOk result (HasFound named (B.state bus.old) (B.state bus.new)) }
-    ensures tells { IfErr result (ProbeTells named (B.state bus.old) (B.state bus.new)) }
+    ensures tells { IfErr result (OpeningTells most_probe named (B.state bus.old) (B.state bus.new)) }
 {
     let probed = probe_counted(bus, named)?;
     Ok(probed)
@@ -19,7 +21,7 @@ pub fn find<B: Bus>(bus: &mut B, named: Option<ChipName>) -> Result<Probed, Refu
 
 /// The report of a reading that read so many sectors of the chip that was found.
 pub fn report(probed: Probed, reads: u32) -> Report
-    requires { probed.transactions ≤ 65540 }
+    requires { probed.transactions ≤ most_probe }
     ensures found { result.found ≡ probed.found }
     ensures touched { result.touched ≡ 0 }
     ensures erases { result.erases ≡ 0 }

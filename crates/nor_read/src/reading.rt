@@ -1,7 +1,7 @@
 //! Reads a chip out into a vault.
 ghost use Rattle.std.specs.Prelude.{◌≡◌, ◌<◌, ◌/◌, true, false, length, IfOk, IfErr, OnOk, OnErr, IsTrue, option_copied};
 ghost use Rattle.nor_chip.specs.Size.{is_chip_size};
-ghost use Rattle.nor_driver.specs.Looks.{Looks, RunsOut};
+ghost use Rattle.nor_driver.specs.Looks.{Looks, RanOutIfHonest};
 ghost use Rattle.nor_journal.specs.Vault.{Took};
 ghost use Rattle.nor_read.specs.Finding.{IsModelled};
 ghost use Rattle.nor_read.specs.Reading.{ReadOutAlways, ReadOutHonest, ReadOutModelled};
@@ -74,7 +74,7 @@ fn read_piece<B: Bus>(
     ensures leaves { Looks 16 (B.state bus.old) (B.state bus.new) }
     ensures reads { IfOk result
         (ReadsPiece (option_copied included.entry) piece bytes.new (B.state bus.old) (B.state bus.new)) }
-    ensures stops { OnErr result (RunsOut 16 (B.state bus.old) (B.state bus.new)) }
+    ensures stops { OnErr result (RanOutIfHonest 16 (B.state bus.old) (B.state bus.new)) }
 {
     let mut reads = 0;
     for k in 0..16 {
@@ -97,7 +97,7 @@ fn read_part<B: Bus>(
     ensures leaves { Looks 1 (B.state bus.old) (B.state bus.new) }
     ensures reads { IfOk result
         (ReadsPart (option_copied included.entry) sector bytes.new (B.state bus.old) (B.state bus.new)) }
-    ensures stops { OnErr result (RunsOut 1 (B.state bus.old) (B.state bus.new)) }
+    ensures stops { OnErr result (RanOutIfHonest 1 (B.state bus.old) (B.state bus.new)) }
 {
     if !includes_in_sector(included, sector) {
         bytes.fill(0xFF);

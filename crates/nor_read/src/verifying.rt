@@ -1,7 +1,7 @@
 //! Compares a chip with an image.
 ghost use Rattle.std.specs.Prelude.{◌≡◌, ◌<◌, ◌≤◌, ◌+◌, ◌*◌, ◌/◌, ℕ, true, length, IfOk, OnErr, IsTrue, option_copied};
 ghost use Rattle.nor_chip.specs.Size.{is_chip_size};
-ghost use Rattle.nor_driver.specs.Looks.{Looks, RunsOut};
+ghost use Rattle.nor_driver.specs.Looks.{Looks, RanOutIfHonest};
 ghost use Rattle.nor_layout.specs.Sectors.{AreOfSector};
 ghost use Rattle.nor_read.specs.Finding.{IsModelled};
 ghost use Rattle.nor_read.specs.Verifying.{VerifyAlways, VerifyHonest, VerifyModelled};
@@ -67,7 +67,7 @@ fn compare_all<B: Bus>(
     ensures leaves { Looks (size / 4096) (B.state bus.old) (B.state bus.new) }
     ensures compares { IfOk result
         (ComparesAll (option_copied included.entry) image.now size (B.state bus.old) (B.state bus.new)) }
-    ensures stops { OnErr result (RunsOut (size / 4096) (B.state bus.old) (B.state bus.new)) }
+    ensures stops { OnErr result (RanOutIfHonest (size / 4096) (B.state bus.old) (B.state bus.new)) }
 {
     let mut first = None;
     let mut reads = 0;
@@ -93,7 +93,7 @@ fn compare_part<B: Bus>(
     ensures leaves { Looks 1 (B.state bus.old) (B.state bus.new) }
     ensures compares { IfOk result
         (ComparesPart (option_copied included.entry) image.now sector (B.state bus.old) (B.state bus.new)) }
-    ensures stops { OnErr result (RunsOut 1 (B.state bus.old) (B.state bus.new)) }
+    ensures stops { OnErr result (RanOutIfHonest 1 (B.state bus.old) (B.state bus.new)) }
 {
     if !includes_in_sector(included, sector) {
         return Ok(Compared {

@@ -9,12 +9,12 @@ use Rattle.nor_journal.specs.declared.writer.Writer.{Writer}
 use Rattle.nor_journal.specs.Text.{Content, MayFollow, empty_content, with_sector}
 use Rattle.nor_journal.specs.Vault.{VaultState}
 use Rattle.nor_journal.specs.Saved.{Saves, HasOneMore}
-use Rattle.nor_journal.specs.Writer.{vault_state, HasWritten, HasKept}
+use Rattle.nor_journal.specs.Writer.{vault_state, HasWritten, HasPutSectors}
 use Rattle.nor_journal.proofs.Saved.{saved_in-empty_content, saved_in-with_sector, next_number-empty_content, next_number-with_sector}
 use Rattle.nor_save.specs.declared.refusal.Refusal.{Refusal}
 use Rattle.nor_save.specs.declared.refusal.Refusal.TheVariants.{Vault}
 use Rattle.nor_save.specs.declared.scanning.Scanned.{Scanned}
-use Rattle.nor_save.specs.Scanning.{wanted_at, AreRight, HasBegun, HasBegunWith, UnlessVault, HasKeptBelow, never}
+use Rattle.nor_save.specs.Scanning.{wanted_at, AreRight, HasBegun, HasBegunWith, UnlessVault, HasKeptBelow}
 use Rattle.nor_save.specs.Keeping.{BeginsJournal}
 use Rattle.nor_save.specs.Saving.{head_of}
 use Rattle.nor_save.specs.Request.{wanted, is_touched_by}
@@ -23,6 +23,7 @@ use Rattle.nor_save.proofs.Parts.{kept_same}
 use Rattle.nor_apply.specs.Content.{is_touched}
 use Rattle.nor_plan.specs.SectorSet.{has}
 use Rattle.nor_chip.specs.Chip.{Chip}
+use Rattle.nor_apply.specs.Change.{none}
 
 -- the head alone
 pub begun_none : {V : Type 0} (state : V → VaultState) (writer : Writer V) (id : List ℕ) (unique : Option (List ℕ)) (status : List ℕ) (size : ℕ)
@@ -60,7 +61,7 @@ begun_more state old new size sector bytes below writes begun = record {
 -- ---- with the sectors of its records
 
 pub with_none : {V : Type 0} (state : V → VaultState) (writer : Writer V) (id : List ℕ) (unique : Option (List ℕ)) (status : List ℕ) (size : ℕ)
-    → HasWritten state writer (empty_content id unique status size) → HasBegunWith state writer size 0 never
+    → HasWritten state writer (empty_content id unique status size) → HasBegunWith state writer size 0 none
 unfolding begun_none
 with_none state writer id unique status size written = record {
   begun = begun_none state writer id unique status size written;
@@ -101,14 +102,14 @@ unless_any (Ok scanned) promise holds = holds
 unless_any (Err refusal) promise holds = λ other. holds
 
 pub unless_refused : (outcome : Result Scanned Refusal) (promise : Type 0) → IsErrAnd outcome (λ refusal. refusal ≡ Vault) → UnlessVault outcome promise
-unless_refused (Ok scanned) promise never = absurd never
+unless_refused (Ok scanned) promise none = absurd none
 unless_refused (Err refusal) promise is = λ other. absurd (other is)
 
 -- ---- of a chip
 
 -- the records so far are those of the touched sectors below the next one
 pub kept_below : {V : Type 0} (state : V → VaultState) (writer : Writer V) (head : Content) (chip aim : ℕ → ℕ) (n total : ℕ) (scanned : Scanned) → n ≤ total → AreRight aim chip n scanned
-    → HasKept state writer head chip (has scanned.touched) n → HasKeptBelow state writer head chip (is_touched chip aim) total
+    → HasPutSectors state writer head chip (has scanned.touched) n → HasKeptBelow state writer head chip (is_touched chip aim) total
 kept_below state writer head chip aim n total scanned inside right kept = record {
   bound = n;
   inside = inside;
@@ -120,7 +121,7 @@ unless_any_err (Ok scanned) promise holds = tt
 unless_any_err (Err refusal) promise holds = λ other. holds
 
 pub unless_refused_err : {T : Type 0} (outcome : Result T Refusal) (promise : Type 0) → IsErrAnd outcome (λ refusal. refusal ≡ Vault) → IfErr outcome (λ refusal. refusal ≢ Vault → promise)
-unless_refused_err (Ok value) promise never = tt
+unless_refused_err (Ok value) promise none = tt
 unless_refused_err (Err refusal) promise is = λ other. absurd (other is)
 
 -- what holds of a refusal holds of it when it is handed on
@@ -157,7 +158,7 @@ begins_of state writer request image size chip old shown is_size telling begun =
 
 -- what was kept of all touched sectors is one too
 pub begins_all : {V : Type 0} (state : V → VaultState) (writer : Writer V) (request : Request) (image : List ℕ) (chip : Chip) (n : ℕ)
-    → (vault_state state writer).telling ≡ true → HasKept state writer (head_of chip) chip.bytes (is_touched_by request image chip) n
+    → (vault_state state writer).telling ≡ true → HasPutSectors state writer (head_of chip) chip.bytes (is_touched_by request image chip) n
     → BeginsJournal (head_of chip) chip.bytes (is_touched_by request image chip) (vault_state state writer).bytes
 begins_all state writer request image chip n telling kept =
     let total = chip.config.size / 4096 in

@@ -9,7 +9,7 @@ use Rattle.nor_driver.specs.Reads.{id_of, unique_of}
 use Rattle.nor_journal.specs.Text.{Content, empty_content}
 use Rattle.nor_journal.specs.declared.writer.Writer.{Writer}
 use Rattle.nor_journal.specs.Vault.{VaultState}
-use Rattle.nor_journal.specs.Writer.{HasKept}
+use Rattle.nor_journal.specs.Writer.{HasPutSectors}
 use Rattle.nor_plan.specs.SectorSet.{has}
 use Rattle.nor_apply.specs.Content.{is_touched, is_raised}
 use Rattle.nor_save.specs.declared.opening.Opening.{Opening}
@@ -81,9 +81,9 @@ accepts_touched request code touched more chip unlock same accepts = subst (λ (
 
 -- and what was written of the journal
 pub kept_touched : {V : Type 0} → (state : V → VaultState) (writer : Writer V) (head : Content) (old content : ℕ → ℕ) (touched more : ℕ → Bool) (n : ℕ) → old ≡ content → ((s : ℕ) → touched s ≡ more s)
-    → HasKept state writer head old touched n → HasKept state writer head content more n
+    → HasPutSectors state writer head old touched n → HasPutSectors state writer head content more n
 kept_touched state writer head old content touched more n shown same kept =
-    subst (λ (chip : ℕ → ℕ). HasKept state writer head chip more n) shown (subst (λ (set : ℕ → Bool). HasKept state writer head old set n) (fun_ext same) kept)
+    subst (λ (chip : ℕ → ℕ). HasPutSectors state writer head chip more n) shown (subst (λ (set : ℕ → Bool). HasPutSectors state writer head old set n) (fun_ext same) kept)
 
 -- the kept bits, as they were read
 kept_bytes : (one two k1 k2 : ℕ) → one / 4 ≡ k1 → two ≡ k2 → k2 < 128 → one / 4 * 4 ∷ two % 128 ∷ [] ≡ 4 * k1 ∷ k2 ∷ []

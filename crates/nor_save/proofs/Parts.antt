@@ -6,9 +6,9 @@ use Rattle.std.proofs.lemmas.List.{get_or-take, get_or-drop, get_or_append_left,
 use borrow.Rule.Slice.PartMut.{put_mid}
 use Rattle.nor_chip.specs.Bus.{BusState}
 use Rattle.nor_journal.specs.Text.{Content}
-use Rattle.nor_journal.specs.Saved.{IsSector, HasOneMore}
+use Rattle.nor_journal.specs.Saved.{IsWholeSector, HasOneMore}
 use Rattle.nor_journal.specs.Vault.{VaultState}
-use Rattle.nor_journal.specs.Writer.{HasKept}
+use Rattle.nor_journal.specs.Writer.{HasPutSectors}
 use Rattle.nor_journal.specs.declared.writer.Writer.{Writer}
 use Rattle.nor_plan.specs.SectorSet.{has}
 use Rattle.nor_plan.specs.declared.plan.SectorPlan.{SectorPlan}
@@ -50,7 +50,7 @@ put_back n k image part long whole fits =
 -- ---- what the journal saves
 
 pub kept_later : {V : Type 0} (state : V → VaultState) (writer : Writer V) (head : Content) (chip : ℕ → ℕ) (saved : ℕ → Bool) (m n : ℕ) → m ≤ n
-    → HasKept state writer head chip saved m → HasKept state writer head chip saved n
+    → HasPutSectors state writer head chip saved m → HasPutSectors state writer head chip saved n
 kept_later state writer head chip saved m n later kept = record {
   content = kept.content;
   written = kept.written;
@@ -61,7 +61,7 @@ kept_later state writer head chip saved m n later kept = record {
 
 -- the same sectors
 pub kept_same : {V : Type 0} (state : V → VaultState) (writer : Writer V) (head : Content) (chip : ℕ → ℕ) (saved again : ℕ → Bool) (n : ℕ) → ((s : ℕ) → again s ≡ saved s)
-    → HasKept state writer head chip saved n → HasKept state writer head chip again n
+    → HasPutSectors state writer head chip saved n → HasPutSectors state writer head chip again n
 kept_same state writer head chip saved again n same kept = record {
   content = kept.content;
   written = kept.written;
@@ -89,7 +89,7 @@ marked_none n plan old new untouched marked s = marked.touched s ∙ ap (λ (b :
 
 -- the bytes that were read are those that the chip had before the scan
 pub read_before : (request : Request) (size n reads : ℕ) (part part' bytes : List ℕ) (plan : SectorPlan) (old mid new : BusState) → IsOpen size old → HasLooked reads old mid
-    → ScansSector request size n part part' bytes mid new plan → length bytes ≡ 4096 → IsSector old.chip.bytes n bytes
+    → ScansSector request size n part part' bytes mid new plan → length bytes ≡ 4096 → IsWholeSector old.chip.bytes n bytes
 read_before request size n reads part part' bytes plan old mid new is_open looked scans long = record {
   whole = long;
   same = λ i below.

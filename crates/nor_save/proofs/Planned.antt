@@ -13,25 +13,25 @@ use Rattle.nor_apply.specs.Content.{is_other, must_rise, is_touched, is_raised}
 use Rattle.nor_save.specs.declared.report.Request.{Request}
 use Rattle.nor_save.specs.declared.report.What.{What}
 use Rattle.nor_save.specs.declared.report.What.TheVariants.{Write, Erase, WpRange}
-use Rattle.nor_save.specs.Request.{is_data, target, may_change}
+use Rattle.nor_save.specs.Request.{is_data, target, is_requested}
 use Rattle.nor_save.specs.Scanning.{wanted_at, IsOpen, ScansSector}
 use Rattle.nor_layout.specs.Below.{any_below}
 use Rattle.nor_apply.proofs.Counting.{any_below-all, any_below-same}
 use Rattle.nor_save.proofs.Below.{any_below-decided}
 
 -- a request about bytes may change what it includes of the chip
-pub may_change-included : (request : Request) (size a : ℕ) → is_data request.what ≡ true → a < size → may_change request size a ≡ includes request.included a
+pub may_change-included : (request : Request) (size a : ℕ) → is_data request.what ≡ true → a < size → is_requested request size a ≡ includes request.included a
 may_change-included request size a about_bytes below =
     ap (λ (b : Bool). b && (nat_lt a size && includes request.included a)) about_bytes
     ∙ ap (λ (b : Bool). b && includes request.included a) (lt-ltb a size below)
 
 -- where nothing may change, what is there is wanted
-pub wanted-kept : (request : Request) (image : List ℕ) (size : ℕ) (content : ℕ → ℕ) (a : ℕ) → may_change request size a ≡ false → wanted_at request image size content a ≡ content a
+pub wanted-kept : (request : Request) (image : List ℕ) (size : ℕ) (content : ℕ → ℕ) (a : ℕ) → is_requested request size a ≡ false → wanted_at request image size content a ≡ content a
 wanted-kept request image size content a fixed = ap (λ (b : Bool). if b then target request.what image a else content a) fixed
 
 -- the same content has the same wanted bytes
 pub wanted-same : (request : Request) (image : List ℕ) (size : ℕ) (old new : ℕ → ℕ) (a : ℕ) → new a ≡ old a → wanted_at request image size new a ≡ wanted_at request image size old a
-wanted-same request image size old new a same = ap (λ (b : ℕ). if may_change request size a then target request.what image a else b) same
+wanted-same request image size old new a same = ap (λ (b : ℕ). if is_requested request size a then target request.what image a else b) same
 
 other : (a b : ℕ) → (a ≡ b → ⊥) → is_other a b ≡ true
 other a b differ = not_from_false (a == b) (ne_eqb a b differ)

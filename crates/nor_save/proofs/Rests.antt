@@ -6,7 +6,7 @@ use Rattle.nor_chip.specs.declared.running.Running.TheVariants.{Program, Erase, 
 use Rattle.nor_chip.specs.Chip.{Chip, IsSame}
 use Rattle.nor_chip.specs.Power.{is_in_work, KeptCut}
 use Rattle.nor_chip.specs.Bus.{BusState}
-use Rattle.nor_driver.specs.Looks.{Rested, Looked, Looks, RunsOut}
+use Rattle.nor_driver.specs.Looks.{Rested, LooksHonest, Looks, RanOutIfHonest}
 use Rattle.nor_driver.specs.Reads.{HasRead}
 use Rattle.nor_save.specs.declared.refusal.Refusal.{Refusal}
 use Rattle.nor_save.specs.declared.refusal.Refusal.TheVariants.{Stopped}
@@ -26,7 +26,7 @@ kept_from (StatusWrite one two) old mid new same kept =
 kept_from Unknown old mid new same kept = kept
 
 -- after readings that succeeded
-looked_then : (reads more most : ℕ) (old mid new : BusState) → reads + more ≤ most → mid.steady ≡ old.steady → Rested old mid → old.left ≡ mid.left + reads → Looked more mid new → Looked most old new
+looked_then : (reads more most : ℕ) (old mid new : BusState) → reads + more ≤ most → mid.steady ≡ old.steady → Rested old mid → old.left ≡ mid.left + reads → LooksHonest more mid new → LooksHonest most old new
 looked_then reads more most old mid new few steady rested sent looked =
     let was = rested.unchanged in let stays = looked.stays in
     let first = was.busy in let second = stays.busy in let fell = looked.falls.fell in let bound = looked.falls.bound in
@@ -75,7 +75,7 @@ looks_then reads more most old mid new few has looks = record {
 }
 
 -- the next one stopped
-pub runs_out : (reads most : ℕ) (old mid new : BusState) → reads < most → HasLooked reads old mid → RunsOut 1 mid new → RunsOut most old new
+pub runs_out : (reads most : ℕ) (old mid new : BusState) → reads < most → HasLooked reads old mid → RanOutIfHonest 1 mid new → RanOutIfHonest most old new
 runs_out reads most old mid new few has out honest =
     let sent = has.sent honest in let none = out (has.honest ∙ honest) in let below = none.below in
     record { none_left = none.none_left; below = omega arith }
@@ -91,6 +91,6 @@ has_looked-more reads old mid new has looks read = record {
 }
 
 -- a refusal that is a stop tells that the transactions ran out
-pub tells_stop : {T : Type 0} (outcome : Result T Refusal) (most : ℕ) (old new : BusState) → IsErrAnd outcome (λ refusal. refusal ≡ Stopped) → RunsOut most old new → IfErr outcome (ScanTells most old new)
+pub tells_stop : {T : Type 0} (outcome : Result T Refusal) (most : ℕ) (old new : BusState) → IsErrAnd outcome (λ refusal. refusal ≡ Stopped) → RanOutIfHonest most old new → IfErr outcome (ScanTells most old new)
 tells_stop (Ok value) most old new stopped out = tt
 tells_stop (Err refusal) most old new stopped out = subst (λ (r : Refusal). ScanTells most old new r) (sym stopped) out

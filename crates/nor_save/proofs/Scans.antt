@@ -6,7 +6,7 @@ use Rattle.nor_chip.specs.declared.config.Config.{Config}
 use Rattle.nor_chip.specs.Bus.{BusState}
 use Rattle.nor_chip.specs.Size.{is_chip_size}
 use Rattle.nor_chip.proofs.Sizes.{is_chip_size-in_blocks}
-use Rattle.nor_driver.specs.Looks.{Looks, RunsOut}
+use Rattle.nor_driver.specs.Looks.{Looks, RanOutIfHonest}
 use Rattle.nor_layout.specs.declared.ranges.Span.{Span}
 use Rattle.nor_layout.specs.Below.{count_below}
 use Rattle.nor_layout.specs.Sectors.{includes, has_in_sector, SomeInSector, NoneInSector}
@@ -16,7 +16,7 @@ use Rattle.nor_apply.specs.Content.{is_touched, is_raised}
 use Rattle.nor_apply.specs.Counts.{sector_count}
 use Rattle.nor_save.specs.declared.report.Request.{Request}
 use Rattle.nor_save.specs.declared.scanning.Scanned.{Scanned}
-use Rattle.nor_save.specs.Request.{is_data, may_change, scanned_sectors}
+use Rattle.nor_save.specs.Request.{is_data, is_requested, scanned_sectors}
 use Rattle.nor_save.specs.Scanning.{wanted_at, AreMarks, AreRight, IsOpen, IsBlank, HasMarked, ScansSector, Scans}
 use Rattle.nor_apply.proofs.Counting.{count_below-zero, count_below-more, count_below-none, count_below-same}
 use Rattle.nor_save.proofs.Below.{count_below-insert}
@@ -172,7 +172,7 @@ pub skipped : (request : Request) (size n : ℕ) (included : Option (List Span))
 skipped request size n included told image image' old new scanned at is_included is cases was =
     let excluded : NoneInSector (includes included) n = MatchBool-at_false (SomeInSector (includes included) n) (NoneInSector (includes included) n) is cases in
     let within = at.below in
-    let fixed : (i : ℕ) → i < 4096 → may_change request size (4096 * n + i) ≡ false =
+    let fixed : (i : ℕ) → i < 4096 → is_requested request size (4096 * n + i) ≡ false =
     λ i below. may_change-included request size (4096 * n + i) at.about_bytes (omega arith)
     ∙ ap (λ (o : Option (List Span)). includes o (4096 * n + i)) (sym is_included) ∙ excluded i below in
     let content = old.chip.bytes in
@@ -271,7 +271,7 @@ looks_on request size n image image' old mid new scanned at was looks =
     looks_then scanned.reads 1 (scanned_sectors request size) old mid new (room request size n image image' old mid scanned at was) was.looked looks
 
 pub runs_out_at : (request : Request) (size n : ℕ) (image image' : List ℕ) (old mid new : BusState) (scanned : Scanned) → IsAt request size n true → HasScanned request size n image image' old mid scanned
-    → RunsOut 1 mid new → RunsOut (scanned_sectors request size) old new
+    → RanOutIfHonest 1 mid new → RanOutIfHonest (scanned_sectors request size) old new
 runs_out_at request size n image image' old mid new scanned at was out =
     runs_out scanned.reads (scanned_sectors request size) old mid new (let more = room request size n image image' old mid scanned at was in omega arith) was.looked out
 

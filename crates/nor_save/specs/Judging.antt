@@ -1,5 +1,5 @@
 -- Which refusals are judged where, on every bus, and when protection is lifted.
-use Rattle.std.specs.Prelude.{◌≡◌, ℕ, Bool, true, Option, Result, IfOk, IfErr, MatchBool, MatchOption}
+use Rattle.std.specs.Prelude.{◌≡◌, ℕ, Bool, true, Option, Result, IfOk, IfErr, MatchBool, MatchOption, ⊤}
 use Rattle.nor_chip.specs.Chip.{Chip}
 use Rattle.nor_plan.specs.declared.set.SectorSet.{SectorSet}
 use Rattle.nor_plan.specs.SectorSet.{HasSome}
@@ -13,17 +13,17 @@ use Rattle.nor_save.specs.Saving.{IsOpening, OpeningJudges, OpeningAccepts, Scan
 
 -- by the opening
 abbrev pub IsOpeningRefusal : Refusal → Type 0
-IsOpeningRefusal (ImageSize chip image) = Unit {0}
-IsOpeningRefusal RegionOutside = Unit {0}
-IsOpeningRefusal NoProtection = Unit {0}
-IsOpeningRefusal UndefinedProtection = Unit {0}
-IsOpeningRefusal RangeNotOffered = Unit {0}
+IsOpeningRefusal (ImageSize chip image) = ⊤
+IsOpeningRefusal RegionOutside = ⊤
+IsOpeningRefusal NoProtection = ⊤
+IsOpeningRefusal UndefinedProtection = ⊤
+IsOpeningRefusal RangeNotOffered = ⊤
 IsOpeningRefusal _ = ⊥
 
 -- by the scan
 abbrev pub IsScanRefusal : Refusal → Type 0
-IsScanRefusal StatusLocked = Unit {0}
-IsScanRefusal (Protected address) = Unit {0}
+IsScanRefusal StatusLocked = ⊤
+IsScanRefusal (Protected address) = ⊤
 IsScanRefusal _ = ⊥
 
 -- protection is lifted only where the request says so, and some sector is touched

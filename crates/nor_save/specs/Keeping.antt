@@ -1,9 +1,9 @@
 -- What the scan with its journal leaves.
-use Rattle.std.specs.Prelude.{◌≡◌, ◌≢◌, ◌/◌, ◌&&◌, ℕ, Bool, true, nat_lt, List, slice_index, Result, Ok, Err}
+use Rattle.std.specs.Prelude.{◌≡◌, ◌≢◌, ◌/◌, ◌&&◌, ℕ, Bool, true, nat_lt, List, slice_index, Result, Ok, Err, ⊤}
 use Rattle.nor_journal.specs.Text.{Content, IsContent, SameHead, front, text}
 use Rattle.nor_chip.specs.Chip.{Chip}
 use Rattle.nor_chip.specs.Bus.{BusState}
-use Rattle.nor_driver.specs.Looks.{RunsOut}
+use Rattle.nor_driver.specs.Looks.{RanOutIfHonest}
 use Rattle.nor_journal.specs.Saved.{Saves, JournalSaves, is_saved}
 use Rattle.nor_journal.specs.Vault.{VaultState, Refused, Completed, Accepted}
 use Rattle.nor_plan.specs.SectorSet.{has}
@@ -69,8 +69,9 @@ JudgesChip request opening code image old refusal =
     → ScanJudges request code (is_touched_by request image chip) chip refusal
 
 abbrev pub KeepTells : Request → Opening → ℕ → List ℕ → BusState → BusState → Refusal → Type 0
-KeepTells request opening code image old new Stopped = RunsOut (scanned_sectors request opening.found.size) old new
-KeepTells request opening code image old new Vault = Unit {0}
+KeepTells request opening code image old new Stopped =
+    RanOutIfHonest (scanned_sectors request opening.found.size) old new
+KeepTells request opening code image old new Vault = ⊤
 KeepTells request opening code image old new StatusLocked = JudgesChip request opening code image old StatusLocked
 KeepTells request opening code image old new (Protected address) =
     JudgesChip request opening code image old (Protected address)

@@ -2,7 +2,7 @@
 use Rattle.std.specs.Prelude.{◌≡◌, ◌≤◌, ◌+◌, ℕ, true, Option, Ok, List, [], ◌∷◌}
 use Rattle.nor_chip.specs.Chip.{status1_of}
 use Rattle.nor_chip.specs.Bus.{BusState}
-use Rattle.nor_driver.specs.Looks.{Rested, RunsOut}
+use Rattle.nor_driver.specs.Looks.{Rested, RanOutIfHonest}
 use Rattle.nor_driver.specs.Reads.{unique_of}
 use Rattle.nor_probe.specs.declared.table.ChipName.{ChipName}
 use Rattle.nor_probe.specs.declared.probes.Probed.{Probed}
@@ -12,6 +12,10 @@ use Rattle.nor_probe.specs.Found.{part_in, IsPart, IsWanted, IsConfigOf, Tells}
 use Rattle.nor_save.specs.declared.opening.Opening.{Opening}
 use Rattle.nor_save.specs.declared.refusal.Refusal.{Refusal}
 use Rattle.nor_save.specs.declared.refusal.Refusal.TheVariants.{NoChip, UnknownChip, OtherName, Stopped, Timeout}
+
+-- the most transactions of an opening: a probe, status 2 and the unique ID
+abbrev pub most_opening : ℕ
+most_opening = 65542
 
 -- the two status bytes that were read
 abbrev pub status_read : Opening → List ℕ
@@ -32,7 +36,7 @@ pub record Opens (named : Option ChipName) (old new : BusState) (opening : Openi
   pub part : IsPart opening.found
   pub wanted : IsWanted named opening.found.name
   pub least : 4 ≤ opening.transactions
-  pub most : opening.transactions ≤ 65542
+  pub most : opening.transactions ≤ most_opening
   pub rested : old.honest ≡ true → Rested old new
   pub idle : old.honest ≡ true → new.chip.busy ≡ 0
   pub shown : old.honest ≡ true → shown_as old.chip.config ≡ Ok (part_in opening.found)
@@ -42,11 +46,12 @@ pub record Opens (named : Option ChipName) (old new : BusState) (opening : Openi
   pub unique : old.honest ≡ true → opening.unique ≡ unique_of new.chip.config
   pub count : old.honest ≡ true → old.left ≡ new.left + opening.transactions
 
--- What a refusal of the opening tells: the probe's, or a stop with fewer transactions than 65,542.
-abbrev pub OpeningTells : Option ChipName → BusState → BusState → Refusal → Type 0
-OpeningTells named old new NoChip = old.honest ≡ true → Tells named old new Probes.NoChip
-OpeningTells named old new (UnknownChip fault) = old.honest ≡ true → Tells named old new (Probes.UnknownChip fault)
-OpeningTells named old new OtherName = old.honest ≡ true → Tells named old new Probes.OtherName
-OpeningTells named old new Stopped = RunsOut 65542 old new
-OpeningTells named old new (Timeout address) = (address ≡ 0) × (old.honest ≡ true → ⊥)
-OpeningTells named old new _ = ⊥
+-- What a refusal tells of a probe and the readings behind it, which send at most so many transactions: a chip's is the
+-- probe's own, a stop comes where fewer were left, and a timeout, at 0, where the bus isn't honest.
+abbrev pub OpeningTells : (most : ℕ) → Option ChipName → BusState → BusState → Refusal → Type 0
+OpeningTells most named old new NoChip = old.honest ≡ true → Tells named old new Probes.NoChip
+OpeningTells most named old new (UnknownChip fault) = old.honest ≡ true → Tells named old new (Probes.UnknownChip fault)
+OpeningTells most named old new OtherName = old.honest ≡ true → Tells named old new Probes.OtherName
+OpeningTells most named old new Stopped = RanOutIfHonest most old new
+OpeningTells most named old new (Timeout address) = (address ≡ 0) × (old.honest ≡ true → ⊥)
+OpeningTells most named old new _ = ⊥

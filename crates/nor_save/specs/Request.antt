@@ -20,13 +20,13 @@ target Write image a = slice_index image a
 target _ image a = 255
 
 -- the address may change, on a chip of this size
-abbrev pub may_change : Request → (size a : ℕ) → Bool
-may_change request size a = is_data request.what && (nat_lt a size && includes request.included a)
+abbrev pub is_requested : Request → (size a : ℕ) → Bool
+is_requested request size a = is_data request.what && (nat_lt a size && includes request.included a)
 
 -- The byte that a request wants at an address of a chip: where it may change the target, else what is there.
 abbrev pub wanted : Request → (image : List ℕ) → Chip → (a : ℕ) → ℕ
 wanted request image chip a =
-    if may_change request chip.config.size a then target request.what image a else chip.bytes a
+    if is_requested request chip.config.size a then target request.what image a else chip.bytes a
 
 -- how many sectors of a chip of this size are scanned
 abbrev pub scanned_sectors : Request → (size : ℕ) → ℕ

@@ -1,12 +1,12 @@
 -- What scans tell: which sectors are touched and raised.
-use Rattle.std.specs.Prelude.{◌≡◌, ◌≢◌, ◌<◌, ◌≤◌, ◌+◌, ◌*◌, ◌/◌, ◌==◌, ◌&&◌, ◌||◌, ℕ, Bool, true, false, nat_lt, Result, Ok, Err, List, slice_index, if◌then◌else◌}
+use Rattle.std.specs.Prelude.{◌≡◌, ◌≢◌, ◌<◌, ◌≤◌, ◌+◌, ◌*◌, ◌/◌, ◌==◌, ◌&&◌, ◌||◌, ℕ, Bool, true, false, nat_lt, Result, Ok, Err, List, slice_index, if◌then◌else◌, ⊤}
 use Rattle.nor_chip.specs.Bus.{BusState}
-use Rattle.nor_driver.specs.Looks.{Rested, RunsOut}
+use Rattle.nor_driver.specs.Looks.{Rested, RanOutIfHonest}
 use Rattle.nor_journal.specs.declared.writer.Writer.{Writer}
 use Rattle.nor_journal.specs.Text.{Content, next_number}
 use Rattle.nor_journal.specs.Saved.{is_saved}
 use Rattle.nor_journal.specs.Vault.{VaultState, Refused, Accepted}
-use Rattle.nor_journal.specs.Writer.{HasWritten, HasKept}
+use Rattle.nor_journal.specs.Writer.{HasWritten, HasPutSectors}
 use Rattle.nor_driver.specs.Reads.{HasRead, IsSectorOf}
 use Rattle.nor_plan.specs.declared.plan.SectorPlan.{SectorPlan}
 use Rattle.nor_plan.specs.SectorSet.{has}
@@ -16,11 +16,11 @@ use Rattle.nor_save.specs.declared.refusal.Refusal.{Refusal}
 use Rattle.nor_save.specs.declared.refusal.Refusal.TheVariants.{Vault, Stopped}
 use Rattle.nor_save.specs.declared.report.Request.{Request}
 use Rattle.nor_save.specs.declared.scanning.Scanned.{Scanned}
-use Rattle.nor_save.specs.Request.{target, may_change, scanned_sectors}
+use Rattle.nor_save.specs.Request.{target, is_requested, scanned_sectors}
 
 -- What `wanted` is of a chip of this size and content.
 abbrev pub wanted_at : Request → (image : List ℕ) → (size : ℕ) → (content : ℕ → ℕ) → (a : ℕ) → ℕ
-wanted_at request image size content a = if may_change request size a then target request.what image a else content a
+wanted_at request image size content a = if is_requested request size a then target request.what image a else content a
 
 -- A sector was marked as its plan says, after one more reading.
 pub record HasMarked (sector : ℕ) (plan : SectorPlan) (old new : Scanned) : Type 0 where
@@ -82,14 +82,10 @@ pub record Scans (request : Request) (size : ℕ) (image image' : List ℕ) (old
   pub merged : IsOpen size old → (a : ℕ) → has scanned.touched (a / 4096) ≡ true
       → slice_index image' a ≡ wanted_at request image size old.chip.bytes a
 
--- no sector
-abbrev pub never : ℕ → Bool
-never s = false
-
 -- What a scan may refuse: the bus stopped, with fewer transactions than sectors to read, or the vault refused.
 abbrev pub ScanTells : ℕ → BusState → BusState → Refusal → Type 0
-ScanTells most old new Stopped = RunsOut most old new
-ScanTells most old new Vault = Unit {0}
+ScanTells most old new Stopped = RanOutIfHonest most old new
+ScanTells most old new Vault = ⊤
 ScanTells most old new _ = ⊥
 
 -- What a scan leaves of the vault: it took all pieces, unless the refusal is the vault's.
@@ -120,4 +116,4 @@ pub record HasKeptBelow {V : Type 0} (state : V → VaultState) (writer : Writer
     (touched : ℕ → Bool) (total : ℕ) : Type 0 where
   pub bound : ℕ
   pub inside : bound ≤ total
-  pub kept : HasKept state writer head chip (λ s. nat_lt s bound && touched s) bound
+  pub kept : HasPutSectors state writer head chip (λ s. nat_lt s bound && touched s) bound

@@ -1,8 +1,9 @@
 //! How every session and restore begins: the chip is found, and its second status register and own number are read.
 ghost use Rattle.std.specs.Prelude.{◌≡◌, ◌≤◌, IfOk, IfErr, OnErr, true};
 ghost use Rattle.nor_chip.specs.Status.{bytes_of};
-ghost use Rattle.nor_driver.specs.Looks.{Looks, RunsOut};
-ghost use Rattle.nor_save.specs.Opening.{Opens, OpeningTells, status_read, Reads};
+ghost use Rattle.nor_driver.specs.Looks.{Looks, RanOutIfHonest};
+ghost use Rattle.nor_probe.specs.Found.{most_probe};
+ghost use Rattle.nor_save.specs.Opening.{Opens, OpeningTells, status_read, Reads, most_opening};
 
 use crate::Refusal;
 use nor_chip::{Bus, Status, Stopped};
@@ -30,9 +31,9 @@ impl Opening {
 
 /// Finds the chip, and reads status 2 and the unique ID.
 pub fn open<B: Bus>(bus: &mut B, named: Option<ChipName>) -> Result<Opening, Refusal>
-    ensures leaves { Looks 65542 (B.state bus.old) (B.state bus.new) }
+    ensures leaves { Looks most_opening (B.state bus.old) (B.state bus.new) }
     ensures opens { IfOk result (Opens named (B.state bus.old) (B.state bus.new)) }
-    ensures tells { IfErr result (OpeningTells named (B.state bus.old) (B.state bus.new)) }
+    ensures tells { IfErr result (OpeningTells most_opening named (B.state bus.old) (B.state bus.new)) }
 {
     let probed = probe_counted(bus, named)?;
     let opening = read_on(bus, probed)?;
@@ -41,10 +42,10 @@ pub fn open<B: Bus>(bus: &mut B, named: Option<ChipName>) -> Result<Opening, Ref
 
 /// Reads status 2 and the unique ID of the chip that was found.
 pub fn read_on<B: Bus>(bus: &mut B, probed: Probed) -> Result<Opening, Stopped>
-    requires { probed.transactions ≤ 65540 }
+    requires { probed.transactions ≤ most_probe }
     ensures leaves { Looks 2 (B.state bus.old) (B.state bus.new) }
     ensures reads { IfOk result (Reads probed (B.state bus.old) (B.state bus.new)) }
-    ensures stops { OnErr result (RunsOut 2 (B.state bus.old) (B.state bus.new)) }
+    ensures stops { OnErr result (RanOutIfHonest 2 (B.state bus.old) (B.state bus.new)) }
 {
     let status2 = read_status2(bus)?;
     let unique = read_unique(bus)?;

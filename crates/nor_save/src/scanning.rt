@@ -2,13 +2,14 @@
 ghost use Rattle.std.specs.Prelude.{◌≡◌, ◌≢◌, ◌<◌, ◌≤◌, ◌+◌, ◌*◌, ◌/◌, ℕ, Bool, true, false, length, slice_index, IfOk, IfErr, OnOk, OnErr, IsTrue};
 ghost use Rattle.nor_chip.specs.Size.{is_chip_size};
 ghost use Rattle.nor_chip.specs.Chip.{Chip};
-ghost use Rattle.nor_driver.specs.Looks.{Looks, RunsOut};
+ghost use Rattle.nor_driver.specs.Looks.{Looks, RanOutIfHonest};
 ghost use Rattle.nor_journal.specs.Text.{Content};
-ghost use Rattle.nor_journal.specs.Writer.{vault_of, vault_state, HasKept};
+ghost use Rattle.nor_journal.specs.Writer.{vault_of, vault_state, HasPutSectors};
 ghost use Rattle.nor_plan.specs.SectorSet.{has};
 ghost use Rattle.nor_save.specs.Request.{scanned_sectors, is_data};
 ghost use Rattle.nor_apply.specs.Content.{is_touched};
-ghost use Rattle.nor_save.specs.Scanning.{HasMarked, IsBlank, IsOpen, ScansSector, Scans, ScanTells, ScanPuts, never};
+ghost use Rattle.nor_apply.specs.Change.{none};
+ghost use Rattle.nor_save.specs.Scanning.{HasMarked, IsBlank, IsOpen, ScansSector, Scans, ScanTells, ScanPuts};
 ghost use Rattle.nor_save.specs.Scanning.{HasBegun, HasBegunWith, UnlessVault, HasKeptBelow, wanted_at};
 ghost use Rattle.nor_save.specs.declared.refusal.Refusal.TheVariants as Refusals;
 
@@ -85,7 +86,7 @@ fn scan_sector<B: Bus>(
     ensures leaves { Looks 1 (B.state bus.old) (B.state bus.new) }
     ensures scans { IfOk result
         (ScansSector request.now size sector part.old part.new bytes.new (B.state bus.old) (B.state bus.new)) }
-    ensures stops { OnErr result (RunsOut 1 (B.state bus.old) (B.state bus.new)) }
+    ensures stops { OnErr result (RanOutIfHonest 1 (B.state bus.old) (B.state bus.new)) }
 {
     read_sector(bus, sector, &mut *bytes)?;
     if let What::Erase = request.what {
@@ -113,17 +114,17 @@ pub fn scan_all<B: Bus, V: Vault>(
     ensures puts { ScanPuts result (vault_state V.state writer.old) (vault_state V.state writer.new) }
     ensures tells { IfErr result (ScanTells (scanned_sectors request.now size) (B.state bus.old) (B.state bus.new)) }
     ensures keeps { IsOpen size (B.state bus.old) → (head : Content) → head.size ≡ size
-        → HasKept V.state writer.old head (B.state bus.old).chip.bytes never 0
-        → IfOk result (λ scanned. HasKept V.state writer.new head (B.state bus.old).chip.bytes
+        → HasPutSectors V.state writer.old head (B.state bus.old).chip.bytes none 0
+        → IfOk result (λ scanned. HasPutSectors V.state writer.new head (B.state bus.old).chip.bytes
         (has scanned.touched) (size / 4096)) }
     ensures begins { IsOpen size (B.state bus.old) → (head : Content) → head.size ≡ size
-        → HasKept V.state writer.old head (B.state bus.old).chip.bytes never 0
+        → HasPutSectors V.state writer.old head (B.state bus.old).chip.bytes none 0
         → IfErr result (λ refusal. refusal ≢ Refusals.Vault
         → HasKeptBelow V.state writer.new head (B.state bus.old).chip.bytes (is_touched (B.state bus.old).chip.bytes
         (wanted_at request.now image.old size (B.state bus.old).chip.bytes)) (size / 4096)) }
     ensures writes { HasBegun V.state writer.old size 0
         → UnlessVault result (HasBegun V.state writer.new size (size / 4096)) }
-    ensures saves { HasBegunWith V.state writer.old size 0 never
+    ensures saves { HasBegunWith V.state writer.old size 0 none
         → IfOk result (λ scanned. HasBegunWith V.state writer.new size (size / 4096) (has scanned.touched)) }
 {
     let mut scanned = Scanned::none();

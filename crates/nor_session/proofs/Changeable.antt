@@ -26,7 +26,7 @@ use Rattle.nor_apply.proofs.Kept.{writable_same, kept_fixed}
 use Rattle.nor_save.specs.declared.opening.Opening.{Opening}
 use Rattle.nor_save.specs.declared.scanning.Scanned.{Scanned}
 use Rattle.nor_save.specs.declared.refusal.Refusal.TheVariants.{StatusLocked}
-use Rattle.nor_save.specs.Opening.{Opens}
+use Rattle.nor_save.specs.Opening.{Opens, most_opening}
 use Rattle.nor_save.specs.Scanning.{IsOpen}
 use Rattle.nor_save.specs.Saving.{IsOpening, NoneHeld, SomeHeld, is_held}
 use Rattle.nor_save.proofs.Rests.{rested_then}
@@ -41,7 +41,7 @@ use Rattle.nor_session.proofs.RestoredBytes.{unraised_byte}
 
 -- What the opening and the scan of a restore told.
 pub record AreRead (journal : Content) (opening : Opening) (scanned : Scanned) (old mid new : BusState) : Type 0 where
-  pub looks : Looks 65542 old mid
+  pub looks : Looks most_opening old mid
   pub opens : Opens None old mid opening
   pub kind : IsOfKindFound journal opening.found
   pub fits : FitsOpening journal opening

@@ -14,7 +14,7 @@ use Rattle.nor_chip.specs.Power.{KeptStay, KeptCut, is_in_work}
 use Rattle.nor_chip.specs.Bus.{BusState}
 use Rattle.nor_chip.proofs.Sizes.{sized_bounds}
 use Rattle.nor_chip.proofs.Guarded.{is_guarded-end, is_guarded-past, is_guarded-no_scheme, is_guarded-same}
-use Rattle.nor_driver.specs.Looks.{IsCalm, Looked}
+use Rattle.nor_driver.specs.Looks.{IsCalm, LooksHonest}
 use Rattle.nor_driver.specs.Reads.{id_of, unique_of}
 use Rattle.nor_driver.specs.StatusWrites.{KeepsFixed, HasCode}
 use Rattle.nor_journal.specs.Text.{Content}
@@ -22,7 +22,7 @@ use Rattle.nor_journal.specs.Saved.{is_saved}
 use Rattle.nor_probe.specs.declared.table.Part.{Part}
 use Rattle.nor_probe.specs.declared.probes.ProbeFault.{ProbeFault}
 use Rattle.nor_probe.specs.declared.probes.ProbeFault.TheVariants as Probes
-use Rattle.nor_probe.specs.Table.{part_of, w25q64fv, w25q128fv}
+use Rattle.nor_probe.specs.Table.{part_with_id, w25q64fv, w25q128fv}
 use Rattle.nor_probe.specs.Known.{shown_as, IsGenuine, IsKnown}
 use Rattle.nor_apply.specs.Within.{is_writable, WorksIn, IsWithin, places_of}
 use Rattle.nor_apply.specs.Change.{MayChange}
@@ -63,7 +63,7 @@ cut_kept p first old new (StatusWrite one two) kept works fixed =
     ]
 cut_kept p first old new Unknown kept works fixed = absurd (let known = works.known in cc)
 
-pub looked_within : (p : ℕ → Bool) (first : Chip) (most : ℕ) (old new : BusState) → new.steady ≡ old.steady → Looked most old new → IsWithin p first old → IsWithin p first new
+pub looked_within : (p : ℕ → Bool) (first : Chip) (most : ℕ) (old new : BusState) → new.steady ≡ old.steady → LooksHonest most old new → IsWithin p first old → IsWithin p first new
 looked_within p first most old new steady looked within =
     let stays = looked.stays in
     let less = stays.busy in
@@ -101,14 +101,14 @@ pick false true x y part is = inr (same_Some y part is)
 pick false false x y part is = absurd cc
 
 -- each chip of the table has 256 KiB in whole numbers
-listed_size : (of_id : List ℕ) (part : Part) → part_of of_id ≡ Some part → part.size % 262144 ≡ 0
+listed_size : (of_id : List ℕ) (part : Part) → part_with_id of_id ≡ Some part → part.size % 262144 ≡ 0
 listed_size of_id part is =
     elim (pick _ _ w25q64fv w25q128fv part is) [
       | inl small ↦ subst (λ (p : Part). p.size % 262144 ≡ 0) small refl
       | inr large ↦ subst (λ (p : Part). p.size % 262144 ≡ 0) large refl
     ]
 
-scheme_size_at : (config : Config) (row : Option Part) → part_of (id_of config) ≡ row → IsGenuine config → config.scheme ≡ true → config.size % 262144 ≡ 0
+scheme_size_at : (config : Config) (row : Option Part) → part_with_id (id_of config) ≡ row → IsGenuine config → config.scheme ≡ true → config.size % 262144 ≡ 0
 scheme_size_at config (Some part) is genuine scheme =
     let size = (genuine.listed part is).0.size in
     let whole = listed_size (id_of config) part is in
@@ -117,7 +117,7 @@ scheme_size_at config None is genuine scheme = absurd (both_ways config.scheme (
 
 -- .. so has each that is genuine and has block protection
 scheme_size : (config : Config) → IsGenuine config → config.scheme ≡ true → config.size % 262144 ≡ 0
-scheme_size config genuine scheme = scheme_size_at config (part_of (id_of config)) refl genuine scheme
+scheme_size config genuine scheme = scheme_size_at config (part_with_id (id_of config)) refl genuine scheme
 
 lt_same : (a b border : ℕ) → border % 4096 ≡ 0 → a / 4096 ≡ b / 4096 → nat_lt a border ≡ nat_lt b border
 lt_same a b border whole sector =

@@ -12,27 +12,27 @@ use Rattle.nor_save.specs.declared.report.Request.{Request}
 use Rattle.nor_save.specs.declared.refusal.Refusal.{Refusal}
 use Rattle.nor_save.specs.declared.refusal.Refusal.TheVariants.{Timeout, Mismatch}
 use Rattle.nor_save.specs.Keeping.{IsJournalOf, KeepTells}
-use Rattle.nor_save.specs.Opening.{OpeningTells}
+use Rattle.nor_save.specs.Opening.{OpeningTells, most_opening}
 use Rattle.nor_save.specs.Judging.{IsOpeningRefusal}
-use Rattle.nor_session.specs.Changing.{NamesWork}
-use Rattle.nor_session.specs.Session.{SavesSector, NamesIn, Names}
+use Rattle.nor_session.specs.Changing.{NamesTouchedSector}
+use Rattle.nor_session.specs.Session.{SavesSector, NamesSector, NamesAddress}
 use Rattle.nor_session.specs.Preparing.{PrepareTells}
 
 -- a scan waits for nothing
 pub keep_names : (request : Request) (opening : Opening) (code : ℕ) (image : List ℕ) (old new : BusState) (refusal : Refusal)
-    → KeepTells request opening code image old new refusal → NamesIn (λ sector. ⊥) refusal
+    → KeepTells request opening code image old new refusal → NamesSector (λ sector. ⊥) refusal
 keep_names request opening code image old new (Timeout address) tells = absurd tells
 keep_names request opening code image old new (Mismatch address) tells = absurd tells
 keep_names request opening code image old new _ tells = tt
 
 -- an opening waits at 0
-pub opening_names : (named : Option ChipName) (old new : BusState) (refusal : Refusal) → OpeningTells named old new refusal → NamesIn (λ sector. ⊥) refusal
+pub opening_names : (named : Option ChipName) (old new : BusState) (refusal : Refusal) → OpeningTells most_opening named old new refusal → NamesSector (λ sector. ⊥) refusal
 opening_names named old new (Timeout address) tells = inl tells.0
 opening_names named old new (Mismatch address) tells = absurd tells
 opening_names named old new _ tells = tt
 
 -- its judgement needs no bus
-pub judged_names : (refusal : Refusal) → IsOpeningRefusal refusal → NamesIn (λ sector. ⊥) refusal
+pub judged_names : (refusal : Refusal) → IsOpeningRefusal refusal → NamesSector (λ sector. ⊥) refusal
 judged_names (Timeout address) is = absurd is
 judged_names (Mismatch address) is = absurd is
 judged_names _ is = tt
@@ -42,7 +42,7 @@ saves_touched : (changes : Changes) (bytes : List ℕ) (sector : ℕ) → IsJour
 saves_touched changes bytes sector journal touched =
     (record { content = journal.content; is = journal.is; same = journal.same }, journal.saved sector ∙ touched)
 
-names_in : (changes : Changes) (bytes : List ℕ) (refusal : Refusal) → IsJournalOf (touched_in changes) bytes → NamesWork changes refusal → NamesIn (λ sector. SavesSector sector bytes) refusal
+names_in : (changes : Changes) (bytes : List ℕ) (refusal : Refusal) → IsJournalOf (touched_in changes) bytes → NamesTouchedSector changes refusal → NamesSector (λ sector. SavesSector sector bytes) refusal
 names_in changes bytes (Timeout address) journal (inl at) = inl at.1
 names_in changes bytes (Timeout address) journal (inr touched) = inr (saves_touched changes bytes (address / 4096) journal touched)
 names_in changes bytes (Mismatch address) journal touched = saves_touched changes bytes (address / 4096) journal touched
@@ -50,7 +50,7 @@ names_in changes bytes _ journal names = tt
 
 -- what is changed was saved, so a sealed vault has it
 pub work_names : (changes : Changes) (vault : VaultState) (refusal : Refusal) → vault.sealed ≡ true
-    → (vault.telling ≡ true → IsJournalOf (touched_in changes) vault.bytes) → NamesWork changes refusal → Names vault refusal
+    → (vault.telling ≡ true → IsJournalOf (touched_in changes) vault.bytes) → NamesTouchedSector changes refusal → NamesAddress vault refusal
 work_names changes vault refusal sealed saves names = record {
   early = λ unsealed. absurd (true≢false (sym sealed ∙ unsealed));
   late = λ is telling. names_in changes vault.bytes refusal (saves telling) names;
@@ -59,21 +59,21 @@ work_names changes vault refusal sealed saves names = record {
 -- ---- a restore
 
 -- what is judged first waits at 0
-pub prepare_names : (journal : Content) (most : ℕ) (old new : BusState) (refusal : Refusal) → PrepareTells journal most old new refusal → NamesIn (λ sector. is_saved journal sector ≡ true) refusal
+pub prepare_names : (journal : Content) (most : ℕ) (old new : BusState) (refusal : Refusal) → PrepareTells journal most old new refusal → NamesSector (λ sector. is_saved journal sector ≡ true) refusal
 prepare_names journal most old new (Timeout address) tells = inl tells.0
 prepare_names journal most old new (Mismatch address) tells = absurd (true≢false (sym tells.judged))
 prepare_names journal most old new _ tells = tt
 
 -- only saved sectors are touched
 pub restore_names : (journal : Content) (changes : Changes) (refusal : Refusal) → ((s : ℕ) → touched_in changes s ≡ true → is_saved journal s ≡ true)
-    → NamesWork changes refusal → NamesIn (λ sector. is_saved journal sector ≡ true) refusal
+    → NamesTouchedSector changes refusal → NamesSector (λ sector. is_saved journal sector ≡ true) refusal
 restore_names journal changes (Timeout address) saved (inl at) = inl at.1
 restore_names journal changes (Timeout address) saved (inr touched) = inr (saved (address / 4096) touched)
 restore_names journal changes (Mismatch address) saved touched = saved (address / 4096) touched
 restore_names journal changes _ saved names = tt
 
 -- a saved sector is one of the text that the journal was read from
-pub saved_names : (journal : Content) (bytes : List ℕ) (refusal : Refusal) → IsContent journal → bytes ≡ text journal → NamesIn (λ sector. is_saved journal sector ≡ true) refusal → NamesIn (λ sector. SavesSector sector bytes) refusal
+pub saved_names : (journal : Content) (bytes : List ℕ) (refusal : Refusal) → IsContent journal → bytes ≡ text journal → NamesSector (λ sector. is_saved journal sector ≡ true) refusal → NamesSector (λ sector. SavesSector sector bytes) refusal
 saved_names journal bytes (Timeout address) is same (inl at) = inl at
 saved_names journal bytes (Timeout address) is same (inr saved) = inr (record { content = journal; is = is; same = same }, saved)
 saved_names journal bytes (Mismatch address) is same saved = (record { content = journal; is = is; same = same }, saved)

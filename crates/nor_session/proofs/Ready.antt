@@ -22,7 +22,7 @@ use Rattle.nor_save.specs.declared.report.Request.{Request}
 use Rattle.nor_save.specs.declared.report.What.{What}
 use Rattle.nor_save.specs.declared.report.What.TheVariants.{Write, Erase, WpRange}
 use Rattle.nor_save.specs.Request.{is_data, scanned_sectors}
-use Rattle.nor_save.specs.Opening.{status_read, Opens}
+use Rattle.nor_save.specs.Opening.{status_read, Opens, most_opening}
 use Rattle.nor_save.specs.Judging.{Lifts}
 use Rattle.nor_save.specs.Scanning.{AreMarks}
 use Rattle.nor_save.specs.Keeping.{Keeps}
@@ -49,7 +49,7 @@ pub record Ready (request : Request) (opening : Opening) (status : Status) (code
   pub part : IsPart opening.found
   pub looked : HasLooked (opening.transactions + kept.scanned.reads) old mid
   pub least : 4 ≤ opening.transactions
-  pub few : opening.transactions ≤ 65542
+  pub few : opening.transactions ≤ most_opening
   pub reads : kept.scanned.reads ≡ scanned_sectors request opening.found.size
   pub marks : AreMarks (opening.found.size / 4096) kept.scanned
   pub fewer : kept.scanned.count ≤ kept.scanned.reads
@@ -59,7 +59,7 @@ pub record Ready (request : Request) (opening : Opening) (status : Status) (code
 
 -- ---- the opening, and what is read after it
 
-pub has_opened : (request : Request) (opening : Opening) (old mid : BusState) → Looks 65542 old mid → Opens request.named old mid opening → HasLooked opening.transactions old mid
+pub has_opened : (request : Request) (opening : Opening) (old mid : BusState) → Looks most_opening old mid → Opens request.named old mid opening → HasLooked opening.transactions old mid
 has_opened request opening old mid looks opens = record {
   honest = looks.honest;
   steady = looks.steady;
@@ -68,7 +68,7 @@ has_opened request opening old mid looks opens = record {
   sent = opens.count;
 }
 
-pub ready : (request : Request) (opening : Opening) (status : Status) (code most : ℕ) (image image' : List ℕ) (vault : _) (kept : Kept) (old mid new : BusState) → Looks 65542 old mid → Opens request.named old mid opening
+pub ready : (request : Request) (opening : Opening) (status : Status) (code most : ℕ) (image image' : List ℕ) (vault : _) (kept : Kept) (old mid new : BusState) → Looks most_opening old mid → Opens request.named old mid opening
     → Looks most mid new → Keeps request opening code image image' mid new vault kept → bytes_of status ≡ status_read opening
     → (is_data request.what ≡ true → code ≡ code_in (status_read opening)) → Ready request opening status code kept old new
 ready request opening status code most image image' vault kept old mid new looks opens more keeps is_status same_code = record {

@@ -15,7 +15,7 @@ use Rattle.nor_save.specs.declared.refusal.Refusal.{Refusal}
 use Rattle.nor_save.specs.declared.refusal.Refusal.TheVariants.{Vault, Stopped, Timeout, StatusLocked, Protected}
 use Rattle.nor_save.specs.Refusal.{number_of}
 use Rattle.nor_save.specs.Request.{scanned_sectors}
-use Rattle.nor_save.specs.Opening.{Opens, OpeningTells}
+use Rattle.nor_save.specs.Opening.{Opens, OpeningTells, most_opening}
 use Rattle.nor_save.specs.Saving.{IsOpening, Shows, OpeningAccepts}
 use Rattle.nor_save.specs.Keeping.{KeepPuts, KeepTells}
 use Rattle.nor_probe.specs.Known.{IsModelled}
@@ -58,7 +58,7 @@ told_idle named opening old mid honest opens idle =
     ∙ ap (λ (b : Bool). 4 * old.chip.kept1 + (if b then 2 else 0) + (if mid.chip.busy == 0 then 0 else 1)) (rested.idle_latch idle)
     ∙ ap (λ (n : ℕ). 4 * old.chip.kept1 + (if old.chip.latch then 2 else 0) + (if n == 0 then 0 else 1)) (opens.idle honest ∙ sym idle)
 
-pub shows : (request : Request) (opening : Opening) (old mid : BusState) → IsModelled old → Looks 65542 old mid → Opens request.named old mid opening → Shows old.chip mid
+pub shows : (request : Request) (opening : Opening) (old mid : BusState) → IsModelled old → Looks most_opening old mid → Opens request.named old mid opening → Shows old.chip mid
 shows request opening old mid is looks opens = record {
   honest = looks.honest ∙ is.honest;
   idle = opens.idle is.honest;
@@ -91,13 +91,13 @@ ran_out_sized request opening old new config ran =
 -- ---- what a refusal of the opening tells, and of the scan
 
 pub opening_gives_up : (named : Option ChipName) (old new : BusState) (refusal : Refusal) → old.honest ≡ true → (number_of refusal ≤ 11 → IsSame old.chip new.chip)
-    → OpeningTells named old new refusal → HonestTells (most_of 4096) (λ refusal. number_of refusal ≤ 11) old new refusal
+    → OpeningTells most_opening named old new refusal → HonestTells (most_of 4096) (λ refusal. number_of refusal ≤ 11) old new refusal
 opening_gives_up named old new Stopped honest same tells = let ran = tells honest in let below = ran.below in record { none_left = ran.none_left; below = omega arith }
 opening_gives_up named old new (Timeout address) honest same tells = tells.1 honest
 opening_gives_up named old new _ honest same tells = same
 
 -- a reading after the opening leaves the chip as it was
-pub still_same : (named : Option ChipName) (opening : Opening) (few : ℕ) (old mid new : BusState) → old.honest ≡ true → Looks 65542 old mid → Opens named old mid opening → Looks few mid new → IsSame old.chip new.chip
+pub still_same : (named : Option ChipName) (opening : Opening) (few : ℕ) (old mid new : BusState) → old.honest ≡ true → Looks most_opening old mid → Opens named old mid opening → Looks few mid new → IsSame old.chip new.chip
 still_same named opening few old mid new honest looks opens more =
     let before = (opens.rested honest).unchanged.same in
     let after = (more.looked (looks.honest ∙ honest)).stays.calm (inr (opens.idle honest)) in
@@ -108,7 +108,7 @@ still_same named opening few old mid new honest looks opens more =
       kept2 = after.kept2 ∙ before.kept2;
     }
 
-pub keep_gives_up : (request : Request) (image : List ℕ) (opening : Opening) (code few : ℕ) (old mid new : BusState) (refusal : Refusal) → old.honest ≡ true → Looks 65542 old mid → Opens request.named old mid opening
+pub keep_gives_up : (request : Request) (image : List ℕ) (opening : Opening) (code few : ℕ) (old mid new : BusState) (refusal : Refusal) → old.honest ≡ true → Looks most_opening old mid → Opens request.named old mid opening
     → Looks few mid new → KeepTells request opening code image mid new refusal → HonestTells (most_of 4096) (λ refusal. number_of refusal ≤ 11) old new refusal
 keep_gives_up request image opening code few old mid new Stopped honest looks opens more tells =
     let ran = tells (looks.honest ∙ honest) in
@@ -125,7 +125,7 @@ not_sealed Vault old new unsealed puts = puts.sealed ∙ unsealed
 not_sealed _ old new unsealed puts = puts.sealed ∙ unsealed
 
 pub keep_tells : (request : Request) (image : List ℕ) (opening : Opening) (code : ℕ) (old mid new : BusState) (vault vault' : VaultState) (refusal : Refusal)
-    → IsModelled old → Looks 65542 old mid → Opens request.named old mid opening → OpeningAccepts request (length image) old.chip code
+    → IsModelled old → Looks most_opening old mid → Opens request.named old mid opening → OpeningAccepts request (length image) old.chip code
     → (refusal ≡ Vault → Rose vault vault') → KeepTells request opening code image mid new refusal → SessionTells request image old new vault vault' refusal
 keep_tells request image opening code old mid new vault vault' Vault is looks opens accepts rose tells = rose refl
 keep_tells request image opening code old mid new vault vault' Stopped is looks opens accepts rose tells =

@@ -15,7 +15,7 @@ use Rattle.nor_save.specs.declared.refusal.Refusal.TheVariants.{Stopped, Timeout
 use Rattle.nor_save.specs.Saving.{head_of}
 use Rattle.nor_session.specs.Bounds.{most_of}
 use Rattle.nor_session.specs.Restore.{CanGiveBack, LeavesRestore, IsJudgedFirst, IsRestoreRefusal}
-use Rattle.nor_session.specs.Session.{HonestTells, NamesIn, IsWithinBound}
+use Rattle.nor_session.specs.Session.{HonestTells, NamesSector, IsWithinBound}
 use Rattle.nor_session.specs.Rehearsal.{AreRestores, FitsLastStop, IsNoHalt}
 use Rattle.nor_session.specs.Rehearsing.{LeavesRestores, ShowsRestore, ShowsRestores, StopsRestores, Undoes, WearsSaved, RefusesUndo}
 use Rattle.nor_session.proofs.Rescanned.{unraised_other}
@@ -109,7 +109,7 @@ no_halt journal old new (Timeout address) never tells = absurd tells
 no_halt journal old new _ never tells = refl
 
 -- it was refused
-pub under_refuses : (n : ℕ) (journal : Content) (old mid new : BusState) (refusal : Refusal) → Allows n old mid → IsRestoreRefusal refusal → NamesIn (λ sector. is_saved journal sector ≡ true) refusal → (refusal ≡ Stopped → ⊥)
+pub under_refuses : (n : ℕ) (journal : Content) (old mid new : BusState) (refusal : Refusal) → Allows n old mid → IsRestoreRefusal refusal → NamesSector (λ sector. is_saved journal sector ≡ true) refusal → (refusal ≡ Stopped → ⊥)
     → (mid.honest ≡ true → HonestTells (most_of (length journal.saved)) IsJudgedFirst mid new refusal) → (IsModelled mid → (first : Chip) → CanGiveBack journal first mid → refusal ≡ Stopped) → StopsRestores journal old refusal
 under_refuses n journal old mid new refusal allows answers names never gives_up stops =
     let leaves = allow_leaves n journal old mid allows in

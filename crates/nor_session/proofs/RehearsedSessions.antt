@@ -17,10 +17,11 @@ use Rattle.nor_save.specs.Refusal.{number_of}
 use Rattle.nor_save.specs.Request.{wanted, scanned_sectors, is_touched_by, is_raised_by}
 use Rattle.nor_save.specs.Keeping.{IsJournal, HoldsJournal}
 use Rattle.nor_probe.specs.Known.{IsModelled}
+use Rattle.nor_save.specs.Opening.{most_opening}
 use Rattle.nor_session.specs.Bounds.{most_looked, most_of}
 use Rattle.nor_session.specs.Made.{AreFewestErases}
 use Rattle.nor_session.specs.Verdict.{IsAccepted}
-use Rattle.nor_session.specs.Session.{SessionTells, CanBeUndone, HonestTells, Answers, Ends, IsDone, Names, SavesSector, NamesIn}
+use Rattle.nor_session.specs.Session.{SessionTells, CanBeUndone, HonestTells, AnswersSession, EndsSealed, IsDone, NamesAddress, SavesSector, NamesSector}
 use Rattle.nor_session.specs.Rehearsal.{KeepsNature, IsRehearsalRefusal, IsNoHalt, RehearsalTells, first_allowance, least_needed, AreRestores, FitsLastStop}
 use Rattle.nor_session.specs.Rehearsing.{HasWantedBits, LeadsBack, LeavesSession, ShowsSession, RefusesSession, Undoes, WearsSaved, RefusesUndo}
 use Rattle.nor_session.proofs.RestoredBytes.{untouched_unraised}
@@ -73,7 +74,7 @@ session_leaves n most few request image old mid new vault allows telling reaches
 }
 
 -- it took what it counts
-took : (n : ℕ) (request : Request) (image : List ℕ) (mid new : BusState) (vault : VaultState) (report : Report) → mid.left ≡ n → Ends request vault report
+took : (n : ℕ) (request : Request) (image : List ℕ) (mid new : BusState) (vault : VaultState) (report : Report) → mid.left ≡ n → EndsSealed request vault report
     → mid.left ≡ new.left + report.transactions → IsDone request image mid new report → least_needed request image mid.chip report.erases ≤ n
 took n request image mid new vault report left ends sent done =
     let least = ends.bounded.least in
@@ -90,7 +91,7 @@ wanted_bits : (request : Request) (image : List ℕ) (mid new : BusState) (repor
 wanted_bits request image mid new report done = record { fixed = done.made.fixed; code = done.code; is_wanted = done.is_wanted; has_code = done.has_code }
 
 -- it ended
-pub session_ends : (n : ℕ) (request : Request) (image : List ℕ) (old mid new : BusState) (vault : VaultState) (report : Report) → Allows n old mid → Ends request vault report
+pub session_ends : (n : ℕ) (request : Request) (image : List ℕ) (old mid new : BusState) (vault : VaultState) (report : Report) → Allows n old mid → EndsSealed request vault report
     → (mid.honest ≡ true → mid.left ≡ new.left + report.transactions) → (IsModelled mid → IsDone request image mid new report)
     → (IsModelled mid → vault.sealed ≡ true → CanBeUndone request image mid new vault) → ShowsSession request image n old new vault true
 session_ends n request image old mid new vault report allows ends sent done undo = record {
@@ -141,8 +142,8 @@ session_stops n request image old mid new before after refusal allows stopped gi
             (seals_enough n request image mid new after left (undo mid_modelled sealed));
         below = λ unsealed.
             let few = early mid_modelled unsealed stopped in
-            subst (λ (chip : Chip). n < 65542 + scanned_sectors request chip.config.size) allows.chip
-            (subst (λ (k : ℕ). k < 65542 + scanned_sectors request mid.chip.config.size) left few);
+            subst (λ (chip : Chip). n < most_opening + scanned_sectors request chip.config.size) allows.chip
+            (subst (λ (k : ℕ). k < most_opening + scanned_sectors request mid.chip.config.size) left few);
       };
 }
 
@@ -210,7 +211,7 @@ early request image old new before after (Output written) tells = absurd tells.1
 early request image old new before after OtherUnit tells = absurd tells.1
 
 -- it was refused, and not by a stop, unless as many transactions were allowed as any call needs
-pub session_refuses : (n few : ℕ) (request : Request) (image : List ℕ) (old mid new : BusState) (before after : VaultState) (refusal : Refusal) → Allows n old mid → Answers before after refusal → Names after refusal
+pub session_refuses : (n few : ℕ) (request : Request) (image : List ℕ) (old mid new : BusState) (before after : VaultState) (refusal : Refusal) → Allows n old mid → AnswersSession before after refusal → NamesAddress after refusal
     → (after.sealed ≡ false → Looks few mid new) → (mid.honest ≡ true → HonestTells (most_of 4096) (λ refusal. number_of refusal ≤ 11) mid new refusal)
     → (IsModelled mid → SessionTells request image mid new before after refusal) → (refusal ≡ Stopped → n ≡ most_of 4096) → RefusesSession request image old new before after refusal
 session_refuses n few request image old mid new before after refusal allows answers names looks gives_up tells all =
@@ -261,10 +262,10 @@ refused_undo bytes vault vault' mid refusal is telling sealed holds refuses =
     inr (sealed, refuses.answers (subst IsJournal (sym is) (holds sealed telling)))
 
 -- and name what the sealed journal saves
-pub undo_names : (bytes : List ℕ) (vault : VaultState) (mid : BusState) (refusal : Refusal) → bytes ≡ vault.bytes → vault.sealed ≡ true → RefusesUndo bytes mid refusal → Names vault refusal
+pub undo_names : (bytes : List ℕ) (vault : VaultState) (mid : BusState) (refusal : Refusal) → bytes ≡ vault.bytes → vault.sealed ≡ true → RefusesUndo bytes mid refusal → NamesAddress vault refusal
 undo_names bytes vault mid refusal is sealed refuses = record {
   early = λ unsealed. absurd (true≢false (sym sealed ∙ unsealed));
-  late = λ again telling. subst (λ (text : List ℕ). NamesIn (λ sector. SavesSector sector text) refusal) is refuses.names;
+  late = λ again telling. subst (λ (text : List ℕ). NamesSector (λ sector. SavesSector sector text) refusal) is refuses.names;
 }
 
 -- and they give the chip back

@@ -17,7 +17,7 @@ use Rattle.nor_save.specs.declared.opening.Opening.{Opening}
 use Rattle.nor_save.specs.declared.refusal.Refusal.{Refusal}
 use Rattle.nor_save.specs.declared.refusal.Refusal.TheVariants.{OtherUnit, StatusDiffers}
 use Rattle.nor_save.specs.Refusal.{of_probe}
-use Rattle.nor_save.specs.Opening.{Opens}
+use Rattle.nor_save.specs.Opening.{Opens, most_opening}
 use Rattle.nor_save.specs.Saving.{IsOpening, Shows}
 use Rattle.nor_session.specs.Verdict.{IsNamed}
 use Rattle.nor_session.specs.Restore.{IsOfKind, IsOfOtherUnit, IsRestoreVerdict}
@@ -69,7 +69,7 @@ opening_of opening old new modelled opens =
       unique = opens.unique modelled.honest ∙ ap unique_of same.config;
     }
 
-pub shows_old : (opening : Opening) (old new : BusState) → old.honest ≡ true → Looks 65542 old new → Opens None old new opening → Shows old.chip new
+pub shows_old : (opening : Opening) (old new : BusState) → old.honest ≡ true → Looks most_opening old new → Opens None old new opening → Shows old.chip new
 shows_old opening old new honest looks opens = record {
   honest = looks.honest ∙ honest;
   idle = opens.idle honest;
@@ -79,7 +79,7 @@ shows_old opening old new honest looks opens = record {
 -- ---- refusals
 
 -- the probe's
-pub probe_tells : (journal : Content) (old new : BusState) (fault : ProbeFault) → BlamesName None fault → (old.honest ≡ true → Tells None old new fault) → PrepareTells journal 65542 old new (of_probe fault)
+pub probe_tells : (journal : Content) (old new : BusState) (fault : ProbeFault) → BlamesName None fault → (old.honest ≡ true → Tells None old new fault) → PrepareTells journal most_opening old new (of_probe fault)
 probe_tells journal old new Probes.NoChip blames tells = record {
   judged = refl;
   same = λ honest. (tells honest).1.rested.unchanged.same;

@@ -6,7 +6,7 @@ use Rattle.std.proofs.lemmas.Bool.{cases_Bool, eqb-true, eq-eqb, both_ways}
 use Rattle.nor_layout.specs.Below.{count_below}
 use Rattle.nor_layout.proofs.Below.{any_below-found}
 use Rattle.nor_journal.specs.Text.{Content}
-use Rattle.nor_journal.specs.Saved.{saved_in, is_saved, saved_byte, IsSector, Saves}
+use Rattle.nor_journal.specs.Saved.{saved_in, is_saved, saved_byte, IsWholeSector, Saves}
 use Rattle.nor_apply.specs.Content.{is_other, must_rise, is_touched, is_raised, is_page_other, is_programmed}
 use Rattle.nor_apply.proofs.Counting.{any_below-false, any_below-same, count_below-same}
 use Rattle.nor_save.proofs.Planned.{unraised}
@@ -62,7 +62,7 @@ touched_saved journal content s some =
     ]
 
 -- the saved bytes of a chip are its bytes
-first_byte_in : (o : Option (List ℕ)) (content : ℕ → ℕ) (s i : ℕ) → i < 4096 → IsSomeAnd o (IsSector content s) → slice_index (unwrap_or o []) i ≡ content (4096 * s + i)
+first_byte_in : (o : Option (List ℕ)) (content : ℕ → ℕ) (s i : ℕ) → i < 4096 → IsSomeAnd o (IsWholeSector content s) → slice_index (unwrap_or o []) i ≡ content (4096 * s + i)
 first_byte_in (Some bytes) content s i below is = is.same i below
 first_byte_in None content s i below is = absurd is
 

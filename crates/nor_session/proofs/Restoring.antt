@@ -4,7 +4,7 @@ use Rattle.std.proofs.lemmas.Bool.{both_ways}
 use mathlib.Core.Path.{fun_ext}
 use Rattle.nor_chip.specs.Chip.{Chip, IsSame}
 use Rattle.nor_chip.specs.Bus.{BusState}
-use Rattle.nor_driver.specs.Looks.{Looked, Looks}
+use Rattle.nor_driver.specs.Looks.{LooksHonest, Looks}
 use Rattle.nor_driver.specs.StatusWrites.{HasCode}
 use Rattle.nor_journal.specs.Text.{Content}
 use Rattle.nor_journal.specs.Saved.{is_saved, saved_byte}
@@ -24,6 +24,7 @@ use Rattle.nor_save.specs.declared.refusal.Refusal.{Refusal}
 use Rattle.nor_save.specs.declared.refusal.Refusal.TheVariants.{Stopped, Timeout, Mismatch}
 use Rattle.nor_session.specs.declared.preparing.Prepared.{Prepared}
 use Rattle.nor_probe.specs.Known.{IsModelled}
+use Rattle.nor_save.specs.Opening.{most_opening}
 use Rattle.nor_session.specs.Made.{kinds_of}
 use Rattle.nor_session.specs.Bounds.{most_of}
 use Rattle.nor_session.specs.Session.{HonestTells, IsWithinBound}
@@ -76,7 +77,7 @@ prepare_tells journal most old new Stopped fits modelled tells = let out = tells
 prepare_tells journal most old new (Timeout address) fits modelled tells = absurd (tells.1 modelled.honest)
 prepare_tells journal most old new _ fits modelled tells = tells.verdict modelled
 
-pub looks_leave : (journal : Content) (most : ℕ) (old new : BusState) → Looked most old new → LeavesRestore journal old new
+pub looks_leave : (journal : Content) (most : ℕ) (old new : BusState) → LooksHonest most old new → LeavesRestore journal old new
 looks_leave journal most old new looked = record {
   config = looked.stays.config;
   bytes = λ calm a out. (looked.stays.calm calm).bytes a;
@@ -97,13 +98,13 @@ looks_back journal first most old new honest looks can = record {
 -- What a restore prepared, and what its changes left.
 pub record AreChanged (journal : Content) (prepared : Prepared) (old mid new : BusState) : Type 0 where
   pub room : length journal.saved ≤ 4096
-  pub looks : Looks (65542 + length journal.saved) old mid
+  pub looks : Looks (most_opening + length journal.saved) old mid
   pub is : IsPrepared journal old mid prepared
   pub leaves : LeavesChange prepared.changes (saved_byte journal) mid new
 
 -- the changes take no more than what is left of the bound
 few_changed : (journal : Content) (prepared : Prepared) (old mid : BusState) → IsPrepared journal old mid prepared
-    → 65542 + length journal.saved + most_changed prepared.changes ≤ most_of (length journal.saved)
+    → most_opening + length journal.saved + most_changed prepared.changes ≤ most_of (length journal.saved)
 few_changed journal prepared old mid is =
     let few = is.few in let count = is.count in
     omega arith
@@ -145,7 +146,7 @@ changed_leaves journal prepared old mid new are modelled =
 pub changed_back : (journal : Content) (first : Chip) (prepared : Prepared) (old mid new : BusState) → AreChanged journal prepared old mid new → IsModelled old → CanGiveBack journal first old → CanGiveBack journal first new
 changed_back journal first prepared old mid new are modelled can =
     let may = changes_may journal prepared old mid new are modelled in
-    let within = (looks_back journal first (65542 + length journal.saved) old mid modelled.honest are.looks can).within in
+    let within = (looks_back journal first (most_opening + length journal.saved) old mid modelled.honest are.looks can).within in
     record {
       known = can.known;
       saves = can.saves;

@@ -12,7 +12,7 @@ use Rattle.nor_save.specs.declared.report.Report.{Report}
 use Rattle.nor_save.specs.declared.refusal.Refusal.{Refusal}
 use Rattle.nor_journal.specs.Vault.{VaultState}
 use Rattle.nor_save.specs.Request.{is_data}
-use Rattle.nor_save.specs.Opening.{status_read, Opens}
+use Rattle.nor_save.specs.Opening.{status_read, Opens, most_opening}
 use Rattle.nor_save.specs.Saving.{IsOpening, OpeningAccepts}
 use Rattle.nor_probe.specs.Known.{IsModelled}
 use Rattle.nor_session.specs.Session.{SessionAlways, SessionHonest, SessionModelled}
@@ -21,7 +21,7 @@ use Rattle.nor_session.specs.Session.{SessionAlways, SessionHonest, SessionModel
 -- code.
 pub record IsJudged (request : Request) (image : ℕ) (opening : Opening) (code : ℕ) : Type 0 where
   pub part : IsPart opening.found
-  pub few : opening.transactions ≤ 65542
+  pub few : opening.transactions ≤ most_opening
   pub six_bits : code < 64
   pub sized : is_data request.what ≡ true → image ≡ opening.found.size
   pub same_code : is_data request.what ≡ true → code ≡ code_in (status_read opening)
@@ -30,7 +30,7 @@ pub record IsJudged (request : Request) (image : ℕ) (opening : Opening) (code 
 -- this holds of every state of the bus from which the opening led to the one now
 abbrev pub SinceOpening : Option ChipName → Opening → BusState → (BusState → Type 0) → Type 0
 SinceOpening named opening now promise =
-    (first : BusState) → Looks 65542 first now → Opens named first now opening → promise first
+    (first : BusState) → Looks most_opening first now → Opens named first now opening → promise first
 
 -- All that a session promises, from one state of the bus to another.
 pub record KeepsPromise (request : Request) (image : List ℕ) (old new : BusState) (vault vault' : VaultState)

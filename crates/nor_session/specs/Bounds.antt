@@ -1,12 +1,14 @@
 -- How many transactions a call may send.
 use Rattle.std.specs.Prelude.{◌+◌, ◌*◌, ℕ}
+use Rattle.nor_driver.specs.Operations.{most_operation}
+use Rattle.nor_save.specs.Opening.{most_opening}
 
 -- the most transactions of an opening, and of a scan of so many sectors
 abbrev pub most_looked : (sectors : ℕ) → ℕ
-most_looked sectors = 65542 + sectors
+most_looked sectors = most_opening + sectors
 
 -- The most transactions of a call that may touch so many sectors: the opening takes 65,542; each sector is read when
 -- it is scanned, before it is programmed and when it is checked; it is erased once and has sixteen pages; the status
 -- is written twice. Each of these operations takes at most 65,538.
 abbrev pub most_of : (sectors : ℕ) → ℕ
-most_of sectors = 65542 + 3 * sectors + 65538 * (17 * sectors + 2)
+most_of sectors = most_opening + 3 * sectors + most_operation * (17 * sectors + 2)

@@ -1,7 +1,8 @@
 -- What the changes of a session or restore leave, with the check of what they came to.
-use Rattle.std.specs.Prelude.{◌≡◌, ◌≤◌, ◌+◌, ◌*◌, ◌/◌, ◌⊎◌, ℕ, Bool, true, if◌then◌else◌}
+use Rattle.std.specs.Prelude.{◌≡◌, ◌≤◌, ◌+◌, ◌*◌, ◌/◌, ◌⊎◌, ℕ, Bool, true, if◌then◌else◌, ⊤}
 use Rattle.nor_chip.specs.Bus.{BusState}
-use Rattle.nor_driver.specs.Looks.{Rested, RanOut, RunsOut}
+use Rattle.nor_driver.specs.Looks.{Rested, RanOut, RanOutIfHonest}
+use Rattle.nor_driver.specs.Operations.{most_operation}
 use Rattle.nor_layout.specs.Below.{count_below}
 use Rattle.nor_plan.specs.Planned.{fewest_erases}
 use Rattle.nor_apply.specs.declared.changes.Changes.{Changes}
@@ -44,7 +45,7 @@ pub record DoesCheck (changes : Changes) (wanted : ℕ → ℕ) (verify : Bool) 
 
 -- Why it wasn't passed: the bus stopped, with fewer transactions left than sectors, or this is the first difference.
 abbrev pub CheckRefuses : Changes → (ℕ → ℕ) → BusState → BusState → Refusal → Type 0
-CheckRefuses changes wanted old new Stopped = RunsOut (touched_count changes) old new
+CheckRefuses changes wanted old new Stopped = RanOutIfHonest (touched_count changes) old new
 CheckRefuses changes wanted old new (Mismatch address) =
     old.honest ≡ true → CanCheck (touched_in changes) old.chip
     → IsFirstMismatch (touched_in changes) wanted old.chip.bytes address
@@ -65,7 +66,8 @@ pub record DoesChange (changes : Changes) (wanted : ℕ → ℕ) (verify : Bool)
   pub fewer_erases : work.erases ≤ touched_count changes
   pub fewer_programs : work.programs ≤ 16 * touched_count changes
   pub few : work.transactions
-      ≤ touched_count changes + read_back changes verify + 65538 * (work.erases + work.programs + status_writes changes)
+      ≤ touched_count changes + read_back changes verify
+      + most_operation * (work.erases + work.programs + status_writes changes)
   pub least : 3 * (work.erases + work.programs + status_writes changes) + read_back changes verify ≤ work.transactions
   pub sent : old.honest ≡ true → old.left ≡ new.left + work.transactions
   pub still : touched_count changes + status_writes changes ≡ 0 → new.stirred ≡ old.stirred
@@ -84,8 +86,8 @@ ChangeTells changes wanted old new _ = ⊥
 
 -- whatever the bus, a timeout names 0, where the status is written, or an address in a touched sector; and a mismatch
 -- an address in one
-abbrev pub NamesWork : Changes → Refusal → Type 0
-NamesWork changes (Timeout address) =
+abbrev pub NamesTouchedSector : Changes → Refusal → Type 0
+NamesTouchedSector changes (Timeout address) =
     ((1 ≤ status_writes changes) × (address ≡ 0)) ⊎ (touched_in changes (address / 4096) ≡ true)
-NamesWork changes (Mismatch address) = touched_in changes (address / 4096) ≡ true
-NamesWork changes _ = Unit {0}
+NamesTouchedSector changes (Mismatch address) = touched_in changes (address / 4096) ≡ true
+NamesTouchedSector changes _ = ⊤

@@ -1,10 +1,10 @@
 -- What a restore finds of a chip before it changes anything.
-use Rattle.std.specs.Prelude.{◌≡◌, ◌≢◌, ◌<◌, ◌≤◌, ◌+◌, ◌/◌, ◌||◌, ◌⊎◌, ℕ, Bool, true, List, Result, Ok, IfErr, OnOk, OnErr, IfOk, MatchBool, length, slice_index}
+use Rattle.std.specs.Prelude.{◌≡◌, ◌≢◌, ◌<◌, ◌≤◌, ◌+◌, ◌/◌, ◌||◌, ◌⊎◌, ℕ, Bool, true, List, Result, Ok, IfErr, OnOk, OnErr, IfOk, MatchBool, length, slice_index, ⊤}
 use Rattle.nor_chip.specs.Code.{code_in}
 use Rattle.nor_chip.specs.Chip.{Chip, IsSame, is_locked, status1_of}
 use Rattle.nor_chip.specs.Guard.{code_of}
 use Rattle.nor_chip.specs.Bus.{BusState}
-use Rattle.nor_driver.specs.Looks.{Rested, RunsOut}
+use Rattle.nor_driver.specs.Looks.{Rested, RanOutIfHonest}
 use Rattle.nor_driver.specs.Reads.{ReadsSector}
 use Rattle.nor_journal.specs.Text.{Content}
 use Rattle.nor_journal.specs.Saved.{is_saved, saved_byte}
@@ -37,8 +37,8 @@ pub record IsOfKindFound (journal : Content) (found : Found) : Type 0 where
 
 -- the refusals that are judged by the unit and by its status
 abbrev pub IsUnitRefusal : Refusal → Type 0
-IsUnitRefusal OtherUnit = Unit {0}
-IsUnitRefusal StatusDiffers = Unit {0}
+IsUnitRefusal OtherUnit = ⊤
+IsUnitRefusal StatusDiffers = ⊤
 IsUnitRefusal _ = ⊥
 
 -- an opening of a chip that the journal is of
@@ -69,7 +69,7 @@ pub record IsRefusedFor (journal : Content) (old new : BusState) (refusal : Refu
 -- What a refusal tells before anything is changed: the bus stopped, with fewer transactions left than these; another
 -- bus than an honest one stayed busy, which is told at 0; or it was judged.
 abbrev pub PrepareTells : Content → ℕ → BusState → BusState → Refusal → Type 0
-PrepareTells journal most old new Stopped = RunsOut most old new
+PrepareTells journal most old new Stopped = RanOutIfHonest most old new
 PrepareTells journal most old new (Timeout address) = (address ≡ 0) × (old.honest ≡ true → ⊥)
 PrepareTells journal most old new refusal = IsRefusedFor journal old new refusal
 

@@ -17,7 +17,7 @@ use Rattle.nor_session.specs.declared.rehearsals.Rehearsal.{Rehearsal}
 use Rattle.nor_session.specs.Bounds.{most_looked, most_of}
 use Rattle.nor_session.specs.Made.{AreFewestErases, pages_of}
 use Rattle.nor_session.specs.Verdict.{IsVerdict, IsAccepted}
-use Rattle.nor_session.specs.Session.{Answers, Names}
+use Rattle.nor_session.specs.Session.{AnswersSession, NamesAddress}
 use Rattle.nor_session.specs.Restore.{IsRestoreRefusal}
 
 -- the transactions that the session is allowed: without a stop the most that a session takes on a chip of 16 MiB
@@ -81,7 +81,7 @@ pub record LeavesRefused (old new : BusState) (vault : VaultState) : Type 0 wher
 
 -- on every bus a refusal is the session's, or once the vault is sealed that of a restore
 abbrev pub IsRehearsalRefusal : VaultState → VaultState → Refusal → Type 0
-IsRehearsalRefusal old new refusal = Answers old new refusal ⊎ ((new.sealed ≡ true) × IsRestoreRefusal refusal)
+IsRehearsalRefusal old new refusal = AnswersSession old new refusal ⊎ ((new.sealed ≡ true) × IsRestoreRefusal refusal)
 
 -- the refusal isn't that the bus stopped, nor that the chip stayed busy
 abbrev pub IsNoHalt : Refusal → Type 0
@@ -104,7 +104,7 @@ pub record RehearsalAlways (stops : List ℕ) (old new : BusState) (vault vault'
   -- a refusal is the session's, or once the vault is sealed that of a restore
   pub answers : IfErr result (IsRehearsalRefusal vault vault')
   -- and names an address that session or restore was at
-  pub names : IfErr result (Names vault')
+  pub names : IfErr result (NamesAddress vault')
 
 -- On an honest bus whose chip is what it shows itself to be.
 pub record RehearsalModelled (request : Request) (image stops : List ℕ) (old new : BusState) (vault vault' : VaultState)

@@ -18,7 +18,7 @@ use Rattle.nor_save.specs.Saving.{head_of, NoneHeld}
 use Rattle.nor_save.specs.Keeping.{IsJournal, HoldsJournal}
 use Rattle.nor_session.specs.Bounds.{most_of}
 use Rattle.nor_session.specs.Verdict.{IsAccepted}
-use Rattle.nor_session.specs.Session.{Answers, SavesSector, NamesIn, Names}
+use Rattle.nor_session.specs.Session.{AnswersSession, SavesSector, NamesSector, NamesAddress}
 use Rattle.nor_session.specs.Restore.{IsRestoreRefusal, CanGiveBack}
 use Rattle.nor_session.specs.Rehearsal.{KeepsNature, CanEnd, SealFits, AreRestores, FitsLastStop, LeavesRefused, IsNoHalt, RehearsalTells}
 
@@ -68,8 +68,8 @@ pub record ShowsSession (request : Request) (image : List ℕ) (allowance : ℕ)
 -- It was refused as sessions are: by the verdict, or by a vault that failed; on an honest bus not by a stop.
 pub record RefusesSession (request : Request) (image : List ℕ) (old new : BusState) (before after : VaultState)
     (refusal : Refusal) : Type 0 where
-  pub answers : Answers before after refusal
-  pub names : Names after refusal
+  pub answers : AnswersSession before after refusal
+  pub names : NamesAddress after refusal
   pub halts : old.honest ≡ true → IsNoHalt refusal
   pub tells : IsModelled old → RehearsalTells request image old.chip before after refusal
   pub leaves : IsModelled old → LeavesRefused old new after
@@ -104,7 +104,7 @@ pub record ShowsRestores (journal : Content) (stops : List ℕ) (old new : BusSt
 -- by a stop, since a journal has no more sectors than the largest chip.
 pub record StopsRestores (journal : Content) (old : BusState) (refusal : Refusal) : Type 0 where
   pub answers : IsRestoreRefusal refusal
-  pub names : NamesIn (λ sector. is_saved journal sector ≡ true) refusal
+  pub names : NamesSector (λ sector. is_saved journal sector ≡ true) refusal
   pub halts : length journal.saved ≤ 4096 → old.honest ≡ true → IsNoHalt refusal
   pub never : IsModelled old → (first : Chip) → CanGiveBack journal first old → ⊥
 
@@ -129,6 +129,6 @@ WearsSaved text old new = IsModelled old → (saved : ℕ → Bool) (first : Chi
 -- text leads back.
 pub record RefusesUndo (text : List ℕ) (old : BusState) (refusal : Refusal) : Type 0 where
   pub answers : IsJournal text → IsRestoreRefusal refusal
-  pub names : NamesIn (λ sector. SavesSector sector text) refusal
+  pub names : NamesSector (λ sector. SavesSector sector text) refusal
   pub halts : old.honest ≡ true → IsNoHalt refusal
   pub never : IsModelled old → (saved : ℕ → Bool) (first : Chip) → LeadsBack saved first text old → ⊥

@@ -24,7 +24,7 @@ use Rattle.nor_save.specs.Saving.{SomeHeld}
 use Rattle.nor_session.specs.Bounds.{most_looked, most_of}
 use Rattle.nor_session.specs.Made.{IsMade}
 use Rattle.nor_session.specs.Verdict.{IsNamed}
-use Rattle.nor_session.specs.Session.{NamesIn, IsWithinBound, HonestTells}
+use Rattle.nor_session.specs.Session.{NamesSector, IsWithinBound, HonestTells}
 
 -- ---- what is wanted
 
@@ -155,7 +155,7 @@ pub record RestoreAlways (journal : Content) (old new : BusState) (result : Resu
   -- a refusal is one that a restore gives
   pub answers : IfErr result IsRestoreRefusal
   -- and names an address that the restore was at, in a saved sector
-  pub names : IfErr result (NamesIn (λ sector. is_saved journal sector ≡ true))
+  pub names : IfErr result (NamesSector (λ sector. is_saved journal sector ≡ true))
   -- until it is judged it only looks, as far as the opening and the scan of the largest chip
   pub looks : IfErr result (λ refusal. IsJudgedFirst refusal → Looks (most_looked 4096) old new)
   -- at the end the report is within its bound

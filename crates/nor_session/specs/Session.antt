@@ -1,9 +1,10 @@
 -- What a session promises.
-use Rattle.std.specs.Prelude.{◌≡◌, ◌≢◌, ◌≤◌, ◌<◌, ◌+◌, ◌*◌, ◌/◌, ◌⊎◌, ℕ, Bool, true, false, List, [], Result, IfOk, IfErr, if◌then◌else◌}
+use Rattle.std.specs.Prelude.{◌≡◌, ◌≢◌, ◌≤◌, ◌<◌, ◌+◌, ◌*◌, ◌/◌, ◌⊎◌, ℕ, Bool, true, false, List, [], Result, IfOk, IfErr, if◌then◌else◌, ⊤}
 use Rattle.nor_chip.specs.Chip.{Chip, IsSame}
 use Rattle.nor_chip.specs.Bus.{BusState}
 use Rattle.nor_driver.specs.Looks.{Looks, Falls, RanOut}
 use Rattle.nor_driver.specs.StatusWrites.{HasCode}
+use Rattle.nor_driver.specs.Operations.{most_operation}
 use Rattle.nor_journal.specs.Vault.{VaultState, Rose}
 use Rattle.nor_journal.specs.Saved.{JournalSaves, is_saved}
 use Rattle.nor_apply.specs.Change.{MayChange}
@@ -26,7 +27,7 @@ use Rattle.nor_session.specs.Verdict.{IsVerdict, IsAccepted}
 
 -- A session gives the refusals up to 14. It blames the vault only where that failed, after a refusal from 1 to 11 the
 -- vault isn't sealed, and after one from 1 to 8, which the opening judges, it is as it was.
-pub record Answers (old new : VaultState) (refusal : Refusal) : Type 0 where
+pub record AnswersSession (old new : VaultState) (refusal : Refusal) : Type 0 where
   pub own : number_of refusal ≤ 14
   pub vault : refusal ≡ Vault → Rose old new
   pub unsealed : number_of refusal ≤ 11 → new.sealed ≡ false
@@ -37,15 +38,15 @@ abbrev pub SavesSector : (sector : ℕ) → (bytes : List ℕ) → Type 0
 SavesSector sector bytes = (journal : IsJournal bytes) × (is_saved journal.content sector ≡ true)
 
 -- A timeout names 0 or an address in a sector of which this holds, and a mismatch an address in one.
-abbrev pub NamesIn : (IsSuch : (sector : ℕ) → Type 0) → Refusal → Type 0
-NamesIn IsSuch (Timeout address) = (address ≡ 0) ⊎ IsSuch (address / 4096)
-NamesIn IsSuch (Mismatch address) = IsSuch (address / 4096)
-NamesIn IsSuch _ = Unit {0}
+abbrev pub NamesSector : (IsSuch : (sector : ℕ) → Type 0) → Refusal → Type 0
+NamesSector IsSuch (Timeout address) = (address ≡ 0) ⊎ IsSuch (address / 4096)
+NamesSector IsSuch (Mismatch address) = IsSuch (address / 4096)
+NamesSector IsSuch _ = ⊤
 
 -- Which address a refusal names: none in a sector before the vault was sealed, and from then on one in a saved sector.
-pub record Names (vault : VaultState) (refusal : Refusal) : Type 0 where
-  pub early : vault.sealed ≡ false → NamesIn (λ s. ⊥) refusal
-  pub late : vault.sealed ≡ true → vault.telling ≡ true → NamesIn (λ s. SavesSector s vault.bytes) refusal
+pub record NamesAddress (vault : VaultState) (refusal : Refusal) : Type 0 where
+  pub early : vault.sealed ≡ false → NamesSector (λ s. ⊥) refusal
+  pub late : vault.sealed ≡ true → vault.telling ≡ true → NamesSector (λ s. SavesSector s vault.bytes) refusal
 
 -- how often a request may write the status: for a range once, else where protection may be lifted once for that and
 -- once to give it back
@@ -62,12 +63,12 @@ pub record IsWithinBound (scanned writes : ℕ) (verify : Bool) (report : Report
   pub programs : report.programs ≤ 16 * scanned
   pub few : report.transactions
       ≤ most_looked scanned + report.touched + (if verify then report.touched else 0)
-      + 65538 * (report.erases + report.programs + writes)
+      + most_operation * (report.erases + report.programs + writes)
   pub least : 4 + scanned + (if verify then report.touched else 0) + 3 * (report.erases + report.programs)
       ≤ report.transactions
 
 -- The session ended: the vault is sealed, and the report is within its bound.
-pub record Ends (request : Request) (vault : VaultState) (report : Report) : Type 0 where
+pub record EndsSealed (request : Request) (vault : VaultState) (report : Report) : Type 0 where
   pub sealed : vault.sealed ≡ true
   pub bounded : IsWithinBound (scanned_sectors request report.found.size)
       (most_status_writes request.what request.unlock) request.verify report
@@ -128,11 +129,11 @@ pub record SessionAlways (request : Request) (old new : BusState) (vault vault' 
   -- once it is sealed a telling vault holds a journal
   pub holds : HoldsJournal vault'
   -- a refusal is one that a session gives
-  pub answers : IfErr result (Answers vault vault')
+  pub answers : IfErr result (AnswersSession vault vault')
   -- and names an address that the session was at
-  pub names : IfErr result (Names vault')
+  pub names : IfErr result (NamesAddress vault')
   -- at the end the vault is sealed, and the report within its bound
-  pub ends : IfOk result (Ends request vault')
+  pub ends : IfOk result (EndsSealed request vault')
 
 -- On an honest bus.
 pub record SessionHonest (old new : BusState) (result : Result Report Refusal) : Type 0 where

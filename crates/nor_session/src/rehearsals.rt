@@ -59,12 +59,18 @@ pub fn rehearse<B: Meter>(
     })
 }
 
+// The most transactions of an opening: a probe of 65,540, status 2 and the unique ID.
+const OPENING: u64 = 65_542;
+
+// The most transactions of an operation: write enable, its command and 65,536 polls.
+const OPERATION: u64 = 65_538;
+
 // The most transactions that a session sends on a chip of 16 MiB, which are more than any call needs.
 fn most_needed() -> u64
     ensures { result ≡ most_of 4096 }
 {
     let sectors = 4096;
-    65542 + 3 * sectors + 65538 * (17 * sectors + 2)
+    OPENING + 3 * sectors + OPERATION * (17 * sectors + 2)
 }
 
 // The transactions that the session is allowed: the first of the stops, or where there is none as many as any call

@@ -1,7 +1,7 @@
 //! How a restore begins: the chip is opened, and must be one that the journal is of.
 ghost use Rattle.std.specs.Prelude.{◌≡◌, None, IfOk, IfErr, MatchBool};
 ghost use Rattle.nor_driver.specs.Looks.{Looks};
-ghost use Rattle.nor_save.specs.Opening.{Opens};
+ghost use Rattle.nor_save.specs.Opening.{Opens, most_opening};
 ghost use Rattle.nor_session.specs.Preparing.{IsOfKindFound, IsUnitRefusal, FitsOpening, ShowsFixed, AcceptsUnit, RefusesUnit, PrepareTells};
 
 use nor_chip::{Bus, Status};
@@ -11,11 +11,11 @@ use nor_save::{Opening, Refusal, read_on};
 
 /// Opens a chip that the journal is of.
 pub(crate) fn open_saved<B: Bus>(bus: &mut B, journal: &Journal<'_>) -> Result<Opening, Refusal>
-    ensures leaves { Looks 65542 (B.state bus.old) (B.state bus.new) }
+    ensures leaves { Looks most_opening (B.state bus.old) (B.state bus.new) }
     ensures opens { IfOk result (Opens None (B.state bus.old) (B.state bus.new)) }
     ensures kind { IfOk result (λ opening. IsOfKindFound journal.now opening.found) }
     ensures fits { IfOk result (FitsOpening journal.now) }
-    ensures tells { IfErr result (PrepareTells journal.now 65542 (B.state bus.old) (B.state bus.new)) }
+    ensures tells { IfErr result (PrepareTells journal.now most_opening (B.state bus.old) (B.state bus.new)) }
 {
     let opening = open_of_kind(bus, journal)?;
     judge_unit(journal, &opening)?;
@@ -24,10 +24,10 @@ pub(crate) fn open_saved<B: Bus>(bus: &mut B, journal: &Journal<'_>) -> Result<O
 
 // Opens a chip of the journal's ID and size.
 fn open_of_kind<B: Bus>(bus: &mut B, journal: &Journal<'_>) -> Result<Opening, Refusal>
-    ensures leaves { Looks 65542 (B.state bus.old) (B.state bus.new) }
+    ensures leaves { Looks most_opening (B.state bus.old) (B.state bus.new) }
     ensures opens { IfOk result (Opens None (B.state bus.old) (B.state bus.new)) }
     ensures kind { IfOk result (λ opening. IsOfKindFound journal.now opening.found) }
-    ensures tells { IfErr result (PrepareTells journal.now 65542 (B.state bus.old) (B.state bus.new)) }
+    ensures tells { IfErr result (PrepareTells journal.now most_opening (B.state bus.old) (B.state bus.new)) }
 {
     let probed = probe_counted(bus, None)?;
     if !is_of_kind(journal, &probed.found) {

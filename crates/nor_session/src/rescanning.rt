@@ -1,6 +1,6 @@
 //! What a restore reads before it changes anything.
 ghost use Rattle.std.specs.Prelude.{◌≡◌, ◌<◌, length, IfOk, OnErr};
-ghost use Rattle.nor_driver.specs.Looks.{Looks, RunsOut};
+ghost use Rattle.nor_driver.specs.Looks.{Looks, RanOutIfHonest};
 ghost use Rattle.nor_session.specs.Preparing.{PlansSaved, ScansSaved};
 
 use nor_chip::{Bus, Stopped};
@@ -13,7 +13,7 @@ use nor_save::Scanned;
 pub(crate) fn scan_saved<B: Bus>(bus: &mut B, journal: &Journal<'_>) -> Result<Scanned, Stopped>
     ensures leaves { Looks (length journal.now.saved) (B.state bus.old) (B.state bus.new) }
     ensures scans { IfOk result (ScansSaved journal.now (B.state bus.old) (B.state bus.new)) }
-    ensures stops { OnErr result (RunsOut (length journal.now.saved) (B.state bus.old) (B.state bus.new)) }
+    ensures stops { OnErr result (RanOutIfHonest (length journal.now.saved) (B.state bus.old) (B.state bus.new)) }
 {
     let mut scanned = Scanned::none();
     let mut bytes = [0; 4096];
@@ -36,7 +36,7 @@ fn plan_saved<B: Bus>(
     requires whole { length saved.now ≡ 4096 }
     ensures leaves { Looks 1 (B.state bus.old) (B.state bus.new) }
     ensures plans { IfOk result (PlansSaved sector saved.now bytes.new (B.state bus.old) (B.state bus.new)) }
-    ensures stops { OnErr result (RunsOut 1 (B.state bus.old) (B.state bus.new)) }
+    ensures stops { OnErr result (RanOutIfHonest 1 (B.state bus.old) (B.state bus.new)) }
 {
     read_sector(bus, sector, &mut *bytes)?;
     Ok(Plan::of(&*bytes, saved))

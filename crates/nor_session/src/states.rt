@@ -5,7 +5,7 @@ ghost use Rattle.std.specs.Prelude.{◌≡◌, ◌<◌, ◌≤◌, ◌/◌, ℕ,
 ghost use Rattle.nor_driver.specs.Looks.{Looks};
 ghost use Rattle.nor_plan.specs.SectorSet.{has, LiesBelow};
 ghost use Rattle.nor_apply.specs.Applying.{most_applied};
-ghost use Rattle.nor_session.specs.Changing.{touched_count, LeavesChange, DoesChange, ChangeTells, NamesWork, DoesCheck, CheckRefuses};
+ghost use Rattle.nor_session.specs.Changing.{touched_count, LeavesChange, DoesChange, ChangeTells, NamesTouchedSector, DoesCheck, CheckRefuses};
 
 use nor_apply::{Changes, Source, Work, apply, check_all};
 use nor_chip::Bus;
@@ -51,7 +51,7 @@ impl<'a, B: Bus, S: Source> Kept<'a, B, S> {
             (B.state self.entry.bus.now) (B.state self.exit.0.now)) }
         ensures tells { IfErr result (ChangeTells self.entry.changes.now (S.wanted self.entry.source.now)
             (B.state self.entry.bus.now) (B.state self.exit.0.now)) }
-        ensures names { IfErr result (NamesWork self.entry.changes.now) }
+        ensures names { IfErr result (NamesTouchedSector self.entry.changes.now) }
     {
         let Kept {
             bus,
@@ -90,7 +90,7 @@ impl<'a, B: Bus, S: Source> Done<'a, B, S> {
             (B.state self.entry.bus.now) (B.state self.exit.0.now)) }
         ensures tells { IfErr result (CheckRefuses self.entry.changes.now (S.wanted self.entry.source.now)
             (B.state self.entry.bus.now) (B.state self.exit.0.now)) }
-        ensures names { IfErr result (NamesWork self.entry.changes.now) }
+        ensures names { IfErr result (NamesTouchedSector self.entry.changes.now) }
     {
         let Done {
             bus,

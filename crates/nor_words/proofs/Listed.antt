@@ -9,7 +9,7 @@ use Rattle.std.proofs.lemmas.List.{append-nil, append_assoc, length_push}
 use Rattle.std.specs.Str.{bytes_eq}
 use Rattle.nor_words.specs.Programmer.{has_key}
 use Rattle.nor_words.specs.Text.{Text, key_of, pieces_of, reads}
-use Rattle.nor_words.specs.Numbers.{number_of}
+use Rattle.nor_words.specs.Numbers.{decimal_number}
 use Rattle.nor_words.specs.Stops.{stops_of}
 use Rattle.nor_words.proofs.InTurn.{turned, ended}
 
@@ -110,28 +110,28 @@ count-ended p pieces n found same all =
 
 -- these stops, and those that are left
 abbrev pub with_stops : List ℕ → List Text → Option (List ℕ)
-with_stops stops pieces = cond (list_all (reads number_of) pieces && nat_le (length stops + length pieces) 64)
-    (Some (stops ++ filter_map number_of pieces)) None
+with_stops stops pieces = cond (list_all (reads decimal_number) pieces && nat_le (length stops + length pieces) 64)
+    (Some (stops ++ filter_map decimal_number pieces)) None
 
 nothing : {X : Type 0} (x : X) (a : Bool) → cond (a && false) (Some x) None ≡ None
 nothing x true = refl
 nothing x false = refl
 
-pub stops-refused : (stops : List ℕ) (piece : Text) (pieces : List Text) → number_of piece ≡ None → with_stops stops (piece ∷ pieces) ≡ None
+pub stops-refused : (stops : List ℕ) (piece : Text) (pieces : List Text) → decimal_number piece ≡ None → with_stops stops (piece ∷ pieces) ≡ None
 stops-refused stops piece pieces other = rw other refl
 
 pub stops-full : (stops : List ℕ) (piece : Text) (pieces : List Text) → 64 ≤ length stops → with_stops stops (piece ∷ pieces) ≡ None
 stops-full stops piece pieces full =
     let over : nat_le (length stops + suc (length pieces)) 64 ≡ false = grind (arith, nat_tests) in
-    rw over (nothing _ (list_all (reads number_of) (piece ∷ pieces)))
+    rw over (nothing _ (list_all (reads decimal_number) (piece ∷ pieces)))
 
-pub stops-added : (stops : List ℕ) (piece : Text) (pieces : List Text) (x : ℕ) → number_of piece ≡ Some x
+pub stops-added : (stops : List ℕ) (piece : Text) (pieces : List Text) (x : ℕ) → decimal_number piece ≡ Some x
     → with_stops stops (piece ∷ pieces) ≡ with_stops (stops ++ x ∷ []) pieces
 stops-added stops piece pieces x number =
     let longer = length_push stops x in
     let len : length stops + suc (length pieces) ≡ length (stops ++ x ∷ []) + length pieces = omega (arith, longer) in
-    rw number (ap₂ (λ (n : ℕ) (xs : List ℕ). cond (list_all (reads number_of) pieces && nat_le n 64) (Some xs) None) len
-    (sym (append_assoc stops (x ∷ []) (filter_map number_of pieces))))
+    rw number (ap₂ (λ (n : ℕ) (xs : List ℕ). cond (list_all (reads decimal_number) pieces && nat_le n 64) (Some xs) None) len
+    (sym (append_assoc stops (x ∷ []) (filter_map decimal_number pieces))))
 
 pub stops-ended : (stops : List ℕ) → length stops ≤ 64 → with_stops stops [] ≡ Some stops
 stops-ended stops few =
@@ -141,7 +141,7 @@ stops-ended stops few =
 pub stops_of-with : (text : Text) → with_stops [] (pieces_of text) ≡ stops_of text
 stops_of-with text =
     let zero_more : 0 + length (pieces_of text) ≡ length (pieces_of text) = omega arith in
-    ap (λ (n : ℕ). cond (list_all (reads number_of) (pieces_of text) && nat_le n 64) (Some (filter_map number_of (pieces_of text))) None) zero_more
+    ap (λ (n : ℕ). cond (list_all (reads decimal_number) (pieces_of text) && nat_le n 64) (Some (filter_map decimal_number (pieces_of text))) None) zero_more
 
 -- what a push says, by its result as an option
 pub not_pushed : {T E : Type 0} (r : Result T E) (P : Type 0) → OnErr r P → result_ok r ≡ None → P

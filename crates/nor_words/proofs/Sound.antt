@@ -8,7 +8,7 @@ use Rattle.nor_words.specs.Faults.{first_fault, has_wrong_journal, has_wrong_reg
 use Rattle.nor_words.specs.Numbers.{range_of}
 use Rattle.nor_words.specs.Programmer.{has_stop, is_programmer}
 use Rattle.nor_words.specs.Stops.{stops_of}
-use Rattle.nor_words.specs.Job.{IsWanted}
+use Rattle.nor_words.specs.Job.{IsWantedByWords}
 use Rattle.nor_words.specs.declared.job.Wanted.{Wanted}
 use Rattle.nor_words.specs.declared.job.Wanted.TheVariants as want
 use Rattle.nor_words.specs.declared.words.UsageFault.{UsageFault}
@@ -77,13 +77,13 @@ there f None x h = cc
 there f (Some text) x h = refl
 
 -- whoever wants something of the chip asks for a change
-change-wanted : (given : Texts) (wanted : Wanted) → IsWanted given wanted → is_change given ≡ true
+change-wanted : (given : Texts) (wanted : Wanted) → IsWantedByWords given wanted → is_change given ≡ true
 change-wanted given (want.Write image) is = rw is refl
 change-wanted given want.Erase is = ap (λ b. b || is_some given.wp_range) (or_right (is_some given.write) given.erase is)
 change-wanted given (want.Range start len) is = or_right (is_new_content given) (is_some given.wp_range) (there range_of given.wp_range (start, len) is)
 
 -- and gives stops where it keeps no journal
-pub stops-kept : {T : Type 0} (view : T → List ℕ) (given : Texts) (wanted : Wanted) (stops : Option T) → Sound given → IsWanted given wanted
+pub stops-kept : {T : Type 0} (view : T → List ℕ) (given : Texts) (wanted : Wanted) (stops : Option T) → Sound given → IsWantedByWords given wanted
     → option_and_then stops_of given.rehearse ≡ option_map view stops → given.journal ≡ None → is_some stops ≡ true
 stops-kept view given wanted (Some stops) sound is same journal = refl
 stops-kept view given wanted None sound is same journal =

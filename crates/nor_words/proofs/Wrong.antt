@@ -5,7 +5,7 @@ use Rattle.std.specs.Borrow.{Bor}
 use Rattle.std.specs.Option.{IsSomeAnd, MatchOption, option_map_or}
 use Rattle.nor_words.specs.Text.{Text, reads}
 use Rattle.nor_words.specs.Faults.{is_no, is_there}
-use Rattle.nor_words.specs.Numbers.{number_of}
+use Rattle.nor_words.specs.Numbers.{decimal_number}
 use Rattle.nor_words.specs.Programmer.{IsProgrammer, has_stop, is_programmer, said}
 use Rattle.nor_words.specs.Stops.{stops_of}
 use Rattle.nor_words.specs.declared.programmer.Programmer.{Programmer}
@@ -30,9 +30,9 @@ stops-beside : (text : Option Text) (found : Option Programmer) → Means text f
     → option_map_or (λ programmer. is_some programmer.stop) found false ≡ is_there has_stop text
 stops-beside None None means = refl
 stops-beside None (Some p) means = absurd means
-stops-beside (Some t) None means = sym (ap (λ b. b && is_some (option_and_then number_of (said t (codes "stop")))) means)
+stops-beside (Some t) None means = sym (ap (λ b. b && is_some (option_and_then decimal_number (said t (codes "stop")))) means)
 stops-beside (Some t) (Some p) means =
-    ap is_some (sym means.stop) ∙ sym (ap (λ b. b && is_some (option_and_then number_of (said t (codes "stop")))) means.sound)
+    ap is_some (sym means.stop) ∙ sym (ap (λ b. b && is_some (option_and_then decimal_number (said t (codes "stop")))) means.sound)
 
 pub wrong-stops : (rehearse programmer : Option Text) (found : Option Programmer) (stops : Option (List ℕ)) → Means programmer found → option_and_then stops_of rehearse ≡ stops
     → (is_some rehearse && (not (is_some stops) || option_map_or (λ programmer. is_some programmer.stop) found false))

@@ -56,23 +56,23 @@ first_fault (case ∷ cases) = if case.0 then Some case.1 else first_fault cases
 -- ---- how they are told
 
 -- the number that a fault has in its message
-abbrev pub number_of : UsageFault → ℕ
-number_of (why.Words error) = 1
-number_of why.NoProgrammer = 2
-number_of why.Programmer = 3
-number_of why.TwoOperations = 4
-number_of why.Range = 5
-number_of why.Journal = 6
-number_of why.Layout = 7
-number_of why.Unneeded = 8
-number_of why.Stops = 9
-number_of why.Memory = 10
+abbrev pub number_of_usage_fault : UsageFault → ℕ
+number_of_usage_fault (why.Words error) = 1
+number_of_usage_fault why.NoProgrammer = 2
+number_of_usage_fault why.Programmer = 3
+number_of_usage_fault why.TwoOperations = 4
+number_of_usage_fault why.Range = 5
+number_of_usage_fault why.Journal = 6
+number_of_usage_fault why.Layout = 7
+number_of_usage_fault why.Unneeded = 8
+number_of_usage_fault why.Stops = 9
+number_of_usage_fault why.Memory = 10
 
 -- the text of the fault of this number
 abbrev pub numbered : ℕ → List ℕ
 numbered number = codes "Usage fault " ++ (decimal number ++ codes ".")
 
 -- the text of a fault; before that of the first stands what `clap` says, of which nothing is known
-abbrev pub text_of : UsageFault → Option (List ℕ)
-text_of (why.Words error) = None
-text_of fault = Some (numbered (number_of fault))
+abbrev pub usage_fault_text : UsageFault → Option (List ℕ)
+usage_fault_text (why.Words error) = None
+usage_fault_text fault = Some (numbered (number_of_usage_fault fault))

@@ -20,28 +20,28 @@ use Rattle.nor_words.specs.declared.job.Wanted.{Wanted}
 use Rattle.nor_words.specs.declared.job.Wanted.TheVariants as want
 
 -- the option has this text
-abbrev pub Names : Option Text → Bor Text → Type 0
-Names option text = option ≡ Some text.now
+abbrev pub NamesFile : Option Text → Bor Text → Type 0
+NamesFile option text = option ≡ Some text.now
 
 -- `-l` and `-i`, or neither
 abbrev pub IsRegions : Texts → Option Regions → Type 0
 IsRegions given None = (given.layout ≡ None) × (given.names ≡ None)
-IsRegions given (Some regions) = Names given.layout regions.layout × Names given.names regions.names
+IsRegions given (Some regions) = NamesFile given.layout regions.layout × NamesFile given.names regions.names
 
 -- what a change makes of the chip
-abbrev pub IsWanted : Texts → Wanted → Type 0
-IsWanted given (want.Write image) = Names given.write image
-IsWanted given want.Erase = given.erase ≡ true
-IsWanted given (want.Range start len) = option_and_then range_of given.wp_range ≡ Some (start, len)
+abbrev pub IsWantedByWords : Texts → Wanted → Type 0
+IsWantedByWords given (want.Write image) = NamesFile given.write image
+IsWantedByWords given want.Erase = given.erase ≡ true
+IsWantedByWords given (want.Range start len) = option_and_then range_of given.wp_range ≡ Some (start, len)
 
 -- where its journal is kept, or how it is rehearsed
 abbrev pub IsKeeping : Texts → Keeping → Type 0
-IsKeeping given (keep.Journal file) = Names given.journal file
+IsKeeping given (keep.Journal file) = NamesFile given.journal file
 IsKeeping given (keep.Rehearse stops) = option_and_then stops_of given.rehearse ≡ Some stops.items
 
 -- Each part of a change is what the options say.
 pub record IsChange (given : Texts) (change : Change) : Type 0 where
-  pub wanted : IsWanted given change.wanted
+  pub wanted : IsWantedByWords given change.wanted
   pub regions : IsRegions given change.regions
   pub unlock : change.unlock ≡ given.unlock
   pub verify : change.verify ≡ not given.no_verify
@@ -53,10 +53,10 @@ IsTask given task.Probe = operations given ≡ 0
 IsTask given task.FlashSize = given.flash_size ≡ true
 IsTask given task.WpStatus = given.wp_status ≡ true
 IsTask given task.WpList = given.wp_list ≡ true
-IsTask given (task.Read file regions) = Names given.read file × IsRegions given regions
-IsTask given (task.Verify file regions) = Names given.verify file × IsRegions given regions
+IsTask given (task.Read file regions) = NamesFile given.read file × IsRegions given regions
+IsTask given (task.Verify file regions) = NamesFile given.verify file × IsRegions given regions
 IsTask given (task.Change change) = IsChange given change
-IsTask given (task.Restore journal) = Names given.restore journal
+IsTask given (task.Restore journal) = NamesFile given.restore journal
 
 -- Each part of a job on a chip is what the options say.
 pub record IsChipJob (given : Texts) (on_chip : ChipJob) : Type 0 where

@@ -18,8 +18,8 @@ numeral radix most greatest text =
     if is_numeral radix most greatest text then Some (digits_value radix text) else None
 
 -- 1 to 20 decimal digits, up to the greatest number of 64 bits
-abbrev pub number_of : Text → Option ℕ
-number_of = numeral 10 20 18446744073709551615
+abbrev pub decimal_number : Text → Option ℕ
+decimal_number = numeral 10 20 18446744073709551615
 
 -- a number of polls: 1 to 20 decimal digits, up to 65,535
 abbrev pub polls_of : Text → Option ℕ
@@ -37,9 +37,9 @@ range_of text =
     option_and_then (λ start. option_map (λ len. (start, len)) (place_of (rest_of text))) (place_of (front_of text))
 
 -- the eight bytes of 16 hexadecimal digits
-abbrev pub unique_of : Text → Option (List ℕ)
-unique_of text = result_ok (decode_sized text 8)
+abbrev pub unique_number : Text → Option (List ℕ)
+unique_number text = result_ok (decode_sized text 8)
 
 -- the byte of two hexadecimal digits
-abbrev pub byte_of : Text → Option ℕ
-byte_of text = option_and_then (λ bytes. slice_get bytes 0) (result_ok (decode_sized text 1))
+abbrev pub byte_number : Text → Option ℕ
+byte_number text = option_and_then (λ bytes. slice_get bytes 0) (result_ok (decode_sized text 1))

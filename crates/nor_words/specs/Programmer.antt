@@ -7,7 +7,7 @@ use Rattle.nor_chip.specs.declared.config.Config.{Config}
 use Rattle.nor_words.specs.declared.programmer.Emulated.{Emulated}
 use Rattle.nor_words.specs.declared.programmer.Emulated.TheVariants.{Tiny64, W25q64fv, W25q128fv}
 use Rattle.nor_words.specs.declared.programmer.Programmer.{Programmer}
-use Rattle.nor_words.specs.Numbers.{byte_of, number_of, polls_of, unique_of}
+use Rattle.nor_words.specs.Numbers.{byte_number, decimal_number, polls_of, unique_number}
 use Rattle.nor_words.specs.Text.{Text, pieces_of, key_of, value_of, reads}
 
 -- the emulated chip of this name
@@ -18,10 +18,10 @@ chip_named name = if bytes_eq name (codes "TINY64") then Some Tiny64
     else None
 
 -- the configuration of an emulated chip
-abbrev pub IsConfigOf : Emulated → Config → Type 0
-IsConfigOf Tiny64 config = IsTiny64 config
-IsConfigOf W25q64fv config = IsW25q64fv config
-IsConfigOf W25q128fv config = IsW25q128fv config
+abbrev pub IsConfigOfEmulated : Emulated → Config → Type 0
+IsConfigOfEmulated Tiny64 config = IsTiny64 config
+IsConfigOfEmulated W25q64fv config = IsW25q64fv config
+IsConfigOfEmulated W25q128fv config = IsW25q128fv config
 
 -- the name of a file isn't empty
 abbrev pub is_file : Text → Bool
@@ -34,10 +34,10 @@ keys =
     ∷ (codes "image", is_file)
     ∷ (codes "status", is_file)
     ∷ (codes "trace", is_file)
-    ∷ (codes "stop", reads number_of)
-    ∷ (codes "unique", reads unique_of)
+    ∷ (codes "stop", reads decimal_number)
+    ∷ (codes "unique", reads unique_number)
     ∷ (codes "busy", reads polls_of)
-    ∷ (codes "power", reads byte_of)
+    ∷ (codes "power", reads byte_number)
     ∷ []
 
 -- the setting has this key
@@ -79,7 +79,7 @@ is_programmer text = starts_with nat_eq text (codes "dummy:")
 
 -- a programmer's text that has a `stop=`
 abbrev pub has_stop : Text → Bool
-has_stop text = is_programmer text && is_some (option_and_then number_of (said text (codes "stop")))
+has_stop text = is_programmer text && is_some (option_and_then decimal_number (said text (codes "stop")))
 
 -- The text is a programmer's, and this one's: each part is what the setting with its key says, or nothing where there
 -- is none.
@@ -89,7 +89,7 @@ pub record IsProgrammer (text : Text) (programmer : Programmer) : Type 0 where
   pub image : said text (codes "image") ≡ option_map (λ name. name.now) programmer.image
   pub status : said text (codes "status") ≡ option_map (λ name. name.now) programmer.status
   pub trace : said text (codes "trace") ≡ option_map (λ name. name.now) programmer.trace
-  pub stop : option_and_then number_of (said text (codes "stop")) ≡ programmer.stop
-  pub unique : option_and_then unique_of (said text (codes "unique")) ≡ programmer.unique
+  pub stop : option_and_then decimal_number (said text (codes "stop")) ≡ programmer.stop
+  pub unique : option_and_then unique_number (said text (codes "unique")) ≡ programmer.unique
   pub busy : option_and_then polls_of (said text (codes "busy")) ≡ programmer.busy
-  pub power : option_and_then byte_of (said text (codes "power")) ≡ programmer.power
+  pub power : option_and_then byte_number (said text (codes "power")) ≡ programmer.power

@@ -2,10 +2,10 @@
 use Rattle.std.specs.Prelude.{◌&&◌, ℕ, List, Option, Some, None, length, filter_map, nat_le, if◌then◌else◌}
 use Rattle.std.specs.List.{list_all}
 use Rattle.nor_words.specs.Text.{Text, pieces_of, reads}
-use Rattle.nor_words.specs.Numbers.{number_of}
+use Rattle.nor_words.specs.Numbers.{decimal_number}
 
 -- the numbers between commas, at most 64
 abbrev pub stops_of : Text → Option (List ℕ)
 stops_of text =
-    if list_all (reads number_of) (pieces_of text) && nat_le (length (pieces_of text)) 64
-    then Some (filter_map number_of (pieces_of text)) else None
+    if list_all (reads decimal_number) (pieces_of text) && nat_le (length (pieces_of text)) 64
+    then Some (filter_map decimal_number (pieces_of text)) else None

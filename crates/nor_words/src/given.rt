@@ -5,7 +5,7 @@ ghost use Rattle.std.specs.Option.{option_map_or};
 ghost use Rattle.clap.specs.Words.{found_of, rows_of};
 ghost use Rattle.nor_words.specs.Given.{given_in, is_set_in, operations, is_new_content, is_change, takes_regions};
 ghost use Rattle.nor_words.specs.Faults.{first_fault, has_wrong_journal, has_wrong_regions, is_no, is_there, usage_faults};
-ghost use Rattle.nor_words.specs.Job.{IsAsked, IsChange, IsKeeping, IsRegions, IsTask, IsWanted};
+ghost use Rattle.nor_words.specs.Job.{IsAsked, IsChange, IsKeeping, IsRegions, IsTask, IsWantedByWords};
 ghost use Rattle.nor_words.specs.Meaning.{IsMeaning};
 ghost use Rattle.nor_words.specs.Numbers.{range_of};
 ghost use Rattle.nor_words.specs.Programmer.{has_stop, is_programmer};
@@ -262,7 +262,7 @@ impl<'a> Given<'a> {
     fn wanted(&self, range: Option<(u32, u32)>) -> Option<Wanted<'a>>
         requires { option_and_then range_of (texts_of self.now).wp_range ≡ range }
         ensures { MatchOption result ((is_new_content (texts_of self.now) ≡ false) × (range ≡ None))
-            (IsWanted (texts_of self.now)) }
+            (IsWantedByWords (texts_of self.now)) }
     {
         match (self.write, range) {
             (Some(image), _) => Some(Wanted::Write { image }),

@@ -2,13 +2,13 @@
 ghost use Rattle.std.specs.Prelude.{◌≡◌, ◌≤◌, option_map};
 ghost use Rattle.std.specs.Char.{is_digit};
 ghost use Rattle.std.specs.List.{list_all};
-ghost use Rattle.nor_words.specs.Numbers.{numeral, number_of, polls_of, place_of, range_of, unique_of, byte_of};
+ghost use Rattle.nor_words.specs.Numbers.{numeral, decimal_number, polls_of, place_of, range_of, unique_number, byte_number};
 
 use hex::FromHex;
 
 /// The number that the text is: 1 to 20 decimal digits, up to the greatest `u64`.
 pub fn read_number(text: &str) -> Option<u64>
-    ensures { result ≡ number_of text.now }
+    ensures { result ≡ decimal_number text.now }
 {
     read_numeral(text, 10, 20, u64::MAX)
 }
@@ -67,14 +67,14 @@ fn has_digits(text: &str, radix: u32) -> bool
 
 /// The eight bytes that 16 hexadecimal digits write.
 pub fn read_unique(text: &str) -> Option<[u8; 8]>
-    ensures { result ≡ unique_of text.now }
+    ensures { result ≡ unique_number text.now }
 {
     <[u8; 8] as FromHex>::from_hex(text).ok()
 }
 
 /// The byte that two hexadecimal digits write.
 pub fn read_byte(text: &str) -> Option<u8>
-    ensures { result ≡ byte_of text.now }
+    ensures { result ≡ byte_number text.now }
 {
     let [byte] = <[u8; 1] as FromHex>::from_hex(text).ok()?;
     Some(byte)

@@ -18,7 +18,7 @@ pub enum Emulated {
 }
 
 impl Emulated {
-    ghost use Rattle.nor_words.specs.Programmer.{chip_named, IsConfigOf};
+    ghost use Rattle.nor_words.specs.Programmer.{chip_named, IsConfigOfEmulated};
 
     /// The chip of this name.
     pub fn named(name: &str) -> Option<Emulated>
@@ -34,7 +34,7 @@ impl Emulated {
 
     /// What never changes of the chip.
     pub fn config(self) -> Config
-        ensures { IsConfigOf self result }
+        ensures { IsConfigOfEmulated self result }
     {
         match self {
             Emulated::Tiny64 => Config::tiny64(),

@@ -38,11 +38,11 @@ pub enum UsageFault {
 }
 
 impl UsageFault {
-    ghost use Rattle.nor_words.specs.Faults.{number_of};
+    ghost use Rattle.nor_words.specs.Faults.{number_of_usage_fault};
 
     /// The number that its message shows.
     pub fn number(&self) -> u8
-        ensures { result ≡ number_of self.now }
+        ensures { result ≡ number_of_usage_fault self.now }
     {
         match self {
             UsageFault::Words(_) => 1,
@@ -61,9 +61,9 @@ impl UsageFault {
 
 // Written out, since a text that is derived has no contract.
 impl fmt::Display for UsageFault {
-    ghost use Rattle.nor_words.specs.Faults.{text_of};
+    ghost use Rattle.nor_words.specs.Faults.{usage_fault_text};
 
-    ghost output = { text_of };
+    ghost output = { usage_fault_text };
 
     fn fmt<W: fmt::Write>(&self, f: &mut fmt::Formatter<W>) -> fmt::Result {
         if let UsageFault::Words(why) = self {

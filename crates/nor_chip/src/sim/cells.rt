@@ -1,6 +1,6 @@
 //! What the opcodes do to bytes, over plain slices.
 ghost use Rattle.std.specs.Prelude.{◌≡◌, ℕ, ◌+◌, ◌*◌, ◌/◌, ◌%◌, ◌<◌, ◌≤◌, length, slice_index, slice_index_or, bit_and};
-ghost use Rattle.nor_chip.specs.Cells.{IsProgrammed, IsFilled};
+ghost use Rattle.nor_chip.specs.Cells.{HasPageProgrammed, IsFilled};
 
 /// The bytes of a page, which a program wraps inside.
 pub(crate) const PAGE_LEN: usize = 256;
@@ -22,7 +22,7 @@ fn clear_bits(bytes: &mut [u8], from: usize, sent: &[u8])
 /// byte sent for it.
 pub(crate) fn program(bytes: &mut [u8], at: usize, sent: &[u8])
     requires { at / 256 * 256 + 256 ≤ length bytes.old }
-    ensures { IsProgrammed at sent.now bytes.old bytes.new }
+    ensures { HasPageProgrammed at sent.now bytes.old bytes.new }
 {
     let page = at / PAGE_LEN * PAGE_LEN;
     let skipped = sent.len().saturating_sub(PAGE_LEN);

@@ -26,8 +26,8 @@ pub(crate) struct Flash {
 }
 
 impl Flash {
-    ghost use Rattle.nor_chip.specs.Flash.{chip_of, Begins, Cuts, Paces};
-    ghost use Rattle.nor_chip.specs.Power.{CutBy};
+    ghost use Rattle.nor_chip.specs.Flash.{chip_of, Begins, CutsOff, Paces};
+    ghost use Rattle.nor_chip.specs.Power.{PowerLostWith};
     ghost use Rattle.nor_chip.specs.Start.{status_of};
     ghost use Rattle.nor_chip.specs.Status.{bytes_of};
     ghost use Rattle.nor_chip.specs.Aim.{IsAimed, IsUnit};
@@ -185,7 +185,7 @@ impl Flash {
     /// The power is lost: what runs is cut off, each byte of it becomes this fill, and a status write leaves the
     /// old bits where the fill is even.
     pub(crate) fn lose_power(&mut self, fill: u8)
-        ensures cut { CutBy fill (chip_of self.old) (chip_of self.new) }
+        ensures cut { PowerLostWith fill (chip_of self.old) (chip_of self.new) }
         ensures pace { self.new.each ≡ self.old.each }
     {
         if self.busy != 0 {
@@ -197,7 +197,7 @@ impl Flash {
 
     // Cuts off what runs.
     fn cut(&mut self, fill: u8)
-        ensures cut { Cuts fill (chip_of self.old) (chip_of self.new) }
+        ensures cut { CutsOff fill (chip_of self.old) (chip_of self.new) }
         ensures pace { self.new.each ≡ self.old.each }
     {
         match self.running {

@@ -4,7 +4,7 @@ use Rattle.nor_driver.specs.declared.units.Erase.{Erase}
 use Rattle.nor_driver.specs.declared.units.EraseUnit.{EraseUnit}
 use Rattle.nor_plan.specs.SectorSet.{has}
 use Rattle.nor_driver.specs.Units.{is_aligned}
-use Rattle.nor_plan.specs.Planned.{begins_unit, unit_at, planned_from}
+use Rattle.nor_plan.specs.Planned.{begins_unit, planned_unit, planned_from}
 use Rattle.nor_plan.proofs.Planning.{planned_from-end, planned_from-skip, planned_from-take}
 use Rattle.nor_plan.proofs.erase.next_erase.Goals as goal
 use Rattle.nor_plan.proofs.erase.next_erase.Goals.{then-contains+else-begins_at, else-contains}
@@ -14,7 +14,7 @@ returns-then-begins_at c =
     let set = has c.args.set.now in
     let s = c.loop-sector.sector in
     let member : set s ≡ true = sym c.contains.ensures ∙ c.if-contains.true in
-    let aligned : is_aligned (unit_at c.args.whole c.args.kinds set s) s ≡ true =
+    let aligned : is_aligned (planned_unit c.args.whole c.args.kinds set s) s ≡ true =
     ap (λ u. is_aligned u s) (sym c.unit_of-unit.ensures) ∙ sym c.begins_at.ensures ∙ c.if-begins_at.true in
     let rest = planned_from c.args.whole c.args.kinds set in
     let head : EraseUnit → ℕ → List Erase = λ u k. record { unit = u; sector = s } ∷ rest k in

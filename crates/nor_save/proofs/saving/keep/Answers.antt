@@ -4,12 +4,12 @@ use Rattle.std.proofs.lemmas.Grind.{common_steps}
 use Rattle.nor_chip.proofs.Sizes.{is_chip_size-power_of_two, is_chip_size-in_blocks}
 use Rattle.nor_journal.specs.Text.{Content, empty_content}
 use Rattle.nor_journal.specs.Vault.{VaultState}
-use Rattle.nor_journal.specs.Writer.{vault_state, HasKept}
+use Rattle.nor_journal.specs.Writer.{vault_state, HasPutSectors}
 use Rattle.nor_journal.proofs.Saves.{HasKept-none}
 use Rattle.nor_plan.specs.SectorSet.{has}
+use Rattle.nor_apply.specs.Change.{none}
 use Rattle.nor_save.specs.Request.{is_touched_by}
 use Rattle.nor_save.specs.Saving.{head_of}
-use Rattle.nor_save.specs.Scanning.{never}
 use Rattle.nor_save.specs.Keeping.{KeepTells, KeepBegins}
 use Rattle.nor_save.proofs.KeptHeads.{same_bytes, is_open, touched_right, raised_right, merged_right, judged_tells, accepts_touched, kept_touched, head_same}
 use Rattle.nor_save.proofs.Begun.{begun_none, with_none, begins_of, begins_all, err_same, unless_refused_err}
@@ -51,8 +51,8 @@ returns-clause-keeps g c =
                 let low : chip.kept2 < 128 = let same = shows.same.kept2 in omega arith in
                 let status : c.bytes.result ≡ opening.found.status1 / 4 * 4 ∷ opening.status2 % 128 ∷ [] = grind (arith, common_steps) in
                 let head : empty_content opening.found.id _ c.bytes.result opening.found.size ≡ head_of chip = head_same chip opening c.bytes.result is low status in
-                let begun = HasKept-none g.V.Vault.state c.header.new.self opening.found.id _ c.bytes.result opening.found.size old.chip.bytes never 0 (c.in_ok-header.ensures.written c.on-writer.ensures.nothing) (λ s. refl) in
-                let kept : HasKept g.V.Vault.state c.header.new.self (head_of chip) old.chip.bytes never 0 = subst (λ (h : Content). HasKept g.V.Vault.state c.header.new.self h old.chip.bytes never 0) head begun in
+                let begun = HasKept-none g.V.Vault.state c.header.new.self opening.found.id _ c.bytes.result opening.found.size old.chip.bytes none 0 (c.in_ok-header.ensures.written c.on-writer.ensures.nothing) (λ s. refl) in
+                let kept : HasPutSectors g.V.Vault.state c.header.new.self (head_of chip) old.chip.bytes none 0 = subst (λ (h : Content). HasPutSectors g.V.Vault.state c.header.new.self h old.chip.bytes none 0) head begun in
                 let scanned = c.in_ok-scanned.ensures.keeps open_now (head_of chip) (sym is.config.size) kept in
                 let marked = kept_touched g.V.Vault.state c.scan_all.new.writer (head_of chip) old.chip.bytes chip.bytes (has c.in_ok-scanned.scanned.touched) (is_touched_by c.args.request.now c.args.image.now chip) (opening.found.size / 4096)
                 (same_bytes chip old shows) touched scanned in
@@ -82,8 +82,8 @@ returns-in_err-scanned-clause-begins g c =
     let begins : KeepBegins c.args.request.now opening c.args.image.now old (vault_state g.V.Vault.state c.scan_all.new.writer) c.in_err-scanned.field-0.0
     = λ other telling chip is shows.
     let head = head_same chip opening c.bytes.result is (let small = (g.met.B.Bus.reaches c.args.bus.now shows.honest).kept2 in let same = shows.same.kept2 in omega arith) (grind (arith, common_steps)) in
-    let begun = HasKept-none g.V.Vault.state c.header.new.self opening.found.id _ c.bytes.result opening.found.size old.chip.bytes never 0 (c.in_ok-header.ensures.written c.on-writer.ensures.nothing) (λ s. refl) in
-    let kept : HasKept g.V.Vault.state c.header.new.self (head_of chip) old.chip.bytes never 0 = subst (λ (h : Content). HasKept g.V.Vault.state c.header.new.self h old.chip.bytes never 0) head begun in
+    let begun = HasKept-none g.V.Vault.state c.header.new.self opening.found.id _ c.bytes.result opening.found.size old.chip.bytes none 0 (c.in_ok-header.ensures.written c.on-writer.ensures.nothing) (λ s. refl) in
+    let kept : HasPutSectors g.V.Vault.state c.header.new.self (head_of chip) old.chip.bytes none 0 = subst (λ (h : Content). HasPutSectors g.V.Vault.state c.header.new.self h old.chip.bytes none 0) head begun in
     begins_of g.V.Vault.state c.scan_all.new.writer c.args.request.now c.args.image.now opening.found.size chip old.chip.bytes (same_bytes chip old shows) is.config.size telling
     (c.in_err-scanned.ensures.begins (is_open chip opening old is shows) (head_of chip) (sym is.config.size) kept other) in
     let told : IfErr c.from_residual-in_err-scanned.result (KeepBegins c.args.request.now opening c.args.image.now old (vault_state g.V.Vault.state c.scan_all.new.writer))
@@ -101,8 +101,8 @@ returns-in_err-unlock-clause-begins g c =
     let open_now = is_open chip opening old is shows in
     let touched = touched_right c.args.request.now c.args.image.now opening chip old c.in_ok-scanned.scanned is shows (scans.right open_now) in
     let head = head_same chip opening c.bytes.result is (let small = (g.met.B.Bus.reaches c.args.bus.now shows.honest).kept2 in let same = shows.same.kept2 in omega arith) (grind (arith, common_steps)) in
-    let begun = HasKept-none g.V.Vault.state c.header.new.self opening.found.id _ c.bytes.result opening.found.size old.chip.bytes never 0 (c.in_ok-header.ensures.written c.on-writer.ensures.nothing) (λ s. refl) in
-    let kept : HasKept g.V.Vault.state c.header.new.self (head_of chip) old.chip.bytes never 0 = subst (λ (h : Content). HasKept g.V.Vault.state c.header.new.self h old.chip.bytes never 0) head begun in
+    let begun = HasKept-none g.V.Vault.state c.header.new.self opening.found.id _ c.bytes.result opening.found.size old.chip.bytes none 0 (c.in_ok-header.ensures.written c.on-writer.ensures.nothing) (λ s. refl) in
+    let kept : HasPutSectors g.V.Vault.state c.header.new.self (head_of chip) old.chip.bytes none 0 = subst (λ (h : Content). HasPutSectors g.V.Vault.state c.header.new.self h old.chip.bytes none 0) head begun in
     let scanned = c.in_ok-scanned.ensures.keeps open_now (head_of chip) (sym is.config.size) kept in
     let marked = kept_touched g.V.Vault.state c.scan_all.new.writer (head_of chip) old.chip.bytes chip.bytes (has c.in_ok-scanned.scanned.touched) (is_touched_by c.args.request.now c.args.image.now chip) (opening.found.size / 4096)
     (same_bytes chip old shows) touched scanned in

@@ -2,8 +2,8 @@ use Rattle.std.proofs.Common.{◌≡◌, ◌≤◌, ◌+◌, ◌-◌, ◌*◌, �
 use Rattle.std.specs.Prelude.{option_copied}
 use Rattle.nor_plan.specs.SectorSet.{has}
 use Rattle.nor_save.specs.Request.{scanned_sectors}
-use Rattle.nor_save.specs.Scanning.{never}
 use Rattle.nor_apply.proofs.Counting.{at_most_one}
+use Rattle.nor_apply.specs.Change.{none}
 use Rattle.nor_save.proofs.Rests.{tells_stop}
 use Rattle.nor_save.proofs.Scans.{nothing_scanned, skipped, scanned_more, IsAt, is_at, looks_on, runs_out_at, all_scanned, HasScanned, none_to_scan}
 use Rattle.nor_save.proofs.Begun.{begun_later, begun_more, with_later, with_more, kept_below, unless_any, unless_refused, unless_any_err, unless_refused_err}
@@ -23,10 +23,10 @@ loop-sector-init g c = record {
   below = omega arith;
   scanned = nothing_scanned c.args.request.now c.args.size c.args.image.now (g.B.Bus.state c.args.bus.now) c.none-scanned.result c.none-scanned.ensures;
   kept = λ is_open head size kept.
-      kept_same g.V.Vault.state c.args.writer.now head (g.B.Bus.state c.args.bus.now).chip.bytes never (has c.none-scanned.result.touched) 0 c.none-scanned.ensures.touched kept;
+      kept_same g.V.Vault.state c.args.writer.now head (g.B.Bus.state c.args.bus.now).chip.bytes none (has c.none-scanned.result.touched) 0 c.none-scanned.ensures.touched kept;
   begun = λ begun. begun;
   saved = λ held.
-      with_later g.V.Vault.state c.args.writer.now c.args.size 0 0 never (has c.none-scanned.result.touched) (omega arith) c.none-scanned.ensures.touched held;
+      with_later g.V.Vault.state c.args.writer.now c.args.size 0 0 none (has c.none-scanned.result.touched) (omega arith) c.none-scanned.ensures.touched held;
 }
 
 pub loop-sector-preserved : goal.loop-sector-preserved
@@ -155,8 +155,8 @@ returns-clause-scans g c =
           (sym c.is_data.ensures ∙ w.if-is_data.true) (omega arith) here.few here.scanned
       | else-is_data w ↦
           none_to_scan c.args.request.now c.args.size c.args.image.now c.loop-sector.image old new c.loop-sector.scanned (sym c.is_data.ensures ∙ w.if-is_data.false) here.few
-          (let none : c.loop-sector.sector ≡ 0 = omega arith in
-          subst (λ (k : ℕ). HasScanned c.args.request.now c.args.size k c.args.image.now c.loop-sector.image old new c.loop-sector.scanned) none here.scanned)
+          (let at_first : c.loop-sector.sector ≡ 0 = omega arith in
+          subst (λ (k : ℕ). HasScanned c.args.request.now c.args.size k c.args.image.now c.loop-sector.image old new c.loop-sector.scanned) at_first here.scanned)
     ]
 
 pub returns-clause-keeps : goal.returns-clause-keeps

@@ -1,10 +1,11 @@
 use Rattle.std.proofs.Common.{◌≡◌, ◌<◌, ◌≤◌, ◌/◌, true}
 use Rattle.nor_journal.specs.Text.{Content}
 use Rattle.nor_journal.specs.Vault.{Accepted}
-use Rattle.nor_journal.specs.Writer.{vault_of, vault_state, HasKept}
+use Rattle.nor_journal.specs.Writer.{vault_of, vault_state, HasPutSectors}
 use Rattle.nor_plan.specs.SectorSet.{has}
+use Rattle.nor_apply.specs.Change.{none}
 use Rattle.nor_save.specs.Request.{is_data}
-use Rattle.nor_save.specs.Scanning.{HasBegun, HasBegunWith, IsOpen, never}
+use Rattle.nor_save.specs.Scanning.{HasBegun, HasBegunWith, IsOpen}
 use Rattle.nor_save.proofs.Scans.{HasScanned}
 use Rattle.nor_save.proofs.scanning.scan_all.Given as goal
 
@@ -18,9 +19,9 @@ invariant-loop-sector g l =
       few : l.scanned.count ≤ l.scanned.reads;
       below : l.scanned.reads ≤ l.sector;
       scanned : HasScanned l.request l.size l.sector l.fn.image l.image old now l.scanned;
-      kept : IsOpen l.size old → (head : Content) → head.size ≡ l.size → HasKept g.V.Vault.state l.fn.writer head old.chip.bytes never 0
-          → HasKept g.V.Vault.state l.writer head old.chip.bytes (has l.scanned.touched) l.sector;
+      kept : IsOpen l.size old → (head : Content) → head.size ≡ l.size → HasPutSectors g.V.Vault.state l.fn.writer head old.chip.bytes none 0
+          → HasPutSectors g.V.Vault.state l.writer head old.chip.bytes (has l.scanned.touched) l.sector;
       begun : HasBegun g.V.Vault.state l.fn.writer l.size 0 → HasBegun g.V.Vault.state l.writer l.size l.sector;
-      saved : HasBegunWith g.V.Vault.state l.fn.writer l.size 0 never
+      saved : HasBegunWith g.V.Vault.state l.fn.writer l.size 0 none
           → HasBegunWith g.V.Vault.state l.writer l.size l.sector (has l.scanned.touched);
     }

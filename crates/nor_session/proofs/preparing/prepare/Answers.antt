@@ -1,6 +1,7 @@
 use Rattle.std.proofs.Common.{◌+◌, length, rules, arith}
 use Rattle.std.proofs.lemmas.Grind.{common_steps}
 use Rattle.nor_save.specs.declared.refusal.Refusal.TheVariants.{StatusLocked}
+use Rattle.nor_save.specs.Opening.{most_opening}
 use Rattle.nor_session.specs.Preparing.{PrepareTells}
 use Rattle.nor_session.proofs.Changeable.{AreRead, shut_tells, prepared_all}
 use Rattle.nor_session.proofs.preparing.prepare.Goals as goal
@@ -17,8 +18,8 @@ returns-in_err-changes-clause-tells g c =
       small = λ honest. (g.met.B.Bus.reaches c.args.bus.now honest).kept2;
       scans = c.in_ok-scanned.ensures.scans;
     } in
-    let told : PrepareTells journal (65542 + length journal.saved) old new StatusLocked
-    = shut_tells journal c.in_ok-opening.opening c.in_ok-scanned.scanned (65542 + length journal.saved) old mid new read c.in_err-changes.ensures.tells in
+    let told : PrepareTells journal (most_opening + length journal.saved) old new StatusLocked
+    = shut_tells journal c.in_ok-opening.opening c.in_ok-scanned.scanned (most_opening + length journal.saved) old mid new read c.in_err-changes.ensures.tells in
     let locked = c.in_err-changes.ensures.locked in
     grind (arith, common_steps, told, locked)
 

@@ -2,7 +2,7 @@ use Rattle.std.proofs.Common.{rules, ◌∙◌, refl, sym}
 use Rattle.nor_save.proofs.Begun.{err_same}
 use Rattle.nor_journal.specs.MemVault.{held_by}
 use Rattle.nor_session.specs.Rehearsal.{IsRehearsalRefusal, IsNoHalt}
-use Rattle.nor_session.specs.Session.{Names}
+use Rattle.nor_session.specs.Session.{NamesAddress}
 use Rattle.nor_session.proofs.RehearsedSessions.{never_refused, refused_undo, undo_names, same_again, worn_all, are_restores, last_stop}
 use Rattle.nor_session.proofs.rehearsals.rehearse.Goals as goal
 
@@ -20,7 +20,7 @@ returns-in_err-restores-clause-always g c =
       counts = search rules;
       answers = err_same c.from_residual-in_err-restores.result refusal (IsRehearsalRefusal before after) c.from_residual-in_err-restores.ensures.1
           (refused_undo c.bytes.result.now before after mid refusal c.bytes.ensures refl sealed leaves.holds refuses);
-      names = err_same c.from_residual-in_err-restores.result refusal (Names after) c.from_residual-in_err-restores.ensures.1
+      names = err_same c.from_residual-in_err-restores.result refusal (NamesAddress after) c.from_residual-in_err-restores.ensures.1
           (undo_names c.bytes.result.now after mid refusal c.bytes.ensures sealed refuses);
     }
 

@@ -1,5 +1,6 @@
 use Rattle.std.proofs.Common.{arith}
 use Rattle.std.proofs.lemmas.Grind.{common_steps}
+use Rattle.nor_probe.specs.Found.{most_probe}
 use Rattle.nor_apply.proofs.CheckingLooks.{looks_then}
 use Rattle.nor_session.proofs.Reopened.{probe_tells}
 use Rattle.nor_session.proofs.reopening.open_of_kind.Goals as goal
@@ -12,8 +13,8 @@ returns-in_err-probed-clause-tells g c =
 
 pub returns-in_err-opening-clause-leaves : goal.returns-in_err-opening-clause-leaves
 returns-in_err-opening-clause-leaves g c =
-    looks_then 65540 2 (g.B.Bus.state c.args.bus.now) (g.B.Bus.state c.probe_counted.new.bus) (g.B.Bus.state c.read_on.new.bus) c.probe_counted.ensures.always.looks c.read_on.ensures.leaves
+    looks_then most_probe 2 (g.B.Bus.state c.args.bus.now) (g.B.Bus.state c.probe_counted.new.bus) (g.B.Bus.state c.read_on.new.bus) c.probe_counted.ensures.always.looks c.read_on.ensures.leaves
 
 pub returns-clause-leaves : goal.returns-clause-leaves
 returns-clause-leaves g c =
-    looks_then 65540 2 (g.B.Bus.state c.args.bus.now) (g.B.Bus.state c.probe_counted.new.bus) (g.B.Bus.state c.read_on.new.bus) c.probe_counted.ensures.always.looks c.read_on.ensures.leaves
+    looks_then most_probe 2 (g.B.Bus.state c.args.bus.now) (g.B.Bus.state c.probe_counted.new.bus) (g.B.Bus.state c.read_on.new.bus) c.probe_counted.ensures.always.looks c.read_on.ensures.leaves

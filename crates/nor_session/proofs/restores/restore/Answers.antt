@@ -2,8 +2,9 @@ use Rattle.std.proofs.Common.{◌+◌, ◌≡◌, true, length, rules, arith}
 use Rattle.nor_journal.specs.Saved.{is_saved}
 use Rattle.nor_save.proofs.Begun.{err_same}
 use Rattle.nor_save.specs.declared.refusal.Refusal.TheVariants.{Stopped}
+use Rattle.nor_save.specs.Opening.{most_opening}
 use Rattle.nor_session.specs.Bounds.{most_looked, most_of}
-use Rattle.nor_session.specs.Session.{HonestTells, NamesIn}
+use Rattle.nor_session.specs.Session.{HonestTells, NamesSector}
 use Rattle.nor_session.specs.Restore.{IsJudgedFirst, IsRestoreRefusal, RestoreTells}
 use Rattle.nor_session.proofs.Restoring.{AreChanged, looks_most, looks_spend, prepare_answers, prepare_gives_up, prepare_tells, looks_leave, looks_back, changed_spends, changed_leaves, changed_back, change_answers, change_not_judged, change_gives_up, change_tells, sum_fits, restored_bounded, restored_counted, restored_sparing, restored_done, restored_back}
 use Rattle.nor_session.proofs.GivenBack.{only_stopped}
@@ -14,7 +15,7 @@ use Rattle.nor_session.proofs.restores.restore.Goals as goal
 
 pub returns-in_err-prepared-clause-always : goal.returns-in_err-prepared-clause-always
 returns-in_err-prepared-clause-always g c =
-    let journal = c.args.journal.now in let most = 65542 + length journal.saved in
+    let journal = c.args.journal.now in let most = most_opening + length journal.saved in
     let old = g.B.Bus.state c.args.bus.now in let new = g.B.Bus.state c.prepare.new.bus in
     let refusal = c.in_err-prepared.field-0.0 in
     let room = c.prepare.ensures.room in
@@ -22,7 +23,7 @@ returns-in_err-prepared-clause-always g c =
       spends = looks_spend most (most_of (length journal.saved)) old new (omega arith) c.prepare.ensures.leaves;
       answers = err_same c.from_residual.result refusal IsRestoreRefusal c.from_residual.ensures.1
           (prepare_answers journal most old new refusal c.in_err-prepared.ensures.tells);
-      names = err_same c.from_residual.result refusal (NamesIn (λ sector. is_saved journal sector ≡ true)) c.from_residual.ensures.1
+      names = err_same c.from_residual.result refusal (NamesSector (λ sector. is_saved journal sector ≡ true)) c.from_residual.ensures.1
           (prepare_names journal most old new refusal c.in_err-prepared.ensures.tells);
       looks =
           let looks = looks_most most (most_looked 4096) old new (omega arith) c.prepare.ensures.leaves in
@@ -32,7 +33,7 @@ returns-in_err-prepared-clause-always g c =
 
 pub returns-in_err-prepared-clause-honest : goal.returns-in_err-prepared-clause-honest
 returns-in_err-prepared-clause-honest g c = λ honest.
-    let journal = c.args.journal.now in let most = 65542 + length journal.saved in
+    let journal = c.args.journal.now in let most = most_opening + length journal.saved in
     let old = g.B.Bus.state c.args.bus.now in let new = g.B.Bus.state c.prepare.new.bus in
     let refusal = c.in_err-prepared.field-0.0 in
     record {
@@ -43,7 +44,7 @@ returns-in_err-prepared-clause-honest g c = λ honest.
 
 pub returns-in_err-prepared-clause-modelled : goal.returns-in_err-prepared-clause-modelled
 returns-in_err-prepared-clause-modelled g c = λ modelled.
-    let journal = c.args.journal.now in let most = 65542 + length journal.saved in
+    let journal = c.args.journal.now in let most = most_opening + length journal.saved in
     let old = g.B.Bus.state c.args.bus.now in let new = g.B.Bus.state c.prepare.new.bus in
     let refusal = c.in_err-prepared.field-0.0 in
     let told = prepare_tells journal most old new refusal (omega arith) modelled c.in_err-prepared.ensures.tells in
@@ -71,7 +72,7 @@ returns-in_err-work-clause-always g c =
       spends = changed_spends journal prepared old mid new are;
       answers = err_same c.from_residual-in_err-work.result refusal IsRestoreRefusal c.from_residual-in_err-work.ensures.1
           (change_answers prepared.changes _ mid new refusal c.in_err-work.ensures.tells);
-      names = err_same c.from_residual-in_err-work.result refusal (NamesIn (λ sector. is_saved journal sector ≡ true)) c.from_residual-in_err-work.ensures.1
+      names = err_same c.from_residual-in_err-work.result refusal (NamesSector (λ sector. is_saved journal sector ≡ true)) c.from_residual-in_err-work.ensures.1
           (restore_names journal prepared.changes refusal are.is.saved c.in_err-work.ensures.names);
       looks =
           let told = change_not_judged prepared.changes _ mid new refusal c.in_err-work.ensures.tells in

@@ -1,6 +1,6 @@
 use Rattle.std.proofs.Common.{rules, ◌∙◌, sym, true≢false}
 use Rattle.nor_save.proofs.Begun.{err_same}
-use Rattle.nor_session.specs.Session.{Names}
+use Rattle.nor_session.specs.Session.{NamesAddress}
 use Rattle.nor_session.proofs.Naming.{judged_names}
 use Rattle.nor_session.proofs.sessions.session.Goals as goal
 
@@ -10,7 +10,7 @@ returns-in_err-code-clause-always g c = record {
   spends = search rules;
   holds = search rules;
   answers = search rules;
-  names = err_same c.from_residual-in_err-code.result c.in_err-code.field-0.0 (Names (g.V.Vault.state c.args.vault.now)) c.from_residual-in_err-code.ensures.1 (record {
+  names = err_same c.from_residual-in_err-code.result c.in_err-code.field-0.0 (NamesAddress (g.V.Vault.state c.args.vault.now)) c.from_residual-in_err-code.ensures.1 (record {
     early = λ unsealed. judged_names c.in_err-code.field-0.0 c.in_err-code.ensures.faults;
     late = λ sealed. absurd (true≢false (sym sealed ∙ c.requires.unsealed));
   });

@@ -3,7 +3,7 @@ use Rattle.std.proofs.lemmas.Iterator.Consumers.{YieldsList-at, YieldsList-turn,
 use Rattle.std.proofs.lemmas.Iterator.Splits.{YieldsList-from_slice_split}
 use Rattle.std.proofs.lemmas.List.{length_push}
 use Rattle.std.proofs.lemmas.Result.{err_from_is_err_and}
-use Rattle.nor_layout.specs.Text.{lines_of, with_line, layout_says, Reads}
+use Rattle.nor_layout.specs.Text.{lines_of, with_line, layout_says, ReadsLayout}
 use Rattle.nor_layout.specs.Steps.{Adds}
 use Rattle.nor_layout.proofs.Texts.{with_line-keeps, length-lines_of, lines_say-more, lines_say-all, no_lines, no_regions, gives_none, gives_more, asks_memory}
 use Rattle.nor_layout.proofs.TextLaws.{reads_fault, layout_says-found, reads_taken}
@@ -43,7 +43,7 @@ returns-in_err-add_line c =
     let p = err_from_is_err_and c.from_residual.result c.from_residual.ensures.1 in
     let fault = c.in_err-add_line.field-0.0 in
     let added : Adds c.loop-line.regions.items c.add_line.new.regions.items (Err fault) (with_line c.loop-line.regions.items (n + 1) line) = c.in_err-add_line.ensures in
-    let exact : Reads (Err fault) (layout_says c.args.text.now) = reads_fault c.loop-line.regions.items n lines line (layout_says c.args.text.now) (rw c.loop-line.invariant.counted turn.0) c.loop-line.invariant.same c.add_line.new.regions.items fault (rw here added) in
+    let exact : ReadsLayout (Err fault) (layout_says c.args.text.now) = reads_fault c.loop-line.regions.items n lines line (layout_says c.args.text.now) (rw c.loop-line.invariant.counted turn.0) c.loop-line.invariant.same c.add_line.new.regions.items fault (rw here added) in
     rw (p.1, p.2) (record { exact = exact; asks = asks_memory c.args.text.now n line c.loop-line.regions.items c.add_line.new.regions.items fault (rw c.loop-line.invariant.counted turn.0) c.loop-line.invariant.read (rw here added); found = tt; taken = reads_taken c.args.text.now (Err fault) exact })
 
 pub returns : goal.returns

@@ -8,7 +8,7 @@ use Rattle.nor_save.specs.declared.refusal.Refusal.TheVariants.{Vault}
 use Rattle.nor_save.proofs.Rests.{looks_then}
 use Rattle.nor_save.proofs.Begun.{err_same}
 use Rattle.nor_session.specs.Bounds.{most_looked, most_of}
-use Rattle.nor_session.specs.Session.{CanBeUndone, Names}
+use Rattle.nor_session.specs.Session.{CanBeUndone, NamesAddress}
 use Rattle.nor_session.proofs.Ready.{changes_of, has_opened, ready, scanned_few, spends_looks, spends_more, spends_ready, bounded, touched_data}
 use Rattle.nor_session.proofs.ReadyChip.{small_first, is_opening, shows, falls_sized, not_sealed, keep_gives_up, keep_tells}
 use Rattle.nor_session.proofs.SessionChanges.{change_gives_up, change_tells}
@@ -46,7 +46,7 @@ returns-in_err-kept g c = λ first looks opens.
         spends = spends_looks (most_looked 4096) (most_of 4096) first new (omega arith) looked_on;
         holds = search rules;
         answers = search rules;
-        names = err_same c.from_residual.result refusal (Names vault') c.from_residual.ensures.1 (record {
+        names = err_same c.from_residual.result refusal (NamesAddress vault') c.from_residual.ensures.1 (record {
           early = λ open_vault. keep_names request opening code image mid new refusal c.in_err-kept.ensures.tells;
           late = λ sealed. absurd (true≢false (sym sealed ∙ unsealed));
         });
@@ -92,7 +92,7 @@ returns-in_err-work g c = λ first looks opens.
         spends = spends_more (most_of (scanned_sectors request opening.found.size)) (most_of 4096) first new (omega arith) spends;
         holds = search rules;
         answers = search rules;
-        names = err_same c.from_residual-in_err-work.result refusal (Names vault') c.from_residual-in_err-work.ensures.1
+        names = err_same c.from_residual-in_err-work.result refusal (NamesAddress vault') c.from_residual-in_err-work.ensures.1
             (work_names (changes_of opening kept c.status.result code) vault' refusal (search rules) c.in_ok-kept.ensures.saves c.in_err-work.ensures.names);
         ends = search rules;
       };

@@ -1,6 +1,6 @@
 use Rattle.std.proofs.Common.{◌∙◌, Some, None, ap, codes, option_map, sym}
 use Rattle.std.specs.Prelude.{option_and_then}
-use Rattle.nor_words.specs.Numbers.{byte_of, number_of, polls_of, unique_of}
+use Rattle.nor_words.specs.Numbers.{byte_number, decimal_number, polls_of, unique_number}
 use Rattle.nor_words.specs.Programmer.{are_settings, chip_named}
 use Rattle.nor_words.specs.Text.{Text, pieces_of}
 use Rattle.nor_words.proofs.Begins.{and_then-read, is_programmer-other, is_programmer-sound, is_programmer-unnamed, is_programmer-unsound, said-found, stripped}
@@ -39,8 +39,8 @@ returns c =
       image = said-found c.args.text.now c.in_ok-listed.listed.now (codes "image") c.find_value-2.result begins.1 c.find_value-2.ensures;
       status = said-found c.args.text.now c.in_ok-listed.listed.now (codes "status") c.find_value-3.result begins.1 c.find_value-3.ensures;
       trace = said-found c.args.text.now c.in_ok-listed.listed.now (codes "trace") c.find_value-4.result begins.1 c.find_value-4.ensures;
-      stop = ap (option_and_then number_of) (said-found c.args.text.now c.in_ok-listed.listed.now (codes "stop") c.find_value-5.result begins.1 c.find_value-5.ensures) ∙ and_then-read number_of c.find_value-5.result c.and_then.result c.and_then.ensures;
-      unique = ap (option_and_then unique_of) (said-found c.args.text.now c.in_ok-listed.listed.now (codes "unique") c.find_value-6.result begins.1 c.find_value-6.ensures) ∙ and_then-read unique_of c.find_value-6.result c.and_then-2.result c.and_then-2.ensures;
+      stop = ap (option_and_then decimal_number) (said-found c.args.text.now c.in_ok-listed.listed.now (codes "stop") c.find_value-5.result begins.1 c.find_value-5.ensures) ∙ and_then-read decimal_number c.find_value-5.result c.and_then.result c.and_then.ensures;
+      unique = ap (option_and_then unique_number) (said-found c.args.text.now c.in_ok-listed.listed.now (codes "unique") c.find_value-6.result begins.1 c.find_value-6.ensures) ∙ and_then-read unique_number c.find_value-6.result c.and_then-2.result c.and_then-2.ensures;
       busy = ap (option_and_then polls_of) (said-found c.args.text.now c.in_ok-listed.listed.now (codes "busy") c.find_value-7.result begins.1 c.find_value-7.ensures) ∙ and_then-read polls_of c.find_value-7.result c.and_then-3.result c.and_then-3.ensures;
-      power = ap (option_and_then byte_of) (said-found c.args.text.now c.in_ok-listed.listed.now (codes "power") c.find_value-8.result begins.1 c.find_value-8.ensures) ∙ and_then-read byte_of c.find_value-8.result c.and_then-4.result c.and_then-4.ensures;
+      power = ap (option_and_then byte_number) (said-found c.args.text.now c.in_ok-listed.listed.now (codes "power") c.find_value-8.result begins.1 c.find_value-8.ensures) ∙ and_then-read byte_number c.find_value-8.result c.and_then-4.result c.and_then-4.ensures;
     }
