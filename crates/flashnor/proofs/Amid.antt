@@ -9,7 +9,7 @@ use Rattle.std.proofs.lemmas.List.{length-append, length-drop, length-replicate,
 use Rattle.std.proofs.Math.Seq.{drop-nil}
 use Rattle.nor_chip.specs.Bus.{BusState}
 use Rattle.nor_chip.specs.Chip.{Chip, IsSame}
-use Rattle.nor_chip.specs.Start.{AreBytesOf, status_of}
+use Rattle.nor_chip.specs.Start.{AreChipBytes, status_of}
 use Rattle.nor_driver.specs.Looks.{IsCalm}
 use Rattle.nor_journal.specs.Text.{Content as Journal}
 use Rattle.nor_session.specs.Restore.{CanGiveBack}
@@ -74,7 +74,7 @@ each len missing bytes had has whole cut i =
 stood_length : (len : ℕ) (missing bytes had has : List ℕ) → length missing ≡ len → IsCutOff len missing bytes had has → length had ≡ len
 stood_length len missing bytes had has most cut = rw cut.stood (sized_or cut.found missing len cut.sized most)
 
-pub cut_off : (new : Chip) (bytes : List ℕ) (had has : Content) → AreBytesOf new bytes
+pub cut_off : (new : Chip) (bytes : List ℕ) (had has : Content) → AreChipBytes new bytes
     → IsCutOff new.config.size (replicate new.config.size 255) bytes had.bytes.items has.bytes.items
     → IsCutOff 2 (0 ∷ 0 ∷ []) (status_of new) had.status has.status → AreOver new had has
 cut_off new bytes had has are image status = record {
@@ -146,8 +146,8 @@ module _ (journal : Journal) (old new : BusState) where
   pub restored_over : (found : BusState) → IsSame old.chip found.chip → IsCalm found
       → ((first : Chip) → CanGiveBack journal first found → CanGiveBack journal first new) → (first : Chip) (opened : BusState)
       → CanGiveBack journal first old → IsWrittenOver old.chip new.chip opened.chip → CanGiveBack journal first opened
-  restored_over found same calm keeps first opened can over =
-      restore_over journal first old new opened can (keeps first (same_can journal first old found same calm can)) over
+  restored_over found same calm keeps_journal first opened can over =
+      restore_over journal first old new opened can (keeps_journal first (same_can journal first old found same calm can)) over
 
   pub unfound_over : IsSame old.chip new.chip → (first : Chip) (opened : BusState)
       → CanGiveBack journal first old → IsWrittenOver old.chip new.chip opened.chip → CanGiveBack journal first opened

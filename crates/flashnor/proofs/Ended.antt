@@ -22,7 +22,7 @@ use Rattle.flashnor.specs.Endings.{HasPrinted, PrintsAnswer, all_written}
 use Rattle.flashnor.specs.Events.{Happened}
 use Rattle.flashnor.specs.Requests.{FailsToInclude}
 use Rattle.flashnor.specs.Run.{AreLeft, DoesJob, EndsJob, FailsBefore, FailsJob, FailsToKeep, FailsToRead, AnswersWords, IsCalled, IsToldAs}
-use Rattle.flashnor.specs.Run.{IsStatus, Succeeds, changes_chip}
+use Rattle.flashnor.specs.Run.{IsStatus, Succeeds, puts_back}
 use Rattle.flashnor.proofs.Amid.{opened_over}
 use Rattle.flashnor.specs.declared.answers.Answer.{Answer}
 use Rattle.flashnor.specs.declared.answers.Answer.TheVariants as answer
@@ -91,7 +91,7 @@ module _ (happened : Happened) where
   called : (on_chip : ChipJob) (content : Content) (old new : BusState) (unwritten : Unwritten) (outcome : Result Answer Refusal)
       → IsContentOf happened on_chip.programmer content → OpensChip on_chip.programmer content old
       → (IsReady on_chip.programmer old → DoesJob happened on_chip.programmer on_chip.named on_chip.task old new outcome)
-      → AreLeft (changes_chip on_chip.task) happened on_chip.programmer new.chip unwritten
+      → AreLeft (puts_back on_chip.task) happened on_chip.programmer new.chip unwritten
       → new.chip.kept2 < 128 → OnSome unwritten.trace (unwritten.trace ≡ on_chip.programmer.trace)
       → IsCalled happened on_chip unwritten outcome
   called on_chip content old new unwritten outcome read opens does left small traced = record {
@@ -109,7 +109,7 @@ module _ (happened : Happened) where
   pub ends_called : (on_chip : ChipJob) (content : Content) (old new : BusState) (unwritten : Unwritten) (outcome : Result Answer Refusal)
       (told : Result Answer Fault) → IsContentOf happened on_chip.programmer content → OpensChip on_chip.programmer content old
       → (IsReady on_chip.programmer old → DoesJob happened on_chip.programmer on_chip.named on_chip.task old new outcome)
-      → AreLeft (changes_chip on_chip.task) happened on_chip.programmer new.chip unwritten
+      → AreLeft (puts_back on_chip.task) happened on_chip.programmer new.chip unwritten
       → new.chip.kept2 < 128 → OnSome unwritten.trace (unwritten.trace ≡ on_chip.programmer.trace) → IsToldAs outcome told
       → EndsJob happened on_chip unwritten told
   ends_called on_chip content old new unwritten (Ok found) told read opens does left small traced tells =

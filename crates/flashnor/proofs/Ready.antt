@@ -184,24 +184,24 @@ pub restores_done : (journal : Journal) (named : Option (Bor Text)) (old found n
     → Passes named old found → IsRestored journal found new report
     → ((first : Chip) → CanGiveBack journal first found → CanGiveBack journal first new)
     → HasRestored journal named old new (Ok (answer.Done report))
-restores_done journal named old found new report passes restored keeps = record {
+restores_done journal named old found new report passes restored keeps_journal = record {
   found = found;
   same = passes.same;
   name = passes.name;
   told = restored;
-  over = restored_over journal old new found passes.same passes.calm keeps;
+  over = restored_over journal old new found passes.same passes.calm keeps_journal;
 }
 
 pub restores_refused : (journal : Journal) (named : Option (Bor Text)) (old found new : BusState) (refusal : Refusal)
     → Passes named old found → RestoreTells journal found new refusal → (IsJudgedFirst refusal → Looks 69638 found new)
     → ((first : Chip) → CanGiveBack journal first found → CanGiveBack journal first new)
     → HasRestored journal named old new (Err refusal)
-restores_refused journal named old found new refusal passes tells looks keeps = record {
+restores_refused journal named old found new refusal passes tells looks keeps_journal = record {
   found = found;
   same = passes.same;
   name = tt;
   told = inl (record { refuses = tells; same = λ judged. looked_same 69638 found new (looks judged) passes.modelled.honest passes.calm });
-  over = restored_over journal old new found passes.same passes.calm keeps;
+  over = restored_over journal old new found passes.same passes.calm keeps_journal;
 }
 
 pub restores_unfound : (journal : Journal) (named : Option (Bor Text)) (old new : BusState) (refusal : Refusal)

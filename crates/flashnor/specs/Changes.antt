@@ -36,7 +36,7 @@ use Rattle.flashnor.specs.declared.answers.Answer.TheVariants as answer
 -- ---- sessions
 
 -- the chip is the one that the request wants
-abbrev pub TellsDone : Request → List ℕ → BusState → BusState → Answer → Type 0
+abbrev pub TellsDone : Request → List ℕ → (old new : BusState) → Answer → Type 0
 TellsDone request image old new (answer.Done report) = IsDone request image old new report
 TellsDone request image old new _ = ⊥
 
@@ -86,7 +86,7 @@ pub record IsRehearsed (request : Request) (image stops : List ℕ) (chip : Chip
   pub restores : rehearsal.sealed ≡ true
       → AreRestores (sector_count (is_touched_by request image chip)) (drop 1 stops) rehearsal.restores
 
-abbrev pub TellsRehearsed : Request → List ℕ → List ℕ → Chip → VaultState → Answer → Type 0
+abbrev pub TellsRehearsed : Request → (image stops : List ℕ) → Chip → VaultState → Answer → Type 0
 TellsRehearsed request image stops chip vault (answer.Rehearsed rehearsal) =
     IsRehearsed request image stops chip vault rehearsal
 TellsRehearsed request image stops chip vault _ = ⊥
@@ -104,8 +104,8 @@ IsVaultOf happened (keeping.Journal file) vault = happened (Made file.now vault)
 IsVaultOf happened (keeping.Rehearse stops) vault = vault.telling ≡ true
 
 -- what a change came to, whose vault starts and ends so
-abbrev pub HasDone : Request → List ℕ → Keeping → BusState → BusState → VaultState
-    → VaultState → Result Answer Refusal → Type 0
+abbrev pub HasDone : Request → List ℕ → Keeping → (old new : BusState) → (vault vault' : VaultState)
+    → Result Answer Refusal → Type 0
 HasDone request image (keeping.Journal file) old new vault vault' outcome =
     HasKeptChange request image old new vault vault' outcome
 HasDone request image (keeping.Rehearse stops) old new vault vault' outcome =
@@ -123,12 +123,12 @@ pub record HasMadeChange (happened : Happened) (request : Request) (image : List
 -- ---- restores
 
 -- the chip is what the journal wants
-abbrev pub TellsRestored : Journal → BusState → BusState → Answer → Type 0
+abbrev pub TellsRestored : Journal → (old new : BusState) → Answer → Type 0
 TellsRestored journal old new (answer.Done report) = IsRestored journal old new report
 TellsRestored journal old new _ = ⊥
 
 -- a probe refused, for the name or before
-abbrev pub ProbeRefuses : Option (Bor Text) → BusState → BusState → Refusal → Type 0
+abbrev pub ProbeRefuses : Option (Bor Text) → (old new : BusState) → Refusal → Type 0
 ProbeRefuses named old new refusal =
     (fault : ProbeFault) × (refusal ≡ of_probe fault) × Tells (wanted_name named) old new fault
 

@@ -4,7 +4,7 @@ use Rattle.std.specs.Prelude.{is_none, replicate, slice_index, unwrap_or}
 use Rattle.std.specs.Borrow.{Bor}
 use Rattle.nor_chip.specs.Bus.{BusState}
 use Rattle.nor_chip.specs.Chip.{Chip}
-use Rattle.nor_chip.specs.Start.{AreBytesOf, status_of}
+use Rattle.nor_chip.specs.Start.{AreChipBytes, status_of}
 use Rattle.nor_chip.specs.declared.config.Config.{Config}
 use Rattle.nor_save.specs.declared.refusal.Refusal.TheVariants.{Memory}
 use Rattle.nor_words.specs.Programmer.{IsConfigOfEmulated}
@@ -77,5 +77,5 @@ FailsToOpen happened programmer fault = (fault ≡ end.Refused Memory)
 -- these.
 pub record ArePutBack (happened : Happened) (programmer : Programmer) (chip : Chip)
     (image status : Option (Bor Text)) : Type 0 where
-  pub image_put : IsPutBack happened programmer.image (AreBytesOf chip) image
+  pub image_put : IsPutBack happened programmer.image (AreChipBytes chip) image
   pub status_put : IsPutBack happened programmer.status (λ bytes. bytes ≡ status_of chip) status

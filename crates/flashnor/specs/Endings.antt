@@ -21,7 +21,7 @@ abbrev pub all_written : Unwritten
 all_written = record { image = None; status = None; trace = None }
 
 -- what a writer holds, where that is known, grew by one of these texts
-abbrev pub Prints : (List ℕ → Type 0) → Option (List ℕ) → Option (List ℕ) → Type 0
+abbrev pub Prints : (List ℕ → Type 0) → (old new : Option (List ℕ)) → Type 0
 Prints IsText old new = (text : List ℕ) × IsText text × Appends old new text
 
 -- a run has no fault before its files are written back: it came to an answer, or the words ask for help
@@ -31,7 +31,7 @@ IsAnswered (Err (end.Usage (usage.Words error))) = kind_of error ≡ kind.Displa
 IsAnswered (Err fault) = ⊥
 
 -- the lines of the answer were printed; of help, which is the parser's, no text is known
-abbrev pub PrintsAnswer : Result Answer Fault → Option (List ℕ) → Option (List ℕ) → Type 0
+abbrev pub PrintsAnswer : Result Answer Fault → (old new : Option (List ℕ)) → Type 0
 PrintsAnswer (Ok found) old new = Prints (AreLines found) old new
 PrintsAnswer outcome old new = IsAnswered outcome
 

@@ -8,7 +8,7 @@ line [] = codes "\n"
 line (piece ∷ pieces) = piece ++ line pieces
 
 -- a number in hexadecimal digits, small letters: at least so many, with zeros in front
-abbrev pub hex_digits : ℕ → ℕ → List ℕ
+abbrev pub hex_digits : (width number : ℕ) → List ℕ
 hex_digits width number = replicate (width - length (digits 16 false number)) 48 ++ digits 16 false number
 
 -- the three bytes of an ID, two digits each

@@ -78,7 +78,7 @@ pub record HasTold (tells : Protection → Answer → Type 0) (named : Option (B
   pub told : AnswersCall tells result outcome
 
 -- The chip was found, or not, and only looked at.
-pub record HasProbed (tells : Answer → Type 0) (programmer : Programmer) (named : Option (Bor Text))
+pub record HasLookedUp (tells : Answer → Type 0) (programmer : Programmer) (named : Option (Bor Text))
     (old new : BusState) (outcome : Result Answer Refusal) : Type 0 where
   pub looks : Looks most_probe old new
   pub told : MatchResult outcome tells (FindRefuses programmer named)

@@ -32,7 +32,7 @@ use Rattle.flashnor.specs.Chips.{ArePutBack, FailsToOpen, IsContentOf, OpensChip
 use Rattle.flashnor.specs.Endings.{HasPrinted, Prints, all_written}
 use Rattle.flashnor.specs.Events.{Happened, IsRead}
 use Rattle.flashnor.specs.Files.{IsLogging, IsMaking, IsMakingNew, IsReadingFault}
-use Rattle.flashnor.specs.Readings.{HasProbed, HasReadOut, HasTold, HasVerified, ListsRanges, TellsFound, TellsGuarded, TellsSize}
+use Rattle.flashnor.specs.Readings.{HasLookedUp, HasReadOut, HasTold, HasVerified, ListsRanges, TellsFound, TellsGuarded, TellsSize}
 use Rattle.flashnor.specs.Requests.{AreRangesOf, FailsToInclude, IsBufferOf, request_for}
 use Rattle.flashnor.specs.WrittenOver.{OpensAmid}
 use Rattle.flashnor.specs.declared.answers.Answer.{Answer}
@@ -46,9 +46,9 @@ use Rattle.flashnor.specs.declared.printing.Ending.{Ending}
 -- ---- calls
 
 -- the journal of a change is kept, in a file
-abbrev pub keeps : Keeping → Bool
-keeps (keeping.Journal file) = true
-keeps (keeping.Rehearse stops) = false
+abbrev pub keeps_journal : Keeping → Bool
+keeps_journal (keeping.Journal file) = true
+keeps_journal (keeping.Rehearse stops) = false
 
 -- A change was asked for, in the ranges of the regions and with the image.
 pub record ChangesChip (happened : Happened) (chip : Emulated) (named : Option (Bor Text)) (change : Change)
@@ -85,12 +85,12 @@ pub record DoesRestore (happened : Happened) (named : Option (Bor Text)) (file :
   pub restored : HasRestored journal named old new outcome
 
 -- what the call for a task came to, on a bus to the programmer's chip
-abbrev pub DoesJob : Happened → Programmer → Option (Bor Text) → Task
-    → BusState → BusState → Result Answer Refusal → Type 0
+abbrev pub DoesJob : Happened → Programmer → Option (Bor Text) → Task → (old new : BusState) → Result Answer Refusal
+    → Type 0
 DoesJob happened programmer named task.Probe old new outcome =
-    HasProbed (TellsFound programmer named) programmer named old new outcome
+    HasLookedUp (TellsFound programmer named) programmer named old new outcome
 DoesJob happened programmer named task.FlashSize old new outcome =
-    HasProbed (TellsSize programmer named) programmer named old new outcome
+    HasLookedUp (TellsSize programmer named) programmer named old new outcome
 DoesJob happened programmer named task.WpStatus old new outcome =
     HasTold TellsGuarded named old new outcome
 DoesJob happened programmer named task.WpList old new outcome = HasTold ListsRanges named old new outcome
@@ -104,10 +104,10 @@ DoesJob happened programmer named (task.Restore journal) old new outcome =
     DoesRestore happened named journal.now old new outcome
 
 -- after the call the chip is written into its files: it was changed, and that was no rehearsal
-abbrev pub changes_chip : Task → Bool
-changes_chip (task.Change change) = keeps change.keeping
-changes_chip (task.Restore journal) = true
-changes_chip _ = false
+abbrev pub puts_back : Task → Bool
+puts_back (task.Change change) = keeps_journal change.keeping
+puts_back (task.Restore journal) = true
+puts_back _ = false
 
 -- where the task changes the chip, it was put back into its files, and the names of those that couldn't be written are
 -- these; else none was to be written
@@ -126,7 +126,7 @@ pub record IsCalled (happened : Happened) (job : ChipJob) (unwritten : Unwritten
   pub new : BusState
   pub opened : OpensChip job.programmer content old
   pub does : DoesJob happened job.programmer job.named job.task old new outcome
-  pub left : AreLeft (changes_chip job.task) happened job.programmer new.chip unwritten
+  pub left : AreLeft (puts_back job.task) happened job.programmer new.chip unwritten
   pub over : (opened : BusState) → OpensAmid content old.chip new.chip opened
       → IsWrittenOver old.chip new.chip opened.chip
   pub traced : OnSome unwritten.trace (unwritten.trace ≡ job.programmer.trace)
@@ -197,7 +197,7 @@ AnswersWords happened words outcome unwritten =
 
 -- A run without a fault: the words ask for help; or for a job, which was done, each file was written, and to standard
 -- output went the lines of just this answer.
-abbrev pub Succeeds : Happened → List Text → Option (List ℕ) → Option (List ℕ) → Type 0
+abbrev pub Succeeds : Happened → List Text → (out out' : Option (List ℕ)) → Type 0
 Succeeds happened words out out' = IsAmong kind.DisplayHelp (refusals_of words)
     ⊎ ((found : Answer) × AnswersWords happened words (Ok found) all_written × Prints (AreLines found) out out')
 

@@ -22,7 +22,7 @@ pub record IsCutOff (len : ℕ) (missing bytes had has : List ℕ) : Type 0 wher
   pub whole : length has ≡ len
 
 -- a number is this one or that one
-abbrev pub IsEither : ℕ → ℕ → ℕ → Type 0
+abbrev pub IsEither : (number one other : ℕ) → Type 0
 IsEither number one other = (number ≡ one) ⊎ (number ≡ other)
 
 -- Each byte of the chip's files is the one that they had or the new chip's, in whatever order these got there.

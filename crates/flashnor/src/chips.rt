@@ -2,7 +2,7 @@
 ghost use Rattle.std.specs.Prelude.{◌≡◌, ◌∷◌, [], ℕ, List, IfOk, IfErr, IfSome, IsSomeAnd, option_map, replicate};
 ghost use Rattle.std.specs.Prelude.{unwrap_or, vec_len};
 ghost use Rattle.nor_chip.specs.Chip.{Chip};
-ghost use Rattle.nor_chip.specs.Start.{AreBytesOf, status_of};
+ghost use Rattle.nor_chip.specs.Start.{AreChipBytes, status_of};
 ghost use Rattle.nor_chip.specs.Sim.{fill_of, pace_of};
 ghost use Rattle.flashnor.specs.Chips.{ArePutBack, FailsToOpen, HoldsFiles, IsConfigWith, IsContentOf, OpensChip};
 ghost use Rattle.flashnor.specs.Events.{AreOfFile, IsFileFound, IsPutBack};
@@ -94,7 +94,7 @@ fn read_whole<'a, R: Store>(
 /// have as many as a later run asks for. A file that wasn't there before counts as an erased chip's, or as clear status
 /// bytes.
 pub fn cut_off_anywhere()
-    ensures { (new : Chip) (bytes : List ℕ) (had has : Content) → AreBytesOf new bytes
+    ensures { (new : Chip) (bytes : List ℕ) (had has : Content) → AreChipBytes new bytes
         → IsCutOff new.config.size (replicate new.config.size 255) bytes had.bytes.items has.bytes.items
         → IsCutOff 2 (0 ∷ 0 ∷ []) (status_of new) had.status has.status → AreOver new had has }
 {}

@@ -81,18 +81,18 @@ fn unread(name: &str) -> Fault<'_>
 }
 
 /// A vault in the file of this name, which is made or emptied.
-pub fn empty<'a, R: Store>(rt: &R, name: &'a str) -> Result<R::Kept, Fault<'a>>
+pub fn empty<'a, R: Store>(rt: &R, name: &'a str) -> Result<R::Filed, Fault<'a>>
     ensures ok { IfOk result
-        (λ vault. IsFresh (R.Kept.state vault) × R.happened rt.now (Emptied name.now (R.Kept.state vault))) }
+        (λ vault. IsFresh (R.Filed.state vault) × R.happened rt.now (Emptied name.now (R.Filed.state vault))) }
     ensures err { IfErr result (IsMaking (R.happened rt.now) name.now) }
 {
     rt.vault_in(name).map_err(|_| unmade(name))
 }
 
 /// A vault in the file of this name, which wasn't there before.
-pub fn make<'a, R: Store>(rt: &R, name: &'a str) -> Result<R::Kept, Fault<'a>>
+pub fn make<'a, R: Store>(rt: &R, name: &'a str) -> Result<R::Filed, Fault<'a>>
     ensures ok { IfOk result
-        (λ vault. IsFresh (R.Kept.state vault) × R.happened rt.now (Made name.now (R.Kept.state vault))) }
+        (λ vault. IsFresh (R.Filed.state vault) × R.happened rt.now (Made name.now (R.Filed.state vault))) }
     ensures err { IfErr result (IsMakingNew (R.happened rt.now) name.now) }
 {
     let error = match rt.vault_in_new(name) {

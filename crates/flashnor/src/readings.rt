@@ -7,7 +7,7 @@ ghost use Rattle.flashnor.specs.Changes.{ProbeRefuses};
 ghost use Rattle.flashnor.specs.Chips.{IsReady};
 ghost use Rattle.flashnor.specs.Files.{IsMaking, IsReadingFault};
 ghost use Rattle.flashnor.specs.Found.{IsEmulatedFound, wanted_name};
-ghost use Rattle.flashnor.specs.Readings.{FindRefuses, HasProbed, HasTold, ListsRanges, TellsFound, TellsGuarded, TellsSize};
+ghost use Rattle.flashnor.specs.Readings.{FindRefuses, HasLookedUp, HasTold, ListsRanges, TellsFound, TellsGuarded, TellsSize};
 ghost use Rattle.flashnor.specs.Requests.{FailsToInclude};
 ghost use Rattle.flashnor.specs.Run.{DoesRead, DoesVerify};
 
@@ -25,7 +25,7 @@ use nor_words::Regions;
 /// Finds the chip.
 pub fn find_chip<B: Bus>(bus: &mut B, named: Option<&str>) -> Outcome
     ensures { (programmer : Programmer) → IsReady programmer (B.state bus.old)
-        → HasProbed (TellsFound programmer named.entry) programmer named.entry
+        → HasLookedUp (TellsFound programmer named.entry) programmer named.entry
         (B.state bus.old) (B.state bus.new) result }
 {
     let found = find(bus, named)?;
@@ -35,7 +35,7 @@ pub fn find_chip<B: Bus>(bus: &mut B, named: Option<&str>) -> Outcome
 /// Tells the chip's size.
 pub fn tell_size<B: Bus>(bus: &mut B, named: Option<&str>) -> Outcome
     ensures { (programmer : Programmer) → IsReady programmer (B.state bus.old)
-        → HasProbed (TellsSize programmer named.entry) programmer named.entry
+        → HasLookedUp (TellsSize programmer named.entry) programmer named.entry
         (B.state bus.old) (B.state bus.new) result }
 {
     let found = find(bus, named)?;
@@ -46,7 +46,7 @@ pub fn tell_size<B: Bus>(bus: &mut B, named: Option<&str>) -> Outcome
 #[tactic(auto, using(crate::proofs::Ready::finds_ready))]
 pub fn find<B: Bus>(bus: &mut B, named: Option<&str>) -> Result<Found, Refusal>
     ensures looks { Looks most_probe (B.state bus.old) (B.state bus.new) }
-    ensures wanted_name { IfOk result (λ found. IsWanted (wanted_name named.entry) found.name) }
+    ensures wanted { IfOk result (λ found. IsWanted (wanted_name named.entry) found.name) }
     ensures finds { (B.state bus.old).honest ≡ true → IfOk result (Finds (B.state bus.old) (B.state bus.new)) }
     ensures refuses { (B.state bus.old).honest ≡ true
         → IfErr result (ProbeRefuses named.entry (B.state bus.old) (B.state bus.new)) }

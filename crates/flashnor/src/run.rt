@@ -4,7 +4,7 @@ ghost use Rattle.flashnor.specs.Chips.{IsReady, OpensChip};
 ghost use Rattle.flashnor.specs.Files.{IsLogging};
 ghost use Rattle.flashnor.specs.Events.{unseen};
 ghost use Rattle.flashnor.specs.Endings.{EndsWith, IsUnread, all_written};
-ghost use Rattle.flashnor.specs.Run.{AreLeft, DoesJob, EndsJob, FailsBefore, FailsJob, AnswersWords, IsStatus, IsToldAs, changes_chip};
+ghost use Rattle.flashnor.specs.Run.{AreLeft, DoesJob, EndsJob, FailsBefore, FailsJob, AnswersWords, IsStatus, IsToldAs, puts_back};
 
 use crate::answers::{Answer, Outcome};
 use crate::changes::{change_chip, restore_chip};
@@ -141,11 +141,11 @@ fn write_after<'a, R: Store>(
     bus: &SimBus,
     trace: Option<&'a str>,
 ) -> Unwritten<'a>
-    ensures left { AreLeft (changes_chip job.now.task) (R.happened rt.now) job.now.programmer
+    ensures left { AreLeft (puts_back job.now.task) (R.happened rt.now) job.now.programmer
         (⟦<SimBus as Bus>⟧.state bus.now).chip result }
     ensures trace { result.trace ≡ trace.entry }
 {
-    let (image, status) = if changes_chip(&job.task) {
+    let (image, status) = if puts_back(&job.task) {
         write_back(rt, &job.programmer, bus)
     } else {
         (None, None)
@@ -223,8 +223,8 @@ fn do_task<'a, R: Store, B: Meter>(
 }
 
 // After its call the chip is written into its files: the task changes it, and isn't a rehearsal.
-fn changes_chip(task: &Task<'_>) -> bool
-    ensures { result ≡ changes_chip task.now }
+fn puts_back(task: &Task<'_>) -> bool
+    ensures { result ≡ puts_back task.now }
 {
     match task {
         Task::Change(Change { keeping, .. }) => match keeping {

@@ -25,7 +25,7 @@ pub trait Store: AllocGlobal {
     ghost happened: { Self → FileEvent → Type 0 };
 
     /// A vault in a file.
-    type Kept: Vault + Drop;
+    type Filed: Vault + Drop;
 
     /// A file that is written in pieces.
     type Log: Write + Drop;
@@ -43,16 +43,16 @@ pub trait Store: AllocGlobal {
         ensures failed { OnErr result (FailsOver (happened self.now) name.now bytes.now) };
 
     /// A vault in the file of this name, which is made or emptied.
-    fn vault_in(&self, name: &str) -> io::Result<Self::Kept>
+    fn vault_in(&self, name: &str) -> io::Result<Self::Filed>
         ensures emptied { IfOk result (λ vault.
-            IsFresh (Self.Kept.state vault) × happened self.now (Emptied name.now (Self.Kept.state vault))) }
+            IsFresh (Self.Filed.state vault) × happened self.now (Emptied name.now (Self.Filed.state vault))) }
         ensures unmade { OnErr result (happened self.now (Unmade name.now)) };
 
     /// A vault in the file of this name, which is made, and wasn't there before; and stays there, whatever becomes of
     /// the machine.
-    fn vault_in_new(&self, name: &str) -> io::Result<Self::Kept>
+    fn vault_in_new(&self, name: &str) -> io::Result<Self::Filed>
         ensures made { IfOk result (λ vault.
-            IsFresh (Self.Kept.state vault) × happened self.now (Made name.now (Self.Kept.state vault))) }
+            IsFresh (Self.Filed.state vault) × happened self.now (Made name.now (Self.Filed.state vault))) }
         ensures unmade { IfErr result (λ error. FailsNew (happened self.now) name.now (error_kind error)) };
 
     /// The file of this name, which is made or emptied.
@@ -75,7 +75,7 @@ impl<R: AllocGlobal> Alloc for Disk<'_, R> {
 impl<R: Files + AllocGlobal> Store for Disk<'_, R> {
     ghost happened = { λ _. unseen };
 
-    type Kept = FileVault<R::File>;
+    type Filed = FileVault<R::File>;
 
     type Log = R::File;
 

@@ -59,7 +59,10 @@ open_of false locked is = absurd (true≢false (sym is))
 pub can_write : (changes : Changes) (wanted : ℕ → ℕ) (old new : BusState) → CanApply changes wanted old.chip → KeepsFixed old.chip new.chip → new.chip.busy ≡ 0
     → is_writable old.chip ≡ true → CanWriteStatus changes.status new.chip
 can_write changes wanted old new can fixed idle writable =
-    let one = can.kept.one in let two = can.kept.two in let same_one = fixed.one in let same_two = fixed.two in
+    let one : changes.status.one.0 / 4 ≡ old.chip.kept1 = can.kept.one in
+    let two : changes.status.two.0 % 128 ≡ old.chip.kept2 = can.kept.two in
+    let same_one = fixed.one in
+    let same_two = fixed.two in
     record {
       idle = idle;
       open_to = locked_same old.chip new.chip fixed ∙ open_of old.chip.config.scheme (is_locked old.chip) writable;
@@ -82,7 +85,8 @@ zero_code chip has = let low = has.low in let high = has.high in omega (arith, l
 -- the code that was read is the chip's
 has_read : (changes : Changes) (wanted : ℕ → ℕ) (chip : Chip) → CanApply changes wanted chip → HasCode (code_in (bytes_of changes.status)) chip
 has_read changes wanted chip can =
-    let one = can.kept.one in let two = can.kept.two in
+    let one : changes.status.one.0 / 4 ≡ chip.kept1 = can.kept.one in
+    let two : changes.status.two.0 % 128 ≡ chip.kept2 = can.kept.two in
     record { low = omega (arith, one); high = omega (arith, two) }
 
 still_lifted : (changes : Changes) (wanted : ℕ → ℕ) (old : BusState) → changes.unlock ≡ false → CanApply changes wanted old.chip → Lifted changes false old old

@@ -11,7 +11,7 @@ use Rattle.nor_apply.specs.declared.changes.Changes.{Changes}
 use Rattle.nor_apply.specs.declared.checks.CheckFault.{CheckFault}
 use Rattle.nor_apply.specs.declared.checks.CheckFault.TheVariants as Faults
 use Rattle.nor_apply.specs.Change.{only}
-use Rattle.nor_apply.specs.Spending.{NamesSector}
+use Rattle.nor_apply.specs.Spending.{NamesTimeoutIn}
 use Rattle.nor_apply.specs.Protecting.{HaltsWriting}
 use Rattle.nor_apply.specs.Checking.{NamesDifference}
 use Rattle.nor_apply.specs.Applying.{touched_in, raised_in, writes_code, NamesChange}
@@ -20,7 +20,7 @@ use Rattle.nor_apply.proofs.Alone.{only-is, only-here}
 
 -- the first sector of a unit is one that it erases
 pub names_unit : (kinds : Kinds) (size : ℕ) (set : ℕ → Bool) (units : List Erase) (unit : Erase) (halt : Halt)
-    → IsNext kinds size set units unit → NamesTimeout (4096 * unit.sector) halt → NamesSector set halt
+    → IsNext kinds size set units unit → NamesTimeout (4096 * unit.sector) halt → NamesTimeoutIn set halt
 names_unit kinds size set units unit Stopped next told = tt
 names_unit kinds size set units unit (Timeout address) next told =
     let some = next.plan.some in
@@ -30,7 +30,7 @@ names_unit kinds size set units unit (Timeout address) next told =
     ap set first ∙ next.plan.inside unit.sector erased
 
 -- a place of a sector
-pub names_place : (sector first : ℕ) (halt : Halt) → first < 4096 → NamesTimeout (4096 * sector + first) halt → NamesSector (only sector) halt
+pub names_place : (sector first : ℕ) (halt : Halt) → first < 4096 → NamesTimeout (4096 * sector + first) halt → NamesTimeoutIn (only sector) halt
 names_place sector first Stopped below told = tt
 names_place sector first (Timeout address) below told = only-here sector (address / 4096) (omega (arith, below, told))
 
@@ -38,7 +38,7 @@ pub differs_at : (sector first : ℕ) → first < 4096 → only sector ((4096 * 
 differs_at sector first below = only-here sector ((4096 * sector + first) / 4096) (omega (arith, below))
 
 -- a sector of a set
-pub names_member : (sector : ℕ) (set : ℕ → Bool) (halt : Halt) → set sector ≡ true → NamesSector (only sector) halt → NamesSector set halt
+pub names_member : (sector : ℕ) (set : ℕ → Bool) (halt : Halt) → set sector ≡ true → NamesTimeoutIn (only sector) halt → NamesTimeoutIn set halt
 names_member sector set Stopped is told = tt
 names_member sector set (Timeout address) is told = ap set (only-is sector (address / 4096) told) ∙ is
 
@@ -53,11 +53,11 @@ names_lifted changes Stopped told = tt
 names_lifted changes (Timeout address) told = inl (rw told.is (omega arith), told.names)
 
 pub names_raised : (changes : Changes) (halt : Halt) → ((s : ℕ) → raised_in changes s ≡ true → touched_in changes s ≡ true)
-    → NamesSector (raised_in changes) halt → NamesChange changes halt
+    → NamesTimeoutIn (raised_in changes) halt → NamesChange changes halt
 names_raised changes Stopped inside told = tt
 names_raised changes (Timeout address) inside told = inr (inside (address / 4096) told)
 
-pub names_touched : (changes : Changes) (halt : Halt) → NamesSector (touched_in changes) halt → NamesChange changes halt
+pub names_touched : (changes : Changes) (halt : Halt) → NamesTimeoutIn (touched_in changes) halt → NamesChange changes halt
 names_touched changes Stopped told = tt
 names_touched changes (Timeout address) told = inr told
 

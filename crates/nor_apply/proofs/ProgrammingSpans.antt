@@ -28,14 +28,14 @@ use Rattle.nor_apply.proofs.Alone.{only-here, only-is}
 use Rattle.nor_apply.proofs.Changing.{change_then}
 
 -- the places of a span have the wanted bytes
-abbrev pub IsMade : ℕ → List ℕ → (ℕ → ℕ) → Span → Type 0
-IsMade sector wanted content span = (k : ℕ) → span.first ≤ k → k ≤ span.last → content (4096 * sector + k) ≡ slice_index wanted k
+abbrev pub HasWanted : ℕ → List ℕ → (ℕ → ℕ) → Span → Type 0
+HasWanted sector wanted content span = (k : ℕ) → span.first ≤ k → k ≤ span.last → content (4096 * sector + k) ≡ slice_index wanted k
 
 -- These spans were programmed: their bytes are as wanted, and each byte is the old one, or in the sector the wanted one.
 pub record HasFilled (sector : ℕ) (wanted : List ℕ) (spans : List Span) (old new : BusState) : Type 0 where
   pub config : new.chip.config ≡ old.chip.config
   pub bytes : (a : ℕ) → (new.chip.bytes a ≡ old.chip.bytes a) ⊎ ((a / 4096 ≡ sector) × (new.chip.bytes a ≡ byte_of sector wanted a))
-  pub made : All (IsMade sector wanted new.chip.bytes) spans
+  pub made : All (HasWanted sector wanted new.chip.bytes) spans
   pub kept : KeptStay old.chip new.chip
   pub worn : (s : ℕ) → new.worn s ≡ old.worn s
   pub idle : new.chip.busy ≡ 0
@@ -183,7 +183,7 @@ span_filled sector old wanted spans span first now new spanned can filled progra
     record {
       config = programs.config ∙ filled.config;
       bytes = λ a. either_then sector wanted a _ _ _ (filled.bytes a) (either a);
-      made = All-push (IsMade sector wanted new.chip.bytes) spans span
+      made = All-push (HasWanted sector wanted new.chip.bytes) spans span
           (λ i d below k low high. still_made sector wanted k _ _ (filled.made i d below k low high) (either (4096 * sector + k)))
           (λ k low high. programs.bytes (4096 * sector + k) ∙ bytes.inside k low high);
       kept = kept_then first.chip now.chip new.chip filled.kept programs.kept;
@@ -277,11 +277,11 @@ span_may sector old wanted spans span first now new spanned can filled steadily 
 -- ---- the end
 
 -- what differs lies in a span, and is made
-differing_made : (sector : ℕ) (old wanted : List ℕ) (spans : List Span) (content : ℕ → ℕ) (k : ℕ) → AreSpans old wanted spans → All (IsMade sector wanted content) spans
+differing_made : (sector : ℕ) (old wanted : List ℕ) (spans : List Span) (content : ℕ → ℕ) (k : ℕ) → AreSpans old wanted spans → All (HasWanted sector wanted content) spans
     → DifferAt old wanted k → content (4096 * sector + k) ≡ slice_index wanted k
 differing_made sector old wanted spans content k are made differ =
     let found = are.complete k differ in
-    let is : IsMade sector wanted content found.1 = subst (IsMade sector wanted content) found.3 (made found.0 found.1 found.2) in
+    let is : HasWanted sector wanted content found.1 = subst (HasWanted sector wanted content) found.3 (made found.0 found.1 found.2) in
     is k found.4.0 found.4.1
 
 pub filled_all : (sector : ℕ) (old wanted : List ℕ) (spans : List Span) (first new : BusState) → length old ≡ 4096 → AreSpans old wanted spans

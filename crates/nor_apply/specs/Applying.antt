@@ -7,7 +7,7 @@ use Rattle.nor_chip.specs.Guard.{is_guarded}
 use Rattle.nor_chip.specs.Bus.{BusState}
 use Rattle.nor_driver.specs.declared.waits.Halt.{Halt}
 use Rattle.nor_driver.specs.declared.waits.Halt.TheVariants.{Stopped, Timeout}
-use Rattle.nor_driver.specs.StatusWrites.{KeepsFixed, HasCode}
+use Rattle.nor_driver.specs.StatusWrites.{KeepsFixed, HasCode, HasKeptBits}
 use Rattle.nor_driver.specs.Operations.{most_operation}
 use Rattle.nor_plan.specs.Planned.{planned}
 use Rattle.nor_plan.specs.SectorSet.{has}
@@ -36,11 +36,6 @@ writes_code changes = not ((if changes.unlock then 0 else code_in (bytes_of chan
 abbrev pub status_writes : Changes → ℕ
 status_writes changes = (if changes.unlock then 1 else 0) + (if writes_code changes then 1 else 0)
 
--- the status that was read has the kept bits of this chip
-pub record HasKeptBits (changes : Changes) (chip : Chip) : Type 0 where
-  pub one : changes.status.one.0 / 4 ≡ chip.kept1
-  pub two : changes.status.two.0 % 128 ≡ chip.kept2
-
 -- The changes can be made: the chip is idle, of this size and these erase kinds, and has the status that was read;
 -- the touched sectors lie inside it, and hold a guarded place only where protection is lifted first; the status is
 -- written only where it can be; what is wanted are bytes; in a touched
@@ -48,7 +43,7 @@ pub record HasKeptBits (changes : Changes) (chip : Chip) : Type 0 where
 pub record CanApply (changes : Changes) (wanted : ℕ → ℕ) (chip : Chip) : Type 0 where
   pub idle : chip.busy ≡ 0
   pub sized : IsSized changes.size changes.kinds chip
-  pub kept : HasKeptBits changes chip
+  pub kept : HasKeptBits (bytes_of changes.status) chip
   pub inside : (s : ℕ) → touched_in changes s ≡ true → 4096 * s + 4096 ≤ chip.config.size
   pub free : changes.unlock ≡ false → (a : ℕ) → touched_in changes (a / 4096) ≡ true → is_guarded chip a ≡ false
   pub writable : (changes.unlock || writes_code changes) ≡ true → is_writable chip ≡ true

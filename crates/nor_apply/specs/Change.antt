@@ -52,7 +52,7 @@ abbrev pub none : ℕ → Bool
 none s = false
 
 -- this sector alone
-abbrev pub only : ℕ → ℕ → Bool
+abbrev pub only : (sector s : ℕ) → Bool
 only sector s = s == sector
 
 -- the byte at an address, of a sector that has these bytes

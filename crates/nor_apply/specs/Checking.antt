@@ -27,7 +27,7 @@ pub record DoesChecks (sectors : ℕ → Bool) (wanted : ℕ → ℕ) (old new :
       → (a : ℕ) → sectors (a / 4096) ≡ true → old.chip.bytes a ≡ wanted a
 
 -- A check wasn't passed: the bus stopped, with fewer transactions than sectors, or this is the first difference.
-abbrev pub CheckTells : (ℕ → Bool) → (ℕ → ℕ) → BusState → BusState → CheckFault → Type 0
+abbrev pub CheckTells : (ℕ → Bool) → (ℕ → ℕ) → (old new : BusState) → CheckFault → Type 0
 CheckTells sectors wanted old new Stopped = RanOutIfHonest (sector_count sectors) old new
 CheckTells sectors wanted old new (Mismatch address) =
     old.honest ≡ true → CanCheck sectors old.chip → IsFirstMismatch sectors wanted old.chip.bytes address

@@ -58,7 +58,7 @@ pub record LoadsOk (sector : ℕ) (erased : Bool) (bytes bytes' : List ℕ) (rea
   pub told : erased ≡ false → old.honest ≡ true → old.chip.busy ≡ 0 → 4096 * (sector + 1) ≤ old.chip.config.size
       → IsSectorOf old.chip.bytes sector bytes'
 
-abbrev pub LoadEnds : ℕ → Bool → List ℕ → List ℕ → Result ℕ Stopped → BusState → BusState → Type 0
+abbrev pub LoadEnds : ℕ → Bool → (bytes bytes' : List ℕ) → Result ℕ Stopped → (old new : BusState) → Type 0
 LoadEnds sector erased bytes bytes' (Ok reads) old new = LoadsOk sector erased bytes bytes' reads old new
 LoadEnds sector erased bytes bytes' (Err stopped) old new = RanOutIfHonest 1 old new
 

@@ -14,15 +14,15 @@ pub record Spends (most : ℕ) (old new : BusState) : Type 0 where
   pub falls : old.honest ≡ true → Falls most old new
 
 -- A part halted. On an honest bus that is a stop, and there were fewer transactions than this. (A call that waits for
--- one address `Halts`, which also tells that address; a part waits for many, and `NamesSector` tells which.)
+-- one address `Halts`, which also tells that address; a part waits for many, and `NamesTimeoutIn` tells which.)
 pub record HaltsBelow (needed : ℕ) (old new : BusState) (halt : Halt) : Type 0 where
   pub stopped : old.honest ≡ true → halt ≡ Stopped
   pub ran_out : old.honest ≡ true → RanOut needed old new
 
 -- whatever the bus, a timeout names an address in one of these sectors
-abbrev pub NamesSector : (ℕ → Bool) → Halt → Type 0
-NamesSector sectors Stopped = ⊤
-NamesSector sectors (Timeout address) = sectors (address / 4096) ≡ true
+abbrev pub NamesTimeoutIn : (ℕ → Bool) → Halt → Type 0
+NamesTimeoutIn sectors Stopped = ⊤
+NamesTimeoutIn sectors (Timeout address) = sectors (address / 4096) ≡ true
 
 -- A part succeeded, after so many operations and beside at most so many readings. On an honest bus so many
 -- transactions fewer are left.

@@ -3,7 +3,7 @@ ghost use Rattle.std.specs.Prelude.{◌≡◌, ◌≤◌, ◌*◌, ◌/◌, IfOk
 ghost use Rattle.nor_driver.specs.Operations.{most_operation};
 ghost use Rattle.nor_plan.specs.SectorSet.{has, LiesBelow};
 ghost use Rattle.nor_apply.specs.Counts.{sector_count};
-ghost use Rattle.nor_apply.specs.Spending.{HaltsBelow, NamesSector};
+ghost use Rattle.nor_apply.specs.Spending.{HaltsBelow, NamesTimeoutIn};
 ghost use Rattle.nor_apply.specs.Erasing.{LeavesErases, DoesErases};
 
 use crate::tally::Tally;
@@ -25,7 +25,7 @@ pub fn erase_all<B: Bus>(
     ensures does { IfOk result (DoesErases (has raised.now) kinds size (B.state bus.old) (B.state bus.new)) }
     ensures halts { IfErr result
         (HaltsBelow (most_operation * sector_count (has raised.now)) (B.state bus.old) (B.state bus.new)) }
-    ensures names { IfErr result (NamesSector (has raised.now)) }
+    ensures names { IfErr result (NamesTimeoutIn (has raised.now)) }
 {
     let mut tally = Tally::NONE;
     for unit in erases(raised, kinds, size) {

@@ -2,7 +2,7 @@
 ghost use Rattle.std.specs.Prelude.{◌≡◌, ◌≤◌, ◌<◌, ◌*◌, ℕ, true, length, IfOk, IfErr, if◌then◌else◌};
 ghost use Rattle.nor_plan.specs.SectorSet.{has};
 ghost use Rattle.nor_apply.specs.Counts.{sector_count};
-ghost use Rattle.nor_apply.specs.Spending.{HaltsBelow, NamesSector};
+ghost use Rattle.nor_apply.specs.Spending.{HaltsBelow, NamesTimeoutIn};
 ghost use Rattle.nor_apply.specs.Change.{only};
 ghost use Rattle.nor_apply.specs.Programming.{LeavesSpans, DoesSpans, LeavesSector, DoesSector, LeavesPrograms, DoesPrograms, Loads, most_pages, most_sector};
 
@@ -27,7 +27,7 @@ pub fn program_all<B: Bus, S: Source>(
         (DoesPrograms (has touched.now) (has raised.now) (S.wanted source.now) (B.state bus.old) (B.state bus.new)) }
     ensures halts { IfErr result
         (HaltsBelow (most_sector * sector_count (has touched.now)) (B.state bus.old) (B.state bus.new)) }
-    ensures names { IfErr result (NamesSector (has touched.now)) }
+    ensures names { IfErr result (NamesTimeoutIn (has touched.now)) }
 {
     let mut tally = Tally::NONE;
     for sector in 0..MOST_SECTORS {
@@ -53,7 +53,7 @@ fn program_sector<B: Bus>(
     ensures leaves { LeavesSector sector wanted.now erased (B.state bus.old) (B.state bus.new) }
     ensures does { IfOk result (DoesSector sector wanted.now erased (B.state bus.old) (B.state bus.new)) }
     ensures halts { IfErr result (HaltsBelow most_sector (B.state bus.old) (B.state bus.new)) }
-    ensures names { IfErr result (NamesSector (only sector)) }
+    ensures names { IfErr result (NamesTimeoutIn (only sector)) }
 {
     let mut old = [0xFF; 4096];
     let reads = load(bus, sector, erased, &mut old)?;
@@ -85,7 +85,7 @@ fn program_spans<B: Bus>(bus: &mut B, sector: u32, old: &[u8], wanted: &[u8]) ->
     ensures leaves { LeavesSpans sector old.now wanted.now (B.state bus.old) (B.state bus.new) }
     ensures does { IfOk result (DoesSpans sector old.now wanted.now (B.state bus.old) (B.state bus.new)) }
     ensures halts { IfErr result (HaltsBelow most_pages (B.state bus.old) (B.state bus.new)) }
-    ensures names { IfErr result (NamesSector (only sector)) }
+    ensures names { IfErr result (NamesTimeoutIn (only sector)) }
 {
     let mut tally = Tally::NONE;
     for span in spans(old, wanted) {

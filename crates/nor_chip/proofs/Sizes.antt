@@ -79,7 +79,7 @@ is_some_power (suc count) first k n from before power = elim (cases_lt first k) 
 ]
 
 -- two tests of which each tells the other
-alike : (one other : Bool) → (one ≡ true → other ≡ true) → (other ≡ true → one ≡ true) → one ≡ other
+pub alike : (one other : Bool) → (one ≡ true → other ≡ true) → (other ≡ true → one ≡ true) → one ≡ other
 alike true other tells told = sym (tells refl)
 alike false true tells told = told refl
 alike false false tells told = refl

@@ -3,12 +3,12 @@ use Rattle.std.specs.Prelude.{◌≡◌, ◌/◌, ◌+◌, ◌==◌, ◌&&◌, �
 use Rattle.nor_chip.specs.Step.{last_for, lowered}
 
 -- the page that holds `at` is programmed with the bytes sent, and all else stays
-abbrev pub HasPageProgrammed : ℕ → List ℕ → List ℕ → List ℕ → Type 0
+abbrev pub HasPageProgrammed : ℕ → (sent old new : List ℕ) → Type 0
 HasPageProgrammed at sent old new =
     (a : ℕ) → slice_index new a
     ≡ (if a / 256 == at / 256 then lowered (slice_index old a) (last_for at sent a) else slice_index old a)
 
 -- so many places from `start` on are this byte, and all else stays
-abbrev pub IsFilled : ℕ → ℕ → ℕ → List ℕ → List ℕ → Type 0
+abbrev pub IsFilled : (byte start len : ℕ) → (old new : List ℕ) → Type 0
 IsFilled byte start len old new =
     (a : ℕ) → slice_index new a ≡ (if nat_le start a && nat_lt a (start + len) then byte else slice_index old a)

@@ -3,7 +3,7 @@ use Rattle.std.specs.Prelude.{ℕ, List, [], ◌∷◌}
 
 -- The header, one parameter header and the double words 1 to 9 of the basic flash parameter table. The chips differ in
 -- the second double word, the size in bits less one, of which these are the bytes, the low one first.
-abbrev pub sfdp_of : ℕ → ℕ → ℕ → ℕ → List ℕ
+abbrev pub sfdp_of : (size0 size1 size2 size3 : ℕ) → List ℕ
 sfdp_of size0 size1 size2 size3 =
     -- the signature, revision 1.0, one parameter header
     0x53 ∷ 0x46 ∷ 0x44 ∷ 0x50 ∷ 0x00 ∷ 0x01 ∷ 0x00 ∷ 0xFF

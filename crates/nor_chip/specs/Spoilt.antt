@@ -61,7 +61,7 @@ pub record IsPassedOn (byte_for : ℕ → ℕ) (out answer : List ℕ) (old new 
   pub inner : old.honest ≡ true → Carries out replied old new
 
 -- The bus inside took the transaction, or stopped it, and then an honest one left the reply as it was.
-abbrev pub GoesThrough : (ℕ → ℕ) → List ℕ → List ℕ → List ℕ → Result Unit Stopped → BusState → BusState → Type 0
+abbrev pub GoesThrough : (ℕ → ℕ) → (out asked answer : List ℕ) → Result Unit Stopped → (old new : BusState) → Type 0
 GoesThrough byte_for out asked answer (Ok done) old new = IsPassedOn byte_for out answer old new
 GoesThrough byte_for out asked answer (Err stopped) old new = old.honest ≡ true → (answer ≡ asked) × Stops old new
 

@@ -24,7 +24,7 @@ pub record Starts (setup : Config) (image flags : List ℕ) (delays : Delays) (s
   pub steady : state.steady ≡ true
 
 -- the bytes of a chip as a list
-pub record AreBytesOf (chip : Chip) (bytes : List ℕ) : Type 0 where
+pub record AreChipBytes (chip : Chip) (bytes : List ℕ) : Type 0 where
   pub len : length bytes ≡ chip.config.size
   pub at : (a : ℕ) → a < chip.config.size → slice_index bytes a ≡ chip.bytes a
 

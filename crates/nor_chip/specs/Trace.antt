@@ -23,7 +23,7 @@ told_of answer =
     else codes " > " ++ encode_lower answer
 
 -- the line of a transaction: the digits of the bytes sent, and what it tells of those taken in
-abbrev pub traced_line : List ℕ → List ℕ → List ℕ
+abbrev pub traced_line : (out answer : List ℕ) → List ℕ
 traced_line out answer = encode_lower out ++ told_of answer ++ codes "\n"
 
 -- Once a line is lost this stays so; a transaction that the bus inside stops has no line, and any other has its own,

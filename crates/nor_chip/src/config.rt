@@ -59,7 +59,7 @@ pub struct Config {
 }
 
 impl Config {
-    ghost use Rattle.nor_chip.specs.Makers.{IsMade, IsTiny64, IsW25q64fv, IsW25q128fv};
+    ghost use Rattle.nor_chip.specs.Makers.{HasParts, IsTiny64, IsW25q64fv, IsW25q128fv};
 
     /// A chip of one's own, whose SFDP bytes are `sfdp` from address 0 on. There is none where the size isn't a
     /// power of two from 65,536 to 16,777,216, or the SFDP bytes are more than 256. It takes no memory.
@@ -72,7 +72,7 @@ impl Config {
         sfdp: &[u8],
     ) -> Option<Config>
         ensures allowed { IsSome result ↔ ((is_chip_size size ≡ true) × (length sfdp.now ≤ 256)) }
-        ensures made { IfSome result (IsMade id size k32 k64 scheme sfdp.now) }
+        ensures made { IfSome result (HasParts id size k32 k64 scheme sfdp.now) }
     {
         if !is_chip_size(size) || sfdp.len() > 256 {
             return None;

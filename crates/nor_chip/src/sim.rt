@@ -46,7 +46,7 @@ pub struct SimBus {
 
 impl SimBus {
     ghost use Rattle.std.specs.Option.{is_none};
-    ghost use Rattle.nor_chip.specs.Start.{Starts, AreBytesOf, status_of};
+    ghost use Rattle.nor_chip.specs.Start.{Starts, AreChipBytes, status_of};
     ghost use Rattle.nor_chip.specs.Sim.{fill_of, pace_of};
 
     /// A bus to a chip with this configuration, these bytes and these two status bytes, of which BUSY (bit 0 of
@@ -87,7 +87,7 @@ impl SimBus {
 
     /// The chip's bytes, from address 0 on.
     pub fn bytes(&self) -> &[u8]
-        ensures { AreBytesOf (⟦<SimBus as Bus>⟧.state self.now).chip result.now }
+        ensures { AreChipBytes (⟦<SimBus as Bus>⟧.state self.now).chip result.now }
     {
         &self.flash.bytes
     }

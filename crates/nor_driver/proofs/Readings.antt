@@ -10,11 +10,11 @@ use Rattle.nor_chip.specs.Step.{Does, is_carried_out, done_of, wears}
 use Rattle.nor_chip.specs.Bus.{BusState, Sends, Stops, Carries}
 use Rattle.nor_driver.specs.Looks.{Rested, LooksHonest, Looks, RanOut}
 use Rattle.nor_driver.specs.Waits.{HasPolled}
-use Rattle.nor_driver.specs.Reads.{is_reading, IsReading, HasRead, Replies}
+use Rattle.nor_driver.specs.Reads.{changes_nothing, IsReading, HasRead, Replies}
 use Rattle.nor_driver.proofs.Cuts.{stays_at_stop, stays_after, unchanged_none, unchanged_then, unchanged_stays}
 
 -- What nothing but a reading leaves of a chip.
-record Kept (old new : Chip) : Type 0 where
+record ChipStays (old new : Chip) : Type 0 where
   config : new.config ≡ old.config
   bytes : (a : ℕ) → new.bytes a ≡ old.bytes a
   kept1 : new.kept1 ≡ old.kept1
@@ -26,7 +26,7 @@ record Kept (old new : Chip) : Type 0 where
 abbrev Wore : Command → BusState → BusState → Type 0
 Wore command old new = (s : ℕ) → new.worn s ≡ (old.worn s || wears command s)
 
-has_read : (old new : BusState) → Kept old.chip new.chip → ((s : ℕ) → new.worn s ≡ (old.worn s || false)) → old.left ≡ new.left + 1 → HasRead old new
+has_read : (old new : BusState) → ChipStays old.chip new.chip → ((s : ℕ) → new.worn s ≡ (old.worn s || false)) → old.left ≡ new.left + 1 → HasRead old new
 has_read old new kept worn count = record {
   rested = record {
     unchanged = record {
@@ -44,7 +44,7 @@ has_read old new kept worn count = record {
 }
 
 -- a reading that is done
-read_by : (command : Command) (sent answer : List ℕ) (old new : BusState) → is_reading command ≡ true
+read_by : (command : Command) (sent answer : List ℕ) (old new : BusState) → changes_nothing command ≡ true
     → Does command sent old.chip answer new.chip → Wore command old new → old.left ≡ new.left + 1 → HasRead old new
 read_by ReadStatus2 sent answer old new is does wore count = has_read old new (record { config = does.config; bytes = does.bytes; kept1 = does.kept1; kept2 = does.kept2; busy = does.busy; latch = does.latch; running = does.running }) wore count
 read_by (ReadData at) sent answer old new is does wore count = has_read old new (record { config = does.config; bytes = does.bytes; kept1 = does.kept1; kept2 = does.kept2; busy = does.busy; latch = does.latch; running = does.running }) wore count
@@ -59,7 +59,7 @@ read_by (WriteStatus one two) sent answer old new is does wore count = absurd cc
 read_by (Program at) sent answer old new is does wore count = absurd cc
 read_by (Erase start len) sent answer old new is does wore count = absurd cc
 
-reading_or_ignored : (carried : Bool) (command : Command) → is_reading command ≡ true → is_reading (cond carried command Ignored) ≡ true
+reading_or_ignored : (carried : Bool) (command : Command) → changes_nothing command ≡ true → changes_nothing (cond carried command Ignored) ≡ true
 reading_or_ignored true command is = is
 reading_or_ignored false command is = refl
 
@@ -72,7 +72,7 @@ carried_reading out answer old new is carries =
 -- the command that is ignored leaves what a reading leaves
 pub carried_ignored : (out answer : List ℕ) (old new : BusState) → done_of old.chip out (length answer) ≡ Ignored → Carries out answer old new → HasRead old new
 carried_ignored out answer old new ignored carries =
-    read_by (done_of old.chip out (length answer)) _ answer old new (ap is_reading ignored) carries.step carries.worn carries.left
+    read_by (done_of old.chip out (length answer)) _ answer old new (ap changes_nothing ignored) carries.step carries.worn carries.left
 
 -- what was only read, as what any exit leaves
 pub looked_by : (old new : BusState) (most : ℕ) → Rested old new → old.left ≡ new.left + most → LooksHonest most old new

@@ -7,12 +7,12 @@ use Rattle.nor_chip.specs.declared.command.Command.{Command}
 use Rattle.nor_chip.specs.declared.command.Command.TheVariants.{WriteStatus, Ignored}
 use Rattle.nor_chip.specs.declared.status.Status.{Status}
 use Rattle.nor_chip.specs.Chip.{Chip, is_locked}
-use Rattle.nor_chip.specs.Status.{bytes_with_code}
+use Rattle.nor_chip.specs.Status.{bytes_of, bytes_with_code}
 use Rattle.nor_chip.specs.Step.{is_idle, is_operation}
 use Rattle.nor_chip.specs.Bus.{BusState}
 use Rattle.nor_driver.proofs.Bools.{left_of, right_of, tested}
 use Rattle.nor_driver.specs.Operations.{operation_of, AsksForOperation, MayOperate, HasOperated, LeavesOperation, Operates}
-use Rattle.nor_driver.specs.StatusWrites.{KeepsFixed, HasCode, HasFixed, CanWriteStatus, takes_status, MayWriteStatus, HasWrittenStatus, LeavesStatusWrite, WritesStatus}
+use Rattle.nor_driver.specs.StatusWrites.{KeepsFixed, HasCode, HasFixedBits, CanWriteStatus, takes_status, MayWriteStatus, HasWrittenStatus, LeavesStatusWrite, WritesStatus}
 
 -- what a status write leaves of the kept bits of status 2
 abbrev written : ℕ → ℕ → ℕ
@@ -75,13 +75,15 @@ module _ (status : Status) (code : ℕ) (below : code < 64) where
     none : takes_status old.chip ≡ false → is_operation (operation_of old.chip (1 ∷ one ∷ two ∷ [])) ≡ false
     none takes = ap is_operation (command old.chip ∙ ap (λ (b : Bool). cond b (WriteStatus one two) Ignored) takes)
 
-    module _ (small : old.chip.kept2 < 128) (fixed : HasFixed status old.chip) where
+    module _ (small : old.chip.kept2 < 128) (fixed : HasFixedBits (bytes_of status) old.chip) where
       second : written old.chip.kept2 two ≡ two
-      second = let same = fixed.two in written_as old.chip.kept2 two small (omega arith) (omega arith)
+      second = let same : status.two.0 % 64 ≡ old.chip.kept2 % 64 = fixed.two in written_as old.chip.kept2 two small (omega arith) (omega arith)
 
       fixed_stay : new.chip.kept1 ≡ one / 4 → new.chip.kept2 ≡ written old.chip.kept2 two → KeepsFixed old.chip new.chip
       fixed_stay kept1 kept2 =
-          let same1 = fixed.one in let same2 = fixed.two in let is : new.chip.kept2 ≡ two = kept2 ∙ second in
+          let same1 : status.one.0 / 128 ≡ old.chip.kept1 / 32 = fixed.one in
+          let same2 : status.two.0 % 64 ≡ old.chip.kept2 % 64 = fixed.two in
+          let is : new.chip.kept2 ≡ two = kept2 ∙ second in
           record { one = omega arith; two = omega arith }
 
       code_there : new.chip.kept1 ≡ one / 4 → new.chip.kept2 ≡ written old.chip.kept2 two → HasCode code new.chip

@@ -59,5 +59,5 @@ pub record RanOut (needed : ℕ) (old new : BusState) : Type 0 where
   pub below : old.left < needed
 
 -- the same of any bus
-abbrev pub RanOutIfHonest : ℕ → BusState → BusState → Type 0
+abbrev pub RanOutIfHonest : ℕ → (old new : BusState) → Type 0
 RanOutIfHonest needed old new = old.honest ≡ true → RanOut needed old new

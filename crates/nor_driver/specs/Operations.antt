@@ -19,7 +19,7 @@ abbrev pub BytesNameAddress : ℕ → List ℕ → Type 0
 BytesNameAddress at bytes = 65536 * slice_index bytes 0 + 256 * slice_index bytes 1 + slice_index bytes 2 ≡ at
 
 -- a command is an opcode, three bytes that name an address and then data
-abbrev pub IsCommandAt : ℕ → ℕ → List ℕ → List ℕ → Type 0
+abbrev pub IsCommandAt : (opcode at : ℕ) → (sent command : List ℕ) → Type 0
 IsCommandAt opcode at sent command =
     (x : ℕ) × (y : ℕ) × (z : ℕ) × (65536 * x + 256 * y + z ≡ at) × (command ≡ opcode ∷ x ∷ y ∷ z ∷ sent)
 
@@ -36,7 +36,7 @@ abbrev pub AsksForOperation : List ℕ → Type 0
 AsksForOperation out = (config : Config) → is_operation_or_none (command_of config out 0) ≡ true
 
 -- Each byte is as it was, or at these places, where the power stays, as wanted.
-abbrev pub ChangesOnly : Bool → (ℕ → Bool) → (ℕ → ℕ) → (ℕ → ℕ) → (ℕ → ℕ) → Type 0
+abbrev pub ChangesOnly : Bool → (ℕ → Bool) → (wanted old new : ℕ → ℕ) → Type 0
 ChangesOnly steady places wanted old new =
     (a : ℕ) → (new a ≡ old a) ⊎ ((places a ≡ true) × (steady ≡ true → new a ≡ wanted a))
 

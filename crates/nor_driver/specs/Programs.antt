@@ -25,7 +25,7 @@ programmed at sent old a =
     if nat_le at a && nat_lt a (at + length sent) then bit_and (old a) (slice_index sent (a - at)) else old a
 
 -- a place of the page that holds an address
-abbrev pub is_in_page : ℕ → ℕ → Bool
+abbrev pub is_in_page : (at a : ℕ) → Bool
 is_in_page at a = a / 256 == at / 256
 
 -- On an honest bus, at every exit: bytes outside the page are as they were, and all kept bits and worn sectors. In

@@ -11,19 +11,19 @@ use Rattle.nor_chip.specs.Bus.{BusState}
 use Rattle.nor_driver.specs.Looks.{Rested}
 
 -- a command that changes nothing at all
-abbrev pub is_reading : Command → Bool
-is_reading ReadStatus2 = true
-is_reading (ReadData at) = true
-is_reading ReadId = true
-is_reading (ReadSfdp at) = true
-is_reading ReadUnique = true
-is_reading Ignored = true
-is_reading _ = false
+abbrev pub changes_nothing : Command → Bool
+changes_nothing ReadStatus2 = true
+changes_nothing (ReadData at) = true
+changes_nothing ReadId = true
+changes_nothing (ReadSfdp at) = true
+changes_nothing ReadUnique = true
+changes_nothing Ignored = true
+changes_nothing _ = false
 
 -- These bytes ask no chip for anything but a reading.
 pub record IsReading (out : List ℕ) : Type 0 where
   pub quiet : begins_change out ≡ false
-  pub reading : (config : Config) (replies : ℕ) → is_reading (command_of config out replies) ≡ true
+  pub reading : (config : Config) (replies : ℕ) → changes_nothing (command_of config out replies) ≡ true
 
 -- On an honest bus, one transaction read: nothing changed, neither latch nor `busy`.
 pub record HasRead (old new : BusState) : Type 0 where

@@ -1,7 +1,8 @@
 -- What a status write leaves that sends the fixed bits as they were read, and another protection code.
-use Rattle.std.specs.Prelude.{◌≡◌, ◌≢◌, ◌/◌, ◌%◌, ◌&&◌, ◌⊎◌, ℕ, Bool, true, false, not}
+use Rattle.std.specs.Prelude.{◌≡◌, ◌≢◌, ◌/◌, ◌%◌, ◌&&◌, ◌⊎◌, ℕ, Bool, true, false, not, List, slice_index}
 use Rattle.nor_chip.specs.declared.running.Running.TheVariants as Runs
 use Rattle.nor_chip.specs.declared.status.Status.{Status}
+use Rattle.nor_chip.specs.Status.{bytes_of}
 use Rattle.nor_chip.specs.Chip.{Chip, is_locked}
 use Rattle.nor_chip.specs.Power.{KeptStay}
 use Rattle.nor_chip.specs.Step.{is_idle}
@@ -20,16 +21,21 @@ pub record HasCode (code : ℕ) (chip : Chip) : Type 0 where
   pub low : chip.kept1 % 32 ≡ code % 32
   pub high : chip.kept2 / 64 ≡ code / 32
 
--- The fixed bits of the chip are those of this status.
-pub record HasFixed (status : Status) (chip : Chip) : Type 0 where
-  pub one : chip.kept1 / 32 ≡ status.one.0 / 128
-  pub two : chip.kept2 % 64 ≡ status.two.0 % 64
+-- The chip has all kept bits that two status bytes tell.
+pub record HasKeptBits (status : List ℕ) (chip : Chip) : Type 0 where
+  pub one : slice_index status 0 / 4 ≡ chip.kept1
+  pub two : slice_index status 1 % 128 ≡ chip.kept2
+
+-- The chip has the fixed bits that they tell.
+pub record HasFixedBits (status : List ℕ) (chip : Chip) : Type 0 where
+  pub one : slice_index status 0 / 128 ≡ chip.kept1 / 32
+  pub two : slice_index status 1 % 64 ≡ chip.kept2 % 64
 
 -- The chip is idle, and its status, of these fixed bits, isn't locked.
 pub record CanWriteStatus (status : Status) (chip : Chip) : Type 0 where
   pub idle : chip.busy ≡ 0
   pub open_to : is_locked chip ≡ false
-  pub fixed : HasFixed status chip
+  pub fixed : HasFixedBits (bytes_of status) chip
 
 -- the chip carries a status write out
 abbrev pub takes_status : Chip → Bool

@@ -16,7 +16,7 @@ pub record HasPolled (old new : BusState) (status : ℕ) : Type 0 where
   pub count : old.left ≡ new.left + 1
 
 -- a poll succeeded
-abbrev pub Polls : BusState → BusState → ℕ → Type 0
+abbrev pub Polls : (old new : BusState) → ℕ → Type 0
 Polls old new status = old.honest ≡ true → HasPolled old new status
 
 -- the latch of a chip once it is idle: an operation that was running has ended and cleared it

@@ -45,7 +45,7 @@ HeadFault bytes Digest = ⊥
 
 -- The next record has this fault, on a chip of so many sectors, where the numbers before it leave those from `least`
 -- on.
-abbrev pub RecordFault : ℕ → ℕ → List ℕ → JournalFault → Type 0
+abbrev pub RecordFault : (sectors least : ℕ) → (rest : List ℕ) → JournalFault → Type 0
 -- the number isn't wholly there, or the number is good and the bytes of the sector aren't wholly there
 RecordFault sectors least rest Short =
     (length rest < 4) ⊎ ((least ≤ number_at rest) × (number_at rest < sectors) × (length rest < 4100))
@@ -60,7 +60,7 @@ RecordFault sectors least rest Digest = ⊥
 
 -- The end has this fault: the end mark is there, behind the front of a content, and the digest behind it isn't
 -- wholly there, isn't the last, or is another.
-abbrev pub EndFault : List ℕ → List ℕ → JournalFault → Type 0
+abbrev pub EndFault : (before rest : List ℕ) → JournalFault → Type 0
 EndFault before rest Short = (take 4 rest ≡ end_mark) × (length rest < 36)
 EndFault before rest Magic = ⊥
 EndFault before rest Size = ⊥

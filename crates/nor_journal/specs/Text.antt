@@ -26,7 +26,8 @@ pub record Content : Type 0 where
 
 -- ---- which contents there are
 
--- a size that a chip may have: a power of two from 64 KiB to 16 MiB
+-- a size that a chip may have, as the format has it, since this crate knows of no chip: a power of two from 64 KiB to
+-- 16 MiB
 pub record IsJournalSize (size : ℕ) : Type 0 where
   pub power : is_power_of_two size ≡ true
   pub least : 65536 ≤ size

@@ -12,13 +12,13 @@ abbrev pub vault_of : {V : Type 0} → Writer V → MutBor V
 vault_of writer = writer.vault
 
 -- what contracts see of that vault
-abbrev pub vault_state : {V : Type 0} → (V → VaultState) → Writer V → VaultState
-vault_state state writer = state (vault_of writer).now
+abbrev pub vault_seen : {V : Type 0} → (V → VaultState) → Writer V → VaultState
+vault_seen state writer = state (vault_of writer).now
 
 -- These bytes went in: the hasher holds them, and a telling vault has them.
 pub record HasPut {V : Type 0} (state : V → VaultState) (writer : Writer V) (bytes : List ℕ) : Type 0 where
   pub hashed : Holds256 writer.hasher bytes
-  pub told : (vault_state state writer).telling ≡ true → (vault_state state writer).bytes ≡ bytes
+  pub told : (vault_seen state writer).telling ≡ true → (vault_seen state writer).bytes ≡ bytes
 
 -- The head and the records of this content went in.
 pub record HasWritten {V : Type 0} (state : V → VaultState) (writer : Writer V) (content : Content) : Type 0 where

@@ -3,7 +3,7 @@ ghost use Rattle.std.specs.Prelude.{◌≡◌, ◌+◌, ◌/◌, ◌<◌, ◌≤
 ghost use Rattle.nor_journal.specs.Vault.{Accepted, PutsOn, Completes, IsFresh};
 ghost use Rattle.nor_journal.specs.Text.{Content, IsContent, IsJournalSize, MayFollow, empty_content, with_sector, text};
 ghost use Rattle.nor_journal.specs.Saved.{IsWholeSector, HasOneMore, JournalSaves};
-ghost use Rattle.nor_journal.specs.Writer.{vault_of, vault_state, HasPut, HasWritten, HasPutSectors};
+ghost use Rattle.nor_journal.specs.Writer.{vault_of, vault_seen, HasPut, HasWritten, HasPutSectors};
 
 use crate::head::MAGIC;
 use crate::number::number_bytes;
@@ -27,7 +27,7 @@ impl<'a, V: Vault> Writer<'a, V> {
     pub fn on(vault: &'a mut V) -> Writer<'a, V>
         requires { IsFresh (V.state vault.old) }
         ensures same_vault { (vault_of result).ghost_name ≡ vault.entry.ghost_name }
-        ensures vault { vault_state V.state result ≡ V.state vault.old }
+        ensures vault { vault_seen V.state result ≡ V.state vault.old }
         ensures nothing { HasPut V.state result [] }
     {
         Writer {
@@ -50,7 +50,7 @@ impl<'a, V: Vault> Writer<'a, V> {
         requires fresh { IsFresh (V.state vault.old) }
         requires size { IsJournalSize size }
         ensures same_vault { IfOk result (λ writer. (vault_of writer).ghost_name ≡ vault.entry.ghost_name) }
-        ensures vault { IfOk result (λ writer. Accepted (V.state vault.old) (vault_state V.state writer)) }
+        ensures vault { IfOk result (λ writer. Accepted (V.state vault.old) (vault_seen V.state writer)) }
         ensures written { IfOk result (λ writer. HasWritten V.state writer
             (empty_content id (Some unique) status size)) }
     {
@@ -62,9 +62,9 @@ impl<'a, V: Vault> Writer<'a, V> {
     /// Writes a sector behind the others, as `add` does. A refusal spends the writer, and leaves the vault as that
     /// of `add` does; the contract can't say so.
     pub fn sector(mut self, number: u32, bytes: &[u8; 4096]) -> Result<Writer<'a, V>, VaultFault>
-        requires { (vault_state V.state self).sealed ≡ false }
+        requires { (vault_seen V.state self).sealed ≡ false }
         ensures same_vault { IfOk result (λ writer. (vault_of writer).ghost_name ≡ (vault_of self.entry).ghost_name) }
-        ensures vault { IfOk result (λ writer. Accepted (vault_state V.state self.entry) (vault_state V.state writer)) }
+        ensures vault { IfOk result (λ writer. Accepted (vault_seen V.state self.entry) (vault_seen V.state writer)) }
         ensures written { (c : Content) → HasWritten V.state self.entry c → MayFollow c number
             → IfOk result (λ writer. HasWritten V.state writer (with_sector c number bytes.now)) }
     {
@@ -74,9 +74,9 @@ impl<'a, V: Vault> Writer<'a, V> {
 
     // Puts a piece, and takes it into the digest.
     fn piece(&mut self, bytes: &[u8]) -> Result<(), VaultFault>
-        requires { (vault_state V.state self.old).sealed ≡ false }
+        requires { (vault_seen V.state self.old).sealed ≡ false }
         ensures same_vault { (vault_of self.new).ghost_name ≡ (vault_of self.old).ghost_name }
-        ensures vault { PutsOn (vault_state V.state self.old) result (vault_state V.state self.new) }
+        ensures vault { PutsOn (vault_seen V.state self.old) result (vault_seen V.state self.new) }
         ensures put { (m : List ℕ) → HasPut V.state self.old m
             → OnOk result (HasPut V.state self.new (m ++ bytes.now)) }
     {
@@ -93,10 +93,10 @@ impl<'a, V: Vault> Writer<'a, V> {
         status: [u8; 2],
         size: u32,
     ) -> Result<(), VaultFault>
-        requires unsealed { (vault_state V.state self.old).sealed ≡ false }
+        requires unsealed { (vault_seen V.state self.old).sealed ≡ false }
         requires size { IsJournalSize size }
         ensures same_vault { (vault_of self.new).ghost_name ≡ (vault_of self.old).ghost_name }
-        ensures vault { PutsOn (vault_state V.state self.old) result (vault_state V.state self.new) }
+        ensures vault { PutsOn (vault_seen V.state self.old) result (vault_seen V.state self.new) }
         ensures written { HasPut V.state self.old []
             → OnOk result (HasWritten V.state self.new (empty_content id (Some unique) status size)) }
     {
@@ -109,9 +109,9 @@ impl<'a, V: Vault> Writer<'a, V> {
 
     /// Writes a sector behind the others. Its number is above theirs, and a sector of the chip has it.
     pub fn add(&mut self, number: u32, bytes: &[u8; 4096]) -> Result<(), VaultFault>
-        requires { (vault_state V.state self.old).sealed ≡ false }
+        requires { (vault_seen V.state self.old).sealed ≡ false }
         ensures same_vault { (vault_of self.new).ghost_name ≡ (vault_of self.old).ghost_name }
-        ensures vault { PutsOn (vault_state V.state self.old) result (vault_state V.state self.new) }
+        ensures vault { PutsOn (vault_seen V.state self.old) result (vault_seen V.state self.new) }
         ensures written { (c : Content) → HasWritten V.state self.old c → MayFollow c number
             → OnOk result (HasWritten V.state self.new (with_sector c number bytes.now)) }
         ensures kept { (head : Content) (chip : ℕ → ℕ) (saved more : ℕ → Bool) (n : ℕ)
@@ -124,8 +124,8 @@ impl<'a, V: Vault> Writer<'a, V> {
 
     /// Writes the end mark and the digest, and seals the vault, whose bytes are then the journal's text.
     pub fn end(self) -> Result<(), VaultFault>
-        requires { (vault_state V.state self).sealed ≡ false }
-        ensures vault { Completes (vault_state V.state self.entry) result (V.state self.exit.0.now) }
+        requires { (vault_seen V.state self).sealed ≡ false }
+        ensures vault { Completes (vault_seen V.state self.entry) result (V.state self.exit.0.now) }
         ensures written { (c : Content) → HasWritten V.state self.entry c
             → OnOk result ((V.state self.exit.0.now).telling ≡ true → (V.state self.exit.0.now).bytes ≡ text c) }
         ensures kept { (head : Content) (chip : ℕ → ℕ) (saved : ℕ → Bool) (n : ℕ)

@@ -6,7 +6,7 @@ use Rattle.std.proofs.lemmas.Bool.{cases_Bool, ltb-true, ltb-false, leb-true, le
 use Rattle.nor_layout.specs.declared.ranges.Span.{Span}
 use Rattle.nor_layout.specs.declared.places.Places.{Places}
 use Rattle.nor_layout.specs.Ranges.{is_in_span, contains, IsApartFrom, AreApart}
-use Rattle.nor_layout.specs.Places.{covers, is_covered, part_in_sector, parts_of, AreRisingFrom, AreIncludedIn}
+use Rattle.nor_layout.specs.Places.{is_in_places, is_covered, part_in_sector, parts_in_sector, AreRisingFrom, AreIncludedIn}
 use Rattle.nor_layout.proofs.Below.{same_tests}
 
 -- these are the places of a span in a sector
@@ -53,9 +53,9 @@ part_of-is sector span =
 
 -- ---- each place is in a part where its address is in a span
 
-covers-part : (sector : ℕ) (span : Span) (part : Places) (at : ℕ) → at < 4096 → IsPart sector span part → covers part at ≡ is_in_span span (4096 * sector + at)
+covers-part : (sector : ℕ) (span : Span) (part : Places) (at : ℕ) → at < 4096 → IsPart sector span part → is_in_places part at ≡ is_in_span span (4096 * sector + at)
 covers-part sector span part at lt is =
-    same_tests (covers part at) (is_in_span span (4096 * sector + at))
+    same_tests (is_in_places part at) (is_in_span span (4096 * sector + at))
     (λ yes. let p = and_parts (leb part.start at) (ltb at part.end) yes in
     and_from _ _ (le-leb span.first (4096 * sector + at) (omega (arith, leb-true _ _ p.0, is.start))) (le-leb (4096 * sector + at) span.last (omega (arith, ltb-true _ _ p.1, is.end))))
     (λ yes. let p = and_parts (leb span.first (4096 * sector + at)) (leb (4096 * sector + at) span.last) yes in
@@ -72,10 +72,10 @@ is_covered-cons : (sector : ℕ) (span : Span) (part : Option Places) (rest : Li
 is_covered-cons sector span None rest at lt is = rw (holds-outside sector span at lt is) refl
 is_covered-cons sector span (Some part) rest at lt is = rw (covers-part sector span part at lt is) refl
 
-is_covered-parts : (sector : ℕ) (spans : List Span) (at : ℕ) → at < 4096 → is_covered (parts_of sector spans) at ≡ contains spans (4096 * sector + at)
+is_covered-parts : (sector : ℕ) (spans : List Span) (at : ℕ) → at < 4096 → is_covered (parts_in_sector sector spans) at ≡ contains spans (4096 * sector + at)
 is_covered-parts sector [] at lt = refl
 is_covered-parts sector (span ∷ spans) at lt =
-    is_covered-cons sector span (part_in_sector sector span) (parts_of sector spans) at lt (part_of-is sector span) ∙ ap (λ b. is_in_span span (4096 * sector + at) || b) (is_covered-parts sector spans at lt)
+    is_covered-cons sector span (part_in_sector sector span) (parts_in_sector sector spans) at lt (part_of-is sector span) ∙ ap (λ b. is_in_span span (4096 * sector + at) || b) (is_covered-parts sector spans at lt)
 
 -- ---- the parts rise
 
@@ -98,17 +98,17 @@ rising-cons sector low span None rest le forward is rising = weaker _ _ rest (om
 rising-cons sector low span (Some part) rest le forward is rising =
     (omega (arith, le, is.start), omega (arith, forward, is.start, is.end, is.reaches, is.begins), omega (arith, is.end), weaker part.end (span.last + 1 - 4096 * sector) rest (omega (arith, is.end)) rising)
 
-parts_rise : (sector low : ℕ) (spans : List Span) → AreApart spans → IsFrom low spans → AreRisingFrom (low - 4096 * sector) (parts_of sector spans)
+parts_rise : (sector low : ℕ) (spans : List Span) → AreApart spans → IsFrom low spans → AreRisingFrom (low - 4096 * sector) (parts_in_sector sector spans)
 parts_rise sector low [] apart le = tt
 parts_rise sector low (span ∷ spans) apart le =
-    rising-cons sector low span (part_in_sector sector span) (parts_of sector spans) le apart.0 (part_of-is sector span) (parts_rise sector (span.last + 1) spans apart.2 (behind span spans apart.1))
+    rising-cons sector low span (part_in_sector sector span) (parts_in_sector sector spans) le apart.0 (part_of-is sector span) (parts_rise sector (span.last + 1) spans apart.2 (behind span spans apart.1))
 
 any_start : (spans : List Span) → IsFrom 0 spans
 any_start [] = tt
 any_start (span ∷ spans) = omega arith
 
-pub parts_are_included : (sector : ℕ) (spans : List Span) → AreApart spans → AreIncludedIn spans sector (parts_of sector spans)
+pub parts_are_included : (sector : ℕ) (spans : List Span) → AreApart spans → AreIncludedIn spans sector (parts_in_sector sector spans)
 parts_are_included sector spans apart = record {
   exact = is_covered-parts sector spans;
-  rising = weaker 0 (0 - 4096 * sector) (parts_of sector spans) (omega arith) (parts_rise sector 0 spans apart (any_start spans));
+  rising = weaker 0 (0 - 4096 * sector) (parts_in_sector sector spans) (omega arith) (parts_rise sector 0 spans apart (any_start spans));
 }

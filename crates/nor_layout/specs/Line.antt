@@ -46,7 +46,7 @@ abbrev pub is_name : List ℕ → Bool
 is_name name = nat_le 1 (length name) && nat_le (length name) 32 && list_all is_name_byte name
 
 -- The region of two addresses and a name, or what is wrong first.
-abbrev pub region_of : Option ℕ → Option ℕ → List ℕ → Result Region LineFault
+abbrev pub region_of : (start end : Option ℕ) → (name : List ℕ) → Result Region LineFault
 region_of None end name = Err Address
 region_of (Some start) None name = Err Address
 region_of (Some start) (Some end) name =

@@ -7,11 +7,11 @@ use Rattle.nor_layout.specs.declared.places.PlacesIn.{PlacesIn}
 use Rattle.nor_layout.specs.Ranges.{contains}
 
 -- the start is one of the places, and the end is the one behind them
-abbrev pub covers : Places → ℕ → Bool
-covers places at = nat_le places.start at && nat_lt at places.end
+abbrev pub is_in_places : Places → ℕ → Bool
+is_in_places places at = nat_le places.start at && nat_lt at places.end
 
 abbrev pub is_covered : List Places → ℕ → Bool
-is_covered all at = list_any (λ places. covers places at) all
+is_covered all at = list_any (λ places. is_in_places places at) all
 
 -- places of a sector, none below a first one; they rise, and none is empty
 abbrev pub AreRisingFrom : ℕ → List Places → Type 0
@@ -35,9 +35,9 @@ part_in_sector sector span =
     })
 
 -- the parts of the spans in a sector, in their order
-abbrev pub parts_of : ℕ → List Span → List Places
-parts_of sector spans = filter_map (part_in_sector sector) spans
+abbrev pub parts_in_sector : ℕ → List Span → List Places
+parts_in_sector sector spans = filter_map (part_in_sector sector) spans
 
 -- what an iterator has left
 abbrev pub places_left : PlacesIn → List Places
-places_left it = parts_of it.sector it.spans.now
+places_left it = parts_in_sector it.sector it.spans.now

@@ -35,7 +35,7 @@ abbrev pub FitsInto : Option (List Span) → (size : ℕ) → Type 0
 FitsInto included size = ¬ ReachesPast included size
 
 -- What is wanted at an address: the image's byte where it is included, and else the content's, as it is on the chip.
-abbrev pub merged_byte : (ℕ → Bool) → (ℕ → ℕ) → (ℕ → ℕ) → ℕ → ℕ
+abbrev pub merged_byte : (ℕ → Bool) → (image content : ℕ → ℕ) → ℕ → ℕ
 merged_byte included image content a = if included a then image a else content a
 
 -- these are the bytes of a sector

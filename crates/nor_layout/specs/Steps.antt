@@ -15,13 +15,13 @@ pub record IsFirst (byte : ℕ) (text : List ℕ) (at : ℕ) : Type 0 where
   pub before : (k : ℕ) → k < at → slice_index text k ≢ byte
 
 -- The regions are those that a line leaves, unless memory was refused to one more of them.
-abbrev pub Adds : List Region → List Region → Result ⊤ LayoutFault → Result (List Region) LayoutFault → Type 0
+abbrev pub Adds : (old new : List Region) → Result ⊤ LayoutFault → Result (List Region) LayoutFault → Type 0
 Adds old new (Ok x) said = said ≡ Ok new
 Adds old new (Err Memory) said = (region : Region) × (said ≡ Ok (old ++ region ∷ []))
 Adds old new (Err fault) said = said ≡ Err fault
 
 -- the name stands among the names
-abbrev pub is_listed : List ℕ → List ℕ → Bool
+abbrev pub is_listed : (text name : List ℕ) → Bool
 is_listed text name = list_any (λ listed. bytes_eq name listed) (names_of text)
 
 -- the addresses of the regions whose names are listed
@@ -30,5 +30,5 @@ is_listed_address regions text address =
     list_any (λ region. is_listed text region.name.items && has_address region address) regions
 
 -- the least span that holds both
-abbrev pub join : Span → Span → Span
+abbrev pub join : (a b : Span) → Span
 join a b = record { first = min a.first b.first; last = max a.last b.last }

@@ -60,7 +60,7 @@ pub record AreRegions (regions : List Region) : Type 0 where
   pub named_apart : AreNamedApart regions
 
 -- An answer is what the text says, unless memory was refused. A text that gives no region asks for none.
-abbrev pub ReadsLayout : Result (List Region) LayoutFault → Result (List Region) LayoutFault → Type 0
+abbrev pub ReadsLayout : (answer said : Result (List Region) LayoutFault) → Type 0
 ReadsLayout (Ok regions) said = said ≡ Ok regions
 ReadsLayout (Err Memory) said = said ≢ Ok []
 ReadsLayout (Err fault) said = said ≡ Err fault

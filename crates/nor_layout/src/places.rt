@@ -2,7 +2,7 @@
 
 ghost use Rattle.std.specs.Prelude.{◌≡◌};
 ghost use Rattle.std.specs.Iterator.{YieldsFirst, item_count};
-ghost use Rattle.nor_layout.specs.Places.{part_in_sector, parts_of, places_left};
+ghost use Rattle.nor_layout.specs.Places.{part_in_sector, parts_in_sector, places_left};
 
 use crate::ranges::Span;
 
@@ -25,7 +25,7 @@ pub struct PlacesIn<'a> {
 
 impl<'a> PlacesIn<'a> {
     pub(crate) fn new(spans: &'a [Span], sector: u32) -> PlacesIn<'a>
-        ensures { places_left result ≡ parts_of sector spans.now }
+        ensures { places_left result ≡ parts_in_sector sector spans.now }
     {
         PlacesIn { spans, sector }
     }

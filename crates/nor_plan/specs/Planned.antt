@@ -9,11 +9,11 @@ use Rattle.nor_driver.specs.Units.{is_aligned}
 use Rattle.nor_plan.specs.Erase.{Covers}
 
 -- the sectors from one on are all in the set
-unfoldable pub holds_run : (ℕ → Bool) → ℕ → ℕ → Bool
+unfoldable pub holds_run : (ℕ → Bool) → (from count : ℕ) → Bool
 holds_run set from count = list_all set (range_with_len from count)
 
 -- so is the aligned block of this many sectors that holds a sector
-abbrev pub holds_block : (ℕ → Bool) → ℕ → ℕ → Bool
+abbrev pub holds_block : (ℕ → Bool) → (count sector : ℕ) → Bool
 holds_block set count sector = holds_run set (sector - sector % count) count
 
 -- the unit by which a sector of the set is erased: the chip, where the whole chip is in the set; else the

@@ -21,7 +21,7 @@ abbrev pub LiesBelow : SectorSet → ℕ → Type 0
 LiesBelow set end = (sector : ℕ) → has set sector ≡ true → sector < end
 
 -- the new set has this sector too, and else what the old one has
-abbrev pub Inserts : SectorSet → SectorSet → ℕ → Type 0
+abbrev pub Inserts : (old new : SectorSet) → ℕ → Type 0
 Inserts old new sector = (s : ℕ) → has new s ≡ ((s == sector) || has old s)
 
 -- the sectors of the set from a number on, rising

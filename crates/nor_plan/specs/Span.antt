@@ -5,7 +5,7 @@ use Rattle.std.specs.Int.{div_ceil}
 use Rattle.nor_plan.specs.declared.page.Span.{Span}
 
 -- the places at which the bytes differ, of the `count` places from `from` on
-abbrev pub differences : List ℕ → List ℕ → ℕ → ℕ → List ℕ
+abbrev pub differences : (old target : List ℕ) → (from count : ℕ) → List ℕ
 differences old target from count =
     filter (λ k. not (slice_index old k == slice_index target k)) (range_with_len from count)
 
@@ -20,11 +20,11 @@ ends [] = None
 ends (k ∷ ks) = Some (record { first = k; last = last_of k ks })
 
 -- the span of a page, which is its first and its last difference; the last page may be a short one
-abbrev pub page_span : List ℕ → List ℕ → ℕ → Option Span
+abbrev pub page_span : (old target : List ℕ) → ℕ → Option Span
 page_span old target page = ends (differences old target (page * 256) (min 256 (length old - page * 256)))
 
 -- the spans of some pages
-abbrev pub spans_in : List ℕ → List ℕ → ℕ → ℕ → List Span
+abbrev pub spans_in : (old target : List ℕ) → (page count : ℕ) → List Span
 spans_in old target page count = filter_map (page_span old target) (range_with_len page count)
 
 -- how many pages the slice has
@@ -32,25 +32,25 @@ abbrev pub page_count : List ℕ → ℕ
 page_count old = div_ceil (length old) 256
 
 -- the spans of the pages from this one on
-abbrev pub spans_from : List ℕ → List ℕ → ℕ → List Span
+abbrev pub spans_from : (old target : List ℕ) → ℕ → List Span
 spans_from old target page = spans_in old target page (page_count old - page)
 
 -- the spans of all pages, in rising order
-abbrev pub spans_of : List ℕ → List ℕ → List Span
+abbrev pub spans_of : (old target : List ℕ) → List Span
 spans_of old target = spans_from old target 0
 
 -- the first of these spans, with the page from which the others are, where there is one
-abbrev pub HeadsSpans : List ℕ → List ℕ → ℕ → Option (Span × ℕ) → Type 0
+abbrev pub HeadsSpans : (old target : List ℕ) → ℕ → Option (Span × ℕ) → Type 0
 HeadsSpans old target page head =
     MatchOption head (spans_from old target page ≡ [])
     (λ h. spans_from old target page ≡ h.0 ∷ spans_from old target h.1)
 
 -- some byte of the page differs
-abbrev pub page_differs : List ℕ → List ℕ → ℕ → Bool
+abbrev pub page_differs : (old target : List ℕ) → ℕ → Bool
 page_differs old target page =
     list_any (λ k. not (slice_index old k == slice_index target k))
     (range_with_len (page * 256) (min 256 (length old - page * 256)))
 
 -- how many pages have a byte that differs
-abbrev pub pages_changed : List ℕ → List ℕ → ℕ
+abbrev pub pages_changed : (old target : List ℕ) → ℕ
 pages_changed old target = count_by (page_differs old target) (range_with_len 0 (page_count old))

@@ -19,21 +19,9 @@ use Rattle.nor_probe.specs.Table.{w25q64fv, w25q128fv, part_with_id}
 use Rattle.nor_driver.specs.Reads.{id_of, shown}
 use Rattle.nor_probe.specs.Known.{is_no_chip, pointer_in, chip_says, part_by_sfdp, listed_or, HasGeometry, IsKnown}
 
--- 64 KiB in bits has a single one
-one_one : ones 1 ≡ 1
-unfolding ones ones_in
-one_one = refl
-
-no_one : ones 0 ≡ 0
-unfolding ones ones_in
-no_one = refl
-
-single : count_ones (2 ^ 19) ≡ 1
-single = ones_cat 19 1 0 (omega arith) ∙ ap (λ (n : ℕ). n + ones 0) one_one ∙ ap (λ (n : ℕ). 1 + n) no_one
-
 supported : is_chip_size_in_bits 524288 ≡ true
 unfolding is_chip_size_in_bits
-supported = ap (λ (n : ℕ). (n == 1) && nat_le (2 ^ 19) 524288 && nat_le 524288 (2 ^ 27)) single
+supported = refl
 
 abbrev tiny64 : Geometry
 tiny64 = record { size = 65536; kinds = record { k32 = true; k64 = true } }

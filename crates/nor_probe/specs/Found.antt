@@ -105,7 +105,7 @@ pub record HasProbed (old new : BusState) : Type 0 where
   pub count : old.left ≡ new.left + needed old.chip
 
 -- what a fault tells, on an honest bus: 65,540 transactions are always enough
-abbrev pub Tells : Option ChipName → BusState → BusState → ProbeFault → Type 0
+abbrev pub Tells : Option ChipName → (old new : BusState) → ProbeFault → Type 0
 Tells named old new NoChip = (shown_as old.chip.config ≡ Err NoChip) × HasProbed old new
 Tells named old new (UnknownChip fault) = (shown_as old.chip.config ≡ Err (UnknownChip fault)) × HasProbed old new
 Tells named old new OtherName = HasOtherName named old.chip.config × HasProbed old new

@@ -2,8 +2,8 @@
 -- parameter table. `header` is the eight bytes at 0, `first` the eight bytes of the first parameter header,
 -- `table` the 36 bytes from its pointer on. Bits that are not named here are not looked at.
 use Rattle.std.specs.Prelude.{ℕ, ◌==◌, ◌+◌, ◌-◌, ◌*◌, ◌/◌, ◌%◌, ◌^◌, nat_lt, nat_le, Bool, not, ◌&&◌, ◌||◌, if◌then◌else◌, List, [], ◌∷◌, ◌++◌, Result, Ok, Err, slice_index}
-use Rattle.std.specs.Int.{is_power_of_two}
 use Rattle.byteorder.specs.Endian.{little_from}
+use Rattle.nor_chip.specs.Size.{is_chip_size}
 use Rattle.nor_probe.specs.declared.sfdp.Geometry.{Geometry}
 use Rattle.nor_probe.specs.declared.sfdp.SfdpFault.{SfdpFault}
 use Rattle.nor_probe.specs.declared.sfdp.SfdpFault.TheVariants.{Signature, Major, FirstHeader, Length, Address, Granularity, Size, NoSector}
@@ -34,9 +34,9 @@ has_write_granularity table = double_word 1 table / 2 ^ 2 % 2 == 1
 unfoldable pub size_in_bits : (density : ℕ) → ℕ
 size_in_bits density = if nat_lt density (2 ^ 31) then density + 1 else 2 ^ (density - 2 ^ 31)
 
--- a power of two from 64 KiB to 16 MiB, in bits
+-- so many bits are the bytes of a size that a chip may have
 unfoldable pub is_chip_size_in_bits : (bits : ℕ) → Bool
-is_chip_size_in_bits bits = is_power_of_two bits && nat_le (2 ^ 19) bits && nat_le bits (2 ^ 27)
+is_chip_size_in_bits bits = bits % 8 == 0 && is_chip_size (bits / 8)
 
 -- an erase type is a pair of bytes, the exponent of its size and its opcode; this one stands at a place of the table
 abbrev pub is_erase_type_at : (exponent opcode : ℕ) → (table : List ℕ) → (at : ℕ) → Bool

@@ -57,7 +57,7 @@ pub record ReadsGeometry (old new : BusState) (geometry : Geometry) : Type 0 whe
   pub says : old.chip.busy ≡ 0 → chip_says old.chip.config ≡ Ok geometry
 
 -- what a fault tells of an idle chip, of which the SFDP alone was read
-abbrev pub GeometryTells : BusState → BusState → ProbeFault → Type 0
+abbrev pub GeometryTells : (old new : BusState) → ProbeFault → Type 0
 GeometryTells old new (UnknownChip fault) =
     (chip_says old.chip.config ≡ Err fault) × (old.left ≡ new.left + 3) × Rested old new
 GeometryTells old new Stopped = RanOut 3 old new
@@ -78,7 +78,7 @@ pub record Identifies (old new : BusState) (part : Part) : Type 0 where
   pub count : old.left + 1 ≡ new.left + reads_of (id_of old.chip.config)
 
 -- what a fault tells of such a chip
-abbrev pub IdentityTells : BusState → BusState → ProbeFault → Type 0
+abbrev pub IdentityTells : (old new : BusState) → ProbeFault → Type 0
 IdentityTells old new Stopped = (new.left ≡ 0) × (old.left + 1 < reads_of (id_of old.chip.config))
 IdentityTells old new fault =
     (shown_as old.chip.config ≡ Err fault) × (old.left + 1 ≡ new.left + reads_of (id_of old.chip.config))

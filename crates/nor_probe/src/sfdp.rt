@@ -167,7 +167,7 @@ fn double_word_of(table: &[u8; 36], k: usize) -> u32
 }
 
 /// The size in bytes that the density double word gives, if it is one of those that are supported.
-#[tactic(auto, using(crate::proofs::SfdpLemmas::large_exponent), unfolding(crate::specs::Sfdp::size_in_bits, crate::specs::Sfdp::is_chip_size_in_bits))]
+#[tactic(auto, using(crate::proofs::SfdpLemmas::large_exponent, crate::proofs::SfdpLemmas::in_bits), unfolding(crate::specs::Sfdp::size_in_bits))]
 fn size_in_bytes(density: u32) -> Option<u32>
     ensures value { SomeIff result (IsTrue (is_chip_size_in_bits (size_in_bits density))) (size_in_bits density / 8) }
     ensures sized { IfSome result (λ size. is_chip_size size ≡ true) }

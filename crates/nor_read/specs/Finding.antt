@@ -102,7 +102,7 @@ IsFindRefusal _ = ⊥
 
 -- On an honest bus: a refusal of the probe tells why the chip is none that is wanted; a stop, that fewer transactions
 -- than so many were left; there is no timeout; and after any refusal but a stop nothing changed.
-abbrev pub ReadingTells : ℕ → Option ChipName → BusState → BusState → Refusal → Type 0
+abbrev pub ReadingTells : ℕ → Option ChipName → (old new : BusState) → Refusal → Type 0
 ReadingTells most named old new NoChip = Tells named old new Probes.NoChip
 ReadingTells most named old new (UnknownChip fault) = Tells named old new (Probes.UnknownChip fault)
 ReadingTells most named old new OtherName = Tells named old new Probes.OtherName

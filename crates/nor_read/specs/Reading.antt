@@ -50,7 +50,7 @@ pub record TakesPart (written : ℕ) (old new : VaultState) : Type 0 where
 
 -- A refusal that reading out gives, on every bus: at 19 the vault refused, after so many bytes, and at any other it
 -- took all that it was given.
-abbrev pub IsReadRefusal : VaultState → VaultState → Refusal → Type 0
+abbrev pub IsReadRefusal : (vault vault' : VaultState) → Refusal → Type 0
 IsReadRefusal vault vault' (Output written) = TakesPart written vault vault'
 IsReadRefusal vault vault' RegionOutside = Accepted vault vault'
 IsReadRefusal vault vault' refusal = IsFindRefusal refusal × Accepted vault vault'
@@ -86,7 +86,7 @@ pub record BreaksOff (named : Option ChipName) (included : Option (List Span)) (
   pub copy : vault.telling ≡ true → Copies included old.chip.bytes written vault vault'
 
 -- What a refusal tells of a chip that is what it shows itself to be. (Those of the probe: `ReadingTells`.)
-abbrev pub ReadOutTells : Option ChipName → Option (List Span) → BusState → BusState → VaultState → VaultState
+abbrev pub ReadOutTells : Option ChipName → Option (List Span) → (old new : BusState) → (vault vault' : VaultState)
     → Refusal → Type 0
 ReadOutTells named included old new vault vault' RegionOutside = IsPassed named included old.chip.config
 ReadOutTells named included old new vault vault' Stopped = RanOut (most_read old.chip.config.size) old new
@@ -146,13 +146,13 @@ pub record BreaksCopy (included : Option (List Span)) (size written : ℕ) (old 
   pub copy : IsOpen size old → vault.telling ≡ true → Copies included old.chip.bytes written vault vault'
 
 -- what a refusal of the copy tells; at a stop the vault took all that it was given
-abbrev pub CopyTells : Option (List Span) → ℕ → BusState → BusState → VaultState → VaultState → Refusal → Type 0
+abbrev pub CopyTells : Option (List Span) → ℕ → (old new : BusState) → (vault vault' : VaultState) → Refusal → Type 0
 CopyTells included size old new vault vault' Stopped = RanOutIfHonest (size / 4096) old new × Accepted vault vault'
 CopyTells included size old new vault vault' (Output written) = BreaksCopy included size written old new vault vault'
 CopyTells included size old new vault vault' _ = ⊥
 
 -- what a refusal of a piece of the copy tells: the bytes of the pieces before it, and those of it that went in
-abbrev pub PutTells : ℕ → List ℕ → VaultState → VaultState → Refusal → Type 0
+abbrev pub PutTells : ℕ → List ℕ → (old new : VaultState) → Refusal → Type 0
 PutTells piece bytes old new (Output written) =
     (kept : ℕ) × (written ≡ 65536 * piece + kept) × PutRefused old bytes kept new
 PutTells piece bytes old new _ = ⊥

@@ -18,7 +18,7 @@ use Rattle.nor_read.specs.Finding.{IsNamed, IsPassed, IsTaken, most_read}
 use Rattle.nor_read.specs.Finding.{ReportsPart, ReportsReads, IsFindRefusal, ReadingTells}
 
 -- each included byte from one address up to another is the image's
-abbrev pub AgreeIn : Option (List Span) → List ℕ → (ℕ → ℕ) → ℕ → ℕ → Type 0
+abbrev pub AgreeIn : Option (List Span) → List ℕ → (ℕ → ℕ) → (from to : ℕ) → Type 0
 AgreeIn included image content from to =
     (a : ℕ) → from ≤ a → a < to → includes included a ≡ true → slice_index image a ≡ content a
 
@@ -78,7 +78,7 @@ pub record VerifyHonest (named : Option ChipName) (included : Option (List Span)
   pub tells : IfErr result (ReadingTells (most_read 16777216) named old new)
 
 -- What a refusal tells of a chip that is what it shows itself to be. (Those of the probe: `ReadingTells`.)
-abbrev pub VerifyTells : Option ChipName → Option (List Span) → List ℕ → BusState → BusState → Refusal → Type 0
+abbrev pub VerifyTells : Option ChipName → Option (List Span) → List ℕ → (old new : BusState) → Refusal → Type 0
 VerifyTells named included image old new (ImageSize chip len) = IsOtherSize named image old.chip.config chip len
 VerifyTells named included image old new RegionOutside =
     IsPassed named included old.chip.config × (length image ≡ old.chip.config.size)
@@ -102,7 +102,7 @@ pub record VerifyModelled (named : Option ChipName) (included : Option (List Spa
 -- ---- sector by sector
 
 -- the first difference between two addresses, or that there is none
-abbrev pub TellsFirst : Option (List Span) → List ℕ → (ℕ → ℕ) → ℕ → ℕ → Option ℕ → Type 0
+abbrev pub TellsFirst : Option (List Span) → List ℕ → (ℕ → ℕ) → (from to : ℕ) → Option ℕ → Type 0
 TellsFirst included image content from to first =
     MatchOption first (AgreeIn included image content from to) (IsFirstOther included image content from to)
 

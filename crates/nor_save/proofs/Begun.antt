@@ -9,7 +9,7 @@ use Rattle.nor_journal.specs.declared.writer.Writer.{Writer}
 use Rattle.nor_journal.specs.Text.{Content, MayFollow, empty_content, with_sector}
 use Rattle.nor_journal.specs.Vault.{VaultState}
 use Rattle.nor_journal.specs.Saved.{Saves, HasOneMore}
-use Rattle.nor_journal.specs.Writer.{vault_state, HasWritten, HasPutSectors}
+use Rattle.nor_journal.specs.Writer.{vault_seen, HasWritten, HasPutSectors}
 use Rattle.nor_journal.proofs.Saved.{saved_in-empty_content, saved_in-with_sector, next_number-empty_content, next_number-with_sector}
 use Rattle.nor_save.specs.declared.refusal.Refusal.{Refusal}
 use Rattle.nor_save.specs.declared.refusal.Refusal.TheVariants.{Vault}
@@ -139,8 +139,8 @@ lower s bound total x inside = elim (cases_lt s bound) [
 
 -- of a chip that the bus has: what was kept below a bound is a beginning of its journal
 pub begins_of : {V : Type 0} (state : V → VaultState) (writer : Writer V) (request : Request) (image : List ℕ) (size : ℕ) (chip : Chip) (old : ℕ → ℕ) → old ≡ chip.bytes → size ≡ chip.config.size
-    → (vault_state state writer).telling ≡ true → HasKeptBelow state writer (head_of chip) old (is_touched old (wanted_at request image size old)) (size / 4096)
-    → BeginsJournal (head_of chip) chip.bytes (is_touched_by request image chip) (vault_state state writer).bytes
+    → (vault_seen state writer).telling ≡ true → HasKeptBelow state writer (head_of chip) old (is_touched old (wanted_at request image size old)) (size / 4096)
+    → BeginsJournal (head_of chip) chip.bytes (is_touched_by request image chip) (vault_seen state writer).bytes
 begins_of state writer request image size chip old shown is_size telling begun =
     let aim = wanted_at request image size old in
     let test : (λ (s : ℕ). nat_lt s begun.bound && is_touched old aim s) ≡ (λ (s : ℕ). nat_lt s begun.bound && is_touched_by request image chip s) = fun_ext (λ s.
@@ -158,8 +158,8 @@ begins_of state writer request image size chip old shown is_size telling begun =
 
 -- what was kept of all touched sectors is one too
 pub begins_all : {V : Type 0} (state : V → VaultState) (writer : Writer V) (request : Request) (image : List ℕ) (chip : Chip) (n : ℕ)
-    → (vault_state state writer).telling ≡ true → HasPutSectors state writer (head_of chip) chip.bytes (is_touched_by request image chip) n
-    → BeginsJournal (head_of chip) chip.bytes (is_touched_by request image chip) (vault_state state writer).bytes
+    → (vault_seen state writer).telling ≡ true → HasPutSectors state writer (head_of chip) chip.bytes (is_touched_by request image chip) n
+    → BeginsJournal (head_of chip) chip.bytes (is_touched_by request image chip) (vault_seen state writer).bytes
 begins_all state writer request image chip n telling kept =
     let total = chip.config.size / 4096 in
     let test : is_touched_by request image chip ≡ (λ (s : ℕ). nat_lt s total && is_touched_by request image chip s) = fun_ext (λ s.

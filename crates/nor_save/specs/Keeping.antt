@@ -8,7 +8,7 @@ use Rattle.nor_journal.specs.Saved.{Saves, JournalSaves, is_saved}
 use Rattle.nor_journal.specs.Vault.{VaultState, Refused, Completed, Accepted}
 use Rattle.nor_plan.specs.SectorSet.{has}
 use Rattle.nor_save.specs.declared.opening.Opening.{Opening}
-use Rattle.nor_save.specs.declared.saving.Kept.{Kept}
+use Rattle.nor_save.specs.declared.saving.SavedScan.{SavedScan}
 use Rattle.nor_save.specs.declared.report.Request.{Request}
 use Rattle.nor_save.specs.declared.refusal.Refusal.{Refusal}
 use Rattle.nor_save.specs.declared.refusal.Refusal.TheVariants.{StatusLocked, Protected, Vault, Stopped}
@@ -19,7 +19,7 @@ use Rattle.nor_save.specs.Saving.{IsOpening, Shows, ScanAccepts, ScanJudges, hea
 
 -- What is left of the vault: sealed at the end; unsealed at a refusal, which is one more failure where it is the
 -- vault's.
-abbrev pub KeepPuts : Result Kept Refusal → VaultState → VaultState → Type 0
+abbrev pub KeepPuts : Result SavedScan Refusal → (old new : VaultState) → Type 0
 KeepPuts (Ok kept) old new = Completed old new
 KeepPuts (Err Vault) old new = Refused old new
 KeepPuts (Err _) old new = Accepted old new
@@ -45,7 +45,7 @@ HoldsJournal vault = vault.sealed ≡ true → vault.telling ≡ true → IsJour
 -- the image has what is wanted of the touched ones, and a telling vault has the journal of the chip, which saves just
 -- these.
 pub record KeepsChip (request : Request) (code : ℕ) (image image' : List ℕ)
-    (chip : Chip) (vault : VaultState) (kept : Kept) : Type 0 where
+    (chip : Chip) (vault : VaultState) (kept : SavedScan) : Type 0 where
   pub touched : (s : ℕ) → has kept.scanned.touched s ≡ is_touched_by request image chip s
   pub raised : (s : ℕ) → has kept.scanned.raised s ≡ is_raised_by request image chip s
   pub accepts : ScanAccepts request code (is_touched_by request image chip) chip kept.unlock
@@ -56,7 +56,7 @@ pub record KeepsChip (request : Request) (code : ℕ) (image image' : List ℕ)
 
 -- The touched sectors are known, may be changed, and stand in the journal.
 pub record Keeps (request : Request) (opening : Opening) (code : ℕ) (image image' : List ℕ)
-    (old new : BusState) (vault : VaultState) (kept : Kept) : Type 0 where
+    (old new : BusState) (vault : VaultState) (kept : SavedScan) : Type 0 where
   pub lifts : Lifts request kept.scanned.touched kept.unlock
   pub scans : Scans request opening.found.size image image' old new kept.scanned
   pub chip : (chip : Chip) → IsOpening chip opening → Shows chip old
@@ -68,7 +68,7 @@ JudgesChip request opening code image old refusal =
     (chip : Chip) → IsOpening chip opening → Shows chip old
     → ScanJudges request code (is_touched_by request image chip) chip refusal
 
-abbrev pub KeepTells : Request → Opening → ℕ → List ℕ → BusState → BusState → Refusal → Type 0
+abbrev pub KeepTells : Request → Opening → ℕ → List ℕ → (old new : BusState) → Refusal → Type 0
 KeepTells request opening code image old new Stopped =
     RanOutIfHonest (scanned_sectors request opening.found.size) old new
 KeepTells request opening code image old new Vault = ⊤

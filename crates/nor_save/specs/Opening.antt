@@ -22,7 +22,7 @@ abbrev pub status_read : Opening → List ℕ
 status_read opening = opening.found.status1 ∷ opening.status2 ∷ []
 
 -- what is read after the probe
-pub record Reads (probed : Probed) (old new : BusState) (opening : Opening) : Type 0 where
+pub record ReadsRest (probed : Probed) (old new : BusState) (opening : Opening) : Type 0 where
   pub found : opening.found ≡ probed.found
   pub transactions : opening.transactions ≡ probed.transactions + 2
   pub rested : old.honest ≡ true → Rested old new
@@ -48,7 +48,7 @@ pub record Opens (named : Option ChipName) (old new : BusState) (opening : Openi
 
 -- What a refusal tells of a probe and the readings behind it, which send at most so many transactions: a chip's is the
 -- probe's own, a stop comes where fewer were left, and a timeout, at 0, where the bus isn't honest.
-abbrev pub OpeningTells : (most : ℕ) → Option ChipName → BusState → BusState → Refusal → Type 0
+abbrev pub OpeningTells : (most : ℕ) → Option ChipName → (old new : BusState) → Refusal → Type 0
 OpeningTells most named old new NoChip = old.honest ≡ true → Tells named old new Probes.NoChip
 OpeningTells most named old new (UnknownChip fault) = old.honest ≡ true → Tells named old new (Probes.UnknownChip fault)
 OpeningTells most named old new OtherName = old.honest ≡ true → Tells named old new Probes.OtherName

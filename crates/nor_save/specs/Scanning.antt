@@ -83,13 +83,13 @@ pub record Scans (request : Request) (size : ℕ) (image image' : List ℕ) (old
       → slice_index image' a ≡ wanted_at request image size old.chip.bytes a
 
 -- What a scan may refuse: the bus stopped, with fewer transactions than sectors to read, or the vault refused.
-abbrev pub ScanTells : ℕ → BusState → BusState → Refusal → Type 0
+abbrev pub ScanTells : ℕ → (old new : BusState) → Refusal → Type 0
 ScanTells most old new Stopped = RanOutIfHonest most old new
 ScanTells most old new Vault = ⊤
 ScanTells most old new _ = ⊥
 
 -- What a scan leaves of the vault: it took all pieces, unless the refusal is the vault's.
-abbrev pub ScanPuts : {T : Type 0} → Result T Refusal → VaultState → VaultState → Type 0
+abbrev pub ScanPuts : {T : Type 0} → Result T Refusal → (old new : VaultState) → Type 0
 ScanPuts (Err Vault) old new = Refused old new
 ScanPuts _ old new = Accepted old new
 

@@ -27,5 +27,5 @@ pub use judging::{first_held, judge_opening};
 pub use opening::{Opening, open, read_on};
 pub use refusal::Refusal;
 pub use report::{Report, Request, What};
-pub use saving::{Kept, keep};
+pub use saving::{SavedScan, keep};
 pub use scanning::Scanned;

@@ -3,7 +3,7 @@ ghost use Rattle.std.specs.Prelude.{◌≡◌, ◌≤◌, IfOk, IfErr, OnErr, tr
 ghost use Rattle.nor_chip.specs.Status.{bytes_of};
 ghost use Rattle.nor_driver.specs.Looks.{Looks, RanOutIfHonest};
 ghost use Rattle.nor_probe.specs.Found.{most_probe};
-ghost use Rattle.nor_save.specs.Opening.{Opens, OpeningTells, status_read, Reads, most_opening};
+ghost use Rattle.nor_save.specs.Opening.{Opens, OpeningTells, status_read, ReadsRest, most_opening};
 
 use crate::Refusal;
 use nor_chip::{Bus, Status, Stopped};
@@ -44,7 +44,7 @@ pub fn open<B: Bus>(bus: &mut B, named: Option<ChipName>) -> Result<Opening, Ref
 pub fn read_on<B: Bus>(bus: &mut B, probed: Probed) -> Result<Opening, Stopped>
     requires { probed.transactions ≤ most_probe }
     ensures leaves { Looks 2 (B.state bus.old) (B.state bus.new) }
-    ensures reads { IfOk result (Reads probed (B.state bus.old) (B.state bus.new)) }
+    ensures reads { IfOk result (ReadsRest probed (B.state bus.old) (B.state bus.new)) }
     ensures stops { OnErr result (RanOutIfHonest 2 (B.state bus.old) (B.state bus.new)) }
 {
     let status2 = read_status2(bus)?;

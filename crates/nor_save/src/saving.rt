@@ -17,7 +17,7 @@ use nor_journal::{Vault, Writer};
 
 /// What was found and saved.
 #[derive(Clone, Copy)]
-pub struct Kept {
+pub struct SavedScan {
     pub scanned: Scanned,
     /// Protection is to be lifted.
     pub unlock: bool,
@@ -31,7 +31,7 @@ pub fn keep<B: Bus, V: Vault>(
     request: &Request,
     opening: &Opening,
     code: u8,
-) -> Result<Kept, Refusal>
+) -> Result<SavedScan, Refusal>
     requires sized { IsTrue (is_chip_size opening.now.found.size) }
     requires whole { is_data request.now.what ≡ true → length image.old ≡ opening.now.found.size }
     requires fresh { IsFresh (V.state vault.old) }
@@ -58,5 +58,5 @@ pub fn keep<B: Bus, V: Vault>(
     let scanned = scan_all(bus, &mut writer, image, request, size)?;
     let unlock = judge_scan(request, opening, &scanned.touched, code)?;
     writer.end()?;
-    Ok(Kept { scanned, unlock })
+    Ok(SavedScan { scanned, unlock })
 }

@@ -4,7 +4,7 @@ ghost use Rattle.nor_chip.specs.Size.{is_chip_size};
 ghost use Rattle.nor_chip.specs.Chip.{Chip};
 ghost use Rattle.nor_driver.specs.Looks.{Looks, RanOutIfHonest};
 ghost use Rattle.nor_journal.specs.Text.{Content};
-ghost use Rattle.nor_journal.specs.Writer.{vault_of, vault_state, HasPutSectors};
+ghost use Rattle.nor_journal.specs.Writer.{vault_of, vault_seen, HasPutSectors};
 ghost use Rattle.nor_plan.specs.SectorSet.{has};
 ghost use Rattle.nor_save.specs.Request.{scanned_sectors, is_data};
 ghost use Rattle.nor_apply.specs.Content.{is_touched};
@@ -107,11 +107,11 @@ pub fn scan_all<B: Bus, V: Vault>(
 ) -> Result<Scanned, Refusal>
     requires sized { IsTrue (is_chip_size size) }
     requires whole { is_data request.now.what ≡ true → length image.old ≡ size }
-    requires unsealed { (vault_state V.state writer.old).sealed ≡ false }
+    requires unsealed { (vault_seen V.state writer.old).sealed ≡ false }
     ensures leaves { Looks (scanned_sectors request.now size) (B.state bus.old) (B.state bus.new) }
     ensures scans { IfOk result (Scans request.now size image.old image.new (B.state bus.old) (B.state bus.new)) }
     ensures same_vault { (vault_of writer.new).ghost_name ≡ (vault_of writer.old).ghost_name }
-    ensures puts { ScanPuts result (vault_state V.state writer.old) (vault_state V.state writer.new) }
+    ensures puts { ScanPuts result (vault_seen V.state writer.old) (vault_seen V.state writer.new) }
     ensures tells { IfErr result (ScanTells (scanned_sectors request.now size) (B.state bus.old) (B.state bus.new)) }
     ensures keeps { IsOpen size (B.state bus.old) → (head : Content) → head.size ≡ size
         → HasPutSectors V.state writer.old head (B.state bus.old).chip.bytes none 0

@@ -32,8 +32,8 @@ use Rattle.nor_save.specs.Saving.{IsOpening, NoneHeld, SomeHeld, is_held}
 use Rattle.nor_save.proofs.Rests.{rested_then}
 use Rattle.nor_probe.specs.Known.{IsModelled}
 use Rattle.nor_session.specs.Made.{kinds_of}
-use Rattle.nor_session.specs.Restore.{restored, is_touched_from, is_raised_from, Fits}
-use Rattle.nor_session.specs.Preparing.{IsOfKindFound, FitsOpening, PrepareTells, ScansSaved, NeedsCodeFrom, AreChanges, MayChangeStatus, IsShut, IsPreparedFor, IsPrepared}
+use Rattle.nor_session.specs.Restore.{restored, is_touched_from, is_raised_from, Fits, NeedsStatusFrom}
+use Rattle.nor_session.specs.Preparing.{IsOfKindFound, FitsOpening, PrepareTells, ScansSaved, AreChanges, MayChangeStatus, IsShut, IsPreparedFor, IsPrepared}
 use Rattle.nor_session.proofs.ReadyChip.{told_idle}
 use Rattle.nor_session.proofs.Reopened.{opening_of}
 use Rattle.nor_session.proofs.Rescanned.{restored_saved}
@@ -76,7 +76,7 @@ rested_all journal opening scanned old mid new read honest = rested_then old mid
 
 -- ---- a status that is locked
 
-needs_from : (journal : Content) (touched other : ℕ → Bool) (chip : Chip) → ((s : ℕ) → touched s ≡ other s) → NeedsCodeFrom journal touched chip → NeedsCodeFrom journal other chip
+needs_from : (journal : Content) (touched other : ℕ → Bool) (chip : Chip) → ((s : ℕ) → touched s ≡ other s) → NeedsStatusFrom journal touched chip → NeedsStatusFrom journal other chip
 needs_from journal touched other chip same (inl differs) = inl differs
 needs_from journal touched other chip same (inr some) = inr (subst (λ (set : ℕ → Bool). SomeHeld set chip) (fun_ext same) some)
 
@@ -131,7 +131,7 @@ code_fixed journal chip fits none =
     let one = bits.one in let two = bits.two in
     omega (arith, one, two)
 
-scheme_for : (journal : Content) (touched : ℕ → Bool) (chip : Chip) → Fits journal chip → NeedsCodeFrom journal touched chip → chip.config.scheme ≡ true
+scheme_for : (journal : Content) (touched : ℕ → Bool) (chip : Chip) → Fits journal chip → NeedsStatusFrom journal touched chip → chip.config.scheme ≡ true
 scheme_for journal touched chip fits (inr some) = held_scheme touched chip some
 scheme_for journal touched chip fits (inl differs) =
     elim (cases_Bool chip.config.scheme) [
@@ -140,7 +140,7 @@ scheme_for journal touched chip fits (inl differs) =
     ]
 
 -- where the status is to be written, it can be
-writable_for : (journal : Content) (touched : ℕ → Bool) (chip : Chip) → Fits journal chip → (is_locked chip ≡ true → ¬ NeedsCodeFrom journal touched chip) → NeedsCodeFrom journal touched chip → is_writable chip ≡ true
+writable_for : (journal : Content) (touched : ℕ → Bool) (chip : Chip) → Fits journal chip → (is_locked chip ≡ true → ¬ NeedsStatusFrom journal touched chip) → NeedsStatusFrom journal touched chip → is_writable chip ≡ true
 writable_for journal touched chip fits may needs =
     let scheme = scheme_for journal touched chip fits needs in
     let unlocked : is_locked chip ≡ false = false_from_ne_true (is_locked chip) (λ locked. may locked needs) in
@@ -157,7 +157,7 @@ writes_other changes code plain writes read same =
     both_ways (writes_code changes) (ap (λ (b : Bool). not b) (eq-eqb (if changes.unlock then 0 else code_in (bytes_of changes.status)) changes.code e)) writes
 
 status_needed : (journal : Content) (touched : ℕ → Bool) (chip : Chip) (changes : Changes) → (changes.unlock ≡ true → SomeHeld touched chip) → changes.code ≡ code_in journal.status → code_in (bytes_of changes.status) ≡ code_of chip
-    → (changes.unlock || writes_code changes) ≡ true → NeedsCodeFrom journal touched chip
+    → (changes.unlock || writes_code changes) ≡ true → NeedsStatusFrom journal touched chip
 status_needed journal touched chip changes lifts code read hit =
     elim (needs_either changes.unlock (writes_code changes) hit) [
       | inl lifted ↦ inr (lifts lifted)
@@ -192,7 +192,6 @@ prepared_for journal opening scanned changes sent old mid new read are judged mo
         fits = fits;
         not_locked = λ locked needs. may.not_locked locked (needs_from journal (is_touched_from journal old.chip) set old.chip (λ s. sym (right s)) needs);
       };
-      found = is.config;
       shown = read.opens.shown modelled.honest;
       status1 = is.one;
       told = told_idle None opening old mid modelled.honest read.opens;

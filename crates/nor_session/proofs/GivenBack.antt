@@ -16,7 +16,7 @@ use Rattle.nor_chip.proofs.Sizes.{sized_bounds}
 use Rattle.nor_chip.proofs.Guarded.{is_guarded-end, is_guarded-past, is_guarded-no_scheme, is_guarded-same}
 use Rattle.nor_driver.specs.Looks.{IsCalm, LooksHonest}
 use Rattle.nor_driver.specs.Reads.{id_of, unique_of}
-use Rattle.nor_driver.specs.StatusWrites.{KeepsFixed, HasCode}
+use Rattle.nor_driver.specs.StatusWrites.{KeepsFixed, HasCode, HasKeptBits}
 use Rattle.nor_journal.specs.Text.{Content}
 use Rattle.nor_journal.specs.Saved.{is_saved}
 use Rattle.nor_probe.specs.declared.table.Part.{Part}
@@ -31,7 +31,7 @@ use Rattle.nor_apply.proofs.Changing.{within_then, within_wider}
 use Rattle.nor_save.specs.declared.refusal.Refusal.{Refusal}
 use Rattle.nor_save.specs.declared.refusal.Refusal.TheVariants.{NoChip, UnknownChip, StatusLocked, Stopped, OtherChip, OtherUnit, StatusDiffers}
 use Rattle.nor_save.specs.Saving.{SomeHeld}
-use Rattle.nor_session.specs.Restore.{restored, is_touched_from, IsOfKind, IsOfOtherUnit, HasBitsTold, HasFixedTold, RestoreTells, SavesChip, open_places, CanGiveBack}
+use Rattle.nor_session.specs.Restore.{restored, is_touched_from, IsOfKind, IsOfOtherUnit, FitsStatus, RestoreTells, SavesChip, open_places, CanGiveBack}
 use Rattle.nor_session.proofs.Rescanned.{restored_saved, restored_other}
 use Rattle.nor_session.proofs.RestoredBytes.{touched_byte, touched_saved, first_byte}
 
@@ -204,10 +204,12 @@ given_back journal first old new saves config fixed within config_now bytes fixe
 -- ---- such a chip is never refused
 
 -- the kept bits that the journal tells are fixed
-fixed_told : (journal : Content) (first chip : Chip) → HasBitsTold journal first → chip.config ≡ first.config → KeepsFixed first chip → (is_writable first ≡ false → KeptStay first chip) → HasFixedTold journal chip
+fixed_told : (journal : Content) (first chip : Chip) → HasKeptBits journal.status first → chip.config ≡ first.config → KeepsFixed first chip → (is_writable first ≡ false → KeptStay first chip) → FitsStatus journal chip
 fixed_told journal first chip bits config fixed kept = record {
-  one = let told = bits.one in let same = fixed.one in omega (arith, told, same);
-  two = let told = bits.two in let same = fixed.two in omega (arith, told, same);
+  fixed = record {
+    one = let told = bits.one in let same = fixed.one in omega (arith, told, same);
+    two = let told = bits.two in let same = fixed.two in omega (arith, told, same);
+  };
   all = λ bare.
       let shut : is_writable first ≡ false = ap (λ (c : Config). c.scheme && not (is_locked first)) (sym config) ∙ and_left chip.config.scheme (not (is_locked first)) bare in
       let stay = kept shut in
@@ -219,7 +221,7 @@ and_not true c is = ap (λ (x : Bool). not x) is
 and_not false c is = refl
 
 -- the code of a locked chip is the journal's
-code_locked : (journal : Content) (first chip : Chip) → HasBitsTold journal first → KeptStay first chip → code_of chip ≡ code_in journal.status
+code_locked : (journal : Content) (first chip : Chip) → HasKeptBits journal.status first → KeptStay first chip → code_of chip ≡ code_in journal.status
 code_locked journal first chip bits stay =
     let one = bits.one in let two = bits.two in let low = stay.0 in let high = stay.1 in
     omega (arith, one, two, low, high)

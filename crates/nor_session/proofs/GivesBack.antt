@@ -8,6 +8,7 @@ use Rattle.nor_chip.specs.Bus.{BusState}
 use Rattle.nor_chip.proofs.Sizes.{sized_bounds}
 use Rattle.nor_chip.proofs.Guarded.{is_guarded-sector}
 use Rattle.nor_driver.specs.Reads.{unique_of}
+use Rattle.nor_driver.specs.StatusWrites.{HasKeptBits}
 use Rattle.nor_journal.specs.Text.{Content, SameHead}
 use Rattle.nor_journal.specs.Vault.{VaultState}
 use Rattle.nor_journal.specs.Saved.{Saves, is_saved}
@@ -21,12 +22,12 @@ use Rattle.nor_apply.proofs.Changing.{within_wider}
 use Rattle.nor_save.specs.declared.report.Request.{Request}
 use Rattle.nor_save.specs.Request.{wanted, is_touched_by}
 use Rattle.nor_save.specs.Saving.{head_of}
-use Rattle.nor_session.specs.Restore.{HasBitsTold, SavesChip, open_places, CanGiveBack}
+use Rattle.nor_session.specs.Restore.{SavesChip, open_places, CanGiveBack}
 use Rattle.nor_session.specs.Session.{CanBeUndone}
 use Rattle.nor_session.specs.Rehearsing.{LeadsBack}
 
 -- the status bytes of the head tell the kept bits
-bits_told : (first : Chip) (journal : Content) → first.kept2 < 128 → SameHead (head_of first) journal → HasBitsTold journal first
+bits_told : (first : Chip) (journal : Content) → first.kept2 < 128 → SameHead (head_of first) journal → HasKeptBits journal.status first
 bits_told first journal small same = record {
   one =
       let one : slice_index journal.status 0 ≡ 4 * first.kept1 = ap (λ (bytes : List ℕ). slice_index bytes 0) (sym same.status) in

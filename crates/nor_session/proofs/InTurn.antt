@@ -50,7 +50,7 @@ same_code journal first chip saves same =
     let high : chip.kept2 / 64 % 2 ≡ slice_index journal.status 1 / 64 % 2 = let e = same.kept2 in omega arith in
     omega arith
 
-never_needed : (journal : Content) (first chip : Chip) → SavesChip journal first → IsSame first chip → ¬ NeedsStatusFrom journal chip
+never_needed : (journal : Content) (first chip : Chip) → SavesChip journal first → IsSame first chip → ¬ NeedsStatusFrom journal (is_touched_from journal chip) chip
 never_needed journal first chip saves same needs = elim needs [
   | inl differs ↦ differs (same_code journal first chip saves same)
   | inr held ↦

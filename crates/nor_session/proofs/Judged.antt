@@ -10,7 +10,7 @@ use Rattle.nor_journal.specs.Text.{Content}
 use Rattle.nor_save.specs.declared.opening.Opening.{Opening}
 use Rattle.nor_save.specs.Opening.{status_read}
 use Rattle.nor_save.specs.Saving.{IsOpening, IsLeastHeld, NoneHeld, SomeHeld, is_held}
-use Rattle.nor_session.specs.Preparing.{NeedsCodeFrom}
+use Rattle.nor_session.specs.Restore.{NeedsStatusFrom}
 
 pub some_held : (found : Option ℕ) (touched : ℕ → Bool) (chip : Chip) → MatchOption found (NoneHeld touched chip) (IsLeastHeld touched chip) → is_some found ≡ true → SomeHeld touched chip
 some_held (Some s) touched chip held is = record { sector = s; held = held.is }
@@ -22,7 +22,7 @@ some_or_none None touched chip held = inr held
 
 -- no status write is needed
 pub none_needed : (journal : Content) (touched : ℕ → Bool) (chip : Chip) (found : Option ℕ) → MatchOption found (NoneHeld touched chip) (IsLeastHeld touched chip) → is_some found ≡ false
-    → code_of chip ≡ code_in journal.status → ¬ NeedsCodeFrom journal touched chip
+    → code_of chip ≡ code_in journal.status → ¬ NeedsStatusFrom journal touched chip
 none_needed journal touched chip (Some s) held is code needs = absurd cc
 none_needed journal touched chip None held is code needs =
     elim needs [

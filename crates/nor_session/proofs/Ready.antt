@@ -17,7 +17,7 @@ use Rattle.nor_apply.specs.Spending.{Spends}
 use Rattle.nor_apply.specs.Applying.{status_writes, writes_code}
 use Rattle.nor_apply.proofs.ProgrammingWhole.{room}
 use Rattle.nor_save.specs.declared.opening.Opening.{Opening}
-use Rattle.nor_save.specs.declared.saving.Kept.{Kept}
+use Rattle.nor_save.specs.declared.saving.SavedScan.{SavedScan}
 use Rattle.nor_save.specs.declared.report.Request.{Request}
 use Rattle.nor_save.specs.declared.report.What.{What}
 use Rattle.nor_save.specs.declared.report.What.TheVariants.{Write, Erase, WpRange}
@@ -33,7 +33,7 @@ use Rattle.nor_session.specs.Session.{most_status_writes, IsWithinBound}
 use Rattle.nor_session.proofs.Changed.{two_writes}
 
 -- what is changed of a chip with this opening, of which this was kept
-abbrev pub changes_of : Opening → Kept → Status → ℕ → Changes
+abbrev pub changes_of : Opening → SavedScan → Status → ℕ → Changes
 changes_of opening kept status code =
     record {
       touched = kept.scanned.touched;
@@ -45,7 +45,7 @@ changes_of opening kept status code =
       code = code;
     }
 
-pub record Ready (request : Request) (opening : Opening) (status : Status) (code : ℕ) (kept : Kept) (old mid : BusState) : Type 0 where
+pub record Ready (request : Request) (opening : Opening) (status : Status) (code : ℕ) (kept : SavedScan) (old mid : BusState) : Type 0 where
   pub part : IsPart opening.found
   pub looked : HasLooked (opening.transactions + kept.scanned.reads) old mid
   pub least : 4 ≤ opening.transactions
@@ -68,7 +68,7 @@ has_opened request opening old mid looks opens = record {
   sent = opens.count;
 }
 
-pub ready : (request : Request) (opening : Opening) (status : Status) (code most : ℕ) (image image' : List ℕ) (vault : _) (kept : Kept) (old mid new : BusState) → Looks most_opening old mid → Opens request.named old mid opening
+pub ready : (request : Request) (opening : Opening) (status : Status) (code most : ℕ) (image image' : List ℕ) (vault : _) (kept : SavedScan) (old mid new : BusState) → Looks most_opening old mid → Opens request.named old mid opening
     → Looks most mid new → Keeps request opening code image image' mid new vault kept → bytes_of status ≡ status_read opening
     → (is_data request.what ≡ true → code ≡ code_in (status_read opening)) → Ready request opening status code kept old new
 ready request opening status code most image image' vault kept old mid new looks opens more keeps is_status same_code = record {
@@ -103,7 +103,7 @@ pub scanned_few : (request : Request) (size : ℕ) → size ≤ 16777216 → sca
 scanned_few request size small = let most = scanned_most request size in omega arith
 
 -- the touched ones were scanned
-touched_few : (request : Request) (opening : Opening) (status : Status) (code : ℕ) (kept : Kept) (old mid : BusState) → Ready request opening status code kept old mid
+touched_few : (request : Request) (opening : Opening) (status : Status) (code : ℕ) (kept : SavedScan) (old mid : BusState) → Ready request opening status code kept old mid
     → touched_count (changes_of opening kept status code) ≤ scanned_sectors request opening.found.size
 touched_few request opening status code kept old mid is =
     let count = is.marks.count in let fewer = is.fewer in let reads = is.reads in
@@ -126,7 +126,7 @@ spends_looks m n old new fits looks = record {
 }
 
 -- after the readings come the changes
-pub spends_ready : (request : Request) (opening : Opening) (status : Status) (code : ℕ) (kept : Kept) (old mid new : BusState) → Ready request opening status code kept old mid
+pub spends_ready : (request : Request) (opening : Opening) (status : Status) (code : ℕ) (kept : SavedScan) (old mid new : BusState) → Ready request opening status code kept old mid
     → Spends (most_changed (changes_of opening kept status code)) mid new → Spends (most_of (scanned_sectors request opening.found.size)) old new
 spends_ready request opening status code kept old mid new is spends =
     let count = touched_few request opening status code kept old mid is in
@@ -140,7 +140,7 @@ spends_ready request opening status code kept old mid new is spends =
           record { fell = omega arith; bound = omega arith };
     }
 
-pub ran_out_ready : (request : Request) (opening : Opening) (status : Status) (code : ℕ) (kept : Kept) (old mid new : BusState) → old.honest ≡ true → Ready request opening status code kept old mid
+pub ran_out_ready : (request : Request) (opening : Opening) (status : Status) (code : ℕ) (kept : SavedScan) (old mid new : BusState) → old.honest ≡ true → Ready request opening status code kept old mid
     → RanOut (most_changed (changes_of opening kept status code)) mid new → RanOut (most_of (scanned_sectors request opening.found.size)) old new
 ran_out_ready request opening status code kept old mid new honest is ran =
     let count = touched_few request opening status code kept old mid is in
@@ -166,11 +166,11 @@ writes_one changes off =
     omega arith
 
 -- the code that was read is that of the opening
-pub code_opened : (opening : Opening) (kept : Kept) (status : Status) (code : ℕ) → bytes_of status ≡ status_read opening → code_in (bytes_of (changes_of opening kept status code).status) ≡ code_in (status_read opening)
+pub code_opened : (opening : Opening) (kept : SavedScan) (status : Status) (code : ℕ) → bytes_of status ≡ status_read opening → code_in (bytes_of (changes_of opening kept status code).status) ≡ code_in (status_read opening)
 code_opened opening kept status code is_status = ap code_in is_status
 
 -- what is touched was scanned, so the request is about bytes
-pub touched_data : (request : Request) (opening : Opening) (kept : Kept) (s : ℕ) → opening.found.size ≤ 16777216 → AreMarks (opening.found.size / 4096) kept.scanned → kept.scanned.count ≤ kept.scanned.reads
+pub touched_data : (request : Request) (opening : Opening) (kept : SavedScan) (s : ℕ) → opening.found.size ≤ 16777216 → AreMarks (opening.found.size / 4096) kept.scanned → kept.scanned.count ≤ kept.scanned.reads
     → kept.scanned.reads ≡ scanned_sectors request opening.found.size → has kept.scanned.touched s ≡ true → is_data request.what ≡ true
 touched_data request opening kept s large marks fewer reads some = elim (cases_Bool (is_data request.what)) [
   | inl is ↦ is
@@ -187,7 +187,7 @@ cases_of true never = absurd (never refl)
 cases_of false never = refl
 
 -- nothing is lifted where nothing was scanned
-pub lifts_none : (request : Request) (opening : Opening) (status : Status) (code : ℕ) (kept : Kept) (old mid : BusState) → Ready request opening status code kept old mid → is_data request.what ≡ false → kept.unlock ≡ false
+pub lifts_none : (request : Request) (opening : Opening) (status : Status) (code : ℕ) (kept : SavedScan) (old mid : BusState) → Ready request opening status code kept old mid → is_data request.what ≡ false → kept.unlock ≡ false
 lifts_none request opening status code kept old mid is other = cases_of kept.unlock (λ lifted.
     let some = (is.lifts lifted).1 in
     absurd (true≢false (sym (touched_data request opening kept some.0 is.part.at_most is.marks is.fewer is.reads some.1) ∙ other)))
@@ -198,13 +198,13 @@ lifted_or_not true false n two lifts none = absurd (true≢false (sym (lifts ref
 lifted_or_not false false n two lifts none = let zero = none refl in omega arith
 
 -- a request about bytes writes the status only where protection may be lifted
-writes_data : (request : Request) (opening : Opening) (status : Status) (code : ℕ) (kept : Kept) (old mid : BusState) → is_data request.what ≡ true → Ready request opening status code kept old mid
+writes_data : (request : Request) (opening : Opening) (status : Status) (code : ℕ) (kept : SavedScan) (old mid : BusState) → is_data request.what ≡ true → Ready request opening status code kept old mid
     → status_writes (changes_of opening kept status code) ≤ (if request.unlock then 2 else 0)
 writes_data request opening status code kept old mid about_bytes is =
     lifted_or_not kept.unlock request.unlock (status_writes (changes_of opening kept status code)) (two_writes (changes_of opening kept status code)) (λ lifted. (is.lifts lifted).0)
     (λ off. writes_none (changes_of opening kept status code) off (code_opened opening kept status code is.is_status ∙ sym (is.same_code about_bytes)))
 
-writes_few_by : (what : What) (request : Request) (opening : Opening) (status : Status) (code : ℕ) (kept : Kept) (old mid : BusState) → request.what ≡ what → Ready request opening status code kept old mid
+writes_few_by : (what : What) (request : Request) (opening : Opening) (status : Status) (code : ℕ) (kept : SavedScan) (old mid : BusState) → request.what ≡ what → Ready request opening status code kept old mid
     → status_writes (changes_of opening kept status code) ≤ most_status_writes what request.unlock
 writes_few_by (WpRange start len) request opening status code kept old mid is_what is =
     writes_one (changes_of opening kept status code) (lifts_none request opening status code kept old mid is (ap is_data is_what))
@@ -213,14 +213,14 @@ writes_few_by Write request opening status code kept old mid is_what is =
 writes_few_by Erase request opening status code kept old mid is_what is =
     writes_data request opening status code kept old mid (ap is_data is_what) is
 
-pub writes_few : (request : Request) (opening : Opening) (status : Status) (code : ℕ) (kept : Kept) (old mid : BusState) → Ready request opening status code kept old mid
+pub writes_few : (request : Request) (opening : Opening) (status : Status) (code : ℕ) (kept : SavedScan) (old mid : BusState) → Ready request opening status code kept old mid
     → status_writes (changes_of opening kept status code) ≤ most_status_writes request.what request.unlock
 writes_few request opening status code kept old mid is = writes_few_by request.what request opening status code kept old mid refl is
 
 -- ---- the report
 
 -- where the status is written at most so often
-pub bounded_by : (request : Request) (opening : Opening) (status : Status) (code : ℕ) (kept : Kept) (old mid new : BusState) (wanted : ℕ → ℕ) (verify : Bool) (work : Work) (sent most : ℕ) → sent ≡ kept.scanned.reads
+pub bounded_by : (request : Request) (opening : Opening) (status : Status) (code : ℕ) (kept : SavedScan) (old mid new : BusState) (wanted : ℕ → ℕ) (verify : Bool) (work : Work) (sent most : ℕ) → sent ≡ kept.scanned.reads
     → Ready request opening status code kept old mid → status_writes (changes_of opening kept status code) ≤ most
     → DoesChange (changes_of opening kept status code) wanted verify mid new work
     → IsWithinBound (scanned_sectors request opening.found.size) most verify
@@ -238,7 +238,7 @@ bounded_by request opening status code kept old mid new wanted verify work sent 
       least = omega arith;
     }
 
-pub bounded : (request : Request) (opening : Opening) (status : Status) (code : ℕ) (kept : Kept) (old mid new : BusState) (wanted : ℕ → ℕ) (verify : Bool) (work : Work) (sent : ℕ) → sent ≡ kept.scanned.reads → Ready request opening status code kept old mid
+pub bounded : (request : Request) (opening : Opening) (status : Status) (code : ℕ) (kept : SavedScan) (old mid new : BusState) (wanted : ℕ → ℕ) (verify : Bool) (work : Work) (sent : ℕ) → sent ≡ kept.scanned.reads → Ready request opening status code kept old mid
     → DoesChange (changes_of opening kept status code) wanted verify mid new work
     → IsWithinBound (scanned_sectors request opening.found.size) (most_status_writes request.what request.unlock) verify
     (record { found = opening.found; touched = kept.scanned.count; erases = work.erases; programs = work.programs; transactions = opening.transactions + sent + work.transactions })

@@ -16,7 +16,8 @@ use Rattle.nor_save.specs.declared.refusal.Refusal.TheVariants.{NoChip, UnknownC
 use Rattle.nor_save.specs.Refusal.{number_of}
 use Rattle.nor_save.specs.Request.{wanted, scanned_sectors, is_touched_by, is_raised_by}
 use Rattle.nor_save.specs.Keeping.{IsJournal, HoldsJournal}
-use Rattle.nor_probe.specs.Known.{IsModelled}
+use Rattle.nor_probe.specs.Known.{IsGenuine, IsModelled}
+use Rattle.nor_probe.proofs.Configs.{shown_config}
 use Rattle.nor_save.specs.Opening.{most_opening}
 use Rattle.nor_session.specs.Bounds.{most_looked, most_of}
 use Rattle.nor_session.specs.Made.{AreFewestErases}
@@ -74,11 +75,12 @@ session_leaves n most few request image old mid new vault allows telling reaches
 }
 
 -- it took what it counts
-took : (n : ℕ) (request : Request) (image : List ℕ) (mid new : BusState) (vault : VaultState) (report : Report) → mid.left ≡ n → EndsSealed request vault report
-    → mid.left ≡ new.left + report.transactions → IsDone request image mid new report → least_needed request image mid.chip report.erases ≤ n
-took n request image mid new vault report left ends sent done =
+took : (n : ℕ) (request : Request) (image : List ℕ) (mid new : BusState) (vault : VaultState) (report : Report) → mid.left ≡ n → IsGenuine mid.chip.config
+    → EndsSealed request vault report → mid.left ≡ new.left + report.transactions → IsDone request image mid new report → least_needed request image mid.chip report.erases ≤ n
+took n request image mid new vault report left genuine ends sent done =
     let least = ends.bounded.least in
-    let scanned : scanned_sectors request report.found.size ≡ scanned_sectors request mid.chip.config.size = ap (scanned_sectors request) done.made.found.size in
+    let size = (shown_config mid.chip.config report.found genuine done.made.shown).size in
+    let scanned : scanned_sectors request report.found.size ≡ scanned_sectors request mid.chip.config.size = ap (scanned_sectors request) size in
     let programs = done.made.programs in
     omega arith
 
@@ -103,7 +105,7 @@ session_ends n request image old mid new vault report allows ends sent done undo
         erases = report.erases;
         fewest = subst (λ (chip : Chip). AreFewestErases chip.config (is_raised_by request image chip) report.erases) allows.chip (done mid_modelled).made.erases;
         enough = subst (λ (chip : Chip). least_needed request image chip report.erases ≤ n) allows.chip
-            (took n request image mid new vault report (allows.left modelled.honest) ends (sent mid_modelled.honest) (done mid_modelled));
+            (took n request image mid new vault report (allows.left modelled.honest) mid_modelled.genuine ends (sent mid_modelled.honest) (done mid_modelled));
       };
   bytes = λ modelled ended. subst (λ (chip : Chip). (a : ℕ) → new.chip.bytes a ≡ wanted request image chip a) allows.chip (done (allow_modelled n old mid allows modelled)).made.bytes;
   bits = λ modelled ended. subst (λ (chip : Chip). HasWantedBits request.what chip new.chip) allows.chip (wanted_bits request image mid new report (done (allow_modelled n old mid allows modelled)));

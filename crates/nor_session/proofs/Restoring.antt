@@ -232,7 +232,7 @@ restored_bounded journal prepared old mid new work sent are does sum =
 
 -- where no status write is needed, there is none
 pub restored_sparing : (journal : Content) (prepared : Prepared) (old mid new : BusState) (work : Work) (sent : ℕ) → AreChanged journal prepared old mid new
-    → DoesChange prepared.changes (saved_byte journal) true mid new work → sent ≡ prepared.transactions + work.transactions → IsModelled old → ¬ NeedsStatusFrom journal old.chip
+    → DoesChange prepared.changes (saved_byte journal) true mid new work → sent ≡ prepared.transactions + work.transactions → IsModelled old → ¬ NeedsStatusFrom journal (is_touched_from journal old.chip) old.chip
     → IsWithinBound (length journal.saved) 0 true (report_of prepared work sent)
 restored_sparing journal prepared old mid new work sent are does sum modelled none =
     restored_within journal prepared old mid new work sent 0 are does sum (no_write prepared.changes (λ writes. none ((are.is.modelled modelled).needed writes)))
@@ -263,7 +263,6 @@ restored_done journal prepared old mid new work sent are does modelled =
         idle = applied.idle;
         latch = λ set. (are.is.rested modelled.honest).latch (applied.latch set);
         worn = λ s. applied.worn s ∙ ap (λ (b : Bool). b || raised_in changes s) (same.worn s) ∙ ap (λ (b : Bool). old.worn s || b) (for.raised s);
-        found = for.found;
         shown = for.shown;
         status1 = for.status1;
         told = for.told;

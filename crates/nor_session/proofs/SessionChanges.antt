@@ -7,6 +7,7 @@ use Rattle.std.proofs.lemmas.Bool.{cases_Bool, cases_eq, ne_eqb, eq-eqb, and_par
 use Rattle.nor_chip.specs.declared.config.Config.{Config}
 use Rattle.nor_chip.specs.declared.status.Status.{Status}
 use Rattle.nor_chip.specs.Status.{bytes_of}
+use Rattle.nor_driver.specs.StatusWrites.{HasKeptBits}
 use Rattle.nor_chip.specs.Code.{code_in}
 use Rattle.nor_chip.specs.Chip.{Chip, IsSame, is_locked, status1_of}
 use Rattle.nor_chip.specs.Guard.{code_of, is_guarded, is_unit_guarded}
@@ -16,12 +17,12 @@ use Rattle.nor_driver.specs.Looks.{Rested}
 use Rattle.nor_plan.specs.SectorSet.{has}
 use Rattle.nor_apply.specs.Content.{must_rise, is_touched, is_raised}
 use Rattle.nor_apply.specs.Within.{is_writable}
-use Rattle.nor_apply.specs.Applying.{CanApply, HasKeptBits, writes_code}
+use Rattle.nor_apply.specs.Applying.{CanApply, writes_code}
 use Rattle.nor_journal.specs.Vault.{VaultState}
 use Rattle.nor_apply.proofs.Kept.{kept_fixed, writable_same}
 use Rattle.nor_apply.proofs.Counting.{any_below-false}
 use Rattle.nor_save.specs.declared.opening.Opening.{Opening}
-use Rattle.nor_save.specs.declared.saving.Kept.{Kept}
+use Rattle.nor_save.specs.declared.saving.SavedScan.{SavedScan}
 use Rattle.nor_save.specs.declared.report.Request.{Request}
 use Rattle.nor_save.specs.declared.report.What.{What}
 use Rattle.nor_save.specs.declared.report.What.TheVariants.{Write, Erase, WpRange}
@@ -38,7 +39,7 @@ use Rattle.nor_session.proofs.Ready.{Ready, changes_of, code_opened, lifts_none,
 use Rattle.nor_session.proofs.ReadyChip.{ran_out_sized}
 
 -- All that is known of a chip whose touched sectors are saved, where it is what it shows itself to be.
-pub record ReadyChip (request : Request) (image image' : List ℕ) (opening : Opening) (code : ℕ) (kept : Kept) (old mid : BusState) : Type 0 where
+pub record ReadyChip (request : Request) (image image' : List ℕ) (opening : Opening) (code : ℕ) (kept : SavedScan) (old mid : BusState) : Type 0 where
   pub honest : old.honest ≡ true
   pub is : IsOpening old.chip opening
   pub shown : shown_as old.chip.config ≡ Ok (part_in opening.found)
@@ -61,8 +62,8 @@ first_of a b x y same = ap (λ (l : List ℕ). slice_index l 0) same
 second_of : (a b x y : ℕ) → a ∷ b ∷ [] ≡ x ∷ y ∷ [] → b ≡ y
 second_of a b x y same = ap (λ (l : List ℕ). slice_index l 1) same
 
-pub kept_bits : (opening : Opening) (kept : Kept) (status : Status) (code : ℕ) (old new : BusState) → bytes_of status ≡ status_read opening → IsOpening old.chip opening → old.chip.kept2 < 128
-    → IsSame old.chip new.chip → HasKeptBits (changes_of opening kept status code) new.chip
+pub kept_bits : (opening : Opening) (kept : SavedScan) (status : Status) (code : ℕ) (old new : BusState) → bytes_of status ≡ status_read opening → IsOpening old.chip opening → old.chip.kept2 < 128
+    → IsSame old.chip new.chip → HasKeptBits (bytes_of status) new.chip
 kept_bits opening kept status code old new is_status is small same =
     let one : status.one.0 ≡ opening.found.status1 = first_of _ _ _ _ is_status in
     let two : status.two.0 ≡ opening.status2 = second_of _ _ _ _ is_status in
@@ -98,7 +99,7 @@ needs_code Write unlock code touched chip other differ = absurd (true≢false ot
 needs_code Erase unlock code touched chip other differ = absurd (true≢false other)
 
 -- why it is written
-pub needs : (request : Request) (image image' : List ℕ) (opening : Opening) (status : Status) (code : ℕ) (kept : Kept) (old mid : BusState) → Ready request opening status code kept old mid
+pub needs : (request : Request) (image image' : List ℕ) (opening : Opening) (status : Status) (code : ℕ) (kept : SavedScan) (old mid : BusState) → Ready request opening status code kept old mid
     → ReadyChip request image image' opening code kept old mid → (kept.unlock || writes_code (changes_of opening kept status code)) ≡ true
     → NeedsStatus request.what request.unlock code (is_touched_by request image old.chip) old.chip
 needs request image image' opening status code kept old mid is of writes = elim (cases_Bool (is_data request.what)) [
@@ -144,7 +145,7 @@ writable_if true false has free = refl
 writable_if true true has free = absurd (true≢false free)
 writable_if false locked has free = absurd (true≢false (sym has))
 
-pub writable : (request : Request) (image image' : List ℕ) (opening : Opening) (status : Status) (code : ℕ) (kept : Kept) (old mid : BusState) → Ready request opening status code kept old mid
+pub writable : (request : Request) (image image' : List ℕ) (opening : Opening) (status : Status) (code : ℕ) (kept : SavedScan) (old mid : BusState) → Ready request opening status code kept old mid
     → ReadyChip request image image' opening code kept old mid → (kept.unlock || writes_code (changes_of opening kept status code)) ≡ true → is_writable old.chip ≡ true
 writable request image image' opening status code kept old mid is of writes =
     let need = needs request image image' opening status code kept old mid is of writes in
@@ -185,7 +186,7 @@ falls_of request image chip a touched low =
     let flat : is_raised chip.bytes aim (a / 4096) ≡ false = sym (ap (λ (b : Bool). b && is_raised chip.bytes aim (a / 4096)) below) ∙ low in
     stays_low (chip.bytes a) (aim a) (place_low chip.bytes aim a flat)
 
-pub can_apply : (request : Request) (image image' : List ℕ) (opening : Opening) (status : Status) (code : ℕ) (kept : Kept) (old mid : BusState) → Ready request opening status code kept old mid
+pub can_apply : (request : Request) (image image' : List ℕ) (opening : Opening) (status : Status) (code : ℕ) (kept : SavedScan) (old mid : BusState) → Ready request opening status code kept old mid
     → ReadyChip request image image' opening code kept old mid → CanApply (changes_of opening kept status code) (λ a. slice_index image' a) mid.chip
 can_apply request image image' opening status code kept old mid is of =
     let same = of.rested.unchanged.same in
@@ -216,7 +217,7 @@ can_apply request image image' opening status code kept old mid is of =
 
 -- ---- what a refusal tells
 
-pub change_gives_up : (request : Request) (opening : Opening) (status : Status) (code : ℕ) (kept : Kept) (aim : ℕ → ℕ) (old mid new : BusState) (refusal : Refusal) → old.honest ≡ true
+pub change_gives_up : (request : Request) (opening : Opening) (status : Status) (code : ℕ) (kept : SavedScan) (aim : ℕ → ℕ) (old mid new : BusState) (refusal : Refusal) → old.honest ≡ true
     → Ready request opening status code kept old mid → ChangeTells (changes_of opening kept status code) aim mid new refusal → HonestTells (most_of 4096) (λ refusal. number_of refusal ≤ 11) old new refusal
 change_gives_up request opening status code kept aim old mid new Stopped honest is tells =
     let ran = ran_out_ready request opening status code kept old mid new honest is (tells (is.looked.honest ∙ honest)) in
@@ -226,7 +227,7 @@ change_gives_up request opening status code kept aim old mid new (Timeout addres
 change_gives_up request opening status code kept aim old mid new (Mismatch address) honest is tells = λ judged. let past : 14 ≤ 11 = judged in absurd (omega arith)
 change_gives_up request opening status code kept aim old mid new _ honest is tells = absurd tells
 
-pub change_tells : (request : Request) (image image' : List ℕ) (opening : Opening) (status : Status) (code : ℕ) (kept : Kept) (old mid new : BusState) (vault vault' : VaultState) (refusal : Refusal)
+pub change_tells : (request : Request) (image image' : List ℕ) (opening : Opening) (status : Status) (code : ℕ) (kept : SavedScan) (old mid new : BusState) (vault vault' : VaultState) (refusal : Refusal)
     → Ready request opening status code kept old mid → ReadyChip request image image' opening code kept old mid
     → ChangeTells (changes_of opening kept status code) (λ a. slice_index image' a) mid new refusal → SessionTells request image old new vault vault' refusal
 change_tells request image image' opening status code kept old mid new vault vault' Stopped is of tells =

@@ -24,7 +24,7 @@ use Rattle.nor_apply.proofs.Changing.{within_then, same_within}
 use Rattle.nor_apply.proofs.Counting.{any_below-false, any_below-same, count_below-same}
 use Rattle.nor_apply.proofs.Kept.{fixed_then, kept_fixed}
 use Rattle.nor_save.specs.declared.opening.Opening.{Opening}
-use Rattle.nor_save.specs.declared.saving.Kept.{Kept}
+use Rattle.nor_save.specs.declared.saving.SavedScan.{SavedScan}
 use Rattle.nor_save.specs.declared.report.Request.{Request}
 use Rattle.nor_save.specs.Request.{is_data, wanted, scanned_sectors, is_touched_by, is_raised_by}
 use Rattle.nor_save.specs.Opening.{Opens, most_opening}
@@ -41,7 +41,7 @@ use Rattle.nor_session.proofs.ReadyChip.{is_opening, told_idle, shows, named}
 use Rattle.nor_session.proofs.SessionChanges.{ReadyChip, can_apply, needs}
 use Rattle.nor_session.proofs.OneVerdict.{free_or_lifts, locked_code}
 
-pub ready_chip : (request : Request) (image image' : List ℕ) (opening : Opening) (status : Status) (code : ℕ) (kept : Kept) (old mid new : BusState) (vault : VaultState) → IsModelled old
+pub ready_chip : (request : Request) (image image' : List ℕ) (opening : Opening) (status : Status) (code : ℕ) (kept : SavedScan) (old mid new : BusState) (vault : VaultState) → IsModelled old
     → Looks most_opening old mid → Opens request.named old mid opening → Ready request opening status code kept old new
     → (IsOpening old.chip opening → OpeningAccepts request (length image) old.chip code) → Keeps request opening code image image' mid new vault kept
     → ((a : ℕ) → slice_index image' a < 256) → old.chip.kept2 < 128 → ReadyChip request image image' opening code kept old new
@@ -73,7 +73,7 @@ and_right true c is none = none
 and_right false c is none = absurd (true≢false (sym is))
 
 -- the changes are on the way to the wanted chip
-may_change_wanted : (request : Request) (image image' : List ℕ) (opening : Opening) (status : Status) (code : ℕ) (kept : Kept) (old mid new : BusState) → Ready request opening status code kept old mid
+may_change_wanted : (request : Request) (image image' : List ℕ) (opening : Opening) (status : Status) (code : ℕ) (kept : SavedScan) (old mid new : BusState) → Ready request opening status code kept old mid
     → ReadyChip request image image' opening code kept old mid → MayChange (has kept.scanned.touched) (has kept.scanned.raised) (λ a. slice_index image' a) mid new
     → MayChange (is_touched_by request image old.chip) (is_raised_by request image old.chip) (wanted request image old.chip) old new
 may_change_wanted request image image' opening status code kept old mid new is of change =
@@ -91,7 +91,7 @@ may_change_wanted request image image' opening status code kept old mid new is o
       worn = λ s plain. change.worn s (of.raised s ∙ plain) ∙ of.rested.unchanged.worn s;
     }
 
-pub can_be_undone : (request : Request) (image image' : List ℕ) (opening : Opening) (status : Status) (code : ℕ) (kept : Kept) (old mid ready new : BusState) (vault : VaultState) → IsModelled old
+pub can_be_undone : (request : Request) (image image' : List ℕ) (opening : Opening) (status : Status) (code : ℕ) (kept : SavedScan) (old mid ready new : BusState) (vault : VaultState) → IsModelled old
     → Looks most_opening old mid → Opens request.named old mid opening → Keeps request opening code image image' mid ready vault kept
     → Ready request opening status code kept old ready → ReadyChip request image image' opening code kept old ready
     → LeavesChange (changes_of opening kept status code) (λ a. slice_index image' a) ready new → CanBeUndone request image old new vault
@@ -156,7 +156,7 @@ left_out : (b : Bool) (x y z : ℕ) → x ≡ (if b then y else z) → b ≡ fal
 left_out true x y z is off = absurd (true≢false off)
 left_out false x y z is off = is
 
-bytes_done : (request : Request) (image image' : List ℕ) (opening : Opening) (status : Status) (code : ℕ) (kept : Kept) (old mid new : BusState) → Ready request opening status code kept old mid
+bytes_done : (request : Request) (image image' : List ℕ) (opening : Opening) (status : Status) (code : ℕ) (kept : SavedScan) (old mid new : BusState) → Ready request opening status code kept old mid
     → ReadyChip request image image' opening code kept old mid → HasApplied (changes_of opening kept status code) (λ a. slice_index image' a) mid new
     → (a : ℕ) → new.chip.bytes a ≡ wanted request image old.chip a
 bytes_done request image image' opening status code kept old mid new is of applied a =
@@ -184,7 +184,7 @@ page_same touched old aim aim' page same = elim (cases_Bool (touched (page / 16)
   | inr off ↦ ap (λ (b : Bool). b && is_page_other old aim page) off ∙ sym (ap (λ (b : Bool). b && is_page_other old aim' page) off)
 ]
 
-programs_done : (request : Request) (image image' : List ℕ) (opening : Opening) (code : ℕ) (kept : Kept) (old mid : BusState) → ReadyChip request image image' opening code kept old mid
+programs_done : (request : Request) (image image' : List ℕ) (opening : Opening) (code : ℕ) (kept : SavedScan) (old mid : BusState) → ReadyChip request image image' opening code kept old mid
     → count_below 65536 (is_programmed (has kept.scanned.touched) (once_erased (has kept.scanned.raised) mid.chip.bytes) (λ a. slice_index image' a))
     ≡ count_below 65536 (is_programmed (is_touched_by request image old.chip) (once_erased (is_raised_by request image old.chip) old.chip.bytes) (wanted request image old.chip))
 programs_done request image image' opening code kept old mid of =
@@ -201,7 +201,7 @@ raised_inside : (request : Request) (image : List ℕ) (chip : Chip) (s : ℕ) �
 raised_inside request image chip s raised =
     ltb-true s (chip.config.size / 4096) (and_parts (nat_lt s (chip.config.size / 4096)) (is_raised chip.bytes (wanted request image chip) s) raised).0
 
-pub done : (request : Request) (image image' : List ℕ) (opening : Opening) (status : Status) (code : ℕ) (kept : Kept) (old mid new : BusState) (verify : Bool) (work : Work) (sent : ℕ) → Ready request opening status code kept old mid
+pub done : (request : Request) (image image' : List ℕ) (opening : Opening) (status : Status) (code : ℕ) (kept : SavedScan) (old mid new : BusState) (verify : Bool) (work : Work) (sent : ℕ) → Ready request opening status code kept old mid
     → ReadyChip request image image' opening code kept old mid → DoesChange (changes_of opening kept status code) (λ a. slice_index image' a) verify mid new work
     → IsDone request image old new (record { found = opening.found; touched = kept.scanned.count; erases = work.erases; programs = work.programs; transactions = opening.transactions + sent + work.transactions })
 done request image image' opening status code kept old mid new verify work sent is of does =
@@ -217,7 +217,6 @@ done request image image' opening status code kept old mid new verify work sent 
         idle = applied.idle;
         latch = λ set. of.rested.latch (applied.latch set);
         worn = λ s. applied.worn s ∙ ap (λ (b : Bool). b || has kept.scanned.raised s) (of.rested.unchanged.worn s) ∙ ap (λ (b : Bool). old.worn s || b) (of.raised s);
-        found = of.is.config;
         shown = of.shown;
         status1 = of.is.one;
         told = of.told;
@@ -238,7 +237,7 @@ done request image image' opening status code kept old mid new verify work sent 
     }
 
 -- where the request needs no status write, there is none
-pub spared : (request : Request) (image image' : List ℕ) (opening : Opening) (status : Status) (code : ℕ) (kept : Kept) (old mid new : BusState) (wanted : ℕ → ℕ) (verify : Bool) (work : Work) (sent : ℕ)
+pub spared : (request : Request) (image image' : List ℕ) (opening : Opening) (status : Status) (code : ℕ) (kept : SavedScan) (old mid new : BusState) (wanted : ℕ → ℕ) (verify : Bool) (work : Work) (sent : ℕ)
     → sent ≡ kept.scanned.reads → Ready request opening status code kept old mid → ReadyChip request image image' opening code kept old mid → NeedsNoStatus request image old.chip
     → DoesChange (changes_of opening kept status code) wanted verify mid new work
     → IsWithinBound (scanned_sectors request old.chip.config.size) 0 verify

@@ -44,7 +44,7 @@ pub record DoesCheck (changes : Changes) (wanted : ℕ → ℕ) (verify : Bool) 
       → (a : ℕ) → touched_in changes (a / 4096) ≡ true → old.chip.bytes a ≡ wanted a
 
 -- Why it wasn't passed: the bus stopped, with fewer transactions left than sectors, or this is the first difference.
-abbrev pub CheckRefuses : Changes → (ℕ → ℕ) → BusState → BusState → Refusal → Type 0
+abbrev pub CheckRefuses : Changes → (ℕ → ℕ) → (old new : BusState) → Refusal → Type 0
 CheckRefuses changes wanted old new Stopped = RanOutIfHonest (touched_count changes) old new
 CheckRefuses changes wanted old new (Mismatch address) =
     old.honest ≡ true → CanCheck (touched_in changes) old.chip
@@ -78,7 +78,7 @@ pub record DoesChange (changes : Changes) (wanted : ℕ → ℕ) (verify : Bool)
 
 -- Why they weren't finished: the bus stopped, with fewer transactions left than they may take; another bus than an
 -- honest one kept the chip busy, or showed other bytes than were written.
-abbrev pub ChangeTells : Changes → (ℕ → ℕ) → BusState → BusState → Refusal → Type 0
+abbrev pub ChangeTells : Changes → (ℕ → ℕ) → (old new : BusState) → Refusal → Type 0
 ChangeTells changes wanted old new Stopped = old.honest ≡ true → RanOut (most_changed changes) old new
 ChangeTells changes wanted old new (Timeout address) = old.honest ≡ true → ⊥
 ChangeTells changes wanted old new (Mismatch address) = old.honest ≡ true → CanApply changes wanted old.chip → ⊥

@@ -8,7 +8,7 @@ use Rattle.nor_layout.specs.Below.{count_below}
 use Rattle.nor_plan.specs.Planned.{IsLeastLength}
 use Rattle.nor_probe.specs.declared.sfdp.Kinds.{Kinds}
 use Rattle.nor_probe.specs.Known.{shown_as}
-use Rattle.nor_probe.specs.Found.{IsConfigOf, part_in}
+use Rattle.nor_probe.specs.Found.{part_in}
 use Rattle.nor_apply.specs.Counts.{sector_count}
 use Rattle.nor_apply.specs.Content.{once_erased, is_programmed}
 use Rattle.nor_save.specs.declared.report.Report.{Report}
@@ -36,7 +36,6 @@ pub record IsMade (wanted : ℕ → ℕ) (touched raised : ℕ → Bool) (old ne
   pub idle : new.chip.busy ≡ 0
   pub latch : new.chip.latch ≡ true → old.chip.latch ≡ true
   pub worn : (s : ℕ) → new.worn s ≡ (old.worn s || raised s)
-  pub found : IsConfigOf old.chip.config report.found
   pub shown : shown_as old.chip.config ≡ Ok (part_in report.found)
   pub status1 : report.found.status1 / 4 ≡ old.chip.kept1
   pub told : old.chip.busy ≡ 0 → report.found.status1 ≡ status1_of old.chip

@@ -13,7 +13,7 @@ use Rattle.nor_plan.specs.Plan.{AreBytesOf, IsPlan}
 use Rattle.nor_plan.specs.SectorSet.{has, LiesBelow}
 use Rattle.nor_probe.specs.declared.probes.Found.{Found}
 use Rattle.nor_probe.specs.Known.{shown_as, IsModelled}
-use Rattle.nor_probe.specs.Found.{IsConfigOf, part_in}
+use Rattle.nor_probe.specs.Found.{part_in}
 use Rattle.nor_apply.specs.declared.changes.Changes.{Changes}
 use Rattle.nor_apply.specs.Applying.{writes_code, CanApply}
 use Rattle.nor_save.specs.declared.opening.Opening.{Opening}
@@ -26,7 +26,7 @@ use Rattle.nor_session.specs.declared.preparing.Prepared.{Prepared}
 use Rattle.nor_session.specs.Bounds.{most_looked}
 use Rattle.nor_session.specs.Made.{kinds_of}
 use Rattle.nor_session.specs.Changing.{touched_count}
-use Rattle.nor_session.specs.Restore.{is_touched_from, is_raised_from, IsOfKind, HasFixedTold, Fits, NeedsStatusFrom, IsJudgedFirst, IsRestoreVerdict, IsRestorable}
+use Rattle.nor_session.specs.Restore.{is_touched_from, is_raised_from, IsOfKind, FitsStatus, Fits, NeedsStatusFrom, IsJudgedFirst, IsRestoreVerdict, IsRestorable}
 
 -- ---- the opening
 
@@ -48,7 +48,7 @@ FitsOpening journal opening = (chip : Chip) → chip.kept2 < 128 → IsOpening c
 -- the fixed bits that an opening shows are those that the journal tells, on each chip that it is an opening of
 abbrev pub ShowsFixed : Content → Opening → Bool → Type 0
 ShowsFixed journal opening shown = (chip : Chip) → chip.kept2 < 128 → IsOpening chip opening
-    → MatchBool shown (HasFixedTold journal chip) (¬ HasFixedTold journal chip)
+    → MatchBool shown (FitsStatus journal chip) (¬ FitsStatus journal chip)
 
 -- where the unit is accepted the journal is one of each such chip that has its ID and size
 abbrev pub AcceptsUnit : Content → Opening → Result Unit Refusal → Type 0
@@ -68,7 +68,7 @@ pub record IsRefusedFor (journal : Content) (old new : BusState) (refusal : Refu
 
 -- What a refusal tells before anything is changed: the bus stopped, with fewer transactions left than these; another
 -- bus than an honest one stayed busy, which is told at 0; or it was judged.
-abbrev pub PrepareTells : Content → ℕ → BusState → BusState → Refusal → Type 0
+abbrev pub PrepareTells : Content → ℕ → (old new : BusState) → Refusal → Type 0
 PrepareTells journal most old new Stopped = RanOutIfHonest most old new
 PrepareTells journal most old new (Timeout address) = (address ≡ 0) × (old.honest ≡ true → ⊥)
 PrepareTells journal most old new refusal = IsRefusedFor journal old new refusal
@@ -100,10 +100,6 @@ pub record ScansSaved (journal : Content) (old new : BusState) (scanned : Scanne
 
 -- ---- what is to be changed
 
--- the code differs from the journal's, or one of these sectors is guarded
-abbrev pub NeedsCodeFrom : Content → (ℕ → Bool) → Chip → Type 0
-NeedsCodeFrom journal touched chip = (code_of chip ≢ code_in journal.status) ⊎ SomeHeld touched chip
-
 -- The changes are those that the scan found, to the journal's code.
 pub record AreChanges (journal : Content) (opening : Opening) (scanned : Scanned) (changes : Changes) : Type 0 where
   pub touched : changes.touched ≡ scanned.touched
@@ -119,12 +115,12 @@ pub record AreChanges (journal : Content) (opening : Opening) (scanned : Scanned
 pub record MayChangeStatus (journal : Content) (touched : ℕ → Bool) (chip : Chip) (changes : Changes) : Type 0 where
   pub lifts : changes.unlock ≡ true → SomeHeld touched chip
   pub free : changes.unlock ≡ true ⊎ NoneHeld touched chip
-  pub not_locked : is_locked chip ≡ true → ¬ NeedsCodeFrom journal touched chip
+  pub not_locked : is_locked chip ≡ true → ¬ NeedsStatusFrom journal touched chip
 
 -- The status is locked, and would have to be written.
 pub record IsShut (journal : Content) (touched : ℕ → Bool) (chip : Chip) : Type 0 where
   pub locked : is_locked chip ≡ true
-  pub needs : NeedsCodeFrom journal touched chip
+  pub needs : NeedsStatusFrom journal touched chip
 
 -- changes are only made where the status of each chip with this opening may be changed so
 abbrev pub MakesChanges : Content → Opening → (ℕ → Bool) → Result Changes Refusal → Type 0
@@ -138,11 +134,10 @@ RefusesShut journal opening touched judged =
 
 -- ---- all of it
 
--- On a modelled bus: the chip as it was before may be restored, was found as it is, and as it is now the changes that
+-- On a modelled bus: the chip as it was before may be restored, was found as what it shows itself to be, and as it is now the changes that
 -- the journal asks for can be made, which write the status only where that is needed.
 pub record IsPreparedFor (journal : Content) (old new : Chip) (prepared : Prepared) : Type 0 where
   pub accepted : IsRestorable journal old
-  pub found : IsConfigOf old.config prepared.found
   pub shown : shown_as old.config ≡ Ok (part_in prepared.found)
   pub status1 : prepared.found.status1 / 4 ≡ old.kept1
   pub told : old.busy ≡ 0 → prepared.found.status1 ≡ status1_of old
@@ -152,7 +147,8 @@ pub record IsPreparedFor (journal : Content) (old new : Chip) (prepared : Prepar
   pub touched : (s : ℕ) → has prepared.changes.touched s ≡ is_touched_from journal old s
   pub raised : (s : ℕ) → has prepared.changes.raised s ≡ is_raised_from journal old s
   pub can : CanApply prepared.changes (saved_byte journal) new
-  pub needed : (prepared.changes.unlock || writes_code prepared.changes) ≡ true → NeedsStatusFrom journal old
+  pub needed : (prepared.changes.unlock || writes_code prepared.changes) ≡ true
+      → NeedsStatusFrom journal (is_touched_from journal old) old
 
 -- All is known that a restore has to know before it changes anything.
 pub record IsPrepared (journal : Content) (old new : BusState) (prepared : Prepared) : Type 0 where

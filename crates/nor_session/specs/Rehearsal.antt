@@ -80,7 +80,7 @@ pub record LeavesRefused (old new : BusState) (vault : VaultState) : Type 0 wher
   pub unsealed : vault.sealed ≡ false
 
 -- on every bus a refusal is the session's, or once the vault is sealed that of a restore
-abbrev pub IsRehearsalRefusal : VaultState → VaultState → Refusal → Type 0
+abbrev pub IsRehearsalRefusal : (old new : VaultState) → Refusal → Type 0
 IsRehearsalRefusal old new refusal = AnswersSession old new refusal ⊎ ((new.sealed ≡ true) × IsRestoreRefusal refusal)
 
 -- the refusal isn't that the bus stopped, nor that the chip stayed busy
@@ -88,7 +88,7 @@ abbrev pub IsNoHalt : Refusal → Type 0
 IsNoHalt refusal = list_any (λ n. number_of refusal == n) (12 ∷ 13 ∷ []) ≡ false
 
 -- The answer is the verdict on the session, or the vault failed; never that the bus stopped.
-abbrev pub RehearsalTells : Request → List ℕ → Chip → VaultState → VaultState → Refusal → Type 0
+abbrev pub RehearsalTells : Request → List ℕ → Chip → (old new : VaultState) → Refusal → Type 0
 RehearsalTells request image chip old new Vault = Rose old new
 RehearsalTells request image chip old new refusal = IsVerdict request image chip refusal
 

@@ -121,7 +121,7 @@ pub record Undoes (text : List ℕ) (stops : List ℕ) (old new : BusState) (res
       → FitsLastStop (sector_count saved) stops new.left restores
 
 -- at every exit only sectors are worn that the text leads back
-abbrev pub WearsSaved : List ℕ → BusState → BusState → Type 0
+abbrev pub WearsSaved : List ℕ → (old new : BusState) → Type 0
 WearsSaved text old new = IsModelled old → (saved : ℕ → Bool) (first : Chip) → LeadsBack saved first text old
     → (s : ℕ) → saved s ≡ false → new.worn s ≡ old.worn s
 

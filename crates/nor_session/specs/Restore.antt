@@ -8,7 +8,7 @@ use Rattle.nor_chip.specs.Guard.{code_of, is_guarded}
 use Rattle.nor_chip.specs.Bus.{BusState}
 use Rattle.nor_driver.specs.Looks.{IsCalm, Looks, RanOut}
 use Rattle.nor_driver.specs.Reads.{id_of, unique_of}
-use Rattle.nor_driver.specs.StatusWrites.{KeepsFixed, HasCode}
+use Rattle.nor_driver.specs.StatusWrites.{KeepsFixed, HasCode, HasKeptBits, HasFixedBits}
 use Rattle.nor_journal.specs.Text.{Content}
 use Rattle.nor_journal.specs.Saved.{Saves, is_saved, saved_byte}
 use Rattle.nor_probe.specs.declared.probes.ProbeFault.TheVariants as Probes
@@ -51,27 +51,21 @@ pub record IsOfKind (journal : Content) (config : Config) : Type 0 where
 abbrev pub IsOfOtherUnit : Content → Config → Type 0
 IsOfOtherUnit journal config = IsSomeAnd journal.unique (λ unique. unique ≢ unique_of config)
 
--- The chip has all kept bits that the journal tells.
-pub record HasBitsTold (journal : Content) (chip : Chip) : Type 0 where
-  pub one : slice_index journal.status 0 / 4 ≡ chip.kept1
-  pub two : slice_index journal.status 1 % 128 ≡ chip.kept2
-
 -- No bit differs that a restore may not set: the fixed ones agree, and where there is no block protection all do.
-pub record HasFixedTold (journal : Content) (chip : Chip) : Type 0 where
-  pub one : slice_index journal.status 0 / 128 ≡ chip.kept1 / 32
-  pub two : slice_index journal.status 1 % 64 ≡ chip.kept2 % 64
-  pub all : chip.config.scheme ≡ false → HasBitsTold journal chip
+pub record FitsStatus (journal : Content) (chip : Chip) : Type 0 where
+  pub fixed : HasFixedBits journal.status chip
+  pub all : chip.config.scheme ≡ false → HasKeptBits journal.status chip
 
 -- The chip is known, and the journal is one of it.
 pub record Fits (journal : Content) (chip : Chip) : Type 0 where
   pub named : IsNamed None chip.config
   pub kind : IsOfKind journal chip.config
   pub unit : ¬ IsOfOtherUnit journal chip.config
-  pub fixed : HasFixedTold journal chip
+  pub fixed : FitsStatus journal chip
 
--- a status write is needed: the code differs from the journal's, or a sector that must change is guarded
-abbrev pub NeedsStatusFrom : Content → Chip → Type 0
-NeedsStatusFrom journal chip = (code_of chip ≢ code_in journal.status) ⊎ SomeHeld (is_touched_from journal chip) chip
+-- a status write is needed: the code differs from the journal's, or one of these sectors is guarded
+abbrev pub NeedsStatusFrom : Content → (touched : ℕ → Bool) → Chip → Type 0
+NeedsStatusFrom journal touched chip = (code_of chip ≢ code_in journal.status) ⊎ SomeHeld touched chip
 
 -- The refusal is the verdict: the first of 1, 2, 16, 20, 17 and 9 that holds.
 abbrev pub IsRestoreVerdict : Content → Chip → Refusal → Type 0
@@ -82,14 +76,15 @@ IsRestoreVerdict journal chip OtherUnit =
     IsNamed None chip.config × IsOfKind journal chip.config × IsOfOtherUnit journal chip.config
 IsRestoreVerdict journal chip StatusDiffers =
     IsNamed None chip.config × IsOfKind journal chip.config × (¬ IsOfOtherUnit journal chip.config)
-    × (¬ HasFixedTold journal chip)
-IsRestoreVerdict journal chip StatusLocked = Fits journal chip × (is_locked chip ≡ true) × NeedsStatusFrom journal chip
+    × (¬ FitsStatus journal chip)
+IsRestoreVerdict journal chip StatusLocked =
+    Fits journal chip × (is_locked chip ≡ true) × NeedsStatusFrom journal (is_touched_from journal chip) chip
 IsRestoreVerdict journal chip _ = ⊥
 
 -- The verdict is "accepted".
 pub record IsRestorable (journal : Content) (chip : Chip) : Type 0 where
   pub fits : Fits journal chip
-  pub not_locked : is_locked chip ≡ true → ¬ NeedsStatusFrom journal chip
+  pub not_locked : is_locked chip ≡ true → ¬ NeedsStatusFrom journal (is_touched_from journal chip) chip
 
 -- ---- on every bus
 
@@ -105,7 +100,7 @@ IsRestoreRefusal refusal =
 -- ---- on an honest bus whose chip is what it shows itself to be
 
 -- The answer is the verdict; or the bus stopped where fewer transactions were left than the bound.
-abbrev pub RestoreTells : Content → BusState → BusState → Refusal → Type 0
+abbrev pub RestoreTells : Content → (old new : BusState) → Refusal → Type 0
 RestoreTells journal old new Stopped = RanOut (most_of (length journal.saved)) old new
 RestoreTells journal old new refusal = IsRestoreVerdict journal old.chip refusal
 
@@ -124,7 +119,8 @@ pub record IsRestored (journal : Content) (old new : BusState) (report : Report)
   pub made : IsMade (restored journal old.chip.bytes) (is_touched_from journal old.chip)
       (is_raised_from journal old.chip) old new report
   pub code : HasCode (code_in journal.status) new.chip
-  pub still : report.touched ≡ 0 → (¬ NeedsStatusFrom journal old.chip) → new.stirred ≡ old.stirred
+  pub still : report.touched ≡ 0 → (¬ NeedsStatusFrom journal (is_touched_from journal old.chip) old.chip)
+      → new.stirred ≡ old.stirred
 
 -- ---- giving a chip back
 
@@ -132,7 +128,7 @@ pub record IsRestored (journal : Content) (old new : BusState) (report : Report)
 pub record SavesChip (journal : Content) (first : Chip) : Type 0 where
   pub kind : IsOfKind journal first.config
   pub unit : IfSome journal.unique (λ unique. unique ≡ unique_of first.config)
-  pub bits : HasBitsTold journal first
+  pub bits : HasKeptBits journal.status first
   pub sectors : Saves first.bytes (is_saved journal) journal
 
 -- the places at which a chip may differ from the first one: those of saved sectors, and where the first one's status is
@@ -177,7 +173,8 @@ pub record RestoreModelled (journal : Content) (old new : BusState) (result : Re
   -- at the end the chip is what the journal wants
   pub done : IfOk result (IsRestored journal old new)
   -- where no status write is needed, the report has no room for one
-  pub spares : (¬ NeedsStatusFrom journal old.chip) → IfOk result (IsWithinBound (length journal.saved) 0 true)
+  pub spares : (¬ NeedsStatusFrom journal (is_touched_from journal old.chip) old.chip)
+      → IfOk result (IsWithinBound (length journal.saved) 0 true)
   -- at every exit the bus's chip can still be made each first one that it could be made before
   pub within : (first : Chip) → CanGiveBack journal first old → CanGiveBack journal first new
   -- a restore that ends has made it that one

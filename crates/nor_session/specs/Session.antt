@@ -85,7 +85,7 @@ HonestTells most IsEarly old new refusal = IsEarly refusal → IsSame old.chip n
 -- ---- on an honest bus whose chip is what it shows itself to be
 
 -- The answer is the verdict; or the vault failed, or the bus stopped where fewer transactions were left than the bound.
-abbrev pub SessionTells : Request → List ℕ → BusState → BusState → VaultState → VaultState → Refusal → Type 0
+abbrev pub SessionTells : Request → List ℕ → (old new : BusState) → (vault vault' : VaultState) → Refusal → Type 0
 SessionTells request image old new vault vault' Vault = Rose vault vault'
 SessionTells request image old new vault vault' Stopped = RanOut (most_of (old.chip.config.size / 4096)) old new
 SessionTells request image old new vault vault' refusal = IsVerdict request image old.chip refusal

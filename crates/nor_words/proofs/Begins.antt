@@ -6,7 +6,7 @@ use Rattle.std.specs.List.{starts_with}
 use Rattle.std.specs.Option.{MatchOption}
 use Rattle.std.specs.Str.Pattern.{FindsTextPrefix, StripsPrefix}
 use Rattle.std.proofs.lemmas.Str.Pattern.{starts_text}
-use Rattle.nor_words.specs.Programmer.{are_settings, chip_named, is_programmer, said, settings_of, value_in}
+use Rattle.nor_words.specs.Programmer.{are_settings, chip_named, is_programmer_text, said, settings_of, value_in}
 use Rattle.nor_words.specs.Text.{Text, pieces_of}
 use Rattle.nor_words.specs.declared.programmer.Emulated.{Emulated}
 
@@ -22,19 +22,19 @@ both : (a b : Bool) → b ≡ false → (a && b) ≡ false
 both true b is = is
 both false b is = refl
 
-pub is_programmer-other : (text : Text) → starts_with nat_eq text (codes "dummy:") ≡ false → is_programmer text ≡ false
+pub is_programmer-other : (text : Text) → starts_with nat_eq text (codes "dummy:") ≡ false → is_programmer_text text ≡ false
 is_programmer-other text other = rw other refl
 
-pub is_programmer-unsound : (text : Text) → are_settings (settings_of text) ≡ false → is_programmer text ≡ false
+pub is_programmer-unsound : (text : Text) → are_settings (settings_of text) ≡ false → is_programmer_text text ≡ false
 is_programmer-unsound text unsound =
     both (starts_with nat_eq text (codes "dummy:")) _ (ap (λ b. b && is_some (option_and_then chip_named (said text (codes "emulate")))) unsound)
 
-pub is_programmer-unnamed : (text : Text) → option_and_then chip_named (said text (codes "emulate")) ≡ None → is_programmer text ≡ false
+pub is_programmer-unnamed : (text : Text) → option_and_then chip_named (said text (codes "emulate")) ≡ None → is_programmer_text text ≡ false
 is_programmer-unnamed text unnamed =
     both (starts_with nat_eq text (codes "dummy:")) _ (both (are_settings (settings_of text)) _ (ap is_some unnamed))
 
 pub is_programmer-sound : (text : Text) (chip : Emulated) → starts_with nat_eq text (codes "dummy:") ≡ true → are_settings (settings_of text) ≡ true
-    → option_and_then chip_named (said text (codes "emulate")) ≡ Some chip → is_programmer text ≡ true
+    → option_and_then chip_named (said text (codes "emulate")) ≡ Some chip → is_programmer_text text ≡ true
 is_programmer-sound text chip begins sound named =
     ap₂ (λ a b. a && (b && is_some (option_and_then chip_named (said text (codes "emulate"))))) begins sound ∙ ap is_some named
 

@@ -3,10 +3,10 @@ use Rattle.std.proofs.Common.{◌≡◌, ◌∙◌, ◌&&◌, ◌||◌, ℕ, Boo
 use Rattle.std.specs.Prelude.{option_and_then}
 use Rattle.std.proofs.lemmas.Bool.{or_right}
 use Rattle.nor_words.specs.Text.{Text, reads}
-use Rattle.nor_words.specs.Given.{Texts, how_many, is_change, is_new_content, operations}
+use Rattle.nor_words.specs.Given.{Texts, how_many, asks_change, is_new_content, operations}
 use Rattle.nor_words.specs.Faults.{first_fault, has_wrong_journal, has_wrong_regions, is_no, is_there, usage_faults}
 use Rattle.nor_words.specs.Numbers.{range_of}
-use Rattle.nor_words.specs.Programmer.{has_stop, is_programmer}
+use Rattle.nor_words.specs.Programmer.{has_stop, is_programmer_text}
 use Rattle.nor_words.specs.Stops.{stops_of}
 use Rattle.nor_words.specs.Job.{IsWantedByWords}
 use Rattle.nor_words.specs.declared.job.Wanted.{Wanted}
@@ -16,7 +16,7 @@ use Rattle.nor_words.specs.declared.words.UsageFault.{UsageFault}
 -- No fault holds.
 pub record Sound (given : Texts) : Type 0 where
   pub needed : (not (is_some given.programmer) && not given.list) ≡ false
-  pub programmer : is_no is_programmer given.programmer ≡ false
+  pub programmer : is_no is_programmer_text given.programmer ≡ false
   pub single : nat_lt 1 (operations given) ≡ false
   pub range : is_no (reads range_of) given.wp_range ≡ false
   pub journal : has_wrong_journal given ≡ false
@@ -55,18 +55,18 @@ not-there f (Some x) sound none =
     cc
 
 -- without a range and new content there is no change
-pub no_change-wanted : (given : Texts) → Sound given → is_new_content given ≡ false → option_and_then range_of given.wp_range ≡ None → is_change given ≡ false
+pub no_change-wanted : (given : Texts) → Sound given → is_new_content given ≡ false → option_and_then range_of given.wp_range ≡ None → asks_change given ≡ false
 no_change-wanted given sound same none =
     let range : given.wp_range ≡ None = not-there range_of given.wp_range sound.range none in
     ap₂ (λ a b. a || b) same (ap is_some range)
 
 -- and without a journal and stops neither
-pub no_change-kept : (given : Texts) → Sound given → given.journal ≡ None → option_and_then stops_of given.rehearse ≡ None → is_change given ≡ false
+pub no_change-kept : (given : Texts) → Sound given → given.journal ≡ None → option_and_then stops_of given.rehearse ≡ None → asks_change given ≡ false
 no_change-kept given sound journal none =
     let rehearse : given.rehearse ≡ None = not-there stops_of given.rehearse (first_false _ _ sound.stops) none in
-    go (is_change given) refl (sym (ap₂ (λ (a b : Option Text). not (nat_eq (how_many (is_some a ∷ is_some b ∷ [])) (cond (is_change given) 1 0))) journal rehearse) ∙ sound.journal)
+    go (asks_change given) refl (sym (ap₂ (λ (a b : Option Text). not (nat_eq (how_many (is_some a ∷ is_some b ∷ [])) (cond (asks_change given) 1 0))) journal rehearse) ∙ sound.journal)
   where
-    go : (b : Bool) → is_change given ≡ b → not (nat_eq 0 (cond (is_change given) 1 0)) ≡ false → is_change given ≡ false
+    go : (b : Bool) → asks_change given ≡ b → not (nat_eq 0 (cond (asks_change given) 1 0)) ≡ false → asks_change given ≡ false
     go true is h =
         let bad : true ≡ false = sym (ap (λ b. not (nat_eq 0 (cond b 1 0))) is) ∙ h in
         cc
@@ -77,7 +77,7 @@ there f None x h = cc
 there f (Some text) x h = refl
 
 -- whoever wants something of the chip asks for a change
-change-wanted : (given : Texts) (wanted : Wanted) → IsWantedByWords given wanted → is_change given ≡ true
+change-wanted : (given : Texts) (wanted : Wanted) → IsWantedByWords given wanted → asks_change given ≡ true
 change-wanted given (want.Write image) is = rw is refl
 change-wanted given want.Erase is = ap (λ b. b || is_some given.wp_range) (or_right (is_some given.write) given.erase is)
 change-wanted given (want.Range start len) is = or_right (is_new_content given) (is_some given.wp_range) (there range_of given.wp_range (start, len) is)
@@ -91,7 +91,7 @@ stops-kept view given wanted None sound is same journal =
     cc
 
 -- where there is no list of chips, there is a programmer
-pub list-lone : (given : Texts) → Sound given → is_there is_programmer given.programmer ≡ false → given.list ≡ true
+pub list-lone : (given : Texts) → Sound given → is_there is_programmer_text given.programmer ≡ false → given.list ≡ true
 list-lone given sound none = go given.programmer sound.needed sound.programmer none
   where
     listed : (b : Bool) → (true && not b) ≡ false → b ≡ true
@@ -102,12 +102,12 @@ list-lone given sound none = go given.programmer sound.needed sound.programmer n
     apart true h k = cc
     apart false h k = cc
 
-    go : (text : Option Text) → (not (is_some text) && not given.list) ≡ false → is_no is_programmer text ≡ false → is_there is_programmer text ≡ false → given.list ≡ true
+    go : (text : Option Text) → (not (is_some text) && not given.list) ≡ false → is_no is_programmer_text text ≡ false → is_there is_programmer_text text ≡ false → given.list ≡ true
     go None needed known none = listed given.list needed
-    go (Some x) needed known none = absurd (apart (is_programmer x) none known)
+    go (Some x) needed known none = absurd (apart (is_programmer_text x) none known)
 
 -- no operation at all
-pub probe : (given : Texts) → given.list ≡ false → is_change given ≡ false → given.flash_size ≡ false → given.wp_status ≡ false → given.wp_list ≡ false
+pub probe : (given : Texts) → given.list ≡ false → asks_change given ≡ false → given.flash_size ≡ false → given.wp_status ≡ false → given.wp_list ≡ false
     → given.read ≡ None → given.verify ≡ None → given.restore ≡ None → operations given ≡ 0
 probe given list same size status ranges read verify restore =
     let content : is_new_content given ≡ false = first_false _ _ same in

@@ -10,7 +10,7 @@ use Rattle.clap.proofs.WalkLemmas.{first_value-rows}
 use Rattle.nor_words.specs.declared.words.UsageFault.{UsageFault}
 use Rattle.nor_words.specs.Text.{Text}
 use Rattle.nor_words.specs.Options.{options}
-use Rattle.nor_words.specs.Words.{IsFault, IsToldAs, refusals_of}
+use Rattle.nor_words.specs.Words.{IsFault, TellsError, refusals_of}
 
 -- no option has a rule on another
 options_are_free : is_simple_and_free options ≡ true
@@ -23,7 +23,7 @@ options_are_simple = refl
 
 -- words that are refused have a fault
 pub fault-refused : (app : App) → app ≡ options → (words : List Text) (e : Error) (fault : UsageFault)
-    → (is_simple_and_free app ≡ true → FailsBy {T = ArgMatches} (fault_of app words) (Err e)) → IsToldAs e fault → IsFault words fault
+    → (is_simple_and_free app ≡ true → FailsBy {T = ArgMatches} (fault_of app words) (Err e)) → TellsError e fault → IsFault words fault
 fault-refused app same words e fault fails told =
     let kinds = subst (λ a. is_simple_and_free a ≡ true → FailsBy {T = ArgMatches} (fault_of a words) (Err e)) same fails options_are_free in
     elim told [

@@ -6,15 +6,15 @@ use Rattle.std.specs.Option.{IsSomeAnd, MatchOption, option_map_or}
 use Rattle.nor_words.specs.Text.{Text, reads}
 use Rattle.nor_words.specs.Faults.{is_no, is_there}
 use Rattle.nor_words.specs.Numbers.{decimal_number}
-use Rattle.nor_words.specs.Programmer.{IsProgrammer, has_stop, is_programmer, said}
+use Rattle.nor_words.specs.Programmer.{IsProgrammer, has_stop, is_programmer_text, said}
 use Rattle.nor_words.specs.Stops.{stops_of}
 use Rattle.nor_words.specs.declared.programmer.Programmer.{Programmer}
 
 -- the programmer that a text means, or none
 abbrev pub Means : Option Text → Option Programmer → Type 0
-Means text found = MatchOption found (is_there is_programmer text ≡ false) (λ programmer. IsSomeAnd text (λ t. IsProgrammer t programmer))
+Means text found = MatchOption found (is_there is_programmer_text text ≡ false) (λ programmer. IsSomeAnd text (λ t. IsProgrammer t programmer))
 
-pub wrong-programmer : (text : Option Text) (found : Option Programmer) → Means text found → (is_some text && not (is_some found)) ≡ is_no is_programmer text
+pub wrong-programmer : (text : Option Text) (found : Option Programmer) → Means text found → (is_some text && not (is_some found)) ≡ is_no is_programmer_text text
 wrong-programmer None None means = refl
 wrong-programmer None (Some p) means = absurd means
 wrong-programmer (Some t) None means = ap not (sym means)
@@ -43,7 +43,7 @@ wrong-stops (Some t) programmer found stops means read =
 
 -- what `and_then` says of a reading
 
-pub means-read : (text : Option (Bor Text)) (found : Option Programmer) → MatchOption text (found ≡ None) (λ t. MatchOption found (is_programmer t.now ≡ false) (IsProgrammer t.now))
+pub means-read : (text : Option (Bor Text)) (found : Option Programmer) → MatchOption text (found ≡ None) (λ t. MatchOption found (is_programmer_text t.now ≡ false) (IsProgrammer t.now))
     → Means (option_map (λ t. t.now) text) found
 means-read None found h = rw h refl
 means-read (Some t) None h = h
@@ -70,7 +70,7 @@ absent f None none = refl
 absent f (Some t) none = cc
 
 pub programmer-there : (text : Option (Bor Text)) (found : Option Programmer) (none : Bool) → Means (text_at text) found → is_some text ≡ true → is_some found ≡ not none
-    → none ≡ is_no is_programmer (text_at text)
+    → none ≡ is_no is_programmer_text (text_at text)
 programmer-there None found none means some told = cc
 programmer-there (Some t) found none means some told = flipped _ _ told ∙ wrong-programmer (Some t.now) found means
 

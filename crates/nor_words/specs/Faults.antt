@@ -2,9 +2,9 @@
 use Rattle.std.specs.Prelude.{◌&&◌, ◌||◌, ◌++◌, ℕ, Bool, false, Option, Some, None, List, [], ◌∷◌, codes, decimal, is_some, nat_eq, nat_lt, not, if◌then◌else◌}
 use Rattle.std.specs.Option.{option_map_or}
 use Rattle.nor_words.specs.Text.{Text, reads}
-use Rattle.nor_words.specs.Given.{Texts, how_many, is_change, is_new_content, operations, takes_regions}
+use Rattle.nor_words.specs.Given.{Texts, how_many, asks_change, is_new_content, operations, takes_regions}
 use Rattle.nor_words.specs.Numbers.{range_of}
-use Rattle.nor_words.specs.Programmer.{has_stop, is_programmer}
+use Rattle.nor_words.specs.Programmer.{has_stop, is_programmer_text}
 use Rattle.nor_words.specs.Stops.{stops_of}
 use Rattle.nor_words.specs.declared.words.UsageFault.{UsageFault}
 use Rattle.nor_words.specs.declared.words.UsageFault.TheVariants as why
@@ -24,7 +24,7 @@ is_no test = is_there (λ text. not (test text))
 -- a change has exactly one of `--journal` and `--rehearse`, and all else has neither
 abbrev pub has_wrong_journal : Texts → Bool
 has_wrong_journal given =
-    not (nat_eq (how_many (is_some given.journal ∷ is_some given.rehearse ∷ [])) (if is_change given then 1 else 0))
+    not (nat_eq (how_many (is_some given.journal ∷ is_some given.rehearse ∷ [])) (if asks_change given then 1 else 0))
 
 -- one of `-l` and `-i` is there, and not both with an operation that takes regions
 abbrev pub has_wrong_regions : Texts → Bool
@@ -35,7 +35,7 @@ has_wrong_regions given = (is_some given.layout || is_some given.names)
 abbrev pub usage_faults : Texts → List Case
 usage_faults given =
     (not (is_some given.programmer) && not given.list, why.NoProgrammer)
-    ∷ (is_no is_programmer given.programmer, why.Programmer)
+    ∷ (is_no is_programmer_text given.programmer, why.Programmer)
     ∷ (nat_lt 1 (operations given), why.TwoOperations)
     ∷ (is_no (reads range_of) given.wp_range, why.Range)
     ∷ (has_wrong_journal given, why.Journal)

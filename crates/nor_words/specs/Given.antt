@@ -113,8 +113,8 @@ abbrev pub is_new_content : Texts → Bool
 is_new_content given = is_some given.write || given.erase
 
 -- the operation changes the chip and keeps a journal, or rehearses that
-abbrev pub is_change : Texts → Bool
-is_change given = is_new_content given || is_some given.wp_range
+abbrev pub asks_change : Texts → Bool
+asks_change given = is_new_content given || is_some given.wp_range
 
 -- the operation may be held to regions
 abbrev pub takes_regions : Texts → Bool

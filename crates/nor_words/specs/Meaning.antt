@@ -4,13 +4,13 @@ use Rattle.std.specs.Option.{IsSomeAnd, MatchOption}
 use Rattle.nor_words.specs.Faults.{is_there}
 use Rattle.nor_words.specs.Given.{Texts}
 use Rattle.nor_words.specs.Numbers.{range_of}
-use Rattle.nor_words.specs.Programmer.{IsProgrammer, is_programmer}
+use Rattle.nor_words.specs.Programmer.{IsProgrammer, is_programmer_text}
 use Rattle.nor_words.specs.Stops.{stops_of}
 use Rattle.nor_words.specs.declared.given.Meaning.{Meaning}
 
 -- Each is there just where its text is there and has a meaning.
 pub record IsMeaning (given : Texts) (meaning : Meaning) : Type 0 where
-  pub programmer : MatchOption meaning.programmer (is_there is_programmer given.programmer ≡ false)
+  pub programmer : MatchOption meaning.programmer (is_there is_programmer_text given.programmer ≡ false)
       (λ found. IsSomeAnd given.programmer (λ text. IsProgrammer text found))
   pub range : option_and_then range_of given.wp_range ≡ meaning.range
   pub stops : option_and_then stops_of given.rehearse ≡ option_map (λ stops. stops.items) meaning.stops

@@ -8,12 +8,12 @@ use Rattle.hex.specs.Hex.{decode_sized}
 use Rattle.nor_words.specs.Text.{Text, front_of, rest_of}
 
 -- 1 to so many digits of this radix, which write a number that is at most the greatest
-abbrev pub is_numeral : ℕ → ℕ → ℕ → Text → Bool
+abbrev pub is_numeral : (radix most greatest : ℕ) → Text → Bool
 is_numeral radix most greatest text = list_all (λ digit. is_digit digit radix) text
     && (nat_le 1 (length text) && (nat_le (length text) most && nat_le (digits_value radix text) greatest))
 
 -- the number that such a text writes
-abbrev pub numeral : ℕ → ℕ → ℕ → Text → Option ℕ
+abbrev pub numeral : (radix most greatest : ℕ) → Text → Option ℕ
 numeral radix most greatest text =
     if is_numeral radix most greatest text then Some (digits_value radix text) else None
 

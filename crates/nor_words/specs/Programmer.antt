@@ -41,11 +41,11 @@ keys =
     ∷ []
 
 -- the setting has this key
-abbrev pub has_key : Text → Text → Bool
+abbrev pub has_key : (key setting : Text) → Bool
 has_key key setting = bytes_eq (key_of setting) key
 
 -- there is such a key, and this is a value of it
-abbrev pub may_have : Text → Text → Bool
+abbrev pub may_have : (key value : Text) → Bool
 may_have key value = list_any (λ known. bytes_eq key known.0 && known.1 value) keys
 
 -- the setting has one of the keys, and a value of this key
@@ -69,22 +69,22 @@ abbrev pub value_in : List Text → Text → Option Text
 value_in settings key = option_map value_of (find (has_key key) settings)
 
 -- what the text of `-p` says of the key
-abbrev pub said : Text → Text → Option Text
+abbrev pub said : (text key : Text) → Option Text
 said text = value_in (settings_of text)
 
 -- `dummy:` and then settings, of which one names the chip
-abbrev pub is_programmer : Text → Bool
-is_programmer text = starts_with nat_eq text (codes "dummy:")
+abbrev pub is_programmer_text : Text → Bool
+is_programmer_text text = starts_with nat_eq text (codes "dummy:")
     && (are_settings (settings_of text) && is_some (option_and_then chip_named (said text (codes "emulate"))))
 
 -- a programmer's text that has a `stop=`
 abbrev pub has_stop : Text → Bool
-has_stop text = is_programmer text && is_some (option_and_then decimal_number (said text (codes "stop")))
+has_stop text = is_programmer_text text && is_some (option_and_then decimal_number (said text (codes "stop")))
 
 -- The text is a programmer's, and this one's: each part is what the setting with its key says, or nothing where there
 -- is none.
 pub record IsProgrammer (text : Text) (programmer : Programmer) : Type 0 where
-  pub sound : is_programmer text ≡ true
+  pub sound : is_programmer_text text ≡ true
   pub chip : option_and_then chip_named (said text (codes "emulate")) ≡ Some programmer.chip
   pub image : said text (codes "image") ≡ option_map (λ name. name.now) programmer.image
   pub status : said text (codes "status") ≡ option_map (λ name. name.now) programmer.status

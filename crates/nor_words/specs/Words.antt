@@ -30,8 +30,8 @@ IsFault words why.Memory = ⊤
 IsFault words fault = (refusals_of words ≡ []) × (first_fault (usage_faults (given_by words)) ≡ Some fault)
 
 -- what an error of `clap` is told as
-abbrev pub IsToldAs : Error → UsageFault → Type 0
-IsToldAs error fault =
+abbrev pub TellsError : Error → UsageFault → Type 0
+TellsError error fault =
     ((kind_of error ≡ kind.OutOfMemory) × (fault ≡ why.Memory))
     ⊎ ((kind_of error ≢ kind.OutOfMemory) × (fault ≡ why.Words error))
 

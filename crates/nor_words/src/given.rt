@@ -3,12 +3,12 @@ ghost use Rattle.std.specs.Prelude.{◌≡◌, ◌&&◌, ◌||◌, None, Some, f
 ghost use Rattle.std.specs.Prelude.{MatchOption, MatchResult};
 ghost use Rattle.std.specs.Option.{option_map_or};
 ghost use Rattle.clap.specs.Words.{found_of, rows_of};
-ghost use Rattle.nor_words.specs.Given.{given_in, is_set_in, operations, is_new_content, is_change, takes_regions};
+ghost use Rattle.nor_words.specs.Given.{given_in, is_set_in, operations, is_new_content, asks_change, takes_regions};
 ghost use Rattle.nor_words.specs.Faults.{first_fault, has_wrong_journal, has_wrong_regions, is_no, is_there, usage_faults};
 ghost use Rattle.nor_words.specs.Job.{IsAsked, IsChange, IsKeeping, IsRegions, IsTask, IsWantedByWords};
 ghost use Rattle.nor_words.specs.Meaning.{IsMeaning};
 ghost use Rattle.nor_words.specs.Numbers.{range_of};
-ghost use Rattle.nor_words.specs.Programmer.{has_stop, is_programmer};
+ghost use Rattle.nor_words.specs.Programmer.{has_stop, is_programmer_text};
 ghost use Rattle.nor_words.specs.Stops.{stops_of};
 ghost use Rattle.nor_words.specs.Text.{reads};
 
@@ -147,7 +147,7 @@ impl<'a> Given<'a> {
     // The text of `-p` is no programmer's.
     fn has_wrong_programmer(&self, meaning: &Meaning<'a>) -> bool
         requires { IsMeaning (texts_of self.now) meaning.now }
-        ensures { result ≡ is_no is_programmer (texts_of self.now).programmer }
+        ensures { result ≡ is_no is_programmer_text (texts_of self.now).programmer }
     {
         self.programmer.is_some() && meaning.programmer.is_none()
     }
@@ -197,7 +197,7 @@ impl<'a> Given<'a> {
 
     // The operation changes the chip and keeps a journal.
     fn is_change(&self) -> bool
-        ensures { result ≡ is_change (texts_of self.now) }
+        ensures { result ≡ asks_change (texts_of self.now) }
     {
         self.is_new_content() || self.wp_range.is_some()
     }
@@ -300,7 +300,7 @@ impl<'a> Given<'a> {
 
     // What is done that is no change.
     fn plain_task(&self) -> Task<'a>
-        requires { ((texts_of self.now).list ≡ false) × (is_change (texts_of self.now) ≡ false)
+        requires { ((texts_of self.now).list ≡ false) × (asks_change (texts_of self.now) ≡ false)
             × (has_wrong_regions (texts_of self.now) ≡ false) }
         ensures { IsTask (texts_of self.now) result }
     {

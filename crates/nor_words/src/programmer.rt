@@ -67,12 +67,12 @@ pub struct Programmer<'a> {
 }
 
 impl<'a> Programmer<'a> {
-    ghost use Rattle.nor_words.specs.Programmer.{is_programmer, IsProgrammer};
+    ghost use Rattle.nor_words.specs.Programmer.{is_programmer_text, IsProgrammer};
 
     /// Reads the text. A setting goes on to the next comma, and its key to the first `=`. `None` where the text is no
     /// programmer's.
     pub fn read(text: &'a str) -> Option<Programmer<'a>>
-        ensures { MatchOption result (is_programmer text.now ≡ false) (IsProgrammer text.now) }
+        ensures { MatchOption result (is_programmer_text text.now ≡ false) (IsProgrammer text.now) }
     {
         let listed = text.strip_prefix("dummy:")?;
         if !are_sound(listed) {

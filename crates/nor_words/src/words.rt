@@ -84,9 +84,9 @@ impl From<AllocError> for UsageFault {
 }
 
 impl From<WordsError> for UsageFault {
-    ghost use Rattle.nor_words.specs.Words.{IsToldAs};
+    ghost use Rattle.nor_words.specs.Words.{TellsError};
 
-    ghost from_gives = { IsToldAs };
+    ghost from_gives = { TellsError };
 
     fn from(error: WordsError) -> UsageFault {
         if error.kind() == ErrorKind::OutOfMemory {

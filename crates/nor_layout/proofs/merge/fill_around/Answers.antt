@@ -1,6 +1,6 @@
 use Rattle.std.proofs.Common.{◌≡◌, ℕ, ◌≤◌, ◌||◌, ◌∷◌, true, false, sym, ◌∙◌, inl, inr, arith}
 use Rattle.std.proofs.lemmas.Bool.{cases_lt, or_from, or_left}
-use Rattle.nor_layout.specs.Places.{covers, is_covered, AreRisingFrom, places_left}
+use Rattle.nor_layout.specs.Places.{is_in_places, is_covered, AreRisingFrom, places_left}
 use Rattle.nor_layout.proofs.Fills.{is_covered-below, covers-inside, covers-below, covers-above}
 use Rattle.nor_layout.proofs.merge.fill_around.Goals as goal
 
@@ -13,12 +13,12 @@ loop-part-preserved c =
     let kept = c.loop-part.invariant in
     let steps : places_left c.loop-part.part-iterator ≡ part ∷ more = c.in-Some.ensures.steps in
     let rising : AreRisingFrom done (part ∷ more) = rw steps at kept.rising in
-    let left : (at : ℕ) → done ≤ at → (covers part at || is_covered more at) ≡ is_covered all at = λ at le. rw steps at (kept.left at le) in
+    let left : (at : ℕ) → done ≤ at → (is_in_places part at || is_covered more at) ≡ is_covered all at = λ at le. rw steps at (kept.left at le) in
     record {
       reached = rising.2;
       rising = rising.3;
       left = λ at le.
-          let past : covers part at ≡ false = covers-above part at le in
+          let past : is_in_places part at ≡ false = covers-above part at le in
           rw past at (left at (omega (arith, le, rising.0, rising.1)));
       filled = λ at lt. elim (cases_lt at done) [
         | inl old ↦ c.copy_part.ensures.below at old ∙ kept.filled at old

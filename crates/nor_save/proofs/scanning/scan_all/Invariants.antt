@@ -1,7 +1,7 @@
 use Rattle.std.proofs.Common.{◌≡◌, ◌<◌, ◌≤◌, ◌/◌, true}
 use Rattle.nor_journal.specs.Text.{Content}
 use Rattle.nor_journal.specs.Vault.{Accepted}
-use Rattle.nor_journal.specs.Writer.{vault_of, vault_state, HasPutSectors}
+use Rattle.nor_journal.specs.Writer.{vault_of, vault_seen, HasPutSectors}
 use Rattle.nor_plan.specs.SectorSet.{has}
 use Rattle.nor_apply.specs.Change.{none}
 use Rattle.nor_save.specs.Request.{is_data}
@@ -15,7 +15,7 @@ invariant-loop-sector g l =
     record {
       aims : 0 < l.sectors → (is_data l.request.what ≡ true) × (l.sectors ≡ l.size / 4096);
       same_vault : (vault_of l.writer).ghost_name ≡ (vault_of l.fn.writer).ghost_name;
-      accepted : Accepted (vault_state g.V.Vault.state l.fn.writer) (vault_state g.V.Vault.state l.writer);
+      accepted : Accepted (vault_seen g.V.Vault.state l.fn.writer) (vault_seen g.V.Vault.state l.writer);
       few : l.scanned.count ≤ l.scanned.reads;
       below : l.scanned.reads ≤ l.sector;
       scanned : HasScanned l.request l.size l.sector l.fn.image l.image old now l.scanned;
