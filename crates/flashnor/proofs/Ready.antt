@@ -132,8 +132,8 @@ opens_held programmer content allowed first lost last held lose allowance allows
         config = subst (IsConfigWith programmer.chip programmer.unique) (sym (ap (λ x. x.config) chip)) held.config;
         idle = ap (λ x. x.busy) chip ∙ held.idle;
         left = allows.left honest ∙ allowance;
-        honest = allows.honest ∙ honest;
-        steady = allows.steady ∙ ap (λ state. state.steady) lose;
+        honest = allows.nature.honest ∙ honest;
+        steady = allows.nature.steady ∙ ap (λ state. state.steady) lose;
         still = allows.stirred ∙ (ap (λ state. state.stirred) lose ∙ held.still);
       };
       holds = record {

@@ -1,6 +1,6 @@
 //! A run of the program.
-ghost use Rattle.std.specs.Prelude.{◌≡◌, ◌≤◌, ◌⊎◌, IfOk, IfErr, IsSomeAnd, OnSome, map, string_bytes};
-ghost use Rattle.flashnor.specs.Chips.{IsReady, OpensChip};
+ghost use Rattle.std.specs.Prelude.{◌≡◌, ◌⊎◌, IfOk, IfErr, IsSomeAnd, OnSome, map, string_bytes};
+ghost use Rattle.flashnor.specs.Chips.{IsReady};
 ghost use Rattle.flashnor.specs.Files.{IsLogging};
 ghost use Rattle.flashnor.specs.Events.{unseen};
 ghost use Rattle.flashnor.specs.Endings.{EndsWith, IsUnread, all_written};

@@ -2,6 +2,7 @@
 use Rattle.std.proofs.Common.{ℕ, zero, suc, ◌≡◌, ◌<◌, ◌≤◌, ◌+◌, ◌*◌, ◌/◌, Bool, true, false, refl, sym, ap, subst, ◌∙◌, arith, true≢false}
 use Rattle.std.specs.Prelude.{◌&&◌, if◌then◌else◌}
 use Rattle.nor_chip.specs.Bus.{BusState}
+use Rattle.nor_chip.proofs.Nature.{nature_then}
 use Rattle.nor_driver.specs.declared.waits.Halt.{Halt}
 use Rattle.nor_driver.specs.StatusWrites.{KeepsFixed}
 use Rattle.nor_driver.specs.Operations.{most_operation}
@@ -13,7 +14,8 @@ use Rattle.nor_apply.specs.Counts.{sector_count}
 use Rattle.nor_apply.specs.Content.{once_erased, is_page_other, is_programmed, is_other}
 use Rattle.nor_apply.specs.Within.{is_writable}
 use Rattle.nor_apply.specs.Change.{MayChange, HasChanged, blank, none}
-use Rattle.nor_apply.specs.Spending.{Spends, HaltsBelow}
+use Rattle.nor_driver.specs.Waits.{Halts}
+use Rattle.nor_apply.specs.Spending.{Spends}
 use Rattle.nor_apply.specs.Protecting.{LeavesCode, DoesCode}
 use Rattle.nor_apply.specs.Erasing.{LeavesErases, DoesErases}
 use Rattle.nor_apply.specs.Programming.{LeavesPrograms, DoesPrograms, most_sector}
@@ -48,32 +50,30 @@ write_most false = omega arith
 
 spends_then : (m n : ℕ) (old mid new : BusState) → Spends m old mid → Spends n mid new → Spends (m + n) old new
 spends_then m n old mid new before after = record {
-  honest = after.honest ∙ before.honest;
-  steady = after.steady ∙ before.steady;
+  nature = nature_then old mid new after.nature before.nature;
   falls = λ honest.
-      let first = before.falls honest in let second = after.falls (before.honest ∙ honest) in
+      let first = before.falls honest in let second = after.falls (before.nature.honest ∙ honest) in
       let fell = first.fell in let bound = first.bound in let fell' = second.fell in let bound' = second.bound in
       record { fell = omega (arith, fell, fell'); bound = omega (arith, bound, bound') };
 }
 
 spends_more : (m n : ℕ) (old new : BusState) → m ≤ n → Spends m old new → Spends n old new
 spends_more m n old new more spends = record {
-  honest = spends.honest;
-  steady = spends.steady;
+  nature = spends.nature;
   falls = λ honest. let both = spends.falls honest in let bound = both.bound in record { fell = both.fell; bound = omega (arith, bound, more) };
 }
 
-halts_more : (m n : ℕ) (old new : BusState) (halt : Halt) → m ≤ n → HaltsBelow m old new halt → HaltsBelow n old new halt
+halts_more : (m n : ℕ) (old new : BusState) (halt : Halt) → m ≤ n → Halts m old new halt → Halts n old new halt
 halts_more m n old new halt more halts = record {
   stopped = halts.stopped;
   ran_out = λ honest. let out = halts.ran_out honest in let below = out.below in record { none_left = out.none_left; below = omega (arith, below, more) };
 }
 
-halts_then : (m n : ℕ) (old mid new : BusState) (halt : Halt) → Spends m old mid → HaltsBelow n mid new halt → HaltsBelow (m + n) old new halt
+halts_then : (m n : ℕ) (old mid new : BusState) (halt : Halt) → Spends m old mid → Halts n mid new halt → Halts (m + n) old new halt
 halts_then m n old mid new halt spends halts = record {
-  stopped = λ honest. halts.stopped (spends.honest ∙ honest);
+  stopped = λ honest. halts.stopped (spends.nature.honest ∙ honest);
   ran_out = λ honest.
-      let first = spends.falls honest in let out = halts.ran_out (spends.honest ∙ honest) in
+      let first = spends.falls honest in let out = halts.ran_out (spends.nature.honest ∙ honest) in
       let bound = first.bound in let below = out.below in
       record { none_left = out.none_left; below = omega (arith, bound, below) };
 }
@@ -154,14 +154,14 @@ second_change : (changes : Changes) (wanted : ℕ → ℕ) (old mid new : BusSta
     → old.honest ≡ true → CanApply changes wanted old.chip → MayChange (touched_in changes) (raised_in changes) wanted old new
 second_change changes wanted old mid new sent first leaves honest can =
     let able = can_erase_all changes wanted changes.unlock old mid can (free_then changes wanted old mid sent first honest can) in
-    change_then (touched_in changes) (raised_in changes) wanted old mid new first.leaves.spends.steady
+    change_then (touched_in changes) (raised_in changes) wanted old mid new first.leaves.spends.nature.steady
     (first_change changes wanted old mid first.leaves honest can)
-    (erases_change (touched_in changes) (raised_in changes) blank wanted mid new first.inside (leaves.reached (first.leaves.spends.honest ∙ honest) able))
+    (erases_change (touched_in changes) (raised_in changes) blank wanted mid new first.inside (leaves.reached (first.leaves.spends.nature.honest ∙ honest) able))
 
 erased_then : (changes : Changes) (wanted : ℕ → ℕ) (old mid new : BusState) (sent : ℕ) (erased : Tally) → SecondDone changes old mid new sent erased
     → old.honest ≡ true → CanApply changes wanted old.chip → HasChanged (raised_in changes) blank (raised_in changes) mid new
 erased_then changes wanted old mid new sent erased second honest can =
-    second.does.done (second.first.leaves.spends.honest ∙ honest)
+    second.does.done (second.first.leaves.spends.nature.honest ∙ honest)
     (can_erase_all changes wanted changes.unlock old mid can (free_then changes wanted old mid sent second.first honest can))
 
 none_wider : (changes : Changes) (s : ℕ) → none s ≡ true → raised_in changes s ≡ true
@@ -174,10 +174,10 @@ third_change changes wanted old free mid new sent erased second leaves honest ca
     let spends = second_spends changes old free mid sent second.first second.leaves in
     let able = can_program_all changes wanted changes.unlock old free mid can (free_then changes wanted old free sent second.first honest can)
     (erased_then changes wanted old free mid sent erased second honest can) in
-    change_then (touched_in changes) (raised_in changes) wanted old mid new spends.steady
+    change_then (touched_in changes) (raised_in changes) wanted old mid new spends.nature.steady
     (second_change changes wanted old free mid sent second.first second.leaves honest can)
     (change_wider (touched_in changes) none (touched_in changes) (raised_in changes) wanted mid new (λ s is. is) (none_wider changes)
-    (leaves.reached (spends.honest ∙ honest) able))
+    (leaves.reached (spends.nature.honest ∙ honest) able))
 
 made_then : (changes : Changes) (wanted : ℕ → ℕ) (old free mid new : BusState) (sent : ℕ) (erased programmed : Tally) → ThirdDone changes wanted old free mid new sent erased programmed
     → old.honest ≡ true → CanApply changes wanted old.chip → Made changes wanted changes.unlock old new
@@ -187,7 +187,7 @@ made_then changes wanted old free mid new sent erased programmed third honest ca
     let blanked = erased_then changes wanted old free mid sent erased second honest can in
     let spends = second_spends changes old free mid sent second.first second.leaves in
     makes changes wanted changes.unlock old free mid new can lifted blanked
-    (third.does.done (spends.honest ∙ honest) (can_program_all changes wanted changes.unlock old free mid can lifted blanked))
+    (third.does.done (spends.nature.honest ∙ honest) (can_program_all changes wanted changes.unlock old free mid can lifted blanked))
 
 fourth_change : (changes : Changes) (wanted : ℕ → ℕ) (needed : Bool) (old free mid made new : BusState) (sent : ℕ) (erased programmed : Tally) → writes_code changes ≡ needed
     → ThirdDone changes wanted old free mid made sent erased programmed → LeavesCode changes.status changes.code needed made new
@@ -195,9 +195,10 @@ fourth_change : (changes : Changes) (wanted : ℕ → ℕ) (needed : Bool) (old 
 fourth_change changes wanted needed old free mid made new sent erased programmed is third leaves honest can =
     let spends = third_spends changes wanted old free mid made sent erased third.second third.leaves in
     let so = made_then changes wanted old free mid made sent erased programmed third honest can in
-    change_then (touched_in changes) (raised_in changes) wanted old made new spends.steady
+    change_then (touched_in changes) (raised_in changes) wanted old made new spends.nature.steady
     (third_change changes wanted old free mid made sent erased third.second third.leaves honest can)
-    (code_change changes wanted changes.code needed old made new can so.config so.fixed so.idle (spends.honest ∙ honest)
+    (code_change changes wanted changes.code needed old made new can so.config so.fixed so.idle
+    (spends.nature.honest ∙ honest)
     (λ writes. writable_last changes wanted old.chip can (is ∙ writes)) leaves)
 
 -- ---- exits
@@ -234,25 +235,25 @@ leaves_fourth changes wanted needed old free mid made new sent erased programmed
   reached = fourth_change changes wanted needed old free mid made new sent erased programmed is third leaves;
 }
 
-pub halts_first : (changes : Changes) (old new : BusState) (halt : Halt) → HaltsBelow most_operation old new halt → HaltsBelow (most_applied (sector_count (touched_in changes))) old new halt
+pub halts_first : (changes : Changes) (old new : BusState) (halt : Halt) → Halts most_operation old new halt → Halts (most_applied (sector_count (touched_in changes))) old new halt
 halts_first changes old new halt halts = halts_more most_operation (most_applied (sector_count (touched_in changes))) old new halt (omega arith) halts
 
 pub halts_second : (changes : Changes) (old mid new : BusState) (sent : ℕ) (halt : Halt) → FirstDone changes old mid sent
-    → HaltsBelow (most_operation * sector_count (raised_in changes)) mid new halt → HaltsBelow (most_applied (sector_count (touched_in changes))) old new halt
+    → Halts (most_operation * sector_count (raised_in changes)) mid new halt → Halts (most_applied (sector_count (touched_in changes))) old new halt
 halts_second changes old mid new sent halt first halts =
     let few = raised_few changes first.inside in
     halts_more (most_operation + most_operation * sector_count (raised_in changes)) (most_applied (sector_count (touched_in changes))) old new halt (omega (arith, few))
     (halts_then most_operation (most_operation * sector_count (raised_in changes)) old mid new halt (first_spends changes old mid first.leaves) halts)
 
 pub halts_third : (changes : Changes) (old free mid new : BusState) (sent : ℕ) (erased : Tally) (halt : Halt) → SecondDone changes old free mid sent erased
-    → HaltsBelow (most_sector * sector_count (touched_in changes)) mid new halt → HaltsBelow (most_applied (sector_count (touched_in changes))) old new halt
+    → Halts (most_sector * sector_count (touched_in changes)) mid new halt → Halts (most_applied (sector_count (touched_in changes))) old new halt
 halts_third changes old free mid new sent erased halt second halts =
     halts_more (most_operation + most_operation * sector_count (touched_in changes) + most_sector * sector_count (touched_in changes)) (most_applied (sector_count (touched_in changes))) old new halt (omega arith)
     (halts_then (most_operation + most_operation * sector_count (touched_in changes)) (most_sector * sector_count (touched_in changes)) old mid new halt
     (second_spends changes old free mid sent second.first second.leaves) halts)
 
 pub halts_fourth : (changes : Changes) (wanted : ℕ → ℕ) (old free mid made new : BusState) (sent : ℕ) (erased programmed : Tally) (halt : Halt)
-    → ThirdDone changes wanted old free mid made sent erased programmed → HaltsBelow most_operation made new halt → HaltsBelow (most_applied (sector_count (touched_in changes))) old new halt
+    → ThirdDone changes wanted old free mid made sent erased programmed → Halts most_operation made new halt → Halts (most_applied (sector_count (touched_in changes))) old new halt
 halts_fourth changes wanted old free mid made new sent erased programmed halt third halts =
     halts_more (most_operation + most_operation * sector_count (touched_in changes) + most_sector * sector_count (touched_in changes) + most_operation) (most_applied (sector_count (touched_in changes))) old new halt (omega arith)
     (halts_then (most_operation + most_operation * sector_count (touched_in changes) + most_sector * sector_count (touched_in changes)) most_operation old made new halt
@@ -320,9 +321,9 @@ does_applied changes wanted needed old free mid made new sent erased programmed 
           (subst Less (sym is) (least_cost needed last does.least)) sum;
       sent = λ honest.
           let one = first.does.count honest in
-          let two = second.does.tallies.sent (first.leaves.spends.honest ∙ honest) in
-          let three = third.does.tallies.sent (before.honest ∙ honest) in
-          let four = does.count (after.honest ∙ honest) in
+          let two = second.does.tallies.sent (first.leaves.spends.nature.honest ∙ honest) in
+          let three = third.does.tallies.sent (before.nature.honest ∙ honest) in
+          let four = does.count (after.nature.honest ∙ honest) in
           omega (arith, one, two, three, four, sum);
       still = λ none.
           let shut = not_set changes.unlock (omega (arith, none)) in
@@ -333,13 +334,13 @@ does_applied changes wanted needed old free mid made new sent erased programmed 
           ∙ second.does.still (omega (arith, none, few, fewer_erased))
           ∙ ap (λ (state : BusState). state.stirred) (first.leaves.still shut);
       done = λ honest can.
-          applies changes wanted needed old made new last is (after.honest ∙ honest) can
+          applies changes wanted needed old made new last is (after.nature.honest ∙ honest) can
           (made_then changes wanted old free mid made sent erased programmed third honest can) leaves does;
       programs = λ honest can.
           let lifted = free_then changes wanted old free sent first honest can in
           let blanked = erased_then changes wanted old free mid sent erased second honest can in
           programs
-          ∙ third.does.counted (before.honest ∙ honest) (can_program_all changes wanted changes.unlock old free mid can lifted blanked)
+          ∙ third.does.counted (before.nature.honest ∙ honest) (can_program_all changes wanted changes.unlock old free mid can lifted blanked)
           ∙ pages_same (touched_in changes) mid.chip.bytes (once_erased (raised_in changes) old.chip.bytes) wanted (bytes_erased changes changes.unlock old free mid lifted blanked);
     }
 

@@ -6,6 +6,7 @@ use Rattle.nor_chip.specs.declared.running.Running.TheVariants.{Program, Erase, 
 use Rattle.nor_chip.specs.Chip.{Chip, IsSame}
 use Rattle.nor_chip.specs.Power.{is_in_work, KeptStay, KeptCut}
 use Rattle.nor_chip.specs.Bus.{BusState}
+use Rattle.nor_chip.proofs.Nature.{nature_refl, nature_then}
 use Rattle.nor_driver.specs.Looks.{IsCalm, Stays, LooksHonest, Looks}
 use Rattle.nor_driver.proofs.Cuts.{unchanged_none, unchanged_stays}
 
@@ -89,10 +90,9 @@ looked_then m n old mid new steady first second = record {
 -- so many readings, and so many more
 pub looks_then : (m n : ℕ) (old mid new : BusState) → Looks m old mid → Looks n mid new → Looks (m + n) old new
 looks_then m n old mid new first second = record {
-  honest = second.honest ∙ first.honest;
-  steady = second.steady ∙ first.steady;
+  nature = nature_then old mid new second.nature first.nature;
   stirred = second.stirred ∙ first.stirred;
-  looked = λ honest. looked_then m n old mid new first.steady (first.looked honest) (second.looked (first.honest ∙ honest));
+  looked = λ honest. looked_then m n old mid new first.nature.steady (first.looked honest) (second.looked (first.nature.honest ∙ honest));
 }
 
 -- no reading
@@ -105,13 +105,12 @@ looked_none state = record {
 }
 
 pub looks_none : (state : BusState) → Looks 0 state state
-looks_none state = record { honest = refl; steady = refl; stirred = refl; looked = λ honest. looked_none state }
+looks_none state = record { nature = nature_refl state; stirred = refl; looked = λ honest. looked_none state }
 
 -- what is bounded so is bounded by more
 pub looks_more : (m n : ℕ) (old new : BusState) → m ≤ n → Looks m old new → Looks n old new
 looks_more m n old new fits looks = record {
-  honest = looks.honest;
-  steady = looks.steady;
+  nature = looks.nature;
   stirred = looks.stirred;
   looked = λ honest.
       let looked = looks.looked honest in

@@ -1,9 +1,9 @@
 -- What reading a sector and comparing it tells of the sector, and of the sectors up to it.
 use Rattle.std.proofs.Common.{◌≡◌, ◌≤◌, ◌<◌, ◌+◌, ◌-◌, ◌*◌, ◌/◌, ◌∙◌, ℕ, Bool, true, false, ap, sym, refl, subst, arith, inl, inr, List, length, slice_index}
 use Rattle.std.proofs.lemmas.Bool.{cases_eq}
-use Rattle.std.specs.Prelude.{if◌then◌else◌}
 use Rattle.nor_chip.specs.declared.config.Config.{Config}
-use Rattle.nor_chip.specs.Bus.{BusState}
+use Rattle.nor_chip.specs.Bus.{BusState, KeepsNature}
+use Rattle.nor_chip.proofs.Nature.{nature_refl, nature_then}
 use Rattle.nor_driver.specs.Looks.{Rested, Looks, RanOut, RanOutIfHonest}
 use Rattle.nor_driver.specs.Reads.{IsSectorOf, ReadsSector}
 use Rattle.nor_plan.specs.Bytes.{AllAgree, IsFirstDifference}
@@ -72,8 +72,7 @@ stops sector wanted old new below out = λ honest. subst (λ (n : ℕ). RanOut n
 
 -- The sectors of a set below a number were checked, and passed.
 pub record HasChecked (sectors : ℕ → Bool) (wanted : ℕ → ℕ) (n : ℕ) (old new : BusState) (sent : ℕ) : Type 0 where
-  pub honest : new.honest ≡ old.honest
-  pub steady : new.steady ≡ old.steady
+  pub nature : KeepsNature old new
   pub stirred : new.stirred ≡ old.stirred
   pub few : sent ≤ n
   pub counted : sent ≡ count_below n sectors
@@ -87,8 +86,7 @@ pub record AreWanted (wanted : ℕ → ℕ) (sector : ℕ) (bytes : List ℕ) : 
 
 pub checked_none : (t : ℕ → Bool) (w : ℕ → ℕ) (state : BusState) → HasChecked t w 0 state state 0
 checked_none t w state = record {
-  honest = refl;
-  steady = refl;
+  nature = nature_refl state;
   stirred = refl;
   few = omega arith;
   counted = sym (count_below-zero t);
@@ -106,8 +104,7 @@ other_sector t n s not is below = elim (cases_eq s n) [
 
 pub checked_without : (t : ℕ → Bool) (w : ℕ → ℕ) (n sent : ℕ) (old new : BusState) → t n ≡ false → HasChecked t w n old new sent → HasChecked t w (n + 1) old new sent
 checked_without t w n sent old new not has = record {
-  honest = has.honest;
-  steady = has.steady;
+  nature = has.nature;
   stirred = has.stirred;
   few = let few = has.few in omega arith;
   counted = has.counted ∙ sym (count_below-without n t not);
@@ -134,19 +131,18 @@ wanted_at w n a bytes are in_sector =
 pub checked_with : (t : ℕ → Bool) (w : ℕ → ℕ) (n sent : ℕ) (bytes : List ℕ) (old mid new : BusState) → t n ≡ true → AreWanted w n bytes
     → HasChecked t w n old mid sent → Looks 1 mid new → DoesChecks (only n) (byte_of n bytes) mid new 1 → HasChecked t w (n + 1) old new (sent + 1)
 checked_with t w n sent bytes old mid new is are has looks does = record {
-  honest = looks.honest ∙ has.honest;
-  steady = looks.steady ∙ has.steady;
+  nature = nature_then old mid new looks.nature has.nature;
   stirred = looks.stirred ∙ has.stirred;
   few = let few = has.few in omega arith;
   counted = let counted = has.counted in let more = count_below-with n t is in omega arith;
-  count = λ honest. let before = has.count honest in let after = does.count (has.honest ∙ honest) in omega arith;
-  rested = λ honest. rested_then old mid new (has.rested honest) (does.rested (has.honest ∙ honest));
+  count = λ honest. let before = has.count honest in let after = does.count (has.nature.honest ∙ honest) in omega arith;
+  rested = λ honest. rested_then old mid new (has.rested honest) (does.rested (has.nature.honest ∙ honest));
   same = λ honest can a below in_set.
       let rested = has.rested honest in
       elim (cases_eq (a / 4096) n) [
         | inl here ↦
             sym (rested.unchanged.same.bytes a)
-            ∙ does.same (has.honest ∙ honest) (can_one t n old mid is rested can) a (only-here n (a / 4096) here)
+            ∙ does.same (has.nature.honest ∙ honest) (can_one t n old mid is rested can) a (only-here n (a / 4096) here)
             ∙ wanted_at w n a bytes are here
         | inr other ↦ has.same honest can a (omega arith) in_set
       ];
@@ -156,19 +152,18 @@ checked_with t w n sent bytes old mid new is are has looks does = record {
 pub failed_looks : (t : ℕ → Bool) (w : ℕ → ℕ) (n sent : ℕ) (old mid new : BusState) → n < 4096 → t n ≡ true → HasChecked t w n old mid sent → Looks 1 mid new
     → Looks (sector_count t) old new
 failed_looks t w n sent old mid new below is has looks = record {
-  honest = looks.honest ∙ has.honest;
-  steady = looks.steady ∙ has.steady;
+  nature = nature_then old mid new looks.nature has.nature;
   stirred = looks.stirred ∙ has.stirred;
   looked = λ honest.
       let most : sent + 1 ≤ count_below 4096 t = let next = count_below-next 4096 n t below is in let counted = has.counted in omega arith in
       looked_more old new (sent + 1) (count_below 4096 t) most
-      (looked_after old mid new sent 1 has.steady (has.rested honest) (has.count honest) (looks.looked (has.honest ∙ honest)));
+      (looked_after old mid new sent 1 has.nature.steady (has.rested honest) (has.count honest) (looks.looked (has.nature.honest ∙ honest)));
 }
 
 pub failed_tells : (t : ℕ → Bool) (w : ℕ → ℕ) (n sent : ℕ) (bytes : List ℕ) (old mid new : BusState) (fault : CheckFault) → n < 4096 → t n ≡ true → AreWanted w n bytes
     → HasChecked t w n old mid sent → CheckTells (only n) (byte_of n bytes) mid new fault → CheckTells t w old new fault
 failed_tells t w n sent bytes old mid new Stopped below is are has tells = λ honest.
-    let out : RanOut (sector_count (only n)) mid new = tells (has.honest ∙ honest) in
+    let out : RanOut (sector_count (only n)) mid new = tells (has.nature.honest ∙ honest) in
     let one : mid.left < 1 = subst (λ (k : ℕ). mid.left < k) (sector_count-only n below) out.below in
     record {
       none_left = out.none_left;
@@ -176,7 +171,7 @@ failed_tells t w n sent bytes old mid new Stopped below is are has tells = λ ho
     }
 failed_tells t w n sent bytes old mid new (Mismatch address) below is are has tells = λ honest can.
     let rested = has.rested honest in
-    let first = tells (has.honest ∙ honest) (can_one t n old mid is rested can) in
+    let first = tells (has.nature.honest ∙ honest) (can_one t n old mid is rested can) in
     let here : address / 4096 ≡ n = only-is n (address / 4096) first.in_sector in
     record {
       in_sector = ap t here ∙ is;

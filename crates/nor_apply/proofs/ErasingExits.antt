@@ -2,7 +2,8 @@
 use Rattle.std.proofs.Common.{ℕ, ◌≡◌, ◌<◌, ◌≤◌, ◌+◌, ◌*◌, ◌/◌, Bool, true, List, [], ◌∷◌, ◌++◌, length, refl, sym, ap, subst, ◌∙◌, arith}
 use Rattle.std.proofs.lemmas.List.{length-append, append_assoc, append-nil}
 use Rattle.nor_chip.specs.declared.config.Config.{Config}
-use Rattle.nor_chip.specs.Bus.{BusState}
+use Rattle.nor_chip.specs.Bus.{BusState, KeepsNature}
+use Rattle.nor_chip.proofs.Nature.{nature_refl, nature_then}
 use Rattle.nor_probe.specs.declared.sfdp.Kinds.{Kinds}
 use Rattle.nor_driver.specs.declared.units.Erase.{Erase}
 use Rattle.nor_driver.specs.declared.waits.Halt.{Halt}
@@ -14,7 +15,7 @@ use Rattle.nor_plan.specs.Planned.{planned}
 use Rattle.nor_apply.specs.declared.tally.Tally.{Tally}
 use Rattle.nor_apply.specs.Counts.{sector_count}
 use Rattle.nor_apply.specs.Change.{MayChange, HasChanged, blank}
-use Rattle.nor_apply.specs.Spending.{HaltsBelow, Tallies}
+use Rattle.nor_apply.specs.Spending.{Tallies}
 use Rattle.nor_apply.specs.Erasing.{CanEraseAll, LeavesErases, DoesErases}
 use Rattle.nor_apply.proofs.Changing.{has_may, change_then, change_wider}
 use Rattle.nor_apply.proofs.Counting.{count_below-most}
@@ -23,8 +24,7 @@ use Rattle.nor_apply.proofs.ErasingSteps.{can_erase, erase_change, erased_more, 
 
 -- These erases of a plan have succeeded, one after the other.
 pub record ErasesSoFar (kinds : Kinds) (size : ℕ) (set : ℕ → Bool) (units : List Erase) (old new : BusState) (tally : Tally) : Type 0 where
-  pub honest : new.honest ≡ old.honest
-  pub steady : new.steady ≡ old.steady
+  pub nature : KeepsNature old new
   pub count : tally.count ≡ length units
   pub still : tally.count ≡ 0 → new.stirred ≡ old.stirred
   pub tallies : Tallies 0 old new tally
@@ -77,8 +77,7 @@ is_next kinds size set units left unit rest plan first =
 
 pub none_so_far : (kinds : Kinds) (size : ℕ) (set : ℕ → Bool) (state : BusState) (tally : Tally) → tally.count ≡ 0 → tally.transactions ≡ 0 → ErasesSoFar kinds size set [] state state tally
 none_so_far kinds size set state tally count transactions = record {
-  honest = refl;
-  steady = refl;
+  nature = nature_refl state;
   count = count;
   still = λ none. refl;
   tallies = record { least = omega arith; few = omega arith; sent = λ honest. omega arith };
@@ -92,20 +91,19 @@ pub erases_more : (kinds : Kinds) (size : ℕ) (set : ℕ → Bool) (units : Lis
     → IsNext kinds size set units unit → ErasesSoFar kinds size set units old mid tally → LeavesErase unit mid new → Erases unit mid new sent
     → more.count ≡ tally.count + 1 → more.transactions ≡ tally.transactions + sent → ErasesSoFar kinds size set (units ++ unit ∷ []) old new more
 erases_more kinds size set units unit old mid new tally more sent next so leaves erases count transactions = record {
-  honest = leaves.stirs.honest ∙ so.honest;
-  steady = leaves.stirs.steady ∙ so.steady;
+  nature = nature_then old mid new leaves.stirs.nature so.nature;
   count = let same = so.count in let longer = length-append units (unit ∷ []) in omega (arith, count, same, longer);
   still = λ none. absurd (omega (arith, count, none));
   tallies = record {
     least = let before = so.tallies.least in let step = erases.ends.least in omega (arith, before, step, count, transactions);
     few = let before = so.tallies.few in let step = erases.ends.few in omega (arith, before, step, count, transactions);
-    sent = λ honest. let before = so.tallies.sent honest in let step = erases.ends.count (so.honest ∙ honest) in omega (arith, before, step, transactions);
+    sent = λ honest. let before = so.tallies.sent honest in let step = erases.ends.count (so.nature.honest ∙ honest) in omega (arith, before, step, transactions);
   };
   done = λ honest can.
       let has = so.done honest can in
       let able = can_erase kinds size set (union_of (size / 4096) units) unit old mid next.plan can has in
       erased_more (size / 4096) (union_of (size / 4096) units) (union_of (size / 4096) (units ++ unit ∷ [])) unit old mid new
-      (sectors_same kinds size set _ old mid can has) (union_more (size / 4096) units unit) has (erases.done (so.honest ∙ honest) able) (erases.ends.idle (so.honest ∙ honest));
+      (sectors_same kinds size set _ old mid can has) (union_more (size / 4096) units unit) has (erases.done (so.nature.honest ∙ honest) able) (erases.ends.idle (so.nature.honest ∙ honest));
 }
 
 -- ---- exits
@@ -124,28 +122,27 @@ leaves_halted kinds size set units unit old mid new tally next so leaves =
     let few = next.few in let count = so.count in let most = so.tallies.few in
     record {
       spends = record {
-        honest = leaves.stirs.honest ∙ so.honest;
-        steady = leaves.stirs.steady ∙ so.steady;
+        nature = nature_then old mid new leaves.stirs.nature so.nature;
         falls = λ honest.
-            let before = so.tallies.sent honest in let step = leaves.falls (so.honest ∙ honest) in
+            let before = so.tallies.sent honest in let step = leaves.falls (so.nature.honest ∙ honest) in
             let fell = step.fell in let bound = step.bound in
             record { fell = omega (arith, before, fell); bound = omega (arith, before, bound, few, count, most) };
       };
       reached = λ honest can.
           let has = so.done honest can in
           let able = can_erase kinds size set (union_of (size / 4096) units) unit old mid next.plan can has in
-          change_then set set blank old mid new so.steady (so_far_may kinds size set units old mid tally next.before so honest can)
-          (erase_change kinds (size / 4096) set unit mid new (sectors_same kinds size set _ old mid can has) next.plan (leaves.reached (so.honest ∙ honest) able));
+          change_then set set blank old mid new so.nature.steady (so_far_may kinds size set units old mid tally next.before so honest can)
+          (erase_change kinds (size / 4096) set unit mid new (sectors_same kinds size set _ old mid can has) next.plan (leaves.reached (so.nature.honest ∙ honest) able));
     }
 
-pub halts_below : (kinds : Kinds) (size : ℕ) (set : ℕ → Bool) (units : List Erase) (unit : Erase) (at : ℕ) (old mid new : BusState) (tally : Tally) (halt : Halt)
-    → IsNext kinds size set units unit → ErasesSoFar kinds size set units old mid tally → Halts at most_operation mid new halt → HaltsBelow (most_operation * sector_count set) old new halt
-halts_below kinds size set units unit at old mid new tally halt next so halts =
+pub halts_below : (kinds : Kinds) (size : ℕ) (set : ℕ → Bool) (units : List Erase) (unit : Erase) (old mid new : BusState) (tally : Tally) (halt : Halt)
+    → IsNext kinds size set units unit → ErasesSoFar kinds size set units old mid tally → Halts most_operation mid new halt → Halts (most_operation * sector_count set) old new halt
+halts_below kinds size set units unit old mid new tally halt next so halts =
     let few = next.few in let count = so.count in let most = so.tallies.few in
     record {
-      stopped = λ honest. halts.stopped (so.honest ∙ honest);
+      stopped = λ honest. halts.stopped (so.nature.honest ∙ honest);
       ran_out = λ honest.
-          let before = so.tallies.sent honest in let out = halts.ran_out (so.honest ∙ honest) in
+          let before = so.tallies.sent honest in let out = halts.ran_out (so.nature.honest ∙ honest) in
           let below = out.below in
           record { none_left = out.none_left; below = omega (arith, before, below, few, count, most) };
     }
@@ -167,8 +164,7 @@ leaves_ended kinds size set units left old new tally plan none so =
     let most = so.tallies.few in
     record {
       spends = record {
-        honest = so.honest;
-        steady = so.steady;
+        nature = so.nature;
         falls = λ honest.
             let before = so.tallies.sent honest in
             record { fell = omega (arith, before); bound = omega (arith, before, few, count, most) };

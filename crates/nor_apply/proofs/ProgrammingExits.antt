@@ -2,7 +2,8 @@
 use Rattle.std.proofs.Common.{◌≡◌, ◌≤◌, ◌+◌, ◌*◌, ◌∙◌, ℕ, true, suc, List, [], ◌∷◌, ◌++◌, length, refl, ap, sym, subst, arith, length-append, append_assoc}
 use Rattle.std.specs.List.{All}
 use Rattle.std.proofs.lemmas.List.{append-nil, length_push}
-use Rattle.nor_chip.specs.Bus.{BusState}
+use Rattle.nor_chip.specs.Bus.{BusState, KeepsNature}
+use Rattle.nor_chip.proofs.Nature.{nature_refl, nature_then}
 use Rattle.nor_driver.specs.declared.waits.Halt.{Halt}
 use Rattle.nor_driver.specs.Waits.{Halts}
 use Rattle.nor_driver.specs.Programs.{LeavesProgram, Programs}
@@ -12,7 +13,6 @@ use Rattle.nor_plan.specs.Span.{spans_of}
 use Rattle.nor_plan.specs.SpanFacts.{IsSpan, AreSpans}
 use Rattle.nor_apply.specs.declared.tally.Tally.{Tally}
 use Rattle.nor_apply.specs.Change.{only, none, byte_of}
-use Rattle.nor_apply.specs.Spending.{HaltsBelow}
 use Rattle.nor_apply.specs.Programming.{CanProgramSpans, LeavesSpans, DoesSpans, most_pages}
 use Rattle.nor_apply.proofs.Changing.{has_may}
 use Rattle.nor_apply.proofs.ProgrammingPages.{spans_pages, spans_most}
@@ -20,8 +20,7 @@ use Rattle.nor_apply.proofs.ProgrammingSpans.{HasFilled, Spanned, part, can_span
 
 -- These spans were programmed, and nothing else was sent.
 pub record SpansSoFar (sector : ℕ) (old wanted : List ℕ) (spans : List Span) (first now : BusState) (tally : Tally) : Type 0 where
-  pub honest : now.honest ≡ first.honest
-  pub steady : now.steady ≡ first.steady
+  pub nature : KeepsNature first now
   pub counted : tally.count ≡ length spans
   pub least : 3 * tally.count ≤ tally.transactions
   pub few : tally.transactions ≤ most_operation * tally.count
@@ -57,8 +56,7 @@ next_span sector old wanted spans left left' span whole wanted_whole is each nex
 
 pub spans_none : (sector : ℕ) (old wanted : List ℕ) (state : BusState) → SpansSoFar sector old wanted [] state state (record { count = 0; transactions = 0 })
 spans_none sector old wanted state = record {
-  honest = refl;
-  steady = refl;
+  nature = nature_refl state;
   counted = refl;
   least = omega arith;
   few = omega arith;
@@ -71,14 +69,14 @@ pub spans_more : (sector : ℕ) (old wanted : List ℕ) (spans : List Span) (spa
     → LeavesProgram (4096 * sector + span.first) (part wanted span) now new → Programs (4096 * sector + span.first) (part wanted span) now new sent
     → SpansSoFar sector old wanted (spans ++ span ∷ []) first new (record { count = tally.count + 1; transactions = tally.transactions + more })
 spans_more sector old wanted spans span first now new tally sent more same next before leaves programs = record {
-  honest = leaves.stirs.honest ∙ before.honest;
-  steady = leaves.stirs.steady ∙ before.steady;
+  nature = nature_then first now new leaves.stirs.nature before.nature;
   counted = ap (λ (n : ℕ). n + 1) before.counted ∙ sym (length_push spans span);
   least = let a = before.least in let b = programs.ends.least in omega arith;
   few = let a = before.few in let b = programs.ends.few in omega arith;
-  sent = λ honest. let a = before.sent honest in let b = programs.ends.count (before.honest ∙ honest) in omega arith;
+  sent = λ honest.
+      let a = before.sent honest in let b = programs.ends.count (before.nature.honest ∙ honest) in omega arith;
   done = λ honest can.
-      let filled = before.done honest can in let still = before.honest ∙ honest in
+      let filled = before.done honest can in let still = before.nature.honest ∙ honest in
       span_filled sector old wanted spans span first now new next.spanned can filled
       (programs.done still (can_span sector old wanted spans span first now next.spanned can filled)) (programs.ends.idle still);
 }
@@ -98,29 +96,28 @@ leaves_halted sector old wanted spans span first now new tally next before leave
     let few = small.1 in
     record {
       spends = record {
-        honest = leaves.stirs.honest ∙ before.honest;
-        steady = leaves.stirs.steady ∙ before.steady;
+        nature = nature_then first now new leaves.stirs.nature before.nature;
         falls = λ honest.
-            let sent = before.sent honest in let falls = leaves.falls (before.honest ∙ honest) in
+            let sent = before.sent honest in let falls = leaves.falls (before.nature.honest ∙ honest) in
             let fell = falls.fell in let bound = falls.bound in
             record { fell = omega arith; bound = omega arith };
       };
       reached = λ honest can.
           let filled = before.done honest can in
-          span_may sector old wanted spans span first now new next.spanned can filled before.steady
-          (leaves.reached (before.honest ∙ honest) (can_span sector old wanted spans span first now next.spanned can filled));
+          span_may sector old wanted spans span first now new next.spanned can filled before.nature.steady
+          (leaves.reached (before.nature.honest ∙ honest) (can_span sector old wanted spans span first now next.spanned can filled));
     }
 
 pub halts_below : (sector : ℕ) (old wanted : List ℕ) (spans : List Span) (span : Span) (first now new : BusState) (tally : Tally) (halt : Halt)
     → IsNext sector old wanted spans span → SpansSoFar sector old wanted spans first now tally
-    → Halts (4096 * sector + span.first) most_operation now new halt → HaltsBelow most_pages first new halt
+    → Halts most_operation now new halt → Halts most_pages first new halt
 halts_below sector old wanted spans span first now new tally halt next before halts =
     let small = few_spans sector old wanted spans span first now tally next before in
     let few = small.1 in
     record {
-      stopped = λ honest. halts.stopped (before.honest ∙ honest);
+      stopped = λ honest. halts.stopped (before.nature.honest ∙ honest);
       ran_out = λ honest.
-          let ran = halts.ran_out (before.honest ∙ honest) in let sent = before.sent honest in
+          let ran = halts.ran_out (before.nature.honest ∙ honest) in let sent = before.sent honest in
           let below = ran.below in
           record { none_left = ran.none_left; below = omega arith };
     }
@@ -160,8 +157,7 @@ leaves_ended sector old wanted spans first now tally whole are all before =
     let fewer = does.fewer in let few = before.few in
     record {
       spends = record {
-        honest = before.honest;
-        steady = before.steady;
+        nature = before.nature;
         falls = λ honest. let sent = before.sent honest in record { fell = omega arith; bound = omega arith };
       };
       reached = λ honest can. has_may (only sector) none (byte_of sector wanted) first now (does.done honest can);

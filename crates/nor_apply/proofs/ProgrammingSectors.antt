@@ -4,6 +4,7 @@ use Rattle.std.specs.Prelude.{◌||◌, bit_and, if◌then◌else◌}
 use Rattle.nor_chip.specs.declared.config.Config.{Config}
 use Rattle.nor_chip.specs.Power.{KeptStay}
 use Rattle.nor_chip.specs.Bus.{BusState}
+use Rattle.nor_chip.proofs.Nature.{nature_then}
 use Rattle.nor_driver.specs.Reads.{IsSectorOf}
 use Rattle.nor_apply.specs.declared.tally.Tally.{Tally}
 use Rattle.nor_apply.specs.Content.{is_other, is_page_other}
@@ -143,16 +144,15 @@ sector_leaves sector wanted erased bytes bytes' reads first mid new blank loads 
     let looks = loads.looks in
     record {
       spends = record {
-        honest = leaves.spends.honest ∙ looks.honest;
-        steady = leaves.spends.steady ∙ looks.steady;
+        nature = nature_then first mid new leaves.spends.nature looks.nature;
         falls = λ honest.
-            let looked = looks.looked honest in let falls = leaves.spends.falls (looks.honest ∙ honest) in
+            let looked = looks.looked honest in let falls = leaves.spends.falls (looks.nature.honest ∙ honest) in
             let fell = looked.falls.fell in let bound = looked.falls.bound in let fell' = falls.fell in let bound' = falls.bound in
             record { fell = omega arith; bound = omega arith };
       };
       reached = λ honest can.
           let loaded = has_loaded sector wanted erased bytes bytes' reads first mid blank loads.ends honest can in
-          change_then (only sector) none (byte_of sector wanted) first mid new looks.steady
+          change_then (only sector) none (byte_of sector wanted) first mid new looks.nature.steady
           (looks_change (only sector) none (byte_of sector wanted) 1 first mid can.can.idle (looks.looked honest))
-          (leaves.reached (looks.honest ∙ honest) (can_spans sector wanted erased bytes' first mid can loaded));
+          (leaves.reached (looks.nature.honest ∙ honest) (can_spans sector wanted erased bytes' first mid can loaded));
     }

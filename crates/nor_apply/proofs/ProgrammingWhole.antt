@@ -5,8 +5,9 @@ use Rattle.std.proofs.lemmas.Bool.{and_parts}
 use Rattle.std.proofs.lemmas.Bool.Decides.{nat_tests}
 use Rattle.std.proofs.Math.Bool.{and-false, or-false}
 use Rattle.nor_chip.specs.declared.config.Config.{Config}
-use Rattle.nor_chip.specs.Bus.{BusState}
+use Rattle.nor_chip.specs.Bus.{BusState, KeepsNature}
 use Rattle.nor_chip.proofs.Sizes.{sized_bounds}
+use Rattle.nor_chip.proofs.Nature.{nature_refl, nature_then}
 use Rattle.nor_driver.specs.declared.waits.Halt.{Halt}
 use Rattle.nor_driver.specs.Operations.{most_operation}
 use Rattle.nor_apply.specs.declared.tally.Tally.{Tally}
@@ -15,7 +16,7 @@ use Rattle.nor_apply.specs.Counts.{sector_count}
 use Rattle.nor_apply.specs.Content.{is_page_other, is_programmed}
 use Rattle.nor_apply.specs.Within.{places_of}
 use Rattle.nor_apply.specs.Change.{MayChange, HasChanged, only, none, byte_of}
-use Rattle.nor_apply.specs.Spending.{HaltsBelow}
+use Rattle.nor_driver.specs.Waits.{Halts}
 use Rattle.nor_apply.specs.Programming.{CanProgramSector, LeavesSector, DoesSector, CanProgramAll, LeavesPrograms, DoesPrograms, most_sector}
 use Rattle.nor_apply.proofs.Kept.{kept_then}
 use Rattle.nor_apply.proofs.Alone.{only-is}
@@ -58,8 +59,7 @@ before_skip touched n s free =
 
 -- The touched sectors below a number were programmed, and nothing else was sent.
 pub record SectorsSoFar (touched raised : ℕ → Bool) (wanted : ℕ → ℕ) (n : ℕ) (first now : BusState) (tally : Tally) : Type 0 where
-  pub honest : now.honest ≡ first.honest
-  pub steady : now.steady ≡ first.steady
+  pub nature : KeepsNature first now
   pub fewer : tally.count ≤ 16 * count_below n touched
   pub still : count_below n touched ≡ 0 → now.stirred ≡ first.stirred
   pub least : 3 * tally.count ≤ tally.transactions
@@ -71,8 +71,7 @@ pub record SectorsSoFar (touched raised : ℕ → Bool) (wanted : ℕ → ℕ) (
 
 pub sectors_none : (touched raised : ℕ → Bool) (wanted : ℕ → ℕ) (state : BusState) → SectorsSoFar touched raised wanted 0 state state (record { count = 0; transactions = 0 })
 sectors_none touched raised wanted state = record {
-  honest = refl;
-  steady = refl;
+  nature = nature_refl state;
   fewer = omega arith;
   still = λ none. refl;
   least = omega arith;
@@ -102,8 +101,7 @@ pub sectors_skip : (touched raised : ℕ → Bool) (wanted : ℕ → ℕ) (n : �
 sectors_skip touched raised wanted n first now tally free so_far =
     let count = count_below-without n touched free in let fewer = so_far.fewer in let few = so_far.few in
     record {
-      honest = so_far.honest;
-      steady = so_far.steady;
+      nature = so_far.nature;
       fewer = omega arith;
       still = λ none. so_far.still (omega arith);
       least = so_far.least;
@@ -206,16 +204,16 @@ sectors_more touched raised wanted n bytes erased first now new tally more erase
     let can_now : CanProgramAll touched raised wanted first.chip → HasChanged (before touched n) wanted none first now → CanProgramSector n bytes erased now.chip =
     λ can done. subst (λ (b : Bool). CanProgramSector n bytes b now.chip) (sym erased_is) (can_sector touched raised wanted n bytes first now is can done) in
     record {
-      honest = leaves.spends.honest ∙ so_far.honest;
-      steady = leaves.spends.steady ∙ so_far.steady;
+      nature = nature_then first now new leaves.spends.nature so_far.nature;
       fewer = let fewer' = does.fewer in omega arith;
       still = λ none. absurd (omega arith);
       least = let least = so_far.least in let least' = does.tallies.least in omega arith;
       few = let few' = does.tallies.few in omega arith;
-      sent = λ honest. let a = so_far.sent honest in let b = does.tallies.sent (so_far.honest ∙ honest) in omega arith;
+      sent = λ honest.
+          let a = so_far.sent honest in let b = does.tallies.sent (so_far.nature.honest ∙ honest) in omega arith;
       done = λ honest can.
           let done = so_far.done honest can in
-          sector_joins touched wanted n bytes first now new is done (does.done (so_far.honest ∙ honest) (can_now can done));
+          sector_joins touched wanted n bytes first now new is done (does.done (so_far.nature.honest ∙ honest) (can_now can done));
       counted = λ honest can.
           let done = so_far.done honest can in
           let here : count_below 16 (λ page. is_page_other now.chip.bytes (byte_of n bytes) (16 * n + page)) ≡ count_below 16 (λ page. is_programmed touched first.chip.bytes wanted (16 * n + page)) =
@@ -224,7 +222,7 @@ sectors_more touched raised wanted n bytes erased first now new tally more erase
           ∙ sym (ap (λ (s : ℕ). touched s && is_page_other first.chip.bytes wanted (16 * n + page)) (page_of n page small)
           ∙ ap (λ (b : Bool). b && is_page_other first.chip.bytes wanted (16 * n + page)) is.is)) in
           ap (λ (m : ℕ). m + more.count) (so_far.counted honest can)
-          ∙ ap (λ (m : ℕ). count_below (16 * n) (is_programmed touched first.chip.bytes wanted) + m) (does.counted (so_far.honest ∙ honest) (can_now can done) ∙ here)
+          ∙ ap (λ (m : ℕ). count_below (16 * n) (is_programmed touched first.chip.bytes wanted) + m) (does.counted (so_far.nature.honest ∙ honest) (can_now can done) ∙ here)
           ∙ sym (pages_more n (is_programmed touched first.chip.bytes wanted));
     }
 
@@ -267,31 +265,30 @@ leaves_halted touched raised wanted n bytes erased first now new tally erased_is
     let fewer = so_far.fewer in let few = so_far.few in let more = room touched n is.below is.is in
     record {
       spends = record {
-        honest = leaves.spends.honest ∙ so_far.honest;
-        steady = leaves.spends.steady ∙ so_far.steady;
+        nature = nature_then first now new leaves.spends.nature so_far.nature;
         falls = λ honest.
-            let sent = so_far.sent honest in let falls = leaves.spends.falls (so_far.honest ∙ honest) in
+            let sent = so_far.sent honest in let falls = leaves.spends.falls (so_far.nature.honest ∙ honest) in
             let fell = falls.fell in let bound = falls.bound in
             record { fell = omega arith; bound = omega arith };
       };
       reached = λ honest can.
           let done = so_far.done honest can in
           let can_now = subst (λ (b : Bool). CanProgramSector n bytes b now.chip) (sym erased_is) (can_sector touched raised wanted n bytes first now is can done) in
-          change_then touched none wanted first now new so_far.steady
+          change_then touched none wanted first now new so_far.nature.steady
           (change_wider (before touched n) none touched none wanted first now (λ s here. (and_parts (touched s) (nat_lt s n) here).0) (λ s no_sector. no_sector)
           (has_may (before touched n) none wanted first now done))
-          (sector_may touched wanted n bytes now new is (leaves.reached (so_far.honest ∙ honest) can_now));
+          (sector_may touched wanted n bytes now new is (leaves.reached (so_far.nature.honest ∙ honest) can_now));
     }
 
 pub halts_below : (touched raised : ℕ → Bool) (wanted : ℕ → ℕ) (n : ℕ) (bytes : List ℕ) (first now new : BusState) (tally : Tally) (halt : Halt)
     → IsTouched touched wanted n bytes → SectorsSoFar touched raised wanted n first now tally
-    → HaltsBelow most_sector now new halt → HaltsBelow (most_sector * sector_count touched) first new halt
+    → Halts most_sector now new halt → Halts (most_sector * sector_count touched) first new halt
 halts_below touched raised wanted n bytes first now new tally halt is so_far halts =
     let fewer = so_far.fewer in let few = so_far.few in let more = room touched n is.below is.is in
     record {
-      stopped = λ honest. halts.stopped (so_far.honest ∙ honest);
+      stopped = λ honest. halts.stopped (so_far.nature.honest ∙ honest);
       ran_out = λ honest.
-          let ran = halts.ran_out (so_far.honest ∙ honest) in let sent = so_far.sent honest in
+          let ran = halts.ran_out (so_far.nature.honest ∙ honest) in let sent = so_far.sent honest in
           let below = ran.below in
           record { none_left = ran.none_left; below = omega arith };
     }
@@ -332,8 +329,7 @@ leaves_ended touched raised wanted n first now tally end so_far =
     let fewer = does.fewer in let few = does.tallies.few in
     record {
       spends = record {
-        honest = so_far.honest;
-        steady = so_far.steady;
+        nature = so_far.nature;
         falls = λ honest. let sent = so_far.sent honest in record { fell = omega arith; bound = omega arith };
       };
       reached = λ honest can. has_may touched none wanted first now (does.done honest can);

@@ -1,5 +1,5 @@
 -- What the whole of the changes of a session or restore leaves: unlock, erases, programs, the status.
-use Rattle.std.specs.Prelude.{◌≡◌, ◌≤◌, ◌<◌, ◌+◌, ◌*◌, ◌/◌, ◌%◌, ◌||◌, ◌⊎◌, ◌==◌, ℕ, Bool, true, false, not, length, bit_and, if◌then◌else◌, ⊤}
+use Rattle.std.specs.Prelude.{◌≡◌, ◌≤◌, ◌<◌, ◌+◌, ◌*◌, ◌/◌, ◌||◌, ◌⊎◌, ◌==◌, ℕ, Bool, true, false, not, length, bit_and, if◌then◌else◌, ⊤}
 use Rattle.nor_chip.specs.Code.{code_in}
 use Rattle.nor_chip.specs.Status.{bytes_of}
 use Rattle.nor_chip.specs.Chip.{Chip}

@@ -1,23 +1,16 @@
--- How many transactions a part of a session or restore sends, and how it halts.
+-- How many transactions a part of a session or restore sends, and what a timeout of it names.
 use Rattle.std.specs.Prelude.{◌≡◌, ◌≤◌, ◌+◌, ◌*◌, ◌/◌, ℕ, Bool, true, ⊤}
-use Rattle.nor_chip.specs.Bus.{BusState}
+use Rattle.nor_chip.specs.Bus.{BusState, KeepsNature}
 use Rattle.nor_driver.specs.declared.waits.Halt.{Halt}
 use Rattle.nor_driver.specs.declared.waits.Halt.TheVariants.{Stopped, Timeout}
-use Rattle.nor_driver.specs.Looks.{Falls, RanOut}
+use Rattle.nor_driver.specs.Looks.{Falls}
 use Rattle.nor_driver.specs.Operations.{most_operation}
 use Rattle.nor_apply.specs.declared.tally.Tally.{Tally}
 
 -- At every exit: the bus keeps its honesty and its steadiness; an honest one sent at most so many transactions.
 pub record Spends (most : ℕ) (old new : BusState) : Type 0 where
-  pub honest : new.honest ≡ old.honest
-  pub steady : new.steady ≡ old.steady
+  pub nature : KeepsNature old new
   pub falls : old.honest ≡ true → Falls most old new
-
--- A part halted. On an honest bus that is a stop, and there were fewer transactions than this. (A call that waits for
--- one address `Halts`, which also tells that address; a part waits for many, and `NamesTimeoutIn` tells which.)
-pub record HaltsBelow (needed : ℕ) (old new : BusState) (halt : Halt) : Type 0 where
-  pub stopped : old.honest ≡ true → halt ≡ Stopped
-  pub ran_out : old.honest ≡ true → RanOut needed old new
 
 -- whatever the bus, a timeout names an address in one of these sectors
 abbrev pub NamesTimeoutIn : (ℕ → Bool) → Halt → Type 0

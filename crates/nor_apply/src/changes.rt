@@ -2,7 +2,7 @@
 ghost use Rattle.std.specs.Prelude.{◌≡◌, ◌<◌, ◌≤◌, ◌/◌, ℕ, true, IfOk, IfErr};
 ghost use Rattle.nor_plan.specs.SectorSet.{has, LiesBelow};
 ghost use Rattle.nor_apply.specs.Counts.{sector_count};
-ghost use Rattle.nor_apply.specs.Spending.{HaltsBelow};
+ghost use Rattle.nor_driver.specs.Waits.{Halts};
 ghost use Rattle.nor_apply.specs.Applying.{LeavesApply, DoesApply, NamesChange, writes_code, touched_in, most_applied};
 
 use crate::Source;
@@ -62,7 +62,7 @@ pub fn apply<B: Bus, S: Source>(bus: &mut B, source: &S, changes: &Changes) -> R
     ensures leaves { LeavesApply changes.now (S.wanted source.now) (B.state bus.old) (B.state bus.new) }
     ensures does { IfOk result (DoesApply changes.now (S.wanted source.now) (B.state bus.old) (B.state bus.new)) }
     ensures halts { IfErr result
-        (HaltsBelow (most_applied (sector_count (touched_in changes.now))) (B.state bus.old) (B.state bus.new)) }
+        (Halts (most_applied (sector_count (touched_in changes.now))) (B.state bus.old) (B.state bus.new)) }
     ensures names { IfErr result (NamesChange changes.now) }
 {
     let lifted = write_code(bus, changes.status, 0, changes.unlock)?;

@@ -1,9 +1,10 @@
 //! The erases of a session or restore.
-ghost use Rattle.std.specs.Prelude.{◌≡◌, ◌≤◌, ◌*◌, ◌/◌, IfOk, IfErr};
+ghost use Rattle.std.specs.Prelude.{◌≤◌, ◌*◌, ◌/◌, IfOk, IfErr};
 ghost use Rattle.nor_driver.specs.Operations.{most_operation};
 ghost use Rattle.nor_plan.specs.SectorSet.{has, LiesBelow};
 ghost use Rattle.nor_apply.specs.Counts.{sector_count};
-ghost use Rattle.nor_apply.specs.Spending.{HaltsBelow, NamesTimeoutIn};
+ghost use Rattle.nor_driver.specs.Waits.{Halts};
+ghost use Rattle.nor_apply.specs.Spending.{NamesTimeoutIn};
 ghost use Rattle.nor_apply.specs.Erasing.{LeavesErases, DoesErases};
 
 use crate::tally::Tally;
@@ -24,7 +25,7 @@ pub fn erase_all<B: Bus>(
     ensures leaves { LeavesErases (has raised.now) kinds size (B.state bus.old) (B.state bus.new) }
     ensures does { IfOk result (DoesErases (has raised.now) kinds size (B.state bus.old) (B.state bus.new)) }
     ensures halts { IfErr result
-        (HaltsBelow (most_operation * sector_count (has raised.now)) (B.state bus.old) (B.state bus.new)) }
+        (Halts (most_operation * sector_count (has raised.now)) (B.state bus.old) (B.state bus.new)) }
     ensures names { IfErr result (NamesTimeoutIn (has raised.now)) }
 {
     let mut tally = Tally::NONE;

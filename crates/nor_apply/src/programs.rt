@@ -1,8 +1,9 @@
 //! The page programs of a session or restore.
-ghost use Rattle.std.specs.Prelude.{◌≡◌, ◌≤◌, ◌<◌, ◌*◌, ℕ, true, length, IfOk, IfErr, if◌then◌else◌};
+ghost use Rattle.std.specs.Prelude.{◌≡◌, ◌<◌, ◌*◌, ℕ, true, length, IfOk, IfErr};
 ghost use Rattle.nor_plan.specs.SectorSet.{has};
 ghost use Rattle.nor_apply.specs.Counts.{sector_count};
-ghost use Rattle.nor_apply.specs.Spending.{HaltsBelow, NamesTimeoutIn};
+ghost use Rattle.nor_driver.specs.Waits.{Halts};
+ghost use Rattle.nor_apply.specs.Spending.{NamesTimeoutIn};
 ghost use Rattle.nor_apply.specs.Change.{only};
 ghost use Rattle.nor_apply.specs.Programming.{LeavesSpans, DoesSpans, LeavesSector, DoesSector, LeavesPrograms, DoesPrograms, Loads, most_pages, most_sector};
 
@@ -26,7 +27,7 @@ pub fn program_all<B: Bus, S: Source>(
     ensures does { IfOk result
         (DoesPrograms (has touched.now) (has raised.now) (S.wanted source.now) (B.state bus.old) (B.state bus.new)) }
     ensures halts { IfErr result
-        (HaltsBelow (most_sector * sector_count (has touched.now)) (B.state bus.old) (B.state bus.new)) }
+        (Halts (most_sector * sector_count (has touched.now)) (B.state bus.old) (B.state bus.new)) }
     ensures names { IfErr result (NamesTimeoutIn (has touched.now)) }
 {
     let mut tally = Tally::NONE;
@@ -52,7 +53,7 @@ fn program_sector<B: Bus>(
     requires whole { length wanted.now ≡ 4096 }
     ensures leaves { LeavesSector sector wanted.now erased (B.state bus.old) (B.state bus.new) }
     ensures does { IfOk result (DoesSector sector wanted.now erased (B.state bus.old) (B.state bus.new)) }
-    ensures halts { IfErr result (HaltsBelow most_sector (B.state bus.old) (B.state bus.new)) }
+    ensures halts { IfErr result (Halts most_sector (B.state bus.old) (B.state bus.new)) }
     ensures names { IfErr result (NamesTimeoutIn (only sector)) }
 {
     let mut old = [0xFF; 4096];
@@ -84,7 +85,7 @@ fn program_spans<B: Bus>(bus: &mut B, sector: u32, old: &[u8], wanted: &[u8]) ->
     requires wanted_whole { length wanted.now ≡ 4096 }
     ensures leaves { LeavesSpans sector old.now wanted.now (B.state bus.old) (B.state bus.new) }
     ensures does { IfOk result (DoesSpans sector old.now wanted.now (B.state bus.old) (B.state bus.new)) }
-    ensures halts { IfErr result (HaltsBelow most_pages (B.state bus.old) (B.state bus.new)) }
+    ensures halts { IfErr result (Halts most_pages (B.state bus.old) (B.state bus.new)) }
     ensures names { IfErr result (NamesTimeoutIn (only sector)) }
 {
     let mut tally = Tally::NONE;

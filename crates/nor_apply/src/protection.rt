@@ -1,8 +1,8 @@
 //! Protection that is lifted and given back.
-ghost use Rattle.std.specs.Prelude.{◌≡◌, ◌<◌, IfOk, IfErr};
+ghost use Rattle.std.specs.Prelude.{◌<◌, IfOk, IfErr};
 ghost use Rattle.nor_driver.specs.Operations.{most_operation};
 ghost use Rattle.nor_apply.specs.Protecting.{LeavesCode, DoesCode, HaltsWriting};
-ghost use Rattle.nor_apply.specs.Spending.{HaltsBelow};
+ghost use Rattle.nor_driver.specs.Waits.{Halts};
 
 use nor_chip::{Bus, Status};
 use nor_driver::{Halt, write_status};
@@ -13,7 +13,7 @@ pub fn write_code<B: Bus>(bus: &mut B, status: Status, code: u8, needed: bool) -
     requires { code < 64 }
     ensures leaves { LeavesCode status code needed (B.state bus.old) (B.state bus.new) }
     ensures does { IfOk result (DoesCode status code needed (B.state bus.old) (B.state bus.new)) }
-    ensures halts { IfErr result (HaltsBelow most_operation (B.state bus.old) (B.state bus.new)) }
+    ensures halts { IfErr result (Halts most_operation (B.state bus.old) (B.state bus.new)) }
     ensures names { IfErr result (HaltsWriting needed) }
 {
     if !needed {

@@ -3,6 +3,7 @@ pub mod Guarded
 pub mod GuardedPlaces
 pub mod LeastCodes
 pub mod Lines
+pub mod Nature
 pub mod Page
 pub mod Round
 pub mod Sizes

@@ -19,10 +19,14 @@ pub record BusState : Type 0 where
   -- a stop leaves the chip as it was, and no power is lost
   pub steady : Bool
 
--- On every bus: whether it is honest and steady never changes, and a changing opcode stirs it for good.
-pub record Sends (out : List ℕ) (old new : BusState) : Type 0 where
+-- Whether a bus is honest and whether it is steady never changes.
+pub record KeepsNature (old new : BusState) : Type 0 where
   pub honest : new.honest ≡ old.honest
   pub steady : new.steady ≡ old.steady
+
+-- On every bus: whether it is honest and steady never changes, and a changing opcode stirs it for good.
+pub record Sends (out : List ℕ) (old new : BusState) : Type 0 where
+  pub nature : KeepsNature old new
   pub stirred : new.stirred ≡ (if begins_change out then true else old.stirred)
 
 -- Stopped: there was no transaction left, and nothing moved, or on a bus that isn't steady the power was lost.
@@ -42,7 +46,6 @@ pub record Carries (out answer : List ℕ) (old new : BusState) : Type 0 where
 pub record Allows (n : ℕ) (old new : BusState) : Type 0 where
   pub chip : new.chip ≡ old.chip
   pub left : old.honest ≡ true → new.left ≡ n
-  pub honest : new.honest ≡ old.honest
+  pub nature : KeepsNature old new
   pub stirred : new.stirred ≡ old.stirred
   pub worn : (s : ℕ) → new.worn s ≡ old.worn s
-  pub steady : new.steady ≡ old.steady

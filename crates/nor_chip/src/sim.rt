@@ -1,5 +1,5 @@
 //! A simulated bus: the modelled chip in memory.
-ghost use Rattle.std.specs.Prelude.{◌≡◌, ◌≢◌, ◌≤◌, ◌<◌, ◌||◌, ◌↔◌, ℕ, true, false, length, slice_index_or, vec_len};
+ghost use Rattle.std.specs.Prelude.{◌≡◌, ◌≢◌, ◌<◌, ◌||◌, ◌↔◌, ℕ, true, false, length, slice_index_or, vec_len};
 ghost use Rattle.std.specs.Prelude.{IsErr, IfOk, OnOk, OnErr};
 ghost use Rattle.nor_chip.specs.Aim.{IsAimed};
 ghost use Rattle.nor_chip.specs.Step.{wears};

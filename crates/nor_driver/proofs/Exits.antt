@@ -4,6 +4,7 @@ use Rattle.nor_chip.specs.declared.command.Command.{Command}
 use Rattle.nor_chip.specs.Command.{begins_change}
 use Rattle.nor_chip.specs.Step.{Does, is_operation, done_of, wears}
 use Rattle.nor_chip.specs.Bus.{BusState, Sends, Stops, Carries}
+use Rattle.nor_chip.proofs.Nature.{nature_then}
 use Rattle.nor_driver.specs.declared.waits.Waited.{Waited}
 use Rattle.nor_driver.specs.Looks.{Unchanged, Stays, Looks}
 use Rattle.nor_driver.specs.Waits.{Waits, HasWaited}
@@ -16,7 +17,7 @@ use Rattle.nor_driver.proofs.Begun.{IsEnabled, enabled, then_done, operation-ign
 -- the write enable itself was the last thing sent
 pub leaves-at_enable : (out : List ℕ) (old new : BusState) → Sends (6 ∷ []) old new → (old.honest ≡ true → Stops old new) → LeavesOperation out old new
 leaves-at_enable out old new sends stops = record {
-  stirs = record { honest = sends.honest; steady = sends.steady; stirred = sends.stirred };
+  stirs = record { nature = sends.nature; stirred = sends.stirred };
   falls = λ honest. let same = (stops honest).left in record { fell = omega arith; bound = omega arith };
   reached = λ honest is. may-before (operation_of old.chip out) (drop 4 out) old new (idle-takes old.chip out is) (stays_at_stop old new (stops honest));
   ignored = λ honest _. stays_at_stop old new (stops honest);
@@ -33,15 +34,14 @@ module _ (out : List ℕ) (asks : AsksForOperation out) (old ready : BusState) (
   -- the command itself was the last thing sent
   stirs-by : (new : BusState) → Sends out ready new → Stirs old new
   stirs-by new sends' = record {
-    honest = sends'.honest ∙ sends.honest;
-    steady = sends'.steady ∙ sends.steady;
+    nature = nature_then old ready new sends'.nature sends.nature;
     stirred = sends'.stirred ∙ ap (λ (b : Bool). cond (begins_change out) true b) sends.stirred ∙ either (begins_change out);
   }
 
   pub leaves-at_command : (new : BusState) → Sends out ready new → (ready.honest ≡ true → Stops ready new) → LeavesOperation out old new
   leaves-at_command new sends' stops =
-      let stopped : old.honest ≡ true → Stops ready new = λ honest. stops (sends.honest ∙ honest) in
-      let stays : old.honest ≡ true → Stays old new = λ honest. stays_after old ready new sends.steady (enabling honest).unchanged (stays_at_stop ready new (stopped honest)) in
+      let stopped : old.honest ≡ true → Stops ready new = λ honest. stops (sends.nature.honest ∙ honest) in
+      let stays : old.honest ≡ true → Stays old new = λ honest. stays_after old ready new sends.nature.steady (enabling honest).unchanged (stays_at_stop ready new (stopped honest)) in
       record {
         stirs = stirs-by new sends';
         falls = λ honest. let count = (enabling honest).count in let same = (stopped honest).left in record { fell = omega arith; bound = omega arith };
@@ -55,44 +55,45 @@ module _ (out : List ℕ) (asks : AsksForOperation out) (old ready : BusState) (
 
     has-begun : old.honest ≡ true → is_operation (operation_of old.chip out) ≡ true → HasBegun (operation_of old.chip out) (drop 4 out) old begun
     has-begun honest is =
-        let carried = carries' (sends.honest ∙ honest) in
+        let carried = carries' (sends.nature.honest ∙ honest) in
         operation-begins (operation_of old.chip out) (drop 4 out) second old ready begun is (enabling honest).unchanged
         (subst (λ (k : Command). Does k (drop 4 out) ready.chip second begun.chip) (command honest) carried.step)
         (subst (λ (k : Command). (s : ℕ) → begun.worn s ≡ (ready.worn s || wears k s)) (command honest) carried.worn)
 
     was-read : old.honest ≡ true → is_operation (operation_of old.chip out) ≡ false → HasRead ready begun
-    was-read honest is = carried_ignored out second ready begun (command honest ∙ operation-ignored old.chip out asks is) (carries' (sends.honest ∙ honest))
+    was-read honest is = carried_ignored out second ready begun (command honest ∙ operation-ignored old.chip out asks is) (carries' (sends.nature.honest ∙ honest))
 
     unchanged : old.honest ≡ true → is_operation (operation_of old.chip out) ≡ false → Unchanged old begun
     unchanged honest is = unchanged_then old ready begun (enabling honest).unchanged (was-read honest is).rested.unchanged
 
     steady : begun.steady ≡ old.steady
-    steady = sends'.steady ∙ sends.steady
+    steady = sends'.nature.steady ∙ sends.nature.steady
 
     pub leaves-at_wait : (new : BusState) → Looks 65536 begun new → LeavesOperation out old new
     leaves-at_wait new looks =
         let stirs = stirs-by begun sends' in
         record {
-          stirs = record { honest = looks.honest ∙ stirs.honest; steady = looks.steady ∙ stirs.steady; stirred = looks.stirred ∙ stirs.stirred };
+          stirs = record { nature = nature_then old begun new looks.nature stirs.nature; stirred = looks.stirred ∙ stirs.stirred };
           falls = λ honest.
-              let looked = looks.looked (stirs.honest ∙ honest) in
+              let looked = looks.looked (stirs.nature.honest ∙ honest) in
               let fell = looked.falls.fell in let bound = looked.falls.bound in
-              let count = (enabling honest).count in let count' = (carries' (sends.honest ∙ honest)).left in
+              let count = (enabling honest).count in let count' = (carries' (sends.nature.honest ∙ honest)).left in
               record { fell = omega arith; bound = omega arith };
-          reached = λ honest is. may-after (operation_of old.chip out) (drop 4 out) old begun new is steady (has-begun honest is) (looks.looked (stirs.honest ∙ honest)).stays;
-          ignored = λ honest is. stays_after old begun new steady (unchanged honest is) (looks.looked (stirs.honest ∙ honest)).stays;
+          reached = λ honest is. may-after (operation_of old.chip out) (drop 4 out) old begun new is steady (has-begun honest is) (looks.looked (stirs.nature.honest ∙ honest)).stays;
+          ignored = λ honest is. stays_after old begun new steady (unchanged honest is) (looks.looked (stirs.nature.honest ∙ honest)).stays;
         }
 
     pub operates-with : (new : BusState) (waited : Waited) → Waits begun new waited → Operates out old new (waited.polls + 2)
     operates-with new waited waits =
         let some = waits.some in let few = waits.few in
         let stirs = stirs-by begun sends' in
-        let waiting : old.honest ≡ true → HasWaited begun new waited = λ honest. waits.done (stirs.honest ∙ honest) in
+        let waiting : old.honest ≡ true → HasWaited begun new waited =
+        λ honest. waits.done (stirs.nature.honest ∙ honest) in
         record {
           ends = record {
             least = omega arith;
             few = omega arith;
-            count = λ honest. let count = (enabling honest).count in let count' = (carries' (sends.honest ∙ honest)).left in let count'' = (waiting honest).count in omega arith;
+            count = λ honest. let count = (enabling honest).count in let count' = (carries' (sends.nature.honest ∙ honest)).left in let count'' = (waiting honest).count in omega arith;
             idle = λ honest. (waiting honest).idle;
           };
           done = λ honest is. operated (operation_of old.chip out) (drop 4 out) old begun new waited (has-begun honest is) (waiting honest);

@@ -167,8 +167,7 @@ carried_poll answer old new one carries =
 -- a transaction that doesn't begin a change is quiet
 pub quiet_send : (out : List ℕ) (most : ℕ) (old new : BusState) → begins_change out ≡ false → Sends out old new → (old.honest ≡ true → LooksHonest most old new) → Looks most old new
 quiet_send out most old new quiet sends looked = record {
-  honest = sends.honest;
-  steady = sends.steady;
+  nature = sends.nature;
   stirred = sends.stirred ∙ ap (λ (b : Bool). cond b true old.stirred) quiet;
   looked = looked;
 }

@@ -2,7 +2,7 @@
 use Rattle.std.specs.Prelude.{◌≡◌, ◌≢◌, ◌≤◌, ◌<◌, ◌+◌, ◌⊎◌, ℕ, true, false}
 use Rattle.nor_chip.specs.Chip.{IsSame}
 use Rattle.nor_chip.specs.Power.{is_in_work, KeptCut}
-use Rattle.nor_chip.specs.Bus.{BusState}
+use Rattle.nor_chip.specs.Bus.{BusState, KeepsNature}
 
 -- A stop leaves bytes and kept bits as they were: the bus is steady, or nothing runs.
 abbrev pub IsCalm : BusState → Type 0
@@ -48,8 +48,7 @@ pub record LooksHonest (most : ℕ) (old new : BusState) : Type 0 where
 
 -- On every bus, at every exit: no changing opcode was sent; on an honest one, at most so many transactions were.
 pub record Looks (most : ℕ) (old new : BusState) : Type 0 where
-  pub honest : new.honest ≡ old.honest
-  pub steady : new.steady ≡ old.steady
+  pub nature : KeepsNature old new
   pub stirred : new.stirred ≡ old.stirred
   pub looked : old.honest ≡ true → LooksHonest most old new
 

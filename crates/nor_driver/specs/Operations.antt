@@ -7,7 +7,7 @@ use Rattle.nor_chip.specs.Chip.{Chip, IsSame}
 use Rattle.nor_chip.specs.Power.{is_in_work, KeptStay}
 use Rattle.nor_chip.specs.Command.{command_of}
 use Rattle.nor_chip.specs.Step.{is_idle, is_operation, done_of, byte_after, kept1_after, kept2_after, running_after, wears}
-use Rattle.nor_chip.specs.Bus.{BusState}
+use Rattle.nor_chip.specs.Bus.{BusState, KeepsNature}
 use Rattle.nor_driver.specs.Looks.{Stays, Falls}
 
 -- the most transactions of an operation: write enable, its command and 65,536 polls
@@ -42,8 +42,7 @@ ChangesOnly steady places wanted old new =
 
 -- On every bus, at every exit of an operation: it is stirred, and keeps its honesty and its steadiness.
 pub record Stirs (old new : BusState) : Type 0 where
-  pub honest : new.honest ≡ old.honest
-  pub steady : new.steady ≡ old.steady
+  pub nature : KeepsNature old new
   pub stirred : new.stirred ≡ true
 
 -- On an honest bus, an operation that was ignored has ended: nothing changed but the latch, which is set now, unless

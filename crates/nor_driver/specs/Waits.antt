@@ -45,12 +45,12 @@ NamesTimeout at Stopped = ⊤
 NamesTimeout at (Timeout address) = address ≡ at
 
 -- A call that waits halted. On an honest bus that is a stop, and there were fewer transactions than this.
-pub record Halts (at needed : ℕ) (old new : BusState) (halt : Halt) : Type 0 where
-  pub told : NamesTimeout at halt
+pub record Halts (needed : ℕ) (old new : BusState) (halt : Halt) : Type 0 where
   pub stopped : old.honest ≡ true → halt ≡ Stopped
   pub ran_out : old.honest ≡ true → RanOut needed old new
 
 -- A wait halted: there were fewer transactions than it needed, which are never more than 65,536.
 pub record WaitHalts (at : ℕ) (old new : BusState) (halt : Halt) : Type 0 where
-  pub halts : Halts at 65536 old new halt
+  pub told : NamesTimeout at halt
+  pub halts : Halts 65536 old new halt
   pub needed : old.honest ≡ true → old.left < old.chip.busy + 1

@@ -1,7 +1,7 @@
 //! Operations: write enable, a command that changes the chip, and a wait.
 
-ghost use Rattle.std.specs.Prelude.{◌≡◌, ◌<◌, ◌≤◌, ◌+◌, ◌*◌, ◌%◌, ◌^◌, length, IfOk, IfErr};
-ghost use Rattle.nor_driver.specs.Waits.{Halts};
+ghost use Rattle.std.specs.Prelude.{◌<◌, ◌≤◌, ◌+◌, ◌*◌, ◌%◌, ◌^◌, length, IfOk, IfErr};
+ghost use Rattle.nor_driver.specs.Waits.{Halts, NamesTimeout};
 ghost use Rattle.nor_driver.specs.Operations.{BytesNameAddress, IsCommandAt, AsksForOperation, LeavesOperation, Operates, most_operation};
 ghost use Rattle.nor_driver.specs.Programs.{LeavesProgram, Programs};
 ghost use Rattle.nor_driver.specs.Erases.{LeavesErase, Erases};
@@ -25,7 +25,8 @@ pub fn program_page<B: Bus>(bus: &mut B, address: u32, bytes: &[u8]) -> Result<u
     requires in_page { address % 256 + length bytes.now ≤ 256 }
     ensures leaves { LeavesProgram address bytes.now (B.state bus.old) (B.state bus.new) }
     ensures does { IfOk result (Programs address bytes.now (B.state bus.old) (B.state bus.new)) }
-    ensures halts { IfErr result (Halts address most_operation (B.state bus.old) (B.state bus.new)) }
+    ensures halts { IfErr result (Halts most_operation (B.state bus.old) (B.state bus.new)) }
+    ensures names { IfErr result (NamesTimeout address) }
 {
     let command = program_command(address, bytes);
     operation(bus, &command, address)
@@ -36,7 +37,8 @@ pub fn erase<B: Bus>(bus: &mut B, erase: Erase) -> Result<u32, Halt>
     requires { erase.sector < 4096 }
     ensures leaves { LeavesErase erase (B.state bus.old) (B.state bus.new) }
     ensures does { IfOk result (Erases erase (B.state bus.old) (B.state bus.new)) }
-    ensures halts { IfErr result (Halts (4096 * erase.sector) most_operation (B.state bus.old) (B.state bus.new)) }
+    ensures halts { IfErr result (Halts most_operation (B.state bus.old) (B.state bus.new)) }
+    ensures names { IfErr result (NamesTimeout (4096 * erase.sector)) }
 {
     let address = erase.address();
     let opcode = erase.unit.opcode();
@@ -53,7 +55,8 @@ pub fn write_status<B: Bus>(bus: &mut B, status: Status, code: u8) -> Result<u32
     requires { code < 64 }
     ensures leaves { LeavesStatusWrite status code (B.state bus.old) (B.state bus.new) }
     ensures does { IfOk result (WritesStatus status code (B.state bus.old) (B.state bus.new)) }
-    ensures halts { IfErr result (Halts 0 most_operation (B.state bus.old) (B.state bus.new)) }
+    ensures halts { IfErr result (Halts most_operation (B.state bus.old) (B.state bus.new)) }
+    ensures names { IfErr result (NamesTimeout 0) }
 {
     let [one, two] = status.with_code(code).bytes();
     operation(bus, &[WRITE_STATUS, one, two], 0)
@@ -64,7 +67,8 @@ fn operation<B: Bus>(bus: &mut B, command: &[u8], address: u32) -> Result<u32, H
     requires { AsksForOperation command.now }
     ensures leaves { LeavesOperation command.now (B.state bus.old) (B.state bus.new) }
     ensures does { IfOk result (Operates command.now (B.state bus.old) (B.state bus.new)) }
-    ensures halts { IfErr result (Halts address most_operation (B.state bus.old) (B.state bus.new)) }
+    ensures halts { IfErr result (Halts most_operation (B.state bus.old) (B.state bus.new)) }
+    ensures names { IfErr result (NamesTimeout address) }
 {
     bus.transfer(&[WRITE_ENABLE], &mut [])?;
     bus.transfer(command, &mut [])?;

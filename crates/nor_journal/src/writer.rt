@@ -1,7 +1,7 @@
 //! Writes a journal into a vault, piece by piece.
-ghost use Rattle.std.specs.Prelude.{◌≡◌, ◌+◌, ◌/◌, ◌<◌, ◌≤◌, ◌++◌, List, ℕ, Bool, [], false, true, length, Some, OnOk, IfOk};
+ghost use Rattle.std.specs.Prelude.{◌≡◌, ◌+◌, ◌/◌, ◌<◌, ◌≤◌, ◌++◌, List, ℕ, Bool, [], false, true, Some, OnOk, IfOk};
 ghost use Rattle.nor_journal.specs.Vault.{Accepted, PutsOn, Completes, IsFresh};
-ghost use Rattle.nor_journal.specs.Text.{Content, IsContent, IsJournalSize, MayFollow, empty_content, with_sector, text};
+ghost use Rattle.nor_journal.specs.Text.{Content, IsJournalSize, MayFollow, empty_content, with_sector, text};
 ghost use Rattle.nor_journal.specs.Saved.{IsWholeSector, HasOneMore, JournalSaves};
 ghost use Rattle.nor_journal.specs.Writer.{vault_of, vault_seen, HasPut, HasWritten, HasPutSectors};
 

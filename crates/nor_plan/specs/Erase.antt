@@ -7,8 +7,8 @@ use Rattle.nor_driver.specs.declared.units.Erase.{Erase}
 use Rattle.nor_driver.specs.declared.units.EraseUnit.{EraseUnit}
 use Rattle.nor_driver.specs.declared.units.EraseUnit.TheVariants.{Sector, Block32, Block64, Chip}
 
--- a chip of these kinds has the unit (`has_unit` asks the same of a configuration: of a chip that was found its kinds are
--- all that is known)
+-- a chip of these kinds has the unit (`has_unit` asks the same of a configuration; of a chip that was found its kinds
+-- are all that is known)
 abbrev pub is_offered : Kinds → EraseUnit → Bool
 is_offered kinds Sector = true
 is_offered kinds Block32 = kinds.k32

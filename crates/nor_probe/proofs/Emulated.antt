@@ -1,10 +1,7 @@
 -- The emulated chips are known: the premise that a chip is genuine can be met.
-use Rattle.std.proofs.Common.{◌≡◌, ◌+◌, ◌%◌, ◌^◌, ◌∙◌, ◌&&◌, ℕ, Bool, true, false, List, [], ◌∷◌, ◌++◌, refl, ap, sym, subst, arith}
-use Rattle.std.specs.Prelude.{Result, Ok, Err, Option, None, Some, not, map, replicate, slice_index_or, nat_le, IsOk, if◌then◌else◌, ◌==◌}
+use Rattle.std.proofs.Common.{◌≡◌, ◌+◌, ◌%◌, ◌∙◌, ℕ, Bool, true, false, List, [], ◌∷◌, ◌++◌, refl, ap, sym, subst}
+use Rattle.std.specs.Prelude.{Result, Ok, Err, Option, None, Some, not, map, replicate, slice_index_or, IsOk, if◌then◌else◌}
 use Rattle.std.specs.List.{range_with_len}
-use Rattle.std.specs.Int.RustNames.{count_ones}
-use Rattle.std.proofs.lemmas.Nat.{ones_cat}
-use lib.Count.{ones, ones_in}
 use Rattle.nor_chip.specs.declared.config.Config.{Config}
 use Rattle.nor_chip.specs.declared.config.TheConstants.{TINY64_SFDP}
 use Rattle.nor_chip.specs.Makers.{IsTiny64, IsW25q64fv, IsW25q128fv}

@@ -123,7 +123,9 @@ module _ (named : Option ChipName) (old mid new : BusState) (probed : Probed) (f
       pub told_honest : old.honest ≡ true → ProtectionHonest named old new (Ok (record { range = range; locked = locked; size = probed.found.size }))
       told_honest honest = record {
         rested = rested_after named old mid probed found looks new (λ is. (reads.read is).rested) honest;
-        idle = let idle = found.idle honest in let same = (reads.read (looks.honest ∙ honest)).busy in omega arith;
+        idle =
+            let idle = found.idle honest in
+            let same = (reads.read (looks.nature.honest ∙ honest)).busy in omega arith;
         is = has_name named old mid probed found looks honest;
         tells = tt;
       }
@@ -133,7 +135,7 @@ module _ (named : Option ChipName) (old mid new : BusState) (probed : Probed) (f
           → IsModelled old → ProtectionModelled named old (Ok (record { range = range; locked = locked; size = probed.found.size }))
       told_modelled scheme are places lock known =
           let one : probed.found.status1 / 4 ≡ old.chip.kept1 = found.is.status1 known.honest in
-          let two : status2 ≡ old.chip.kept2 = reads.told (looks.honest ∙ known.honest) ∙ (found.rested known.honest).unchanged.same.kept2 in
+          let two : status2 ≡ old.chip.kept2 = reads.told (looks.nature.honest ∙ known.honest) ∙ (found.rested known.honest).unchanged.same.kept2 in
           let protects : old.chip.config.scheme ≡ true = sym (found.is.config known).scheme ∙ scheme in
           let size = size_of named old mid probed found looks known in
           let code : code_in bytes ≡ code_of old.chip = ap code_in are ∙ code_read probed.found.status1 status2 old.chip.kept1 old.chip.kept2 one two in

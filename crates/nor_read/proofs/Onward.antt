@@ -3,6 +3,7 @@ use Rattle.std.proofs.Common.{◌≡◌, ◌≤◌, ◌+◌, ◌∙◌, ℕ, Boo
 use Rattle.std.specs.Prelude.{if◌then◌else◌}
 use Rattle.nor_chip.specs.declared.config.Config.{Config}
 use Rattle.nor_chip.specs.Bus.{BusState}
+use Rattle.nor_chip.proofs.Nature.{nature_then}
 use Rattle.nor_driver.specs.Looks.{Rested, Looks}
 use Rattle.nor_layout.specs.Below.{count_below}
 use Rattle.nor_layout.proofs.Below.{count_below-more}
@@ -13,11 +14,10 @@ use Rattle.nor_save.proofs.Rests.{HasLooked, rested_then}
 pub looked_on : (most reads more : ℕ) (old mid new : BusState) → HasLooked reads old mid → Looks most mid new → (mid.honest ≡ true → Rested mid new) → (mid.honest ≡ true → mid.left ≡ new.left + more)
     → HasLooked (reads + more) old new
 looked_on most reads more old mid new has looks rested fell = record {
-  honest = looks.honest ∙ has.honest;
-  steady = looks.steady ∙ has.steady;
+  nature = nature_then old mid new looks.nature has.nature;
   stirred = looks.stirred ∙ has.stirred;
-  rested = λ honest. rested_then old mid new (has.rested honest) (rested (has.honest ∙ honest));
-  sent = λ honest. let sent = has.sent honest in let last = fell (has.honest ∙ honest) in omega arith;
+  rested = λ honest. rested_then old mid new (has.rested honest) (rested (has.nature.honest ∙ honest));
+  sent = λ honest. let sent = has.sent honest in let last = fell (has.nature.honest ∙ honest) in omega arith;
 }
 
 -- how many of the numbers so far pass
@@ -33,7 +33,7 @@ pub open_on : (size reads : ℕ) (old mid : BusState) → IsOpen size old → Ha
 open_on size reads old mid is_open looked =
     let was = (looked.rested is_open.honest).unchanged in let busy = was.busy in let idle = is_open.idle in
     record {
-      honest = looked.honest ∙ is_open.honest;
+      honest = looked.nature.honest ∙ is_open.honest;
       idle = omega arith;
       same = ap (λ (config : Config). config.size) was.same.config ∙ is_open.same;
     }

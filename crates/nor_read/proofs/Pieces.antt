@@ -39,7 +39,7 @@ sector_right included piece k reads more part old mid new below looked reading h
     let was = (looked.rested honest).unchanged in
     let size : mid.chip.config.size ≡ old.chip.config.size = ap (λ (config : Config). config.size) was.same.config in
     let at : 4096 * (16 * piece + k) + j ≡ 65536 * piece + (4096 * k + j) = omega arith in
-    reading.right (looked.honest ∙ honest) (let less = was.busy in omega arith) (omega arith) j small
+    reading.right (looked.nature.honest ∙ honest) (let less = was.busy in omega arith) (omega arith) j small
     ∙ ap (λ (b : ℕ). if includes included (4096 * (16 * piece + k) + j) then b else 255) (was.same.bytes (4096 * (16 * piece + k) + j))
     ∙ ap (copied included old.chip.bytes) at
 
@@ -81,5 +81,5 @@ pieced_all included piece k reads bytes old new all has = record {
 -- a stop behind readings that succeeded
 pub runs_out_on : (reads more most : ℕ) (old mid new : BusState) → reads + more ≤ most → HasLooked reads old mid → RanOutIfHonest more mid new → RanOutIfHonest most old new
 runs_out_on reads more most old mid new few has out honest =
-    let sent = has.sent honest in let none = out (has.honest ∙ honest) in let below = none.below in
+    let sent = has.sent honest in let none = out (has.nature.honest ∙ honest) in let below = none.below in
     record { none_left = none.none_left; below = omega arith }

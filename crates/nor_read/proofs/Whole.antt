@@ -80,7 +80,7 @@ module _ (named : Option ChipName) (old mid : BusState) (probed : Probed) (found
   -- a stop after the probe
   pub ran_after : (n most : ℕ) (new : BusState) → RanOutIfHonest n mid new → most_probe + n ≤ most → old.honest ≡ true → RanOut most old new
   ran_after n most new out fits honest =
-      let ran = out (looks.honest ∙ honest) in let below = ran.below in let fell = found.fell honest in let few = found.most in
+      let ran = out (looks.nature.honest ∙ honest) in let below = ran.below in let fell = found.fell honest in let few = found.most in
       record { none_left = ran.none_left; below = omega arith }
 
   pub stops_largest : (new : BusState) → RanOutIfHonest (probed.found.size / 4096) mid new → old.honest ≡ true → RanOut (most_read 16777216) old new
@@ -95,12 +95,12 @@ module _ (named : Option ChipName) (old mid : BusState) (probed : Probed) (found
 
   -- nothing changed by the probe, nor after it
   pub rested_after : (new : BusState) → (mid.honest ≡ true → Rested mid new) → old.honest ≡ true → Rested old new
-  rested_after new rested honest = rested_then old mid new (found.rested honest) (rested (looks.honest ∙ honest))
+  rested_after new rested honest = rested_then old mid new (found.rested honest) (rested (looks.nature.honest ∙ honest))
 
   -- the chip after the probe
   pub open_after : IsModelled old → IsOpen probed.found.size mid
   open_after known = record {
-    honest = looks.honest ∙ known.honest;
+    honest = looks.nature.honest ∙ known.honest;
     idle = found.idle known.honest;
     same = ap (λ (config : Config). config.size) (found.rested known.honest).unchanged.same.config ∙ sym (size_of known);
   }
@@ -144,9 +144,11 @@ module _ (named : Option ChipName) (old mid : BusState) (probed : Probed) (found
     shown = subst (λ (f : Found). shown_as old.chip.config ≡ Ok (part_in f)) (sym is.found) (found.is.shown honest);
     status1 = subst (λ (f : Found). f.status1 / 4 ≡ old.chip.kept1) (sym is.found) (found.is.status1 honest);
     rested = rested_after new rested honest;
-    idle = let idle = found.idle honest in let less = (rested (looks.honest ∙ honest)).unchanged.busy in omega arith;
+    idle =
+        let idle = found.idle honest in
+        let less = (rested (looks.nature.honest ∙ honest)).unchanged.busy in omega arith;
     count = let count = found.count honest in let all = is.transactions in omega arith;
-    fell = let before = found.fell honest in let last = fell (looks.honest ∙ honest) in let all = is.transactions in omega arith;
+    fell = let before = found.fell honest in let last = fell (looks.nature.honest ∙ honest) in let all = is.transactions in omega arith;
   }
 
   pub reports_config : (reads : ℕ) (report : Report) → HasReported probed reads report → IsModelled old → IsConfigOf old.chip.config report.found

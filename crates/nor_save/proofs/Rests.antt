@@ -5,7 +5,8 @@ use Rattle.nor_chip.specs.declared.running.Running.{Running}
 use Rattle.nor_chip.specs.declared.running.Running.TheVariants.{Program, Erase, StatusWrite, Unknown}
 use Rattle.nor_chip.specs.Chip.{Chip, IsSame}
 use Rattle.nor_chip.specs.Power.{is_in_work, KeptCut}
-use Rattle.nor_chip.specs.Bus.{BusState}
+use Rattle.nor_chip.specs.Bus.{BusState, KeepsNature}
+use Rattle.nor_chip.proofs.Nature.{nature_refl, nature_then}
 use Rattle.nor_driver.specs.Looks.{Rested, LooksHonest, Looks, RanOutIfHonest}
 use Rattle.nor_driver.specs.Reads.{HasRead}
 use Rattle.nor_save.specs.declared.refusal.Refusal.{Refusal}
@@ -50,16 +51,14 @@ looked_then reads more most old mid new few steady rested sent looked =
 
 -- Readings succeeded, so many; whatever the bus, what nothing changes is as it was.
 pub record HasLooked (reads : ℕ) (old new : BusState) : Type 0 where
-  pub honest : new.honest ≡ old.honest
-  pub steady : new.steady ≡ old.steady
+  pub nature : KeepsNature old new
   pub stirred : new.stirred ≡ old.stirred
   pub rested : old.honest ≡ true → Rested old new
   pub sent : old.honest ≡ true → old.left ≡ new.left + reads
 
 pub has_looked-none : (state : BusState) → HasLooked 0 state state
 has_looked-none state = record {
-  honest = refl;
-  steady = refl;
+  nature = nature_refl state;
   stirred = refl;
   rested = λ honest. rested_none state;
   sent = λ honest. omega arith;
@@ -68,26 +67,24 @@ has_looked-none state = record {
 -- a reading more, which may stop
 pub looks_then : (reads more most : ℕ) (old mid new : BusState) → reads + more ≤ most → HasLooked reads old mid → Looks more mid new → Looks most old new
 looks_then reads more most old mid new few has looks = record {
-  honest = looks.honest ∙ has.honest;
-  steady = looks.steady ∙ has.steady;
+  nature = nature_then old mid new looks.nature has.nature;
   stirred = looks.stirred ∙ has.stirred;
-  looked = λ honest. looked_then reads more most old mid new few has.steady (has.rested honest) (has.sent honest) (looks.looked (has.honest ∙ honest));
+  looked = λ honest. looked_then reads more most old mid new few has.nature.steady (has.rested honest) (has.sent honest) (looks.looked (has.nature.honest ∙ honest));
 }
 
 -- the next one stopped
 pub runs_out : (reads most : ℕ) (old mid new : BusState) → reads < most → HasLooked reads old mid → RanOutIfHonest 1 mid new → RanOutIfHonest most old new
 runs_out reads most old mid new few has out honest =
-    let sent = has.sent honest in let none = out (has.honest ∙ honest) in let below = none.below in
+    let sent = has.sent honest in let none = out (has.nature.honest ∙ honest) in let below = none.below in
     record { none_left = none.none_left; below = omega arith }
 
 -- the next one succeeded too
 pub has_looked-more : (reads : ℕ) (old mid new : BusState) → HasLooked reads old mid → Looks 1 mid new → (mid.honest ≡ true → HasRead mid new) → HasLooked (reads + 1) old new
 has_looked-more reads old mid new has looks read = record {
-  honest = looks.honest ∙ has.honest;
-  steady = looks.steady ∙ has.steady;
+  nature = nature_then old mid new looks.nature has.nature;
   stirred = looks.stirred ∙ has.stirred;
-  rested = λ honest. rested_then old mid new (has.rested honest) (read (has.honest ∙ honest)).rested;
-  sent = λ honest. let sent = has.sent honest in let count = (read (has.honest ∙ honest)).count in omega arith;
+  rested = λ honest. rested_then old mid new (has.rested honest) (read (has.nature.honest ∙ honest)).rested;
+  sent = λ honest. let sent = has.sent honest in let count = (read (has.nature.honest ∙ honest)).count in omega arith;
 }
 
 -- a refusal that is a stop tells that the transactions ran out

@@ -202,7 +202,7 @@ pub opened_later : (size reads : ℕ) (old mid : BusState) → IsOpen size old �
 opened_later size reads old mid is_open looked =
     let was = (looked.rested is_open.honest).unchanged in let busy = was.busy in let idle = is_open.idle in
     record {
-      honest = looked.honest ∙ is_open.honest;
+      honest = looked.nature.honest ∙ is_open.honest;
       idle = omega arith;
       same = ap (λ (config : Config). config.size) was.same.config ∙ is_open.same;
     }

@@ -1,5 +1,5 @@
 //! How every session and restore begins: the chip is found, and its second status register and own number are read.
-ghost use Rattle.std.specs.Prelude.{◌≡◌, ◌≤◌, IfOk, IfErr, OnErr, true};
+ghost use Rattle.std.specs.Prelude.{◌≡◌, ◌≤◌, IfOk, IfErr, OnErr};
 ghost use Rattle.nor_chip.specs.Status.{bytes_of};
 ghost use Rattle.nor_driver.specs.Looks.{Looks, RanOutIfHonest};
 ghost use Rattle.nor_probe.specs.Found.{most_probe};

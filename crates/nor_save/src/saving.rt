@@ -1,7 +1,6 @@
 //! What a session keeps before it changes anything: the sealed journal of the chip.
-ghost use Rattle.std.specs.Prelude.{◌≡◌, ◌≤◌, ◌/◌, ℕ, true, false, length, IfOk, IfErr, OnOk, IsTrue};
+ghost use Rattle.std.specs.Prelude.{◌≡◌, ◌/◌, true, length, IfOk, IfErr, IsTrue};
 ghost use Rattle.nor_chip.specs.Size.{is_chip_size};
-ghost use Rattle.nor_chip.specs.Chip.{Chip};
 ghost use Rattle.nor_driver.specs.Looks.{Looks};
 ghost use Rattle.nor_journal.specs.Vault.{IsFresh};
 ghost use Rattle.nor_plan.specs.SectorSet.{has};

@@ -54,7 +54,7 @@ open_mid : (journal : Content) (opening : Opening) (scanned : Scanned) (old mid 
 open_mid journal opening scanned old mid new read modelled =
     let is = opening_of opening old mid modelled read.opens in
     record {
-      honest = read.looks.honest ∙ modelled.honest;
+      honest = read.looks.nature.honest ∙ modelled.honest;
       idle = read.opens.idle modelled.honest;
       same = ap (λ (config : Config). config.size) (read.opens.rested modelled.honest).unchanged.same.config ∙ sym is.config.size ∙ sym read.kind.size;
     }
@@ -72,7 +72,7 @@ raised_old journal opening scanned old mid new read modelled s =
     ∙ ap (λ (content : ℕ → ℕ). is_raised content (restored journal content) s) (fun_ext (read.opens.rested modelled.honest).unchanged.same.bytes)
 
 rested_all : (journal : Content) (opening : Opening) (scanned : Scanned) (old mid new : BusState) → AreRead journal opening scanned old mid new → old.honest ≡ true → Rested old new
-rested_all journal opening scanned old mid new read honest = rested_then old mid new (read.opens.rested honest) (read.scans.rested (read.looks.honest ∙ honest))
+rested_all journal opening scanned old mid new read honest = rested_then old mid new (read.opens.rested honest) (read.scans.rested (read.looks.nature.honest ∙ honest))
 
 -- ---- a status that is locked
 
@@ -203,7 +203,7 @@ prepared_for journal opening scanned changes sent old mid new read are judged mo
       needed = λ hit. needs_from journal set (is_touched_from journal old.chip) old.chip right
           (status_needed journal set old.chip changes may.lifts are.code (code_of_read changes old.chip one two) hit);
       can = record {
-        idle = let mid_idle = read.opens.idle modelled.honest in let less = (read.scans.rested (read.looks.honest ∙ modelled.honest)).unchanged.busy in omega arith;
+        idle = let mid_idle = read.opens.idle modelled.honest in let less = (read.scans.rested (read.looks.nature.honest ∙ modelled.honest)).unchanged.busy in omega arith;
         sized = record {
           same = size_now ∙ sym size;
           k32 = ap (λ (config : Config). config.k32) same.config ∙ sym (ap (λ (k : Kinds). k.k32) kinds);
@@ -256,6 +256,6 @@ prepared_all journal opening scanned changes sent old mid new read are judged su
       least = omega arith;
       most = omega arith;
       rested = rested_all journal opening scanned old mid new read;
-      sent = λ honest. let opened = read.opens.count honest in let scanned_left = read.scans.sent (read.looks.honest ∙ honest) in omega arith;
+      sent = λ honest. let opened = read.opens.count honest in let scanned_left = read.scans.sent (read.looks.nature.honest ∙ honest) in omega arith;
       modelled = prepared_for journal opening scanned changes sent old mid new read are judged;
     }

@@ -92,9 +92,9 @@ checked changes wanted verify old mid new written work inside leaves does checki
       least = let least = does.least in omega arith;
       sent = λ honest.
           let sent = does.sent honest in
-          let again = checking.sent (leaves.spends.honest ∙ honest) in
+          let again = checking.sent (leaves.spends.nature.honest ∙ honest) in
           omega arith;
       still = λ none. checking.still ∙ does.still none;
-      done = λ honest can. rest_applied changes wanted old mid new (does.done honest can) (checking.rested (leaves.spends.honest ∙ honest));
+      done = λ honest can. rest_applied changes wanted old mid new (does.done honest can) (checking.rested (leaves.spends.nature.honest ∙ honest));
       programs = λ honest can. checking.programs ∙ does.programs honest can;
     }

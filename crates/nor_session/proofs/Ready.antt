@@ -6,6 +6,7 @@ use Rattle.nor_chip.specs.declared.status.Status.{Status}
 use Rattle.nor_chip.specs.Status.{bytes_of}
 use Rattle.nor_chip.specs.Code.{code_in}
 use Rattle.nor_chip.specs.Bus.{BusState}
+use Rattle.nor_chip.proofs.Nature.{nature_then}
 use Rattle.nor_driver.specs.Looks.{Looks, RanOut}
 use Rattle.nor_layout.specs.Sectors.{includes, has_in_sector, sectors_included}
 use Rattle.nor_layout.proofs.Below.{count_below-most}
@@ -61,8 +62,7 @@ pub record Ready (request : Request) (opening : Opening) (status : Status) (code
 
 pub has_opened : (request : Request) (opening : Opening) (old mid : BusState) → Looks most_opening old mid → Opens request.named old mid opening → HasLooked opening.transactions old mid
 has_opened request opening old mid looks opens = record {
-  honest = looks.honest;
-  steady = looks.steady;
+  nature = looks.nature;
   stirred = looks.stirred;
   rested = opens.rested;
   sent = opens.count;
@@ -74,11 +74,11 @@ pub ready : (request : Request) (opening : Opening) (status : Status) (code most
 ready request opening status code most image image' vault kept old mid new looks opens more keeps is_status same_code = record {
   part = opens.part;
   looked = record {
-    honest = more.honest ∙ looks.honest;
-    steady = more.steady ∙ looks.steady;
+    nature = nature_then old mid new more.nature looks.nature;
     stirred = more.stirred ∙ looks.stirred;
-    rested = λ honest. rested_then old mid new (opens.rested honest) (keeps.scans.rested (looks.honest ∙ honest));
-    sent = λ honest. let sent = opens.count honest in let again = keeps.scans.sent (looks.honest ∙ honest) in omega arith;
+    rested = λ honest.
+        rested_then old mid new (opens.rested honest) (keeps.scans.rested (looks.nature.honest ∙ honest));
+    sent = λ honest. let sent = opens.count honest in let again = keeps.scans.sent (looks.nature.honest ∙ honest) in omega arith;
   };
   least = opens.least;
   few = opens.most;
@@ -113,15 +113,13 @@ touched_few request opening status code kept old mid is =
 
 pub spends_more : (m n : ℕ) (old new : BusState) → m ≤ n → Spends m old new → Spends n old new
 spends_more m n old new fits spends = record {
-  honest = spends.honest;
-  steady = spends.steady;
+  nature = spends.nature;
   falls = λ honest. let falls = spends.falls honest in record { fell = falls.fell; bound = let bound = falls.bound in omega arith };
 }
 
 pub spends_looks : (m n : ℕ) (old new : BusState) → m ≤ n → Looks m old new → Spends n old new
 spends_looks m n old new fits looks = record {
-  honest = looks.honest;
-  steady = looks.steady;
+  nature = looks.nature;
   falls = λ honest. let looked = looks.looked honest in record { fell = looked.falls.fell; bound = let bound = looked.falls.bound in omega arith };
 }
 
@@ -132,10 +130,9 @@ spends_ready request opening status code kept old mid new is spends =
     let count = touched_few request opening status code kept old mid is in
     let few = is.few in let reads = is.reads in
     record {
-      honest = spends.honest ∙ is.looked.honest;
-      steady = spends.steady ∙ is.looked.steady;
+      nature = nature_then old mid new spends.nature is.looked.nature;
       falls = λ honest.
-          let sent = is.looked.sent honest in let falls = spends.falls (is.looked.honest ∙ honest) in
+          let sent = is.looked.sent honest in let falls = spends.falls (is.looked.nature.honest ∙ honest) in
           let fell = falls.fell in let bound = falls.bound in
           record { fell = omega arith; bound = omega arith };
     }

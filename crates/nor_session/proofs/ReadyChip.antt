@@ -60,7 +60,7 @@ told_idle named opening old mid honest opens idle =
 
 pub shows : (request : Request) (opening : Opening) (old mid : BusState) → IsModelled old → Looks most_opening old mid → Opens request.named old mid opening → Shows old.chip mid
 shows request opening old mid is looks opens = record {
-  honest = looks.honest ∙ is.honest;
+  honest = looks.nature.honest ∙ is.honest;
   idle = opens.idle is.honest;
   same = (opens.rested is.honest).unchanged.same;
 }
@@ -100,7 +100,7 @@ opening_gives_up named old new _ honest same tells = same
 pub still_same : (named : Option ChipName) (opening : Opening) (few : ℕ) (old mid new : BusState) → old.honest ≡ true → Looks most_opening old mid → Opens named old mid opening → Looks few mid new → IsSame old.chip new.chip
 still_same named opening few old mid new honest looks opens more =
     let before = (opens.rested honest).unchanged.same in
-    let after = (more.looked (looks.honest ∙ honest)).stays.calm (inr (opens.idle honest)) in
+    let after = (more.looked (looks.nature.honest ∙ honest)).stays.calm (inr (opens.idle honest)) in
     record {
       config = after.config ∙ before.config;
       bytes = λ a. after.bytes a ∙ before.bytes a;
@@ -111,7 +111,7 @@ still_same named opening few old mid new honest looks opens more =
 pub keep_gives_up : (request : Request) (image : List ℕ) (opening : Opening) (code few : ℕ) (old mid new : BusState) (refusal : Refusal) → old.honest ≡ true → Looks most_opening old mid → Opens request.named old mid opening
     → Looks few mid new → KeepTells request opening code image mid new refusal → HonestTells (most_of 4096) (λ refusal. number_of refusal ≤ 11) old new refusal
 keep_gives_up request image opening code few old mid new Stopped honest looks opens more tells =
-    let ran = tells (looks.honest ∙ honest) in
+    let ran = tells (looks.nature.honest ∙ honest) in
     let below = ran.below in let count = opens.count honest in let most = opens.most in
     let sectors = scanned_few request opening.found.size opens.part.at_most in
     record { none_left = ran.none_left; below = omega arith }
@@ -129,7 +129,7 @@ pub keep_tells : (request : Request) (image : List ℕ) (opening : Opening) (cod
     → (refusal ≡ Vault → Rose vault vault') → KeepTells request opening code image mid new refusal → SessionTells request image old new vault vault' refusal
 keep_tells request image opening code old mid new vault vault' Vault is looks opens accepts rose tells = rose refl
 keep_tells request image opening code old mid new vault vault' Stopped is looks opens accepts rose tells =
-    let ran = tells (looks.honest ∙ is.honest) in
+    let ran = tells (looks.nature.honest ∙ is.honest) in
     let below = ran.below in let count = opens.count is.honest in let few = opens.most in
     let most = scanned_most request opening.found.size in let size = (opens.genuine is).size in
     record { none_left = ran.none_left; below = omega arith }

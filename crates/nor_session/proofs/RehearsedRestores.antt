@@ -3,6 +3,7 @@ use Rattle.std.proofs.Common.{◌≡◌, ◌<◌, ◌≤◌, ◌+◌, ◌-◌, �
 use Rattle.std.proofs.lemmas.Bool.{true≢false, cases_eq}
 use Rattle.nor_chip.specs.Chip.{Chip, IsSame}
 use Rattle.nor_chip.specs.Bus.{BusState, Allows}
+use Rattle.nor_chip.proofs.Nature.{nature_refl, nature_then}
 use Rattle.nor_journal.specs.Text.{Content, IsContent, SameHead, text}
 use Rattle.nor_journal.specs.declared.fault.JournalFault.{JournalFault}
 use Rattle.nor_journal.specs.Saved.{Saves, JournalSaves, is_saved}
@@ -36,8 +37,8 @@ modelled_at old new honest config modelled = record {
 -- an allowance leaves what can be given back
 pub allow_leaves : (n : ℕ) (journal : Content) (old new : BusState) → Allows n old new → LeavesRestores journal old new
 allow_leaves n journal old new allows = record {
-  nature = record { honest = allows.honest; steady = allows.steady };
-  modelled = modelled_at old new allows.honest (ap (λ (chip : Chip). chip.config) allows.chip);
+  nature = allows.nature;
+  modelled = modelled_at old new allows.nature.honest (ap (λ (chip : Chip). chip.config) allows.chip);
   can = λ modelled first can. record {
     known = can.known;
     saves = can.saves;
@@ -46,7 +47,7 @@ allow_leaves n journal old new allows = record {
       bytes = rw allows.chip within.bytes;
       fixed = rw allows.chip within.fixed;
       kept = rw allows.chip within.kept;
-      runs = rw (allows.chip, allows.steady) within.runs;
+      runs = rw (allows.chip, allows.nature.steady) within.runs;
     });
   };
   worn = λ modelled s other. allows.worn s;
@@ -54,7 +55,7 @@ allow_leaves n journal old new allows = record {
 
 pub restores_then : (journal : Content) (old mid new : BusState) → LeavesRestores journal old mid → LeavesRestores journal mid new → LeavesRestores journal old new
 restores_then journal old mid new before after = record {
-  nature = record { honest = after.nature.honest ∙ before.nature.honest; steady = after.nature.steady ∙ before.nature.steady };
+  nature = nature_then old mid new after.nature before.nature;
   modelled = λ modelled. after.modelled (before.modelled modelled);
   can = λ modelled first can. after.can (before.modelled modelled) first (before.can modelled first can);
   worn = λ modelled s other. after.worn (before.modelled modelled) s other ∙ before.worn modelled s other;
@@ -65,8 +66,8 @@ pub under_leaves : (n most : ℕ) (journal : Content) (old mid new : BusState) �
     → (IsModelled mid → (first : Chip) → CanGiveBack journal first mid → CanGiveBack journal first new) → LeavesRestores journal old new
 under_leaves n most journal old mid new allows spends leaves within =
     restores_then journal old mid new (allow_leaves n journal old mid allows) record {
-      nature = record { honest = spends.honest; steady = spends.steady };
-      modelled = λ modelled. modelled_at mid new spends.honest (leaves modelled).config modelled;
+      nature = spends.nature;
+      modelled = λ modelled. modelled_at mid new spends.nature.honest (leaves modelled).config modelled;
       can = within;
       worn = λ modelled s other. (leaves modelled).worn s (unraised_other journal mid.chip.bytes s other);
     }
@@ -95,10 +96,10 @@ under_stops n journal old mid new refusal allows stopped gives_up =
     record {
       back = λ modelled ended first can. absurd (true≢false (sym ended));
       enough = λ modelled ended. absurd (true≢false (sym ended));
-      none_left = λ honest fails. (subst (HonestTells (most_of (length journal.saved)) IsJudgedFirst mid new) stopped (gives_up (allows.honest ∙ honest))).none_left;
+      none_left = λ honest fails. (subst (HonestTells (most_of (length journal.saved)) IsJudgedFirst mid new) stopped (gives_up (allows.nature.honest ∙ honest))).none_left;
       below = λ honest fails.
           let left = allows.left honest in
-          let below = (subst (HonestTells (most_of (length journal.saved)) IsJudgedFirst mid new) stopped (gives_up (allows.honest ∙ honest))).below in
+          let below = (subst (HonestTells (most_of (length journal.saved)) IsJudgedFirst mid new) stopped (gives_up (allows.nature.honest ∙ honest))).below in
           omega arith;
     }
 
@@ -116,7 +117,7 @@ under_refuses n journal old mid new refusal allows answers names never gives_up 
     record {
       answers = answers;
       names = names;
-      halts = λ room honest. no_halt journal mid new refusal never (gives_up (allows.honest ∙ honest));
+      halts = λ room honest. no_halt journal mid new refusal never (gives_up (allows.nature.honest ∙ honest));
       never = λ modelled first can. never (stops (leaves.modelled modelled) first (leaves.can modelled first can));
     }
 
@@ -130,7 +131,7 @@ pub record AreStopped (journal : Content) (stops : List ℕ) (old now : BusState
 pub none_stopped : (journal : Content) (stops : List ℕ) (state : BusState) → AreStopped journal stops state state 0
 none_stopped journal stops state = record {
   leaves = record {
-    nature = record { honest = refl; steady = refl };
+    nature = nature_refl state;
     modelled = λ modelled. modelled;
     can = λ modelled first can. can;
     worn = λ modelled s other. refl;

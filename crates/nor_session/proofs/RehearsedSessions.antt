@@ -3,7 +3,8 @@ use Rattle.std.proofs.Common.{◌≡◌, ◌<◌, ◌≤◌, ◌+◌, ◌/◌, �
 use Rattle.std.specs.Prelude.{nat_lt}
 use Rattle.std.proofs.lemmas.Bool.{true≢false, cases_Bool}
 use Rattle.nor_chip.specs.Chip.{Chip, IsChip, IsSame}
-use Rattle.nor_chip.specs.Bus.{BusState, Allows}
+use Rattle.nor_chip.specs.Bus.{BusState, KeepsNature, Allows}
+use Rattle.nor_chip.proofs.Nature.{nature_then}
 use Rattle.nor_driver.specs.Looks.{Looks, IsCalm}
 use Rattle.nor_journal.specs.Vault.{VaultState}
 use Rattle.nor_apply.specs.Spending.{Spends}
@@ -23,7 +24,7 @@ use Rattle.nor_session.specs.Bounds.{most_looked, most_of}
 use Rattle.nor_session.specs.Made.{AreFewestErases}
 use Rattle.nor_session.specs.Verdict.{IsAccepted}
 use Rattle.nor_session.specs.Session.{SessionTells, CanBeUndone, HonestTells, AnswersSession, EndsSealed, IsDone, NamesAddress, SavesSector, NamesSector}
-use Rattle.nor_session.specs.Rehearsal.{KeepsNature, IsRehearsalRefusal, IsNoHalt, RehearsalTells, first_allowance, least_needed, AreRestores, FitsLastStop}
+use Rattle.nor_session.specs.Rehearsal.{IsRehearsalRefusal, IsNoHalt, RehearsalTells, first_allowance, least_needed, AreRestores, FitsLastStop}
 use Rattle.nor_session.specs.Rehearsing.{HasWantedBits, LeadsBack, LeavesSession, ShowsSession, RefusesSession, Undoes, WearsSaved, RefusesUndo}
 use Rattle.nor_session.proofs.RestoredBytes.{untouched_unraised}
 use Rattle.nor_session.proofs.GivesBack.{leads_back}
@@ -35,11 +36,12 @@ same_at : (first first' chip : Chip) → first' ≡ first → IsSame first' chip
 same_at first first' chip is same = subst (λ (c : Chip). IsSame c chip) is same
 
 calm_at : (n : ℕ) (old mid : BusState) → Allows n old mid → IsCalm old → IsCalm mid
-calm_at n old mid allows (inl steady) = inl (allows.steady ∙ steady)
+calm_at n old mid allows (inl steady) = inl (allows.nature.steady ∙ steady)
 calm_at n old mid allows (inr idle) = inr (ap (λ (chip : Chip). chip.busy) allows.chip ∙ idle)
 
 allow_modelled : (n : ℕ) (old mid : BusState) → Allows n old mid → IsModelled old → IsModelled mid
-allow_modelled n old mid allows = modelled_at old mid allows.honest (ap (λ (chip : Chip). chip.config) allows.chip)
+allow_modelled n old mid allows =
+    modelled_at old mid allows.nature.honest (ap (λ (chip : Chip). chip.config) allows.chip)
 
 and_weaker : (b x y : Bool) → (x ≡ false → y ≡ false) → (b && x) ≡ false → (b && y) ≡ false
 and_weaker true x y less none = less none
@@ -56,9 +58,9 @@ pub session_leaves : (n most few : ℕ) (request : Request) (image : List ℕ) (
     → (mid.honest ≡ true → IsChip mid.chip) → Spends most mid new → (vault.sealed ≡ false → Looks few mid new)
     → (IsModelled mid → vault.sealed ≡ true → CanBeUndone request image mid new vault) → HoldsJournal vault → LeavesSession request image old new vault
 session_leaves n most few request image old mid new vault allows telling reaches spends looks undo holds = record {
-  nature = record { honest = spends.honest ∙ allows.honest; steady = spends.steady ∙ allows.steady };
+  nature = nature_then old mid new spends.nature allows.nature;
   same = λ modelled calm unsealed.
-      same_at old.chip mid.chip new.chip allows.chip (((looks unsealed).looked (allows.honest ∙ modelled.honest)).stays.calm (calm_at n old mid allows calm));
+      same_at old.chip mid.chip new.chip allows.chip (((looks unsealed).looked (allows.nature.honest ∙ modelled.honest)).stays.calm (calm_at n old mid allows calm));
   back = λ modelled sealed.
       let mid_modelled = allow_modelled n old mid allows modelled in
       subst (λ (chip : Chip). LeadsBack (is_touched_by request image chip) chip vault.bytes new) allows.chip
@@ -69,7 +71,7 @@ session_leaves n most few request image old mid new vault allows telling reaches
         (undo (allow_modelled n old mid allows modelled) sealed).changes.worn s
         (untouched_unraised_by request image mid.chip s (subst (λ (chip : Chip). is_touched_by request image chip s ≡ false) (sym allows.chip) other))
         ∙ allows.worn s
-    | inr unsealed ↦ ((looks unsealed).looked (allows.honest ∙ modelled.honest)).stays.worn s ∙ allows.worn s
+    | inr unsealed ↦ ((looks unsealed).looked (allows.nature.honest ∙ modelled.honest)).stays.worn s ∙ allows.worn s
   ];
   holds = holds;
 }
@@ -128,7 +130,7 @@ session_stops n request image old mid new before after refusal allows stopped gi
   can = λ modelled ended. absurd (true≢false (sym ended));
   bytes = λ modelled ended. absurd (true≢false (sym ended));
   bits = λ modelled ended. absurd (true≢false (sym ended));
-  none_left = λ honest fails. (subst (HonestTells (most_of 4096) (λ refusal. number_of refusal ≤ 11) mid new) stopped (gives_up (allows.honest ∙ honest))).none_left;
+  none_left = λ honest fails. (subst (HonestTells (most_of 4096) (λ refusal. number_of refusal ≤ 11) mid new) stopped (gives_up (allows.nature.honest ∙ honest))).none_left;
   below = λ modelled fails.
       let left = allows.left modelled.honest in
       let ran = subst (SessionTells request image mid new before after) stopped (tells (allow_modelled n old mid allows modelled)) in
@@ -155,7 +157,7 @@ never_stops : (n : ℕ) (old mid new : BusState) (refusal : Refusal) → Allows 
 never_stops n old mid new refusal allows all gives_up honest stopped =
     let left = allows.left honest in
     let most = all stopped in
-    let below = (subst (HonestTells (most_of 4096) (λ refusal. number_of refusal ≤ 11) mid new) stopped (gives_up (allows.honest ∙ honest))).below in
+    let below = (subst (HonestTells (most_of 4096) (λ refusal. number_of refusal ≤ 11) mid new) stopped (gives_up (allows.nature.honest ∙ honest))).below in
     omega arith
 
 -- it gave up, and wasn't stopped
@@ -224,7 +226,7 @@ session_refuses n few request image old mid new before after refusal allows answ
     record {
       answers = answers;
       names = names;
-      halts = λ honest. no_halt mid new refusal (never_stops n old mid new refusal allows all gives_up honest) (gives_up (allows.honest ∙ honest));
+      halts = λ honest. no_halt mid new refusal (never_stops n old mid new refusal allows all gives_up honest) (gives_up (allows.nature.honest ∙ honest));
       tells = λ modelled. subst (λ (chip : Chip). RehearsalTells request image chip before after refusal) allows.chip (tells' modelled);
       leaves = λ modelled.
           let mid_modelled = allow_modelled n old mid allows modelled in

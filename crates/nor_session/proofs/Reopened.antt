@@ -71,7 +71,7 @@ opening_of opening old new modelled opens =
 
 pub shows_old : (opening : Opening) (old new : BusState) → old.honest ≡ true → Looks most_opening old new → Opens None old new opening → Shows old.chip new
 shows_old opening old new honest looks opens = record {
-  honest = looks.honest ∙ honest;
+  honest = looks.nature.honest ∙ honest;
   idle = opens.idle honest;
   same = (opens.rested honest).unchanged.same;
 }

@@ -4,6 +4,7 @@ use Rattle.std.proofs.lemmas.Bool.{both_ways}
 use mathlib.Core.Path.{fun_ext}
 use Rattle.nor_chip.specs.Chip.{Chip, IsSame}
 use Rattle.nor_chip.specs.Bus.{BusState}
+use Rattle.nor_chip.proofs.Nature.{nature_then}
 use Rattle.nor_driver.specs.Looks.{LooksHonest, Looks}
 use Rattle.nor_driver.specs.StatusWrites.{HasCode}
 use Rattle.nor_journal.specs.Text.{Content}
@@ -39,8 +40,7 @@ use Rattle.nor_session.proofs.GivenBack.{looked_within, change_within, given_bac
 
 pub looks_most : (few most : ℕ) (old new : BusState) → few ≤ most → Looks few old new → Looks most old new
 looks_most few most old new fits looks = record {
-  honest = looks.honest;
-  steady = looks.steady;
+  nature = looks.nature;
   stirred = looks.stirred;
   looked = λ honest.
       let looked = looks.looked honest in let bound = looked.falls.bound in
@@ -54,8 +54,7 @@ looks_most few most old new fits looks = record {
 
 pub looks_spend : (few most : ℕ) (old new : BusState) → few ≤ most → Looks few old new → Spends most old new
 looks_spend few most old new fits looks = record {
-  honest = looks.honest;
-  steady = looks.steady;
+  nature = looks.nature;
   falls = λ honest. let looked = looks.looked honest in let bound = looked.falls.bound in record { fell = looked.falls.fell; bound = omega arith };
 }
 
@@ -90,7 +89,8 @@ pub looks_back : (journal : Content) (first : Chip) (most : ℕ) (old new : BusS
 looks_back journal first most old new honest looks can = record {
   known = can.known;
   saves = can.saves;
-  within = looked_within (open_places journal first) first most old new looks.steady (looks.looked honest) can.within;
+  within =
+      looked_within (open_places journal first) first most old new looks.nature.steady (looks.looked honest) can.within;
 }
 
 -- ---- the changes after it
@@ -113,17 +113,16 @@ pub changed_spends : (journal : Content) (prepared : Prepared) (old mid new : Bu
 changed_spends journal prepared old mid new are =
     let fits = few_changed journal prepared old mid are.is in
     record {
-      honest = are.leaves.spends.honest ∙ are.looks.honest;
-      steady = are.leaves.spends.steady ∙ are.looks.steady;
+      nature = nature_then old mid new are.leaves.spends.nature are.looks.nature;
       falls = λ honest.
           let looked = are.looks.looked honest in let fell = looked.falls.fell in let bound = looked.falls.bound in
-          let falls = are.leaves.spends.falls (are.looks.honest ∙ honest) in let fell_later = falls.fell in let bound_later = falls.bound in
+          let falls = are.leaves.spends.falls (are.looks.nature.honest ∙ honest) in let fell_later = falls.fell in let bound_later = falls.bound in
           record { fell = omega arith; bound = omega arith };
     }
 
 pub changes_may : (journal : Content) (prepared : Prepared) (old mid new : BusState) → AreChanged journal prepared old mid new → IsModelled old
     → MayChange (touched_in prepared.changes) (raised_in prepared.changes) (saved_byte journal) mid new
-changes_may journal prepared old mid new are modelled = are.leaves.reached (are.looks.honest ∙ modelled.honest) (are.is.modelled modelled).can
+changes_may journal prepared old mid new are modelled = are.leaves.reached (are.looks.nature.honest ∙ modelled.honest) (are.is.modelled modelled).can
 
 pub changed_leaves : (journal : Content) (prepared : Prepared) (old mid new : BusState) → AreChanged journal prepared old mid new → IsModelled old → LeavesRestore journal old new
 changed_leaves journal prepared old mid new are modelled =
@@ -170,23 +169,24 @@ change_not_judged changes wanted old new _ tells judged = tells
 pub change_gives_up : (journal : Content) (prepared : Prepared) (old mid new : BusState) (refusal : Refusal) → AreChanged journal prepared old mid new → old.honest ≡ true
     → ChangeTells prepared.changes (saved_byte journal) mid new refusal → HonestTells (most_of (length journal.saved)) IsJudgedFirst old new refusal
 change_gives_up journal prepared old mid new Stopped are honest tells =
-    let out = tells (are.looks.honest ∙ honest) in let below = out.below in
+    let out = tells (are.looks.nature.honest ∙ honest) in let below = out.below in
     let bound = (are.looks.looked honest).falls.bound in
     let fits = few_changed journal prepared old mid are.is in
     record { none_left = out.none_left; below = omega arith }
-change_gives_up journal prepared old mid new (Timeout address) are honest tells = tells (are.looks.honest ∙ honest)
+change_gives_up journal prepared old mid new (Timeout address) are honest tells =
+    tells (are.looks.nature.honest ∙ honest)
 change_gives_up journal prepared old mid new (Mismatch address) are honest tells = λ first. absurd (true≢false (sym first))
 change_gives_up journal prepared old mid new _ are honest tells = absurd tells
 
 pub change_tells : (journal : Content) (prepared : Prepared) (old mid new : BusState) (refusal : Refusal) → AreChanged journal prepared old mid new → IsModelled old
     → ChangeTells prepared.changes (saved_byte journal) mid new refusal → RestoreTells journal old new refusal
 change_tells journal prepared old mid new Stopped are modelled tells =
-    let out = tells (are.looks.honest ∙ modelled.honest) in let below = out.below in
+    let out = tells (are.looks.nature.honest ∙ modelled.honest) in let below = out.below in
     let bound = (are.looks.looked modelled.honest).falls.bound in
     let fits = few_changed journal prepared old mid are.is in
     record { none_left = out.none_left; below = omega arith }
-change_tells journal prepared old mid new (Timeout address) are modelled tells = absurd (tells (are.looks.honest ∙ modelled.honest))
-change_tells journal prepared old mid new (Mismatch address) are modelled tells = absurd (tells (are.looks.honest ∙ modelled.honest) (are.is.modelled modelled).can)
+change_tells journal prepared old mid new (Timeout address) are modelled tells = absurd (tells (are.looks.nature.honest ∙ modelled.honest))
+change_tells journal prepared old mid new (Mismatch address) are modelled tells = absurd (tells (are.looks.nature.honest ∙ modelled.honest) (are.is.modelled modelled).can)
 change_tells journal prepared old mid new _ are modelled tells = absurd tells
 
 -- ---- they were
@@ -240,13 +240,13 @@ restored_sparing journal prepared old mid new work sent are does sum modelled no
 pub restored_counted : (journal : Content) (prepared : Prepared) (old mid new : BusState) (work : Work) (sent : ℕ) → AreChanged journal prepared old mid new
     → DoesChange prepared.changes (saved_byte journal) true mid new work → sent ≡ prepared.transactions + work.transactions → old.honest ≡ true → old.left ≡ new.left + sent
 restored_counted journal prepared old mid new work sent are does sum honest =
-    let before = are.is.sent honest in let after = does.sent (are.looks.honest ∙ honest) in
+    let before = are.is.sent honest in let after = does.sent (are.looks.nature.honest ∙ honest) in
     omega arith
 
 pub restored_done : (journal : Content) (prepared : Prepared) (old mid new : BusState) (work : Work) (sent : ℕ) → AreChanged journal prepared old mid new
     → DoesChange prepared.changes (saved_byte journal) true mid new work → IsModelled old → IsRestored journal old new (report_of prepared work sent)
 restored_done journal prepared old mid new work sent are does modelled =
-    let honest = are.looks.honest ∙ modelled.honest in
+    let honest = are.looks.nature.honest ∙ modelled.honest in
     let same = (are.is.rested modelled.honest).unchanged in
     let for = are.is.modelled modelled in
     let changes = prepared.changes in

@@ -220,10 +220,10 @@ can_apply request image image' opening status code kept old mid is of =
 pub change_gives_up : (request : Request) (opening : Opening) (status : Status) (code : ℕ) (kept : SavedScan) (aim : ℕ → ℕ) (old mid new : BusState) (refusal : Refusal) → old.honest ≡ true
     → Ready request opening status code kept old mid → ChangeTells (changes_of opening kept status code) aim mid new refusal → HonestTells (most_of 4096) (λ refusal. number_of refusal ≤ 11) old new refusal
 change_gives_up request opening status code kept aim old mid new Stopped honest is tells =
-    let ran = ran_out_ready request opening status code kept old mid new honest is (tells (is.looked.honest ∙ honest)) in
+    let ran = ran_out_ready request opening status code kept old mid new honest is (tells (is.looked.nature.honest ∙ honest)) in
     let below = ran.below in let few = scanned_few request opening.found.size is.part.at_most in
     record { none_left = ran.none_left; below = omega arith }
-change_gives_up request opening status code kept aim old mid new (Timeout address) honest is tells = tells (is.looked.honest ∙ honest)
+change_gives_up request opening status code kept aim old mid new (Timeout address) honest is tells = tells (is.looked.nature.honest ∙ honest)
 change_gives_up request opening status code kept aim old mid new (Mismatch address) honest is tells = λ judged. let past : 14 ≤ 11 = judged in absurd (omega arith)
 change_gives_up request opening status code kept aim old mid new _ honest is tells = absurd tells
 
@@ -231,8 +231,8 @@ pub change_tells : (request : Request) (image image' : List ℕ) (opening : Open
     → Ready request opening status code kept old mid → ReadyChip request image image' opening code kept old mid
     → ChangeTells (changes_of opening kept status code) (λ a. slice_index image' a) mid new refusal → SessionTells request image old new vault vault' refusal
 change_tells request image image' opening status code kept old mid new vault vault' Stopped is of tells =
-    ran_out_sized request opening old new of.is.config (ran_out_ready request opening status code kept old mid new of.honest is (tells (is.looked.honest ∙ of.honest)))
-change_tells request image image' opening status code kept old mid new vault vault' (Timeout address) is of tells = absurd (tells (is.looked.honest ∙ of.honest))
+    ran_out_sized request opening old new of.is.config (ran_out_ready request opening status code kept old mid new of.honest is (tells (is.looked.nature.honest ∙ of.honest)))
+change_tells request image image' opening status code kept old mid new vault vault' (Timeout address) is of tells = absurd (tells (is.looked.nature.honest ∙ of.honest))
 change_tells request image image' opening status code kept old mid new vault vault' (Mismatch address) is of tells =
-    absurd (tells (is.looked.honest ∙ of.honest) (can_apply request image image' opening status code kept old mid is of))
+    absurd (tells (is.looked.nature.honest ∙ of.honest) (can_apply request image image' opening status code kept old mid is of))
 change_tells request image image' opening status code kept old mid new vault vault' _ is of tells = absurd tells

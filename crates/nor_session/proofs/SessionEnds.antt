@@ -49,7 +49,7 @@ ready_chip request image image' opening status code kept old mid new vault model
     let opened = is_opening request opening old mid modelled opens in
     let chip = keeps.chip old.chip opened (shows request opening old mid modelled looks opens) in
     let rested = is.looked.rested modelled.honest in
-    let again = keeps.scans.rested (looks.honest ∙ modelled.honest) in
+    let again = keeps.scans.rested (looks.nature.honest ∙ modelled.honest) in
     record {
       honest = modelled.honest;
       is = opened;
@@ -81,13 +81,14 @@ may_change_wanted request image image' opening status code kept old mid new is o
     record {
       within = within_then (places_of (is_touched_by request image old.chip)) old.chip mid new (same_within (places_of (is_touched_by request image old.chip)) old.chip mid same of.idle)
           (subst (λ (set : ℕ → Bool). IsWithin (places_of set) mid.chip new) (fun_ext of.touched) change.within);
-      gentle = λ steady a plain. elim (change.gentle (is.looked.steady ∙ steady) a (of.raised (a / 4096) ∙ plain)) [
-        | inl still ↦ inl (still ∙ same.bytes a)
-        | inr made ↦ elim (cases_Bool (has kept.scanned.touched (a / 4096))) [
-          | inl touched ↦ inr (made ∙ of.merged a touched)
-          | inr other ↦ inl (change.within.bytes a other ∙ same.bytes a)
-        ]
-      ];
+      gentle = λ steady a plain.
+          elim (change.gentle (is.looked.nature.steady ∙ steady) a (of.raised (a / 4096) ∙ plain)) [
+            | inl still ↦ inl (still ∙ same.bytes a)
+            | inr made ↦ elim (cases_Bool (has kept.scanned.touched (a / 4096))) [
+              | inl touched ↦ inr (made ∙ of.merged a touched)
+              | inr other ↦ inl (change.within.bytes a other ∙ same.bytes a)
+            ]
+          ];
       worn = λ s plain. change.worn s (of.raised s ∙ plain) ∙ of.rested.unchanged.worn s;
     }
 
@@ -109,9 +110,9 @@ can_be_undone request image image' opening status code kept old mid ready new va
       };
       journal = chip.journal;
       changes = may_change_wanted request image image' opening status code kept old ready new is of
-          (leaves.reached (is.looked.honest ∙ modelled.honest) (can_apply request image image' opening status code kept old ready is of));
+          (leaves.reached (is.looked.nature.honest ∙ modelled.honest) (can_apply request image image' opening status code kept old ready is of));
       spent =
-          let sent = is.looked.sent modelled.honest in let fell = (leaves.spends.falls (is.looked.honest ∙ modelled.honest)).fell in
+          let sent = is.looked.sent modelled.honest in let fell = (leaves.spends.falls (is.looked.nature.honest ∙ modelled.honest)).fell in
           let least = is.least in let reads = is.reads ∙ ap (scanned_sectors request) opened.config.size in
           omega arith;
     }
@@ -205,7 +206,7 @@ pub done : (request : Request) (image image' : List ℕ) (opening : Opening) (st
     → ReadyChip request image image' opening code kept old mid → DoesChange (changes_of opening kept status code) (λ a. slice_index image' a) verify mid new work
     → IsDone request image old new (record { found = opening.found; touched = kept.scanned.count; erases = work.erases; programs = work.programs; transactions = opening.transactions + sent + work.transactions })
 done request image image' opening status code kept old mid new verify work sent is of does =
-    let honest = is.looked.honest ∙ of.honest in
+    let honest = is.looked.nature.honest ∙ of.honest in
     let can = can_apply request image image' opening status code kept old mid is of in
     let applied = does.done honest can in
     let same = of.rested.unchanged.same in

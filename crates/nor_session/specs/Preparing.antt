@@ -1,8 +1,7 @@
 -- What a restore finds of a chip before it changes anything.
-use Rattle.std.specs.Prelude.{◌≡◌, ◌≢◌, ◌<◌, ◌≤◌, ◌+◌, ◌/◌, ◌||◌, ◌⊎◌, ℕ, Bool, true, List, Result, Ok, IfErr, OnOk, OnErr, IfOk, MatchBool, length, slice_index, ⊤}
+use Rattle.std.specs.Prelude.{◌≡◌, ◌<◌, ◌≤◌, ◌+◌, ◌/◌, ◌||◌, ◌⊎◌, ℕ, Bool, true, List, Result, Ok, IfErr, OnOk, OnErr, IfOk, MatchBool, length, slice_index, ⊤}
 use Rattle.nor_chip.specs.Code.{code_in}
 use Rattle.nor_chip.specs.Chip.{Chip, IsSame, is_locked, status1_of}
-use Rattle.nor_chip.specs.Guard.{code_of}
 use Rattle.nor_chip.specs.Bus.{BusState}
 use Rattle.nor_driver.specs.Looks.{Rested, RanOutIfHonest}
 use Rattle.nor_driver.specs.Reads.{ReadsSector}
@@ -134,8 +133,8 @@ RefusesShut journal opening touched judged =
 
 -- ---- all of it
 
--- On a modelled bus: the chip as it was before may be restored, was found as what it shows itself to be, and as it is now the changes that
--- the journal asks for can be made, which write the status only where that is needed.
+-- On a modelled bus: the chip as it was before may be restored, was found as what it shows itself to be, and as it is
+-- now the changes that the journal asks for can be made, which write the status only where that is needed.
 pub record IsPreparedFor (journal : Content) (old new : Chip) (prepared : Prepared) : Type 0 where
   pub accepted : IsRestorable journal old
   pub shown : shown_as old.config ≡ Ok (part_in prepared.found)

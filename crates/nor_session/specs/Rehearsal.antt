@@ -2,7 +2,7 @@
 use Rattle.std.specs.Prelude.{◌≡◌, ◌≤◌, ◌<◌, ◌+◌, ◌-◌, ◌*◌, ◌/◌, ◌==◌, ◌⊎◌, max, ℕ, Bool, true, false, List, [], ◌∷◌, Result, IfOk, IfErr, OnErr, drop, length, slice_index}
 use Rattle.std.specs.List.{list_any}
 use Rattle.nor_chip.specs.Chip.{Chip, IsSame}
-use Rattle.nor_chip.specs.Bus.{BusState}
+use Rattle.nor_chip.specs.Bus.{BusState, KeepsNature}
 use Rattle.nor_driver.specs.Looks.{IsCalm}
 use Rattle.nor_journal.specs.Vault.{VaultState, Rose}
 use Rattle.nor_journal.specs.Saved.{JournalSaves}
@@ -24,11 +24,6 @@ use Rattle.nor_session.specs.Restore.{IsRestoreRefusal}
 abbrev pub first_allowance : List ℕ → ℕ
 first_allowance [] = most_of 4096
 first_allowance (first ∷ later) = first
-
--- honesty and steadiness of a bus never change
-pub record KeepsNature (old new : BusState) : Type 0 where
-  pub honest : new.honest ≡ old.honest
-  pub steady : new.steady ≡ old.steady
 
 -- On every bus: what a rehearsal counts, under so many stops. Without a stop the session ended.
 pub record IsRehearsal (stops : ℕ) (vault : VaultState) (rehearsal : Rehearsal) : Type 0 where

@@ -1,7 +1,7 @@
 -- What the parts of a rehearsal come to: its session, and the restores in turn.
 use Rattle.std.specs.Prelude.{◌≡◌, ◌≤◌, ◌<◌, ◌+◌, ◌/◌, ℕ, Bool, true, false, List, length}
 use Rattle.nor_chip.specs.Chip.{Chip, IsChip, IsSame, is_locked}
-use Rattle.nor_chip.specs.Bus.{BusState}
+use Rattle.nor_chip.specs.Bus.{BusState, KeepsNature}
 use Rattle.nor_driver.specs.Looks.{IsCalm}
 use Rattle.nor_driver.specs.StatusWrites.{KeepsFixed, HasCode}
 use Rattle.nor_journal.specs.Text.{Content}
@@ -20,7 +20,7 @@ use Rattle.nor_session.specs.Bounds.{most_of}
 use Rattle.nor_session.specs.Verdict.{IsAccepted}
 use Rattle.nor_session.specs.Session.{AnswersSession, SavesSector, NamesSector, NamesAddress}
 use Rattle.nor_session.specs.Restore.{IsRestoreRefusal, CanGiveBack}
-use Rattle.nor_session.specs.Rehearsal.{KeepsNature, CanEnd, SealFits, AreRestores, FitsLastStop, LeavesRefused, IsNoHalt, RehearsalTells}
+use Rattle.nor_session.specs.Rehearsal.{CanEnd, SealFits, AreRestores, FitsLastStop, LeavesRefused, IsNoHalt, RehearsalTells}
 
 -- ---- the session
 

@@ -1,5 +1,5 @@
 -- What a restore wants of a chip, and what it promises.
-use Rattle.std.specs.Prelude.{◌≡◌, ◌≢◌, ◌+◌, ◌/◌, ◌%◌, ◌==◌, ◌&&◌, ◌⊎◌, ℕ, Bool, true, false, not, [], ◌∷◌, length, slice_index, None, Result, IfOk, IfErr, IfSome, IsSomeAnd, OnOk, Err, if◌then◌else◌}
+use Rattle.std.specs.Prelude.{◌≡◌, ◌≢◌, ◌+◌, ◌/◌, ◌==◌, ◌&&◌, ◌⊎◌, ℕ, Bool, true, false, not, [], ◌∷◌, length, None, Result, IfOk, IfErr, IfSome, IsSomeAnd, OnOk, Err, if◌then◌else◌}
 use Rattle.std.specs.List.{list_any}
 use Rattle.nor_chip.specs.Code.{code_in}
 use Rattle.nor_chip.specs.declared.config.Config.{Config}

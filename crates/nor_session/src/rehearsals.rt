@@ -1,12 +1,13 @@
 //! A rehearsal: a session that is stopped on purpose, and the restores from its journal.
 ghost use Rattle.std.specs.Prelude.{◌≡◌, ◌≤◌, true, length, drop, IfOk, IfErr};
+ghost use Rattle.nor_chip.specs.Bus.{KeepsNature};
 ghost use Rattle.nor_journal.specs.Vault.{IsFresh};
 ghost use Rattle.nor_journal.specs.MemVault.{held_by};
 ghost use Rattle.nor_probe.specs.Known.{IsModelled};
 ghost use Rattle.nor_session.specs.Bounds.{most_of};
 ghost use Rattle.nor_session.specs.Rehearsing.{LeavesSession, ShowsSession, RefusesSession, LeavesRestores, ShowsRestore, ShowsRestores};
 ghost use Rattle.nor_session.specs.Rehearsing.{Undoes, WearsSaved, StopsRestores, RefusesUndo};
-ghost use Rattle.nor_session.specs.Rehearsal.{KeepsNature, RehearsalAlways, RehearsalModelled, IsNoHalt, first_allowance};
+ghost use Rattle.nor_session.specs.Rehearsal.{RehearsalAlways, RehearsalModelled, IsNoHalt, first_allowance};
 
 use crate::restores::restore;
 use crate::sessions::session;

@@ -5,7 +5,7 @@ ghost use Rattle.std.specs.Option.{option_map_or};
 ghost use Rattle.clap.specs.Words.{found_of, rows_of};
 ghost use Rattle.nor_words.specs.Given.{given_in, is_set_in, operations, is_new_content, asks_change, takes_regions};
 ghost use Rattle.nor_words.specs.Faults.{first_fault, has_wrong_journal, has_wrong_regions, is_no, is_there, usage_faults};
-ghost use Rattle.nor_words.specs.Job.{IsAsked, IsChange, IsKeeping, IsRegions, IsTask, IsWantedByWords};
+ghost use Rattle.nor_words.specs.Job.{IsAsked, IsKeeping, IsRegions, IsTask, IsWantedByWords};
 ghost use Rattle.nor_words.specs.Meaning.{IsMeaning};
 ghost use Rattle.nor_words.specs.Numbers.{range_of};
 ghost use Rattle.nor_words.specs.Programmer.{has_stop, is_programmer_text};

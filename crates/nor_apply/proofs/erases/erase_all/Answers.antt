@@ -38,7 +38,7 @@ returns-in_err-sent-clause-leaves g c =
 pub returns-in_err-sent-clause-halts : goal.returns-in_err-sent-clause-halts
 returns-in_err-sent-clause-halts g c =
     let next = is_next _ _ _ _ _ _ _ c.loop-unit.invariant.2 c.in-Some.ensures.steps in
-    let below = halts_below _ _ _ _ _ _ _ _ _ _ c.in_err-sent.field-0.0 next c.loop-unit.invariant.3 c.in_err-sent.ensures.halts in
+    let below = halts_below _ _ _ _ _ _ _ _ _ c.in_err-sent.field-0.0 next c.loop-unit.invariant.3 c.in_err-sent.ensures.halts in
     grind (arith, common_steps, below)
 
 pub returns-clause-leaves : goal.returns-clause-leaves
@@ -50,5 +50,5 @@ returns-clause-does g c = does_ended _ _ _ _ _ _ _ _ c.loop-unit.invariant.2 c.i
 pub returns-in_err-sent-clause-names : goal.returns-in_err-sent-clause-names
 returns-in_err-sent-clause-names g c =
     let next = is_next _ _ _ _ _ _ _ c.loop-unit.invariant.2 c.in-Some.ensures.steps in
-    let names = names_unit _ _ _ _ _ c.in_err-sent.field-0.0 next c.in_err-sent.ensures.halts.told in
+    let names = names_unit _ _ _ _ _ c.in_err-sent.field-0.0 next c.in_err-sent.ensures.names in
     grind (arith, common_steps, names)

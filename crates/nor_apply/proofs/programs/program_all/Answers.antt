@@ -3,7 +3,7 @@ use Rattle.std.specs.Prelude.{◌*◌}
 use Rattle.std.proofs.lemmas.Grind.{common_steps}
 use Rattle.nor_plan.specs.SectorSet.{has}
 use Rattle.nor_apply.specs.Counts.{sector_count}
-use Rattle.nor_apply.specs.Spending.{HaltsBelow}
+use Rattle.nor_driver.specs.Waits.{Halts}
 use Rattle.nor_apply.proofs.ProgrammingWhole.{IsTouched, sectors_none, sectors_skip, sectors_more, few_sectors, leaves_halted, halts_below, does_ended, leaves_ended}
 use Rattle.nor_apply.proofs.Naming.{names_member}
 use Rattle.nor_apply.proofs.programs.program_all.Goals as goal
@@ -46,7 +46,7 @@ pub returns-in_err-more-clause-halts : goal.returns-in_err-more-clause-halts
 returns-in_err-more-clause-halts g c =
     let is : IsTouched (has c.args.touched.now) (g.S.Source.wanted c.args.source.now) c.loop-sector.sector c.sector.result.now
     = record { is = sym c.contains.ensures ∙ c.if-not-contains.false; below = c.loop-sector-test.true; shows = c.sector.ensures.bytes } in
-    let below : HaltsBelow (most_sector * sector_count (has c.args.touched.now)) (g.B.Bus.state c.args.bus.now) (g.B.Bus.state c.program_sector.new.bus) c.in_err-more.field-0.0
+    let below : Halts (most_sector * sector_count (has c.args.touched.now)) (g.B.Bus.state c.args.bus.now) (g.B.Bus.state c.program_sector.new.bus) c.in_err-more.field-0.0
     = halts_below _ _ _ _ _ _ _ _ _ _ is c.loop-sector.invariant.so_far c.in_err-more.ensures.halts in
     grind (arith, common_steps, below)
 

@@ -15,4 +15,4 @@ returns-clause-leaves g c =
 pub returns-clause-does : goal.returns-clause-does
 returns-clause-does g c =
     sector_does c.args.sector c.args.wanted.now c.args.erased _ c.load.new.bytes c.in_ok-reads.reads (g.B.Bus.state c.args.bus.now) (g.B.Bus.state c.load.new.bus) (g.B.Bus.state c.program_spans.new.bus)
-    c.in_ok-tally.tally (λ i small. get_or-replicate 4096 i 255 0 small) c.load.ensures.looks.honest c.in_ok-reads.ensures.ends c.in_ok-tally.ensures.does
+    c.in_ok-tally.tally (λ i small. get_or-replicate 4096 i 255 0 small) c.load.ensures.looks.nature.honest c.in_ok-reads.ensures.ends c.in_ok-tally.ensures.does

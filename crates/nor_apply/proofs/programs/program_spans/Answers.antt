@@ -1,6 +1,6 @@
 use Rattle.std.proofs.Common.{arith}
 use Rattle.std.proofs.lemmas.Grind.{common_steps}
-use Rattle.nor_apply.specs.Spending.{HaltsBelow}
+use Rattle.nor_driver.specs.Waits.{Halts}
 use Rattle.nor_apply.proofs.ProgrammingExits.{next_all, next_each, next_span, spans_more, few_spans, leaves_halted, halts_below, all_spans, are_all, does_ended, leaves_ended}
 use Rattle.nor_apply.proofs.Naming.{names_place}
 use Rattle.nor_apply.proofs.programs.program_spans.Goals as goal
@@ -38,7 +38,7 @@ pub returns-in_err-sent-clause-halts : goal.returns-in_err-sent-clause-halts
 returns-in_err-sent-clause-halts g c =
     let here = c.loop-span.invariant in
     let next = next_span c.args.sector c.args.old.now c.args.wanted.now c.loop-span.yielded _ _ c.in-Some.span c.requires.whole c.requires.wanted_whole here.all here.each c.in-Some.ensures.steps in
-    let below : HaltsBelow most_pages (g.B.Bus.state c.args.bus.now) (g.B.Bus.state c.program_page.new.bus) c.in_err-sent.field-0.0
+    let below : Halts most_pages (g.B.Bus.state c.args.bus.now) (g.B.Bus.state c.program_page.new.bus) c.in_err-sent.field-0.0
     = halts_below _ _ _ _ _ _ _ _ _ _ next here.so_far c.in_err-sent.ensures.halts in
     grind (arith, common_steps, below)
 
@@ -60,5 +60,5 @@ returns-in_err-sent-clause-names g c =
     let next = next_span c.args.sector c.args.old.now c.args.wanted.now c.loop-span.yielded _ _ c.in-Some.span c.requires.whole c.requires.wanted_whole here.all here.each c.in-Some.ensures.steps in
     let order = next.spanned.is.order in
     let last = next.spanned.is.last.0 in
-    let names = names_place c.args.sector c.in-Some.span.first c.in_err-sent.field-0.0 (omega (arith, order, last, c.requires.whole)) c.in_err-sent.ensures.halts.told in
+    let names = names_place c.args.sector c.in-Some.span.first c.in_err-sent.field-0.0 (omega (arith, order, last, c.requires.whole)) c.in_err-sent.ensures.names in
     grind (arith, common_steps, names)

@@ -1,4 +1,5 @@
 use Rattle.std.proofs.Common.{◌≡◌, ◌<◌, ◌+◌, true}
+use Rattle.nor_chip.specs.Bus.{KeepsNature}
 use Rattle.nor_driver.specs.Looks.{Rested}
 use Rattle.nor_driver.specs.Waits.{latch_when_idle}
 use Rattle.nor_driver.proofs.waits.wait.Given as goal
@@ -7,8 +8,7 @@ abbrev pub invariant-loop-polls : goal.invariant-loop-polls
 invariant-loop-polls g l =
     let old = g.B.Bus.state l.fn.bus in let now = g.B.Bus.state l.bus in
     record {
-      honest : now.honest ≡ old.honest;
-      steady : now.steady ≡ old.steady;
+      nature : KeepsNature old now;
       stirred : now.stirred ≡ old.stirred;
       rested : old.honest ≡ true → Rested old now;
       busy : old.honest ≡ true → now.chip.busy + l.polls ≡ old.chip.busy;

@@ -14,10 +14,10 @@ returns-in-Ok-clause-leaves g c =
 pub returns-in-Ok-clause-shows : goal.returns-in-Ok-clause-shows
 returns-in-Ok-clause-shows g c =
     let shows = session_ends c.first_allowed.result c.args.request.now c.args.image.now _ _ _ (held_by c.session.new.vault) c.in-Ok.field-0
-        c.allow.ensures c.in-Ok.ensures.always.ends (λ honest. (c.in-Ok.ensures.honest honest).counted)
-        (λ modelled. (c.in-Ok.ensures.modelled modelled).done) (λ modelled. (c.session.ensures.modelled modelled).undo) in
+    c.allow.ensures c.in-Ok.ensures.always.ends (λ honest. (c.in-Ok.ensures.honest honest).counted)
+    (λ modelled. (c.in-Ok.ensures.modelled modelled).done) (λ modelled. (c.session.ensures.modelled modelled).undo) in
     subst (λ (n : ℕ). ShowsSession c.args.request.now c.args.image.now n (g.B.Bus.state c.args.bus.now) (g.B.Bus.state c.session.new.bus)
-        (held_by c.session.new.vault) true) c.first_allowed.ensures shows
+    (held_by c.session.new.vault) true) c.first_allowed.ensures shows
 
 pub returns-in-Err-clause-leaves : goal.returns-in-Err-clause-leaves
 returns-in-Err-clause-leaves g c =

@@ -102,7 +102,7 @@ returns-in_err-work g c = λ first looks opens.
       modelled = λ modelled.
           let of = ready_chip request image c.keep.new.image opening c.status.result code kept first start mid _ modelled looks opens is
           (c.requires.judged.accepts first.chip) c.in_ok-kept.ensures.keeps (λ a. let fits = c.keep.type_inv in search rules)
-          (let reached = g.met.B.Bus.reaches c.args.self.bus.now (looks.honest ∙ modelled.honest) in small_first request.named opening first start modelled.honest opens reached.kept2) in
+          (let reached = g.met.B.Bus.reaches c.args.self.bus.now (looks.nature.honest ∙ modelled.honest) in small_first request.named opening first start modelled.honest opens reached.kept2) in
           let tells = change_tells request image c.keep.new.image opening c.status.result code kept first mid new vault vault' refusal is of c.in_err-work.ensures.tells in
           record {
             falls = falls_sized request opening first new modelled.honest (opens.genuine modelled) spends;
@@ -143,7 +143,7 @@ returns g c = λ first looks opens.
       modelled = λ modelled.
           let of = ready_chip request image c.keep.new.image opening c.status.result code kept first start mid _ modelled looks opens is
           (c.requires.judged.accepts first.chip) c.in_ok-kept.ensures.keeps (λ a. let fits = c.keep.type_inv in search rules)
-          (let reached = g.met.B.Bus.reaches c.args.self.bus.now (looks.honest ∙ modelled.honest) in small_first request.named opening first start modelled.honest opens reached.kept2) in
+          (let reached = g.met.B.Bus.reaches c.args.self.bus.now (looks.nature.honest ∙ modelled.honest) in small_first request.named opening first start modelled.honest opens reached.kept2) in
           record {
             falls = falls_sized request opening first new modelled.honest (opens.genuine modelled) spends;
             tells = search rules;

@@ -1,0 +1,12 @@
+-- Whether a bus is honest and steady, over one transaction after another.
+use Rattle.std.proofs.Common.{◌∙◌, refl}
+use Rattle.nor_chip.specs.Bus.{BusState, KeepsNature}
+
+pub nature_refl : (state : BusState) → KeepsNature state state
+nature_refl state = record { honest = refl; steady = refl }
+
+pub nature_then : (old mid new : BusState) → KeepsNature mid new → KeepsNature old mid → KeepsNature old new
+nature_then old mid new later earlier = record {
+  honest = later.honest ∙ earlier.honest;
+  steady = later.steady ∙ earlier.steady;
+}
