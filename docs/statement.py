@@ -55,8 +55,9 @@ SUBJECTS = {
 HEAD = """# The statement
 
 All that the calls `session`, `restore` and `rehearse` promise: their contracts stand at the end, and before them each
-definition and type that these need, as its source has it, so that each word is explained before it is used. (A
-definition by one equation, which in its source has its signature above it, has the types beside its arguments.)
+definition and type that these need, as its source has it, so that each word is explained before it is used. (Only set
+closer: a definition by one equation has its arguments' types beside them, and not in a line above; that a word is a
+statement, `: Type 0`, is left out where its type has no `→`; and fields without a comment stand side by side.)
 `make statement` makes this page from the sources (`docs/statement.py`), `make agree` compares it with them, and it has
 {told} without comments and blanks.
 
@@ -77,8 +78,8 @@ LEGEND = {
         "another `busy`.",
     "→":
         "`A → B`: where A holds B does, so `A → B → C` has two premises. `(a : ℕ) → ..`: for each a; `{T : Type 0} "
-        "→ ..`: for any kind T. Of kinds it is a function: `ℕ → ℕ` the byte at each address, `ℕ → Bool` a set of "
-        "places or sectors.",
+        "→ ..`: for any kind T; `.. → Type 0`: a statement about such values. Of kinds it is a function: `ℕ → ℕ` the "
+        "byte at each address, `ℕ → Bool` a set of places or sectors.",
     "× ◌⊎◌ ¬ ◌↔◌":
         "`A × B`: both hold. `(a : ℕ) × ..`: there is such an a. `A ⊎ B`: one of them holds, or both. `¬ A`: A "
         "doesn't hold. `A ↔ B`: each holds where the other does. Of a pair p the parts are `p.0` and `p.1`.",
@@ -186,7 +187,8 @@ def sections(uses):
 
 
 def split_type(text):
-    """Returns the types of a signature's arguments, each with the names that it gives, and the type of the answer."""
+    """Returns the parts of a signature that are arguments, a pair for each: the part, with the names that it may give,
+    and the argument's kind. And the kind of the answer."""
     parts, depth, done = [], 0, 0
     for match in re.finditer(r"[({\[]|[)}\]]|\s→\s", text):
         depth += {"(": 1, "{": 1, "[": 1, ")": -1, "}": -1, "]": -1}.get(match.group(), 0)
@@ -195,15 +197,39 @@ def split_type(text):
     found = []
     for part in parts:
         named = re.fullmatch(r"\(([\w' ]+) : (.*)\)", part)
-        found += [named[2]] * len(named[1].split()) if named else [part]
-    found = [re.sub(r"^\(([^()]*)\)$", r"\1", kind) for kind in found]
+        kind = named[2] if named else re.sub(r"^\(([^()]*)\)$", r"\1", part)
+        found += [(part, kind)] * (len(named[1].split()) if named else 1)
     return found, text[done:].strip()
 
 
+def filled(lines, end=""):
+    """Returns some lines that belong together, and what stands behind the last, as one line where they fit into it."""
+    whole = " ".join([lines[0], *(line.strip() for line in lines[1:])]) + end
+    return [whole] if len(whole) <= 120 else [*lines[:-1], lines[-1] + end]
+
+
+def packed(word):
+    """Returns the lines of a type of src as the page has them: fields that no comment parts stand side by side."""
+    lines, free = [], False
+    for line in word.code:
+        field = re.fullmatch(r"    (?!//).*,", line)
+        if field and free and len(lines[-1]) + len(line) <= 120:
+            lines[-1] += line[3:]
+            continue
+        free = bool(field) and not lines[-1].lstrip().startswith("//")
+        lines.append(line)
+    if len(lines) == 3 and lines[1].endswith(","):
+        return filled([lines[0], lines[1].rstrip(","), lines[2]])
+    return lines
+
+
 def joined(word):
-    """Returns the lines of a definition as the page has them: without the marks of the language, and where it has one
-    equation, whose arguments are all names, with their types beside them."""
+    """Returns the lines of a definition as the page has them: without the marks of the language; a record without its
+    kind; and where there is one equation, whose arguments are all names, with their kinds beside them."""
     code = [re.sub(r"^((abbrev|unfoldable|pub) )+|^(  )pub ", r"\3", line) for line in word.code]
+    if word.kind == "record":
+        head, where, fields = "\n".join(code).partition(" : Type 0 where")
+        return [*filled(head.split("\n"), " where"), *fields.splitlines()[1:]] if where else code
     equation = next((at for at, line in enumerate(code) if line.startswith(f"{word.name} ") and at), None)
     if word.kind or equation is None or sum(line.startswith(f"{word.name} ") for line in code) != 2:
         return code
@@ -213,19 +239,23 @@ def joined(word):
     if len(names) > len(types) or not all(re.fullmatch(r"[a-z]\w*'?", name) for name in names):
         return code
     groups = [(kind, [name for _, name in group]) for kind, group in
-              itertools.groupby(zip(types, names), key=lambda pair: pair[0])]
+              itertools.groupby(zip(types, names), key=lambda pair: pair[0][1])]
     head = " ".join([word.name, *(f"({' '.join(group)} : {kind})" for kind, group in groups)])
-    head += " : " + " → ".join([*types[len(names) :], answer]) + " ="
+    rest = [part for part, _ in types[len(names) :]]
+    if rest or answer != "Type 0":
+        head += " : " + " → ".join([*rest, answer])
+    head += " ="
     lines = (head + right).splitlines()
-    whole = " ".join(line.strip() for line in lines)
-    if len(lines) == 2 and len(whole) <= 120:
-        return [whole]
+    if len(lines) == 2:
+        lines = filled(lines)
     return lines if len(lines[0]) <= 120 else [head, "    " + lines[0][len(head) :].strip(), *lines[1:]]
 
 
 def lines_of(word):
     """Returns the lines of a word as the page has them."""
-    return joined(word) if word.source.path.endswith(".antt") else word.code
+    if word.source.path.endswith(".antt"):
+        return joined(word)
+    return packed(word) if word.kind in ("struct", "enum") else word.code
 
 
 def count(words):
