@@ -63,7 +63,7 @@ statement, `: Type 0`, is left out where its type has no `→`; and fields witho
 
 """
 
-# How the page is read: what to say of these names of the language and of libraries, where the page has any of them. An
+# How the page is read: what to say of these names of the language and of libraries, all of which the page has. An
 # operator's name has a place for each argument.
 LEGEND = {
     "ℕ Bool true false List":
@@ -83,8 +83,8 @@ LEGEND = {
     "× ◌⊎◌ ¬ ◌↔◌":
         "`A × B`: both hold. `(a : ℕ) × ..`: there is such an a. `A ⊎ B`: one of them holds, or both. `¬ A`: A "
         "doesn't hold. `A ↔ B`: each holds where the other does. Of a pair p the parts are `p.0` and `p.1`.",
-    "◌≡◌ ◌≢◌ Unit ⊤ ⊥":
-        "`a ≡ b`: they are equal; `a ≢ b`: they aren't. `Unit {0}` and `⊤` always hold, `⊥` never does.",
+    "◌≡◌ ◌≢◌ ⊤ ⊥":
+        "`a ≡ b`: they are equal; `a ≢ b`: they aren't. `⊤` always holds, `⊥` never does.",
     "λ let elim if◌then◌else◌":
         "`λ a. e` is the function that gives e of a; `let x = a in e` is e where x is a; `elim x [ p ↦ a | q ↦ b ]` "
         "is a where x is as p, and b where it is as q; `if t then a else b` goes by a test.",
@@ -291,15 +291,18 @@ def told_of(words):
 def page():
     """Returns the lines of the page, and how much it has."""
     calls, uses, names = needed()
-    if missing := sorted(names - {name for line in LEGEND for name in line.split()}):
+    explained = {name for line in LEGEND for name in line.split()}
+    if missing := sorted(names - explained):
         fail(f"LEGEND of docs/statement.py doesn't explain {' '.join(missing)}")
+    if idle := sorted(explained - names):
+        fail(f"LEGEND of docs/statement.py explains {' '.join(idle)}, which the page doesn't have")
     groups = sections({word: uses[word] for word in uses if word not in calls})
     told = told_of(uses)
     numbered = list(enumerate([*groups, ("The contracts", calls)], 1))
     lines = HEAD.format(told=told).splitlines()
     lines += [listed(number, *group) for number, group in numbered]
     lines += ["", "## How to read it", ""]
-    lines += [f"- {text}" for line, text in LEGEND.items() if not line or names & set(line.split())]
+    lines += [f"- {text}" for text in LEGEND.values()]
     for number, (subject, words) in numbered:
         lines += ["", f"## {number}. {subject}", "", *show(words)]
     return lines, told
