@@ -37,21 +37,26 @@ impl Case {
 
     /// The address is included by the request's ranges.
     pub fn includes(&self, address: u32) -> bool {
-        match &self.included {
-            Some(spans) => spans
-                .iter()
-                .any(|span| span.first <= address && address <= span.last),
-            None => true,
-        }
+        self.reaches(address, address)
     }
 
     /// Some address of the sector is included by the request's ranges.
     pub fn includes_in(&self, sector: u32) -> bool {
-        match &self.included {
-            Some(spans) => spans.iter().any(|span| span.first / 4096 <= sector
-                && sector <= span.last / 4096),
-            None => true,
+        let first = sector.saturating_mul(4096);
+        self.reaches(first, first.saturating_add(4095))
+    }
+
+    // Some address from the first to the last one is included.
+    fn reaches(&self, first: u32, last: u32) -> bool {
+        let Some(spans) = &self.included else {
+            return true;
+        };
+        for span in spans.iter() {
+            if span.first <= last && first <= span.last {
+                return true;
+            }
         }
+        false
     }
 
     /// The last included address, where there are ranges.
