@@ -22,7 +22,7 @@ COUNT := 1000
 
 # Proves the program and everything below it, builds it, and runs it once.
 build: toolchain files
-	@echo "This proves all that the program stands on: half an hour on four cores, and up to 3 GB a prover."
+	@echo "This proves all that the program stands on: twenty minutes on four cores, and up to 3 GB a prover."
 	@echo "('make demo' shows without a proof what it does.)"
 	cd crates/flashnor && rt run -- -p dummy:emulate=TINY64,image=$(SCRATCH)/chip.bin -w $(SCRATCH)/new.bin --rehearse 25
 	@test -x $(PROGRAM)

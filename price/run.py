@@ -3,9 +3,11 @@
 
 While the command runs (`bash .ci/run` where none is given) this looks at /proc once a second for the provers below it,
 and prints a table behind it: the minutes of each crate's code, of its tests and of its must-fail edits. What a prover
-does after the last look at it isn't in the table; it is in the sum of all processes, which the system counts. The
+does after the last look at it isn't in the table; it is in the sum of all processes, which the system counts. A shared
+host is faster at one hour than at another, so a piece of work that is always the same is timed before and after. The
 status is the command's.
 """
+import hashlib
 import os
 import resource
 import subprocess
@@ -94,7 +96,18 @@ def show(name, row):
     print(f"{name:14}" + "".join(f"{row[kind]:8.1f}" for kind in KINDS) + f"{sum(row.values()):8.1f}")
 
 
+def pace():
+    """Returns the processor seconds that SHA-256 of 512 MiB takes now."""
+    block = bytes(1 << 20)
+    digest = hashlib.sha256()
+    start = time.process_time()
+    for _ in range(512):
+        digest.update(block)
+    return time.process_time() - start
+
+
 def main(words):
+    before = pace()
     start = time.monotonic()
     command = subprocess.Popen(words or ["bash", ".ci/run"])
     account = Account(command.pid)
@@ -109,6 +122,7 @@ def main(words):
         show(name, row)
     show("provers", {kind: sum(row[kind] for _, row in rows) for kind in KINDS})
     print(f"all processes: {(used.ru_utime + used.ru_stime) / 60:.1f} processor minutes, in {wall:.1f} minutes")
+    print(f"pace: SHA-256 of 512 MiB took {before:.2f} s before, and {pace():.2f} s after")
     return command.returncode if command.returncode >= 0 else 128 - command.returncode
 
 
