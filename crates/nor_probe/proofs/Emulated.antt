@@ -1,5 +1,5 @@
 -- The emulated chips are known: the premise that a chip is genuine can be met.
-use Rattle.std.proofs.Common.{◌≡◌, ◌+◌, ◌%◌, ◌∙◌, ℕ, Bool, true, false, List, [], ◌∷◌, ◌++◌, refl, ap, sym, subst}
+use Rattle.std.proofs.Common.{◌≡◌, ◌%◌, ◌∙◌, ℕ, Bool, true, false, List, [], ◌∷◌, ◌++◌, refl, ap, sym, subst}
 use Rattle.std.specs.Prelude.{Result, Ok, Err, Option, None, Some, not, map, replicate, slice_index_or, IsOk, if◌then◌else◌}
 use Rattle.std.specs.List.{range_with_len}
 use Rattle.nor_chip.specs.declared.config.Config.{Config}
