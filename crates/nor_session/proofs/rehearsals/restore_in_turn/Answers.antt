@@ -35,3 +35,15 @@ pub returns-in_err-ends_under-2-clause-refuses : goal.returns-in_err-ends_under-
 returns-in_err-ends_under-2-clause-refuses g c =
     let told = refuses_before _ _ _ c.in_err-ends_under-2.field-0.0 c.loop-stop.invariant.stopped.leaves c.in_err-ends_under-2.ensures.refuses in
     search rules
+
+pub returns-clause-leaves : goal.returns-clause-leaves
+returns-clause-leaves g c = restores_then _ _ _ _ c.loop-stop.invariant.stopped.leaves c.in_ok-ends_under-2.ensures.leaves
+
+pub returns-in_err-ends_under-clause-leaves : goal.returns-in_err-ends_under-clause-leaves
+returns-in_err-ends_under-clause-leaves g c = restores_then _ _ _ _ c.loop-stop.invariant.stopped.leaves c.in_err-ends_under.ensures.leaves
+
+pub returns-in_err-ends_under-2-clause-leaves : goal.returns-in_err-ends_under-2-clause-leaves
+returns-in_err-ends_under-2-clause-leaves g c = restores_then _ _ _ _ c.loop-stop.invariant.stopped.leaves c.in_err-ends_under-2.ensures.leaves
+
+pub returns-then-branch-2-clause-leaves : goal.returns-then-branch-2-clause-leaves
+returns-then-branch-2-clause-leaves g c = restores_then _ _ _ _ c.loop-stop.invariant.stopped.leaves c.in_ok-ends_under-2.ensures.leaves
