@@ -1,11 +1,13 @@
 //! The fewest erases for a set of sectors.
 
-ghost use Rattle.std.specs.Prelude.{◌≡◌, ◌+◌, ◌*◌, ◌/◌, ◌^◌, ◌<◌, ◌≤◌, ℕ, Bool, true, List, length};
+ghost use Rattle.std.specs.Prelude.{◌≡◌, ◌+◌, ◌*◌, ◌/◌, ◌^◌, ◌<◌, ◌≤◌, ℕ, Bool};
+ghost use Rattle.std.specs.Prelude.{true, List, length};
 ghost use Rattle.nor_driver.specs.Units.{is_aligned};
 ghost use Rattle.nor_probe.specs.declared.sfdp.Kinds.{Kinds};
 ghost use Rattle.nor_plan.specs.Counts.{IsCount};
 ghost use Rattle.nor_plan.specs.Erase.{Covers};
-ghost use Rattle.nor_plan.specs.Planned.{holds_block, holds_run, planned_unit, planned, fewest_erases, HeadsPlanned, IsLeastLength};
+ghost use Rattle.nor_plan.specs.Planned.{holds_block, holds_run, planned_unit, planned, fewest_erases};
+ghost use Rattle.nor_plan.specs.Planned.{HeadsPlanned, IsLeastLength};
 ghost use Rattle.nor_plan.specs.Erases.{erases_left};
 ghost use Rattle.nor_plan.specs.SectorSet.{has, LiesBelow, member_count};
 
@@ -42,7 +44,8 @@ pub fn erases(set: &SectorSet, kinds: Kinds, size: u32) -> Erases
 /// The number of the fewest erases is the least length of a list that sets just these sectors to FFh.
 #[tactic(auto, using(crate::proofs::Fewest::fewest_least))]
 pub fn fewest_is_least()
-    ensures { (kinds : Kinds) (total : ℕ) (set : ℕ → Bool) → total ≤ 4096 → ((s : ℕ) → set s ≡ true → s < total)
+    ensures { (kinds : Kinds) (total : ℕ) (set : ℕ → Bool) → total ≤ 4096
+        → ((s : ℕ) → set s ≡ true → s < total)
         → IsLeastLength kinds total set (fewest_erases kinds total set) }
 {}
 

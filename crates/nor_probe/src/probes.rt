@@ -117,9 +117,11 @@ fn identify<B: Bus>(bus: &mut B, id: [u8; 3]) -> Result<Part, ProbeFault>
     ensures faults { IfErr result IsIdentityFault }
 
     ensures shown { (B.state bus.old).honest ≡ true → (B.state bus.old).chip.busy ≡ 0
-        → id ≡ id_of (B.state bus.old).chip.config → IfOk result (Identifies (B.state bus.old) (B.state bus.new)) }
+        → id ≡ id_of (B.state bus.old).chip.config
+        → IfOk result (Identifies (B.state bus.old) (B.state bus.new)) }
     ensures tells { (B.state bus.old).honest ≡ true → (B.state bus.old).chip.busy ≡ 0
-        → id ≡ id_of (B.state bus.old).chip.config → IfErr result (IdentityTells (B.state bus.old) (B.state bus.new)) }
+        → id ≡ id_of (B.state bus.old).chip.config
+        → IfErr result (IdentityTells (B.state bus.old) (B.state bus.new)) }
 {
     if is_no_chip(id) {
         return Err(ProbeFault::NoChip);

@@ -1,10 +1,12 @@
 //! Serial Flash Discoverable Parameters (JEDEC JESD216): the size of a chip and its erase kinds, from
 //! the header and the basic flash parameter table.
 
-ghost use Rattle.std.specs.Prelude.{◌≡◌, ◌<◌, ◌≤◌, ◌+◌, ◌*◌, ◌-◌, ◌/◌, true, IsTrue, IfSome, IfOk};
+ghost use Rattle.std.specs.Prelude.{◌≡◌, ◌<◌, ◌≤◌, ◌+◌, ◌*◌, ◌-◌, ◌/◌, true, IsTrue};
+ghost use Rattle.std.specs.Prelude.{IfSome, IfOk};
 ghost use Rattle.nor_chip.specs.Size.{is_chip_size};
 ghost use Rattle.std.specs.Option.{SomeIff};
-ghost use Rattle.nor_probe.specs.Sfdp.{double_word, size_in_bits, is_chip_size_in_bits, has_signature, is_basic, address_mode};
+ghost use Rattle.nor_probe.specs.Sfdp.{double_word, size_in_bits, address_mode};
+ghost use Rattle.nor_probe.specs.Sfdp.{is_chip_size_in_bits, has_signature, is_basic};
 ghost use Rattle.nor_probe.specs.Sfdp.{has_write_granularity, is_erase_type_at, has_erase_type, geometry_of};
 ghost use Rattle.nor_probe.specs.Sfdp.{table_faults, first_fault_or, sfdp_says};
 

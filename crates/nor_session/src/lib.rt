@@ -13,8 +13,8 @@
 //! ```
 //!
 //! What each call promises stands in `specs/`: `Verdict.antt`, `Session.antt`, `Restore.antt`, `Rehearsal.antt`, and of
-//! which buses in `Modelled.antt`; what laws say of calls that follow one another in `Following.antt`, and of a chip
-//! that is kept in files in `WrittenOver.antt`.
+//! which buses `IsModelled` of nor_probe; what laws say of calls that follow one another in `Following.antt`, and
+//! of a chip that is kept in files in `WrittenOver.antt`.
 #![tactic(auto)]
 
 mod answering;
