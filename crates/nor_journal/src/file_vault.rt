@@ -30,6 +30,13 @@ impl<F: VaultFile> FileVault<F> {
         }
     }
 
+    /// Whether it was sealed.
+    pub fn is_sealed(&self) -> bool
+        ensures { result ≡ (⟦<FileVault<F> as Vault>⟧.state self.now).sealed }
+    {
+        self.sealed
+    }
+
     /// The file, as it is.
     pub fn into_inner(self) -> F
         ensures { result ≡ file_of self }

@@ -1,5 +1,7 @@
 //! A journal that was read.
-ghost use Rattle.std.specs.Prelude.{◌≡◌, ◌↔◌, ℕ, ◌/◌, ◌<◌, ◌≤◌, Bool, List, ◌++◌, length, take, slice_get, Some, None, IfSome, MatchOption, IfOk, IfErr, OnOk, IsOkAnd};
+ghost use Rattle.std.specs.Prelude.{◌≡◌, ◌↔◌, ℕ, ◌/◌, ◌<◌, ◌≤◌, Bool, List, ◌++◌};
+ghost use Rattle.std.specs.Prelude.{length, take, slice_get};
+ghost use Rattle.std.specs.Prelude.{Some, None, IfSome, MatchOption, IfOk, IfErr, OnOk, IsOkAnd};
 ghost use Rattle.nor_journal.specs.Text.{Content, IsContent, SameHead, text};
 ghost use Rattle.nor_journal.specs.Saved.{Saves, JournalSaves, HasRecord, saved_in};
 ghost use Rattle.nor_journal.specs.Fault.{HasFault};
@@ -41,9 +43,11 @@ impl<'a> Journal<'a> {
         // What is read is a journal, and says what is answered.
         ensures found { IfOk result (λ journal. IsContent journal × (bytes.now ≡ text journal)) }
         // A journal is read.
-        ensures only { (c : Content) → IsContent c → bytes.now ≡ text c → IsOkAnd result (λ journal. journal ≡ c) }
+        ensures only { (c : Content) → IsContent c → bytes.now ≡ text c
+            → IsOkAnd result (λ journal. journal ≡ c) }
         // What was kept is read.
-        ensures kept { (head : Content) (chip : ℕ → ℕ) (saved : ℕ → Bool) → JournalSaves head chip saved bytes.now
+        ensures kept { (head : Content) (chip : ℕ → ℕ) (saved : ℕ → Bool)
+            → JournalSaves head chip saved bytes.now
             → IsOkAnd result (λ journal. SameHead head journal × Saves chip saved journal) }
         // No proper beginning of a journal is a journal.
         ensures whole { OnOk result ((c : Content) (n : ℕ) → IsContent c → take n bytes.now ≡ text c

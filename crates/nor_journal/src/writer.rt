@@ -1,5 +1,6 @@
 //! Writes a journal into a vault, piece by piece.
-ghost use Rattle.std.specs.Prelude.{◌≡◌, ◌+◌, ◌/◌, ◌<◌, ◌≤◌, ◌++◌, List, ℕ, Bool, [], false, true, Some, OnOk, IfOk};
+ghost use Rattle.std.specs.Prelude.{◌≡◌, ◌+◌, ◌/◌, ◌<◌, ◌≤◌, ◌++◌, List, ℕ, Bool, []};
+ghost use Rattle.std.specs.Prelude.{false, true, Some, OnOk, IfOk};
 ghost use Rattle.nor_journal.specs.Vault.{Accepted, PutsOn, Completes, IsFresh};
 ghost use Rattle.nor_journal.specs.Text.{Content, IsJournalSize, MayFollow, empty_content, with_sector, text};
 ghost use Rattle.nor_journal.specs.Saved.{IsWholeSector, HasOneMore, JournalSaves};
@@ -63,7 +64,8 @@ impl<'a, V: Vault> Writer<'a, V> {
     /// of `add` does; the contract can't say so.
     pub fn sector(mut self, number: u32, bytes: &[u8; 4096]) -> Result<Writer<'a, V>, VaultFault>
         requires { (vault_seen V.state self).sealed ≡ false }
-        ensures same_vault { IfOk result (λ writer. (vault_of writer).ghost_name ≡ (vault_of self.entry).ghost_name) }
+        ensures same_vault { IfOk result
+            (λ writer. (vault_of writer).ghost_name ≡ (vault_of self.entry).ghost_name) }
         ensures vault { IfOk result (λ writer. Accepted (vault_seen V.state self.entry) (vault_seen V.state writer)) }
         ensures written { (c : Content) → HasWritten V.state self.entry c → MayFollow c number
             → IfOk result (λ writer. HasWritten V.state writer (with_sector c number bytes.now)) }
@@ -127,7 +129,8 @@ impl<'a, V: Vault> Writer<'a, V> {
         requires { (vault_seen V.state self).sealed ≡ false }
         ensures vault { Completes (vault_seen V.state self.entry) result (V.state self.exit.0.now) }
         ensures written { (c : Content) → HasWritten V.state self.entry c
-            → OnOk result ((V.state self.exit.0.now).telling ≡ true → (V.state self.exit.0.now).bytes ≡ text c) }
+            → OnOk result ((V.state self.exit.0.now).telling ≡ true
+            → (V.state self.exit.0.now).bytes ≡ text c) }
         ensures kept { (head : Content) (chip : ℕ → ℕ) (saved : ℕ → Bool) (n : ℕ)
             → HasPutSectors V.state self.entry head chip saved n
             → OnOk result ((V.state self.exit.0.now).telling ≡ true
