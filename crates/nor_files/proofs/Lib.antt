@@ -1,0 +1,4 @@
+pub mod Changes
+pub mod Places
+pub mod Works
+pub mod Losses

@@ -1,0 +1,16 @@
+-- The files of the system, as contracts see them.
+use Rattle.std.specs.Prelude.{⊤, false, true, None}
+use Rattle.nor_files.specs.Files.{FilesState}
+
+-- nothing is known of them, and anything may go wrong
+abbrev pub unknown : FilesState
+unknown = record {
+  view = record {
+    nature = record { lawful = false; fails = λ failure. true };
+    out = λ name. false;
+    seen = λ name. None;
+  };
+  left = 0;
+  lent = None;
+  may_leave = λ name left. ⊤;
+}

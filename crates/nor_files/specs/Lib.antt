@@ -1,0 +1,7 @@
+pub mod Files
+pub mod Calls
+pub mod Faults
+pub mod Disk
+pub mod Stored
+pub mod Named
+pub mod Memory

@@ -1,0 +1,23 @@
+-- Files in memory, as contracts see them.
+use Rattle.std.specs.Prelude.{ℕ, true, List, Option, option_map}
+use Rattle.nor_files.specs.Files.{FilesState, Name}
+use Rattle.nor_files.specs.Named.{file_of}
+use Rattle.nor_files.specs.Stored.{MayLeave}
+use Rattle.nor_files.specs.declared.memory.Memory.{Memory}
+use Rattle.nor_files.specs.declared.stored.Stored.{Stored}
+
+-- files that keep the law; anything may go wrong with them
+abbrev pub state_of : List Stored → (left : ℕ) (lent : Option Name) → FilesState
+state_of files left lent = record {
+  view = record {
+    nature = record { lawful = true; fails = λ failure. true };
+    out = λ name. (file_of files name).out;
+    seen = λ name. (file_of files name).seen;
+  };
+  left = left;
+  lent = lent;
+  may_leave = λ name found. MayLeave (file_of files name) found;
+}
+
+abbrev pub memory_state : Memory → FilesState
+memory_state memory = state_of memory.files.items memory.left (option_map (λ name. name.items) memory.lent)

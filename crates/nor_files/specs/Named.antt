@@ -1,0 +1,26 @@
+-- The files of some names, as contracts see them.
+use Rattle.std.specs.Prelude.{Bool, true, false, List, [], ◌∷◌, Option, None, Some, if◌then◌else◌, nat_eq}
+use Rattle.std.specs.Cmp.Lexicographic.{pointwise}
+use Rattle.nor_files.specs.Files.{Name}
+use Rattle.nor_files.specs.Stored.{File, file_in, missing}
+use Rattle.nor_files.specs.declared.stored.Stored.{Stored}
+
+abbrev pub is_name : (one other : Name) → Bool
+is_name = pointwise nat_eq
+
+abbrev pub is_named : Name → Stored → Bool
+is_named name stored = is_name stored.name.items name
+
+-- the first file of that name; one that isn't there is missing
+abbrev pub file_of : List Stored → Name → File
+file_of [] name = missing
+file_of (stored ∷ files) name = if is_named name stored then file_in stored else file_of files name
+
+abbrev pub is_there : List Stored → Name → Bool
+is_there [] name = false
+is_there (stored ∷ files) name = if is_named name stored then true else is_there files name
+
+-- whether a place is kept for the file whose vault is out
+abbrev pub is_lent_there : List Stored → Option Name → Bool
+is_lent_there files None = true
+is_lent_there files (Some name) = is_there files name

@@ -1,0 +1,183 @@
+-- A file in memory, as contracts see it.
+use Rattle.std.specs.Prelude.{◌≡◌, ◌⊎◌, ◌&&◌, ◌||◌, ⊤, ℕ, Bool, true, false, List, [], ◌∷◌, Option, None, Some}
+use Rattle.std.specs.Prelude.{Result, Ok, Err, if◌then◌else◌, is_some, not, option_map}
+use Rattle.std.proofs.Common.{refl, inl, inr}
+use Rattle.nor_journal.specs.MemVault.{held_by}
+use Rattle.nor_journal.specs.Vault.{VaultState}
+use Rattle.nor_files.specs.Files.{Found}
+use Rattle.nor_files.specs.Calls.{IsMixed, with_length, written_over}
+use Rattle.nor_files.specs.declared.stored.Change.{Change}
+use Rattle.nor_files.specs.declared.stored.Change.TheVariants.{Cut, Lent, Written}
+use Rattle.nor_files.specs.declared.stored.Content.{Content}
+use Rattle.nor_files.specs.declared.stored.Content.TheVariants.{Plain, Vaulted}
+use Rattle.nor_files.specs.declared.stored.Step.{Step}
+use Rattle.nor_files.specs.declared.stored.Stored.{Stored}
+
+abbrev pub bytes_in : Content → List ℕ
+bytes_in (Plain bytes) = bytes.items
+bytes_in (Vaulted vault) = (held_by vault).bytes
+
+abbrev pub found_in : Option Content → Found
+found_in content = option_map bytes_in content
+
+-- What contracts see of a file, or of one that isn't there.
+pub record File : Type 0 where
+  pub seen : Found
+  -- the changes since it was synced, the newest first
+  pub steps : List Step
+  -- whether its name may be lost
+  pub unplaced : Bool
+  -- whether a vault or a log in it is in somebody's hands
+  pub out : Bool
+
+abbrev pub file_in : Stored → File
+file_in stored = record {
+  seen = found_in stored.content;
+  steps = stored.steps.items;
+  unplaced = stored.unplaced;
+  out = stored.out;
+}
+
+abbrev pub missing : File
+missing = record { seen = None; steps = []; unplaced = false; out = false }
+
+-- ---- what may be left of a file
+
+-- a mix of these bytes and what it may have been
+abbrev pub IsMixOf : List ℕ → (Found → Type 0) → Found → Type 0
+IsMixOf bytes MayHaveBeen left = (had : List ℕ) × MayHaveBeen (Some had)
+    × ((has : List ℕ) × (left ≡ Some has) × IsMixed had bytes has)
+
+-- what it may have been, with another length
+abbrev pub IsCutOf : ℕ → (Found → Type 0) → Found → Type 0
+IsCutOf len MayHaveBeen left = (had : List ℕ) × MayHaveBeen (Some had) × (left ≡ Some (with_length len had))
+
+-- what a change may leave of what the file may have been
+abbrev pub Becomes : Change → (Found → Type 0) → Found → Type 0
+Becomes (Written bytes) MayHaveBeen left = IsMixOf bytes.items MayHaveBeen left
+Becomes (Cut len) MayHaveBeen left = IsCutOf len MayHaveBeen left
+Becomes Lent MayHaveBeen left = ⊤
+
+-- what is seen, or what may have been before the newest change, or what that change may leave of it
+abbrev pub MayBe : List Step → Found → Found → Type 0
+MayBe [] seen left = left ≡ seen
+MayBe (step ∷ earlier) seen left = (left ≡ seen) ⊎ (MayBe earlier (found_in step.before) left
+    ⊎ Becomes step.change (MayBe earlier (found_in step.before)) left)
+
+-- a file whose name may be lost may be missing; another one is there, or isn't, as it is seen
+abbrev pub OrMissing : Bool → Type 0 → (seen left : Found) → Type 0
+OrMissing true May seen left = (left ≡ None) ⊎ May
+OrMissing false May seen left = (is_some left ≡ is_some seen) × May
+
+abbrev pub MayLeave : File → Found → Type 0
+MayLeave file left = OrMissing file.unplaced (MayBe file.steps file.seen left) file.seen left
+
+-- what is seen may be left
+pub seen_may_be : (steps : List Step) (seen : Found) → MayBe steps seen seen
+seen_may_be [] seen = refl
+seen_may_be (step ∷ earlier) seen = inl refl
+
+pub seen_or_missing : (unplaced : Bool) (May : Type 0) (seen : Found) → May → OrMissing unplaced May seen seen
+seen_or_missing true May seen may = inr may
+seen_or_missing false May seen may = (refl, may)
+
+pub seen_may_stay : (file : File) → MayLeave file file.seen
+seen_may_stay file =
+    seen_or_missing file.unplaced (MayBe file.steps file.seen file.seen) file.seen (seen_may_be file.steps file.seen)
+
+-- ---- what is done to one file
+
+-- The file has this content now, by a change of what it had.
+pub record IsChanged (content : Content) (change : Change) (old new : Stored) : Type 0 where
+  pub name : new.name ≡ old.name
+  pub file : file_in new ≡ record {
+    seen = Some (bytes_in content);
+    steps = record { before = old.content; change = change } ∷ old.steps.items;
+    unplaced = old.unplaced;
+    out = old.out;
+  }
+
+-- The file is as it was.
+pub record IsUnchanged (old new : Stored) : Type 0 where
+  pub name : new.name ≡ old.name
+  pub file : file_in new ≡ file_in old
+
+abbrev pub Alters : {T E : Type 0} → Result T E → Content → Change → (old new : Stored) → Type 0
+Alters (Ok _) content change old new = IsChanged content change old new
+Alters (Err _) content change old new = IsUnchanged old new
+
+-- Bytes were written over the file, or some of them.
+pub record FileWrites {T E : Type 0} (bytes : List ℕ) (result : Result T E) (old new : Stored) : Type 0 where
+  pub name : new.name ≡ old.name
+  pub out : new.out ≡ old.out
+  pub seen : (any : T) → result ≡ Ok any → (file_in new).seen ≡ option_map (written_over bytes) (file_in old).seen
+  pub leaves : (left : Found) → MayLeave (file_in new) left
+      → MayLeave (file_in old) left ⊎ IsMixOf bytes (MayLeave (file_in old)) left
+
+-- Its length was set, or not.
+pub record FileSets {T E : Type 0} (len : ℕ) (result : Result T E) (old new : Stored) : Type 0 where
+  pub name : new.name ≡ old.name
+  pub out : new.out ≡ old.out
+  pub seen : (any : T) → result ≡ Ok any → (file_in new).seen ≡ option_map (with_length len) (file_in old).seen
+  pub leaves : (left : Found) → MayLeave (file_in new) left
+      → MayLeave (file_in old) left ⊎ IsCutOf len (MayLeave (file_in old)) left
+
+-- It was synced.
+pub record FileSyncs (old new : Stored) : Type 0 where
+  pub name : new.name ≡ old.name
+  pub file : file_in new ≡ record (file_in old) { steps = [] }
+
+-- Its name is there for good, or isn't.
+pub record FilePlaces (old new : Stored) : Type 0 where
+  pub name : new.name ≡ old.name
+  pub file : file_in new ≡ record (file_in old) { unplaced = false }
+
+-- It wasn't there, and was made, empty.
+pub record IsMadeNow (old new : Stored) : Type 0 where
+  pub name : new.name ≡ old.name
+  pub missing : (file_in old).seen ≡ None
+  pub file : file_in new ≡ record { seen = Some []; steps = []; unplaced = true; out = old.out }
+
+abbrev pub FileMakes : {T E : Type 0} → Result T E → (old new : Stored) → Type 0
+FileMakes (Ok _) old new = IsMadeNow old new
+FileMakes (Err _) old new = IsUnchanged old new
+
+-- A vault or a log in it was handed out, and it is empty.
+pub record IsLent (is_new : Bool) (old new : Stored) : Type 0 where
+  pub name : new.name ≡ old.name
+  pub file : file_in new ≡ record {
+    seen = Some [];
+    steps = record { before = old.content; change = Lent } ∷ old.steps.items;
+    unplaced = not is_new && (old.unplaced || not (is_some old.content));
+    out = true;
+  }
+
+abbrev pub FileLends : {T E : Type 0} → Bool → Result T E → (old new : Stored) → Type 0
+FileLends is_new (Ok _) old new = IsLent is_new old new
+FileLends is_new (Err _) old new = IsUnchanged old new
+
+-- These bytes were put there, for good.
+pub record FileSettles (bytes : List ℕ) (old new : Stored) : Type 0 where
+  pub name : new.name ≡ old.name
+  pub file : file_in new ≡ record { seen = Some bytes; steps = []; unplaced = false; out = false }
+
+-- Its vault is back: once that was sealed nothing else may be left.
+pub record FileTakesBack (vault : VaultState) (old new : Stored) : Type 0 where
+  pub name : new.name ≡ old.name
+  pub file : file_in new ≡ record {
+    seen = Some vault.bytes;
+    steps = (if vault.sealed then [] else old.steps.items);
+    unplaced = (if vault.sealed then false else old.unplaced);
+    out = false;
+  }
+
+-- What is seen of it now is what may have been left.
+pub record FileForgets (old new : Stored) : Type 0 where
+  pub name : new.name ≡ old.name
+  pub allowed : MayLeave (file_in old) (file_in new).seen
+
+-- The machine was lost: what is seen of it now is what may have been left, and stays.
+pub record FileLoses (old new : Stored) : Type 0 where
+  pub name : new.name ≡ old.name
+  pub allowed : MayLeave (file_in old) (file_in new).seen
+  pub file : file_in new ≡ record { seen = (file_in new).seen; steps = []; unplaced = false; out = false }

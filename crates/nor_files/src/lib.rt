@@ -1,0 +1,22 @@
+//! The files of a run, by their names, and the law that they keep.
+//!
+//! A `Store` is what a program needs of files: it reads them, holds those that it will write over, syncs them, and
+//! hands out vaults and logs in them. Contracts see what is in each file, what a machine that is lost may leave of it,
+//! and how many calls still succeed, so a promise at every exit of a function speaks of a kill at each call, too.
+//!
+//! `Disk` has the files of the system, of which nothing is known; `Memory` has files that keep the law, and fail after
+//! as many calls as it is told. The law stands in `specs/Files.antt` and `specs/Calls.antt`.
+#![tactic(auto)]
+
+mod disk;
+mod folder;
+mod memory;
+mod store;
+mod stored;
+#[cfg(test)]
+mod tests;
+
+pub use disk::{Disk, LockFile};
+pub use memory::Memory;
+pub use store::{HoldFault, Store};
+pub use stored::Loss;

@@ -1,0 +1,276 @@
+//! Files in memory, which keep the law.
+ghost use Rattle.std.specs.Prelude.{◌≡◌, ◌+◌, true, OnErr, OnOk, IfOk, Some, option_map, position};
+ghost use Rattle.nor_files.specs.Files.{AllStay, AreAtRest, IsSettled, Name, OthersStay, Stays};
+ghost use Rattle.nor_files.specs.Calls.{Counts};
+ghost use Rattle.nor_files.specs.Named.{file_of, is_lent_there, is_named, is_there};
+
+use crate::store::{HoldFault, Store};
+use crate::stored::{Loss, Stored, copy};
+use nor_journal::MemVault;
+use std::alloc::{AllocError, Global};
+use std::io::{ErrorKind, Sink};
+use std::{io, mem};
+
+/// Files in memory, which keep the law of a `Store`. So many calls on them succeed; each one after fails, and changes
+/// nothing. A lost machine may leave of each byte what it was at the file's last sync, or any that was written there
+/// since; and a file that was made may be missing until its folder is synced.
+#[derive(Drop)]
+pub struct Memory {
+    alloc: Global,
+    files: Vec<Stored>,
+    // The name of the file whose vault was handed out last, and not back.
+    lent: Option<Vec<u8>>,
+    left: u64,
+    // Whether a write that takes the last call is cut off half-way, and fails.
+    torn: bool,
+    ghost lent_is_there: { is_lent_there files.items (option_map (λ name. name.items) lent) ≡ true },
+}
+
+impl Memory {
+    ghost use Rattle.nor_files.specs.Memory.{memory_state};
+
+    /// No files, on which so many calls succeed.
+    pub fn new(alloc: Global, left: u64) -> Memory {
+        Memory {
+            alloc,
+            files: Vec::new(alloc),
+            lent: None,
+            left,
+            torn: false,
+        }
+    }
+
+    /// Puts a file of this name there, with these bytes, for good.
+    pub fn put(&mut self, name: &str, bytes: &[u8]) -> Result<(), AllocError>
+        ensures left { self.new.left ≡ self.old.left }
+        ensures puts { OnOk result (IsSettled name.now (Some bytes.now) (memory_state self.new)) }
+        ensures others { OthersStay name.now (memory_state self.old) (memory_state self.new) }
+    {
+        let at = self.keep_place(name)?;
+        let copied = copy(self.alloc, bytes)?;
+        self.files[at].settle(copied);
+        Ok(())
+    }
+
+    /// Lets the write fail half-way that takes the last call: the first half of its bytes gets there.
+    pub fn tear(&mut self)
+        ensures left { self.new.left ≡ self.old.left }
+        ensures stay { AllStay (memory_state self.old) (memory_state self.new) }
+    {
+        self.torn = true;
+    }
+
+    /// The files that are left when the machine is lost now, on which so many calls succeed. What is seen of each is
+    /// what might be left of it, and nothing else may be left from now on.
+    pub fn lose(self, loss: Loss, left: u64) -> Memory
+        ensures left { (memory_state result).left ≡ left }
+        ensures at_rest { AreAtRest (memory_state result) }
+        ensures allowed { (name : Name) → (memory_state self).may_leave name ((memory_state result).view.seen name) }
+        ensures settled { (name : Name) → IsSettled name ((memory_state result).view.seen name) (memory_state result) }
+    {
+        let Memory {
+            alloc,
+            mut files,
+            ..
+        } = self;
+        for stored in files.iter_mut() {
+            stored.lose(loss);
+        }
+        Memory {
+            alloc,
+            files,
+            lent: None,
+            left,
+            torn: false,
+        }
+    }
+
+    /// What a read of the file of this name gives.
+    pub fn bytes_of(&self, name: &str) -> Option<&[u8]>
+        ensures { option_map (λ bytes. bytes.now) result ≡ (memory_state self.now).view.seen name.now }
+    {
+        match self.place(name.as_bytes()) {
+            Some(at) => self.files[at].bytes(),
+            None => None,
+        }
+    }
+
+    // The place of the file of this name.
+    fn place(&self, name: &[u8]) -> Option<usize>
+        ensures { result ≡ position (is_named name.now) self.now.files.items }
+    {
+        self.files.iter().position(|file| file.is_named(name))
+    }
+
+    // The place of the file of this name, which is there, and in nobody's hands.
+    fn find(&self, name: &str) -> io::Result<usize>
+        ensures { IfOk result (λ at. position (is_named name.now) self.now.files.items ≡ Some at) }
+    {
+        match self.place(name.as_bytes()) {
+            Some(at) if self.files[at].is_at_hand() => Ok(at),
+            _ => Err(ErrorKind::NotFound.into()),
+        }
+    }
+
+    // The place of the file of this name, which is kept for it from now on.
+    fn keep_place(&mut self, name: &str) -> Result<usize, AllocError>
+        ensures at { IfOk result (λ at. position (is_named name.now) self.new.files.items ≡ Some at) }
+        ensures same { (any : Name) → file_of self.new.files.items any ≡ file_of self.old.files.items any }
+        ensures lent { self.new.lent ≡ self.old.lent }
+        ensures left { self.new.left ≡ self.old.left }
+    {
+        if let Some(at) = self.place(name.as_bytes()) {
+            return Ok(at);
+        }
+        let at = self.files.len();
+        let stored = Stored::new(self.alloc, copy(self.alloc, name.as_bytes())?);
+        self.files.push(stored)?;
+        Ok(at)
+    }
+
+    // Makes or empties the file of this name, for a vault or a log.
+    fn lend(&mut self, name: &str, is_new: bool) -> io::Result<()>
+        ensures counts { Counts result (memory_state self.old) (memory_state self.new) }
+        ensures others { OthersStay name.now (memory_state self.old) (memory_state self.new) }
+        ensures out { OnOk result ((file_of self.new.files.items name.now).out ≡ true) }
+        ensures there { OnOk result (is_there self.new.files.items name.now ≡ true) }
+        ensures lent { self.new.lent ≡ self.old.lent }
+        ensures stays { OnErr result (Stays name.now (memory_state self.old) (memory_state self.new)) }
+    {
+        spend(&mut self.left)?;
+        let at = self.keep_place(name)?;
+        self.files[at].lend(self.alloc, is_new)
+    }
+}
+
+// Counts a call.
+fn spend(left: &mut u64) -> io::Result<()>
+    ensures ok { OnOk result (left.old ≡ left.new + 1) }
+    ensures err { OnErr result (left.new ≡ left.old) }
+{
+    if *left == 0 {
+        return Err(ErrorKind::Other.into());
+    }
+    *left -= 1;
+    Ok(())
+}
+
+impl Alloc for Memory {
+    type A = Global;
+
+    fn alloc(&self) -> Global {
+        self.alloc
+    }
+}
+
+impl Store for Memory {
+    ghost use Rattle.nor_files.specs.Memory.{memory_state};
+    ghost use Rattle.nor_files.specs.Stored as file;
+
+    ghost state = { memory_state };
+
+    ghost seen_may_stay = { λ memory name. file.seen_may_stay (file_of memory.files.items name) };
+
+    type Filed = MemVault;
+
+    type Log = Sink;
+
+    fn is_one_file(&self, one: &str, other: &str) -> bool {
+        one == other
+    }
+
+    fn is_waiting(&self, _name: &str) -> bool {
+        false
+    }
+
+    fn read_named(&self, name: &str, most: u64) -> io::Result<Option<Vec<u8>>> {
+        match self.bytes_of(name) {
+            Some(bytes) => {
+                let most = bytes.len().min(most as usize);
+                Ok(Some(copy(self.alloc, &bytes[..most])?))
+            }
+            None => Ok(None),
+        }
+    }
+
+    fn hold(&mut self, name: &str) -> Result<bool, HoldFault> {
+        match spend(&mut self.left) {
+            Ok(()) => Ok(self.bytes_of(name).is_some()),
+            Err(error) => Err(HoldFault::Unread(error)),
+        }
+    }
+
+    fn sync(&mut self, name: &str) -> io::Result<()> {
+        spend(&mut self.left)?;
+        let at = self.find(name)?;
+        self.files[at].sync();
+        Ok(())
+    }
+
+    fn sync_folder(&mut self, name: &str) -> io::Result<()> {
+        spend(&mut self.left)?;
+        match self.place(name.as_bytes()) {
+            Some(at) => {
+                self.files[at].place();
+                Ok(())
+            }
+            None => Ok(()),
+        }
+    }
+
+    fn write_over(&mut self, name: &str, bytes: &[u8]) -> io::Result<()> {
+        spend(&mut self.left)?;
+        let at = self.find(name)?;
+        let most = if self.torn && self.left == 0 {
+            bytes.len() / 2
+        } else {
+            bytes.len()
+        };
+        self.files[at].write(self.alloc, bytes, most)
+    }
+
+    fn set_len(&mut self, name: &str, len: u64) -> io::Result<()> {
+        spend(&mut self.left)?;
+        let at = self.find(name)?;
+        self.files[at].set_len(self.alloc, len)
+    }
+
+    fn make(&mut self, name: &str) -> io::Result<()> {
+        spend(&mut self.left)?;
+        let at = self.keep_place(name)?;
+        self.files[at].make(self.alloc)
+    }
+
+    fn vault_in_new(&mut self, name: &str) -> io::Result<MemVault> {
+        let lent = copy(self.alloc, name.as_bytes())?;
+        self.lend(name, true)?;
+        self.lent = Some(lent);
+        Ok(MemVault::new(self.alloc))
+    }
+
+    fn vault_in(&mut self, name: &str) -> io::Result<MemVault> {
+        let lent = copy(self.alloc, name.as_bytes())?;
+        self.lend(name, false)?;
+        self.lent = Some(lent);
+        Ok(MemVault::new(self.alloc))
+    }
+
+    fn hand_back(&mut self, vault: MemVault) -> bool {
+        let sealed = vault.is_sealed();
+        let Some(name) = mem::replace(&mut self.lent, None) else {
+            return sealed;
+        };
+        match self.place(&name) {
+            Some(at) => {
+                self.files[at].take_back(vault);
+                sealed
+            }
+            None => sealed,
+        }
+    }
+
+    fn log_in(&mut self, name: &str) -> io::Result<Sink> {
+        self.lend(name, false)?;
+        Ok(io::sink())
+    }
+}

@@ -1,0 +1,94 @@
+//! Small changes of files in memory, cut off after each call.
+use crate::{Loss, Memory, Store};
+use nor_journal::Vault;
+use std::alloc::{AllocError, Global};
+use std::io;
+
+// Four bytes are saved in a journal, and changed once it is sealed.
+fn change<S: Store>(files: &mut S) -> io::Result<()> {
+    let mut journal = files.vault_in_new("journal")?;
+    let _ = journal.put(b"abcd");
+    let _ = journal.seal();
+    if files.hand_back(journal) {
+        files.write_over("image", b"wxyz")?;
+        files.sync("image")?;
+    }
+    Ok(())
+}
+
+// What a change leaves that so many calls of succeed.
+fn left_of(alloc: Global, left: u64, is_torn: bool, loss: Loss) -> Result<Memory, AllocError> {
+    let mut files = Memory::new(alloc, left);
+    files.put("image", b"abcd")?;
+    if is_torn {
+        files.tear();
+    }
+    let _ = change(&mut files);
+    Ok(files.lose(loss, 9))
+}
+
+fn has(files: &Memory, name: &str, bytes: &[u8]) -> bool {
+    files.bytes_of(name) == Some(bytes)
+}
+
+#[test]
+fn changes_are_lost_until_they_are_synced(rt: HostRuntime) -> Result<(), AllocError> {
+    for left in 0..5 {
+        let killed = left_of(rt.alloc(), left, false, Loss::Nothing)?;
+        let lost = left_of(rt.alloc(), left, false, Loss::Unsynced)?;
+        let torn = left_of(rt.alloc(), left, true, Loss::Nothing)?;
+        let image: &[u8] = if left < 2 { b"abcd" } else { b"wxyz" };
+        assert!(rt; has(&killed, "image", image), "killed at {left}");
+        let image: &[u8] = if left < 3 { b"abcd" } else { b"wxyz" };
+        assert!(rt; has(&lost, "image", image), "lost at {left}");
+        let image: &[u8] = match left {
+            0 | 1 => b"abcd",
+            2 => b"wxcd",
+            _ => b"wxyz",
+        };
+        assert!(rt; has(&torn, "image", image), "torn at {left}");
+        for files in [&killed, &lost, &torn] {
+            assert_eq!(rt;
+                has(files, "journal", b"abcd"),
+                left > 0,
+                "journal at {left}"
+            );
+        }
+    }
+    Ok(())
+}
+
+// A file is made, and given two bytes and a length.
+fn fill<S: Store>(files: &mut S) -> io::Result<()> {
+    files.make("status")?;
+    files.sync_folder("status")?;
+    files.set_len("status", 3)?;
+    files.write_over("status", b"12")?;
+    files.sync("status")?;
+    files.log_in("trace")?;
+    Ok(())
+}
+
+#[test]
+fn a_name_is_lost_until_its_folder_is_synced(rt: HostRuntime) -> Result<(), io::Error> {
+    let steps: [(Option<&[u8]>, Option<&[u8]>); 7] = [
+        (None, None),
+        (Some(b""), None),
+        (Some(b""), Some(b"")),
+        (Some(b"\0\0\0"), Some(b"")),
+        (Some(b"12\0"), Some(b"")),
+        (Some(b"12\0"), Some(b"12\0")),
+        (Some(b"12\0"), Some(b"12\0")),
+    ];
+    for (left, (seen, kept)) in steps.into_iter().enumerate() {
+        for (loss, found) in [(Loss::Nothing, seen), (Loss::Unsynced, kept)] {
+            let mut files = Memory::new(rt.alloc(), left as u64);
+            assert_eq!(rt; fill(&mut files).is_ok(), left == 6);
+            let mut files = files.lose(loss, 1);
+            assert_eq!(rt; files.bytes_of("status"), found, "{loss:?} at {left}");
+            assert_eq!(rt; files.hold("status").ok(), Some(found.is_some()));
+            assert!(rt; files.hold("status").is_err());
+        }
+    }
+    Ok(())
+}
