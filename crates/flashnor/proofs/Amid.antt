@@ -1,95 +1,45 @@
 -- What may be opened from the chip's files at any moment of their being written over.
-use Rattle.std.proofs.Common.{◌≡◌, ◌≤◌, ◌<◌, ◌+◌, ◌-◌, ◌*◌, ◌/◌, ◌%◌, ◌==◌, ◌∙◌, ◌++◌, ◌∷◌, ℕ, Bool, true, false}
-use Rattle.std.proofs.Common.{List, [], Option, Some, None, ap, arith, drop, get_or, inl, inr, length, refl, replicate, sym, take}
-use Rattle.std.proofs.Common.{true≢false}
-use Rattle.std.specs.Prelude.{IfSome, if◌then◌else◌, slice_index, unwrap_or}
+use Rattle.std.proofs.Common.{◌≡◌, ◌<◌, ◌+◌, ◌*◌, ◌/◌, ◌%◌, ◌==◌, ◌∙◌, ◌∷◌, [], ℕ, Bool, true, false, List, Option, None, Some}
+use Rattle.std.proofs.Common.{ap, arith, get_or, inl, inr, length, refl, replicate, subst, sym, true≢false}
+use Rattle.std.specs.Prelude.{IfSome, ◌⊎◌, if◌then◌else◌, slice_index, unwrap_or}
+use Rattle.std.specs.Borrow.{Bor}
 use Rattle.std.proofs.lemmas.Bool.{cases_lt}
-use Rattle.std.proofs.lemmas.List.{append-nil, get_or-append_right, get_or-drop, get_or-take, get_or_append_left, get_or_past}
-use Rattle.std.proofs.lemmas.List.{length-append, length-drop, length-replicate, length-take-le, take_all}
-use Rattle.std.proofs.Math.Seq.{drop-nil}
+use Rattle.std.proofs.lemmas.List.{get_or_past}
 use Rattle.nor_chip.specs.Bus.{BusState}
 use Rattle.nor_chip.specs.Chip.{Chip, IsSame}
 use Rattle.nor_chip.specs.Start.{AreChipBytes, status_of}
 use Rattle.nor_driver.specs.Looks.{IsCalm}
+use Rattle.nor_files.specs.Files.{FilesState, Found}
 use Rattle.nor_journal.specs.Text.{Content as Journal}
 use Rattle.nor_session.specs.Restore.{CanGiveBack}
 use Rattle.nor_session.specs.WrittenOver.{IsWrittenOver}
 use Rattle.nor_session.proofs.WrittenBack.{restore_over, same_over}
+use Rattle.nor_words.specs.Text.{Text}
 use Rattle.nor_words.specs.declared.programmer.Programmer.{Programmer}
-use Rattle.flashnor.specs.Chips.{OpensChip}
-use Rattle.flashnor.specs.WrittenOver.{AreOver, IsCutOff, IsEither, IsOver, OpensAmid}
+use Rattle.flashnor.specs.Chips.{HasContent}
+use Rattle.flashnor.specs.Holding.{IsAmid, LeavesAmid}
+use Rattle.flashnor.specs.Left.{IsOpenedFrom, MayLeave}
 use Rattle.flashnor.specs.declared.chips.Content.{Content}
 
--- ---- a beginning of new bytes over old ones
+-- ---- one file
 
-module _ (bytes had : List ℕ) (so_far : ℕ) (some : so_far ≤ length bytes) where
-  first_length : length (take so_far bytes) ≡ so_far
-  first_length = length-take-le so_far bytes some
+module _ (had bytes missing : List ℕ) where
+  -- what is opened from a file is, byte by byte, what it had or what is written
+  one_of : (there : Bool) (left : Found) → (there ≡ false → had ≡ missing) → IsAmid there had bytes left
+      → IfSome left (λ has. length has ≡ length bytes) → (i : ℕ)
+      → (slice_index (unwrap_or left missing) i ≡ slice_index had i) ⊎ (slice_index (unwrap_or left missing) i ≡ slice_index bytes i)
+  one_of true left stood amid whole i = rw amid.1 (amid.2.each i)
+  one_of false left stood (inl gone) whole i = inl (rw (gone, stood refl) refl)
+  one_of false left stood (inr made) whole i =
+      let same : made.0 ≡ bytes = made.2 (rw made.1 at whole) in
+      inr (rw made.1 (ap (λ (l : List ℕ). slice_index l i) same))
 
-  -- below the place that was reached each byte is the new one
-  front : (i : ℕ) → i < so_far → slice_index (take so_far bytes ++ drop so_far had) i ≡ slice_index bytes i
-  front i below =
-      get_or_append_left (take so_far bytes) (drop so_far had) 0 i (omega (arith, first_length, below)) ∙ get_or-take so_far bytes i 0 below
-
-  -- and above it the old one
-  rest : (i : ℕ) → so_far ≤ i → slice_index (take so_far bytes ++ drop so_far had) i ≡ slice_index had i
-  rest i above =
-      let at : so_far + (i - so_far) ≡ i = omega (arith, above) in
-      get_or-append_right (take so_far bytes) (drop so_far had) so_far i 0 first_length above
-      ∙ get_or-drop so_far had (i - so_far) 0
-      ∙ ap (λ (k : ℕ). get_or had k 0) at
-
-  over_length : length (take so_far bytes ++ drop so_far had) ≡ so_far + (length had - so_far)
-  over_length = length-append (take so_far bytes) (drop so_far had) ∙ (rw (first_length, length-drop so_far had) refl)
-
-sized_or : (found : Option (List ℕ)) (missing : List ℕ) (len : ℕ) → IfSome found (λ had. length had ≡ len) → length missing ≡ len
-    → length (unwrap_or found missing) ≡ len
-sized_or None missing len sized most = most
-sized_or (Some had) missing len sized most = sized
-
--- a file that was made for these bytes has them all, once it has as many
-made_whole : (bytes has : List ℕ) (len : ℕ) → length bytes ≡ len → IsOver bytes [] has → length has ≡ len → has ≡ bytes
-made_whole bytes has len whole over same =
-    let sized : length has ≡ over.so_far + (0 - over.so_far) = ap length over.is ∙ over_length bytes [] over.so_far over.some in
-    let all : length bytes ≤ over.so_far = omega (arith, sized, same, whole) in
-    over.is ∙ (rw (take_all over.so_far bytes all, drop-nil over.so_far) (append-nil bytes))
-
-old_or_new : (found : Option (List ℕ)) (missing bytes has : List ℕ) (len : ℕ) → IfSome found (λ had. length had ≡ len)
-    → length bytes ≡ len → IsOver bytes (unwrap_or found []) has → length has ≡ len
-    → (i : ℕ) → IsEither (slice_index has i) (slice_index (unwrap_or found missing) i) (slice_index bytes i)
-old_or_new None missing bytes has len fits whole over same i =
-    inr (ap (λ (l : List ℕ). slice_index l i) (made_whole bytes has len whole over same))
-old_or_new (Some had) missing bytes has len fits whole over same i = elim (cases_lt i over.so_far) [
-  | inl below ↦ inr (ap (λ (l : List ℕ). slice_index l i) over.is ∙ front bytes had over.so_far over.some i below)
-  | inr above ↦ inl (ap (λ (l : List ℕ). slice_index l i) over.is ∙ rest bytes had over.so_far over.some i above)
-]
-
--- of a file that is cut off
-each : (len : ℕ) (missing bytes had has : List ℕ) → length bytes ≡ len → IsCutOff len missing bytes had has
-    → (i : ℕ) → IsEither (slice_index has i) (slice_index had i) (slice_index bytes i)
-each len missing bytes had has whole cut i =
-    rw cut.stood (old_or_new cut.found missing bytes has len cut.sized whole cut.over cut.whole i)
-
--- what stood for the file has its length
-stood_length : (len : ℕ) (missing bytes had has : List ℕ) → length missing ≡ len → IsCutOff len missing bytes had has → length had ≡ len
-stood_length len missing bytes had has most cut = rw cut.stood (sized_or cut.found missing len cut.sized most)
-
-pub cut_off : (new : Chip) (bytes : List ℕ) (had has : Content) → AreChipBytes new bytes
-    → IsCutOff new.config.size (replicate new.config.size 255) bytes had.bytes.items has.bytes.items
-    → IsCutOff 2 (0 ∷ 0 ∷ []) (status_of new) had.status has.status → AreOver new had has
-cut_off new bytes had has are image status = record {
-  bytes = λ a. elim (cases_lt a new.config.size) [
-    | inl below ↦ elim (each _ _ _ _ _ are.len image a) [
-      | inl is ↦ inl is
-      | inr is ↦ inr (is ∙ are.at a below)
-    ]
-    | inr past ↦ inl (get_or_past has.bytes.items a 0 (omega (arith, image.whole, past))
-        ∙ sym (get_or_past had.bytes.items a 0
-        (omega (arith, stood_length _ _ _ _ _ (length-replicate new.config.size 255) image, past))))
-  ];
-  one = each 2 _ _ _ _ refl status 0;
-  two = each 2 _ _ _ _ refl status 1;
-}
+  pub left_either : (named : Option (Bor Text)) (there : Bool) (files : FilesState) (left : Found)
+      → (there ≡ false → had ≡ missing) → (named ≡ None → had ≡ missing) → LeavesAmid named there had bytes files
+      → MayLeave named left files → IfSome left (λ has. length has ≡ length bytes) → (i : ℕ)
+      → (slice_index (unwrap_or left missing) i ≡ slice_index had i) ⊎ (slice_index (unwrap_or left missing) i ≡ slice_index bytes i)
+  left_either None there files left stood unnamed amid can whole i = inl (rw (can, unnamed refl) refl)
+  left_either (Some name) there files left stood unnamed amid can whole i = one_of there left stood (amid left can) whole i
 
 -- ---- the chip that is opened
 
@@ -100,24 +50,51 @@ quarter kept true false = omega arith
 quarter kept false true = omega arith
 quarter kept false false = omega arith
 
-pub opened_over : (programmer : Programmer) (content : Content) (old new : BusState) → OpensChip programmer content old → new.chip.kept2 < 128
-    → (opened : BusState) → OpensAmid content old.chip new.chip opened → IsWrittenOver old.chip new.chip opened.chip
-opened_over programmer content old new opens small opened amid = record {
-  config = amid.config;
-  bytes = λ a. elim (amid.over.bytes a) [
-    | inl is ↦ inl (amid.holds.bytes a ∙ is ∙ sym (opens.holds.bytes a))
-    | inr is ↦ inr (amid.holds.bytes a ∙ is)
-  ];
-  kept1 = elim amid.over.one [
-    | inl is ↦ inl (amid.holds.kept1 ∙ ap (λ (b : ℕ). b / 4) is ∙ sym opens.holds.kept1)
-    | inr is ↦ inr (amid.holds.kept1 ∙ ap (λ (b : ℕ). b / 4) is ∙ quarter new.chip.kept1 new.chip.latch (new.chip.busy == 0))
-  ];
-  kept2 = elim amid.over.two [
-    | inl is ↦ inl (amid.holds.kept2 ∙ ap (λ (b : ℕ). b % 128) is ∙ sym opens.holds.kept2)
-    | inr is ↦ inr (amid.holds.kept2 ∙ ap (λ (b : ℕ). b % 128) is ∙ omega (arith, small))
-  ];
-  idle = amid.idle;
-}
+module _ (programmer : Programmer) (content : Content) (image_there status_there : Bool) (old new : BusState) (put : List ℕ)
+    (files : FilesState) (holds : HasContent content old.chip) (many : length content.bytes.items ≡ old.chip.config.size)
+    (setup : new.chip.config ≡ old.chip.config) (small : new.chip.kept2 < 128)
+    (image_stood : image_there ≡ false → content.bytes.items ≡ replicate old.chip.config.size 255)
+    (status_stood : status_there ≡ false → content.status ≡ 0 ∷ 0 ∷ [])
+    (no_image : programmer.image ≡ None → content.bytes.items ≡ replicate old.chip.config.size 255)
+    (no_status : programmer.status ≡ None → content.status ≡ 0 ∷ 0 ∷ [])
+    (are : AreChipBytes new.chip put)
+    (image_amid : LeavesAmid programmer.image image_there content.bytes.items put files)
+    (status_amid : LeavesAmid programmer.status status_there content.status (status_of new.chip) files) where
+  put_len : length put ≡ old.chip.config.size
+  put_len = are.len ∙ ap (λ c. c.size) setup
+
+  sized : (left : Found) → IfSome left (λ has. length has ≡ old.chip.config.size) → IfSome left (λ has. length has ≡ length put)
+  sized None whole = tt
+  sized (Some has) whole = whole ∙ sym put_len
+
+  pub opened_over : (image status : Found) (opened : BusState) → MayLeave programmer.image image files
+      → MayLeave programmer.status status files → IsOpenedFrom image status old.chip.config opened.chip
+      → IsWrittenOver old.chip new.chip opened.chip
+  opened_over image status opened can can_status from =
+      let byte = left_either content.bytes.items put (replicate old.chip.config.size 255) programmer.image image_there files image
+      image_stood no_image image_amid can (sized image from.whole) in
+      let bit = left_either content.status (status_of new.chip) (0 ∷ 0 ∷ []) programmer.status status_there files status
+      status_stood no_status status_amid can_status from.two in
+      record {
+        config = from.config;
+        bytes = λ a. elim (byte a) [
+          | inl is ↦ inl (from.bytes a ∙ is ∙ sym (holds.bytes a))
+          | inr is ↦ elim (cases_lt a old.chip.config.size) [
+            | inl below ↦ inr (from.bytes a ∙ is ∙ are.at a (omega (arith, below, ap (λ c. c.size) setup)))
+            | inr past ↦ inl (from.bytes a ∙ is ∙ get_or_past put a 0 (omega (arith, put_len, past))
+                ∙ sym (get_or_past content.bytes.items a 0 (omega (arith, many, past))) ∙ sym (holds.bytes a))
+          ]
+        ];
+        kept1 = elim (bit 0) [
+          | inl is ↦ inl (from.kept1 ∙ ap (λ (b : ℕ). b / 4) is ∙ sym holds.kept1)
+          | inr is ↦ inr (from.kept1 ∙ ap (λ (b : ℕ). b / 4) is ∙ quarter new.chip.kept1 new.chip.latch (new.chip.busy == 0))
+        ];
+        kept2 = elim (bit 1) [
+          | inl is ↦ inl (from.kept2 ∙ ap (λ (b : ℕ). b % 128) is ∙ sym holds.kept2)
+          | inr is ↦ inr (from.kept2 ∙ ap (λ (b : ℕ). b % 128) is ∙ omega (arith, small))
+        ];
+        idle = from.idle;
+      }
 
 -- ---- a restore
 

@@ -1,7 +1,6 @@
 -- How calls and jobs end a run.
-use Rattle.std.proofs.Common.{◌≡◌, ◌<◌, ◌≤◌, ℕ, zero, suc, List, Option, None, Some, Result, Ok, Err, arith, inl, inr, refl, subst}
-use Rattle.std.specs.Prelude.{IsSomeAnd, OnSome}
-use Rattle.nor_chip.specs.Bus.{BusState}
+use Rattle.std.proofs.Common.{◌≡◌, ◌≤◌, ℕ, zero, suc, Bool, true, false, List, Option, None, Some, Result, Ok, Err, arith, inl, inr, refl, subst}
+use Rattle.std.specs.Prelude.{IsSomeAnd}
 use Rattle.nor_save.specs.declared.refusal.Refusal.{Refusal}
 use Rattle.nor_words.specs.Text.{Text}
 use Rattle.clap.specs.Words.{IsAmong}
@@ -15,19 +14,19 @@ use Rattle.nor_words.specs.declared.job.Task.{Task}
 use Rattle.nor_words.specs.declared.job.Task.TheVariants as task
 use Rattle.nor_words.specs.declared.job.Wanted.{Wanted}
 use Rattle.nor_words.specs.declared.job.Wanted.TheVariants as wanted
+use Rattle.nor_words.specs.declared.programmer.Programmer.{Programmer}
 use Rattle.nor_words.specs.declared.words.UsageFault.{UsageFault}
 use Rattle.nor_words.specs.declared.words.UsageFault.TheVariants as usage
-use Rattle.flashnor.specs.Chips.{IsContentOf, IsReady, OpensChip}
 use Rattle.flashnor.specs.Endings.{HasPrinted, PrintsAnswer, all_written}
-use Rattle.flashnor.specs.Events.{Happened}
+use Rattle.nor_files.specs.Files.{AllStay, AreAtRest, FilesState, View}
 use Rattle.flashnor.specs.Requests.{FailsToInclude}
-use Rattle.flashnor.specs.Run.{AreLeft, DoesJob, EndsJob, FailsBefore, FailsJob, FailsToKeep, FailsToRead, AnswersWords, IsCalled, IsToldAs}
-use Rattle.flashnor.specs.Run.{IsStatus, Succeeds, puts_back}
-use Rattle.flashnor.proofs.Amid.{opened_over}
+use Rattle.flashnor.specs.Run.{EndsJob, FailsBefore, FailsJob, FailsToKeep, FailsToRead, FailsToStart, AnswersWords, IsCalled, IsToldAs}
+use Rattle.flashnor.specs.Run.{IsStatus, KeepsFiles, Succeeds}
+use Rattle.flashnor.specs.Tasks.{puts_back}
+use Rattle.flashnor.proofs.Stays.{stays_same}
 use Rattle.flashnor.specs.declared.answers.Answer.{Answer}
 use Rattle.flashnor.specs.declared.answers.Answer.TheVariants as answer
-use Rattle.flashnor.specs.declared.chips.Content.{Content}
-use Rattle.flashnor.specs.declared.chips.Unwritten.{Unwritten}
+use Rattle.flashnor.specs.declared.holding.Unwritten.{Unwritten}
 use Rattle.flashnor.specs.declared.messages.Fault.{Fault}
 use Rattle.flashnor.specs.declared.messages.Fault.TheVariants as end
 use Rattle.flashnor.specs.declared.printing.Ending.{Ending}
@@ -42,22 +41,22 @@ none_and : {T : Type 0} (P : T → Type 0) (o : Option T) → ((x : T) → P x �
 none_and P None never some = some
 none_and P (Some x) never some = never x some
 
--- below: whatever happened to the files
-module _ (happened : Happened) where
-  no_include : (regions : Option Regions) (fault : UsageFault) → FailsToInclude happened regions (end.Usage fault) → ⊥
+-- below: whatever view to the files
+module _ (view : View) where
+  no_include : (regions : Option Regions) (fault : UsageFault) → FailsToInclude view regions (end.Usage fault) → ⊥
   no_include None fault fails = fails
   no_include (Some regions) fault fails = elim fails [ inl f ↦ f | inr f ↦ f ]
 
-  no_read : (what : Wanted) (fault : UsageFault) → FailsToRead happened what (end.Usage fault) → ⊥
+  no_read : (what : Wanted) (fault : UsageFault) → FailsToRead view what (end.Usage fault) → ⊥
   no_read (wanted.Write image) fault fails = fails
   no_read wanted.Erase fault fails = cc
   no_read (wanted.Range start len) fault fails = fails
 
-  no_keep : (kept : Keeping) (fault : UsageFault) → FailsToKeep happened kept (end.Usage fault) → ⊥
+  no_keep : (kept : Keeping) (fault : UsageFault) → FailsToKeep view kept (end.Usage fault) → ⊥
   no_keep (keeping.Journal file) fault fails = fails
   no_keep (keeping.Rehearse stops) fault fails = fails
 
-  no_before : (done : Task) (fault : UsageFault) → FailsBefore happened done (end.Usage fault) → ⊥
+  no_before : (done : Task) (fault : UsageFault) → FailsBefore view done (end.Usage fault) → ⊥
   no_before task.Probe fault fails = fails
   no_before task.FlashSize fault fails = fails
   no_before task.WpStatus fault fails = fails
@@ -70,56 +69,48 @@ module _ (happened : Happened) where
   ]
   no_before (task.Restore journal) fault fails = fails
 
-  no_usage : (on_chip : ChipJob) (fault : UsageFault) → FailsJob happened on_chip (end.Usage fault) → ⊥
-  no_usage on_chip fault fails = elim fails [
-    | inl opening ↦ elim opening [
-      | inl memory ↦ cc
-      | inr named ↦ elim named [
-        | inl image ↦ none_and _ on_chip.programmer.image (λ name opens. opens) image
-        | inr status ↦ none_and _ on_chip.programmer.status (λ name opens. opens) status
-      ]
+-- nor does one before its call
+module _ (view : View) where
+  no_start : (changes : Bool) (programmer : Programmer) (fault : UsageFault) → FailsToStart changes view programmer (end.Usage fault) → ⊥
+  no_start true programmer fault fails = elim fails [
+    | inl memory ↦ cc
+    | inr named ↦ elim named [
+      | inl image ↦ none_and _ programmer.image (λ name holds. holds) image
+      | inr status ↦ none_and _ programmer.status (λ name holds. holds) status
     ]
-    | inr later ↦ elim later [
-      | inl trace ↦ none_and _ on_chip.programmer.trace (λ name logs. logs) trace
-      | inr before ↦ no_before on_chip.task fault before
+  ]
+  no_start false programmer fault fails = elim fails [
+    | inl memory ↦ cc
+    | inr named ↦ elim named [
+      | inl image ↦ none_and _ programmer.image (λ name opens. opens) image
+      | inr status ↦ none_and _ programmer.status (λ name opens. opens) status
     ]
   ]
 
-  -- ---- jobs
+  no_usage : (on_chip : ChipJob) (fault : UsageFault) → FailsJob view on_chip (end.Usage fault) → ⊥
+  no_usage on_chip fault fails = elim fails [
+    | inl twice ↦ twice
+    | inr later ↦ elim later [
+      | inl starting ↦ no_start (puts_back on_chip.task) on_chip.programmer fault starting
+      | inr traced ↦ elim traced [
+        | inl trace ↦ none_and _ on_chip.programmer.trace (λ name logs. logs) trace
+        | inr before ↦ no_before before.0 on_chip.task fault before.2
+      ]
+    ]
+  ]
 
-  -- a call that was made ends its job
-  called : (on_chip : ChipJob) (content : Content) (old new : BusState) (unwritten : Unwritten) (outcome : Result Answer Refusal)
-      → IsContentOf happened on_chip.programmer content → OpensChip on_chip.programmer content old
-      → (IsReady on_chip.programmer old → DoesJob happened on_chip.programmer on_chip.named on_chip.task old new outcome)
-      → AreLeft (puts_back on_chip.task) happened on_chip.programmer new.chip unwritten
-      → new.chip.kept2 < 128 → OnSome unwritten.trace (unwritten.trace ≡ on_chip.programmer.trace)
-      → IsCalled happened on_chip unwritten outcome
-  called on_chip content old new unwritten outcome read opens does left small traced = record {
-    content = content;
-    read = read;
-    old = old;
-    new = new;
-    opened = opens;
-    does = does opens.ready;
-    left = left;
-    over = opened_over on_chip.programmer content old new opens small;
-    traced = traced;
-  }
+-- ---- jobs
 
-  pub ends_called : (on_chip : ChipJob) (content : Content) (old new : BusState) (unwritten : Unwritten) (outcome : Result Answer Refusal)
-      (told : Result Answer Fault) → IsContentOf happened on_chip.programmer content → OpensChip on_chip.programmer content old
-      → (IsReady on_chip.programmer old → DoesJob happened on_chip.programmer on_chip.named on_chip.task old new outcome)
-      → AreLeft (puts_back on_chip.task) happened on_chip.programmer new.chip unwritten
-      → new.chip.kept2 < 128 → OnSome unwritten.trace (unwritten.trace ≡ on_chip.programmer.trace) → IsToldAs outcome told
-      → EndsJob happened on_chip unwritten told
-  ends_called on_chip content old new unwritten (Ok found) told read opens does left small traced tells =
-      rw tells (called on_chip content old new unwritten (Ok found) read opens does left small traced)
-  ends_called on_chip content old new unwritten (Err refusal) told read opens does left small traced tells =
-      rw tells (inl (called on_chip content old new unwritten (Err refusal) read opens does left small traced))
+module _ (files after : FilesState) where
+  pub ends_called : (on_chip : ChipJob) (unwritten : Unwritten) (outcome : Result Answer Refusal)
+      (told : Result Answer Fault) → IsCalled files after on_chip unwritten outcome → IsToldAs outcome told
+      → EndsJob files after on_chip unwritten told
+  ends_called on_chip unwritten (Ok found) told called tells = rw tells called
+  ends_called on_chip unwritten (Err refusal) told called tells = rw tells (inl called)
 
   -- a fault from before the call does, too
-  fails_ends : (on_chip : ChipJob) (unwritten : Unwritten) (fault : Fault) → FailsJob happened on_chip fault
-      → EndsJob happened on_chip unwritten (Err fault)
+  fails_ends : (on_chip : ChipJob) (unwritten : Unwritten) (fault : Fault) → FailsJob files.view on_chip fault
+      → EndsJob files after on_chip unwritten (Err fault)
   fails_ends on_chip unwritten (end.Refused refusal) fails = inr fails
   fails_ends on_chip unwritten (end.Usage fault) fails = fails
   fails_ends on_chip unwritten end.NoText fails = fails
@@ -129,37 +120,44 @@ module _ (happened : Happened) where
   -- ---- runs
 
   pub answer_ended : (words : List Text) (on_chip : ChipJob) (unwritten : Unwritten) (told : Result Answer Fault)
-      → IsJob words (job.Chip on_chip)
-      → EndsJob happened on_chip unwritten told → AnswersWords happened words told unwritten
-  answer_ended words on_chip unwritten (Ok found) asks ends = (job.Chip on_chip, asks, ends)
-  answer_ended words on_chip unwritten (Err (end.Usage fault)) asks ends = absurd (no_usage on_chip fault ends)
-  answer_ended words on_chip unwritten (Err (end.Refused refusal)) asks ends = (job.Chip on_chip, asks, ends)
-  answer_ended words on_chip unwritten (Err end.NoText) asks ends = (job.Chip on_chip, asks, ends)
-  answer_ended words on_chip unwritten (Err (end.Layout fault)) asks ends = (job.Chip on_chip, asks, ends)
-  answer_ended words on_chip unwritten (Err (end.File fault name)) asks ends = (job.Chip on_chip, asks, ends)
+      → IsJob words (job.Chip on_chip) → (AreAtRest files → KeepsFiles on_chip.programmer on_chip.task files after)
+      → EndsJob files after on_chip unwritten told → AnswersWords files after words told unwritten
+  answer_ended words on_chip unwritten (Ok found) asks keeps ends = (job.Chip on_chip, asks, (ends, keeps))
+  answer_ended words on_chip unwritten (Err (end.Usage fault)) asks keeps ends = absurd (no_usage files.view on_chip fault ends)
+  answer_ended words on_chip unwritten (Err (end.Refused refusal)) asks keeps ends = (job.Chip on_chip, asks, (ends, keeps))
+  answer_ended words on_chip unwritten (Err end.NoText) asks keeps ends = (job.Chip on_chip, asks, (ends, keeps))
+  answer_ended words on_chip unwritten (Err (end.Layout fault)) asks keeps ends = (job.Chip on_chip, asks, (ends, keeps))
+  answer_ended words on_chip unwritten (Err (end.File fault name)) asks keeps ends = (job.Chip on_chip, asks, (ends, keeps))
 
   pub answer_failed : (words : List Text) (on_chip : ChipJob) (unwritten : Unwritten) (fault : Fault) (told : Result Answer Fault)
-      → told ≡ Err fault → IsJob words (job.Chip on_chip) → FailsJob happened on_chip fault → AnswersWords happened words told unwritten
-  answer_failed words on_chip unwritten fault told is asks fails =
-      rw is (answer_ended words on_chip unwritten (Err fault) asks (fails_ends on_chip unwritten fault fails))
+      → told ≡ Err fault → IsJob words (job.Chip on_chip)
+      → (AreAtRest files → KeepsFiles on_chip.programmer on_chip.task files after) → FailsJob files.view on_chip fault
+      → AnswersWords files after words told unwritten
+  answer_failed words on_chip unwritten fault told is asks keeps fails =
+      rw is (answer_ended words on_chip unwritten (Err fault) asks keeps (fails_ends on_chip unwritten fault fails))
+
+module _ (files : FilesState) where
+  stay : AllStay files files
+  stay name = stays_same name files
 
   pub answer_listed : (words : List Text) (unwritten : Unwritten) (told : Result Answer Fault)
-      → told ≡ Ok answer.Chips → IsJob words job.List
-      → AnswersWords happened words told unwritten
-  answer_listed words unwritten told is asks = rw is (job.List, asks, tt)
+      → told ≡ Ok answer.Chips → unwritten ≡ all_written → IsJob words job.List
+      → AnswersWords files files words told unwritten
+  answer_listed words unwritten told is none asks = rw is (job.List, asks, (none, stay))
 
   pub answer_usage : (words : List Text) (unwritten : Unwritten) (fault : UsageFault) (told : Result Answer Fault)
-      → told ≡ Err (end.Usage fault)
-      → IsFault words fault → AnswersWords happened words told unwritten
-  answer_usage words unwritten fault told is faulty = rw is faulty
+      → told ≡ Err (end.Usage fault) → unwritten ≡ all_written
+      → IsFault words fault → AnswersWords files files words told unwritten
+  answer_usage words unwritten fault told is none faulty = rw is (faulty, none, stay)
 
+module _ (files after : FilesState) where
   -- ---- runs without a fault
 
   succeeds_by : (words : List Text) (outcome : Result Answer Fault) (out out' : Option (List ℕ))
-      → AnswersWords happened words outcome all_written → PrintsAnswer outcome out out' → Succeeds happened words out out'
+      → AnswersWords files after words outcome all_written → PrintsAnswer outcome out out' → Succeeds files after words out out'
   succeeds_by words (Ok found) out out' answers prints = inr (found, answers, prints)
   succeeds_by words (Err (end.Usage (usage.Words error))) out out' answers prints =
-      inl (subst (λ k. IsAmong k (refusals_of words)) prints answers)
+      inl (subst (λ k. IsAmong k (refusals_of words)) prints answers.0)
   succeeds_by words (Err (end.Usage usage.NoProgrammer)) out out' answers prints = absurd prints
   succeeds_by words (Err (end.Usage usage.Programmer)) out out' answers prints = absurd prints
   succeeds_by words (Err (end.Usage usage.TwoOperations)) out out' answers prints = absurd prints
@@ -175,22 +173,22 @@ module _ (happened : Happened) where
   succeeds_by words (Err (end.Refused refusal)) out out' answers prints = absurd prints
 
   pub succeeds : (words : List Text) (outcome : Result Answer Fault) (unwritten : Unwritten) (out out' err err' : Option (List ℕ))
-      (ending : Ending) → AnswersWords happened words outcome unwritten → HasPrinted outcome unwritten out out' err err' ending
-      → ending.status ≡ 0 → Succeeds happened words out out'
+      (ending : Ending) → AnswersWords files after words outcome unwritten → HasPrinted outcome unwritten out out' err err' ending
+      → ending.status ≡ 0 → Succeeds files after words out out'
   succeeds words outcome unwritten out out' err err' ending answers prints none =
       let well = prints.exact.0 none in
-      succeeds_by words outcome out out' (subst (AnswersWords happened words outcome) well.1 answers) (prints.printed well.0)
+      succeeds_by words outcome out out' (subst (AnswersWords files after words outcome) well.1 answers) (prints.printed well.0)
 
   -- where the words ask for nothing there is no such run
-  fails : (words : List Text) (out out' : Option (List ℕ)) → IsRefused words → Succeeds happened words out out' → ⊥
+  fails : (words : List Text) (out out' : Option (List ℕ)) → IsRefused words → Succeeds files after words out out' → ⊥
   fails words out out' refused well = elim well [
     | inl help ↦ refused.no_help help
     | inr done ↦ refused.no_job done.1.0 done.1.1
   ]
 
   pub is_status : (words : List Text) (outcome : Result Answer Fault) (unwritten : Unwritten) (out out' err err' : Option (List ℕ))
-      (ending : Ending) → AnswersWords happened words outcome unwritten → HasPrinted outcome unwritten out out' err err' ending
-      → IsStatus happened words out out' err err' ending
+      (ending : Ending) → AnswersWords files after words outcome unwritten → HasPrinted outcome unwritten out out' err err' ending
+      → IsStatus files after words out out' err err' ending
   is_status words outcome unwritten out out' err err' ending answers prints =
       let well = succeeds words outcome unwritten out out' err err' ending answers prints in
       record {

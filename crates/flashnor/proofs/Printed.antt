@@ -14,7 +14,7 @@ use Rattle.flashnor.specs.Endings.{EndsBadly, EndsWell, HasPrinted, IsAnswered, 
 use Rattle.flashnor.specs.FaultLines.{lines_of_unwritten}
 use Rattle.flashnor.specs.Lines.{hex_digits}
 use Rattle.flashnor.specs.declared.answers.Answer.{Answer}
-use Rattle.flashnor.specs.declared.chips.Unwritten.{Unwritten}
+use Rattle.flashnor.specs.declared.holding.Unwritten.{Unwritten}
 use Rattle.flashnor.specs.declared.messages.Fault.{Fault}
 use Rattle.flashnor.specs.declared.messages.Fault.TheVariants as end
 use Rattle.flashnor.specs.declared.printing.Ending.{Ending}

@@ -1,9 +1,12 @@
 -- A bus to the programmer's chip is one that promises are made for.
-use Rattle.std.proofs.Common.{◌≡◌, ◌∙◌, ◌<◌, ℕ, List, Option, None, Some, Ok, Err, ap, inl, inr, refl, replicate, subst, sym, true}
+use Rattle.std.proofs.Common.{◌≡◌, ◌∙◌, ◌<◌, ℕ, List, Option, None, Some, Ok, Err, ap, arith, inl, inr, refl, replicate, subst, sym, true}
 use Rattle.std.specs.Prelude.{if◌then◌else◌, is_none}
 use Rattle.std.specs.Borrow.{Bor}
 use Rattle.nor_chip.specs.declared.config.Config.{Config}
 use Rattle.nor_chip.specs.Bus.{Allows, BusState}
+use Rattle.nor_chip.specs.Power.{KeptCut}
+use Rattle.nor_chip.specs.declared.running.Running.{Running}
+use Rattle.nor_chip.specs.declared.running.Running.TheVariants as runs
 use Rattle.nor_chip.specs.Chip.{Chip, IsSame}
 use Rattle.nor_driver.specs.Looks.{IsCalm, Looks}
 use Rattle.nor_driver.specs.Reads.{shown}
@@ -180,31 +183,65 @@ passes_none bus modelled calm = record {
 
 -- ---- a restore
 
+kept_cut : (running : Running) (chip : Chip) → KeptCut running chip chip
+kept_cut (runs.Program page) chip = (refl, refl)
+kept_cut (runs.Erase start len) chip = (refl, refl)
+kept_cut (runs.StatusWrite one two) chip = inl (refl, refl)
+kept_cut runs.Unknown chip = tt
+
+-- a bus that nothing was sent to
+pub looks_none : (most : ℕ) (bus : BusState) → Looks most bus bus
+looks_none most bus = record {
+  nature = record { honest = refl; steady = refl };
+  stirred = refl;
+  looked = λ honest. record {
+    stays = record {
+      config = refl;
+      calm = λ calm. record { config = refl; bytes = λ a. refl; kept1 = refl; kept2 = refl };
+      bytes = λ a out. refl;
+      kept = kept_cut bus.chip.running bus.chip;
+      running = λ works. refl;
+      busy = omega arith;
+      worn = λ s. refl;
+    };
+    latch = λ is. is;
+    idle_latch = λ steady idle. refl;
+    falls = record { fell = omega arith; bound = omega arith };
+  };
+}
+
 pub restores_done : (journal : Journal) (named : Option (Bor Text)) (old found new : BusState) (report : Report)
+    → Looks most_probe old found → new.chip.config ≡ found.chip.config
     → Passes named old found → IsRestored journal found new report
     → ((first : Chip) → CanGiveBack journal first found → CanGiveBack journal first new)
     → HasRestored journal named old new (Ok (answer.Done report))
-restores_done journal named old found new report passes restored keeps_journal = record {
+restores_done journal named old found new report looked setup passes restored keeps_journal = record {
   found = found;
+  looks = looked;
   same = passes.same;
+  config = setup ∙ passes.same.config;
   name = passes.name;
   told = restored;
   over = restored_over journal old new found passes.same passes.calm keeps_journal;
 }
 
 pub restores_refused : (journal : Journal) (named : Option (Bor Text)) (old found new : BusState) (refusal : Refusal)
+    → Looks most_probe old found → new.chip.config ≡ found.chip.config
     → Passes named old found → RestoreTells journal found new refusal → (IsJudgedFirst refusal → Looks 69638 found new)
     → ((first : Chip) → CanGiveBack journal first found → CanGiveBack journal first new)
     → HasRestored journal named old new (Err refusal)
-restores_refused journal named old found new refusal passes tells looks keeps_journal = record {
+restores_refused journal named old found new refusal looked setup passes tells looks keeps_journal = record {
   found = found;
+  looks = looked;
   same = passes.same;
+  config = setup ∙ passes.same.config;
   name = tt;
   told = inl (record { refuses = tells; same = λ judged. looked_same 69638 found new (looks judged) passes.modelled.honest passes.calm });
   over = restored_over journal old new found passes.same passes.calm keeps_journal;
 }
 
 pub restores_unfound : (journal : Journal) (named : Option (Bor Text)) (old new : BusState) (refusal : Refusal)
-    → IsSame old.chip new.chip → ProbeRefuses named old new refusal → HasRestored journal named old new (Err refusal)
-restores_unfound journal named old new refusal same refuses =
-    record { found = new; same = same; name = tt; told = inr refuses; over = unfound_over journal old new same }
+    → Looks most_probe old new → IsSame old.chip new.chip → ProbeRefuses named old new refusal
+    → HasRestored journal named old new (Err refusal)
+restores_unfound journal named old new refusal looked same refuses =
+    record { found = new; looks = looked; same = same; config = same.config; name = tt; told = inr refuses; over = unfound_over journal old new same }

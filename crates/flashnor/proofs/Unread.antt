@@ -1,30 +1,33 @@
 -- A file that fails while it is read ends the run by its own fault, or for want of memory.
 use Rattle.std.proofs.Common.{ℕ, inr}
 use Rattle.nor_words.specs.Text.{Text}
-use Rattle.flashnor.specs.Events.{Happened}
-use Rattle.flashnor.specs.Events.FileEvent.{Unread}
+use Rattle.nor_files.specs.Files.{View}
+use Rattle.nor_files.specs.Files.Failure.{Unread}
 use Rattle.flashnor.specs.Files.{IsOpeningFault, IsReadingFault, IsUnreadFault}
+use Rattle.flashnor.specs.Stored.{Happens}
 use Rattle.flashnor.specs.declared.messages.Fault.{Fault}
 use Rattle.flashnor.specs.declared.messages.Fault.TheVariants as end
 use Rattle.flashnor.specs.declared.messages.FileFault.TheVariants as file
 
-module _ (happened : Happened) (name : Text) (size : ℕ) (unread : happened (Unread name)) where
-  pub unread_reading : (fault : Fault) → IsUnreadFault name fault → IsReadingFault happened name size fault
+module _ (view : View) (name : Text) (size : ℕ) (unread : Happens view (Unread name)) where
+  pub unread_reading : (fault : Fault) → IsUnreadFault name fault → IsReadingFault view name size fault
   unread_reading (end.Refused refusal) is = is
   unread_reading (end.File file.Read of) is = (is, inr unread)
   unread_reading (end.File file.Write of) is = is
   unread_reading (end.File file.Length of) is = absurd is
   unread_reading (end.File file.Exists of) is = is
+  unread_reading (end.File file.Taken of) is = is
   unread_reading (end.Usage fault) is = is
   unread_reading end.NoText is = is
   unread_reading (end.Layout fault) is = is
 
-  pub unread_opening : (fault : Fault) → IsUnreadFault name fault → IsOpeningFault happened name size fault
+  pub unread_opening : (fault : Fault) → IsUnreadFault name fault → IsOpeningFault view name size fault
   unread_opening (end.Refused refusal) is = is
   unread_opening (end.File file.Read of) is = (is, unread)
   unread_opening (end.File file.Write of) is = is
   unread_opening (end.File file.Length of) is = absurd is
   unread_opening (end.File file.Exists of) is = is
+  unread_opening (end.File file.Taken of) is = is
   unread_opening (end.Usage fault) is = is
   unread_opening end.NoText is = is
   unread_opening (end.Layout fault) is = is

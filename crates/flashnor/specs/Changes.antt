@@ -4,12 +4,12 @@ use Rattle.std.specs.Prelude.{IsOk, MatchResult, OnOk, ⊤}
 use Rattle.std.specs.Borrow.{Bor}
 use Rattle.nor_chip.specs.Bus.{BusState}
 use Rattle.nor_chip.specs.Chip.{Chip, IsSame}
-use Rattle.nor_driver.specs.Looks.{IsCalm}
+use Rattle.nor_driver.specs.Looks.{IsCalm, Looks}
 use Rattle.nor_journal.specs.Saved.{JournalSaves}
 use Rattle.nor_journal.specs.Text.{Content as Journal, IsContent, text}
 use Rattle.nor_journal.specs.Vault.{IsFresh, VaultState}
 use Rattle.nor_apply.specs.Counts.{sector_count}
-use Rattle.nor_probe.specs.Found.{Tells}
+use Rattle.nor_probe.specs.Found.{Tells, most_probe}
 use Rattle.nor_probe.specs.declared.probes.ProbeFault.{ProbeFault}
 use Rattle.nor_save.specs.Refusal.{number_of, of_probe}
 use Rattle.nor_save.specs.Request.{is_touched_by}
@@ -27,8 +27,7 @@ use Rattle.nor_session.specs.declared.rehearsals.Rehearsal.{Rehearsal}
 use Rattle.nor_words.specs.Text.{Text}
 use Rattle.nor_words.specs.declared.job.Keeping.{Keeping}
 use Rattle.nor_words.specs.declared.job.Keeping.TheVariants as keeping
-use Rattle.flashnor.specs.Events.{Happened}
-use Rattle.flashnor.specs.Events.FileEvent.{Made}
+use Rattle.nor_files.specs.Files.{FilesState, IsSettled, is_lawful}
 use Rattle.flashnor.specs.Found.{wanted_name}
 use Rattle.flashnor.specs.declared.answers.Answer.{Answer}
 use Rattle.flashnor.specs.declared.answers.Answer.TheVariants as answer
@@ -98,10 +97,17 @@ pub record HasRehearsed (request : Request) (image stops : List ℕ) (old new : 
   pub told : MatchResult outcome (TellsRehearsed request image stops old.chip vault')
       (RehearsalTells request image old.chip vault vault')
 
--- the vault that a journal is kept in: one in the file that is named; for a rehearsal one in memory
-abbrev pub IsVaultOf : Happened → Keeping → VaultState → Type 0
-IsVaultOf happened (keeping.Journal file) vault = happened (Made file.now vault)
-IsVaultOf happened (keeping.Rehearse stops) vault = vault.telling ≡ true
+-- The file has just the vault's bytes; once that is sealed they stay, whatever becomes of the machine.
+pub record IsKeptFile (name : Text) (vault : VaultState) (files : FilesState) : Type 0 where
+  pub telling : vault.telling ≡ true
+  pub seen : files.view.seen name ≡ Some vault.bytes
+  pub settled : vault.sealed ≡ true → IsSettled name (Some vault.bytes) files
+
+-- where a journal is kept: in the file that is named; for a rehearsal in memory
+abbrev pub IsKeptIn : Keeping → (vault vault' : VaultState) → FilesState → Type 0
+IsKeptIn (keeping.Journal file) vault vault' files =
+    is_lawful files.view ≡ true → IsKeptFile file.now vault' files
+IsKeptIn (keeping.Rehearse stops) vault vault' files = vault.telling ≡ true
 
 -- what a change came to, whose vault starts and ends so
 abbrev pub HasDone : Request → List ℕ → Keeping → (old new : BusState) → (vault vault' : VaultState)
@@ -112,12 +118,12 @@ HasDone request image (keeping.Rehearse stops) old new vault vault' outcome =
     HasRehearsed request image stops.items old new vault vault' outcome
 
 -- A change was made, or rehearsed, with its journal where it is to be kept.
-pub record HasMadeChange (happened : Happened) (request : Request) (image : List ℕ) (kept : Keeping)
-    (old new : BusState) (outcome : Result Answer Refusal) : Type 0 where
+pub record HasMadeChange (request : Request) (image : List ℕ) (kept : Keeping) (old new : BusState)
+    (after : FilesState) (outcome : Result Answer Refusal) : Type 0 where
   pub vault : VaultState
   pub vault' : VaultState
   pub fresh : IsFresh vault
-  pub where_kept : IsVaultOf happened kept vault
+  pub kept_in : IsKeptIn kept vault vault' after
   pub done : HasDone request image kept old new vault vault' outcome
 
 -- ---- restores
@@ -155,7 +161,9 @@ pub record HasRestored (journal : Journal) (named : Option (Bor Text)) (old new 
     (outcome : Result Answer Refusal) : Type 0 where
   -- the bus after that probe, which tells that the chip has the name
   pub found : BusState
+  pub looks : Looks most_probe old found
   pub same : IsSame old.chip found.chip
+  pub config : new.chip.config ≡ old.chip.config
   pub name : OnOk outcome (HasGivenName named old.chip)
   pub told : MatchResult outcome (TellsRestored journal found new)
       (λ refusal. RestoreRefuses journal found new refusal ⊎ ProbeRefuses named old new refusal)

@@ -11,8 +11,9 @@ use Rattle.nor_words.specs.Programmer.{IsConfigOfEmulated}
 use Rattle.nor_words.specs.declared.programmer.Emulated.{Emulated}
 use Rattle.nor_words.specs.declared.programmer.Programmer.{Programmer}
 use Rattle.nor_words.specs.Text.{Text}
-use Rattle.flashnor.specs.Events.{AreOfFile, Happened, IsPutBack}
-use Rattle.flashnor.specs.Files.{IsOpeningFault}
+use Rattle.nor_files.specs.Files.{FilesState, View}
+use Rattle.flashnor.specs.Stored.{AreOfFile, ArePut}
+use Rattle.flashnor.specs.Files.{IsHoldingFault, IsOpeningFault}
 use Rattle.flashnor.specs.Found.{emulated_part}
 use Rattle.flashnor.specs.declared.chips.Content.{Content}
 use Rattle.flashnor.specs.declared.messages.Fault.{Fault}
@@ -39,10 +40,10 @@ pub record IsReady (programmer : Programmer) (bus : BusState) : Type 0 where
   pub still : bus.stirred ≡ false
 
 -- It is what the chip's files have: FFh and clear status bytes where none is named or there.
-pub record IsContentOf (happened : Happened) (programmer : Programmer) (content : Content) : Type 0 where
-  pub bytes : AreOfFile happened programmer.image (emulated_part programmer.chip).size
+pub record IsContentOf (view : View) (programmer : Programmer) (content : Content) : Type 0 where
+  pub bytes : AreOfFile view programmer.image (emulated_part programmer.chip).size
       (replicate (emulated_part programmer.chip).size 255) content.bytes.items
-  pub status : AreOfFile happened programmer.status 2 (0 ∷ 0 ∷ []) content.status
+  pub status : AreOfFile view programmer.status 2 (0 ∷ 0 ∷ []) content.status
 
 -- The chip has these bytes, and the kept bits and the latch of these status bytes.
 pub record HasContent (content : Content) (chip : Chip) : Type 0 where
@@ -68,14 +69,22 @@ pub record HoldsFiles (programmer : Programmer) (content : Content) (bus : BusSt
   pub latch : bus.chip.latch ≡ (slice_index content.status 0 / 2 % 2 == 1)
 
 -- how the opening of a chip may end a run: by one of its files, or for want of memory
-abbrev pub FailsToOpen : Happened → Programmer → Fault → Type 0
-FailsToOpen happened programmer fault = (fault ≡ end.Refused Memory)
-    ⊎ (IsSomeAnd programmer.image (λ name. IsOpeningFault happened name.now (emulated_part programmer.chip).size fault)
-    ⊎ IsSomeAnd programmer.status (λ name. IsOpeningFault happened name.now 2 fault))
+abbrev pub FailsToOpen : View → Programmer → Fault → Type 0
+FailsToOpen view programmer fault = (fault ≡ end.Refused Memory)
+    ⊎ (IsSomeAnd programmer.image (λ name. IsOpeningFault view name.now (emulated_part programmer.chip).size fault)
+    ⊎ IsSomeAnd programmer.status (λ name. IsOpeningFault view name.now 2 fault))
 
--- Its bytes and status bytes were written into the files that are named; or the names of those that couldn't be are
--- these.
-pub record ArePutBack (happened : Happened) (programmer : Programmer) (chip : Chip)
-    (image status : Option (Bor Text)) : Type 0 where
-  pub image_put : IsPutBack happened programmer.image (AreChipBytes chip) image
-  pub status_put : IsPutBack happened programmer.status (λ bytes. bytes ≡ status_of chip) status
+-- how the holding of its files may
+abbrev pub FailsToHold : View → Programmer → Fault → Type 0
+FailsToHold view programmer fault = (fault ≡ end.Refused Memory)
+    ⊎ (IsSomeAnd programmer.image (λ name. IsHoldingFault view name.now (emulated_part programmer.chip).size fault)
+    ⊎ IsSomeAnd programmer.status (λ name. IsHoldingFault view name.now 2 fault))
+
+-- Its bytes and status bytes are what the files have that are named, whatever becomes of the machine; or the names of
+-- those that couldn't be written are these.
+pub record ArePutBack (programmer : Programmer) (chip : Chip) (image status : Option (Bor Text))
+    (files : FilesState) : Type 0 where
+  pub bytes : List ℕ
+  pub are : AreChipBytes chip bytes
+  pub image_put : ArePut programmer.image bytes image files
+  pub status_put : ArePut programmer.status (status_of chip) status files

@@ -11,7 +11,7 @@ use Rattle.nor_words.specs.declared.words.UsageFault.TheVariants as usage
 use Rattle.flashnor.specs.AnswerLines.{AreLines}
 use Rattle.flashnor.specs.FaultLines.{line_of, lines_of_unwritten}
 use Rattle.flashnor.specs.declared.answers.Answer.{Answer}
-use Rattle.flashnor.specs.declared.chips.Unwritten.{Unwritten}
+use Rattle.flashnor.specs.declared.holding.Unwritten.{Unwritten}
 use Rattle.flashnor.specs.declared.messages.Fault.{Fault}
 use Rattle.flashnor.specs.declared.messages.Fault.TheVariants as end
 use Rattle.flashnor.specs.declared.printing.Ending.{Ending}

@@ -13,7 +13,7 @@ use Rattle.nor_words.specs.Faults.{usage_fault_text as usage_text}
 use Rattle.nor_words.specs.Text.{Text}
 use Rattle.flashnor.specs.Lines.{hex_digits}
 use Rattle.flashnor.specs.Messages.{file_number}
-use Rattle.flashnor.specs.declared.chips.Unwritten.{Unwritten}
+use Rattle.flashnor.specs.declared.holding.Unwritten.{Unwritten}
 use Rattle.flashnor.specs.declared.messages.Fault.{Fault}
 use Rattle.flashnor.specs.declared.messages.Fault.TheVariants as end
 use Rattle.flashnor.specs.declared.messages.Reason.{Reason}

@@ -1,9 +1,13 @@
--- How the files of a run may end it: a fault of a file comes only where that happened to the file of that name.
+-- How the files of a run may end it: a fault of a file comes only where that view to the file of that name.
 use Rattle.std.specs.Prelude.{◌≡◌, ◌≢◌, ◌<◌, ◌+◌, ◌⊎◌, ℕ, List, None, length}
 use Rattle.nor_save.specs.declared.refusal.Refusal.TheVariants.{Memory}
 use Rattle.nor_words.specs.Text.{Text}
-use Rattle.flashnor.specs.Events.{Happened, IsRead}
-use Rattle.flashnor.specs.Events.FileEvent.{Read, There, Unmade, Unread}
+use Rattle.nor_files.specs.Calls.{Reads}
+use Rattle.nor_files.specs.Files.{View}
+use Rattle.nor_files.specs.Files.Failure.{Busy, Shared, There, Unheld, Unmade, Unread, Unwritten}
+use Rattle.nor_files.specs.declared.store.HoldFault.{HoldFault}
+use Rattle.nor_files.specs.declared.store.HoldFault.TheVariants as why
+use Rattle.flashnor.specs.Stored.{Happens, IsRead}
 use Rattle.flashnor.specs.declared.messages.Fault.{Fault}
 use Rattle.flashnor.specs.declared.messages.Fault.TheVariants as end
 use Rattle.flashnor.specs.declared.messages.FileFault.TheVariants as file
@@ -14,39 +18,61 @@ IsUnreadFault name (end.Refused refusal) = refusal ≡ Memory
 IsUnreadFault name (end.File file.Read of) = of.now ≡ name
 IsUnreadFault name _ = ⊥
 
+-- the fault of a chip's file of this name that can't be held
+abbrev pub IsUnheldFault : HoldFault → Text → Fault → Type 0
+IsUnheldFault (why.Unread error) name fault = IsUnreadFault name fault
+IsUnheldFault why.Unheld name (end.File file.Write of) = of.now ≡ name
+IsUnheldFault why.Busy name (end.File file.Taken of) = of.now ≡ name
+IsUnheldFault _ name _ = ⊥
+
 -- at most so many bytes of the file of this name are read: it isn't there, or can't be read; or memory runs out
-abbrev pub IsReadingFault : Happened → Text → ℕ → Fault → Type 0
-IsReadingFault happened name most (end.Refused refusal) = refusal ≡ Memory
-IsReadingFault happened name most (end.File file.Read of) =
-    (of.now ≡ name) × (happened (Read name most None) ⊎ happened (Unread name))
-IsReadingFault happened name most _ = ⊥
+abbrev pub IsReadingFault : View → Text → ℕ → Fault → Type 0
+IsReadingFault view name most (end.Refused refusal) = refusal ≡ Memory
+IsReadingFault view name most (end.File file.Read of) =
+    (of.now ≡ name) × (Reads name most None view ⊎ Happens view (Unread name))
+IsReadingFault view name most _ = ⊥
 
 -- the text in the file of this name, which may have so many bytes, has more
-abbrev pub IsTooLong : Happened → Text → ℕ → Fault → Type 0
-IsTooLong happened name most (end.File file.Read of) =
-    (of.now ≡ name) × ((bytes : List ℕ) × IsRead happened name (most + 1) bytes × (most < length bytes))
-IsTooLong happened name most _ = ⊥
+abbrev pub IsTooLong : View → Text → ℕ → Fault → Type 0
+IsTooLong view name most (end.File file.Read of) =
+    (of.now ≡ name) × ((bytes : List ℕ) × IsRead view name (most + 1) bytes × (most < length bytes))
+IsTooLong view name most _ = ⊥
 
 -- the chip's file of this name is read, which is to have so many bytes: it has another length, or can't be read; or
 -- memory runs out. That it isn't there is no fault
-abbrev pub IsOpeningFault : Happened → Text → ℕ → Fault → Type 0
-IsOpeningFault happened name len (end.Refused refusal) = refusal ≡ Memory
-IsOpeningFault happened name len (end.File file.Read of) = (of.now ≡ name) × happened (Unread name)
-IsOpeningFault happened name len (end.File file.Length of) =
-    (of.now ≡ name) × ((bytes : List ℕ) × IsRead happened name (len + 1) bytes × (length bytes ≢ len))
-IsOpeningFault happened name len _ = ⊥
+abbrev pub IsOpeningFault : View → Text → ℕ → Fault → Type 0
+IsOpeningFault view name len (end.Refused refusal) = refusal ≡ Memory
+IsOpeningFault view name len (end.File file.Read of) = (of.now ≡ name) × Happens view (Unread name)
+IsOpeningFault view name len (end.File file.Length of) =
+    (of.now ≡ name) × ((bytes : List ℕ) × IsRead view name (len + 1) bytes × (length bytes ≢ len))
+IsOpeningFault view name len _ = ⊥
+
+-- the chip's file of this name is held, which is to have so many bytes: besides, it may be there and not for writing, be
+-- held by another run, or fail to be synced
+abbrev pub IsHoldingFault : View → Text → ℕ → Fault → Type 0
+IsHoldingFault view name len (end.File file.Read of) =
+    (of.now ≡ name) × (Reads name (len + 1) None view ⊎ Happens view (Unread name))
+IsHoldingFault view name len (end.File file.Write of) =
+    (of.now ≡ name) × (Happens view (Unheld name) ⊎ Happens view (Unwritten name))
+IsHoldingFault view name len (end.File file.Taken of) = (of.now ≡ name) × Happens view (Busy name)
+IsHoldingFault view name len fault = IsOpeningFault view name len fault
+
+-- a file that the words name has another role in the run
+abbrev pub IsTwice : View → Fault → Type 0
+IsTwice view (end.File file.Taken of) = (other : Text) × Happens view (Shared other of.now)
+IsTwice view _ = ⊥
 
 -- the file of this name can't be made or emptied
-abbrev pub IsMaking : Happened → Text → Fault → Type 0
-IsMaking happened name (end.File file.Write of) = (of.now ≡ name) × happened (Unmade name)
-IsMaking happened name _ = ⊥
+abbrev pub IsMaking : View → Text → Fault → Type 0
+IsMaking view name (end.File file.Write of) = (of.now ≡ name) × Happens view (Unmade name)
+IsMaking view name _ = ⊥
 
 -- the file of this name can't be made, or is there already
-abbrev pub IsMakingNew : Happened → Text → Fault → Type 0
-IsMakingNew happened name (end.File file.Exists of) = (of.now ≡ name) × happened (There name)
-IsMakingNew happened name fault = IsMaking happened name fault
+abbrev pub IsMakingNew : View → Text → Fault → Type 0
+IsMakingNew view name (end.File file.Exists of) = (of.now ≡ name) × Happens view (There name)
+IsMakingNew view name fault = IsMaking view name fault
 
 -- the file of this name is made, and gets a buffer
-abbrev pub IsLogging : Happened → Text → Fault → Type 0
-IsLogging happened name (end.Refused refusal) = refusal ≡ Memory
-IsLogging happened name fault = IsMaking happened name fault
+abbrev pub IsLogging : View → Text → Fault → Type 0
+IsLogging view name (end.Refused refusal) = refusal ≡ Memory
+IsLogging view name fault = IsMaking view name fault

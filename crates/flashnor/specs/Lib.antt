@@ -3,11 +3,14 @@ pub mod Lines
 pub mod AnswerLines
 pub mod FaultLines
 pub mod Endings
-pub mod Events
+pub mod Stored
 pub mod Files
 pub mod Chips
-pub mod WrittenOver
+pub mod Holding
+pub mod Left
 pub mod Found
+pub mod Tasks
+pub mod Roles
 pub mod Requests
 pub mod Readings
 pub mod Changes

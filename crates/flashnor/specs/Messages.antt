@@ -9,3 +9,4 @@ file_number file.Read = 1
 file_number file.Write = 2
 file_number file.Length = 3
 file_number file.Exists = 4
+file_number file.Taken = 5

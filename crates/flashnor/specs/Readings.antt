@@ -1,10 +1,10 @@
 -- What the jobs come to that leave a chip as it is.
-use Rattle.std.specs.Prelude.{◌≡◌, ◌<◌, ℕ, true, List, Option, Result, Ok, Err, MatchResult}
+use Rattle.std.specs.Prelude.{◌≡◌, ◌<◌, ℕ, true, List, Option, Some, Result, Ok, Err, MatchResult}
 use Rattle.std.specs.Borrow.{Bor}
 use Rattle.nor_chip.specs.Bus.{BusState}
 use Rattle.nor_chip.specs.Offered.{IsStart}
 use Rattle.nor_driver.specs.Looks.{Looks}
-use Rattle.nor_journal.specs.Vault.{VaultState}
+use Rattle.nor_journal.specs.Vault.{IsFresh, VaultState}
 use Rattle.nor_layout.specs.declared.ranges.Span.{Span}
 use Rattle.nor_probe.specs.Known.{IsModelled}
 use Rattle.nor_probe.specs.Found.{most_probe}
@@ -18,8 +18,7 @@ use Rattle.nor_save.specs.declared.report.Report.{Report}
 use Rattle.nor_words.specs.Text.{Text}
 use Rattle.nor_words.specs.declared.programmer.Programmer.{Programmer}
 use Rattle.flashnor.specs.Chips.{allowance_of}
-use Rattle.flashnor.specs.Events.{Happened}
-use Rattle.flashnor.specs.Events.FileEvent.{Emptied}
+use Rattle.nor_files.specs.Files.{View, is_lawful}
 use Rattle.flashnor.specs.Found.{HasName, IsEmulatedFound, emulated_part, wanted_name}
 use Rattle.flashnor.specs.declared.answers.Answer.{Answer}
 use Rattle.flashnor.specs.declared.answers.Answer.TheVariants as answer
@@ -83,17 +82,23 @@ pub record HasLookedUp (tells : Answer → Type 0) (programmer : Programmer) (na
   pub looks : Looks most_probe old new
   pub told : MatchResult outcome tells (FindRefuses programmer named)
 
--- The chip was read out, in these ranges, into a vault in the file of this name, or the reading refused.
-pub record HasReadOut (happened : Happened) (named : Option (Bor Text)) (file : Text) (ranges : Option (List Span))
-    (old new : BusState) (outcome : Result Answer Refusal) : Type 0 where
-  pub empty : VaultState
-  pub filled : VaultState
-  pub emptied : happened (Emptied file empty)
+-- The chip was read out into a vault, in these ranges, or the reading refused.
+pub record HasReadInto (named : Option (Bor Text)) (ranges : Option (List Span)) (old new : BusState)
+    (empty filled : VaultState) (outcome : Result Answer Refusal) : Type 0 where
   pub result : Result Report Refusal
   pub always : ReadOutAlways (wanted_name named) ranges old new empty filled result
   pub honest : old.honest ≡ true → ReadOutHonest (wanted_name named) ranges old new result
   pub modelled : IsModelled old → ReadOutModelled (wanted_name named) ranges old new empty filled result
   pub told : AnswersCall TellsRead result outcome
+
+-- The vault is in the file of this name, which has just the bytes that went in.
+pub record HasReadOut (named : Option (Bor Text)) (file : Text) (ranges : Option (List Span)) (old new : BusState)
+    (after : View) (outcome : Result Answer Refusal) : Type 0 where
+  pub empty : VaultState
+  pub filled : VaultState
+  pub fresh : IsFresh empty
+  pub read : HasReadInto named ranges old new empty filled outcome
+  pub holds : is_lawful after ≡ true → (filled.telling ≡ true) × (after.seen file ≡ Some filled.bytes)
 
 -- The chip was compared with this image, in these ranges, or the comparison refused.
 pub record HasVerified (named : Option (Bor Text)) (ranges : Option (List Span)) (image : List ℕ)

@@ -15,7 +15,8 @@ use Rattle.nor_words.specs.declared.job.Wanted.TheVariants as wanted
 use Rattle.nor_words.specs.Text.{Text}
 use Rattle.nor_words.specs.declared.programmer.Emulated.{Emulated}
 use Rattle.std.specs.Borrow.{Bor}
-use Rattle.flashnor.specs.Events.{Happened, IsRead}
+use Rattle.flashnor.specs.Stored.{IsRead}
+use Rattle.nor_files.specs.Files.{View}
 use Rattle.flashnor.specs.Files.{IsReadingFault, IsTooLong}
 use Rattle.flashnor.specs.Found.{emulated_part, wanted_name as name_wanted}
 use Rattle.flashnor.specs.declared.messages.Fault.{Fault}
@@ -44,28 +45,28 @@ pub record AreIncluded (text names : List ℕ) (ranges : List Span) : Type 0 whe
   pub union : (a : ℕ) → contains ranges a ≡ is_included regions names a
 
 -- The ranges are those of the regions in the layout's file, which has at most 16 MiB.
-pub record AreOfLayout (happened : Happened) (regions : Regions) (ranges : List Span) : Type 0 where
+pub record AreOfLayout (view : View) (regions : Regions) (ranges : List Span) : Type 0 where
   pub text : List ℕ
-  pub read : IsRead happened regions.layout.now 16777217 text
+  pub read : IsRead view regions.layout.now 16777217 text
   pub whole : length text ≤ 16777216
   pub included : AreIncluded text regions.names.now ranges
 
 -- ranges are there exactly where regions are named
-abbrev pub AreRangesOf : Happened → Option Regions → Option (List Span) → Type 0
-AreRangesOf happened None ranges = ranges ≡ None
-AreRangesOf happened (Some regions) None = ⊥
-AreRangesOf happened (Some regions) (Some ranges) = AreOfLayout happened regions ranges
+abbrev pub AreRangesOf : View → Option Regions → Option (List Span) → Type 0
+AreRangesOf view None ranges = ranges ≡ None
+AreRangesOf view (Some regions) None = ⊥
+AreRangesOf view (Some regions) (Some ranges) = AreOfLayout view regions ranges
 
 -- the buffer of a session: the image in its file, of which at most one byte more is read than the largest chip has, or
 -- as many bytes as the chip has, or nothing
-abbrev pub IsBufferOf : Happened → Emulated → Wanted → List ℕ → Type 0
-IsBufferOf happened chip (wanted.Write image) bytes = IsRead happened image.now 16777217 bytes
-IsBufferOf happened chip wanted.Erase bytes = bytes ≡ replicate (emulated_part chip).size 255
-IsBufferOf happened chip (wanted.Range start len) bytes = bytes ≡ []
+abbrev pub IsBufferOf : View → Emulated → Wanted → List ℕ → Type 0
+IsBufferOf view chip (wanted.Write image) bytes = IsRead view image.now 16777217 bytes
+IsBufferOf view chip wanted.Erase bytes = bytes ≡ replicate (emulated_part chip).size 255
+IsBufferOf view chip (wanted.Range start len) bytes = bytes ≡ []
 
 -- how the reading of a layout may end a run: by its text and the names, or by its file, which has at most 16 MiB
-abbrev pub FailsToInclude : Happened → Option Regions → Fault → Type 0
-FailsToInclude happened None fault = ⊥
-FailsToInclude happened (Some regions) (end.Layout fault) = ⊤
-FailsToInclude happened (Some regions) fault =
-    IsReadingFault happened regions.layout.now 16777217 fault ⊎ IsTooLong happened regions.layout.now 16777216 fault
+abbrev pub FailsToInclude : View → Option Regions → Fault → Type 0
+FailsToInclude view None fault = ⊥
+FailsToInclude view (Some regions) (end.Layout fault) = ⊤
+FailsToInclude view (Some regions) fault =
+    IsReadingFault view regions.layout.now 16777217 fault ⊎ IsTooLong view regions.layout.now 16777216 fault

@@ -1,12 +1,11 @@
 -- What a run came to.
-use Rattle.std.specs.Prelude.{◌≡◌, ◌≤◌, ◌⊎◌, ℕ, Bool, true, false, List, Option, None, Result, Ok, Err, IsSomeAnd, OnSome, ⊤}
+use Rattle.std.specs.Prelude.{◌≡◌, ◌≤◌, ◌⊎◌, ℕ, Bool, true, false, List, Option, None, Some, Result, Ok, Err, IsSomeAnd, OnSome, ⊤}
 use Rattle.std.specs.Borrow.{Bor}
 use Rattle.nor_chip.specs.Bus.{BusState}
 use Rattle.nor_chip.specs.Chip.{Chip}
 use Rattle.nor_journal.specs.Fault.{HasFault}
 use Rattle.nor_journal.specs.Text.{Content as Journal, IsContent, text}
 use Rattle.nor_layout.specs.declared.ranges.Span.{Span}
-use Rattle.nor_session.specs.WrittenOver.{IsWrittenOver}
 use Rattle.nor_save.specs.declared.refusal.Refusal.{Refusal}
 use Rattle.nor_save.specs.declared.refusal.Refusal.TheVariants.{Memory, BadJournal}
 use Rattle.nor_words.specs.Text.{Text}
@@ -28,145 +27,175 @@ use Rattle.nor_words.specs.declared.programmer.Emulated.{Emulated}
 use Rattle.nor_words.specs.declared.programmer.Programmer.{Programmer}
 use Rattle.flashnor.specs.AnswerLines.{AreLines}
 use Rattle.flashnor.specs.Changes.{HasMadeChange, HasRestored}
-use Rattle.flashnor.specs.Chips.{ArePutBack, FailsToOpen, IsContentOf, OpensChip}
+use Rattle.flashnor.specs.Chips.{ArePutBack, FailsToHold, FailsToOpen, IsContentOf, OpensChip}
 use Rattle.flashnor.specs.Endings.{HasPrinted, Prints, all_written}
-use Rattle.flashnor.specs.Events.{Happened, IsRead}
-use Rattle.flashnor.specs.Files.{IsLogging, IsMaking, IsMakingNew, IsReadingFault}
+use Rattle.flashnor.specs.Stored.{IsNot, IsRead, IsToldOf}
+use Rattle.flashnor.specs.Left.{KeepsFirst, KeepsRestorable}
+use Rattle.flashnor.specs.Tasks.{made_by, puts_back}
+use Rattle.nor_files.specs.Files.{AllStay, AreAtRest, FilesState, IsKnown, Name, Stays, View}
+use Rattle.flashnor.specs.Files.{IsLogging, IsMaking, IsMakingNew, IsReadingFault, IsTwice}
 use Rattle.flashnor.specs.Readings.{HasLookedUp, HasReadOut, HasTold, HasVerified, ListsRanges, TellsFound, TellsGuarded, TellsSize}
 use Rattle.flashnor.specs.Requests.{AreRangesOf, FailsToInclude, IsBufferOf, request_for}
-use Rattle.flashnor.specs.WrittenOver.{OpensAmid}
 use Rattle.flashnor.specs.declared.answers.Answer.{Answer}
 use Rattle.flashnor.specs.declared.answers.Answer.TheVariants as answer
 use Rattle.flashnor.specs.declared.chips.Content.{Content}
-use Rattle.flashnor.specs.declared.chips.Unwritten.{Unwritten}
+use Rattle.flashnor.specs.declared.holding.Unwritten.{Unwritten}
 use Rattle.flashnor.specs.declared.messages.Fault.{Fault}
 use Rattle.flashnor.specs.declared.messages.Fault.TheVariants as end
 use Rattle.flashnor.specs.declared.printing.Ending.{Ending}
 
 -- ---- calls
 
--- the journal of a change is kept, in a file
-abbrev pub keeps_journal : Keeping → Bool
-keeps_journal (keeping.Journal file) = true
-keeps_journal (keeping.Rehearse stops) = false
-
 -- A change was asked for, in the ranges of the regions and with the image.
-pub record ChangesChip (happened : Happened) (chip : Emulated) (named : Option (Bor Text)) (change : Change)
+pub record ChangesChip (view : View) (after : FilesState) (chip : Emulated) (named : Option (Bor Text)) (change : Change)
     (old new : BusState) (outcome : Result Answer Refusal) : Type 0 where
   pub ranges : Option (List Span)
-  pub included : AreRangesOf happened change.regions ranges
+  pub included : AreRangesOf view change.regions ranges
   pub image : List ℕ
-  pub buffer : IsBufferOf happened chip change.wanted image
-  pub changed : HasMadeChange happened (request_for change named ranges) image change.keeping old new outcome
+  pub buffer : IsBufferOf view chip change.wanted image
+  pub changed : HasMadeChange (request_for change named ranges) image change.keeping old new after outcome
 
 -- The chip was read out into the file in the ranges of the regions, if there are any.
-pub record DoesRead (happened : Happened) (named : Option (Bor Text)) (file : Text) (regions : Option Regions)
+pub record DoesRead (view after : View) (named : Option (Bor Text)) (file : Text) (regions : Option Regions)
     (old new : BusState) (outcome : Result Answer Refusal) : Type 0 where
   pub ranges : Option (List Span)
-  pub included : AreRangesOf happened regions ranges
-  pub read : HasReadOut happened named file ranges old new outcome
+  pub included : AreRangesOf view regions ranges
+  pub read : HasReadOut named file ranges old new after outcome
 
 -- It was compared in these ranges with the image in the file, of which at most one byte more is read than the largest
 -- chip has.
-pub record DoesVerify (happened : Happened) (named : Option (Bor Text)) (file : Text) (regions : Option Regions)
+pub record DoesVerify (view : View) (named : Option (Bor Text)) (file : Text) (regions : Option Regions)
     (old new : BusState) (outcome : Result Answer Refusal) : Type 0 where
   pub ranges : Option (List Span)
-  pub included : AreRangesOf happened regions ranges
+  pub included : AreRangesOf view regions ranges
   pub image : List ℕ
-  pub read : IsRead happened file 16777217 image
+  pub read : IsRead view file 16777217 image
   pub verified : HasVerified named ranges image old new outcome
 
 -- The journal in the file was restored, of which at most one byte more is read than the longest journal has.
-pub record DoesRestore (happened : Happened) (named : Option (Bor Text)) (file : Text) (old new : BusState)
+pub record DoesRestore (view : View) (named : Option (Bor Text)) (file : Text) (old new : BusState)
     (outcome : Result Answer Refusal) : Type 0 where
   pub journal : Journal
   pub sound : IsContent journal
-  pub read : IsRead happened file 16793662 (text journal)
+  pub read : IsRead view file 16793662 (text journal)
   pub restored : HasRestored journal named old new outcome
 
 -- what the call for a task came to, on a bus to the programmer's chip
-abbrev pub DoesJob : Happened → Programmer → Option (Bor Text) → Task → (old new : BusState) → Result Answer Refusal
+abbrev pub DoesJob : View → FilesState → Programmer → Option (Bor Text) → Task → (old new : BusState) → Result Answer Refusal
     → Type 0
-DoesJob happened programmer named task.Probe old new outcome =
+DoesJob view after programmer named task.Probe old new outcome =
     HasLookedUp (TellsFound programmer named) programmer named old new outcome
-DoesJob happened programmer named task.FlashSize old new outcome =
+DoesJob view after programmer named task.FlashSize old new outcome =
     HasLookedUp (TellsSize programmer named) programmer named old new outcome
-DoesJob happened programmer named task.WpStatus old new outcome =
+DoesJob view after programmer named task.WpStatus old new outcome =
     HasTold TellsGuarded named old new outcome
-DoesJob happened programmer named task.WpList old new outcome = HasTold ListsRanges named old new outcome
-DoesJob happened programmer named (task.Read file regions) old new outcome =
-    DoesRead happened named file.now regions old new outcome
-DoesJob happened programmer named (task.Verify file regions) old new outcome =
-    DoesVerify happened named file.now regions old new outcome
-DoesJob happened programmer named (task.Change change) old new outcome =
-    ChangesChip happened programmer.chip named change old new outcome
-DoesJob happened programmer named (task.Restore journal) old new outcome =
-    DoesRestore happened named journal.now old new outcome
+DoesJob view after programmer named task.WpList old new outcome = HasTold ListsRanges named old new outcome
+DoesJob view after programmer named (task.Read file regions) old new outcome =
+    DoesRead view after.view named file.now regions old new outcome
+DoesJob view after programmer named (task.Verify file regions) old new outcome =
+    DoesVerify view named file.now regions old new outcome
+DoesJob view after programmer named (task.Change change) old new outcome =
+    ChangesChip view after programmer.chip named change old new outcome
+DoesJob view after programmer named (task.Restore journal) old new outcome =
+    DoesRestore view named journal.now old new outcome
 
--- after the call the chip is written into its files: it was changed, and that was no rehearsal
-abbrev pub puts_back : Task → Bool
-puts_back (task.Change change) = keeps_journal change.keeping
-puts_back (task.Restore journal) = true
-puts_back _ = false
+-- where the task changes the chip, the names of those of its files that couldn't be written are these; else none was to
+-- be written
+abbrev pub AreTold : Bool → Programmer → Unwritten → View → Type 0
+AreTold true programmer unwritten view =
+    IsToldOf programmer.image unwritten.image view × IsToldOf programmer.status unwritten.status view
+AreTold false programmer unwritten view = (unwritten.image ≡ None) × (unwritten.status ≡ None)
 
--- where the task changes the chip, it was put back into its files, and the names of those that couldn't be written are
--- these; else none was to be written
-abbrev pub AreLeft : Bool → Happened → Programmer → Chip → Unwritten → Type 0
-AreLeft true happened programmer chip unwritten = ArePutBack happened programmer chip unwritten.image unwritten.status
-AreLeft false happened programmer chip unwritten = (unwritten.image ≡ None) × (unwritten.status ≡ None)
+-- What reads gave once the file of that name was made, if one is: all other files were as before.
+pub record IsViewBut (trace : Option (Bor Text)) (old amid : View) : Type 0 where
+  pub nature : amid.nature ≡ old.nature
+  pub stays : (name : Name) → IsNot trace name → IsKnown name old
+      → (amid.out name ≡ old.out name) × (amid.seen name ≡ old.seen name)
+
+-- the job's call was made, once the trace was: what it read of its own files it read then
+abbrev pub DoesTraced : (files after : FilesState) → ChipJob → (old new : BusState) → Result Answer Refusal → Type 0
+DoesTraced files after job old new outcome = (amid : View) × IsViewBut job.programmer.trace files.view amid
+    × DoesJob amid after job.programmer job.named job.task old new outcome
 
 -- The job's call was made: on a bus to the programmer's chip, as its files tell it, into which it was put back; and a
--- trace that lost a line is the programmer's. Whatever a later run opens from the chip's files, at any moment of their
--- being written over and wherever that ends, is between the old chip and the new one.
-pub record IsCalled (happened : Happened) (job : ChipJob) (unwritten : Unwritten)
+-- trace that lost a line is the programmer's.
+pub record IsCalled (files after : FilesState) (job : ChipJob) (unwritten : Unwritten)
     (outcome : Result Answer Refusal) : Type 0 where
   pub content : Content
-  pub read : IsContentOf happened job.programmer content
+  pub read : IsContentOf files.view job.programmer content
   pub old : BusState
   pub new : BusState
   pub opened : OpensChip job.programmer content old
-  pub does : DoesJob happened job.programmer job.named job.task old new outcome
-  pub left : AreLeft (puts_back job.task) happened job.programmer new.chip unwritten
-  pub over : (opened : BusState) → OpensAmid content old.chip new.chip opened
-      → IsWrittenOver old.chip new.chip opened.chip
+  pub does : DoesTraced files after job old new outcome
+  pub told_of : AreTold (puts_back job.task) job.programmer unwritten files.view
+  pub left : AreAtRest files → puts_back job.task ≡ true
+      → ArePutBack job.programmer new.chip unwritten.image unwritten.status after
   pub traced : OnSome unwritten.trace (unwritten.trace ≡ job.programmer.trace)
 
 -- ---- faults from before the call
 
 -- how the reading of a change's image may end a run
-abbrev pub FailsToRead : Happened → Wanted → Fault → Type 0
-FailsToRead happened (wanted.Write image) fault = IsReadingFault happened image.now 16777217 fault
-FailsToRead happened wanted.Erase fault = fault ≡ end.Refused Memory
-FailsToRead happened (wanted.Range start len) fault = ⊥
+abbrev pub FailsToRead : View → Wanted → Fault → Type 0
+FailsToRead view (wanted.Write image) fault = IsReadingFault view image.now 16777217 fault
+FailsToRead view wanted.Erase fault = fault ≡ end.Refused Memory
+FailsToRead view (wanted.Range start len) fault = ⊥
 
 -- how the making of a change's journal may end it
-abbrev pub FailsToKeep : Happened → Keeping → Fault → Type 0
-FailsToKeep happened (keeping.Journal file) fault = IsMakingNew happened file.now fault
-FailsToKeep happened (keeping.Rehearse stops) fault = ⊥
+abbrev pub FailsToKeep : View → Keeping → Fault → Type 0
+FailsToKeep view (keeping.Journal file) fault = IsMakingNew view file.now fault
+FailsToKeep view (keeping.Rehearse stops) fault = ⊥
 
 -- how the reading of a journal may end it
-abbrev pub FailsToRestore : Happened → Text → Fault → Type 0
-FailsToRestore happened name (end.Refused (BadJournal fault)) =
-    (bytes : List ℕ) × IsRead happened name 16793662 bytes × HasFault bytes fault
-FailsToRestore happened name fault = IsReadingFault happened name 16793662 fault
+abbrev pub FailsToRestore : View → Text → Fault → Type 0
+FailsToRestore view name (end.Refused (BadJournal fault)) =
+    (bytes : List ℕ) × IsRead view name 16793662 bytes × HasFault bytes fault
+FailsToRestore view name fault = IsReadingFault view name 16793662 fault
 
 -- how a task may end a run before its call is made
-abbrev pub FailsBefore : Happened → Task → Fault → Type 0
-FailsBefore happened (task.Read file regions) fault =
-    FailsToInclude happened regions fault ⊎ IsMaking happened file.now fault
-FailsBefore happened (task.Verify file regions) fault =
-    FailsToInclude happened regions fault ⊎ IsReadingFault happened file.now 16777217 fault
-FailsBefore happened (task.Change change) fault =
-    FailsToInclude happened change.regions fault
-    ⊎ (FailsToRead happened change.wanted fault ⊎ FailsToKeep happened change.keeping fault)
-FailsBefore happened (task.Restore journal) fault = FailsToRestore happened journal.now fault
-FailsBefore happened _ fault = ⊥
+abbrev pub FailsBefore : View → Task → Fault → Type 0
+FailsBefore view (task.Read file regions) fault =
+    FailsToInclude view regions fault ⊎ IsMaking view file.now fault
+FailsBefore view (task.Verify file regions) fault =
+    FailsToInclude view regions fault ⊎ IsReadingFault view file.now 16777217 fault
+FailsBefore view (task.Change change) fault =
+    FailsToInclude view change.regions fault
+    ⊎ (FailsToRead view change.wanted fault ⊎ FailsToKeep view change.keeping fault)
+FailsBefore view (task.Restore journal) fault = FailsToRestore view journal.now fault
+FailsBefore view _ fault = ⊥
 
--- how a job may end without a call: by the chip's files, by the trace's, or by those of its task
-abbrev pub FailsJob : Happened → ChipJob → Fault → Type 0
-FailsJob happened on_chip fault = FailsToOpen happened on_chip.programmer fault
-    ⊎ (IsSomeAnd on_chip.programmer.trace (λ name. IsLogging happened name.now fault)
-    ⊎ FailsBefore happened on_chip.task fault)
+-- how the opening of the chip's files may
+abbrev pub FailsToStart : Bool → View → Programmer → Fault → Type 0
+FailsToStart true view programmer fault = FailsToHold view programmer fault
+FailsToStart false view programmer fault = FailsToOpen view programmer fault
+
+-- how the making of a trace may, or what comes behind it and before the call
+abbrev pub FailsTraced : View → ChipJob → Fault → Type 0
+FailsTraced view on_chip fault = IsSomeAnd on_chip.programmer.trace (λ name. IsLogging view name.now fault)
+    ⊎ ((amid : View) × IsViewBut on_chip.programmer.trace view amid × FailsBefore amid on_chip.task fault)
+
+-- how a job may end without a call: by a file in two roles, by the chip's files, by the trace's, or by those of its
+-- task
+abbrev pub FailsJob : View → ChipJob → Fault → Type 0
+FailsJob view on_chip fault = IsTwice view fault
+    ⊎ (FailsToStart (puts_back on_chip.task) view on_chip.programmer fault
+    ⊎ FailsTraced view on_chip fault)
+
+-- ---- what a run leaves of files, at every exit
+
+-- the files are as they were, but the trace and the one that the task makes
+abbrev pub StayBut : (trace made : Option (Bor Text)) → (old new : FilesState) → Type 0
+StayBut trace made old new = (name : Name) → IsNot trace name → IsNot made name → Stays name old new
+
+-- of a change: with a journal in a file the way back is kept, and a rehearsal leaves the files as they were
+abbrev pub KeepsChange : Programmer → Keeping → (old new : FilesState) → Type 0
+KeepsChange programmer (keeping.Journal file) old new = KeepsFirst programmer file.now old new
+KeepsChange programmer (keeping.Rehearse stops) old new = StayBut programmer.trace None old new
+
+-- of each task
+abbrev pub KeepsFiles : Programmer → Task → (old new : FilesState) → Type 0
+KeepsFiles programmer (task.Change change) old new = KeepsChange programmer change.keeping old new
+KeepsFiles programmer (task.Restore journal) old new = KeepsRestorable programmer journal.now old new
+KeepsFiles programmer done old new = StayBut programmer.trace (made_by done) old new
 
 -- ---- runs
 
@@ -176,40 +205,42 @@ IsToldAs (Ok found) outcome = outcome ≡ Ok found
 IsToldAs (Err refusal) outcome = outcome ≡ Err (end.Refused refusal)
 
 -- A job on a chip ends with what its call came to, or with a fault from before the call.
-abbrev pub EndsJob : Happened → ChipJob → Unwritten → Result Answer Fault → Type 0
-EndsJob happened on_chip unwritten (Ok found) = IsCalled happened on_chip unwritten (Ok found)
-EndsJob happened on_chip unwritten (Err (end.Refused refusal)) =
-    IsCalled happened on_chip unwritten (Err refusal) ⊎ FailsJob happened on_chip (end.Refused refusal)
-EndsJob happened on_chip unwritten (Err fault) = FailsJob happened on_chip fault
+abbrev pub EndsJob : (files after : FilesState) → ChipJob → Unwritten → Result Answer Fault → Type 0
+EndsJob files after on_chip unwritten (Ok found) = IsCalled files after on_chip unwritten (Ok found)
+EndsJob files after on_chip unwritten (Err (end.Refused refusal)) =
+    IsCalled files after on_chip unwritten (Err refusal) ⊎ FailsJob files.view on_chip (end.Refused refusal)
+EndsJob files after on_chip unwritten (Err fault) = FailsJob files.view on_chip fault
 
 -- the list of chips is the answer to nothing else
-abbrev pub AnswersJob : Happened → Job → Unwritten → Result Answer Fault → Type 0
-AnswersJob happened job.List unwritten (Ok answer.Chips) = ⊤
-AnswersJob happened job.List unwritten _ = ⊥
-AnswersJob happened (job.Chip on_chip) unwritten outcome = EndsJob happened on_chip unwritten outcome
+abbrev pub AnswersJob : (files after : FilesState) → Job → Unwritten → Result Answer Fault → Type 0
+AnswersJob files after job.List unwritten (Ok answer.Chips) = (unwritten ≡ all_written) × AllStay files after
+AnswersJob files after job.List unwritten _ = ⊥
+AnswersJob files after (job.Chip on_chip) unwritten outcome = EndsJob files after on_chip unwritten outcome
+    × (AreAtRest files → KeepsFiles on_chip.programmer on_chip.task files after)
 
 -- A usage fault is that of the words, and all else the answer to the job that the words ask for, with the names of the
 -- files that couldn't be written.
-abbrev pub AnswersWords : Happened → List Text → Result Answer Fault → Unwritten → Type 0
-AnswersWords happened words (Err (end.Usage fault)) unwritten = IsFault words fault
-AnswersWords happened words outcome unwritten =
-    (asked : Job) × IsJob words asked × AnswersJob happened asked unwritten outcome
+abbrev pub AnswersWords : (files after : FilesState) → List Text → Result Answer Fault → Unwritten → Type 0
+AnswersWords files after words (Err (end.Usage fault)) unwritten =
+    IsFault words fault × (unwritten ≡ all_written) × AllStay files after
+AnswersWords files after words outcome unwritten =
+    (asked : Job) × IsJob words asked × AnswersJob files after asked unwritten outcome
 
 -- A run without a fault: the words ask for help; or for a job, which was done, each file was written, and to standard
 -- output went the lines of just this answer.
-abbrev pub Succeeds : Happened → List Text → (out out' : Option (List ℕ)) → Type 0
-Succeeds happened words out out' = IsAmong kind.DisplayHelp (refusals_of words)
-    ⊎ ((found : Answer) × AnswersWords happened words (Ok found) all_written × Prints (AreLines found) out out')
+abbrev pub Succeeds : (files after : FilesState) → List Text → (out out' : Option (List ℕ)) → Type 0
+Succeeds files after words out out' = IsAmong kind.DisplayHelp (refusals_of words)
+    ⊎ ((found : Answer) × AnswersWords files after words (Ok found) all_written × Prints (AreLines found) out out')
 
 -- How a run ended, by what standard output and standard error hold before and after, where that is known. The status is
 -- 0 or 1; 1 where the words ask for nothing, and 0 only where the run has no fault.
-pub record IsStatus (happened : Happened) (words : List Text) (out out' err err' : Option (List ℕ))
+pub record IsStatus (files after : FilesState) (words : List Text) (out out' err err' : Option (List ℕ))
     (ending : Ending) : Type 0 where
   pub few : ending.status ≤ 1
   pub refused : IsRefused words → ending.status ≡ 1
-  pub succeeds : ending.status ≡ 0 → Succeeds happened words out out'
+  pub succeeds : ending.status ≡ 0 → Succeeds files after words out out'
   -- what it came to, and what was printed of that
   pub outcome : Result Answer Fault
   pub unwritten : Unwritten
-  pub answers : AnswersWords happened words outcome unwritten
+  pub answers : AnswersWords files after words outcome unwritten
   pub prints : HasPrinted outcome unwritten out out' err err' ending

@@ -1,12 +1,16 @@
 //! Jobs that change a chip: sessions, rehearsals of them, and restores.
-ghost use Rattle.std.specs.Prelude.{◌≡◌, ◌≤◌, ◌⊎◌, IfOk, IfErr, OnOk, length};
+ghost use Rattle.std.specs.Prelude.{◌≡◌, ◌≤◌, ◌⊎◌, true, IfOk, IfErr, OnErr, OnOk, length};
+ghost use Rattle.nor_files.specs.Files.{Name, Stays, is_lawful};
 ghost use Rattle.nor_chip.specs.Chip.{IsSame};
-ghost use Rattle.nor_driver.specs.Looks.{IsCalm};
+ghost use Rattle.nor_driver.specs.Looks.{IsCalm, Looks};
 ghost use Rattle.nor_journal.specs.Vault.{IsFresh};
+ghost use Rattle.nor_probe.specs.Found.{most_probe};
 ghost use Rattle.nor_probe.specs.Known.{IsModelled};
 ghost use Rattle.flashnor.specs.Changes.{HasMadeChange, HasKeptChange, HasRehearsed, HasRestored, Passes, ProbeRefuses};
 ghost use Rattle.flashnor.specs.Requests.{FailsToInclude, IsBufferOf};
 ghost use Rattle.flashnor.specs.Run.{ChangesChip, DoesRestore, FailsToKeep, FailsToRead, FailsToRestore};
+ghost use Rattle.flashnor.specs.Tasks.{journal_of};
+ghost use Rattle.flashnor.specs.Stored.{IsNot, MakesNothing};
 
 use crate::answers::{Answer, Outcome};
 use crate::chips::erased;
@@ -14,8 +18,8 @@ use crate::files::{MOST_IMAGE_BYTES, MOST_JOURNAL_BYTES, make, read_file};
 use crate::messages::Fault;
 use crate::readings::find;
 use crate::requests::{read_included, request_for};
-use crate::stores::Store;
 use nor_chip::{Bus, Meter};
+use nor_files::Store;
 use nor_journal::{Journal, MemVault, Vault};
 use nor_session::{Refusal, Request, rehearse, restore, session};
 use nor_words::{Change, Emulated, Keeping, Wanted};
@@ -23,18 +27,23 @@ use nor_words::{Change, Emulated, Keeping, Wanted};
 /// Changes the chip, or rehearses that. A fault is one from before the session.
 #[tactic(auto, using(crate::proofs::Doing::does_change))]
 pub fn change_chip<'a, R: Store, B: Meter>(
-    rt: &R,
+    rt: &mut R,
     bus: &mut B,
     chip: Emulated,
     named: Option<&str>,
     change: &Change<'a>,
 ) -> Result<Outcome, Fault<'a>>
+    ensures nature { (R.state rt.new).view.nature ≡ (R.state rt.old).view.nature }
+    ensures others { is_lawful (R.state rt.old).view ≡ true → (name : Name)
+        → IsNot (journal_of change.now.keeping) name → Stays name (R.state rt.old) (R.state rt.new) }
+    ensures unmade { is_lawful (R.state rt.old).view ≡ true
+        → OnErr result (MakesNothing (journal_of change.now.keeping) (R.state rt.old) (R.state rt.new)) }
     ensures ok { IsModelled (B.state bus.old) → IsCalm (B.state bus.old)
-        → IfOk result (ChangesChip (R.happened rt.now) chip named.entry change.now (B.state bus.old)
-        (B.state bus.new)) }
-    ensures err { IfErr result (λ fault. FailsToInclude (R.happened rt.now) change.now.regions fault
-        ⊎ (FailsToRead (R.happened rt.now) change.now.wanted fault
-        ⊎ FailsToKeep (R.happened rt.now) change.now.keeping fault)) }
+        → IfOk result (ChangesChip (R.state rt.old).view (R.state rt.new) chip named.entry change.now
+        (B.state bus.old) (B.state bus.new)) }
+    ensures err { IfErr result (λ fault. FailsToInclude (R.state rt.old).view change.now.regions fault
+        ⊎ (FailsToRead (R.state rt.old).view change.now.wanted fault
+        ⊎ FailsToKeep (R.state rt.old).view change.now.keeping fault)) }
 {
     let included = read_included(rt, change.regions)?;
     let request = request_for(change, named, included);
@@ -48,8 +57,8 @@ fn read_wanted<'a, R: Store>(
     chip: Emulated,
     wanted: Wanted<'a>,
 ) -> Result<Vec<u8>, Fault<'a>>
-    ensures ok { IfOk result (λ image. IsBufferOf (R.happened rt.now) chip wanted.entry image.items) }
-    ensures err { IfErr result (FailsToRead (R.happened rt.now) wanted.entry) }
+    ensures ok { IfOk result (λ image. IsBufferOf (R.state rt.now).view chip wanted.entry image.items) }
+    ensures err { IfErr result (FailsToRead (R.state rt.now).view wanted.entry) }
 {
     match wanted {
         Wanted::Write { image } => read_file(rt, image, MOST_IMAGE_BYTES),
@@ -60,21 +69,28 @@ fn read_wanted<'a, R: Store>(
 
 // Runs the session of a request with its journal in a file, or rehearses it with the journal in memory.
 fn change_with<'a, R: Store, B: Meter>(
-    rt: &R,
+    rt: &mut R,
     bus: &mut B,
     image: &mut [u8],
     request: &Request,
     keeping: &Keeping<'a>,
 ) -> Result<Outcome, Fault<'a>>
+    ensures nature { (R.state rt.new).view.nature ≡ (R.state rt.old).view.nature }
+    ensures others { is_lawful (R.state rt.old).view ≡ true → (name : Name)
+        → IsNot (journal_of keeping.now) name → Stays name (R.state rt.old) (R.state rt.new) }
+    ensures unmade { is_lawful (R.state rt.old).view ≡ true
+        → OnErr result (MakesNothing (journal_of keeping.now) (R.state rt.old) (R.state rt.new)) }
     ensures ok { IsModelled (B.state bus.old) → IsCalm (B.state bus.old)
-        → IfOk result
-        (HasMadeChange (R.happened rt.now) request.now image.old keeping.now (B.state bus.old) (B.state bus.new)) }
-    ensures err { IfErr result (FailsToKeep (R.happened rt.now) keeping.now) }
+        → IfOk result (HasMadeChange request.now image.old keeping.now (B.state bus.old) (B.state bus.new)
+        (R.state rt.new)) }
+    ensures err { IfErr result (FailsToKeep (R.state rt.old).view keeping.now) }
 {
     match keeping {
         Keeping::Journal { file } => {
             let mut journal = make(rt, *file)?;
-            Ok(keep_change(bus, &mut journal, image, request))
+            let outcome = keep_change(bus, &mut journal, image, request);
+            rt.hand_back(journal);
+            Ok(outcome)
         }
         Keeping::Rehearse { stops } => {
             let mut vault = MemVault::new(rt.alloc());
@@ -125,8 +141,8 @@ pub fn restore_chip<'a, R: Store, B: Bus>(
     journal: &'a str,
 ) -> Result<Outcome, Fault<'a>>
     ensures ok { IsModelled (B.state bus.old) → IsCalm (B.state bus.old)
-        → IfOk result (DoesRestore (R.happened rt.now) named.entry journal.now (B.state bus.old) (B.state bus.new)) }
-    ensures err { IfErr result (FailsToRestore (R.happened rt.now) journal.now) }
+        → IfOk result (DoesRestore (R.state rt.now).view named.entry journal.now (B.state bus.old) (B.state bus.new)) }
+    ensures err { IfErr result (FailsToRestore (R.state rt.now).view journal.now) }
 {
     let text = read_file(rt, journal, MOST_JOURNAL_BYTES)?;
     match Journal::read(&text) {
@@ -146,8 +162,9 @@ fn restore_named<B: Bus>(bus: &mut B, named: Option<&str>, journal: &Journal<'_>
 }
 
 // Sees that the chip has the name that is given, if one is.
-#[tactic(auto, using(crate::proofs::Ready::passes_probe, crate::proofs::Ready::passes_none, crate::proofs::Ready::looked_same))]
+#[tactic(auto, using(crate::proofs::Ready::passes_probe, crate::proofs::Ready::passes_none, crate::proofs::Ready::looked_same, crate::proofs::Ready::looks_none))]
 fn find_named<B: Bus>(bus: &mut B, named: Option<&str>) -> Result<(), Refusal>
+    ensures looks { Looks most_probe (B.state bus.old) (B.state bus.new) }
     ensures passes { IsModelled (B.state bus.old) → IsCalm (B.state bus.old)
         → OnOk result (Passes named.entry (B.state bus.old) (B.state bus.new)) }
     ensures same { IsModelled (B.state bus.old) → IsCalm (B.state bus.old)

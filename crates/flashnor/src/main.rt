@@ -8,12 +8,13 @@ mod answers;
 mod changes;
 mod chips;
 mod files;
+mod holding;
 mod messages;
 mod printing;
 mod readings;
 mod requests;
+mod roles;
 mod run;
-mod stores;
 
 use run::run_collected;
 pub use run::run_words;

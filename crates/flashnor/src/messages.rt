@@ -19,6 +19,8 @@ pub enum FileFault {
     Length,
     /// 4: it is to be a journal's, and is there already.
     Exists,
+    /// 5: it has another role in the run too, or another run is writing it.
+    Taken,
 }
 
 impl FileFault {
@@ -33,6 +35,7 @@ impl FileFault {
             FileFault::Write => 2,
             FileFault::Length => 3,
             FileFault::Exists => 4,
+            FileFault::Taken => 5,
         }
     }
 }

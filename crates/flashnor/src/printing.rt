@@ -7,7 +7,7 @@ ghost use Rattle.flashnor.specs.Endings.{EndsBadly, EndsWell, HasPrinted, IsAnsw
 ghost use Rattle.flashnor.specs.FaultLines.{line_of, line_of_unwritten, lines_of_unwritten};
 
 use crate::answers::Answer;
-use crate::chips::Unwritten;
+use crate::holding::Unwritten;
 use crate::messages::{Fault, FileFault};
 use clap::Error as WordsError;
 use clap::error::ErrorKind;

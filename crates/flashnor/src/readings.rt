@@ -1,5 +1,6 @@
 //! Jobs that leave a chip as it is.
-ghost use Rattle.std.specs.Prelude.{◌≡◌, ◌⊎◌, IfOk, IfErr, MatchResult, true};
+ghost use Rattle.std.specs.Prelude.{◌≡◌, ◌⊎◌, IfOk, IfErr, MatchResult, false, option_copied, true};
+ghost use Rattle.nor_files.specs.Files.{OthersStay, is_lawful};
 ghost use Rattle.nor_driver.specs.Looks.{Looks};
 ghost use Rattle.nor_probe.specs.Found.{Finds, IsWanted, most_probe};
 ghost use Rattle.nor_words.specs.declared.programmer.Programmer.{Programmer};
@@ -7,7 +8,7 @@ ghost use Rattle.flashnor.specs.Changes.{ProbeRefuses};
 ghost use Rattle.flashnor.specs.Chips.{IsReady};
 ghost use Rattle.flashnor.specs.Files.{IsMaking, IsReadingFault};
 ghost use Rattle.flashnor.specs.Found.{IsEmulatedFound, wanted_name};
-ghost use Rattle.flashnor.specs.Readings.{FindRefuses, HasLookedUp, HasTold, ListsRanges, TellsFound, TellsGuarded, TellsSize};
+ghost use Rattle.flashnor.specs.Readings.{FindRefuses, HasLookedUp, HasReadInto, HasTold, ListsRanges, TellsFound, TellsGuarded, TellsSize};
 ghost use Rattle.flashnor.specs.Requests.{FailsToInclude};
 ghost use Rattle.flashnor.specs.Run.{DoesRead, DoesVerify};
 
@@ -15,8 +16,10 @@ use crate::answers::{Answer, Outcome};
 use crate::files::{MOST_IMAGE_BYTES, empty, read_file};
 use crate::messages::Fault;
 use crate::requests::{read_included, read_name};
-use crate::stores::Store;
 use nor_chip::{Bus, offered};
+use nor_files::Store;
+use nor_journal::Vault;
+use nor_layout::Ranges;
 use nor_probe::{Found, probe};
 use nor_read::{read_out, verify, wp_status};
 use nor_session::Refusal;
@@ -77,23 +80,41 @@ pub fn list_ranges<B: Bus>(bus: &mut B, named: Option<&str>) -> Outcome
 
 /// Reads the chip into the file of this name. A fault is one from before that.
 pub fn read_chip<'a, R: Store, B: Bus>(
-    rt: &R,
+    rt: &mut R,
     bus: &mut B,
     named: Option<&str>,
     file: &'a str,
     regions: Option<Regions<'a>>,
 ) -> Result<Outcome, Fault<'a>>
+    ensures nature { (R.state rt.new).view.nature ≡ (R.state rt.old).view.nature }
+    ensures others { is_lawful (R.state rt.old).view ≡ true
+        → OthersStay file.now (R.state rt.old) (R.state rt.new) }
     ensures ok { IfOk result
-        (DoesRead (R.happened rt.now) named.entry file.now regions.entry (B.state bus.old) (B.state bus.new)) }
-    ensures err { IfErr result (λ fault. FailsToInclude (R.happened rt.now) regions.entry fault
-        ⊎ IsMaking (R.happened rt.now) file.now fault) }
+        (DoesRead (R.state rt.old).view (R.state rt.new).view named.entry file.now regions.entry
+        (B.state bus.old) (B.state bus.new)) }
+    ensures err { IfErr result (λ fault. FailsToInclude (R.state rt.old).view regions.entry fault
+        ⊎ IsMaking (R.state rt.old).view file.now fault) }
 {
     let included = read_included(rt, regions)?;
     let mut out = empty(rt, file)?;
-    match read_out(bus, included.as_ref(), read_name(named), &mut out) {
-        Ok(report) => Ok(Ok(Answer::Read(report))),
-        Err(refusal) => Ok(Err(refusal)),
-    }
+    let outcome = read_into(bus, named, included.as_ref(), &mut out);
+    rt.hand_back(out);
+    Ok(outcome)
+}
+
+// Reads the chip into this vault.
+fn read_into<B: Bus, V: Vault>(
+    bus: &mut B,
+    named: Option<&str>,
+    included: Option<&Ranges>,
+    out: &mut V,
+) -> Outcome
+    requires { (V.state out.old).sealed ≡ false }
+    ensures { HasReadInto named.entry (option_copied included.entry) (B.state bus.old) (B.state bus.new)
+        (V.state out.old) (V.state out.new) result }
+{
+    let report = read_out(bus, included, read_name(named), out)?;
+    Ok(Answer::Read(report))
 }
 
 /// Compares the chip with the image in the file of this name. A fault is one from before that.
@@ -105,9 +126,9 @@ pub fn verify_chip<'a, R: Store, B: Bus>(
     regions: Option<Regions<'a>>,
 ) -> Result<Outcome, Fault<'a>>
     ensures ok { IfOk result
-        (DoesVerify (R.happened rt.now) named.entry file.now regions.entry (B.state bus.old) (B.state bus.new)) }
-    ensures err { IfErr result (λ fault. FailsToInclude (R.happened rt.now) regions.entry fault
-        ⊎ IsReadingFault (R.happened rt.now) file.now 16777217 fault) }
+        (DoesVerify ((R.state rt.now).view) named.entry file.now regions.entry (B.state bus.old) (B.state bus.new)) }
+    ensures err { IfErr result (λ fault. FailsToInclude ((R.state rt.now).view) regions.entry fault
+        ⊎ IsReadingFault ((R.state rt.now).view) file.now 16777217 fault) }
 {
     let included = read_included(rt, regions)?;
     let image = read_file(rt, file, MOST_IMAGE_BYTES)?;

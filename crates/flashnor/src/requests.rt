@@ -5,7 +5,7 @@ ghost use Rattle.flashnor.specs.Requests.{AreIncluded, AreRangesOf, FailsToInclu
 
 use crate::files::{MOST_LAYOUT_BYTES, read_file};
 use crate::messages::{Fault, FileFault};
-use crate::stores::Store;
+use nor_files::Store;
 use nor_layout::{Layout, LayoutFault, Ranges};
 use nor_probe::ChipName;
 use nor_session::{Request, What};
@@ -24,8 +24,8 @@ pub fn read_included<'a, R: Store>(
     rt: &R,
     regions: Option<Regions<'a>>,
 ) -> Result<Option<Ranges>, Fault<'a>>
-    ensures ok { IfOk result (AreRangesOf (R.happened rt.now) regions.entry) }
-    ensures err { IfErr result (FailsToInclude (R.happened rt.now) regions.entry) }
+    ensures ok { IfOk result (AreRangesOf ((R.state rt.now).view) regions.entry) }
+    ensures err { IfErr result (FailsToInclude ((R.state rt.now).view) regions.entry) }
 {
     let Some(Regions { layout, names }) = regions else {
         return Ok(None);

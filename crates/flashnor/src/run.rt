@@ -1,20 +1,26 @@
 //! A run of the program.
-ghost use Rattle.std.specs.Prelude.{◌≡◌, ◌⊎◌, IfOk, IfErr, IsSomeAnd, OnSome, map, string_bytes};
+ghost use Rattle.std.specs.Prelude.{◌≡◌, false, true, IfOk, IfErr, OnErr, OnSome, map, string_bytes};
 ghost use Rattle.flashnor.specs.Chips.{IsReady};
-ghost use Rattle.flashnor.specs.Files.{IsLogging};
-ghost use Rattle.flashnor.specs.Events.{unseen};
+ghost use Rattle.nor_files.specs.Disk.{unknown};
+ghost use Rattle.nor_files.specs.Files.{AreAtRest, Name, Stays, is_lawful};
+ghost use Rattle.flashnor.specs.Stored.{AreTwo, IsNot, MakesNothing};
 ghost use Rattle.flashnor.specs.Endings.{EndsWith, IsUnread, all_written};
-ghost use Rattle.flashnor.specs.Run.{AreLeft, DoesJob, EndsJob, FailsBefore, FailsJob, AnswersWords, IsStatus, IsToldAs, puts_back};
+ghost use Rattle.flashnor.specs.Run.{AnswersWords, DoesJob, DoesTraced, EndsJob, FailsBefore, FailsJob, FailsTraced, IsStatus};
+ghost use Rattle.flashnor.specs.Roles.{HaveOneRole};
+ghost use Rattle.flashnor.specs.Run.{IsToldAs, KeepsFiles, StayBut};
+ghost use Rattle.flashnor.specs.Tasks.{journal_by, made_by, puts_back};
 
 use crate::answers::{Answer, Outcome};
 use crate::changes::{change_chip, restore_chip};
-use crate::chips::{Unwritten, read_content, start, write_back};
+use crate::chips::{read_content, start};
 use crate::files::create_log;
+use crate::holding::{Held, Unwritten, hold_content, write_back};
 use crate::messages::Fault;
 use crate::printing::{Ending, print_end};
 use crate::readings::{find_chip, list_ranges, read_chip, tell_protection, tell_size, verify_chip};
-use crate::stores::{Disk, Store};
+use crate::roles::have_one_role;
 use nor_chip::{Bus, Meter, SimBus, TraceBus};
+use nor_files::{Disk, LockFile, Store};
 use nor_words::{Change, ChipJob, Job, Keeping, Task, request_of};
 use std::io;
 use std::io::Write;
@@ -28,10 +34,12 @@ pub fn run_words<R: Files + AllocGlobal, O: Write, E: Write>(
     output: &mut O,
     errors: &mut E,
 ) -> u8
-    ensures { EndsWith (IsStatus unseen (map string_bytes words.now) (O.contents output.old) (O.contents output.new)
+where
+    R::File: LockFile,
+    ensures { EndsWith (IsStatus unknown unknown (map string_bytes words.now) (O.contents output.old) (O.contents output.new)
         (E.contents errors.old) (E.contents errors.new)) result }
 {
-    let ending = run_over(&Disk(rt), words, output, errors);
+    let ending = run_over(&mut Disk::new(rt), words, output, errors);
     ending.status
 }
 
@@ -42,7 +50,9 @@ pub fn run_collected<R: Files + AllocGlobal, O: Write, E: Write>(
     output: &mut O,
     errors: &mut E,
 ) -> u8
-    ensures collected { IfOk words (λ given. EndsWith (IsStatus unseen (map string_bytes given.items)
+where
+    R::File: LockFile,
+    ensures collected { IfOk words (λ given. EndsWith (IsStatus unknown unknown (map string_bytes given.items)
         (O.contents output.old) (O.contents output.new) (E.contents errors.old) (E.contents errors.new)) result) }
     ensures unread { IfErr words (λ error. EndsWith (IsUnread error
         (O.contents output.old) (O.contents output.new) (E.contents errors.old) (E.contents errors.new)) result) }
@@ -57,15 +67,15 @@ pub fn run_collected<R: Files + AllocGlobal, O: Write, E: Write>(
     }
 }
 
-// The same over any store of files.
+/// The same over any store of files.
 #[tactic(auto, using(crate::proofs::Ended::is_status))]
-fn run_over<R: Store, O: Write, E: Write>(
-    rt: &R,
+pub fn run_over<R: Store, O: Write, E: Write>(
+    rt: &mut R,
     words: &[String],
     output: &mut O,
     errors: &mut E,
 ) -> Ending
-    ensures { IsStatus (R.happened rt.now) (map string_bytes words.now) (O.contents output.old) (O.contents output.new)
+    ensures { IsStatus (R.state rt.old) (R.state rt.new) (map string_bytes words.now) (O.contents output.old) (O.contents output.new)
         (E.contents errors.old) (E.contents errors.new) result }
 {
     let Ended { answer, unwritten } = run(rt, words);
@@ -95,8 +105,9 @@ impl<'a> Ended<'a> {
 }
 
 // Does what the words ask for.
-fn run<'a, R: Store>(rt: &R, words: &'a [String]) -> Ended<'a>
-    ensures { AnswersWords (R.happened rt.now) (map string_bytes words.now) result.answer result.unwritten }
+fn run<'a, R: Store>(rt: &mut R, words: &'a [String]) -> Ended<'a>
+    ensures { AnswersWords (R.state rt.old) (R.state rt.new) (map string_bytes words.now) result.answer
+        result.unwritten }
 {
     match request_of(rt.alloc(), words) {
         Ok(Job::List) => Ended::before(Ok(Answer::Chips)),
@@ -108,17 +119,69 @@ fn run<'a, R: Store>(rt: &R, words: &'a [String]) -> Ended<'a>
     }
 }
 
-// Opens the programmer's chip, does the job's task, and writes the chip into its files where the task changed it. An
-// error is a fault from before the call.
-fn work_on_chip<'a, R: Store>(rt: &R, job: &ChipJob<'a>) -> Result<Ended<'a>, Fault<'a>>
-    ensures ok { IfOk result (λ ended. EndsJob (R.happened rt.now) job.now ended.unwritten ended.answer) }
-    ensures err { IfErr result (FailsJob (R.happened rt.now) job.now) }
+// Does the job's task on the programmer's chip. An error is a fault from before the call.
+fn work_on_chip<'a, R: Store>(rt: &mut R, job: &ChipJob<'a>) -> Result<Ended<'a>, Fault<'a>>
+    ensures ok { IfOk result (λ ended.
+        EndsJob (R.state rt.old) (R.state rt.new) job.now ended.unwritten ended.answer) }
+    ensures err { IfErr result (FailsJob (R.state rt.old).view job.now) }
+    ensures keeps { AreAtRest (R.state rt.old)
+        → KeepsFiles job.now.programmer job.now.task (R.state rt.old) (R.state rt.new) }
+{
+    have_one_role(rt, job)?;
+    if puts_back(&job.task) {
+        change_files(rt, job)
+    } else {
+        look_at_files(rt, job)
+    }
+}
+
+// Reads the chip's files, does a task that leaves them as they are.
+fn look_at_files<'a, R: Store>(rt: &mut R, job: &ChipJob<'a>) -> Result<Ended<'a>, Fault<'a>>
+    requires { puts_back job.now.task ≡ false }
+    ensures ok { IfOk result (λ ended.
+        EndsJob (R.state rt.old) (R.state rt.new) job.now ended.unwritten ended.answer) }
+    ensures err { IfErr result (FailsJob (R.state rt.old).view job.now) }
+    ensures keeps { is_lawful (R.state rt.old).view ≡ true
+        → StayBut job.now.programmer.trace (made_by job.now.task) (R.state rt.old) (R.state rt.new) }
 {
     let content = read_content(rt, &job.programmer)?;
     let bus = start(&job.programmer, content);
     let called = call_on(rt, bus, job)?;
+    let Called { outcome, lost, .. } = called;
+    let unwritten = Unwritten {
+        image: None,
+        status: None,
+        trace: lost,
+    };
+    let answer = told(outcome);
+    Ok(Ended { answer, unwritten })
+}
+
+// Holds the chip's files, does a task that changes the chip, and writes it over them.
+fn change_files<'a, R: Store>(rt: &mut R, job: &ChipJob<'a>) -> Result<Ended<'a>, Fault<'a>>
+    requires changes { puts_back job.now.task ≡ true }
+    requires roles { HaveOneRole job.now }
+    ensures ok { IfOk result (λ ended.
+        EndsJob (R.state rt.old) (R.state rt.new) job.now ended.unwritten ended.answer) }
+    ensures err { IfErr result (FailsJob (R.state rt.old).view job.now) }
+    ensures keeps { AreAtRest (R.state rt.old)
+        → KeepsFiles job.now.programmer job.now.task (R.state rt.old) (R.state rt.new) }
+{
+    let held = hold_content(rt, &job.programmer)?;
+    let Held {
+        content,
+        image_there,
+        status_there,
+    } = held;
+    let bus = start(&job.programmer, content);
+    let called = call_on(rt, bus, job)?;
     let Called { bus, outcome, lost } = called;
-    let unwritten = write_after(rt, job, &bus, lost);
+    let (image, status) = write_back(rt, &job.programmer, image_there, status_there, &bus);
+    let unwritten = Unwritten {
+        image,
+        status,
+        trace: lost,
+    };
     let answer = told(outcome);
     Ok(Ended { answer, unwritten })
 }
@@ -133,30 +196,6 @@ fn told<'a>(outcome: Outcome) -> Result<Answer, Fault<'a>>
     }
 }
 
-// Writes the chip into its files, where the job changes it and is no rehearsal. Answers which files couldn't be
-// written, the trace beside them.
-fn write_after<'a, R: Store>(
-    rt: &R,
-    job: &ChipJob<'a>,
-    bus: &SimBus,
-    trace: Option<&'a str>,
-) -> Unwritten<'a>
-    ensures left { AreLeft (puts_back job.now.task) (R.happened rt.now) job.now.programmer
-        (⟦<SimBus as Bus>⟧.state bus.now).chip result }
-    ensures trace { result.trace ≡ trace.entry }
-{
-    let (image, status) = if puts_back(&job.task) {
-        write_back(rt, &job.programmer, bus)
-    } else {
-        (None, None)
-    };
-    Unwritten {
-        image,
-        status,
-        trace,
-    }
-}
-
 // A call that was made: the bus to the chip after it, what it came to, and the trace's name where that lost a line.
 #[derive(Drop)]
 struct Called<'a> {
@@ -167,17 +206,20 @@ struct Called<'a> {
 
 // Does the job's task, with a trace where one is asked for. An error is a fault from before the call.
 fn call_on<'a, R: Store>(
-    rt: &R,
+    rt: &mut R,
     mut bus: SimBus,
     job: &ChipJob<'a>,
 ) -> Result<Called<'a>, Fault<'a>>
+    ensures nature { (R.state rt.new).view.nature ≡ (R.state rt.old).view.nature }
+    ensures others { is_lawful (R.state rt.old).view ≡ true → (name : Name) → IsNot job.now.programmer.trace name
+        → IsNot (made_by job.now.task) name → Stays name (R.state rt.old) (R.state rt.new) }
+    ensures unmade { is_lawful (R.state rt.old).view ≡ true → AreTwo job.now.programmer.trace (journal_by job.now.task)
+        → OnErr result (MakesNothing (journal_by job.now.task) (R.state rt.old) (R.state rt.new)) }
     ensures ok { let old = ⟦<SimBus as Bus>⟧.state bus in IsReady job.now.programmer old
-        → IfOk result (λ called. DoesJob (R.happened rt.now) job.now.programmer job.now.named job.now.task old
+        → IfOk result (λ called. DoesTraced (R.state rt.old) (R.state rt.new) job.now old
         (⟦<SimBus as Bus>⟧.state called.bus) called.outcome) }
     ensures lost { IfOk result (λ called. OnSome called.lost (called.lost ≡ job.now.programmer.trace)) }
-    ensures err { IfErr result (λ fault.
-        IsSomeAnd job.now.programmer.trace (λ name. IsLogging (R.happened rt.now) name.now fault)
-        ⊎ FailsBefore (R.happened rt.now) job.now.task fault) }
+    ensures err { IfErr result (FailsTraced (R.state rt.old).view job.now) }
 {
     let Some(name) = job.programmer.trace else {
         let outcome = do_task(rt, &mut bus, job)?;
@@ -200,14 +242,19 @@ fn call_on<'a, R: Store>(
 
 // Does the job's task on its chip. A fault is one from before the call.
 fn do_task<'a, R: Store, B: Meter>(
-    rt: &R,
+    rt: &mut R,
     bus: &mut B,
     job: &ChipJob<'a>,
 ) -> Result<Outcome, Fault<'a>>
+    ensures nature { (R.state rt.new).view.nature ≡ (R.state rt.old).view.nature }
+    ensures others { is_lawful (R.state rt.old).view ≡ true → (name : Name)
+        → IsNot (made_by job.now.task) name → Stays name (R.state rt.old) (R.state rt.new) }
+    ensures unmade { is_lawful (R.state rt.old).view ≡ true
+        → OnErr result (MakesNothing (journal_by job.now.task) (R.state rt.old) (R.state rt.new)) }
     ensures ok { IsReady job.now.programmer (B.state bus.old)
-        → IfOk result (DoesJob (R.happened rt.now) job.now.programmer job.now.named job.now.task
+        → IfOk result (DoesJob (R.state rt.old).view (R.state rt.new) job.now.programmer job.now.named job.now.task
         (B.state bus.old) (B.state bus.new)) }
-    ensures err { IfErr result (FailsBefore (R.happened rt.now) job.now.task) }
+    ensures err { IfErr result (FailsBefore (R.state rt.old).view job.now.task) }
 {
     let named = job.named;
     match &job.task {
@@ -222,8 +269,8 @@ fn do_task<'a, R: Store, B: Meter>(
     }
 }
 
-// After its call the chip is written into its files: the task changes it, and isn't a rehearsal.
-fn puts_back(task: &Task<'_>) -> bool
+/// After its call the chip is written into its files: the task changes it, and isn't a rehearsal.
+pub fn puts_back(task: &Task<'_>) -> bool
     ensures { result ≡ puts_back task.now }
 {
     match task {

@@ -1,16 +1,19 @@
-use Rattle.std.proofs.Common.{Ok, Err, refl}
-use Rattle.flashnor.specs.declared.answers.Answer.TheVariants as answer
-use Rattle.flashnor.proofs.Doing.{does_read}
+use Rattle.flashnor.proofs.Reading.{does_read}
+use Rattle.flashnor.proofs.Stays.{kept_file, others_stay}
 use Rattle.flashnor.proofs.readings.read_chip.Goals as goal
 
-pub returns-in-Ok-clause-ok : goal.returns-in-Ok-clause-ok
-returns-in-Ok-clause-ok g c =
-    does_read (g.R.Store.happened c.args.rt.now) c.args.named _ c.read_name.ensures c.args.file.now c.args.regions _ _
-    c.in_ok-included.ensures.ok c.as_ref.ensures.value _ _ _ _ (Ok c.in-Ok.report) (Ok (answer.Read c.in-Ok.report))
-    c.in_ok-out.ensures.ok.1 c.in-Ok.ensures.always c.in-Ok.ensures.honest c.in-Ok.ensures.modelled refl
+pub returns-clause-others : goal.returns-clause-others
+returns-clause-others g c =
+    others_stay c.args.file.now (g.R.Store.state c.args.rt.now) (g.R.Store.state c.empty.new.rt) (g.R.Store.state c.hand_back.new.self) _
+    c.empty.ensures.nature c.in_ok-out.ensures.lends c.hand_back.ensures.nature c.hand_back.ensures.takes
 
 pub returns-clause-ok : goal.returns-clause-ok
 returns-clause-ok g c =
-    does_read (g.R.Store.happened c.args.rt.now) c.args.named _ c.read_name.ensures c.args.file.now c.args.regions _ _
-    c.in_ok-included.ensures.ok c.as_ref.ensures.value _ _ _ _ (Err c.in-Err.refusal) (Err c.in-Err.refusal)
-    c.in_ok-out.ensures.ok.1 c.in-Err.ensures.always c.in-Err.ensures.honest c.in-Err.ensures.modelled refl
+    does_read (g.R.Store.state c.args.rt.now).view (g.R.Store.state c.hand_back.new.self).view c.args.named c.args.file.now c.args.regions _ _
+    (g.B.Bus.state c.args.bus.now) (g.B.Bus.state c.read_into-outcome.new.bus) _ _ c.read_into-outcome.result
+    c.in_ok-included.ensures.ok c.as_ref.ensures.value c.in_ok-out.ensures.fresh c.read_into-outcome.ensures
+    (λ lawful.
+    let kept = kept_file c.args.file.now (g.R.Store.state c.args.rt.now) (g.R.Store.state c.empty.new.rt)
+    (g.R.Store.state c.hand_back.new.self) _
+    c.empty.ensures.nature c.in_ok-out.ensures.lends c.hand_back.ensures.nature c.hand_back.ensures.takes lawful in
+    (kept.telling, kept.seen))

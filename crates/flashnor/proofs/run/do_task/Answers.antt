@@ -1,4 +1,5 @@
 use Rattle.flashnor.proofs.Ready.{calm_ready, modelled_ready}
+use Rattle.flashnor.proofs.Stays.{nothing_same, stays_same}
 use Rattle.flashnor.proofs.run.do_task.Goals as goal
 
 pub returns-in-Probe-clause-ok : goal.returns-in-Probe-clause-ok
@@ -50,3 +51,30 @@ returns-in-Restore-clause-ok g c = λ ready.
 
 pub returns-in-Restore-clause-err : goal.returns-in-Restore-clause-err
 returns-in-Restore-clause-err g c = rw c.in-Restore.is c.restore_chip.ensures.err
+
+pub returns-in-Probe-clause-others : goal.returns-in-Probe-clause-others
+returns-in-Probe-clause-others g c = λ is name not. stays_same name _
+
+pub returns-in-FlashSize-clause-others : goal.returns-in-FlashSize-clause-others
+returns-in-FlashSize-clause-others g c = λ is name not. stays_same name _
+
+pub returns-in-WpStatus-clause-others : goal.returns-in-WpStatus-clause-others
+returns-in-WpStatus-clause-others g c = λ is name not. stays_same name _
+
+pub returns-in-WpList-clause-others : goal.returns-in-WpList-clause-others
+returns-in-WpList-clause-others g c = λ is name not. stays_same name _
+
+pub returns-in-Read-clause-others : goal.returns-in-Read-clause-others
+returns-in-Read-clause-others g c = λ is name not. c.read_chip.ensures.others is name (rw c.in-Read.is at not)
+
+pub returns-in-Verify-clause-others : goal.returns-in-Verify-clause-others
+returns-in-Verify-clause-others g c = λ is name not. stays_same name _
+
+pub returns-in-Change-clause-others : goal.returns-in-Change-clause-others
+returns-in-Change-clause-others g c = λ is name not. c.change_chip.ensures.others is name (rw c.in-Change.is at not)
+
+pub returns-in-Restore-clause-others : goal.returns-in-Restore-clause-others
+returns-in-Restore-clause-others g c = λ is name not. stays_same name _
+
+pub returns-in-Change-clause-unmade : goal.returns-in-Change-clause-unmade
+returns-in-Change-clause-unmade g c = λ is. rw c.in-Change.is (c.change_chip.ensures.unmade is)

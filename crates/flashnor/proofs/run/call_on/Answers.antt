@@ -1,0 +1,23 @@
+use Rattle.std.proofs.Common.{◌∙◌, inr}
+use Rattle.std.proofs.lemmas.Result.{err_from_is_err_and}
+use Rattle.flashnor.proofs.Traced.{traced_does, view_but}
+use Rattle.flashnor.proofs.run.call_on.Goals as goal
+
+pub returns-in_err-create_log-clause-others : goal.returns-in_err-create_log-clause-others
+returns-in_err-create_log-clause-others g c = λ is name not made.
+    c.in_err-create_log.ensures.others is name (rw c.in-Some.is at not)
+
+pub returns-in_err-outcome-2-clause-err : goal.returns-in_err-outcome-2-clause-err
+returns-in_err-outcome-2-clause-err g c =
+    let p = err_from_is_err_and c.from_residual-in_err-outcome-2.result c.from_residual-in_err-outcome-2.ensures.1 in
+    rw (p.1, p.2) (inr (
+      _,
+      view_but _ c.in-Some.name _ _ c.in-Some.is c.in_ok-create_log.ensures.nature c.in_ok-create_log.ensures.others,
+      c.in_err-outcome-2.ensures.err,
+    ))
+
+pub returns-clause-ok : goal.returns-clause-ok
+returns-clause-ok g c =
+    traced_does (g.R.Store.state c.args.rt.now) (g.R.Store.state c.create_log.new.rt) (g.R.Store.state c.do_task-2.new.rt) c.args.job.now _ _ _ _ _
+    (view_but _ c.in-Some.name _ _ c.in-Some.is c.in_ok-create_log.ensures.nature c.in_ok-create_log.ensures.others)
+    c.new-traced.ensures.state (c.into_inner.ensures ∙ c.flush.ensures.state) c.in_ok-outcome-2.ensures.ok

@@ -1,0 +1,84 @@
+use Rattle.std.proofs.Common.{◌∙◌, inr, refl}
+use Rattle.std.proofs.lemmas.List.{length-replicate}
+use Rattle.std.proofs.lemmas.Result.{err_from_is_err_and}
+use Rattle.nor_chip.specs.Sim.{state_of}
+use Rattle.flashnor.specs.Roles.{named_by}
+use Rattle.flashnor.proofs.Ended.{ends_called}
+use Rattle.flashnor.proofs.Kept.{does_after, keeps_files, ready_both, setup_done}
+use Rattle.flashnor.proofs.Stays.{lawful_after}
+use Rattle.flashnor.proofs.Told.{told_before}
+use Rattle.flashnor.proofs.Traced.{fails_before, view_before}
+use Rattle.flashnor.proofs.WayBack.{as_many}
+use Rattle.flashnor.proofs.run.change_files.Goals as goal
+
+pub returns-in_err-called-clause-err : goal.returns-in_err-called-clause-err
+returns-in_err-called-clause-err g c =
+    let p = err_from_is_err_and c.from_residual-in_err-called.result c.from_residual-in_err-called.ensures.1 in
+    rw (p.1, p.2) (inr (inr (fails_before c.args.job.now _ (g.R.Store.state c.args.rt.now) (g.R.Store.state c.hold_content.new.rt)
+    c.in_ok-held.ensures.nature c.in_ok-held.ensures.stay c.in_err-called.ensures.err)))
+
+pub returns-clause-ok : goal.returns-clause-ok
+returns-clause-ok g c =
+    let s0 = g.R.Store.state c.args.rt.now in
+    let s1 = g.R.Store.state c.hold_content.new.rt in
+    let s2 = g.R.Store.state c.call_on.new.rt in
+    let s3 = g.R.Store.state c.write_back.new.rt in
+    let job = c.args.job.now in
+    let bus = state_of c.start-bus.result in
+    let bus' = state_of c.in_ok-called.called.bus in
+    let roles = c.requires.roles in
+    let puts = c.requires.changes in
+    let held = c.in_ok-held.ensures in
+    let opens = c.start-bus.ensures.opens in
+    let called = c.in_ok-called.ensures in
+    let d = called.ok opens.ready in
+    let setup = setup_done job.task d.0 s2 job.programmer job.named _ _ _ puts d.2 in
+    let two = roles.status puts in
+    ends_called s0 s3 job _ _ _ (record {
+      content = c.in_ok-held.held.content;
+      read = held.ok;
+      old = _;
+      new = _;
+      opened = opens;
+      does = (
+        d.0,
+        view_before job.programmer.trace s0 s1 d.0 held.nature held.stay d.1,
+        does_after job.task d.0 s2 s3 job.programmer job.named _ _ _ puts roles.image_journal roles.status_journal
+            c.write_back.ensures.nature c.write_back.ensures.others d.2,
+      );
+      told_of = rw puts (
+        told_before _ _ s0.view s2.view (called.nature ∙ held.nature) c.write_back.ensures.fails.0,
+        told_before _ _ s0.view s2.view (called.nature ∙ held.nature) c.write_back.ensures.fails.1,
+      );
+      left = λ rest puts. c.write_back.ensures.put two _ _
+          (ready_both job c.in_ok-held.held s0 s1 s2 bus bus' roles puts held.ok opens rest (held.held rest) held.nature called.nature called.others setup);
+      traced = called.lost;
+    }) c.told-answer.ensures
+
+pub returns-clause-keeps : goal.returns-clause-keeps
+returns-clause-keeps g c =
+    let s0 = g.R.Store.state c.args.rt.now in
+    let s1 = g.R.Store.state c.hold_content.new.rt in
+    let s2 = g.R.Store.state c.call_on.new.rt in
+    let s3 = g.R.Store.state c.write_back.new.rt in
+    let job = c.args.job.now in
+    let bus = state_of c.start-bus.result in
+    let bus' = state_of c.in_ok-called.called.bus in
+    let roles = c.requires.roles in
+    let puts = c.requires.changes in
+    let held = c.in_ok-held.ensures in
+    let opens = c.start-bus.ensures.opens in
+    let called = c.in_ok-called.ensures in
+    let d = called.ok opens.ready in
+    let setup = setup_done job.task d.0 s2 job.programmer job.named _ _ _ puts d.2 in
+    let two = roles.status puts in
+    λ rest.
+    let is_held = held.held rest in
+    let lawful1 = lawful_after s0 s1 held.nature rest.lawful in
+    let ready = ready_both job c.in_ok-held.held s0 s1 s2 bus bus' roles puts held.ok opens rest is_held held.nature called.nature called.others setup in
+    keeps_files job.programmer c.in_ok-held.held s0 s1 s2 s3 bus bus' d.0 held.ok opens
+    (as_many s0.view job.programmer.image _ _ _ held.ok.bytes (length-replicate _ 255)) held.stands c.in_ok-called.called.bus.flash.kept2_in
+    rest is_held.stay held.nature called.nature (view_before job.programmer.trace s0 s1 d.0 held.nature held.stay d.1)
+    (c.write_back.ensures.others (lawful_after s1 s2 called.nature lawful1)) (c.write_back.ensures.amid two _ _ ready)
+    job.task job.named _ puts (called.others lawful1) (named_by job.task).journal roles.image_journal roles.status_journal roles.trace_journal
+    refl d.2

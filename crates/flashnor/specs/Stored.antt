@@ -1,0 +1,58 @@
+-- What was read of the files of a run, and what they have after it.
+use Rattle.std.specs.Prelude.{◌≡◌, ◌≢◌, ◌+◌, ◌⊎◌, [], ℕ, List, Option, None, Some, IfSome, ⊤, length, true, unwrap_or}
+use Rattle.std.specs.Borrow.{Bor}
+use Rattle.nor_files.specs.Calls.{Reads}
+use Rattle.nor_files.specs.Files.{Failure, FilesState, Found, IsKnown, IsSettled, View, is_lawful}
+use Rattle.nor_files.specs.Files.Failure.{Unwritten}
+use Rattle.nor_words.specs.Text.{Text}
+
+-- it goes wrong, at whatever time
+abbrev pub Happens : View → Failure → Type 0
+Happens view failure = view.nature.fails failure ≡ true
+
+-- so many bytes at most were read of the file, and were these
+abbrev pub IsRead : View → Text → ℕ → List ℕ → Type 0
+IsRead view name most bytes = Reads name most (Some bytes) view
+
+-- what there is of a file, if one is named: of more than so many bytes one more is read
+abbrev pub IsFileFound : View → Option (Bor Text) → ℕ → Option (List ℕ) → Type 0
+IsFileFound view None len found = found ≡ None
+IsFileFound view (Some name) len found = Reads name.now (len + 1) found view
+
+-- The bytes are those of the file that is named, which has just so many, or these ones where none is named or there.
+pub record AreOfFile (view : View) (name : Option (Bor Text)) (len : ℕ) (missing bytes : List ℕ) : Type 0 where
+  pub found : Option (List ℕ)
+  pub is_found : IsFileFound view name len found
+  pub whole : IfSome found (λ all. length all ≡ len)
+  pub same : bytes ≡ unwrap_or found missing
+
+-- the file that is named, if one is, has just these bytes, whatever becomes of the machine
+abbrev pub Has : Option (Bor Text) → List ℕ → FilesState → Type 0
+Has None bytes files = ⊤
+Has (Some name) bytes files = is_lawful files.view ≡ true → IsSettled name.now (Some bytes) files
+
+-- it got them; or it couldn't be written, and its name is told
+abbrev pub ArePut : Option (Bor Text) → List ℕ → Option (Bor Text) → FilesState → Type 0
+ArePut name bytes None files = Has name bytes files
+ArePut name bytes (Some failed) files = (name ≡ Some failed) × Happens files.view (Unwritten failed.now)
+
+-- the file that couldn't be written, if one couldn't, is that one
+abbrev pub IsToldOf : (name failed : Option (Bor Text)) → View → Type 0
+IsToldOf name None view = ⊤
+IsToldOf name (Some failed) view = (name ≡ Some failed) × Happens view (Unwritten failed.now)
+
+-- the name isn't that one, if one is given
+abbrev pub IsNot : Option (Bor Text) → Text → Type 0
+IsNot None name = ⊤
+IsNot (Some other) name = name ≢ other.now
+
+-- the two names are two, if both are given
+abbrev pub AreTwo : (one other : Option (Bor Text)) → Type 0
+AreTwo None other = ⊤
+AreTwo (Some one) other = IsNot other one.now
+
+-- nothing may be left of the file that is named, if one is, that couldn't be left before, but an empty file
+abbrev pub MakesNothing : Option (Bor Text) → (old new : FilesState) → Type 0
+MakesNothing None old new = ⊤
+MakesNothing (Some name) old new = IsKnown name.now old.view → (left : Found) → new.may_leave name.now left
+    → old.may_leave name.now left ⊎ (left ≡ Some [])

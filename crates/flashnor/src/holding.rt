@@ -1,0 +1,228 @@
+//! The chip's files in a run that changes the chip: held from before they are read until they are written over.
+ghost use Rattle.std.specs.Prelude.{◌≡◌, ◌+◌, true, false, List, ℕ, None, Some, IfErr, IfOk, IfSome, IsSomeAnd, OnErr, OnOk};
+ghost use Rattle.std.specs.Prelude.{option_map, vec_len};
+ghost use Rattle.nor_files.specs.Files.{AreAtRest, IsSettled, Name, OthersStay, Stays, is_lawful};
+ghost use Rattle.nor_files.specs.Files.Failure.{Unwritten as FailsWrite};
+ghost use Rattle.flashnor.specs.Chips.{ArePutBack, FailsToHold, IsContentOf};
+ghost use Rattle.flashnor.specs.Files.{IsHoldingFault, IsUnheldFault};
+ghost use Rattle.flashnor.specs.Found.{emulated_part};
+ghost use Rattle.flashnor.specs.Holding.{AreAmid, AreHeld, AreReady, IsHeld, IsReady, IsReadyFile, KnownStay};
+ghost use Rattle.flashnor.specs.Holding.{LeaveNoMore, LeavesAmid, LeavesFileAmid, Settles, StandsFor};
+ghost use Rattle.flashnor.specs.Stored.{AreTwo, Happens, IsFileFound, IsNot, IsRead, IsToldOf};
+
+use crate::chips::{Content, content_of, read_whole};
+use crate::files::{reading, unmade, unread};
+use crate::messages::{Fault, FileFault};
+use nor_chip::{Bus, SimBus};
+use nor_files::{HoldFault, Store};
+use nor_words::Programmer;
+use std::io;
+
+/// What the chip starts with, and which of its files were there.
+#[derive(Drop)]
+pub struct Held {
+    pub content: Content,
+    pub image_there: bool,
+    pub status_there: bool,
+}
+
+/// Holds the chip's files against other runs and reads them: FFh and clear status bytes where none is named or there.
+/// What was read of them is what a lost machine leaves.
+pub fn hold_content<'a, R: Store>(
+    rt: &mut R,
+    programmer: &Programmer<'a>,
+) -> Result<Held, Fault<'a>>
+    ensures nature { (R.state rt.new).view.nature ≡ (R.state rt.old).view.nature }
+    ensures len { IfOk result (λ held. vec_len held.content.bytes ≡ (emulated_part programmer.now.chip).size) }
+    ensures ok { IfOk result (λ held. IsContentOf (R.state rt.old).view programmer.now held.content) }
+    ensures stands { IfOk result (StandsFor programmer.now) }
+    ensures stay { OnOk result (KnownStay (R.state rt.old) (R.state rt.new)) }
+    ensures held { AreAtRest (R.state rt.old)
+        → IfOk result (λ held. AreHeld programmer.now held (R.state rt.old) (R.state rt.new)) }
+    ensures no_more { AreAtRest (R.state rt.old) → LeaveNoMore (R.state rt.old) (R.state rt.new) }
+    ensures err { IfErr result (FailsToHold (R.state rt.old).view programmer.now) }
+{
+    let size = programmer.chip.config().size;
+    let image = hold_whole(rt, programmer.image, size)?;
+    let status = hold_whole(rt, programmer.status, 2)?;
+    let (image_there, status_there) = (image.is_some(), status.is_some());
+    let content = content_of(rt.alloc(), size, image, status)?;
+    Ok(Held {
+        content,
+        image_there,
+        status_there,
+    })
+}
+
+// The bytes of a chip's file, which has so many, if one is named and there: held, and synced. Its folder is synced too,
+// also where the file isn't there.
+fn hold_whole<'a, R: Store>(
+    rt: &mut R,
+    name: Option<&'a str>,
+    len: u32,
+) -> Result<Option<Vec<u8>>, Fault<'a>>
+    ensures nature { (R.state rt.new).view.nature ≡ (R.state rt.old).view.nature }
+    ensures len { IfOk result (λ found. IfSome found (λ bytes. vec_len bytes ≡ len)) }
+    ensures ok { IfOk result (λ found.
+        IsFileFound (R.state rt.old).view name.entry len (option_map (λ bytes. bytes.items) found)) }
+    ensures stay { OnOk result (KnownStay (R.state rt.old) (R.state rt.new)) }
+    ensures held { AreAtRest (R.state rt.old) → IfOk result (λ found.
+        IsHeld name.entry (option_map (λ bytes. bytes.items) found) (R.state rt.old) (R.state rt.new)) }
+    ensures no_more { AreAtRest (R.state rt.old) → LeaveNoMore (R.state rt.old) (R.state rt.new) }
+    ensures err { IfErr result (λ fault.
+        IsSomeAnd name.entry (λ given. IsHoldingFault (R.state rt.old).view given.now len fault)) }
+{
+    let Some(name) = name else {
+        return Ok(None);
+    };
+    match rt.hold(name) {
+        Ok(true) => Ok(Some(read_held(rt, name, len)?)),
+        Ok(false) => match rt.sync_folder(name) {
+            Ok(()) => Ok(None),
+            Err(_) => Err(unmade(name)),
+        },
+        Err(fault) => Err(unheld(fault, name)),
+    }
+}
+
+// The bytes of a chip's file that is there, which has so many: synced, and its folder too, since a run that made the
+// file may have been killed before it did that.
+fn read_held<'a, R: Store>(rt: &mut R, name: &'a str, len: u32) -> Result<Vec<u8>, Fault<'a>>
+    ensures nature { (R.state rt.new).view.nature ≡ (R.state rt.old).view.nature }
+    ensures len { IfOk result (λ bytes. vec_len bytes ≡ len) }
+    ensures ok { IfOk result (λ bytes. IsRead (R.state rt.old).view name.now (len + 1) bytes.items) }
+    ensures stay { OnOk result (KnownStay (R.state rt.old) (R.state rt.new)) }
+    ensures held { AreAtRest (R.state rt.old) → IfOk result (λ bytes.
+        IsSettled name.now (Some bytes.items) (R.state rt.new)) }
+    ensures no_more { AreAtRest (R.state rt.old) → LeaveNoMore (R.state rt.old) (R.state rt.new) }
+    ensures err { IfErr result (IsHoldingFault (R.state rt.old).view name.now len) }
+{
+    let Some(bytes) = read_whole(rt, Some(name), len)? else {
+        return Err(unread(name));
+    };
+    match rt.sync(name) {
+        Ok(()) => {}
+        Err(_) => return Err(unmade(name)),
+    }
+    match rt.sync_folder(name) {
+        Ok(()) => Ok(bytes),
+        Err(_) => Err(unmade(name)),
+    }
+}
+
+// The fault of a file that can't be held.
+fn unheld(fault: HoldFault, name: &str) -> Fault<'_>
+    ensures { IsUnheldFault fault name.now result }
+{
+    match fault {
+        HoldFault::Unread(error) => reading(error, name),
+        HoldFault::Unheld => unmade(name),
+        HoldFault::Busy => {
+            let fault = FileFault::Taken;
+            Fault::File { fault, name }
+        }
+    }
+}
+
+/// The files that couldn't be written after a call, by their names.
+#[derive(Clone, Copy)]
+pub struct Unwritten<'a> {
+    pub image: Option<&'a str>,
+    pub status: Option<&'a str>,
+    pub trace: Option<&'a str>,
+}
+
+/// Writes the chip's bytes and status bytes into the files that are named, the second also where the first can't be
+/// written. Answers the names of those that can't.
+pub fn write_back<'a, R: Store>(
+    rt: &mut R,
+    programmer: &Programmer<'a>,
+    image_there: bool,
+    status_there: bool,
+    bus: &SimBus,
+) -> (Option<&'a str>, Option<&'a str>)
+    ensures nature { (R.state rt.new).view.nature ≡ (R.state rt.old).view.nature }
+    ensures others { is_lawful (R.state rt.old).view ≡ true → (any : Name) → IsNot programmer.now.image any
+        → IsNot programmer.now.status any → Stays any (R.state rt.old) (R.state rt.new) }
+    ensures fails { IsToldOf programmer.now.image result.0 (R.state rt.old).view
+        × IsToldOf programmer.now.status result.1 (R.state rt.old).view }
+    ensures put { AreTwo programmer.now.image programmer.now.status → (bytes bits : List ℕ)
+        → AreReady programmer.now image_there status_there bytes bits
+        (⟦<SimBus as Bus>⟧.state bus.now).chip (R.state rt.old)
+        → ArePutBack programmer.now (⟦<SimBus as Bus>⟧.state bus.now).chip result.0 result.1 (R.state rt.new) }
+    ensures amid { AreTwo programmer.now.image programmer.now.status → (bytes bits : List ℕ)
+        → AreReady programmer.now image_there status_there bytes bits
+        (⟦<SimBus as Bus>⟧.state bus.now).chip (R.state rt.old)
+        → AreAmid programmer.now image_there status_there bytes bits (⟦<SimBus as Bus>⟧.state bus.now).chip
+        (R.state rt.new) }
+{
+    let image = put_back(rt, programmer.image, image_there, bus.bytes());
+    let status = put_back(rt, programmer.status, status_there, &bus.status());
+    (image, status)
+}
+
+// Writes these bytes into the file of this name, if one is given, and answers its name where that fails.
+fn put_back<'a, R: Store>(
+    rt: &mut R,
+    name: Option<&'a str>,
+    there: bool,
+    bytes: &[u8],
+) -> Option<&'a str>
+    ensures nature { (R.state rt.new).view.nature ≡ (R.state rt.old).view.nature }
+    ensures others { is_lawful (R.state rt.old).view ≡ true → (any : Name) → IsNot name.entry any
+        → Stays any (R.state rt.old) (R.state rt.new) }
+    ensures fails { IfSome result (λ failed. (name.entry ≡ Some failed)
+        × Happens (R.state rt.old).view (FailsWrite failed.now)) }
+    ensures put { result ≡ None → (had : List ℕ) → IsReady name.entry there had bytes.now (R.state rt.old)
+        → Settles name.entry (Some bytes.now) (R.state rt.new) }
+    ensures amid { (had : List ℕ) → IsReady name.entry there had bytes.now (R.state rt.old)
+        → LeavesAmid name.entry there had bytes.now (R.state rt.new) }
+{
+    let name = name?;
+    let put = if there {
+        write_over(rt, name, bytes)
+    } else {
+        make_with(rt, name, bytes)
+    };
+    match put {
+        Ok(()) => None,
+        Err(_) => Some(name),
+    }
+}
+
+// Writes these bytes over a file, cuts it to their length, and syncs it.
+fn write_over<R: Store>(rt: &mut R, name: &str, bytes: &[u8]) -> io::Result<()>
+    ensures nature { (R.state rt.new).view.nature ≡ (R.state rt.old).view.nature }
+    ensures others { is_lawful (R.state rt.old).view ≡ true → OthersStay name.now (R.state rt.old) (R.state rt.new) }
+    ensures fails { OnErr result (Happens (R.state rt.old).view (FailsWrite name.now)) }
+    ensures put { (had : List ℕ) → IsReadyFile name.now true had bytes.now (R.state rt.old)
+        → OnOk result (IsSettled name.now (Some bytes.now) (R.state rt.new)) }
+    ensures amid { (had : List ℕ) → IsReadyFile name.now true had bytes.now (R.state rt.old)
+        → LeavesFileAmid name.now true had bytes.now (R.state rt.new) }
+{
+    rt.write_over(name, bytes)?;
+    rt.set_len(name, bytes.len() as u64)?;
+    rt.sync(name)
+}
+
+// Makes a file with these bytes. Until all of them are synced it is empty, or has one byte more than they are, so
+// that a machine that is lost never leaves other bytes in the right number.
+fn make_with<R: Store>(rt: &mut R, name: &str, bytes: &[u8]) -> io::Result<()>
+    ensures nature { (R.state rt.new).view.nature ≡ (R.state rt.old).view.nature }
+    ensures others { is_lawful (R.state rt.old).view ≡ true → OthersStay name.now (R.state rt.old) (R.state rt.new) }
+    ensures fails { OnErr result (Happens (R.state rt.old).view (FailsWrite name.now)) }
+    ensures put { (had : List ℕ) → IsReadyFile name.now false had bytes.now (R.state rt.old)
+        → OnOk result (IsSettled name.now (Some bytes.now) (R.state rt.new)) }
+    ensures amid { (had : List ℕ) → IsReadyFile name.now false had bytes.now (R.state rt.old)
+        → LeavesFileAmid name.now false had bytes.now (R.state rt.new) }
+{
+    let len = bytes.len() as u64;
+    rt.make(name)?;
+    rt.set_len(name, len + 1)?;
+    rt.sync(name)?;
+    rt.write_over(name, bytes)?;
+    rt.sync(name)?;
+    rt.set_len(name, len)?;
+    rt.sync(name)?;
+    rt.sync_folder(name)
+}
