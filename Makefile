@@ -1,14 +1,25 @@
-# `make demo` runs the main job, `make quick` looks at all that needs no proof, `make check` proves and passes the tests.
-# README tells the times that were measured.
+# `make help` tells what there is to make, and README how long it takes.
 
 PROGRAM := crates/flashnor/out/flashnor
 BENCH := crates/bench/out/bench
 SCRATCH := $(CURDIR)/out/demo
 WORDS := -p dummy:emulate=TINY64,image=chip.bin -w new.bin --rehearse 25
-AGAIN = cd $(SCRATCH) && $(abspath $(PROGRAM)) $(WORDS)
 
-# Where `make install` puts things, below DESTDIR if that is given.
+# What a program is built from. A folder is newer than its program where a file was taken from it.
+SOURCES := crates.txt HANDLES \
+  $(shell find $(wildcard crates/*/src crates/*/specs crates/*/proofs) -type d -o -name '*.rt' -o -name '*.antt')
+
+# The program's name as a target, where a blank would part it.
+blank := $(subst ,, )
+BUILT := $(subst $(blank),\ ,$(PROGRAM))
+
+# Where `make install` puts things, below DESTDIR if that is given. The program goes to bin, since it works on files
+# alone and needs no rights; flashrom, which drives hardware, is in sbin.
 PREFIX ?= /usr/local
+INTO = $(DESTDIR)$(PREFIX)
+IN_BIN = $(INTO)/bin/flashnor
+IN_MAN = $(INTO)/share/man/man8/flashnor.8
+IN_COMPLETIONS = $(INTO)/share/bash-completion/completions/flashnor
 
 # What `make dist` packs.
 VERSION := 1.0
@@ -18,17 +29,26 @@ DIST := out/flashnor-$(VERSION)
 SEED := 1
 COUNT := 1000
 
-.PHONY: build toolchain demo try files bench compare storm sweep kill runs install dist agree statement quick check price clean
+.PHONY: all help build toolchain demo try files bench compare storm sweep kill runs install uninstall dist agree \
+  statement lint quick check price clean
 
-# Proves the program and everything below it, builds it, and runs it once.
+all: build ## proves the program and all below it, and builds it
+
+help: ## lists what there is to make
+	@sed -n 's/^\([a-z]*\):.*## \(.*\)/\1	\2/p' Makefile | expand -t 12
+
+# The program is run once too.
 build: toolchain files
 	@echo "This proves all that the program stands on: twenty minutes on four cores, and up to 3 GB a prover."
 	@echo "('make demo' shows without a proof what it does.)"
-	cd crates/flashnor && rt run -- -p dummy:emulate=TINY64,image=$(SCRATCH)/chip.bin -w $(SCRATCH)/new.bin --rehearse 25
-	@test -x $(PROGRAM)
+	@scripts/proved.sh crates/flashnor/out/flashnor env -C crates/flashnor \
+	  rt run -- -p 'dummy:emulate=TINY64,image=$(SCRATCH)/chip.bin' -w '$(SCRATCH)/new.bin' --rehearse 25
 
-$(PROGRAM):
+# (a source that was edited meanwhile is newer still)
+$(BUILT): $(SOURCES)
 	@$(MAKE) --no-print-directory build
+	@newer=$$(find $(SOURCES) -maxdepth 0 -newer '$(PROGRAM)' -print -quit) && \
+	if [ -n "$$newer" ]; then echo "$(PROGRAM) is older than $$newer" >&2; exit 1; fi
 
 # All that proves and compiles is the kit's.
 toolchain:
@@ -37,34 +57,33 @@ toolchain:
 
 # A chip file whose byte 0 is 00h, an image whose byte 0 is 01h, and FFh in all other bytes of both.
 files:
-	@mkdir -p $(SCRATCH)
-	@head -c 65535 /dev/zero | tr '\000' '\377' > $(SCRATCH)/rest
-	@{ printf '\000'; cat $(SCRATCH)/rest; } > $(SCRATCH)/chip.bin
-	@{ printf '\001'; cat $(SCRATCH)/rest; } > $(SCRATCH)/new.bin
+	@mkdir -p '$(SCRATCH)'
+	@head -c 65535 /dev/zero | tr '\000' '\377' > '$(SCRATCH)/rest'
+	@{ printf '\000'; cat '$(SCRATCH)/rest'; } > '$(SCRATCH)/chip.bin'
+	@{ printf '\001'; cat '$(SCRATCH)/rest'; } > '$(SCRATCH)/new.bin'
 
 # The first run, on these files: a session that is stopped after 25 transactions and given back. It ends with the
 # run's own status, and says how to run again on the same files.
-demo: files
-	@if [ -x $(PROGRAM) ]; then \
-	  (cd $(SCRATCH) && $(abspath $(PROGRAM)) $(WORDS)); status=$$?; \
-	  echo "(again on the same files: $(AGAIN))"; exit $$status; \
+demo: files ## runs the main job: a write that is stopped half-way, and the chip given back
+	@if [ -x '$(PROGRAM)' ] && $(MAKE) -q '$(PROGRAM)'; then \
+	  program=$$(realpath '$(PROGRAM)'); \
+	  (cd '$(SCRATCH)' && "$$program" $(WORDS)); status=$$?; \
+	  echo "(again on the same files: cd '$(SCRATCH)' && '$$program' $(WORDS))"; exit $$status; \
 	else \
 	  $(MAKE) --no-print-directory try; \
 	fi
 
 # The same run where the program isn't built yet. What `rt` says beside the program is shown where the run fails.
 try: toolchain files
-	@echo "(the proved program isn't built yet: this run compiles it without its proof, and keeps none)"
+	@echo "(there is no proved program of these sources: this run compiles it without its proof, and keeps none)"
 	@cd crates/flashnor && \
-	rt try --data chip.bin=$(SCRATCH)/chip.bin --data new.bin=$(SCRATCH)/new.bin -- $(WORDS) \
-	  > $(SCRATCH)/printed 2> $(SCRATCH)/said; status=$$?; \
-	sed '/^run=/d' $(SCRATCH)/printed; \
-	if [ $$status -ne 0 ]; then cat $(SCRATCH)/said >&2; fi; \
-	echo "('make' proves and builds it; then, on the same files: $(AGAIN))"; exit $$status
+	rt try --data 'chip.bin=$(SCRATCH)/chip.bin' --data 'new.bin=$(SCRATCH)/new.bin' -- $(WORDS) \
+	  > '$(SCRATCH)/printed' 2> '$(SCRATCH)/said'; status=$$?; \
+	sed '/^run=/d' '$(SCRATCH)/printed'; \
+	if [ $$status -ne 0 ]; then cat '$(SCRATCH)/said' >&2; fi; \
+	echo "('make' proves and builds it, and then 'make demo' runs it)"; exit $$status
 
-# Measures the parts as they stand, each beside plain work of the same size in the same run. A time that is longer
-# than wanted is printed, and no failure.
-bench: toolchain
+bench: toolchain ## measures the parts, each beside plain work of the same size; one that is too slow is marked
 	@cd crates/bench && rt run > /dev/null
 	@$(BENCH) chip
 	@$(BENCH) plan
@@ -72,66 +91,61 @@ bench: toolchain
 	@$(BENCH) session
 	@$(BENCH) read
 
-# Runs flashrom and the program on the same chip images, where flashrom is installed: the same bytes, the same ranges,
-# and how long each takes.
-compare:
-	@bash compare/run.sh $(CURDIR)/$(PROGRAM)
+compare: $(BUILT) ## runs flashrom, where it is installed, and the program on the same chip images
+	@scripts/compare.sh '$(PROGRAM)'
 
-# The program goes to bin, since it works on files alone and needs no rights; flashrom, which drives hardware, is in
-# sbin.
-install: $(PROGRAM)
-	install -D -m 755 $(PROGRAM) $(DESTDIR)$(PREFIX)/bin/flashnor
-	install -D -m 644 man/flashnor.8 $(DESTDIR)$(PREFIX)/share/man/man8/flashnor.8
-	install -D -m 644 completion/flashnor.bash $(DESTDIR)$(PREFIX)/share/bash-completion/completions/flashnor
+install: $(BUILT) ## puts program, manual page and completion below PREFIX and DESTDIR
+	install -D -m 755 '$(PROGRAM)' '$(IN_BIN)'
+	install -D -m 644 man/flashnor.8 '$(IN_MAN)'
+	install -D -m 644 completion/flashnor.bash '$(IN_COMPLETIONS)'
 
-# Sessions by chance, each beside plain code: `make storm SEED=7 COUNT=5000`. The first case proves and builds.
-storm: toolchain
+uninstall: ## takes these three away again
+	rm -f '$(IN_BIN)' '$(IN_MAN)' '$(IN_COMPLETIONS)'
+
+# The first case proves and builds.
+storm: toolchain ## random sessions beside plain code: make storm SEED=7 COUNT=5000
 	@cd crates/storm && rt run -- $(SEED) 1 > /dev/null
 	@crates/storm/out/storm $(SEED) $(COUNT)
 
-# Runs the program with each of its allocations refused in turn, where there is a C compiler.
-sweep:
-	@bash sweep/run.sh $(CURDIR)/$(PROGRAM)
+sweep: $(BUILT) ## runs the program with each of its allocations refused in turn (with a C compiler)
+	@tests/sweep/run.sh '$(PROGRAM)'
 
-# Kills the program at each of its calls on files, and makes each of them fail, where there is a C compiler.
-kill:
-	@bash kill/run.sh $(CURDIR)/$(PROGRAM)
+kill: $(BUILT) ## kills the program at each of its calls on files, and makes each fail (with a C compiler)
+	@tests/kill/run.sh '$(PROGRAM)'
 
-# An archive for who has no prover: the proved program with its pages, what it was proved with, and their sums.
-dist: $(PROGRAM) toolchain
+# For who has no prover: the proved program with its pages, what it was proved with, and their sums. A program that was
+# built in another way has no page of what it was proved with, or one of another program.
+dist: $(BUILT) ## packs an archive with the program, its pages, and what it was proved with
+	@cd '$(dir $(PROGRAM))' && tail -n 1 PROVED-WITH 2> /dev/null | sha256sum --check --status 2> /dev/null || \
+	  $(MAKE) --no-print-directory -C '$(CURDIR)' build
 	@rm -rf $(DIST) && mkdir -p $(DIST)
-	@cp $(PROGRAM) man/flashnor.8 completion/flashnor.bash README.md CHANGELOG.md $(DIST)
-	@rt version > $(DIST)/PROVED-WITH
+	@cp '$(PROGRAM)' '$(dir $(PROGRAM))PROVED-WITH' man/flashnor.8 completion/flashnor.bash README.md CHANGELOG.md $(DIST)
 	@cd $(DIST) && sha256sum -- * > SHA256SUMS
 	@tar --sort=name --owner=0 --group=0 --numeric-owner -C out -czf $(DIST).tar.gz flashnor-$(VERSION)
 	@echo $(DIST).tar.gz
 
-# The built program on each case of runs/cases, and on the examples of README and the manual page.
-runs: $(PROGRAM)
-	@bash runs/run.sh $(abspath $(PROGRAM))
+runs: $(BUILT) ## runs the program on each case of tests/cases and on the examples of the pages
+	@tests/run.py '$(PROGRAM)'
 
-# Whether the help, README, SPECIFICATION, the manual page, the completion and STATEMENT say what the sources say.
-agree:
-	@bash docs/agree.sh
+agree: ## compares help, pages and completion with what the sources say
+	@bash scripts/agree.sh
 
-# All that `session`, `restore` and `rehearse` promise, on one page that is made from the sources.
-statement:
+statement: ## makes docs/STATEMENT.md from the sources
 	@mkdir -p out
-	@python3 docs/statement.py > out/STATEMENT.md
+	@python3 scripts/statement.py > out/STATEMENT.md
 	@mv out/STATEMENT.md docs/STATEMENT.md
 
-# What can be known in a few minutes without a proof: layout, pages, that all compiles, tests, the built program's cases.
-quick: toolchain
-	@bash quick/run.sh $(CURDIR)/$(PROGRAM)
+lint: ## looks through each script (with shellcheck, a C compiler, pyflakes)
+	@scripts/lint.sh
 
-# The merge gate, which begins with that.
-check: toolchain
+quick: toolchain ## looks at all that needs no proof, in a few minutes
+	@scripts/quick.sh '$(PROGRAM)'
+
+check: toolchain ## the merge gate: proves everything from nothing and passes all tests
 	@bash .ci/run
 
-# What the gate costs, in processor minutes by crate: `make price COMMAND='rt must-fail nor_driver'` asks it of another
-# command.
-price: toolchain
-	@python3 price/run.py $(COMMAND)
+price: toolchain ## tells the processor minutes of the gate, or of COMMAND='rt must-fail nor_driver'
+	@scripts/price.py $(COMMAND)
 
-clean:
+clean: ## takes away all that was built
 	rm -rf out crates/*/out

@@ -1,4 +1,5 @@
-# Completion of flashnor's command line for bash. Source this file, or install it (make install).
+# shellcheck shell=bash
+# Completion of flashnor's command line for bash, from 3.2 on. Source this file, or install it (make install).
 #
 # To try it without a keyboard set COMP_LINE, COMP_POINT, COMP_WORDS and COMP_CWORD as bash does, with ':' and '=' as
 # words of their own, call _flashnor, and look at COMPREPLY.
@@ -14,7 +15,7 @@ _flashnor_words() {
             words+=("")
         fi
         [[ $typed == "$piece"* ]] || piece=$typed
-        words[-1]+=$piece
+        words[${#words[@]} - 1]+=$piece
         typed=${typed:${#piece}}
     done
 }
@@ -35,18 +36,19 @@ _flashnor_answer() {
     done
 }
 
-# Answers with files whose names begin as the text behind `front` does, `front` being the word's part before the name. A
-# backslash before a space in it is the shell's.
+# Answers with files whose names begin as the text behind `front` does, `front` being the word's part before the name, or
+# with folders alone (-d) where a new file is wanted. A backslash before a space in it is the shell's.
 _flashnor_files() {
-    local word=${1//\\/} front=$2 name names=()
+    local word=${1//\\/} front=$2 kind=$3 name names=()
     while IFS= read -r name; do
         names+=("$front$name")
-    done < <(compgen -f -- "${word#"$front"}")
+    done < <(compgen "$kind" -- "${word#"$front"}")
     compopt -o filenames 2> /dev/null
     _flashnor_answer "$word" "${names[@]}"
 }
 
-# The text of -p: the programmer, its keys (each once), the emulated chips, and files for the three keys that name one.
+# The text of -p: the programmer, its keys (each once), the emulated chips, and files for the keys that name one. That of
+# a trace is made, and what was in it before is lost.
 _flashnor_programmer() {
     local word=$1 key keys=()
     compopt -o nospace 2> /dev/null
@@ -59,7 +61,8 @@ _flashnor_programmer() {
     local front=${word%"$last"}
     case $last in
         emulate=*) _flashnor_answer "$word" "$front"emulate={TINY64,W25Q64FV,W25Q128FV} ;;
-        image=* | status=* | trace=*) _flashnor_files "$word" "$front${last%%=*}=" ;;
+        image=* | status=*) _flashnor_files "$word" "$front${last%%=*}=" -f ;;
+        trace=*) _flashnor_files "$word" "$front${last%%=*}=" -d ;;
         *=*) ;;
         *)
             for key in emulate image status stop trace unique busy power; do
@@ -110,18 +113,20 @@ _flashnor() {
     local words=() word before
     COMPREPLY=()
     _flashnor_words
-    word=${words[-1]}
+    word=${words[${#words[@]} - 1]}
     before=''
-    ((${#words[@]} > 1)) && before=${words[-2]}
+    ((${#words[@]} > 1)) && before=${words[${#words[@]} - 2]}
     case $before in
         -p) _flashnor_programmer "$word" ;;
         -c) _flashnor_answer "$word" W25Q64FV W25Q128FV SFDP ;;
-        -r | -w | -v | -l | --restore | --journal) _flashnor_files "$word" "" ;;
+        -r | -w | -v | -l | --restore) _flashnor_files "$word" "" -f ;;
+        --journal) _flashnor_files "$word" "" -d ;;
         -i) _flashnor_regions "$word" ;;
         --wp-range | --rehearse) ;;
         *)
             case $word in
-                --restore=* | --journal=*) _flashnor_files "$word" "${word%%=*}=" ;;
+                --restore=*) _flashnor_files "$word" "${word%%=*}=" -f ;;
+                --journal=*) _flashnor_files "$word" "${word%%=*}=" -d ;;
                 *) _flashnor_options "$word" ;;
             esac
             ;;

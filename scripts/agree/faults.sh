@@ -1,0 +1,106 @@
+# shellcheck shell=bash disable=SC2154
+# Printed lines, and faults by their numbers, for agree.sh, which sets messages, printing, words and work.
+
+# The line of each refusal: its number is in one source, its words in another, where one of five forms prints them.
+refusal_lines() {
+    local fault at sizes written
+    sed -nE 's/^ *Refusal::([A-Za-z]+).* => ([0-9]+),$/\1 \2/p' crates/nor_save/src/refusal.rt | sort > "$work/numbers"
+    flat "$messages" > "$work/messages"
+    fault=$(form Fault) at=$(form At) sizes=$(form Sizes) written=$(form Written)
+    sed 's/Refusal::/\n/g' "$work/messages" |
+        sed -nE "s/^([A-Za-z]+)[^=]*=> Reason::Words\(\"([^\"]*)\"\).*/\1 \2/p
+            s/^([A-Za-z]+)[^=]*=> Reason::Fault\(\"([^\"]*)\".*/\1 ${fault/\{words\}/\\2}/p
+            s/^([A-Za-z]+)[^=]*=> Reason::At\(\"([^\"]*)\".*/\1 ${at/\{words\}/\\2}/p
+            s/^([A-Za-z]+)[^=]*=> Reason::Sizes.*/\1 $sizes/p; s/^([A-Za-z]+)[^=]*=> Reason::Written.*/\1 $written/p" |
+        sort > "$work/reasons"
+    join -a1 -a2 "$work/numbers" "$work/reasons" | sed -E 's/^[A-Za-z]+ ([0-9]+) (.*)/Error \1: \2./
+        s/\{image\}/I/; s/\{chip\}/C/; s/\{address:06x\}/A/; s/\{bytes\}/W/; s/\{number\}/K/'
+}
+
+# How a reason of this kind is printed.
+form() { sed -E "s/.*Reason::$1[^=]*=> \{? ?write!\(f, \"([^\"]*)\"\).*/\1/" "$work/messages"; }
+
+# The lines of the other faults.
+fault_lines() {
+    local place
+    place=$(sed -nE 's/.*write!\(f, "( at line \{line\})"\).*/\1/p' "$messages")
+    sed -nE 's/.*write!\(f, "((Usage|Layout|File) fault [^"]*)".*/\1/p' "$words/words.rt" "$messages" |
+        sed -E "s/\{\}\{\}\./K.\nLayout fault K$place./; s/\{line\}/N/; s/\{name\}/NAME/; s/\{\}/K/"
+}
+
+# The lines of faults in the manual page.
+take_lines() {
+    { refusal_lines; fault_lines; } | keep "lines of faults" program
+    { tags Refusals; cut -f2 "$work/manual" | search '"[^"]* fault K[^"]*"' | tr -d '"'; } |
+        keep "lines of faults" manual
+    same "lines of faults" program manual
+}
+
+# Each refusal that a text shows anywhere, with `_` for what it tells.
+take_shown() {
+    local text mark='s/ (0x[0-9a-fA-F]+|[0-9]+|[ICKW])([ .,])/ _\2/g'
+    sed -E "$mark" "$work/lines of faults of program" | keep "refusals shown" program
+    for text in README manual; do
+        search "Error [0-9]+: [a-zA-Z][a-zA-Z0-9 ,']*\." "$work/flat/$text" | sed -E "$mark" |
+            keep "refusals shown" $text
+        none_but "refusals shown" program $text
+    done
+}
+
+# The lines of answers, with `_` for what they tell.
+take_answers() {
+    local line told='NAME|ID|SIZE|START|LENGTH|SFDP|[TEPXK]|ended|stopped|open|locked'
+    flat "$printing" | search 'writeln!\( ?output, "[^"]*"' | sed -E 's/.*output, "(.*)"/\1/; s/(0x)?\{[^}]*\}/_/g' |
+        keep answers program
+    table docs/SPECIFICATION.md Job | cut -d'|' -f2 | quoted > "$work/answers"
+    sed -E "s/[A-Z0-9]+ [0-9a-f]{6} [0-9]+/_ _ _/; s/\b($told)\b/_/g" "$work/answers" | keep answers SPECIFICATION
+    same answers program SPECIFICATION
+    awk -F'\t' '$1 == "OUTPUT" { print $4 }' "$work/manual" > "$work/told"
+    while IFS= read -r line; do
+        grep -qF -- "$line" "$work/told" || differs "answers: SPECIFICATION has '$line', manual hasn't"
+    done < <(grep -v '^W25' "$work/answers")
+}
+
+# The numbers that a source's faults have: as they are written, or counted where the first one is 1.
+numbers_in() {
+    awk '/^}/ { counts = 0 } /^    [A-Z][a-z]* = 1,$/ { counts = 1 } counts && /^    [A-Z]/ { print ++n }
+        match($0, /Fault::[A-Za-z]+(\(_\))? => [0-9]+/) { print substr($0, RSTART, RLENGTH) }' "$1" |
+        search '[0-9]+$'
+}
+
+# The faults of a kind by their numbers.
+take_kind() {
+    local kind=$1 source=${2##*/}
+    tags "^$kind faults" | keep "$kind faults" manual
+    numbers_in "$2" | keep "numbers of $kind faults" "$source"
+    cut -d' ' -f1 "$work/$kind faults of manual" | keep "numbers of $kind faults" manual
+    same "numbers of $kind faults" "$source" manual
+}
+
+# The options of which lines `N: ..` speak, by the lines' numbers.
+options_by_number() {
+    local number text
+    while read -r number text; do
+        search '(^| )(--?[a-zA-Z][-a-z]*|[a-z]+=)' <<< "$text" | sed "s/^ */${number%:} /"
+    done
+}
+
+# The options that each usage fault is about.
+take_usage_options() {
+    sed -nE 's/^ *\/\/\/ ([0-9]+: .*)/\1/p' "$words/words.rt" | tr -d '`' | options_by_number |
+        keep "options of usage faults" words.rt
+    options_by_number < "$work/Usage faults of manual" | keep "options of usage faults" manual
+    same "options of usage faults" words.rt manual
+}
+
+take_faults() {
+    take_lines
+    take_shown
+    take_answers
+    take_kind Usage "$words/words.rt"
+    take_kind Layout crates/nor_layout/src/fault.rt
+    take_kind File "$messages"
+    take_kind SFDP crates/nor_probe/src/sfdp.rt
+    take_kind Journal crates/nor_journal/src/fault.rt
+    take_usage_options
+}

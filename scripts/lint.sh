@@ -1,0 +1,81 @@
+#!/usr/bin/env bash
+# scripts/lint.sh: whether each script and C file passes its linter.
+#
+# Shell is read by shellcheck, C by the compiler with its warnings, Python by itself and by pyflakes. A script is
+# executable where its first line names what runs it, and only there; the completion does without what bash 3.2 lacks. A
+# linter that isn't installed is told in a line `skipped: ..`. The last line is `N passed, M failed`, a file and what
+# looked at it being one, and the status is 1 where one failed.
+set -uo pipefail
+
+cd "$(dirname "$0")/.." || exit
+passed=0
+failed=0
+
+if ! git ls-files --error-unmatch crates.txt > /dev/null 2>&1; then
+    echo "skipped: lint, since this is no git repository, which tells the files"
+    exit 0
+fi
+mapfile -d '' files < <(git ls-files -z --cached --others --exclude-standard -- . ':!crates')
+shell=() python=() c=()
+for file in "${files[@]}"; do
+    [[ -f $file ]] || continue
+    IFS= read -r first < "$file" || true
+    case $file in
+        *.c) c+=("$file") ;;
+        *.py) python+=("$file") ;;
+        *.sh | *.bash) shell+=("$file") ;;
+        *) [[ $first != '#!'*sh ]] || shell+=("$file") ;;
+    esac
+done
+
+# each NAME FILES WORDS..: runs the words on each of so many files.
+each() {
+    local name=$1 count=$2 file
+    local -a looked=("${@:3:count}")
+    shift $((count + 2))
+    for file in "${looked[@]}"; do
+        if "$@" "$file"; then
+            passed=$((passed + 1))
+        else
+            echo "FAILED: $name: $file"
+            failed=$((failed + 1))
+        fi
+    done
+}
+
+# Whether the file may be run just where it can be.
+is_runnable() {
+    local first
+    IFS= read -r first < "$1" || true
+    if [[ $first == '#!'* ]]; then [[ -x $1 ]]; else [[ ! -x $1 ]]; fi
+}
+
+is_python() { python3 -c 'import ast, sys; ast.parse(open(sys.argv[1], encoding="utf-8").read(), sys.argv[1])' "$1"; }
+
+# Arrays from behind, arrays by name, lines into arrays, other cases of letters, and pipes with faults are bash 4's.
+is_old_bash() { ! grep -nE '\[-[0-9]+\]|(declare|local|typeset) -[a-z]*[An]|mapfile|readarray|\$\{[a-z_]+[,^]|\|&|&>>|;;?&' "$1"; }
+
+is_c() { cc -std=c11 -Wall -Wextra -Werror -fsyntax-only "$1"; }
+
+each runnable "${#files[@]}" "${files[@]}" is_runnable
+each 'bash 3.2' 1 completion/flashnor.bash is_old_bash
+each python "${#python[@]}" "${python[@]}" is_python
+if command -v shellcheck > /dev/null; then
+    each shellcheck "${#shell[@]}" "${shell[@]}" shellcheck --
+else
+    echo "skipped: the shell scripts' look by shellcheck, which isn't installed"
+fi
+if command -v cc > /dev/null; then
+    each cc "${#c[@]}" "${c[@]}" is_c
+else
+    echo "skipped: the C files' look by a compiler, since there is none (cc)"
+fi
+if command -v pyflakes3 > /dev/null; then
+    each pyflakes "${#python[@]}" "${python[@]}" pyflakes3
+elif python3 -c 'import pyflakes' 2> /dev/null; then
+    each pyflakes "${#python[@]}" "${python[@]}" python3 -m pyflakes
+else
+    echo "skipped: the Python files' look by pyflakes, which isn't installed"
+fi
+echo "$passed passed, $failed failed"
+((failed == 0 && passed > 0))

@@ -1,0 +1,347 @@
+"""The words of the sources, for scripts/statement.py: definitions of specs/, types of src/, and what each of them uses.
+
+A name is looked up as the compiler does: what a definition binds itself, then what its file has or brings in by `use`.
+"""
+import collections
+import functools
+import pathlib
+import re
+import sys
+
+TOP = pathlib.Path(__file__).resolve().parent.parent
+CRATES = TOP / "crates"
+
+TOKEN = re.compile(r'"(?:[^"\\]|\\.)*"|--[^\n]*|[(){}.;,@]|[^\s(){}.;,@"«»]+')
+SYNTAX = set("= : ↦ | [ ] _ in as where Type pub unfolding".split())
+NOTATION = set("→ × λ ¬ ⊥ Unit record let elim".split())
+# What stands for itself on the left of an equation; another name of a library is a variable there.
+CONSTRUCTORS = set("Ok Err Some None true false [] ∷ zero suc tt".split())
+# How a line begins that goes on with the one above it.
+CLOSING = " )]}"
+MARKED = re.compile(r"(?:(?:pub|abbrev|unfoldable|pattern|axiom) )+(?:(record|data) )?(\S+)|(\S+) : ")
+CLAUSE = re.compile(r"\b(?:(?:requires|ensures)(?: \w+)?|ghost \w+(?::| =)) \{")
+
+
+def fail(message):
+    """Ends the script: the page can't be made."""
+    sys.exit(f"DIFFERS: statement: {message}")
+
+
+# ---- the names in a term
+
+
+def tokens_of(term):
+    """Returns the tokens of a term, each with whether it is a field that stands behind its dot."""
+    found, is_field = [], False
+    for match in TOKEN.finditer(term):
+        token, start, end = match.group(), *match.span()
+        if token == "." and term[start - 1 : start].strip() and term[end : end + 1].strip():
+            is_field = True
+        elif token[:2] != "--" and token[0] != '"':
+            found.append((token, is_field))
+            is_field = False
+    return found
+
+
+def free_names(term, bound, stands_for_itself=lambda name: False):
+    """Returns the names in a term that nothing in it binds, each with the field that is taken of it."""
+    tokens = tokens_of(term)
+    words = [token for token, _ in tokens] + [""]
+    scopes, groups, binders, in_pattern, free = [set(bound)], [], None, False, []
+    for at, (token, is_field) in enumerate(tokens):
+        here, before, behind = scopes[-1], words[at - 1] if at else "", words[at + 1]
+        if is_field and binders == len(scopes):
+            binders, is_field = None, False  # the dot was that of a λ
+        if token in "({":
+            end = next(i for i in range(at + 1, len(words)) if words[i] in "(){}.;,:→=")
+            groups.append(words[at + 1 : end] if words[end] == ":" else [])
+            scopes.append(here | set(groups[-1]))
+        elif token in ")}":
+            scopes.pop()
+            scopes[-1].update(groups.pop())
+        elif token == "λ":
+            binders = len(scopes)
+            free.append((token, None))
+        elif token == "." and binders == len(scopes):
+            binders = None
+        elif token in "[|" and "↦" in words[at:]:
+            in_pattern = True
+        elif token == "↦":
+            in_pattern = False
+        elif is_field or token in ".,;@" or token[0].isdigit() or token in SYNTAX or token in here:
+            continue
+        elif before in ("{", ";") and behind == "=":
+            continue
+        elif binders == len(scopes) or before in ("let", "pub") or (in_pattern and not stands_for_itself(token)):
+            here.add(token)
+        else:
+            free.append((token, behind if at + 1 < len(tokens) and tokens[at + 1][1] else None))
+    return free
+
+
+# ---- the sources
+
+
+class Word:
+    """A definition or a type: where it stands, its kind, its comment and its lines, and the part of the file."""
+
+    def __init__(self, source, kind, name, line, comment, part=""):
+        self.source, self.kind, self.name, self.line = source, kind, name, line
+        self.comment, self.code, self.part, self.whole = comment, [], part, ""
+
+
+def uses_in(text):
+    """Returns what the `use` lines of a text bring in: each local name, and the path and name that it stands for."""
+    found = {}
+    for path, names in re.findall(r"\buse ([\w.]+)\.\{([^}]*)\}", text):
+        for entry in re.split(r",\s*", names.strip()):
+            name, _, local = entry.partition(" as ")
+            found[local or name] = path, name
+    for path, local in re.findall(r"\buse ([\w.]+) as (\w+)", text):
+        found[local] = path, None
+    return found
+
+
+def find(path, name):
+    """Returns the word that a name of this path is, or of a library the name."""
+    _, crate, _, *parts = path.split(".")
+    if not (CRATES / crate).is_dir():
+        return name
+    if parts[0] == "declared":
+        *modules, kind = [part for part in parts[1:] if part != "TheVariants"]
+        return source(f"{crate}/src/{'/'.join(modules)}.rt").type_of(kind)
+    if not (CRATES / crate / f"specs/{'/'.join(parts)}.antt").exists():
+        *parts, name = parts  # a constructor of this kind
+    return source(f"{crate}/specs/{'/'.join(parts)}.antt").word(name)
+
+
+def is_equation_of(name, line):
+    """Whether a line begins an equation of this name; an operator's parts stand between its arguments."""
+    words = line.partition(" =")[0].split()
+    parts = [part for part in name.split("◌") if part]
+    return all(part in words for part in parts) if "◌" in name else words[0] == name
+
+
+class Source:
+    """A file below crates/: its words, what its `use` lines bring in, and what its head says of it."""
+
+    def __init__(self, path):
+        self.path, self.words = path, {}
+        self.text = (CRATES / path).read_text(encoding="utf-8")
+        self.lines = self.text.splitlines()
+        self.uses = uses_in("\n".join(line for line in self.lines if line[:1] != " "))
+        head = re.match(r"(?:(?:--|//!) .*\n)*", self.text).group()
+        self.head = " ".join(line.split(" ", 1)[1] for line in head.splitlines())
+
+    def take_parts(self):
+        """Notes the operators by the parts of their names."""
+        names = [*self.uses, *self.words]
+        self.parts = {part: name for name in names for part in name.split("◌") if part not in ("", name)}
+
+    def known(self, name, uses):
+        """Returns what a name of a term is, which the file has or brings in."""
+        name = self.parts.get(name, name)
+        if name in uses:
+            return find(*uses[name])
+        if name in self.words or name in NOTATION:
+            return self.words.get(name, name)
+        return fail(f"{self.path} says '{name}', which is found nowhere")
+
+
+class Spec(Source):
+    """A file of specs/: definitions, each a line with its name and its type, and behind it the equations of that name.
+    A comment that stands right above an equation belongs to it. What is neither ends the script."""
+
+    def __init__(self, path):
+        super().__init__(path)
+        word, comment, part = None, [], ""
+        for number, line in enumerate(self.lines, 1):
+            marked = MARKED.match(line)
+            if line.startswith("-- ----"):
+                word, comment, part = None, [], line
+            elif line.startswith("--"):
+                comment = [*comment, line]
+            elif not line:
+                word, comment = None, []
+            elif re.match(r"(pub )?(use|mod) .*[^{,]$|infix", line):
+                word, comment = None, []
+            elif marked:
+                word = self.begin(marked, number, comment, part)
+                comment = []
+            elif word and (line[0] in CLOSING or is_equation_of(word.name, line)):
+                word.code += [*comment, line]
+                comment = []
+            else:
+                fail(f"crates/{path}:{number}: '{line}' belongs to no definition")
+            if word and word.kind == "data" and (constructor := re.match(r"  (\S+) :", line)):
+                self.words[constructor[1]] = word
+        self.take_parts()
+
+    def begin(self, marked, number, comment, part):
+        """Takes the first line of a definition."""
+        kind, name = marked[1], marked[2] or marked[3]
+        if name in self.words:
+            fail(f"crates/{self.path}:{number}: '{name}' is defined twice")
+        word = self.words[name] = Word(self, kind, name, number, comment, part)
+        word.code = [marked.string]
+        return word
+
+    def word(self, name):
+        """Returns the word of this name."""
+        return self.known(name, self.uses)
+
+    def is_constructor(self, name):
+        """Whether a name on the left of an equation stands for itself, and is no variable."""
+        is_ours = name in self.words and self.words[name].kind == "data"
+        return is_ours or name in CONSTRUCTORS or self.uses.get(name, ("",))[0].endswith(".TheVariants")
+
+    def used(self, word):
+        """Returns the words that a definition uses."""
+        free = self.names_of_record(word) if word.kind == "record" else self.names(word)
+        aliases = {name for name, (_, stands_for) in self.uses.items() if stands_for is None}
+        return [find(self.uses[name][0], field) if name in aliases else self.word(name) for name, field in free]
+
+    def names(self, word):
+        """Returns the free names of a definition by equations, each of which binds the variables on its left."""
+        parts = []
+        for line in word.code:
+            if line.startswith("--"):
+                continue
+            if parts and line[0] in CLOSING:
+                parts[-1] += "\n" + line
+            else:
+                parts.append(line)
+        free = free_names(parts[0].split(" :", 1)[1], (), self.is_constructor)
+        for equation in parts[1:]:
+            left, _, right = equation.partition(" =")
+            names = [name for name, is_field in tokens_of(left) if not is_field]
+            fixed = [(name, None) for name in names if self.is_constructor(name)]
+            fixed += re.findall(r"(\w+)\.(\w+)", left)
+            free += fixed + free_names(right, set(names) - {name for name, _ in fixed}, self.is_constructor)
+        return free
+
+    def names_of_record(self, word):
+        """Returns the free names of a record, each field of which sees those before it."""
+        header, *fields = re.split(r"\n(?=  pub )", "\n".join(word.code))
+        header = header.split(f" {word.name}", 1)[1].rsplit(" where", 1)[0]
+        bound = {name for group in re.findall(r"[({]([^(){}:]*) :", header) for name in group.split()}
+        free = [("record", None)] + free_names(header, (), self.is_constructor)
+        for field in fields:
+            free += free_names(field, bound, self.is_constructor)
+            bound.add(field.split()[1])
+        return free
+
+
+class Code(Source):
+    """A file of src/."""
+
+    def __init__(self, path):
+        super().__init__(path)
+        for number, line in enumerate(self.lines):
+            if item := re.match(r"(?:pub )?(struct|enum|trait|fn) (\w+)", line):
+                self.take(item[1], item[2], number)
+        self.take_parts()
+
+    def take(self, kind, name, number):
+        """Takes a type, a trait or a function with its contract, and the comment above it. Of a type that contracts see
+        as a value of another kind, that is told in place of its fields."""
+        start, line = number, self.lines[number]
+        while re.match(r"//|#\[", self.lines[start - 1]):
+            start -= 1
+        comment = [above for above in self.lines[start:number] if above[:2] == "//"]
+        word = self.words[name] = Word(self, kind, name, number + 1, comment)
+        word.whole = self.header(number) if kind == "fn" else self.item(number)
+        word.code = re.sub(r" *ghost use .*\n\n?", "", word.whole).splitlines()
+        has_model = f" Model for {name}" in self.text
+        if has_model and (model := re.search(rf"(?m)^impl\b.* Model for {name}\b(?:.*\n)*?}}", self.text)):
+            word.whole = model.group()
+            value = re.search(r".*ghost Value = .*", word.whole).group()
+            fields = "{ .. }" if line.endswith("{") else "(..);"
+            word.code = [f"{line[:-1]}{fields}", word.whole.splitlines()[0], value, "}"]
+
+    def header(self, number):
+        """Returns the text of a function that begins in this line, with its contract and without its body."""
+        start = sum(len(line) + 1 for line in self.lines[:number])
+        end = end_of_header(self.text, start) or fail(f"crates/{self.path}:{number + 1}: this function doesn't end")
+        return self.text[start:end].rstrip()
+
+    def item(self, number):
+        """Returns the text of a type or a trait that begins in this line."""
+        last = r"\}|\);|(pub )?struct .*[;}]$"
+        end = next((at for at in range(number, len(self.lines)) if re.match(last, self.lines[at])), None)
+        if end is None:
+            fail(f"crates/{self.path}:{number + 1}: this type doesn't end")
+        return "\n".join(self.lines[number : end + 1])
+
+    def type_of(self, name):
+        """Returns the type or trait that a name of Rust's is, or of a library the name."""
+        if name in self.words:
+            return self.words[name]
+        mine = self.path.split("/")[0]
+        for first, rest in re.findall(r"(?m)^(?:pub )?use (\w+)([^;]*);", self.text):
+            crate = first if (CRATES / first).is_dir() else mine
+            if re.search(rf"\b{name}\b", rest) and first != "std":
+                files = sorted((CRATES / crate / "src").rglob("*.rt"))
+                here = [source(file.relative_to(CRATES).as_posix()).words.get(name) for file in files]
+                return next(filter(None, here), None) or source(f"{crate}/src/lib.rt").type_of(name)
+        return name
+
+    def used(self, word):
+        """Returns the words that the clauses of an item use, and the types that it names."""
+        text = "\n".join(word.code)
+        clauses, rest = clauses_of(text)
+        bound = {"result", "self", "Self", *re.findall(r"(\w+):", rest), *re.findall(r"ghost (\w+)", text)}
+        uses = {**self.uses, **uses_in(word.whole)}
+        found = [self.known(name, uses) for clause in clauses for name, _ in free_names(clause.term, bound)]
+        if word.kind == "enum":
+            rest = re.sub(r"(?m)^ +\w+", "", rest)
+        return found + [self.type_of(name) for name in sorted(set(re.findall(r"\b[A-Z]\w*", rest)) - bound)]
+
+
+Clause = collections.namedtuple("Clause", "kind name term")
+
+
+def end_of_braces(text, start):
+    """Returns the place behind the brace that closes the one before this place."""
+    depth = 1
+    while depth:
+        depth += {"{": 1, "}": -1}.get(text[start], 0)
+        start += 1
+    return start
+
+
+def clauses_of(text):
+    """Returns the clauses and ghost members of an item, and the text without them and without comments."""
+    text = re.sub(r"//.*", "", text)
+    clauses, rest, done = [], "", 0
+    while match := CLAUSE.search(text, done):
+        rest, done = rest + text[done : match.start()], end_of_braces(text, match.end())
+        kind, name = re.match(r"(\w+) ?(\w*)", match.group()).groups()
+        clauses.append(Clause(kind, name, text[match.end() : done - 1]))
+    rest += text[done:]
+    if re.search(r"\b(requires|ensures)\b", rest):
+        fail(f"a clause of '{text.splitlines()[0]}' can't be read")
+    return clauses, rest
+
+
+def end_of_header(text, start):
+    """Returns the place of the body, or of the semicolon, of the function whose header begins there; 0 for none."""
+    depth = 0
+    while start < len(text):
+        skipped = CLAUSE.match(text, start)
+        if text.startswith("//", start):
+            start = text.index("\n", start)
+        elif skipped:
+            start = end_of_braces(text, skipped.end())
+        elif text[start] in "{;" and not depth:
+            return start
+        else:
+            depth += {"(": 1, "[": 1, ")": -1, "]": -1}.get(text[start], 0)
+            start += 1
+    return 0
+
+
+@functools.cache
+def source(path):
+    """Returns the file of this path below crates/."""
+    return Spec(path) if path.endswith(".antt") else Code(path)

@@ -1,0 +1,338 @@
+#!/usr/bin/env python3
+"""scripts/statement.py [--check]: the page docs/STATEMENT.md, made from the sources.
+
+It prints all that three calls promise: each definition of specs/ and each type of src/ that their contracts need, in an
+order in which each word is explained before it is used, and then the contracts. A definition by one equation has its
+signature in it. With --check it compares the page with what it would print, tells each difference, and ends with status
+1 where there is one. It fails where a name is found nowhere, where SUBJECTS hasn't the file of a word, and where LEGEND
+doesn't explain a word of a library.
+"""
+import difflib
+import functools
+import itertools
+import re
+import sys
+
+sys.dont_write_bytecode = True  # nothing else is to be left in docs/
+from sources import TOP, Word, fail, source
+
+PAGE = "docs/STATEMENT.md"
+CALLS = {
+    "session": "nor_session/src/sessions.rt",
+    "restore": "nor_session/src/restores.rt",
+    "rehearse": "nor_session/src/rehearsals.rt",
+}
+
+# The subjects of the page in their order, and the files whose words each of them has. Where a word needs one of a later
+# subject the order gives way.
+SUBJECTS = {
+    "The chip": "nor_chip: specs/Size src/config src/running specs/Sfdp specs/Chip",
+    "Guarded places": "nor_chip: specs/Code specs/Guard specs/Offer",
+    "What a transaction asks for": "nor_chip: src/command specs/Command specs/Aim",
+    "The chip's step": "nor_chip: specs/Step",
+    "A stop, and a loss of power": "nor_chip: specs/Power",
+    "The bus": "nor_chip: specs/Bus src/bus",
+    "Looking, and counting transactions": "nor_driver: specs/Looks nor_apply: specs/Spending",
+    "IDs, fixed bits and the code": "nor_chip: src/status nor_driver: specs/Reads specs/StatusWrites",
+    "What a chip says by SFDP": "nor_probe: src/sfdp specs/Sfdp",
+    "What a chip shows itself as": "nor_probe: src/table specs/Table src/probes specs/Known specs/Found",
+    "The fewest erases": "nor_driver: src/units specs/Units nor_plan: specs/Erase specs/Planned",
+    "The most transactions": "nor_driver: specs/Operations nor_save: specs/Opening nor_session: specs/Bounds",
+    "What a request includes": "nor_layout: src/ranges specs/Below specs/Ranges specs/Sectors nor_save: src/report",
+    "Touched and raised sectors": "nor_apply: specs/Content specs/Counts",
+    "What a request wants": "nor_save: specs/Request",
+    "The vault": "nor_journal: src/vault specs/Vault src/mem_vault specs/MemVault",
+    "The journal": "nor_journal: specs/Number specs/Text src/fault src/journal specs/Saved nor_save: specs/Keeping",
+    "Refusals": "nor_save: src/refusal specs/Refusal",
+    "What each refusal says, and the verdict": "nor_save: specs/Saving specs/Judging nor_session: specs/Verdict",
+    "A chip that can be given back": "nor_apply: specs/Within specs/Change nor_session: specs/Changing",
+    "What a call makes of the chip": "nor_session: specs/Made",
+    "Sessions": "nor_session: specs/Session",
+    "Restores": "nor_session: specs/Restore",
+    "Rehearsals": "nor_session: src/rehearsals specs/Rehearsal",
+}
+
+HEAD = """# The statement
+
+All that the calls `session`, `restore` and `rehearse` promise: their contracts stand at the end, and before them each
+definition and type that these need, as its source has it, so that each word is explained before it is used. (Only set
+closer: a definition by one equation has its arguments' types beside them, and not in a line above; that a word is a
+statement, `: Type 0`, is left out where its type has no `→`; and fields without a comment stand side by side.)
+`make statement` makes this page from the sources (`scripts/statement.py`), `make agree` compares it with them, and it has
+{told} without comments and blanks.
+
+"""
+
+# How the page is read: what to say of these names of the language and of libraries, all of which the page has. An
+# operator's name has a place for each argument.
+LEGEND = {
+    "ℕ Bool true false List":
+        "A word with a capital is a statement, a kind of values (`ℕ`: the numbers from 0 on; `Bool`: `true` and "
+        "`false`; `List ℕ`) or a case of an `enum` or `data`. One in lower case is a value: a number, a test, a "
+        "list. `f x y` is f of x and y, and `vault'` is just a name. Of equations the first that fits is meant; `_` "
+        "fits anything.",
+    "record":
+        "A `record` of statements holds where all its named fields hold. A field that is a value (`code : ℕ`) "
+        "says that there is one, of which the fields behind it speak. A record of values (`Chip`) has these as its "
+        "parts: `chip.busy` is one, `record { busy = 0; .. }` is a whole, and `record c { busy = 0 }` is c with "
+        "another `busy`.",
+    "→":
+        "`A → B`: where A holds B does, so `A → B → C` has two premises. `(a : ℕ) → ..`: for each a; `{T : Type 0} "
+        "→ ..`: for any kind T; `.. → Type 0`: a statement about such values. Of kinds it is a function: `ℕ → ℕ` the "
+        "byte at each address, `ℕ → Bool` a set of places or sectors.",
+    "× ◌⊎◌ ¬ ◌↔◌":
+        "`A × B`: both hold. `(a : ℕ) × ..`: there is such an a. `A ⊎ B`: one of them holds, or both. `¬ A`: A "
+        "doesn't hold. `A ↔ B`: each holds where the other does. Of a pair p the parts are `p.0` and `p.1`.",
+    "◌≡◌ ◌≢◌ ⊤ ⊥":
+        "`a ≡ b`: they are equal; `a ≢ b`: they aren't. `⊤` always holds, `⊥` never does.",
+    "λ let elim if◌then◌else◌":
+        "`λ a. e` is the function that gives e of a; `let x = a in e` is e where x is a; `elim x [ p ↦ a | q ↦ b ]` "
+        "is a where x is as p, and b where it is as q; `if t then a else b` goes by a test.",
+    "◌+◌ ◌-◌ ◌*◌ ◌/◌ ◌%◌ ◌^◌ ◌<◌ ◌≤◌":
+        "`/` rounds down, `%` is what is left over, `-` stops at 0, `2 ^ k` is a power; `0x2A` is hexadecimal, "
+        "`0b101` binary. A byte is a number below 256. How large the fields of a chip can be stands in `IsChip`.",
+    "Option Some None Result Ok Err IfOk IfErr OnOk OnErr IfSome":
+        "An `Option` is `None` or `Some x`, a `Result` is `Ok x` or `Err e`. `IfOk r P`: where r is `Ok x`, P holds "
+        "of x. `OnOk r A`: where r is an `Ok`, A holds. `IfErr`, `OnErr` and `IfSome` likewise.",
+    "":
+        "In a contract `bus.old` is what a call is given and `bus.new` what it leaves, at every exit and whatever "
+        "it answers; `request.now` stays as it is. `B.state bus.old` is the state of a bus of type B, and `result` "
+        "the answer. `requires` is what the caller owes, `ensures` what holds then. `pub` and `ghost` tell a reader "
+        "nothing.",
+    "Vec Model":
+        "In types of `src/`, `u8` to `u64` and `usize` are numbers of so many bits; `[u8; 3]`, `&[u8]` and "
+        "`Vec<u8>` are lists, which of a `Vec` are its `items`. Of a type with an `impl Model` contracts see its "
+        "`Value` in place of it.",
+    "◌==◌ ◌&&◌ ◌||◌ not nat_lt nat_le IsTrue":
+        "Tests: `a == b`, `p && q` (and), `p || q` (or), `not p`, `nat_lt a b` (a < b), `nat_le a b` (a ≤ b). "
+        "`IsTrue t`: t is `true`.",
+    "IsSomeAnd IsOk is_some unwrap_or":
+        "`IsSomeAnd o P`: o is `Some x`, and P holds of x. `IsOk r`: r is an `Ok`. `is_some o` tests for a `Some`, "
+        "and `unwrap_or o d` is its x, or d.",
+    "[] ◌∷◌ ◌++◌ length take drop":
+        "`[]` is the empty list, `x ∷ xs` is x and then xs, `xs ++ ys` one behind the other, `length xs` how many "
+        "there are. `take n xs` are the first n, and `drop n xs` the others.",
+    "slice_index slice_index_or":
+        "`slice_index xs i` is the item at i, counted from 0 on, and 0 past the end; `slice_index_or xs i d` is d "
+        "there.",
+    "map flat_map find list_any All":
+        "`map f xs`: f of each item; `flat_map f xs`: these lists, joined. `find t xs`: the first item that passes "
+        "the test; `list_any t xs`: some item does. `All P xs`: P holds of each.",
+    "range_with_len": "`range_with_len a n`: the n numbers from a on.",
+    "zero suc max is_power_of_two":
+        "`zero` is 0, `suc n` is n + 1, `max a b` the larger one; `is_power_of_two n` is a test.",
+    "bit_and bit_or": "`bit_and a b`, `bit_or a b`: bit by bit.",
+    "bytes_eq codes": '`bytes_eq xs ys` tests whether two lists are equal; `codes "ab"` are the bytes of a text.',
+    "little_bytes little_from":
+        "`little_bytes n x`: x in n bytes, the lowest first; `little_from i n xs`: the number that the n bytes from "
+        "place i on are in this way.",
+    "sha256": "`sha256 xs`: the 32 bytes of their digest SHA-256.",
+}
+
+
+def needed():
+    """Returns the calls, each word that they need with those that it uses, and the names of libraries."""
+    calls = [source(path).words.get(name) or fail(f"{path} has no '{name}'") for name, path in CALLS.items()]
+    uses, names, todo = {}, set(), list(calls)
+    while todo:
+        word = todo.pop()
+        found = word.source.used(word)
+        names |= {use for use in found if isinstance(use, str)}
+        uses[word] = {use for use in found if isinstance(use, Word) and use is not word}
+        todo += [use for use in uses[word] if use not in uses]
+    return calls, uses, names
+
+
+@functools.cache
+def ranks():
+    """Returns the place of each file of SUBJECTS: the number of its subject, and where it stands there."""
+    found = {}
+    crate = ""
+    for number, files in enumerate(SUBJECTS.values()):
+        for at, word in enumerate(files.split()):
+            crate = word[:-1] if word.endswith(":") else crate
+            found[f"{crate}/{word}.{'antt' if word.startswith('specs/') else 'rt'}"] = number, at
+    return found
+
+
+def ready(words, uses, done):
+    """Returns as many of a subject's words as can follow those that are done, each behind those that it uses. A file's
+    words stand together, in its order."""
+    taken = []
+    while can := [word for word in words if word not in taken and uses[word] <= done | set(taken)]:
+        same = [word for word in can if taken and word.source is taken[-1].source]
+        taken.append((same or can)[0])
+    return taken
+
+
+def sections(uses):
+    """Returns the words in groups, each the name of a subject and its words, so that each stands behind those that it
+    uses. The next group is the first subject that can follow whole, or the first of which some words can."""
+    for word in uses:
+        if word.source.path not in ranks():
+            fail(f"SUBJECTS of scripts/statement.py hasn't {word.source.path}: add it to the subject of its '{word.name}'")
+    left, done, found = sorted(uses, key=lambda word: (ranks()[word.source.path], word.line)), set(), []
+    while left:
+        can = []
+        for number, subject in enumerate(SUBJECTS):
+            mine = [word for word in left if ranks()[word.source.path][0] == number]
+            if taken := ready(mine, uses, done):
+                can.append((len(taken) == len(mine), -number, subject, taken))
+        if not can:
+            fail(f"these words use one another: {' '.join(word.name for word in left)}")
+        _, _, subject, taken = max(can)
+        found.append((subject, taken))
+        done |= set(taken)
+        left = [word for word in left if word not in done]
+    return found
+
+
+def split_type(text):
+    """Returns the parts of a signature that are arguments, a pair for each: the part, with the names that it may give,
+    and the argument's kind. And the kind of the answer."""
+    parts, depth, done = [], 0, 0
+    for match in re.finditer(r"[({\[]|[)}\]]|\s→\s", text):
+        depth += {"(": 1, "{": 1, "[": 1, ")": -1, "}": -1, "]": -1}.get(match.group(), 0)
+        if not depth and "→" in match.group():
+            parts, done = [*parts, text[done : match.start()].strip()], match.end()
+    found = []
+    for part in parts:
+        named = re.fullmatch(r"\(([\w' ]+) : (.*)\)", part)
+        kind = named[2] if named else re.sub(r"^\(([^()]*)\)$", r"\1", part)
+        found += [(part, kind)] * (len(named[1].split()) if named else 1)
+    return found, text[done:].strip()
+
+
+def filled(lines, end=""):
+    """Returns some lines that belong together, and what stands behind the last, as one line where they fit into it."""
+    whole = " ".join([lines[0], *(line.strip() for line in lines[1:])]) + end
+    return [whole] if len(whole) <= 120 else [*lines[:-1], lines[-1] + end]
+
+
+def packed(word):
+    """Returns the lines of a type of src as the page has them: fields that no comment parts stand side by side."""
+    lines, free = [], False
+    for line in word.code:
+        field = re.fullmatch(r"    (?!//).*,", line)
+        if field and free and len(lines[-1]) + len(line) <= 120:
+            lines[-1] += line[3:]
+            continue
+        free = bool(field) and not lines[-1].lstrip().startswith("//")
+        lines.append(line)
+    if len(lines) == 3 and lines[1].endswith(","):
+        return filled([lines[0], lines[1].rstrip(","), lines[2]])
+    return lines
+
+
+def joined(word):
+    """Returns the lines of a definition as the page has them: without the marks of the language; a record without its
+    kind; and where there is one equation, whose arguments are all names, with their kinds beside them."""
+    code = [re.sub(r"^((abbrev|unfoldable|pub) )+|^(  )pub ", r"\3", line) for line in word.code]
+    if word.kind == "record":
+        head, where, fields = "\n".join(code).partition(" : Type 0 where")
+        return [*filled(head.split("\n"), " where"), *fields.splitlines()[1:]] if where else code
+    equation = next((at for at, line in enumerate(code) if line.startswith(f"{word.name} ") and at), None)
+    if any(line.startswith("--") for line in code):  # a comment of its own stands above the equation
+        return code
+    if word.kind or equation is None or sum(line.startswith(f"{word.name} ") for line in code) != 2:
+        return code
+    types, answer = split_type(" ".join(line.strip() for line in code[:equation]).partition(" : ")[2])
+    left, _, right = "\n".join(code[equation:]).partition(" =")
+    names = left.split()[1:]
+    if len(names) > len(types) or not all(re.fullmatch(r"[a-z]\w*'?", name) for name in names):
+        return code
+    groups = [(kind, [name for _, name in group]) for kind, group in
+              itertools.groupby(zip(types, names), key=lambda pair: pair[0][1])]
+    head = " ".join([word.name, *(f"({' '.join(group)} : {kind})" for kind, group in groups)])
+    rest = [part for part, _ in types[len(names) :]]
+    if rest or answer != "Type 0":
+        head += " : " + " → ".join([*rest, answer])
+    head += " ="
+    lines = (head + right).splitlines()
+    if len(lines) == 2:
+        lines = filled(lines)
+    return lines if len(lines[0]) <= 120 else [head, "    " + lines[0][len(head) :].strip(), *lines[1:]]
+
+
+def lines_of(word):
+    """Returns the lines of a word as the page has them."""
+    if word.source.path.endswith(".antt"):
+        return joined(word)
+    return packed(word) if word.kind in ("struct", "enum") else word.code
+
+
+def count(words):
+    """Returns how many lines some words have without comments and blanks."""
+    return sum(line.strip()[:2] not in ("", "--", "//") for word in words for line in lines_of(word))
+
+
+def show(words):
+    """Returns some words as lines of the page, by the files in which they stand."""
+    lines = []
+    for path, group in itertools.groupby(words, key=lambda word: word.source.path):
+        group, part = list(group), ""
+        lines += [f"`crates/{path}`: {group[0].source.head}", "", "```" + ("" if path.endswith(".antt") else "rust")]
+        for word in group:
+            lines += [word.part, ""] if word.part != part else []
+            lines += [*word.comment, *lines_of(word), ""]
+            part = word.part
+        lines[-1:] = ["```", ""]
+    return lines[:-1]
+
+
+def listed(number, subject, words):
+    """Returns a group's line in the list of all, with a link to it."""
+    link = re.sub(r"[^\w -]", "", f"{number}. {subject}").lower().replace(" ", "-")
+    return f"{number}. [{subject}](#{link}): {told_of(words)}"
+
+
+def told_of(words):
+    """Returns how many words there are, and how many lines without comments and blanks."""
+    return f"{len(words)} words, {count(words):,} lines"
+
+
+def page():
+    """Returns the lines of the page, and how much it has."""
+    calls, uses, names = needed()
+    explained = {name for line in LEGEND for name in line.split()}
+    if missing := sorted(names - explained):
+        fail(f"LEGEND of scripts/statement.py doesn't explain {' '.join(missing)}")
+    if idle := sorted(explained - names):
+        fail(f"LEGEND of scripts/statement.py explains {' '.join(idle)}, which the page doesn't have")
+    groups = sections({word: uses[word] for word in uses if word not in calls})
+    told = told_of(uses)
+    numbered = list(enumerate([*groups, ("The contracts", calls)], 1))
+    lines = HEAD.format(told=told).splitlines()
+    lines += [listed(number, *group) for number, group in numbered]
+    lines += ["", "## How to read it", ""]
+    lines += [f"- {text}" for text in LEGEND.values()]
+    for number, (subject, words) in numbered:
+        lines += ["", f"## {number}. {subject}", "", *show(words)]
+    return lines, told
+
+
+def check(lines, told):
+    """Tells what the page has otherwise than the sources, and how much it has. Returns how many lines differ."""
+    old = (TOP / PAGE).read_text(encoding="utf-8").splitlines() if (TOP / PAGE).exists() else []
+    told_apart = list(difflib.unified_diff(old, lines, lineterm="", n=0))[2:]
+    others = [line for line in told_apart if line[0] in "-+" and line[1:]]
+    for line in others[:20]:
+        print(f"DIFFERS: statement: {PAGE} {'has' if line[0] == '-' else 'is to have'} '{line[1:]}'")
+    if others:
+        print(f"DIFFERS: statement: {len(others)} lines in all; 'make statement' makes the page anew")
+    print(f"statement: {told} in STATEMENT.md")
+    return len(others)
+
+
+def main():
+    """Prints the page, or compares it with the one that stands there."""
+    sys.stdout.reconfigure(encoding="utf-8")
+    lines, told = page()
+    if sys.argv[1:] == ["--check"]:
+        sys.exit(check(lines, told) > 0)
+    print("\n".join(lines))
+    print(f"statement: {told}", file=sys.stderr)
+
+
+if __name__ == "__main__":
+    main()

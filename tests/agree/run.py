@@ -1,0 +1,26 @@
+#!/usr/bin/env python3
+"""tests/agree/run.py: whether agree reads the sources as they are, and refuses what it must.
+
+It runs all tests of this folder. The last line is `N passed, M failed`, and the status is 1 where one failed or none
+was run.
+"""
+import pathlib
+import sys
+import unittest
+
+sys.dont_write_bytecode = True
+HERE = pathlib.Path(__file__).resolve().parent
+sys.path[:0] = [str(HERE), str(HERE.parent.parent / "scripts")]
+
+
+def main():
+    """Runs the tests and counts them. A class whose preparation fails counts as one that failed."""
+    tests = unittest.defaultTestLoader.discover(str(HERE))
+    result = unittest.TextTestRunner(stream=sys.stdout, verbosity=0).run(tests)
+    failed = len({str(test).partition(" (")[0] for test, _ in result.failures + result.errors})
+    print(f"{result.testsRun - failed if result.testsRun > failed else 0} passed, {failed} failed", flush=True)
+    return failed > 0 or result.testsRun == 0
+
+
+if __name__ == "__main__":
+    sys.exit(main())

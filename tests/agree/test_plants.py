@@ -1,0 +1,191 @@
+"""Copies of the tree with one fault each, which agree must refuse, and say what is wrong."""
+import concurrent.futures
+import os
+import pathlib
+import queue
+import re
+import shutil
+import subprocess
+import tempfile
+import unittest
+
+TOP = pathlib.Path(__file__).resolve().parent.parent.parent
+FOLDERS = "crates scripts docs man completion tests".split()
+
+AGREE = ["bash", "scripts/agree.sh"]
+ROWS = ["python3", "scripts/promises.py"]
+PATHS = ["python3", "scripts/paths.py"]
+COUNTS = ["python3", "scripts/counts.py"]
+STATEMENT = ["python3", "scripts/statement.py", "--check"]
+
+# Each plant: what has to refuse it, the file, the pattern whose first place gets the text, and what must be told. Of
+# each kind one is refused by agree as a whole, the others by the part of it.
+PLANTS = {
+    "a clause of another call": (
+        AGREE, "README.md", r"`session`: `looks`, `undo`", "`probe`: `looks`, `undo`",
+        r"README.md:\d+: `probe` has no clause `undo`: crates/nor_probe/src/"),
+    "a clause of a call's neighbour": (
+        ROWS, "README.md", r"`session`, `done`", "`session`, `back`", "`session` has no clause `back`"),
+    "a premise for a clause": (
+        ROWS, "README.md", r"`session`, `done`", "`session`, `telling`", "`session` has no clause `telling`"),
+    "what a caller owes for a clause": (
+        ROWS, "docs/PROMISES.md", r"`rehearse`, `gives_back`", "`rehearse`, `fresh`",
+        "`rehearse` has no clause `fresh`"),
+    "the clause that a row had": (
+        ROWS, "docs/PROMISES.md", r"`rehearse`, `honest` \(`IsNoHalt`\)", "`rehearse`, `halts`",
+        "`rehearse` has no clause `halts`"),
+    "a call that isn't there": (
+        ROWS, "docs/PROMISES.md", r"`Layout::include`: ", "`Layout::includes`: ",
+        "there is no call, law or definition `Layout::includes`"),
+    "a type's call that it hasn't": (
+        ROWS, "docs/PROMISES.md", r"`transfer` of `SimBus` and `TraceBus`", "`transfer` of `SimBus` and `MemVault`",
+        "`MemVault::transfer`"),
+    "one call of several without the clause": (
+        ROWS, "docs/PROMISES.md", r"`session`, `restore`: `gives_up`", "`session`, `rehearse`: `gives_up`",
+        "`rehearse` has no clause `gives_up`"),
+    "a definition that the clause doesn't say": (
+        ROWS, "docs/PROMISES.md", r"`honest` \(`IsNoHalt`\)", "`modelled` (`IsNoHalt`)",
+        "`modelled` doesn't say `IsNoHalt`"),
+    "a field of another clause": (
+        ROWS, "docs/PROMISES.md", r"`done` \(`latch`\)", "`spares` (`latch`)", "`spares` doesn't say `latch`"),
+    "a field that a record hasn't": (
+        ROWS, "docs/PROMISES.md", r"`MayChange`: `gentle`", "`MayChange`: `gently`", "`MayChange` has no `gently`"),
+    "a law among laws that isn't there": (
+        ROWS, "docs/PROMISES.md", r"`restore_written_over`, `same_written_over`",
+        "`restore_written_over`, `same_written`", "no clause `same_written`"),
+    "a broken promise that isn't there": (
+        ROWS, "docs/PROMISES.md", r"`write_code`, `names` \|", "`write_code`, `named` |",
+        "`write_code` has no clause `named`"),
+    "two promises as one": (
+        ROWS, "docs/PROMISES.md", r"`session`, `spares`; `restore`, `spares`",
+        "`session`: `spares`, `restore`: `spares`", "two colons between names"),
+    "a parenthesis that is open": (
+        ROWS, "docs/PROMISES.md", r"`done` \(`latch`\) \|", "`done` (`latch` |", "a parenthesis isn't closed"),
+    "a test that isn't there": (
+        ROWS, "docs/PROMISES.md", r"`a_busy_chip_is_waited_for`", "`a_busy_chip_waits`",
+        "there is no test `a_busy_chip_waits`"),
+    "a function for a test": (
+        ROWS, "docs/PROMISES.md", r"`a_busy_chip_is_waited_for`", "`stop_at_each`",
+        "there is no test `stop_at_each`"),
+    "a goal that isn't there": (
+        ROWS, "docs/PROMISES.md", r"\| `make sweep`", "| `make sweeps`", "the Makefile has no goal `sweeps`"),
+    "a transcript that isn't there": (
+        ROWS, "docs/PROMISES.md", r"`all sets of W25Q64FV`", "`all sets of W25Q32FV`",
+        "has no case `all sets of W25Q32FV`"),
+    "a wrong body that isn't there": (
+        ROWS, "docs/PROMISES.md", r"\| `protected_anywhere` \|", "| `protected_nowhere` |",
+        "there is no name `protected_nowhere`"),
+    "a premise that isn't there": (
+        ROWS, "docs/PROMISES.md", r"\| `IsModelled` \|", "| `IsModeled` |", "there is no name `IsModeled`"),
+    "a table without its column": (
+        ROWS, "README.md", r"\| Promise \| Call, clause \|", "| Promise | Call |",
+        "README.md has no table with a column 'Call, clause'"),
+    "an edit that isn't there": (
+        AGREE, "docs/PROMISES.md", r"nor_save/must-fail/seal_when_stopped\.edit",
+        "nor_save/must-fail/seal_when_stoped.edit", r"docs/PROMISES.md:\d+: there is no nor_save"),
+    "an edit of another crate": (
+        PATHS, "docs/PROMISES.md", r"nor_save/must-fail/seal_when", "nor_plan/must-fail/seal_when",
+        "there is no nor_plan/must-fail/seal_when_stopped.edit"),
+    "a case's file that isn't there": (
+        PATHS, "docs/PROMISES.md", r"`tests/cases/layouts\.case`", "`tests/cases/layout.case`",
+        "there is no tests/cases/layout.case"),
+    "a source of a page that isn't there": (
+        PATHS, "README.md", r"docs/DECISIONS\.md", "docs/REASONS.md", "there is no docs/REASONS.md"),
+    "a head's file that isn't there": (
+        PATHS, "crates/nor_read/src/lib.rt", r"`specs/Reading\.antt`", "`specs/Readings.antt`",
+        r"crates/nor_read/src/lib.rt:\d+: there is no specs/Readings"),
+    "a head's file of another crate": (
+        PATHS, "crates/nor_read/src/lib.rt", r"`specs/Reading\.antt`", "`specs/Saving.antt`",
+        "there is no specs/Saving.antt"),
+    "a head's name that isn't there": (
+        PATHS, "crates/nor_read/src/lib.rt", r"`Verifying`", "`Verified_`", "there is no Verified_"),
+    "a page's definitions in another crate": (
+        PATHS, "docs/ARCHITECTURE.md", r"`specs/Within` says", "`specs/Guard` says", "there is no specs/Guard"),
+    "a number of stops": (
+        AGREE, "README.md", r"\(\d+ stops\)", "(7 stops)", "and rows has .* for '7'"),
+    "a number of runs without power": (
+        COUNTS, "README.md", r"and [\d,]+ that lose", "and 7 that lose", "for '7'"),
+    "a run more in a test": (
+        COUNTS, "crates/rows/src/cuts.rt", r", 0, 29\)", ", 0, 30)", "README.md says '.* stops"),
+    "a sentence on runs that isn't there": (
+        COUNTS, "README.md", r"random sessions beside plain code, one", "sessions, one",
+        "README.md has no '{cases} random sessions"),
+    "a number of cases": (
+        AGREE, "README.md", r"\d+ cases of the built", "7 cases of the built", "cases of the program"),
+    "a version of the Makefile": (
+        AGREE, "Makefile", r"(?m)^VERSION := .*", "VERSION := 9.9", "version: Makefile has '9.9', options.rt hasn't"),
+    "a version of the manual page": (
+        AGREE, "man/flashnor.8", r'"flashnor [^"]*"', '"flashnor 9.9"',
+        "version: manual has '9.9', options.rt hasn't"),
+    "a version of what has changed": (
+        AGREE, "CHANGELOG.md", r"(?m)^## .*", "## 9.9", "version: CHANGELOG has '9.9', options.rt hasn't"),
+    "a version of the program": (
+        AGREE, "crates/nor_words/src/options.rt", r'= "flashnor [^:]*:', '= "flashnor 9.9:',
+        "version: options.rt has '9.9', manual hasn't"),
+    "an equation that the page hasn't": (
+        AGREE, "docs/STATEMENT.md", r"(?m)^most_status_writes _ unlock = .*\n", "",
+        "STATEMENT.md is to have 'most_status_writes _ unlock = "),
+    "a comment between equations": (
+        STATEMENT, "crates/nor_session/specs/Session.antt", r"(?m)^most_status_writes _ unlock",
+        "-- else two\nmost_status_writes _ unlock", "is to have '-- else two'"),
+    "an equation of nothing": (
+        STATEMENT, "crates/nor_session/specs/Session.antt", r"(?m)^most_status_writes _ unlock",
+        "most_status_write _ unlock", "'most_status_write _ unlock = .*' belongs to no definition"),
+}
+
+
+class Trees:
+    """Copies of what agree reads, one for each processor; each is used by one run at a time."""
+
+    def __init__(self, folder, count):
+        self.free = queue.Queue()
+        for number in range(count):
+            tree = pathlib.Path(folder) / str(number)
+            for name in FOLDERS:
+                shutil.copytree(TOP / name, tree / name, ignore=shutil.ignore_patterns("out", "__pycache__"))
+            for file in TOP.iterdir():
+                if file.is_file():
+                    shutil.copy(file, tree / file.name)
+            self.free.put(tree)
+
+    def run(self, words, file=None, pattern="", text=""):
+        """Runs the words in a copy where the first place of the pattern in a file has become the text, and puts that
+        back. Returns the status, none where there is no such place, and the lines that tell what differs."""
+        tree = self.free.get()
+        try:
+            old = (tree / file).read_text(encoding="utf-8") if file else ""
+            new = re.sub(pattern, lambda _: text, old, count=1)
+            if file and new == old:
+                return None, [f"{file} has no {pattern}"]
+            if file:
+                (tree / file).write_text(new, encoding="utf-8")
+            ended = subprocess.run(words, cwd=tree, capture_output=True, text=True, encoding="utf-8", check=False)
+            if file:
+                (tree / file).write_text(old, encoding="utf-8")
+            lines = (ended.stdout + ended.stderr).splitlines()
+            return ended.returncode, [line for line in lines if "DIFFERS: " in line]
+        finally:
+            self.free.put(tree)
+
+
+class Plants(unittest.TestCase):
+    """What agree tells of each."""
+
+    def test_each_plant_is_refused(self):
+        count = os.cpu_count() or 1
+        with tempfile.TemporaryDirectory() as folder, concurrent.futures.ThreadPoolExecutor(count) as pool:
+            trees = Trees(folder, count)
+            parts = sorted({tuple(words) for words, *_ in PLANTS.values()})
+            right = dict(zip(parts, pool.map(lambda words: trees.run(list(words)), parts)))
+            told = dict(zip(PLANTS, pool.map(lambda plant: trees.run(*plant[:4]), PLANTS.values())))
+        for name, (words, *_, wanted) in PLANTS.items():
+            with self.subTest(name):
+                status, lines = told[name]
+                self.assertEqual(status, 1, "\n".join(lines))
+                self.assertTrue(any(re.search(wanted, line) for line in lines), "\n".join(lines))
+                before = right[tuple(words)][1]
+                self.assertFalse(any(re.search(wanted, line) for line in before), f"told without a fault: {wanted}")
+
+
+if __name__ == "__main__":
+    unittest.main()

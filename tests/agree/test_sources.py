@@ -1,0 +1,142 @@
+"""The reader of sources, on small ones."""
+import pathlib
+import tempfile
+import unittest
+from unittest import mock
+
+import sources
+import statement
+
+HEAD = """-- What stands here.
+use Rattle.std.specs.Prelude.{ℕ, Bool, true}
+
+"""
+
+
+class Small(unittest.TestCase):
+    """A folder of crates that a test fills."""
+
+    def setUp(self):
+        folder = tempfile.TemporaryDirectory()
+        self.addCleanup(folder.cleanup)
+        self.crates = pathlib.Path(folder.name)
+        self.addCleanup(sources.source.cache_clear)
+        patch = mock.patch.object(sources, "CRATES", self.crates)
+        self.addCleanup(patch.stop)
+        patch.start()
+        sources.source.cache_clear()
+
+    def put(self, path, text):
+        """Writes a file below crates/, and returns it as it is read."""
+        file = self.crates / path
+        file.parent.mkdir(parents=True, exist_ok=True)
+        file.write_text(text, encoding="utf-8")
+        return sources.source(path)
+
+    def refuses(self, path, text, told):
+        """Reading this text ends with these words."""
+        with self.assertRaises(SystemExit) as ended:
+            self.put(path, text)
+        self.assertIn(told, str(ended.exception))
+
+
+class Definitions(Small):
+    """Files of specs/."""
+
+    def spec(self, text):
+        """Returns a file of definitions as it is read."""
+        return self.put("one/specs/Some.antt", HEAD + text)
+
+    def refuses_spec(self, text, told):
+        """Reading these definitions ends with these words."""
+        self.refuses("one/specs/Some.antt", HEAD + text, told)
+
+    def test_a_comment_between_equations_belongs_to_the_next_one(self):
+        text = "-- how often\nabbrev pub often : Bool → ℕ\noften true = 1\n-- else = never\noften _ = 0\n"
+        word = self.spec(text).words["often"]
+        self.assertEqual(word.comment, ["-- how often"])
+        self.assertEqual("\n".join(word.code), text.partition("\n")[2].rstrip())
+        self.assertEqual(statement.lines_of(word)[-2:], ["-- else = never", "often _ = 0"])
+
+    def test_what_such_equations_use_is_found_and_what_their_comments_say_is_not(self):
+        spec = self.spec("abbrev pub low : ℕ\nlow = 1\n\n"
+                         "abbrev pub often : Bool → ℕ\noften true = low\n-- as = high\noften _ = low\n")
+        self.assertEqual([found for found in spec.used(spec.words["often"]) if not isinstance(found, str)],
+                         [spec.words["low"]] * 2)
+
+    def test_a_comment_above_the_only_equation_stays_there(self):
+        word = self.spec("abbrev pub low : ℕ → ℕ\n-- one more\nlow x = suc x\n").words["low"]
+        self.assertEqual(statement.lines_of(word), ["low : ℕ → ℕ", "-- one more", "low x = suc x"])
+
+    def test_a_record_has_all_its_fields(self):
+        fields = "  pub low : x ≤ 3\n  -- and\n  pub high :\n      3 ≤ x\n"
+        word = self.spec(f"pub record IsThree (x : ℕ)\n    (y : ℕ) : Type 0 where\n{fields}").words["IsThree"]
+        self.assertEqual("\n".join(word.code[2:]) + "\n", fields)
+
+    def test_a_comment_in_the_first_column_ends_no_record(self):
+        spec = self.spec("pub record IsThree (x : ℕ) : Type 0 where\n  pub low : x ≤ 3\n-- and\n  pub high : 3 ≤ x\n")
+        self.assertEqual(spec.words["IsThree"].code[-1], "  pub high : 3 ≤ x")
+
+    def test_a_kind_by_cases_has_them(self):
+        spec = self.spec("pub data Format : Type 0 where\n  First : Format\n  -- the later one\n  Second : Format\n")
+        self.assertIs(spec.words["Second"], spec.words["Format"])
+
+    def test_a_word_split_over_lines_is_one(self):
+        text = "abbrev pub often : Bool\n    → ℕ\noften true =\n    1\noften _ = elim x [\n  | p ↦ 0\n]\n"
+        self.assertEqual("\n".join(self.spec(text).words["often"].code) + "\n", text)
+
+    def test_an_operator_has_its_equations(self):
+        text = "infixl 10 ◌>>=◌\nabbrev pub ◌>>=◌ : ℕ → ℕ → ℕ\n(suc x) >>= y = x\nx >>= y = y\n"
+        self.assertEqual(len(self.spec(text).words["◌>>=◌"].code), 3)
+
+    def test_a_part_ends_a_definition(self):
+        self.refuses_spec("abbrev pub low : ℕ\n-- ---- more\nlow = 1\n", "'low = 1' belongs to no definition")
+
+    def test_an_equation_behind_a_blank_line_is_refused(self):
+        self.refuses_spec("abbrev pub low : ℕ\n\nlow = 1\n", "Some.antt:6: 'low = 1' belongs to no definition")
+
+    def test_an_equation_of_another_name_is_refused(self):
+        self.refuses_spec("abbrev pub low : ℕ\nlaw = 1\n", "'law = 1' belongs to no definition")
+
+    def test_a_mark_that_is_not_known_is_refused(self):
+        self.refuses_spec("abbrev pub low : ℕ\nlow = 1\nopaque pub high : ℕ\nhigh = 2\n",
+                          "'opaque pub high : ℕ' belongs")
+
+    def test_a_record_without_a_mark_is_refused(self):
+        self.refuses_spec("record IsThree (x : ℕ) : Type 0 where\n  pub low : x ≤ 3\n", "belongs to no definition")
+
+    def test_a_use_over_two_lines_is_refused(self):
+        self.refuses_spec("use Rattle.std.specs.Prelude.{List,\n  Option}\n", "belongs to no definition")
+
+    def test_a_name_that_is_defined_twice_is_refused(self):
+        self.refuses_spec("abbrev pub low : ℕ\nlow = 1\n\nabbrev pub low : ℕ\nlow = 2\n", "'low' is defined twice")
+
+
+class Contracts(Small):
+    """Files of src/."""
+
+    def test_a_function_ends_where_its_body_begins(self):
+        code = self.put("one/src/a.rt", "pub fn one() -> u8 {\n    1\n}\n\npub fn two(x: [u8; 2]) -> u8\n"
+                                        "    // { as a rule\n    ensures { result ≡ 2 }\n{\n    2\n}\n")
+        self.assertEqual(code.words["one"].code, ["pub fn one() -> u8"])
+        self.assertEqual(code.words["two"].code[-1], "    ensures { result ≡ 2 }")
+
+    def test_a_clause_over_lines_is_whole(self):
+        text = "fn one()\n    ensures low { OnOk result (λ x. record { a = x }\n        ≡ 3) }\n    requires { ⊤ }\n{}"
+        clauses, _ = sources.clauses_of(text[:-2])
+        self.assertEqual([(clause.kind, clause.name) for clause in clauses], [("ensures", "low"), ("requires", "")])
+        self.assertTrue(clauses[0].term.endswith("≡ 3) "))
+
+    def test_a_clause_in_another_form_is_refused(self):
+        with self.assertRaises(SystemExit):
+            sources.clauses_of("fn one()\n    ensures low\n    { ⊤ }")
+
+    def test_a_type_without_an_end_is_refused(self):
+        self.refuses("one/src/a.rt", "pub struct One {\n    a: u8,\n", "a.rt:1: this type doesn't end")
+
+    def test_a_function_without_an_end_is_refused(self):
+        self.refuses("one/src/a.rt", "pub fn one()\n    ensures { ⊤ }\n", "a.rt:1: this function doesn't end")
+
+
+if __name__ == "__main__":
+    unittest.main()

@@ -1,0 +1,53 @@
+"""What is in a file, from how a case says it (cases/README.md)."""
+import hashlib
+import re
+
+
+def hexadecimal(digits):
+    """Returns the bytes of these digits, of which two are a byte."""
+    return bytes.fromhex(digits)
+
+
+def part(text, before, read):
+    """Returns the bytes of one part without what stands in their place, `before` being those of all parts before it."""
+    if found := re.fullmatch(r"(\d+) of ([0-9a-f]{2})", text):
+        return hexadecimal(found[2]) * int(found[1])
+    if found := re.fullmatch(r"hex ([0-9a-f ]+)", text):
+        return hexadecimal(found[1])
+    if found := re.fullmatch(r"as (.+)", text):
+        return read(found[1])
+    if found := re.fullmatch(r"first (\d+) of (.+)", text):
+        return read(found[2])[:int(found[1])]
+    if text == "digest":
+        return hashlib.sha256(before).digest()
+    if text == "nothing":
+        return b""
+    raise ValueError(f"'{text}' is no content")
+
+
+def put(text, into):
+    """Puts other bytes into a part."""
+    found = re.fullmatch(r"([0-9a-f ]+) at (0x[0-9a-f]+)(?: to (0x[0-9a-f]+))?", text)
+    if not found:
+        raise ValueError(f"'{text}' puts no bytes")
+    new, start = hexadecimal(found[1]), int(found[2], 16)
+    if found[3]:
+        if len(new) != 1:
+            raise ValueError(f"'{text}' has more than one byte for these places")
+        new *= int(found[3], 16) + 1 - start
+    if not new or start + len(new) > len(into):
+        raise ValueError(f"'{text}' isn't within its part")
+    into[start:start + len(new)] = new
+
+
+def make(content, read):
+    """Returns the bytes that a content says; `read` tells those of another file by its name. What can't be made is a
+    ValueError, or the OSError of that file."""
+    made = bytearray()
+    for text in content.split(" + "):
+        text, *puts = text.split(", ")
+        new = bytearray(part(text, made, read))
+        for it in puts:
+            put(it, new)
+        made += new
+    return bytes(made)

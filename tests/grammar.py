@@ -1,0 +1,143 @@
+"""Reads cases, as cases/README.md says that they are written. A line that belongs to nothing is a case's fault."""
+import dataclasses
+import re
+
+
+class Wrong(Exception):
+    """Why a line of a case says nothing."""
+
+
+@dataclasses.dataclass
+class File:
+    """A file that is named, before a step or behind it."""
+    name: str
+    content: str
+    text: list = dataclasses.field(default_factory=list)
+    numbered: dict = dataclasses.field(default_factory=dict)
+
+    def count(self):
+        """Returns how many lines it has, where that is what is said of it."""
+        found = re.fullmatch(r"(\d+) lines?", self.content)
+        return int(found[1]) if found else None
+
+    def take_text(self, line):
+        if self.content:
+            raise Wrong("its file has a content")
+        self.text.append(line)
+
+    def take_numbered(self, line):
+        """Takes a line by its number, or the reads of a sector each from one number to another."""
+        found = re.fullmatch(r"  (\d+)(?: to (\d+): reads from 0x([0-9a-f]+)|: (.*))", line)
+        if not found or self.count() is None:
+            raise Wrong("it belongs to no 'N lines'")
+        first = int(found[1])
+        lines = [found[4]]
+        if found[2]:
+            start = int(found[3], 16)
+            lines = [f"03{start + 4096 * k:06x} > 4096 bytes" for k in range(int(found[2]) + 1 - first)]
+        for number, text in enumerate(lines, first):
+            if not 1 <= number <= self.count() or number in self.numbered:
+                raise Wrong(f"line {number} isn't one of {self.content}, or is there twice")
+            self.numbered[number] = text
+
+
+@dataclasses.dataclass
+class Step:
+    """A command line, and what is wanted of it."""
+    command: str
+    output: list = dataclasses.field(default_factory=list)
+    errors: list = dataclasses.field(default_factory=list)
+    status: int = 0
+    after: list = dataclasses.field(default_factory=list)
+
+    def is_flashnor(self):
+        return re.search(r"[ (]flashnor ", f" {self.command} ") is not None
+
+
+@dataclasses.dataclass
+class Case:
+    """A sentence, the files and steps in their order, and the first thing that is wrong in how it is written."""
+    file: str
+    sentence: str
+    parts: list = dataclasses.field(default_factory=list)
+    free: bool = False
+    fault: str = ""
+
+    def steps(self):
+        return [it for it in self.parts if isinstance(it, Step)]
+
+    def step(self):
+        """Returns the step that a line behind it belongs to."""
+        if not self.parts or isinstance(self.parts[-1], File):
+            raise Wrong("it belongs to no step")
+        return self.parts[-1]
+
+    def named(self):
+        """Returns the file that was named last."""
+        last = self.parts[-1] if self.parts else None
+        if isinstance(last, Step):
+            last = last.after[-1] if last.after else None
+        if last is None:
+            raise Wrong("it belongs to no file")
+        return last
+
+    def take_after(self, file):
+        step = self.step()
+        if not step.is_flashnor():
+            raise Wrong("'after' behind a step that isn't flashnor")
+        if file.name in [it.name for it in step.after]:
+            raise Wrong("this file was named already")
+        step.after.append(file)
+
+    def take(self, line):
+        """Takes one line of the case."""
+        named = re.fullmatch(r"(file|after) ([^:]+):(?: (.*))?", line)
+        status = re.fullmatch(r"status (\d+)", line)
+        if line.startswith("$ "):
+            self.parts.append(Step(line[2:]))
+        elif named and named[1] == "file":
+            self.parts.append(File(named[2], named[3] or ""))
+        elif named:
+            self.take_after(File(named[2], named[3] or ""))
+        elif line == "|" or line.startswith("| "):
+            self.named().take_text(line[2:])
+        elif re.match(r"  \d", line):
+            self.named().take_numbered(line)
+        elif status:
+            self.step().status = int(status[1])
+        elif line == "files are free":
+            self.free = True
+        elif line == "!" or line.startswith("! "):
+            self.step().errors.append(line[2:])
+        else:
+            self.step().output.append(line)
+
+    def finish(self):
+        """Looks at what only the whole case can tell."""
+        if not self.steps():
+            self.fault = self.fault or "it has no step"
+        if self.free and any(it.after for it in self.steps()):
+            self.fault = self.fault or "'after' where no file is looked at"
+
+
+def read_cases(file, text):
+    """Returns the cases of a file. Each begins with a comment, which is its sentence."""
+    cases = []
+    before = ""
+    for number, line in enumerate(text.split("\n"), 1):
+        if line.startswith("# ") and before.startswith("# "):
+            cases[-1].sentence += line[1:]
+        elif line.startswith("# "):
+            cases.append(Case(file, line[2:]))
+        elif line:
+            try:
+                if not cases:
+                    cases.append(Case(file, "a case without a sentence"))
+                    raise Wrong("it stands before the first sentence")
+                cases[-1].take(line)
+            except Wrong as wrong:
+                cases[-1].fault = cases[-1].fault or f"line {number}, '{line}': {wrong}"
+        before = line
+    for case in cases:
+        case.finish()
+    return cases

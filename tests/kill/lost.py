@@ -1,0 +1,325 @@
+#!/usr/bin/env python3
+"""tests/kill/lost.py PROGRAM LIBRARY [RUN [EVENT CHOICE]]: the machines that are lost while flashnor works.
+
+Each story of stories.py is a chip in files, and runs of PROGRAM on it, one after another. LIBRARY, which is cut.c,
+writes down what a run does to files. Behind each of these events the machine is lost, and disk.py says what its disk
+may hold: nothing that wasn't synced, all of that, and as many choices of it as CHOICES says, by SEED and the place's
+name, so that they are the same each time. What an earlier run left unsynced counts. Each machine that is unlike those
+before it in its run is rescued as the manual page says:
+
+  - Its journal is whole, by its digest: `--restore` ends with 0, and image and status are as before the session. A file
+    that wasn't there then may be told to have a wrong length; it is moved away, and the restore is run again.
+  - It isn't, or isn't there: `--restore` tells so, and image and status are as before the session.
+  - Once `Done` was printed they are what the run was to make, however the disk is; and the journal gives back all.
+
+Of some that the journal gives back so the restore is lost in its turn, behind each of its events; and so is that of
+some runs that were killed. WRONG, which cut.c knows, makes the program a wrong one: then the first run that loses a
+chip is enough. The last line counts. The status is 1 where a chip was lost, or where there were too few machines.
+"""
+import collections
+import concurrent.futures
+import contextlib
+import copy
+import hashlib
+import os
+import random
+import re
+import shutil
+import subprocess
+import sys
+import tempfile
+
+from disk import Disk, picks_of, read_record
+from stories import DONE, Step, images, stories
+
+SEED = int(os.environ.get("SEED", "1"))
+CHOICES = int(os.environ.get("CHOICES", "16"))
+WRONG = os.environ.get("WRONG", "")
+# So many machines of a run are lost once more while they are restored, and so many are killed before that.
+AGAIN = 3
+# In which state machines are lost: all of these, and at least so many machines.
+KINDS = ("without a whole journal", "with one", "done")
+LEAST = 3000
+REFUSAL = re.compile(rb"Error 15: journal fault [1-7]\.\n")
+
+
+class Lost(Exception):
+    """What is wrong with a run, or with the machine that it left."""
+
+
+def is_whole(journal):
+    """Whether the journal ends with the SHA-256 of all before."""
+    return journal is not None and len(journal) > 60 and hashlib.sha256(journal[:-32]).digest() == journal[-32:]
+
+
+def put_files(folder, files):
+    for name, content in files.items():
+        with open(os.path.join(folder, name), "wb") as it:
+            it.write(content)
+
+
+def files_of(folder):
+    """Returns all files of a folder and of those below it."""
+    found = {}
+    for below, _, names in os.walk(folder):
+        for name in names:
+            path = os.path.join(below, name)
+            with open(path, "rb") as it:
+                found[os.path.relpath(path, folder)] = it.read()
+    return found
+
+
+def text_of(ended):
+    return (ended.stdout + ended.stderr).decode(errors="replace").strip().replace("\n", " ")
+
+
+class Bench:
+    """A folder for the runs of a program, with the images that they write."""
+
+    def __init__(self, program, library, folder):
+        self.program, self.library, self.folder = os.path.abspath(program), os.path.abspath(library), folder
+        put_files(folder, images(SEED))
+
+    @contextlib.contextmanager
+    def folder_with(self, files):
+        """A folder with these files, for as long as it is needed."""
+        folder = tempfile.mkdtemp(dir=self.folder)
+        for name in "chip", "kept":
+            os.mkdir(os.path.join(folder, name))
+        put_files(folder, files)
+        yield folder
+        shutil.rmtree(folder)
+
+    def run(self, folder, words, **values):
+        environment = {**os.environ, **values}
+        try:
+            return subprocess.run([self.program, *words], cwd=folder, env=environment, capture_output=True, timeout=300)
+        except subprocess.TimeoutExpired as it:
+            raise Lost(f"{' '.join(words)} doesn't come to an end") from it
+
+    def record(self, folder, words):
+        """Runs the program and returns how it ended, and what it did to files."""
+        path = tempfile.mktemp(dir=self.folder)
+        ended = self.run(folder, words, LD_PRELOAD=self.library, RECORD=path, WRONG=WRONG, CALL="0")
+        return ended, read_record(path) if os.path.exists(path) else []
+
+
+class Machine:
+    """A machine that was lost: the files that it left, whether `Done` was printed, and whether somebody else may be to
+    blame for the chip that it has."""
+
+    def __init__(self, place, files, is_done, is_excused):
+        self.place, self.files, self.is_done, self.is_excused = place, files, is_done, is_excused
+
+    def key(self):
+        return tuple(sorted(self.files.items())), self.is_done, self.is_excused
+
+    def kind(self, journal):
+        return KINDS[2 if self.is_done else int(is_whole(self.files.get(journal)))]
+
+
+class Run:
+    """A run of a story, and the machines that are lost in it."""
+
+    def __init__(self, bench, name, story, step, disk):
+        self.bench, self.name, self.step, self.disk = bench, name, step, disk
+        self.chip, self.is_story_old = story.chip, story.old is not None and step is story.steps[-1]
+        self.made = set(self.chip.names()) - set(self.chip.files(step.before))
+        self.is_done = self.has_written = False
+        self.events = 0
+        self.killed = []
+
+    def machines(self):
+        """Returns the machines that are lost behind each event, each once. The disks of runs that are killed while they
+        write the chip's files are kept."""
+        found = {}
+        for _ in self.work():
+            if self.has_written and not self.is_done:
+                self.killed.append(copy.deepcopy(self.disk))
+            for machine in self.lose():
+                found.setdefault(machine.key(), machine)
+        return list(found.values())
+
+    def work(self):
+        """Does the run, and makes its changes of the disk one after another."""
+        with self.bench.folder_with(self.disk.seen()) as folder:
+            ended, records = self.bench.record(folder, ["-p", self.chip.programmer + self.step.keys, *self.step.words])
+            left = files_of(folder)
+        said = text_of(ended)
+        if self.step.end not in said:
+            raise Lost(f"{self.name} ended with {ended.returncode}: {said}")
+        for self.events, (what, name, at, content) in enumerate(records, 1):
+            if what == "print":
+                self.is_done = self.is_done or DONE.encode() in content
+            else:
+                self.disk.change(what, name, at, content)
+                self.has_written = self.has_written or (what != "sync" and name in self.chip.names())
+            yield
+        if left != self.disk.seen():
+            raise Lost(f"{self.name} left other files than its record says")
+
+    def lose(self):
+        """Yields the machines that are lost now. Where somebody else left the chip's files unsynced, the run must have
+        synced them when it has a journal, or writes them."""
+        for number in range(CHOICES + 2):
+            place = [self.name, str(self.events), str(number)]
+            files = self.disk.left(picks_of(number, random.Random(f"{SEED} {' '.join(place)}")))
+            is_saved = is_whole(files.get(self.step.journal)) and "--restore" not in self.step.words
+            yield Machine(place, files, self.is_done, self.is_story_old and not self.has_written and not is_saved)
+
+    def problem(self, machine):
+        """Returns in which way the machine's chip is lost, or nothing."""
+        step, chip = self.step, self.chip
+        difference = machine.is_done and chip.difference(machine.files, step.wanted)
+        if difference:
+            return f"Done was printed, and {difference}"
+        with self.bench.folder_with(machine.files) as folder:
+            ended = self.restore(folder)
+            left = files_of(folder)
+        difference = not machine.is_excused and chip.difference(left, step.before)
+        is_saved = is_whole(machine.files.get(step.journal))
+        is_right = not ended.returncode and not ended.stderr if is_saved else self.is_refused(ended)
+        if is_right and not difference:
+            return ""
+        journal = "a whole" if is_saved else "no whole"
+        return f"there is {journal} journal; --restore told '{text_of(ended)}'; {difference or 'the chip is as before'}"
+
+    def is_refused(self, ended):
+        unread = f"File fault 1: {self.step.journal}.\n".encode()
+        is_told = REFUSAL.fullmatch(ended.stderr) or ended.stderr == unread
+        return ended.returncode == 1 and not ended.stdout and is_told
+
+    def restore(self, folder):
+        """Restores. A file that the session may have made is moved away where it has a wrong length."""
+        for _ in range(1 + len(self.made)):
+            ended = self.bench.run(folder, ["-p", self.chip.programmer, "--restore", self.step.journal])
+            short = [name for name in self.made if ended.stderr == f"File fault 3: {name}.\n".encode()]
+            if not short:
+                break
+            os.rename(os.path.join(folder, short[0]), os.path.join(folder, short[0] + ".aside"))
+        return ended
+
+    def needs_restore(self, machine):
+        is_saved = is_whole(machine.files.get(self.step.journal)) and not machine.is_done and not machine.is_excused
+        return is_saved and self.chip.difference(machine.files, self.step.before)
+
+
+def disk_of(files):
+    """Returns a disk with these files, for good."""
+    disk = Disk()
+    for name, content in files.items():
+        disk.put(name, content)
+    return disk
+
+
+def runs_of(bench, story):
+    """Yields the runs of a story, one after another on one disk."""
+    chip = story.chip
+    disk = disk_of(chip.files(story.start))
+    journal = None
+    for number, step in enumerate(story.steps, 1):
+        if journal and step.journal != journal:
+            disk.remove(journal)
+        journal = step.journal
+        if story.old and step is story.steps[-1]:
+            leave_unsynced(disk, chip.files(story.old))
+        yield Run(bench, f"lost/{story.name}/{number}", story, step, disk)
+
+
+def leave_unsynced(disk, files):
+    """Gives the files on the disk this content, while what is seen of them stays."""
+    for name, content in files.items():
+        file = disk.file(name)
+        disk.put(name, content)
+        if file:
+            disk.file(name).write(0, bytes(file.seen))
+        else:
+            disk.remove(name)
+
+
+def runs_again(run, story, machines):
+    """Yields restores behind the run: of some of these machines, of those whose journal gives the chip back, and of
+    some runs that were killed, so that nothing is lost and what they wrote isn't synced."""
+    step, chance = run.step, random.Random(f"{SEED} {run.name} again")
+    undo = Step(["--restore", step.journal], "", step.journal, step.before, step.before, DONE)
+    lost = [it for it in machines if run.needs_restore(it)]
+    disks = [disk_of(it.files) for it in chance.sample(lost, min(AGAIN, len(lost)))]
+    disks += chance.sample(run.killed, min(AGAIN, len(run.killed)))
+    for number, disk in enumerate(disks, 1):
+        for name in run.made & disk.seen().keys():
+            if len(disk.seen()[name]) != run.chip.length(name):
+                disk.remove(name)
+        yield Run(run.bench, f"{run.name}/{number}", story, undo, disk)
+
+
+class Account:
+    """What came of the machines: of those of a place alone, if one is given: a story or run, an event and a choice."""
+
+    def __init__(self, pool, place):
+        self.pool, self.place = pool, place
+        self.kinds = collections.Counter()
+
+    def is_asked(self, place):
+        """Whether these machines are to be judged. A run stands for those behind it as long as no event is given."""
+        name, *rest = self.place or [""]
+        is_below = not name or f"{place[0]}/".startswith(f"{name}/")
+        return is_below and (not rest or [name, *rest] == place[: 1 + len(rest)])
+
+    def fail(self, place, problem):
+        self.kinds["lost"] += 1
+        print(f"kill: {place}: {problem}", file=sys.stderr)
+
+    def add(self, run):
+        """Judges the machines of a run and tells the first chip that is lost. Returns the machines."""
+        machines = run.machines()
+        asked = [it for it in machines if self.is_asked(it.place)]
+        first = None
+        for machine, problem in zip(asked, self.pool.map(run.problem, asked)):
+            self.kinds[machine.kind(run.step.journal)] += 1
+            self.kinds["lost"] += bool(problem)
+            first = first or problem and (" ".join(machine.place), problem)
+        if first:
+            print(f"kill: {first[0]}: the chip is lost: {first[1]}", file=sys.stderr)
+            print(f"Run it again with: tests/kill/run.sh {run.bench.program} {first[0]}", file=sys.stderr)
+        return machines
+
+    def tell(self, bench, story):
+        """Does a story. A wrong program's ends with the first run that loses a chip."""
+        before, runs = self.kinds.copy(), 0
+        for run in runs_of(bench, story):
+            machines = self.add(run)
+            runs += 1
+            for again in runs_again(run, story, machines):
+                if WRONG and self.kinds["lost"]:
+                    return
+                self.add(again)
+                runs += 1
+        new = self.kinds - before
+        if new:
+            print(f"lost/{story.name}: {runs} runs, {count(new)} machines, {new['lost']} lost", flush=True)
+
+
+def count(kinds):
+    return sum(kinds[it] for it in KINDS)
+
+
+def main(program, library, *place):
+    pool = concurrent.futures.ThreadPoolExecutor(os.cpu_count())
+    account = Account(pool, list(place))
+    with tempfile.TemporaryDirectory() as folder:
+        bench = Bench(program, library, folder)
+        for story in stories(SEED):
+            if not place or f"{place[0]}/".startswith(f"lost/{story.name}/"):
+                try:
+                    account.tell(bench, story)
+                except Lost as it:
+                    account.fail(f"lost/{story.name}", it)
+    kinds = account.kinds
+    told = ", ".join(f"{kinds[it]} {it}" for it in KINDS)
+    print(f"lost machines: {count(kinds)} ({told}; seed {SEED}), {kinds['lost']} lost the chip")
+    is_much = place or WRONG or count(kinds) >= LEAST and all(kinds[it] for it in KINDS)
+    return int(kinds["lost"] > 0 or not count(kinds) or not is_much)
+
+
+if __name__ == "__main__":
+    sys.exit(main(*sys.argv[1:]))

@@ -1,0 +1,381 @@
+#!/usr/bin/env bash
+# tests/kill/run.sh [PROGRAM [RUN CALL HOW]]: flashnor killed at each of its calls on files, and with each of them
+# failing, or with the call of this number in one of the runs cut off in one of the ways that cut.c names.
+#
+# Ten sessions, each on a chip in files of given bytes, and the restore of each, from its journal and the chip that it
+# left; and a read and a rehearsal. Left alone they must come to their own end. Cut off they must leave what the manual
+# page's rescue gives back: `--restore` ends with 0, and both files are as before the session; or it tells that a
+# session's journal was cut short, and they are so already. A run that is killed says nothing before all is written. A
+# failing call must be told by its own line, unless all was done nevertheless. Of each run the first time that it loses
+# a chip is told, with the words to do it again alone, and the status is 1. This needs a C compiler.
+#
+# Then the machine is lost while others work (lost.py), whose runs are `lost/..`, and wrong programs are told (self.sh).
+set -euo pipefail
+
+top=$(cd "$(dirname "$0")/../.." && pwd)
+program=${1:-$top/crates/flashnor/out/flashnor}
+only=${2:-}
+at=${3:-}
+way=${4:-}
+passed=0
+failed=0
+part=''
+names=()
+
+if ! command -v cc > /dev/null; then
+    echo "skipped: kill, since there is no C compiler (cc)"
+    exit 0
+fi
+if [[ ! -x $program ]]; then
+    echo "$program isn't built: 'make' proves and builds it." >&2
+    exit 1
+fi
+program=$(realpath "$program")
+
+work=$(mktemp -d)
+trap 'rm -rf "$work"' EXIT
+mkdir "$work/chip"
+cd "$work/chip"
+# shellcheck source=tests/kill/laws.sh
+. "$top/tests/kill/laws.sh"
+cc -std=c11 -O1 -shared -fPIC -o ../cut.so "$top/tests/kill/cut.c"
+
+# Ends with the last line and its status.
+finish() {
+    [[ -z $part ]] || exit 1
+    echo "kill: $passed passed, $failed failed"
+    exit $((failed > 0))
+}
+
+tell() {
+    echo "kill: $*" >&2
+    failed=$((failed + 1))
+}
+
+fail() {
+    tell "$*"
+    finish
+}
+
+# Files that were changed by another call couldn't be cut off.
+changing='open|creat|write|trunc|sync|rename|link|remove|fallocate|splice|tee|sendfile|copy_file|mmap|temp|syscall'
+changing+='|chmod|chown|utime|mkdir|rmdir|mknod|mkfifo|lock'
+nm -D --undefined-only "$program" > ../symbols || fail "nm tells no calls of $program"
+others=$(awk '{ sub(/@.*/, "", $NF); print $NF }' ../symbols | grep -E "$changing" | grep -v '^pthread_' |
+    grep -vxF -f <(nm -D --defined-only ../cut.so | awk '{ print $NF }') || true)
+[[ -z $others ]] || fail "the program makes calls that cut.c doesn't know: ${others//$'\n'/ }"
+
+# So many bytes, each of them this one (in octal).
+bytes() { head -c "$1" /dev/zero | tr '\000' "\\$2"; }
+
+# Images for chips of 64 KiB and of 8 MiB, FFh where nothing else is put, and status files.
+make_files() {
+    local tiny=65536 large=8388608 guarded=131072
+    bytes $tiny 377 > erased
+    { bytes 1 000; bytes $((tiny - 1)) 377; } > byte_00
+    { bytes 1 001; bytes $((tiny - 1)) 377; } > byte_01
+    { bytes 4096 000; bytes $((tiny - 4096)) 377; } > sector_00
+    { bytes 4096 132; bytes $((tiny - 4096)) 377; } > sector_5a
+    { bytes 16384 377; bytes 1 000; bytes $((tiny - 16385)) 377; } > one_of_two
+    { bytes 16384 377; bytes 1 001; bytes 24575 377; bytes 1 245; bytes $((tiny - 40961)) 377; } > two_sectors
+    { bytes 1 001; bytes $((tiny - 2)) 377; bytes 1 245; } > both_ends
+    { bytes 4096 000; bytes $((large - guarded - 4096)) 377; bytes 1 000; bytes $((guarded - 1)) 377; } > guarded_00
+    { bytes 4096 000; bytes $((large - guarded - 4096)) 377; bytes 1 001; bytes $((guarded - 1)) 377; } > guarded_01
+    echo '0x7e0000:0x7fffff top' > layout
+    printf '\000\000' > clear
+    printf '\004\000' > guarding
+}
+
+# The bits of a status file that a restore promises, all but BUSY, WEL and SUS: a chip that was stopped may show these.
+kept_bits() { od -An -tu1 "$1" | while read -r one two; do echo $((one & 0xfc)) $((two & 0x7f)); done; }
+
+# The chip's files have image and status of these names. A file that wasn't there may be missing still: an erased chip,
+# and a clear status.
+have() {
+    local image=${1/#-/erased} status=${2/#-/clear}
+    [[ $1 == - && ! -e image ]] || cmp -s image "../$image" || return 1
+    [[ $2 == - && ! -e status ]] || cmp -s status "../$status" ||
+        [[ $(stat -c %s status) == 2 && $(kept_bits status) == "$(kept_bits "../$status")" ]]
+}
+
+# Runs the program with these words, and cuts off the call of this number so. What was printed is then in `said` and
+# `faults`, the calls are in `calls`, and `ended` is the status.
+attempt() {
+    local number=$1 how=$2
+    shift 2
+    : > calls
+    ended=0
+    {
+        timeout 60 env LD_PRELOAD="$work/cut.so" CALL="$number" HOW="$how" CALLS=calls \
+            "$program" "$@" > said 2> faults || ended=$?
+    } 2> killed
+}
+
+# The run starts anew, with the chip's files, where - is none, and for a restore with its journal.
+begin() {
+    rm -f image status journal trace out
+    [[ ${from[0]} == - ]] || cp "../${from[0]}" image
+    [[ ${from[1]} == - ]] || cp "../${from[1]}" status
+    [[ -z $sealed ]] || cp "$kept" journal
+}
+
+# The run came to its own end.
+is_own() {
+    local printed=said none=faults status=0
+    [[ $answer != Error* ]] || printed=faults none=said status=1
+    [[ $ended == "$status" && $(< "$printed") == "$answer" && ! -s $none ]] && have "${to[@]}"
+}
+
+# Restores, and where that tells the wrong length of a file that wasn't there before, moves it away and restores again.
+rescue() {
+    local i file=(image status)
+    attempt 0 '' -p "$chip" --restore journal
+    for i in 0 1; do
+        if [[ ${before[i]} == - && $(cat faults) == "File fault 3: ${file[i]}." ]]; then
+            mv "${file[i]}" ../aside
+            attempt 0 '' -p "$chip" --restore journal
+        fi
+    done
+}
+
+# The chip is given back. Only a session may have left a journal that was cut short, or none.
+is_given_back() {
+    if [[ -e journal ]]; then
+        rescue
+        [[ $ended == 0 && ! -s faults ]] ||
+            [[ -z $sealed && $ended == 1 && $(cat said faults) == 'Error 15: journal fault 1.' ]]
+    else
+        [[ -z $sealed ]]
+    fi && have "${before[@]}"
+}
+
+# Cuts off the call of this number so, and counts what comes of it.
+cut_off() {
+    local number=$1 how=$2 call=${made[$1 - 1]:-none} problem=''
+    runs=$((runs + 1))
+    begin
+    attempt "$number" "$how" "${words[@]}"
+    ended_rightly "$number" "$call" "$how" ||
+        problem="it ended with $ended, which isn't what it must do. $(cat said faults)"
+    is_given_back || problem=${problem:-"the chip is lost. --restore ended with $ended. $(cat said faults)"}
+    [[ -z $sealed ]] || cmp -s journal "$kept" || problem=${problem:-"its journal was changed"}
+    if [[ -z $problem ]]; then
+        passed=$((passed + 1))
+        return
+    fi
+    failed=$((failed + 1)) lost=$((lost + 1))
+    ((lost > 1)) || echo "kill: $run, call $number ($call) cut off, $how: $problem
+Run it again with: tests/kill/run.sh $program $run $number $how" >&2
+}
+
+# Loses the machine, where no run or one of these is asked for, and sees that wrong programs are told.
+lose_machines() {
+    local status=0 last
+    [[ -z $only || $only == lost/* ]] || return 0
+    if ! command -v python3 > /dev/null; then
+        echo "skipped: lost machines, since there is no Python (python3)"
+        return
+    fi
+    # (words that weren't given are none)
+    python3 -B "$top/tests/kill/lost.py" "$program" ../cut.so ${only:+"$only"} ${at:+"$at"} ${way:+"$way"} |
+        tee ../machines || status=$?
+    last=$(tail -n 1 ../machines)
+    if [[ $last =~ ^'lost machines: '([0-9]+)' '.*' '([0-9]+)' lost the chip'$ ]]; then
+        passed=$((passed + BASH_REMATCH[1] - BASH_REMATCH[2])) failed=$((failed + BASH_REMATCH[2]))
+    fi
+    ((status == 0 || failed > 0)) || tell "lost.py ended with $status"
+    [[ -z $only ]] || return 0
+    bash "$top/tests/kill/self.sh" "$program" ../cut.so | tee ../wrong || true
+    last=$(tail -n 1 ../wrong)
+    [[ $last =~ ^([0-9]+)' passed, '([0-9]+)' failed'$ ]] || fail "self.sh doesn't come to its end"
+    passed=$((passed + BASH_REMATCH[1])) failed=$((failed + BASH_REMATCH[2]))
+}
+
+# Does a run once, left alone, and then cuts off each of its calls. Those behind the last one on the journal write the
+# chip's files.
+cut_each() {
+    local number how runs=0 lost=0 made called
+    begin
+    attempt 0 '' "${words[@]}"
+    is_own || fail "$run, left alone, didn't come to its own end, but to $ended: $(cat said faults)"
+    [[ -s calls ]] || fail "$run makes no call on a file"
+    mapfile -t made < calls
+    for ((called = ${#made[@]}; called > 0; called--)); do [[ ${made[called - 1]} != *' journal' ]] || break; done
+    ((called > 0)) || called=${#made[@]}
+    [[ -n $sealed || -z $kept ]] || keep_journal
+    [[ -z $only || $only == "$run" ]] || return 0
+    for ((number = ${at:-1}; number <= ${at:-${#made[@]}}; number++)); do
+        for how in ${way:-$(ways "$number")}; do cut_off "$number" "$how"; done
+    done
+    echo "$run: ${#made[@]} calls, $runs runs, $lost lost"
+}
+
+# Keeps the journal for the restores. It and its folder must have been synced, behind what was made and written, before
+# the chip's files are written. And nothing may pass as given back that isn't: not what a program leaves that does
+# nothing, and no chip with a byte that was changed and that no journal saved.
+keep_journal() {
+    local earlier='' call
+    for call in "${made[@]}"; do
+        case $call in make*image | make*status | write*image | write*status) break ;; esac
+        earlier+=$call,
+    done
+    [[ $earlier == *'make journal,'*'fsync .,'* ]] || tell "$run writes the chip's files before . is synced"
+    [[ ${earlier##*write journal,} == *'fsync journal,'* ]] ||
+        tell "$run writes the chip's files before journal is synced"
+    cp journal "$kept"
+    ! program=true is_given_back || fail "$run is told as given back by a program that does nothing"
+    printf '\132' | dd of=image bs=1 seek=50000 conv=notrunc status=none
+    ! is_given_back || fail "$run is told as given back though another byte was changed"
+}
+
+# Begins a part of this name, in a folder of its own, which is done beside others. What it says and counts is shown by
+# `gather`.
+begin_part() {
+    part=$1 passed=0 failed=0
+    trap end_part EXIT
+    mkdir "../in.$part"
+    cd "../in.$part"
+}
+
+# shellcheck disable=SC2317  # the trap calls it
+end_part() {
+    local status=$?
+    ((status == 0 || failed > 0)) || tell "$part ended with $status"
+    echo "$passed $failed" > "$work/$part.counts"
+}
+
+# Waits until a core is free for the part of this name.
+await_core() {
+    while (($(jobs -rp | wc -l) >= $(nproc))); do wait -n || true; done
+    names+=("$1")
+}
+
+gather() {
+    local name counts
+    wait
+    for name in ${names[@]+"${names[@]}"}; do
+        cat "../$name.said"
+        cat "../$name.faults" >&2
+        read -r -a counts < "../$name.counts"
+        passed=$((passed + counts[0])) failed=$((failed + counts[1]))
+    done
+}
+
+# job NAME CHIP BEFORE AFTER END UNDONE WORDS..: image and status before and after the session, and what it and its
+# restore print at their end. A `stop` is the session's alone.
+job() {
+    [[ -z $only || ${only%/restore} == "$1" ]] || return 0
+    await_core "$1"
+    { begin_part "$1"; cut_session "${stop:-}" "$@"; } > "../$1.said" 2> "../$1.faults" &
+}
+
+cut_session() {
+    local stop=$1 run=$2 chip=$3 answer=$6 undone=$7 kept=../$2.journal from to sealed=''
+    local before after words=(-p "$3$1" "${@:8}" --journal journal)
+    read -r -a before <<< "$4"
+    read -r -a after <<< "$5"
+    from=("${before[@]}") to=("${after[@]}")
+    cut_each
+    run=$run/restore from=("${after[@]}") to=("${before[@]}") sealed=yes answer=$undone
+    words=(-p "$chip" --restore journal)
+    cut_each
+}
+
+# look NAME CHIP BEFORE END WORDS..: the same of a run that leaves image and status as they are, and keeps no journal.
+look() {
+    [[ -z $only || $only == "$1" ]] || return 0
+    await_core "$1"
+    { begin_part "$1"; cut_look "$@"; } > "../$1.said" 2> "../$1.faults" &
+}
+
+cut_look() {
+    local run=$1 chip=$2 answer=$4 kept='' sealed='' words=(-p "$2" "${@:5}") before from to
+    read -r -a before <<< "$3"
+    from=("${before[@]}") to=("${before[@]}")
+    cut_each
+}
+
+# The folder that is synced is the one that the journal's name stands in.
+check_folders() {
+    local name folder from=(byte_00 clear) sealed='' kept=''
+    [[ -z $only ]] || return 0
+    mkdir -p a/b
+    for name in journal ./journal ../journal a/journal a/b/journal "$PWD/journal"; do
+        folder=.
+        [[ $name != */* ]] || folder=${name%/*}
+        begin
+        rm -f "$name"
+        attempt 0 '' -p $on_tiny -w ../byte_01 --journal "$name"
+        if [[ $ended == 0 && $(< calls) == *"make $name"$'\n'*"fsync $folder"$'\n'* ]]; then
+            passed=$((passed + 1))
+        else
+            tell "$name was made, and its folder not synced"
+        fi
+    done
+}
+
+# Where another run holds one of the chip's files no session and no restore begins.
+check_locks() {
+    local file from=(byte_00 clear) sealed='' kept=''
+    [[ -z $only ]] || return 0
+    if ! command -v flock > /dev/null; then
+        echo "skipped: the chip's files held by another run, since there is no flock"
+        return
+    fi
+    for file in image status; do
+        begin
+        "$program" -p $on_tiny -w ../byte_01 --journal journal > said
+        # (the words are run while the file is held)
+        local while_held=(flock --no-fork --nonblock "$file" "$program" -p "$on_tiny")
+        is_refused "$file" "${while_held[@]}" --restore journal
+        rm journal
+        is_refused "$file" "${while_held[@]}" -w ../byte_00 --journal journal
+    done
+}
+
+# These words tell that the file is taken, and leave the chip of the session before, and no journal that wasn't there.
+is_refused() {
+    local status=0 files
+    files=$(ls)
+    "${@:2}" > said 2> faults || status=$?
+    [[ $(ls) == "$files" ]] && have byte_01 clear || status=$status,changed
+    if [[ $status == 1 && ! -s said && $(< faults) == "File fault 5: $1." ]]; then
+        passed=$((passed + 1))
+    else
+        tell "$1 was held by another run, and this one ended with $status. $(cat said faults)"
+    fi
+}
+
+# What is printed at the end of a change of a chip of 64 KiB, and of one of 8 MiB, with these counts.
+counts() { printf 'Done: touched %s, erases %s, programs %s, transactions %s.' "$@"; }
+tiny() { printf 'Found SFDP (fe1010), 65536 bytes.\n%s' "$(counts "$@")"; }
+large() { printf 'Found W25Q64FV (ef4017), 8388608 bytes.\n%s' "$(counts "$@")"; }
+
+(cd .. && make_files)
+on_tiny=dummy:emulate=TINY64,image=image,status=status
+on_large=dummy:emulate=W25Q64FV,image=image,status=status
+# (the long ones first)
+job protect $on_large 'guarded_00 clear' 'guarded_00 guarding' "$(large 0 0 0 7)" "$(large 0 0 0 7)" \
+    --wp-range 0x7e0000,0x20000
+job unlock $on_large 'guarded_00 guarding' 'guarded_01 guarding' "$(large 1 1 1 49)" "$(large 1 0 1 16)" \
+    -w ../guarded_01 -l ../layout -i top --unlock
+job one_byte $on_tiny 'byte_00 clear' 'byte_01 clear' "$(tiny 1 1 1 30)" "$(tiny 1 0 1 13)" -w ../byte_01
+job two_sectors $on_tiny 'one_of_two clear' 'two_sectors clear' "$(tiny 2 1 2 35)" "$(tiny 2 1 1 18)" -w ../two_sectors
+job both_ends $on_tiny 'byte_00 clear' 'both_ends clear' "$(tiny 2 1 2 35)" "$(tiny 2 1 1 18)" -w ../both_ends
+job erase $on_tiny 'sector_00 clear' 'erased clear' "$(tiny 1 1 0 27)" "$(tiny 1 0 16 58)" -E
+job no_files $on_tiny '- -' 'byte_01 clear' "$(tiny 1 0 1 28)" "$(tiny 1 1 0 12)" -w ../byte_01
+stop=,stop=25 job power_lost $on_tiny,busy=2,power=5A 'byte_00 clear' 'sector_5a clear' 'Error 12: stopped.' \
+    "$(tiny 1 1 1 19)" -w ../byte_01
+traced=$on_tiny,trace=trace
+job traced $traced 'byte_00 clear' 'byte_01 clear' "$(tiny 1 1 1 30)" "$(tiny 1 0 1 13)" -w ../byte_01
+job status_alone dummy:emulate=W25Q64FV,status=status '- clear' '- guarding' "$(large 0 0 0 7)" "$(large 0 0 0 7)" \
+    --wp-range 0x7e0000,0x20000
+look read $traced 'byte_00 clear' $'Found SFDP (fe1010), 65536 bytes.\nRead 65536 bytes.' -r out
+look rehearse $traced 'byte_00 clear' $'Rehearsal: session stopped.\nRestores: 1.\nChip as before.' \
+    -w ../byte_01 --rehearse 25
+gather
+check_folders
+check_locks
+lose_machines
+((passed + failed > 0)) || fail "there is no such run or call"
+finish

@@ -1,0 +1,121 @@
+#!/usr/bin/env bash
+# tests/kill/self.sh PROGRAM LIBRARY: whether lost.py tells what is wrong. PROGRAM is right, and LIBRARY, which is
+# cut.c, records of it what a wrong program does: one that doesn't sync a file or a folder at all, once only, not before
+# its session, or ahead of what it writes. Then come programs that restore nothing, or refuse to. Each must be told by
+# its way of losing a chip. And disk.py must make all that a disk may hold of made-up files, and nothing else, and a
+# program that prints too early must be told where it is killed. The last line is `N passed, M failed`.
+set -uo pipefail
+export LC_ALL=C CHOICES=4
+
+top=$(cd "$(dirname "$0")/../.." && pwd)
+program=$(realpath "$1")
+library=$(realpath "$2")
+work=$(mktemp -d)
+trap 'rm -rf "$work"' EXIT
+passed=0
+failed=0
+
+# tells STORY WAY WHAT: in that story some chip is lost, and the first one in this way, which is a pattern.
+tells() {
+    local story=$1 way=$2 what=$3 said status last
+    said=$(python3 -B "$top/tests/kill/lost.py" "$program" "$library" "lost/$story" 2>&1)
+    status=$?
+    last=$(tail -n 1 <<< "$said")
+    if [[ $status == 1 && $(grep -m 1 '^kill: ' <<< "$said") =~ $way && $last =~ [1-9][0-9]*' lost the chip'$ ]]; then
+        passed=$((passed + 1))
+        echo "told: $what: $last"
+    else
+        echo "FAILED: kill/self.sh: $what: status $status, and $said"
+        failed=$((failed + 1))
+    fi
+}
+
+# The right program, recorded with this fault.
+wrong() { WRONG=$1 tells "${@:2}"; }
+
+# A program that does this instead of a restore that isn't recorded.
+restoring() {
+    local right=$program program=$work/stub
+    cat > "$program" << EOT
+#!/bin/sh
+[ "\$RECORD" ] || case "\$*" in *--restore*) $1 ;; esac
+exec "$right" "\$@"
+EOT
+    chmod 755 "$program"
+    tells "${@:2}"
+}
+
+# A program that prints before it works.
+hasty() {
+    local said status
+    cc -x c -o "$work/hasty" - << EOT
+#include <stdlib.h>
+#include <string.h>
+#include <unistd.h>
+int main(int count, char **words) {
+    if (count > 1 && getenv("CALL") && strcmp(getenv("CALL"), "0") != 0) write(1, "Done", 4);
+    return execv("$program", words);
+}
+EOT
+    said=$(bash "$top/tests/kill/run.sh" "$work/hasty" one_byte 5 after 2>&1)
+    status=$?
+    if [[ $status == 1 && $said == *'it ended with 137, which isn'*' Done'* ]]; then
+        passed=$((passed + 1))
+    else
+        echo "FAILED: kill/self.sh: a program that prints before it works: status $status, and $said"
+        failed=$((failed + 1))
+    fi
+}
+
+# leaves WHAT IS: the disk on which these changes were made, in Python, may hold these contents of the file f, None
+# being no file, and no others.
+leaves() {
+    if python3 -B - "$2" "$top/tests/kill" << EOT
+import random, sys
+sys.path.insert(0, sys.argv[2])
+from disk import Disk, picks_of
+disk = Disk()
+$1
+found = {disk.left(picks_of(it, random.Random(it))).get("f") for it in range(1000)}
+sys.exit(found != eval(sys.argv[1]))
+EOT
+    then
+        passed=$((passed + 1))
+    else
+        echo "FAILED: kill/self.sh: a disk may not hold just $2 after: $1"
+        failed=$((failed + 1))
+    fi
+}
+
+a='b"a" * 512' b='b"b" * 512'
+two="disk.put('f', $a + $a); disk.file('f').write(0, $b + $b)"
+leaves "$two" "{$a + $a, $a + $b, $b + $a, $b + $b}"
+leaves "$two; disk.sync('f')" "{$b + $b}"
+leaves "$two; disk.sync('.')" "{$a + $a, $a + $b, $b + $a, $b + $b}"
+leaves "disk.make('f'); disk.file('f').write(0, $a)" "{None, b'', bytes(512), $a}"
+leaves "disk.make('f'); disk.file('f').write(0, $a); disk.sync('f')" "{None, $a}"
+leaves "disk.make('f'); disk.file('f').write(0, $a); disk.sync('f'); disk.sync('.')" "{$a}"
+leaves "disk.put('f', b'ab'); disk.file('f').set_length(3)" "{b'ab', b'ab\\0'}"
+leaves "disk.put('f', b'abc'); disk.file('f').set_length(2)" "{b'ab', b'abc', b'ab\\0'}"
+leaves "disk.put('f', b'a'); disk.remove('f')" "{b'a', None}"
+leaves "disk.put('f', b'a'); disk.remove('f'); disk.sync('.')" "{None}"
+leaves "disk.put('f', b'a'); disk.remove('f'); disk.make('f')" "{b'a', None, b''}"
+
+gone='Done was printed, and ' late=" a whole journal; .*image has another byte" lost=" no whole journal; .*image has"
+wrong 'never image' two_sessions "${gone}image has another byte" "the image is never synced"
+wrong 'once image' two_sessions "${gone}image has another byte" "the image isn't synced behind the session"
+wrong 'early image' two_sessions "${gone}image has another byte" "the image is synced ahead of what is written"
+wrong 'late image' copied "$late" "the image isn't synced before the session"
+wrong 'never status' protect "${gone}status has 0000" "the status bytes are never synced"
+wrong 'never first' two_sessions "$lost" "the journal is never synced"
+wrong 'early first' two_sessions "$lost" "the journal is synced ahead of what is written"
+wrong 'never .' two_sessions "$lost" "the journal's folder is never synced"
+wrong 'early .' two_sessions "$lost" "the journal's folder is synced before the journal is made"
+wrong 'never kept' folders "$lost" "the journal's folder, another than the chip's, is never synced"
+wrong 'never chip' folders "${gone}chip/image isn't there" "the folder of a new image is never synced"
+wrong 'never chip' deleted "$late" "the folder of an image that was deleted is never synced"
+restoring 'exit 0' two_sessions "whole journal; --restore told ''" "a program that restores nothing"
+restoring "echo 'Error 15: journal fault 1.' >&2; exit 1" two_sessions " a whole journal; .*Error 15" "one that refuses"
+hasty
+echo "$passed passed, $failed failed"
+((failed == 0))

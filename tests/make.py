@@ -1,0 +1,197 @@
+#!/usr/bin/env python3
+"""tests/make.py: whether the Makefile does what it must.
+
+It works on no program that is older than its sources, an archive tells what its program was proved with, and `make
+quick` takes no crate for compiled that was not. All of it is tried on a copy of the repository in a folder with a blank
+in its name, with an `rt` that proves nothing and builds a program that says how many were built. The last line is
+`N passed, M failed`.
+"""
+import os
+import shutil
+import subprocess
+import sys
+import tempfile
+from pathlib import Path
+
+TOP = Path(__file__).resolve().parent.parent
+PROGRAM = Path("crates/flashnor/out/flashnor")
+SOURCE = Path("crates/nor_chip/src/lib.rt")
+RT = """#!/bin/sh
+case $1 in
+    version) echo 'a kit' ;;
+    try)
+        [ "${PWD##*/}" != bench ] || exit 124
+        [ "${PWD##*/}" != rows ] || exit 6 ;;
+    run)
+        sleep 0.02
+        echo built >> "$WORK/builds"
+        mkdir -p out
+        { echo '#!/bin/sh'; echo "echo $(grep -c . "$WORK/builds")"; } > out/flashnor
+        chmod 755 out/flashnor
+        [ ! -e "$WORK/edits" ] || echo >> ../nor_chip/src/lib.rt
+        [ ! -e "$WORK/fails" ] ;;
+esac
+"""
+
+
+class Tree:
+    """A copy of the repository, with that `rt`."""
+
+    def __init__(self, work):
+        self.work = work
+        self.top = work / "a tree"
+        self.top.mkdir()
+        names = subprocess.run(["git", "ls-files", "-z"], cwd=TOP, capture_output=True, check=True).stdout.split(b"\0")
+        for name in map(os.fsdecode, names[:-1]):
+            if (TOP / name).exists():
+                (self.top / name).parent.mkdir(parents=True, exist_ok=True)
+                shutil.copy2(TOP / name, self.top / name)
+        (work / "bin").mkdir()
+        (work / "bin/rt").write_text(RT, encoding="utf-8")
+        (work / "bin/rt").chmod(0o755)
+        self.env = {**os.environ, "WORK": str(work), "PATH": f"{work / 'bin'}:{os.environ['PATH']}"}
+        for name in ("MAKEFLAGS", "MAKELEVEL", "MFLAGS", "DESTDIR", "PREFIX"):
+            self.env.pop(name, None)
+        self.run("git", "init", "-q")
+        self.commit()
+
+    def run(self, *words):
+        """Runs a command there, and returns its status and what it said."""
+        ran = subprocess.run(words, cwd=self.top, env=self.env, stdin=subprocess.DEVNULL, stdout=subprocess.PIPE,
+                             stderr=subprocess.STDOUT, text=True, check=False)
+        return ran.returncode, ran.stdout
+
+    def make(self, *words):
+        return self.run("make", *words)
+
+    def commit(self):
+        """Commits all, and returns the commit."""
+        self.run("git", "add", "-A")
+        self.run("git", "-c", "user.name=a", "-c", "user.email=a@example.org", "-c", "commit.gpgsign=false",
+                 "commit", "-q", "--allow-empty", "-m", "All")
+        return self.run("git", "rev-parse", "HEAD")[1].strip()
+
+    def builds(self):
+        """Returns how many programs were built."""
+        path = self.work / "builds"
+        return len(path.read_text(encoding="utf-8").splitlines()) if path.exists() else 0
+
+    def edit(self, path=SOURCE, text="\n"):
+        with open(self.top / path, "a", encoding="utf-8") as it:
+            it.write(text)
+
+    def would_build(self, *targets):
+        """Returns those of the targets that would build the program first."""
+        return [it for it in targets if "rt run" in self.make("-n", it)[1]]
+
+    def packed(self):
+        """Makes an archive, and returns its page of what the program was proved with, and what its program prints."""
+        status, said = self.make("dist")
+        if status != 0:
+            return said
+        self.run("tar", "-C", self.work, "-xf", said.splitlines()[-1])
+        folder = next(self.work.glob("flashnor-*"))
+        sums = self.run("sh", "-c", f"cd '{folder}' && sha256sum --check --quiet SHA256SUMS && tail -n 1 PROVED-WITH | "
+                                    "sha256sum --check --quiet")
+        page = (folder / "PROVED-WITH").read_text(encoding="utf-8").splitlines()
+        printed = self.run(folder / "flashnor")[1].strip()
+        shutil.rmtree(folder)
+        return [*page[:2], printed] if sums == (0, "") else sums[1]
+
+
+TARGETS = ["install", "dist", "runs", "sweep", "kill", "compare"]
+
+
+def stale(tree, expect):
+    """No target works on an old program."""
+    expect("no program", tree.would_build(*TARGETS), TARGETS)
+    tree.make("build")
+    expect("a new program", tree.would_build(*TARGETS), [])
+    tree.edit()
+    expect("a source that was edited", tree.would_build(*TARGETS), TARGETS)
+    (tree.top / "crates/transcripts/out").mkdir()
+    shutil.copy2(tree.top / PROGRAM, tree.top / "crates/transcripts/out/transcripts")
+    said = tree.make("quick")[1].splitlines()
+    for what in ("program", "transcripts"):
+        expect(f"an old {what} in quick", [it for it in said if f"the built {what}" in it],
+               [f"left out: the built {what}: older than {SOURCE}, so it wasn't run"])
+    expect("a program that wasn't compiled in time", "the program bench: FAILED" in said, True)
+    expect("tests that are slow", "tests of rows: compiled, and too slow to be run so" in said, True)
+    tree.make("build")
+    (tree.top / "crates/nor_chip/specs/More.antt").touch()
+    expect("a new source", tree.would_build("runs"), ["runs"])
+    tree.make("build")
+    (tree.top / "crates/nor_chip/specs/More.antt").unlink()
+    expect("a source that was removed", tree.would_build("runs"), ["runs"])
+    tree.make("build")
+    tree.edit("crates.txt", "#\n")
+    expect("another list of crates", tree.would_build("runs"), ["runs"])
+
+
+def installed(tree, expect):
+    """What is installed is the program of today's sources, or nothing is."""
+    root = tree.work / "a root"
+    program = root / "usr/local/bin/flashnor"
+    install = ("install", f"DESTDIR={root}")
+    tree.edit()
+    expect("the status of an install", tree.make(*install)[0], 0)
+    expect("the program that is installed", tree.run(program)[1].strip(), str(tree.builds()))
+    tree.make("uninstall", f"DESTDIR={root}")
+    expect("the files that an uninstall leaves", [str(it) for it in root.rglob("*") if it.is_file()], [])
+    for way in ("fails", "edits"):
+        (tree.work / way).touch()
+        tree.edit()
+        expect(f"an install where the build {way}", tree.make(*install)[0] != 0 and not program.exists(), True)
+        (tree.work / way).unlink()
+
+
+def packed(tree, expect):
+    """An archive tells the commit that its program was proved with, and not a later one."""
+    first = tree.commit()
+    tree.edit()
+    expect("sources that aren't committed", tree.packed(), ["a kit", f"commit {first}-dirty", str(tree.builds())])
+    second = tree.commit()
+    tree.edit()
+    tree.run("git", "checkout", "-q", "--", SOURCE)
+    expect("sources that are committed", tree.packed(), ["a kit", f"commit {second}", str(tree.builds())])
+    tree.edit("README.md")
+    tree.commit()
+    count = tree.builds()
+    expect("a later commit of a page", tree.packed(), ["a kit", f"commit {second}", str(count)])
+    tree.run("sh", "-c", "cd crates/flashnor && rt run")
+    third = tree.run("git", "rev-parse", "HEAD")[1].strip()
+    expect("a program that was built by hand", tree.packed(), ["a kit", f"commit {third}", str(count + 2)])
+    (tree.top / PROGRAM.parent / "PROVED-WITH").unlink()
+    expect("no page", tree.packed(), ["a kit", f"commit {third}", str(count + 3)])
+
+
+def wrong(tree, expect):
+    """A Makefile whose program needs no sources is told."""
+    path = tree.top / "Makefile"
+    text = path.read_text(encoding="utf-8")
+    path.write_text(text.replace("$(BUILT): $(SOURCES)", "$(BUILT):"), encoding="utf-8")
+    tree.make("build")
+    tree.edit()
+    expect("a Makefile that forgets the sources", tree.would_build(*TARGETS), [])
+
+
+def main():
+    counts = {True: 0, False: 0}
+    if not (TOP / ".git").exists() or not shutil.which("git"):
+        print("skipped: make, since this is no git repository")
+        return 0
+
+    def expect(what, got, wanted):
+        counts[got == wanted] += 1
+        if got != wanted:
+            print(f"FAILED: make.py: {what}: wanted {wanted}, got {got}")
+
+    for trial in (stale, installed, packed, wrong):
+        with tempfile.TemporaryDirectory() as work:
+            trial(Tree(Path(work)), expect)
+    print(f"{counts[True]} passed, {counts[False]} failed")
+    return int(counts[False] > 0)
+
+
+if __name__ == "__main__":
+    sys.exit(main())

@@ -1,0 +1,50 @@
+"""The examples of README.md and of the manual page as cases.
+
+The lines behind `$` are the steps, in the order in which they stand, and what stands behind them is what both streams
+print. chip.bin and new.bin are those of `make files`, as the pages say, and a file that a page shows by `cat` is the
+one that it shows.
+"""
+import re
+
+from grammar import Case, File, Step
+
+FAULT = re.compile(r"(Error|File fault|Layout fault|Usage fault) ")
+
+
+def of_readme(text):
+    """Returns the lines within the examples of a page of Markdown."""
+    return [line for block in text.split("```")[1::2] for line in block.split("\n")[1:]]
+
+
+def of_manual(text):
+    """Returns those of a manual page, without what only their form needs."""
+    lines = "\n".join(re.findall(r"^\.EX\n(.*?)^\.EE$", text, re.M | re.S))
+    for form, plain in ((r"\\f[BIR]", ""), (r"\\-", "-"), (r"\\\(dq", '"'), (r"\\&", "")):
+        lines = re.sub(form, plain, lines)
+    return lines.split("\n")
+
+
+def case_of(name, lines):
+    """Returns the case of a page. A fault's line may be behind any step, and then the status is 1."""
+    case = Case(name, f"The examples of {name}, in their order.", free=True)
+    case.parts.append(Step('make files SCRATCH="$PWD"'))
+    for line in lines:
+        if line.startswith("$ cat "):
+            case.parts.append(File(line[6:], ""))
+        if line.startswith("$ "):
+            case.parts.append(Step(line[2:] + " 2>&1" * line.startswith("$ flashnor ")))
+        elif line and len(case.parts) > 1:
+            step = case.parts[-1]
+            step.output.append(line)
+            step.status = int(step.status or FAULT.match(line) is not None)
+            if step.command.startswith("cat "):
+                case.parts[-2].text.append(line)
+    if not any(it.is_flashnor() for it in case.steps()):
+        case.fault = "no example was found"
+    return case
+
+
+def cases(readme, manual):
+    """Returns a case for each of the two pages."""
+    return [case_of("README.md", of_readme(readme.read_text(encoding="utf-8"))),
+            case_of("the manual page", of_manual(manual.read_text(encoding="utf-8")))]

@@ -1,0 +1,158 @@
+"""Does the steps of a case in a folder of its own, and compares."""
+import os
+import re
+import shlex
+import stat
+import subprocess
+from pathlib import Path
+
+import contents
+from grammar import Step
+
+TOP = Path(__file__).resolve().parent.parent
+# A larger file isn't read: its length and its time are compared.
+MOST_COMPARED = 32 << 20
+
+
+class Differs(Exception):
+    """What was wanted, and what was got."""
+
+
+def shown(text):
+    """Returns a text as a terminal can show it."""
+    return "".join(it if it.isprintable() or it == "\n" else ascii(it)[1:-1] for it in text)
+
+
+def read(path):
+    """Returns the bytes of a file, whatever its rights are."""
+    try:
+        return path.read_bytes()
+    except PermissionError:
+        rights = stat.S_IMODE(path.stat().st_mode)
+        path.chmod(rights | stat.S_IRUSR)
+        try:
+            return path.read_bytes()
+        finally:
+            path.chmod(rights)
+
+
+def look(path):
+    """Returns what there is under this name: of a file its bytes, else a text that tells it; and its rights."""
+    found = path.lstat()
+    rights = stat.S_IMODE(found.st_mode)
+    if stat.S_ISLNK(found.st_mode):
+        return f"a link to {os.readlink(path)}", rights
+    if stat.S_ISDIR(found.st_mode):
+        return "a folder", rights
+    if not stat.S_ISREG(found.st_mode) or found.st_size > MOST_COMPARED:
+        return f"{found.st_size} bytes, of kind {stat.S_IFMT(found.st_mode):o}, at {found.st_mtime_ns}", rights
+    return read(path), rights
+
+
+def all_files(folder):
+    """Returns what there is of each file and folder below this one, by its name."""
+    found = {}
+    for place, folders, files in os.walk(folder):
+        for name in folders + files:
+            path = Path(place, name)
+            found[str(path.relative_to(folder))] = look(path)
+    return found
+
+
+def told(what):
+    """Returns what there is under a name, for a person."""
+    return f"{len(what)} bytes" if isinstance(what, bytes) else what
+
+
+def differing(wanted, got):
+    """Tells the first bytes that differ."""
+    places = [k for k in range(min(len(wanted), len(got))) if wanted[k] != got[k]][:4]
+    return "".join(f", {got[k]:02x} at 0x{k:x}, not {wanted[k]:02x}" for k in places)
+
+
+def same_lines(file, got):
+    """Compares a file with how many lines it has, and with those that are given by their numbers."""
+    lines = os.fsdecode(got).split("\n")
+    if len(lines) != file.count() + 1 or lines.pop() != "":
+        raise Differs(f"wanted of {file.name}: {file.content}", f"got: {len(lines)} lines, or one without an end")
+    for number, line in sorted(file.numbered.items()):
+        if lines[number - 1] != line:
+            raise Differs(f"wanted of {file.name}, line {number}: {line}", f"got: {lines[number - 1]}")
+
+
+def text_differs(name, wanted, got):
+    """Tells how what was printed differs; a line `..` stands for any lines."""
+    pattern = "".join(r"(?:[^\n]*\n)*" if it == ".." else re.escape(it + "\n") for it in wanted)
+    got = os.fsdecode(got)
+    if re.fullmatch(pattern, got):
+        return []
+    return [f"wanted on {name}:", *[f"    {it}" for it in wanted or ["(nothing)"]],
+            "got:", *[f"    {it}" for it in got.splitlines() or ["(nothing)"]]]
+
+
+class Trial:
+    """A case that is done in a folder, with a program."""
+
+    def __init__(self, case, folder, program):
+        self.case = case
+        self.folder = folder
+        self.begin = f"top={shlex.quote(str(TOP))} program={shlex.quote(str(program))}; . \"$top/tests/steps.sh\"\n"
+        self.command = ""
+
+    def content(self, file):
+        """Returns the bytes that a file is said to have."""
+        if not file.content:
+            return b"".join(os.fsencode(f"{it}\n") for it in file.text)
+        try:
+            return contents.make(file.content, lambda name: read(self.folder / name))
+        except (ValueError, OSError) as why:
+            raise Differs(f"'{file.content}' of {file.name} can't be made: {why}") from why
+
+    def do(self):
+        """Does all of it, or tells how it differs."""
+        if self.case.fault:
+            raise Differs(self.case.fault)
+        for it in self.case.parts:
+            if isinstance(it, Step):
+                self.do_step(it)
+            else:
+                (self.folder / it.name).write_bytes(self.content(it))
+
+    def do_step(self, step):
+        self.command = step.command
+        is_compared = step.is_flashnor() and not self.case.free
+        before = all_files(self.folder) if is_compared else {}
+        wanted = {it.name: it if self.is_counted(it) else self.content(it) for it in step.after}
+        ran = subprocess.run(["bash", "-c", self.begin + step.command], cwd=self.folder, stdin=subprocess.DEVNULL,
+                             capture_output=True, check=False)
+        status = ran.returncode if ran.returncode >= 0 else 128 - ran.returncode
+        how = text_differs("standard output", step.output, ran.stdout)
+        how += text_differs("standard error", step.errors, ran.stderr)
+        if status != step.status:
+            how += [f"wanted: status {step.status}", f"got: {status}"]
+        if how:
+            raise Differs(*how)
+        if is_compared:
+            self.compare(before, wanted, all_files(self.folder))
+
+    @staticmethod
+    def is_counted(file):
+        """Whether only its length is said, or its number of lines."""
+        return re.fullmatch(r"\d+ (bytes|lines?)", file.content) is not None
+
+    def compare(self, before, wanted, after):
+        """Each file is what it must be, with the rights that it had, and no other is there."""
+        for name in sorted({*before, *wanted, *after}):
+            want = wanted.get(name, before.get(name, ("no file",))[0])
+            got, rights = after.get(name, ("no file", 0))
+            if name in wanted and not isinstance(want, bytes) and isinstance(got, bytes):
+                if want.count() is not None:
+                    same_lines(want, got)
+                elif told(got) != want.content:
+                    raise Differs(f"wanted of {name}: {want.content}", f"got: {told(got)}")
+            elif want != got:
+                places = differing(want, got) if isinstance(want, bytes) and isinstance(got, bytes) else ""
+                want = told(want) if isinstance(want, (bytes, str)) else want.content
+                raise Differs(f"wanted of {name}: {want}", f"got: {told(got)}{places}")
+            if name in before and before[name][1] != rights:
+                raise Differs(f"wanted of {name}: rights {before[name][1]:o}", f"got: {rights:o}")
