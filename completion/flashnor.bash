@@ -48,7 +48,7 @@ _flashnor_files() {
 }
 
 # The text of -p: the programmer, its keys (each once), the emulated chips, and files for the keys that name one. That of
-# a trace is made, and what was in it before is lost.
+# a trace is made, and what was in it before is lost; so it is with -r.
 _flashnor_programmer() {
     local word=$1 key keys=()
     compopt -o nospace 2> /dev/null
@@ -119,8 +119,8 @@ _flashnor() {
     case $before in
         -p) _flashnor_programmer "$word" ;;
         -c) _flashnor_answer "$word" W25Q64FV W25Q128FV SFDP ;;
-        -r | -w | -v | -l | --restore) _flashnor_files "$word" "" -f ;;
-        --journal) _flashnor_files "$word" "" -d ;;
+        -w | -v | -l | --restore) _flashnor_files "$word" "" -f ;;
+        -r | --journal) _flashnor_files "$word" "" -d ;;
         -i) _flashnor_regions "$word" ;;
         --wp-range | --rehearse) ;;
         *)
