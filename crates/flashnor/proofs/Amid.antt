@@ -1,6 +1,6 @@
 -- What may be opened from the chip's files at any moment of their being written over.
 use Rattle.std.proofs.Common.{◌≡◌, ◌<◌, ◌+◌, ◌*◌, ◌/◌, ◌%◌, ◌==◌, ◌∙◌, ◌∷◌, [], ℕ, Bool, true, false, List, Option, None, Some}
-use Rattle.std.proofs.Common.{ap, arith, get_or, inl, inr, length, refl, replicate, subst, sym, true≢false}
+use Rattle.std.proofs.Common.{ap, arith, inl, inr, length, refl, replicate, sym, true≢false}
 use Rattle.std.specs.Prelude.{IfSome, ◌⊎◌, if◌then◌else◌, slice_index, unwrap_or}
 use Rattle.std.specs.Borrow.{Bor}
 use Rattle.std.proofs.lemmas.Bool.{cases_lt}
@@ -44,7 +44,7 @@ module _ (had bytes missing : List ℕ) where
 -- ---- the chip that is opened
 
 -- a status byte 1 tells the kept bits
-quarter : (kept : ℕ) (latch idle : Bool) → (4 * kept + (if latch then 2 else 0) + (if idle then 0 else 1)) / 4 ≡ kept
+pub quarter : (kept : ℕ) (latch idle : Bool) → (4 * kept + (if latch then 2 else 0) + (if idle then 0 else 1)) / 4 ≡ kept
 quarter kept true true = omega arith
 quarter kept true false = omega arith
 quarter kept false true = omega arith
@@ -99,7 +99,7 @@ module _ (programmer : Programmer) (content : Content) (image_there status_there
 -- ---- a restore
 
 -- what could be given back before a probe can be after it
-same_can : (journal : Journal) (first : Chip) (old found : BusState) → IsSame old.chip found.chip → IsCalm found
+pub same_can : (journal : Journal) (first : Chip) (old found : BusState) → IsSame old.chip found.chip → IsCalm found
     → CanGiveBack journal first old → CanGiveBack journal first found
 same_can journal first old found same calm can = record {
   known = can.known;

@@ -1,31 +1,21 @@
 -- What the calls of the jobs come to, with what is asked of them.
-use Rattle.std.proofs.Common.{◌≡◌, ℕ, true, List, Option, Result, subst}
+use Rattle.std.proofs.Common.{◌≡◌, ℕ, List, Option, Result, subst}
 use Rattle.std.specs.Borrow.{Bor}
 use Rattle.nor_chip.specs.Bus.{BusState}
 use Rattle.nor_journal.specs.Text.{Content as Journal, IsContent, text}
 use Rattle.nor_journal.specs.Vault.{IsFresh, VaultState}
 use Rattle.nor_layout.specs.declared.ranges.Span.{Span}
-use Rattle.nor_probe.specs.declared.table.ChipName.{ChipName}
-use Rattle.nor_probe.specs.Known.{IsModelled}
-use Rattle.nor_read.specs.Protecting.{ProtectionAlways, ProtectionHonest, ProtectionModelled}
-use Rattle.nor_read.specs.Reading.{ReadOutAlways, ReadOutHonest, ReadOutModelled}
-use Rattle.nor_read.specs.Verifying.{VerifyAlways, VerifyHonest, VerifyModelled}
-use Rattle.nor_read.specs.declared.protection.Protection.{Protection}
 use Rattle.nor_save.specs.declared.refusal.Refusal.{Refusal}
-use Rattle.nor_save.specs.declared.report.Report.{Report}
 use Rattle.nor_save.specs.declared.report.Request.{Request}
 use Rattle.nor_words.specs.Text.{Text}
 use Rattle.nor_words.specs.declared.job.Change.{Change}
 use Rattle.nor_words.specs.declared.job.Keeping.{Keeping}
-use Rattle.nor_words.specs.declared.job.Regions.{Regions}
 use Rattle.nor_words.specs.declared.programmer.Emulated.{Emulated}
 use Rattle.flashnor.specs.Changes.{HasMadeChange, HasDone, HasRestored, IsKeptIn}
 use Rattle.flashnor.specs.Stored.{IsRead}
 use Rattle.nor_files.specs.Files.{FilesState, View}
-use Rattle.flashnor.specs.Found.{wanted_name}
-use Rattle.flashnor.specs.Readings.{HasTold, AnswersCall, TellsRead, TellsVerified}
 use Rattle.flashnor.specs.Requests.{AreRangesOf, IsBufferOf, request_for}
-use Rattle.flashnor.specs.Run.{ChangesChip, DoesRead, DoesRestore, DoesVerify}
+use Rattle.flashnor.specs.Run.{ChangesChip, DoesRestore}
 use Rattle.flashnor.specs.declared.answers.Answer.{Answer}
 
 pub does_change : (view : View) (after : FilesState) (chip : Emulated) (named : Option (Bor Text)) (change : Change) (request : Request)

@@ -89,7 +89,7 @@ module _ (view : View) where
 
   no_usage : (on_chip : ChipJob) (fault : UsageFault) → FailsJob view on_chip (end.Usage fault) → ⊥
   no_usage on_chip fault fails = elim fails [
-    | inl twice ↦ twice
+    | inl twice ↦ twice.3
     | inr later ↦ elim later [
       | inl starting ↦ no_start (puts_back on_chip.task) on_chip.programmer fault starting
       | inr traced ↦ elim traced [

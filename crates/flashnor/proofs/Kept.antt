@@ -1,11 +1,9 @@
 -- What a run that changes a chip leaves of files, whatever its task.
-use Rattle.std.proofs.Common.{◌≡◌, ◌≢◌, ◌<◌, ◌∙◌, ◌∷◌, [], ℕ, Bool, true, false, List, Option, None, Some, Result, ap, inl, inr, length, refl, sym, true≢false}
+use Rattle.std.proofs.Common.{◌≡◌, ◌<◌, ◌∙◌, ℕ, Bool, true, false, List, Option, None, Some, Result, ap, inr, length, refl, sym, true≢false}
 use Rattle.std.specs.Borrow.{Bor}
 use Rattle.std.proofs.lemmas.List.{length-replicate}
 use Rattle.nor_chip.specs.Bus.{BusState}
-use Rattle.nor_chip.specs.Chip.{Chip}
-use Rattle.nor_chip.specs.Start.{AreChipBytes, status_of}
-use Rattle.nor_chip.specs.declared.config.Config.{Config}
+use Rattle.nor_chip.specs.Start.{status_of}
 use Rattle.nor_files.specs.Files.{AllStay, AreAtRest, FilesState, IsKnown, IsSettled, Name, Stays, View, is_lawful}
 use Rattle.nor_journal.specs.Vault.{VaultState}
 use Rattle.nor_save.specs.declared.refusal.Refusal.{Refusal}
@@ -17,7 +15,7 @@ use Rattle.nor_words.specs.declared.job.Keeping.TheVariants as keeping
 use Rattle.nor_words.specs.declared.job.Task.{Task}
 use Rattle.nor_words.specs.declared.job.Task.TheVariants as task
 use Rattle.nor_words.specs.declared.programmer.Programmer.{Programmer}
-use Rattle.flashnor.specs.Changes.{HasKeptChange, HasMadeChange, HasRestored, IsKeptFile}
+use Rattle.flashnor.specs.Changes.{HasKeptChange, HasMadeChange, IsKeptFile}
 use Rattle.flashnor.specs.Chips.{IsContentOf, OpensChip}
 use Rattle.flashnor.specs.Found.{emulated_part}
 use Rattle.flashnor.specs.Holding.{AreAmid, AreHeld, AreReady, IsReady, IsReadyFile, Settles, StandsFor, was}
@@ -27,16 +25,10 @@ use Rattle.flashnor.specs.Stored.{AreTwo, IsNot}
 use Rattle.flashnor.specs.Tasks.{journal_of, keeps_journal, made_by, puts_back}
 use Rattle.flashnor.specs.declared.answers.Answer.{Answer}
 use Rattle.flashnor.specs.declared.holding.Held.{Held}
+use Rattle.flashnor.proofs.Before.{not_that}
 use Rattle.flashnor.proofs.Stays.{lawful_after, lawful_before, stays_on}
 use Rattle.flashnor.proofs.Traced.{reads_before}
 use Rattle.flashnor.proofs.WayBack.{as_many, restorable, size_with, way_back}
-
--- ---- names
-
--- the other way round
-not_that : (one : Option (Bor Text)) (file : Bor Text) → AreTwo one (Some file) → IsNot one file.now
-not_that None file two = tt
-not_that (Some name) file two = λ same. two (sym same)
 
 -- ---- files that are ready to be written over
 

@@ -9,7 +9,9 @@ pub mod Amid
 pub mod WayBack
 pub mod Traced
 pub mod Told
+pub mod Before
 pub mod Kept
+pub mod Undone
 pub mod Ended
 pub mod Printed
 pub mod Held

@@ -35,7 +35,7 @@ use Rattle.flashnor.specs.Chips.{IsConfigWith, IsReady, HoldsFiles, OpensChip, a
 use Rattle.flashnor.specs.declared.chips.Content.{Content}
 use Rattle.flashnor.specs.Found.{IsEmulatedFound, emulated_part, wanted_name}
 use Rattle.flashnor.specs.Readings.{FindRefuses}
-use Rattle.flashnor.proofs.Amid.{restored_over, unfound_over}
+use Rattle.flashnor.proofs.Amid.{restored_over, same_can, unfound_over}
 use Rattle.flashnor.proofs.Shown.{ok-same, shown-emulated}
 
 -- ---- the unique ID tells nothing of what a chip is
@@ -214,8 +214,9 @@ pub restores_done : (journal : Journal) (named : Option (Bor Text)) (old found n
     → Looks most_probe old found → new.chip.config ≡ found.chip.config
     → Passes named old found → IsRestored journal found new report
     → ((first : Chip) → CanGiveBack journal first found → CanGiveBack journal first new)
+    → ((first : Chip) → CanGiveBack journal first found → IsSame first new.chip)
     → HasRestored journal named old new (Ok (answer.Done report))
-restores_done journal named old found new report looked setup passes restored keeps_journal = record {
+restores_done journal named old found new report looked setup passes restored keeps_journal back = record {
   found = found;
   looks = looked;
   same = passes.same;
@@ -223,6 +224,7 @@ restores_done journal named old found new report looked setup passes restored ke
   name = passes.name;
   told = restored;
   over = restored_over journal old new found passes.same passes.calm keeps_journal;
+  back = λ first can. back first (same_can journal first old found passes.same passes.calm can);
 }
 
 pub restores_refused : (journal : Journal) (named : Option (Bor Text)) (old found new : BusState) (refusal : Refusal)
@@ -238,10 +240,11 @@ restores_refused journal named old found new refusal looked setup passes tells l
   name = tt;
   told = inl (record { refuses = tells; same = λ judged. looked_same 69638 found new (looks judged) passes.modelled.honest passes.calm });
   over = restored_over journal old new found passes.same passes.calm keeps_journal;
+  back = tt;
 }
 
 pub restores_unfound : (journal : Journal) (named : Option (Bor Text)) (old new : BusState) (refusal : Refusal)
     → Looks most_probe old new → IsSame old.chip new.chip → ProbeRefuses named old new refusal
     → HasRestored journal named old new (Err refusal)
 restores_unfound journal named old new refusal looked same refuses =
-    record { found = new; looks = looked; same = same; config = same.config; name = tt; told = inr refuses; over = unfound_over journal old new same }
+    record { found = new; looks = looked; same = same; config = same.config; name = tt; told = inr refuses; over = unfound_over journal old new same; back = tt }

@@ -1,10 +1,10 @@
 -- A job's call once its trace was made.
-use Rattle.std.proofs.Common.{◌≡◌, ◌∙◌, ℕ, Option, None, Some, Result, ap, inl, inr, refl, subst, sym, take, true}
+use Rattle.std.proofs.Common.{◌≡◌, ◌∙◌, ℕ, Option, None, Some, Result, ap, inl, inr, subst, sym, take, true}
 use Rattle.std.specs.Prelude.{IsSomeAnd, option_map}
 use Rattle.std.specs.Borrow.{Bor}
 use Rattle.nor_chip.specs.Bus.{BusState}
 use Rattle.nor_files.specs.Calls.{Reads}
-use Rattle.nor_files.specs.Files.{FilesState, Found, IsKnown, Name, Nature, OthersStay, View, is_lawful}
+use Rattle.nor_files.specs.Files.{FilesState, Found, IsKnown, Nature, OthersStay, View, is_lawful}
 use Rattle.nor_files.specs.Files.Failure.{Unmade}
 use Rattle.nor_save.specs.declared.refusal.Refusal.{Refusal}
 use Rattle.nor_words.specs.Text.{Text}

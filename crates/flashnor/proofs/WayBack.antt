@@ -1,27 +1,24 @@
 -- What a run that changes a chip leaves of its files, at every exit.
-use Rattle.std.proofs.Common.{◌≡◌, ◌≢◌, ◌<◌, ◌∷◌, ◌∙◌, [], ℕ, Bool, true, false, List, Option, None, Some, Ok, ap, inl, inr, length, refl, replicate, sym}
+use Rattle.std.proofs.Common.{◌≡◌, ◌<◌, ◌∙◌, ℕ, true, false, List, Option, None, Some, ap, length, refl, replicate, sym}
 use Rattle.std.specs.Borrow.{Bor}
 use Rattle.nor_chip.specs.Bus.{BusState}
-use Rattle.nor_chip.specs.Chip.{Chip, IsSame}
+use Rattle.nor_chip.specs.Chip.{IsSame}
 use Rattle.nor_chip.specs.declared.config.Config.{Config}
 use Rattle.nor_files.specs.Files.{FilesState, Found, Stays, View}
 use Rattle.nor_journal.specs.Text.{Content as Journal, IsContent, text}
 use Rattle.nor_journal.specs.Vault.{VaultState}
 use Rattle.nor_save.specs.declared.report.Request.{Request}
-use Rattle.nor_session.specs.Restore.{CanGiveBack}
-use Rattle.nor_session.specs.Session.{CanBeUndone}
 use Rattle.nor_session.specs.WrittenOver.{IsWrittenOver}
 use Rattle.nor_words.specs.Text.{Text}
 use Rattle.nor_words.specs.declared.programmer.Emulated.{Emulated}
 use Rattle.nor_words.specs.declared.programmer.Programmer.{Programmer}
-use Rattle.flashnor.specs.Changes.{HasKeptChange, HasRestored, IsKeptFile, IsSafe}
+use Rattle.flashnor.specs.Changes.{HasKeptChange, HasRestored, IsKeptFile}
 use Rattle.flashnor.specs.Chips.{IsConfigWith, IsContentOf, OpensChip}
 use Rattle.flashnor.specs.Found.{emulated_part}
 use Rattle.flashnor.specs.Holding.{AreAmid, StandsFor}
 use Rattle.flashnor.specs.Left.{IsOpenedFrom, LeadsBack, LeavesRestorable, LeavesWayBack, MayLeave, Opened}
 use Rattle.flashnor.specs.Stored.{AreOfFile, IsRead}
 use Rattle.flashnor.specs.declared.answers.Answer.{Answer}
-use Rattle.flashnor.specs.declared.chips.Content.{Content}
 use Rattle.flashnor.specs.declared.holding.Held.{Held}
 use Rattle.nor_save.specs.declared.refusal.Refusal.{Refusal}
 use Rattle.std.specs.Prelude.{IfSome, Result, unwrap_or}
@@ -35,7 +32,7 @@ size_with chip None config is = size_emulated chip config is
 size_with chip (Some number) config is = size_emulated chip (record config { unique = replicate 8 0 }) is.0
 
 -- where no file is named the missing bytes stand for it
-of_none : (view : View) (name : Option (Bor Text)) (len : ℕ) (missing bytes : List ℕ) → name ≡ None
+pub of_none : (view : View) (name : Option (Bor Text)) (len : ℕ) (missing bytes : List ℕ) → name ≡ None
     → AreOfFile view name len missing bytes → bytes ≡ missing
 of_none view None len missing bytes none are = are.same ∙ (rw are.is_found refl)
 of_none view (Some name) len missing bytes none are = cc

@@ -156,7 +156,8 @@ pub record Passes (named : Option (Bor Text)) (old new : BusState) : Type 0 wher
   pub name : HasGivenName named old.chip
 
 -- A restore was made on the chip, after a probe for the name that is given, if one is. Each chip that the journal could
--- give back before it still can, from files that had the old chip, at each moment of their being written over.
+-- give back before it still can, from files that had the old chip, at each moment of their being written over; and at
+-- the end the chip is that one.
 pub record HasRestored (journal : Journal) (named : Option (Bor Text)) (old new : BusState)
     (outcome : Result Answer Refusal) : Type 0 where
   -- the bus after that probe, which tells that the chip has the name
@@ -169,3 +170,4 @@ pub record HasRestored (journal : Journal) (named : Option (Bor Text)) (old new 
       (λ refusal. RestoreRefuses journal found new refusal ⊎ ProbeRefuses named old new refusal)
   pub over : (first : Chip) (opened : BusState) → CanGiveBack journal first old
       → IsWrittenOver old.chip new.chip opened.chip → CanGiveBack journal first opened
+  pub back : OnOk outcome ((first : Chip) → CanGiveBack journal first old → IsSame first new.chip)

@@ -4,7 +4,7 @@ use Rattle.nor_save.specs.declared.refusal.Refusal.TheVariants.{Memory}
 use Rattle.nor_words.specs.Text.{Text}
 use Rattle.nor_files.specs.Calls.{Reads}
 use Rattle.nor_files.specs.Files.{View}
-use Rattle.nor_files.specs.Files.Failure.{Busy, Shared, There, Unheld, Unmade, Unread, Unwritten}
+use Rattle.nor_files.specs.Files.Failure.{Busy, There, Unheld, Unmade, Unread, Unwritten}
 use Rattle.nor_files.specs.declared.store.HoldFault.{HoldFault}
 use Rattle.nor_files.specs.declared.store.HoldFault.TheVariants as why
 use Rattle.flashnor.specs.Stored.{Happens, IsRead}
@@ -47,8 +47,8 @@ IsOpeningFault view name len (end.File file.Length of) =
     (of.now ≡ name) × ((bytes : List ℕ) × IsRead view name (len + 1) bytes × (length bytes ≢ len))
 IsOpeningFault view name len _ = ⊥
 
--- the chip's file of this name is held, which is to have so many bytes: besides, it may be there and not for writing, be
--- held by another run, or fail to be synced
+-- the chip's file of this name is held, which is to have so many bytes: besides, it may be there and not for writing,
+-- be held by another run, or fail to be synced
 abbrev pub IsHoldingFault : View → Text → ℕ → Fault → Type 0
 IsHoldingFault view name len (end.File file.Read of) =
     (of.now ≡ name) × (Reads name (len + 1) None view ⊎ Happens view (Unread name))
@@ -56,11 +56,6 @@ IsHoldingFault view name len (end.File file.Write of) =
     (of.now ≡ name) × (Happens view (Unheld name) ⊎ Happens view (Unwritten name))
 IsHoldingFault view name len (end.File file.Taken of) = (of.now ≡ name) × Happens view (Busy name)
 IsHoldingFault view name len fault = IsOpeningFault view name len fault
-
--- a file that the words name has another role in the run
-abbrev pub IsTwice : View → Fault → Type 0
-IsTwice view (end.File file.Taken of) = (other : Text) × Happens view (Shared other of.now)
-IsTwice view _ = ⊥
 
 -- the file of this name can't be made or emptied
 abbrev pub IsMaking : View → Text → Fault → Type 0

@@ -1,5 +1,5 @@
 -- What a machine that is lost leaves of a chip's files and its journal, and what a later run opens from it.
-use Rattle.std.specs.Prelude.{◌≡◌, ◌≢◌, ◌⊎◌, ◌/◌, ◌%◌, ◌∷◌, [], ℕ, Bool, true, false, List, Option, None, Some, IfSome, length, replicate}
+use Rattle.std.specs.Prelude.{◌≡◌, ◌≢◌, ◌⊎◌, ◌/◌, ◌%◌, ◌∷◌, [], ℕ, Bool, true, false, Option, None, Some, IfSome, length, replicate}
 use Rattle.std.specs.Prelude.{slice_index, unwrap_or}
 use Rattle.std.specs.Borrow.{Bor}
 use Rattle.nor_chip.specs.Bus.{BusState}
@@ -12,7 +12,7 @@ use Rattle.nor_session.specs.Restore.{CanGiveBack}
 use Rattle.nor_words.specs.declared.programmer.Programmer.{Programmer}
 use Rattle.nor_words.specs.Text.{Text}
 use Rattle.flashnor.specs.Chips.{IsContentOf, OpensChip}
-use Rattle.flashnor.specs.Stored.{IsNot, IsRead}
+use Rattle.flashnor.specs.Stored.{IsNot, IsRead, LeavesNoMoreOf, LeavesOrEmpty}
 use Rattle.flashnor.specs.declared.chips.Content.{Content}
 
 -- what may be left of the file that is named; of one that isn't there is nothing
@@ -41,10 +41,6 @@ LeavesOnly programmer setup Is files = (image status : Found) (opened : BusState
 abbrev pub LeavesJournal : (file : Text) → Journal → FilesState → Type 0
 LeavesJournal file journal files = (left : Found) → files.may_leave file left → left ≡ Some (text journal)
 
--- nothing may be left of any file but the trace that couldn't be left before
-abbrev pub LeaveNoMoreBut : Option (Bor Text) → (old new : FilesState) → Type 0
-LeaveNoMoreBut trace old new = (name : Text) → IsNot trace name → LeavesNoMore name old new
-
 -- What the chip's files had before a run, and the bus to the chip that it opened from them.
 pub record Opened (programmer : Programmer) (files : FilesState) : Type 0 where
   pub content : Content
@@ -70,15 +66,26 @@ pub record LeavesWayBack (programmer : Programmer) (file : Text) (old new : File
       (λ opened. IsSame first.bus.chip opened.chip) new
   pub back : sealed ≡ true → LeadsBack programmer file first.bus new
 
--- Nothing was changed, and nothing made but the trace, and perhaps an empty file for the journal.
-pub record LeavesAll (trace : Option (Bor Text)) (file : Text) (old new : FilesState) : Type 0 where
-  pub others : (name : Text) → IsNot trace name → name ≢ file → LeavesNoMore name old new
-  pub empty : (left : Found) → new.may_leave file left → old.may_leave file left ⊎ (left ≡ Some [])
+-- Nothing was changed, and nothing made but the trace, and perhaps an empty file for the journal. Where the trace has
+-- the name of one of the chip's files, that wasn't made either.
+pub record LeavesAll (programmer : Programmer) (file : Text) (old new : FilesState) : Type 0 where
+  pub image : LeavesNoMoreOf programmer.image old new
+  pub status : LeavesNoMoreOf programmer.status old new
+  pub others : (name : Text) → IsNot programmer.trace name → name ≢ file → LeavesNoMore name old new
+  pub empty : LeavesOrEmpty file old new
 
 -- or it was cut off before anything was changed
 abbrev pub KeepsFirst : Programmer → (file : Text) → (old new : FilesState) → Type 0
 KeepsFirst programmer file old new =
-    LeavesAll programmer.trace file old new ⊎ LeavesWayBack programmer file old new
+    LeavesAll programmer file old new ⊎ LeavesWayBack programmer file old new
+
+-- Nothing was changed, and nothing made but the trace; where that has the name of another file of the run, it wasn't
+-- made either.
+pub record LeavesSources (programmer : Programmer) (file : Text) (old new : FilesState) : Type 0 where
+  pub image : LeavesNoMoreOf programmer.image old new
+  pub status : LeavesNoMoreOf programmer.status old new
+  pub journal : LeavesNoMore file old new
+  pub others : (name : Text) → IsNot programmer.trace name → LeavesNoMore name old new
 
 -- At an exit of a run that restores from the journal in the file of this name: that is as before, and each chip that
 -- it could give back from what the run opened it can still, from whatever may be left.
@@ -94,4 +101,4 @@ pub record LeavesRestorable (programmer : Programmer) (file : Text) (old new : F
 -- or it was cut off before
 abbrev pub KeepsRestorable : Programmer → (file : Text) → (old new : FilesState) → Type 0
 KeepsRestorable programmer file old new =
-    LeaveNoMoreBut programmer.trace old new ⊎ LeavesRestorable programmer file old new
+    LeavesSources programmer file old new ⊎ LeavesRestorable programmer file old new

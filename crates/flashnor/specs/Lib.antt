@@ -15,3 +15,4 @@ pub mod Requests
 pub mod Readings
 pub mod Changes
 pub mod Run
+pub mod Undone

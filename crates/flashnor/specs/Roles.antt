@@ -1,5 +1,5 @@
 -- One file has one role in a run.
-use Rattle.std.specs.Prelude.{◌≡◌, true, Option, None, Some}
+use Rattle.std.specs.Prelude.{◌≡◌, ◌&&◌, ◌||◌, ℕ, Bool, true, false, Option, None, Some, IsSomeAnd, nat_lt}
 use Rattle.std.specs.Borrow.{Bor}
 use Rattle.nor_words.specs.Text.{Text}
 use Rattle.nor_words.specs.declared.job.ChipJob.{ChipJob}
@@ -8,9 +8,16 @@ use Rattle.nor_words.specs.declared.job.Task.{Task}
 use Rattle.nor_words.specs.declared.job.Task.TheVariants as task
 use Rattle.nor_words.specs.declared.job.Wanted.{Wanted}
 use Rattle.nor_words.specs.declared.job.Wanted.TheVariants as wanted
-use Rattle.flashnor.specs.Stored.{AreTwo}
+use Rattle.nor_files.specs.Files.{View}
+use Rattle.nor_files.specs.Files.Failure.{Shared}
+use Rattle.flashnor.specs.Stored.{AreTwo, Happens}
 use Rattle.flashnor.specs.Tasks.{journal_of, puts_back}
+use Rattle.flashnor.specs.declared.messages.Fault.{Fault}
+use Rattle.flashnor.specs.declared.messages.Fault.TheVariants as end
+use Rattle.flashnor.specs.declared.messages.FileFault.TheVariants as file
 use Rattle.flashnor.specs.declared.roles.Named.{Named}
+use Rattle.flashnor.specs.declared.roles.Role.{Role}
+use Rattle.flashnor.specs.declared.roles.Role.TheVariants as role
 
 -- the layout of regions
 abbrev pub layout_of : Option Regions → Option (Bor Text)
@@ -56,3 +63,50 @@ pub record HaveOneRole (job : ChipJob) : Type 0 where
   pub trace_journal : AreTwo job.programmer.trace (named_by job.task).journal
   pub layout_journal : AreTwo (named_by job.task).layout (named_by job.task).journal
   pub wanted_journal : AreTwo (named_by job.task).wanted (named_by job.task).journal
+
+-- ---- the fault of a file in two roles
+
+-- the file that a job has in a role, if it names one
+abbrev pub file_in : ChipJob → Role → Option (Bor Text)
+file_in job role.Image = job.programmer.image
+file_in job role.Status = job.programmer.status
+file_in job role.Trace = job.programmer.trace
+file_in job role.Layout = (named_by job.task).layout
+file_in job role.Wanted = (named_by job.task).wanted
+file_in job role.Output = (named_by job.task).output
+file_in job role.Journal = (named_by job.task).journal
+
+-- the order in which a fault names the later of two
+abbrev pub place_of : Role → ℕ
+place_of role.Image = 0
+place_of role.Status = 1
+place_of role.Trace = 2
+place_of role.Layout = 3
+place_of role.Wanted = 4
+place_of role.Output = 5
+place_of role.Journal = 6
+
+-- A file in that role isn't only read. A journal counts as written: no other file may stand for it.
+abbrev pub is_written : ChipJob → Role → Bool
+is_written job role.Image = puts_back job.task
+is_written job role.Status = puts_back job.task
+is_written job role.Layout = false
+is_written job role.Wanted = false
+is_written job _ = true
+
+-- The two have to be two files: one of them is written, and they aren't the chip's image and the one that it is to get.
+abbrev pub must_differ : ChipJob → (earlier later : Role) → Bool
+must_differ job role.Image role.Wanted = false
+must_differ job earlier later =
+    nat_lt (place_of earlier) (place_of later) && (is_written job earlier || is_written job later)
+
+-- the fault names the later of these two, which are one file
+abbrev pub IsShared : View → (earlier later : Option (Bor Text)) → Fault → Type 0
+IsShared view earlier later (end.File file.Taken of) = IsSomeAnd earlier (λ one. IsSomeAnd later (λ other.
+    (of.now ≡ other.now) × Happens view (Shared one.now other.now)))
+IsShared view earlier later _ = ⊥
+
+-- two files of the job are one that have to be two
+abbrev pub IsTwice : View → ChipJob → Fault → Type 0
+IsTwice view job fault = (earlier later : Role) × (must_differ job earlier later ≡ true)
+    × IsShared view (file_in job earlier) (file_in job later) fault

@@ -1,8 +1,7 @@
 -- What a run came to.
-use Rattle.std.specs.Prelude.{◌≡◌, ◌≤◌, ◌⊎◌, ℕ, Bool, true, false, List, Option, None, Some, Result, Ok, Err, IsSomeAnd, OnSome, ⊤}
+use Rattle.std.specs.Prelude.{◌≡◌, ◌≤◌, ◌⊎◌, ℕ, Bool, true, false, List, Option, None, Result, Ok, Err, IsSomeAnd, OnSome}
 use Rattle.std.specs.Borrow.{Bor}
 use Rattle.nor_chip.specs.Bus.{BusState}
-use Rattle.nor_chip.specs.Chip.{Chip}
 use Rattle.nor_journal.specs.Fault.{HasFault}
 use Rattle.nor_journal.specs.Text.{Content as Journal, IsContent, text}
 use Rattle.nor_layout.specs.declared.ranges.Span.{Span}
@@ -29,11 +28,12 @@ use Rattle.flashnor.specs.AnswerLines.{AreLines}
 use Rattle.flashnor.specs.Changes.{HasMadeChange, HasRestored}
 use Rattle.flashnor.specs.Chips.{ArePutBack, FailsToHold, FailsToOpen, IsContentOf, OpensChip}
 use Rattle.flashnor.specs.Endings.{HasPrinted, Prints, all_written}
-use Rattle.flashnor.specs.Stored.{IsNot, IsRead, IsToldOf}
+use Rattle.flashnor.specs.Stored.{IsNot, IsRead, IsToldOf, StaysOf}
 use Rattle.flashnor.specs.Left.{KeepsFirst, KeepsRestorable}
+use Rattle.flashnor.specs.Roles.{HaveOneRole, IsTwice}
 use Rattle.flashnor.specs.Tasks.{made_by, puts_back}
 use Rattle.nor_files.specs.Files.{AllStay, AreAtRest, FilesState, IsKnown, Name, Stays, View}
-use Rattle.flashnor.specs.Files.{IsLogging, IsMaking, IsMakingNew, IsReadingFault, IsTwice}
+use Rattle.flashnor.specs.Files.{IsLogging, IsMaking, IsMakingNew, IsReadingFault}
 use Rattle.flashnor.specs.Readings.{HasLookedUp, HasReadOut, HasTold, HasVerified, ListsRanges, TellsFound, TellsGuarded, TellsSize}
 use Rattle.flashnor.specs.Requests.{AreRangesOf, FailsToInclude, IsBufferOf, request_for}
 use Rattle.flashnor.specs.declared.answers.Answer.{Answer}
@@ -47,8 +47,8 @@ use Rattle.flashnor.specs.declared.printing.Ending.{Ending}
 -- ---- calls
 
 -- A change was asked for, in the ranges of the regions and with the image.
-pub record ChangesChip (view : View) (after : FilesState) (chip : Emulated) (named : Option (Bor Text)) (change : Change)
-    (old new : BusState) (outcome : Result Answer Refusal) : Type 0 where
+pub record ChangesChip (view : View) (after : FilesState) (chip : Emulated) (named : Option (Bor Text))
+    (change : Change) (old new : BusState) (outcome : Result Answer Refusal) : Type 0 where
   pub ranges : Option (List Span)
   pub included : AreRangesOf view change.regions ranges
   pub image : List ℕ
@@ -81,8 +81,8 @@ pub record DoesRestore (view : View) (named : Option (Bor Text)) (file : Text) (
   pub restored : HasRestored journal named old new outcome
 
 -- what the call for a task came to, on a bus to the programmer's chip
-abbrev pub DoesJob : View → FilesState → Programmer → Option (Bor Text) → Task → (old new : BusState) → Result Answer Refusal
-    → Type 0
+abbrev pub DoesJob : View → FilesState → Programmer → Option (Bor Text) → Task → (old new : BusState)
+    → Result Answer Refusal → Type 0
 DoesJob view after programmer named task.Probe old new outcome =
     HasLookedUp (TellsFound programmer named) programmer named old new outcome
 DoesJob view after programmer named task.FlashSize old new outcome =
@@ -117,10 +117,12 @@ abbrev pub DoesTraced : (files after : FilesState) → ChipJob → (old new : Bu
 DoesTraced files after job old new outcome = (amid : View) × IsViewBut job.programmer.trace files.view amid
     × DoesJob amid after job.programmer job.named job.task old new outcome
 
--- The job's call was made: on a bus to the programmer's chip, as its files tell it, into which it was put back; and a
--- trace that lost a line is the programmer's.
+-- The job's call was made, each file of which has one role: on a bus to the programmer's chip, as its files tell it,
+-- into which it was put back; and a trace that lost a line is the programmer's.
 pub record IsCalled (files after : FilesState) (job : ChipJob) (unwritten : Unwritten)
     (outcome : Result Answer Refusal) : Type 0 where
+  pub roles : HaveOneRole job
+  pub nature : after.view.nature ≡ files.view.nature
   pub content : Content
   pub read : IsContentOf files.view job.programmer content
   pub old : BusState
@@ -176,26 +178,29 @@ FailsTraced view on_chip fault = IsSomeAnd on_chip.programmer.trace (λ name. Is
 -- how a job may end without a call: by a file in two roles, by the chip's files, by the trace's, or by those of its
 -- task
 abbrev pub FailsJob : View → ChipJob → Fault → Type 0
-FailsJob view on_chip fault = IsTwice view fault
+FailsJob view on_chip fault = IsTwice view on_chip fault
     ⊎ (FailsToStart (puts_back on_chip.task) view on_chip.programmer fault
     ⊎ FailsTraced view on_chip fault)
 
 -- ---- what a run leaves of files, at every exit
 
--- the files are as they were, but the trace and the one that the task makes
-abbrev pub StayBut : (trace made : Option (Bor Text)) → (old new : FilesState) → Type 0
-StayBut trace made old new = (name : Name) → IsNot trace name → IsNot made name → Stays name old new
+-- Each file is as it was but the trace and the one that the task makes; where one of these has the name of one of the
+-- chip's files, that is as it was, too.
+pub record StayBut (programmer : Programmer) (made : Option (Bor Text)) (old new : FilesState) : Type 0 where
+  pub image : StaysOf programmer.image old new
+  pub status : StaysOf programmer.status old new
+  pub others : (name : Name) → IsNot programmer.trace name → IsNot made name → Stays name old new
 
 -- of a change: with a journal in a file the way back is kept, and a rehearsal leaves the files as they were
 abbrev pub KeepsChange : Programmer → Keeping → (old new : FilesState) → Type 0
 KeepsChange programmer (keeping.Journal file) old new = KeepsFirst programmer file.now old new
-KeepsChange programmer (keeping.Rehearse stops) old new = StayBut programmer.trace None old new
+KeepsChange programmer (keeping.Rehearse stops) old new = StayBut programmer None old new
 
 -- of each task
 abbrev pub KeepsFiles : Programmer → Task → (old new : FilesState) → Type 0
 KeepsFiles programmer (task.Change change) old new = KeepsChange programmer change.keeping old new
 KeepsFiles programmer (task.Restore journal) old new = KeepsRestorable programmer journal.now old new
-KeepsFiles programmer done old new = StayBut programmer.trace (made_by done) old new
+KeepsFiles programmer done old new = StayBut programmer (made_by done) old new
 
 -- ---- runs
 

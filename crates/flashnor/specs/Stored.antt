@@ -1,8 +1,8 @@
 -- What was read of the files of a run, and what they have after it.
 use Rattle.std.specs.Prelude.{◌≡◌, ◌≢◌, ◌+◌, ◌⊎◌, [], ℕ, List, Option, None, Some, IfSome, ⊤, length, true, unwrap_or}
 use Rattle.std.specs.Borrow.{Bor}
-use Rattle.nor_files.specs.Calls.{Reads}
-use Rattle.nor_files.specs.Files.{Failure, FilesState, Found, IsKnown, IsSettled, View, is_lawful}
+use Rattle.nor_files.specs.Calls.{LeavesNoMore, Reads}
+use Rattle.nor_files.specs.Files.{Failure, FilesState, Found, IsKnown, IsSettled, Stays, View, is_lawful}
 use Rattle.nor_files.specs.Files.Failure.{Unwritten}
 use Rattle.nor_words.specs.Text.{Text}
 
@@ -51,8 +51,21 @@ abbrev pub AreTwo : (one other : Option (Bor Text)) → Type 0
 AreTwo None other = ⊤
 AreTwo (Some one) other = IsNot other one.now
 
--- nothing may be left of the file that is named, if one is, that couldn't be left before, but an empty file
+-- the file that is named, if one is, is as it was
+abbrev pub StaysOf : Option (Bor Text) → (old new : FilesState) → Type 0
+StaysOf None old new = ⊤
+StaysOf (Some name) old new = Stays name.now old new
+
+-- nothing may be left of it that couldn't be left before
+abbrev pub LeavesNoMoreOf : Option (Bor Text) → (old new : FilesState) → Type 0
+LeavesNoMoreOf None old new = ⊤
+LeavesNoMoreOf (Some name) old new = LeavesNoMore name.now old new
+
+-- nothing may be left of the file but what could be left before, or an empty one
+abbrev pub LeavesOrEmpty : Text → (old new : FilesState) → Type 0
+LeavesOrEmpty name old new = (left : Found) → new.may_leave name left → old.may_leave name left ⊎ (left ≡ Some [])
+
+-- the same of the file that is named, if one is
 abbrev pub MakesNothing : Option (Bor Text) → (old new : FilesState) → Type 0
 MakesNothing None old new = ⊤
-MakesNothing (Some name) old new = IsKnown name.now old.view → (left : Found) → new.may_leave name.now left
-    → old.may_leave name.now left ⊎ (left ≡ Some [])
+MakesNothing (Some name) old new = IsKnown name.now old.view → LeavesOrEmpty name.now old new

@@ -9,6 +9,7 @@ mod changes;
 mod chips;
 mod files;
 mod holding;
+mod laws;
 mod messages;
 mod printing;
 mod readings;

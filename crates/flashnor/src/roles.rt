@@ -1,14 +1,13 @@
 //! One file has one role in a run.
-ghost use Rattle.std.specs.Prelude.{◌≡◌, IfErr, OnOk};
-ghost use Rattle.flashnor.specs.Files.{IsTwice};
-ghost use Rattle.flashnor.specs.Roles.{HaveOneRole, image_of, layout_of, named_by};
+ghost use Rattle.std.specs.Prelude.{◌≡◌, true, IfErr, OnOk};
+ghost use Rattle.flashnor.specs.Roles.{HaveOneRole, IsTwice, file_in, image_of, layout_of, must_differ, named_by};
 ghost use Rattle.flashnor.specs.Tasks.{journal_of};
 ghost use Rattle.flashnor.specs.Stored.{AreTwo};
 
 use crate::messages::{Fault, FileFault};
 use crate::run::puts_back;
 use nor_files::Store;
-use nor_words::{Change, ChipJob, Keeping, Programmer, Regions, Task, Wanted};
+use nor_words::{Change, ChipJob, Keeping, Regions, Task, Wanted};
 
 // The files that a task names beside the chip's.
 #[derive(Clone, Copy)]
@@ -19,44 +18,65 @@ struct Named<'a> {
     journal: Option<&'a str>,
 }
 
+// What a file is to a job, in the order in which a fault names the later of two.
+#[derive(Clone, Copy)]
+enum Role {
+    Image,
+    Status,
+    Trace,
+    Layout,
+    Wanted,
+    Output,
+    Journal,
+}
+
 /// Refuses a job that names one file in two roles, unless both are only read, or they are the chip's image and the one
 /// that it is to get. The fault names the later of the two, in the order image, status, trace, layout, wanted image,
 /// output, journal.
 pub fn have_one_role<'a, R: Store>(rt: &R, job: &ChipJob<'a>) -> Result<(), Fault<'a>>
     ensures ok { OnOk result (HaveOneRole job.now) }
-    ensures err { IfErr result (IsTwice (R.state rt.now).view) }
+    ensures err { IfErr result (IsTwice (R.state rt.now).view job.now) }
 {
-    let Programmer {
-        image,
-        status,
-        trace,
-        ..
-    } = job.programmer;
+    if puts_back(&job.task) {
+        apart(rt, job, Role::Image, Role::Status)?;
+        apart(rt, job, Role::Image, Role::Layout)?;
+        apart(rt, job, Role::Status, Role::Layout)?;
+        apart(rt, job, Role::Status, Role::Wanted)?;
+    }
+    apart(rt, job, Role::Image, Role::Trace)?;
+    apart(rt, job, Role::Status, Role::Trace)?;
+    apart(rt, job, Role::Trace, Role::Layout)?;
+    apart(rt, job, Role::Trace, Role::Wanted)?;
+    apart(rt, job, Role::Image, Role::Output)?;
+    apart(rt, job, Role::Status, Role::Output)?;
+    apart(rt, job, Role::Trace, Role::Output)?;
+    apart(rt, job, Role::Layout, Role::Output)?;
+    apart(rt, job, Role::Image, Role::Journal)?;
+    apart(rt, job, Role::Status, Role::Journal)?;
+    apart(rt, job, Role::Trace, Role::Journal)?;
+    apart(rt, job, Role::Layout, Role::Journal)?;
+    apart(rt, job, Role::Wanted, Role::Journal)
+}
+
+// The file that a job has in this role, if it names one.
+fn file_in<'a>(job: &ChipJob<'a>, role: Role) -> Option<&'a str>
+    ensures { result ≡ file_in job.now role }
+{
     let Named {
         layout,
         wanted,
         output,
         journal,
     } = named_by(&job.task);
-    if puts_back(&job.task) {
-        apart(rt, image, status)?;
-        apart(rt, image, layout)?;
-        apart(rt, status, layout)?;
-        apart(rt, status, wanted)?;
+    match role {
+        Role::Image => job.programmer.image,
+        Role::Status => job.programmer.status,
+        Role::Trace => job.programmer.trace,
+        Role::Layout => layout,
+        Role::Wanted => wanted,
+        Role::Output => output,
+        Role::Journal => journal,
     }
-    apart(rt, image, trace)?;
-    apart(rt, status, trace)?;
-    apart(rt, trace, layout)?;
-    apart(rt, trace, wanted)?;
-    apart(rt, image, output)?;
-    apart(rt, status, output)?;
-    apart(rt, trace, output)?;
-    apart(rt, layout, output)?;
-    apart(rt, image, journal)?;
-    apart(rt, status, journal)?;
-    apart(rt, trace, journal)?;
-    apart(rt, layout, journal)?;
-    apart(rt, wanted, journal)
 }
 
 // The files that this task names.
@@ -123,17 +143,19 @@ fn journal_of<'a>(change: &Change<'a>) -> Option<&'a str>
     }
 }
 
-// Two files, where both are named: a fault of the later one where they are one.
+// Two files that have to be two, where both are named: a fault of the later one where they are one.
 fn apart<'a, R: Store>(
     rt: &R,
-    earlier: Option<&'a str>,
-    later: Option<&'a str>,
+    job: &ChipJob<'a>,
+    earlier: Role,
+    later: Role,
 ) -> Result<(), Fault<'a>>
-    ensures ok { OnOk result (AreTwo earlier.entry later.entry) }
-    ensures err { IfErr result (IsTwice (R.state rt.now).view) }
+    requires { must_differ job.now earlier later ≡ true }
+    ensures ok { OnOk result (AreTwo (file_in job.now earlier) (file_in job.now later)) }
+    ensures err { IfErr result (IsTwice (R.state rt.now).view job.now) }
 {
-    match (earlier, later) {
-        (Some(earlier), Some(name)) if rt.is_one_file(earlier, name) => {
+    match (file_in(job, earlier), file_in(job, later)) {
+        (Some(one), Some(name)) if rt.is_one_file(one, name) => {
             let fault = FileFault::Taken;
             Err(Fault::File { fault, name })
         }

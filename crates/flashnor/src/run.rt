@@ -15,6 +15,7 @@ use crate::changes::{change_chip, restore_chip};
 use crate::chips::{read_content, start};
 use crate::files::create_log;
 use crate::holding::{Held, Unwritten, hold_content, write_back};
+use crate::laws::runs_lead_back;
 use crate::messages::Fault;
 use crate::printing::{Ending, print_end};
 use crate::readings::{find_chip, list_ranges, read_chip, tell_protection, tell_size, verify_chip};
@@ -36,8 +37,8 @@ pub fn run_words<R: Files + AllocGlobal, O: Write, E: Write>(
 ) -> u8
 where
     R::File: LockFile,
-    ensures { EndsWith (IsStatus unknown unknown (map string_bytes words.now) (O.contents output.old) (O.contents output.new)
-        (E.contents errors.old) (E.contents errors.new)) result }
+    ensures { EndsWith (IsStatus unknown unknown (map string_bytes words.now)
+        (O.contents output.old) (O.contents output.new) (E.contents errors.old) (E.contents errors.new)) result }
 {
     let ending = run_over(&mut Disk::new(rt), words, output, errors);
     ending.status
@@ -75,9 +76,11 @@ pub fn run_over<R: Store, O: Write, E: Write>(
     output: &mut O,
     errors: &mut E,
 ) -> Ending
-    ensures { IsStatus (R.state rt.old) (R.state rt.new) (map string_bytes words.now) (O.contents output.old) (O.contents output.new)
-        (E.contents errors.old) (E.contents errors.new) result }
+    ensures { IsStatus (R.state rt.old) (R.state rt.new) (map string_bytes words.now)
+        (O.contents output.old) (O.contents output.new) (E.contents errors.old) (E.contents errors.new) result }
 {
+    // Nothing is done here: what a run leaves is joined to what the next one finds.
+    runs_lead_back::<R>();
     let Ended { answer, unwritten } = run(rt, words);
     print_end(output, errors, answer, unwritten)
 }
@@ -137,12 +140,13 @@ fn work_on_chip<'a, R: Store>(rt: &mut R, job: &ChipJob<'a>) -> Result<Ended<'a>
 
 // Reads the chip's files, does a task that leaves them as they are.
 fn look_at_files<'a, R: Store>(rt: &mut R, job: &ChipJob<'a>) -> Result<Ended<'a>, Fault<'a>>
-    requires { puts_back job.now.task ≡ false }
+    requires looks { puts_back job.now.task ≡ false }
+    requires roles { HaveOneRole job.now }
     ensures ok { IfOk result (λ ended.
         EndsJob (R.state rt.old) (R.state rt.new) job.now ended.unwritten ended.answer) }
     ensures err { IfErr result (FailsJob (R.state rt.old).view job.now) }
     ensures keeps { is_lawful (R.state rt.old).view ≡ true
-        → StayBut job.now.programmer.trace (made_by job.now.task) (R.state rt.old) (R.state rt.new) }
+        → StayBut job.now.programmer (made_by job.now.task) (R.state rt.old) (R.state rt.new) }
 {
     let content = read_content(rt, &job.programmer)?;
     let bus = start(&job.programmer, content);

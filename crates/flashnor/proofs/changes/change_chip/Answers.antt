@@ -1,4 +1,3 @@
-use Rattle.std.proofs.Common.{refl}
 use Rattle.std.proofs.lemmas.Result.{err_from_is_err_and}
 use Rattle.flashnor.proofs.Stays.{nothing_same, stays_same}
 use Rattle.flashnor.proofs.changes.change_chip.Goals as goal

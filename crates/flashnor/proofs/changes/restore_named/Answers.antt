@@ -21,4 +21,4 @@ returns g c = λ modelled calm.
     let passes = c.in_ok-find_named.ensures.passes modelled calm in
     restores_done c.args.journal.now c.args.named _ _ _ _ c.in_ok-find_named.ensures.looks
     (c.in_ok-report.ensures.modelled passes.modelled).leaves.config passes (c.in_ok-report.ensures.modelled passes.modelled).done
-    (c.in_ok-report.ensures.modelled passes.modelled).within
+    (c.in_ok-report.ensures.modelled passes.modelled).within (c.in_ok-report.ensures.modelled passes.modelled).back

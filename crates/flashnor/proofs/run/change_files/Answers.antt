@@ -9,6 +9,7 @@ use Rattle.flashnor.proofs.Stays.{lawful_after}
 use Rattle.flashnor.proofs.Told.{told_before}
 use Rattle.flashnor.proofs.Traced.{fails_before, view_before}
 use Rattle.flashnor.proofs.WayBack.{as_many}
+use Rattle.flashnor.proofs.Before.{keeps_before, two_kept}
 use Rattle.flashnor.proofs.run.change_files.Goals as goal
 
 pub returns-in_err-called-clause-err : goal.returns-in_err-called-clause-err
@@ -16,6 +17,16 @@ returns-in_err-called-clause-err g c =
     let p = err_from_is_err_and c.from_residual-in_err-called.result c.from_residual-in_err-called.ensures.1 in
     rw (p.1, p.2) (inr (inr (fails_before c.args.job.now _ (g.R.Store.state c.args.rt.now) (g.R.Store.state c.hold_content.new.rt)
     c.in_ok-held.ensures.nature c.in_ok-held.ensures.stay c.in_err-called.ensures.err)))
+
+pub returns-in_err-called-clause-keeps : goal.returns-in_err-called-clause-keeps
+returns-in_err-called-clause-keeps g c = λ rest.
+    let s0 = g.R.Store.state c.args.rt.now in
+    let s1 = g.R.Store.state c.hold_content.new.rt in
+    let s2 = g.R.Store.state c.call_on.new.rt in
+    let lawful1 = lawful_after s0 s1 c.in_ok-held.ensures.nature rest.lawful in
+    keeps_before s0 s1 s2 rest c.in_ok-held.ensures.nature c.in_ok-held.ensures.stay (c.in_ok-held.ensures.no_more rest)
+    c.args.job.now c.requires.roles c.requires.changes (c.in_err-called.ensures.others lawful1)
+    (c.in_err-called.ensures.unmade lawful1 (two_kept c.args.job.now.task _ c.requires.roles.trace_journal))
 
 pub returns-clause-ok : goal.returns-clause-ok
 returns-clause-ok g c =
@@ -35,6 +46,8 @@ returns-clause-ok g c =
     let setup = setup_done job.task d.0 s2 job.programmer job.named _ _ _ puts d.2 in
     let two = roles.status puts in
     ends_called s0 s3 job _ _ _ (record {
+      roles = roles;
+      nature = c.write_back.ensures.nature ∙ called.nature ∙ held.nature;
       content = c.in_ok-held.held.content;
       read = held.ok;
       old = _;

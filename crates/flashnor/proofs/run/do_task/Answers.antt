@@ -1,5 +1,5 @@
 use Rattle.flashnor.proofs.Ready.{calm_ready, modelled_ready}
-use Rattle.flashnor.proofs.Stays.{nothing_same, stays_same}
+use Rattle.flashnor.proofs.Stays.{stays_same}
 use Rattle.flashnor.proofs.run.do_task.Goals as goal
 
 pub returns-in-Probe-clause-ok : goal.returns-in-Probe-clause-ok

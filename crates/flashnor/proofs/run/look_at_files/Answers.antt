@@ -1,17 +1,36 @@
 use Rattle.std.proofs.Common.{◌∙◌, refl, sym, true≢false}
 use Rattle.flashnor.proofs.Ended.{ends_called}
+use Rattle.flashnor.proofs.Before.{stay_all, stays_but}
+use Rattle.flashnor.proofs.Stays.{stays_same}
 use Rattle.flashnor.proofs.run.look_at_files.Goals as goal
 
 pub returns-clause-ok : goal.returns-clause-ok
 returns-clause-ok g c =
     ends_called (g.R.Store.state c.args.rt.now) (g.R.Store.state c.call_on.new.rt) c.args.job.now _ _ _ (record {
+      roles = c.requires.roles;
+      nature = c.call_on.ensures.nature;
       content = c.in_ok-content.content;
       read = c.in_ok-content.ensures.ok;
       old = _;
       new = _;
       opened = c.start-bus.ensures.opens;
       does = c.in_ok-called.ensures.ok c.start-bus.ensures.opens.ready;
-      told_of = rw c.requires (refl, refl);
-      left = λ rest puts. absurd (true≢false (sym puts ∙ c.requires));
+      told_of = rw c.requires.looks (refl, refl);
+      left = λ rest puts. absurd (true≢false (sym puts ∙ c.requires.looks));
       traced = c.in_ok-called.ensures.lost;
     }) c.told-answer.ensures
+
+pub returns-in_err-content-clause-keeps : goal.returns-in_err-content-clause-keeps
+returns-in_err-content-clause-keeps g c = λ lawful.
+    stay_all (g.R.Store.state c.args.rt.now) (g.R.Store.state c.args.rt.now) c.args.job.now.programmer _
+    (λ name. stays_same name (g.R.Store.state c.args.rt.now))
+
+pub returns-in_err-called-clause-keeps : goal.returns-in_err-called-clause-keeps
+returns-in_err-called-clause-keeps g c = λ lawful.
+    stays_but c.args.job.now c.requires.roles (g.R.Store.state c.args.rt.now) (g.R.Store.state c.call_on.new.rt)
+    (c.in_err-called.ensures.others lawful)
+
+pub returns-clause-keeps : goal.returns-clause-keeps
+returns-clause-keeps g c = λ lawful.
+    stays_but c.args.job.now c.requires.roles (g.R.Store.state c.args.rt.now) (g.R.Store.state c.call_on.new.rt)
+    (c.in_ok-called.ensures.others lawful)
