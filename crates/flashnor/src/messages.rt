@@ -11,15 +11,15 @@ use std::{fmt, io};
 /// What went wrong with a file.
 #[derive(Clone, Copy)]
 pub enum FileFault {
-    /// 1: it can't be read, or is a layout's and too long for one.
-    Read,
-    /// 2: it can't be made or written, or it is a trace's and lost a line.
+    /// It can't be read, or is a layout's and too long for one.
+    Read = 1,
+    /// It can't be made or written, or it is a trace's and lost a line.
     Write,
-    /// 3: it is a chip's and has another length than the chip, or it is that of the status and hasn't two bytes.
+    /// It is a chip's and has another length than the chip, or it is that of the status and hasn't two bytes.
     Length,
-    /// 4: it is to be a journal's, and is there already.
+    /// It is to be a journal's, and is there already.
     Exists,
-    /// 5: it has another role in the run too, or another run is writing it.
+    /// It has another role in the run too, or another run is writing it.
     Taken,
 }
 
@@ -30,13 +30,7 @@ impl FileFault {
     pub fn number(self) -> u8
         ensures { result ≡ file_number self }
     {
-        match self {
-            FileFault::Read => 1,
-            FileFault::Write => 2,
-            FileFault::Length => 3,
-            FileFault::Exists => 4,
-            FileFault::Taken => 5,
-        }
+        self as u8
     }
 }
 

@@ -63,13 +63,9 @@ fn help_of<'a>(fault: &'a Fault<'_>) -> Option<&'a WordsError>
     ensures none { IsNone result → IsAnswered (Err fault.now) → ⊥ }
 {
     match fault {
-        Fault::Usage(UsageFault::Words(said)) => {
-            if said.kind() == ErrorKind::DisplayHelp {
-                Some(said)
-            } else {
-                None
-            }
-        }
+        Fault::Usage(UsageFault::Words(said)) if said.kind() == ErrorKind::DisplayHelp => Some(
+            said,
+        ),
         _ => None,
     }
 }

@@ -56,10 +56,7 @@ pub fn find<B: Bus>(bus: &mut B, named: Option<&str>) -> Result<Found, Refusal>
     ensures found { (programmer : Programmer) → IsReady programmer (B.state bus.old)
         → MatchResult result (IsEmulatedFound named.entry programmer.chip) (FindRefuses programmer named.entry) }
 {
-    match probe(bus, read_name(named)) {
-        Ok(found) => Ok(found),
-        Err(fault) => Err(Refusal::from(fault)),
-    }
+    Ok(probe(bus, read_name(named))?)
 }
 
 /// Tells what protects the chip.

@@ -1,7 +1,9 @@
+use Rattle.std.proofs.lemmas.Result.{err_from_is_err_and}
 use Rattle.flashnor.proofs.Ready.{refuses_ready}
 use Rattle.flashnor.proofs.readings.find.Goals as goal
 
-pub returns-in-Err-clause-found : goal.returns-in-Err-clause-found
-returns-in-Err-clause-found g c = λ programmer ready.
-    rw c.from.ensures (refuses_ready programmer c.args.named c.read_name.result _ _ c.in-Err.fault c.read_name.ensures ready
-    (c.in-Err.ensures.honest ready.honest).tells)
+pub returns-in_err-probe-clause-found : goal.returns-in_err-probe-clause-found
+returns-in_err-probe-clause-found g c = λ programmer ready.
+    let p = err_from_is_err_and c.from_residual.result c.from_residual.ensures.1 in
+    rw (p.1, p.2) (refuses_ready programmer c.args.named c.read_name.result _ _ _ c.read_name.ensures ready
+    (c.in_err-probe.ensures.honest ready.honest).tells)
