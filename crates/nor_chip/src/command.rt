@@ -93,7 +93,7 @@ impl Command {
 fn address(config: &Config, x: u8, y: u8, z: u8) -> u32
     ensures { result ≡ address_of config.now x y z }
 {
-    (65536 * x as u32 + 256 * y as u32 + z as u32) % config.size
+    u32::from_be_bytes([0, x, y, z]) % config.size
 }
 
 /// The transaction begins with an opcode that may change a chip or ready it for a change: 06h, 01h, 02h, 20h,
