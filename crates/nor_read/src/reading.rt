@@ -15,6 +15,9 @@ use nor_layout::{Ranges, blank_excluded, includes_in_sector, reaches_past};
 use nor_probe::ChipName;
 use nor_save::{Refusal, Report};
 
+// The bytes of a piece of the copy, sixteen sectors.
+const PIECE_LEN: usize = 65_536;
+
 /// Puts as many bytes into a vault as the chip has: the included ones as they are, FFh for the others. No ranges
 /// include the whole chip. The vault isn't sealed. It reads each sector that holds an included address, rising.
 pub fn read_out<B: Bus, V: Vault>(
@@ -55,8 +58,8 @@ fn copy_all<B: Bus, V: Vault>(
         (B.state bus.old) (B.state bus.new) (V.state out.old) (V.state out.new)) }
 {
     let mut reads = 0;
-    let mut bytes = [0; 65_536];
-    for piece in 0..size / 65_536 {
+    let mut bytes = [0; PIECE_LEN];
+    for piece in 0..size / PIECE_LEN as u32 {
         reads += read_piece(bus, included, piece, &mut bytes)?;
         put_piece(out, piece, &bytes)?;
     }
@@ -68,7 +71,7 @@ fn read_piece<B: Bus>(
     bus: &mut B,
     included: Option<&Ranges>,
     piece: u32,
-    bytes: &mut [u8; 65_536],
+    bytes: &mut [u8; PIECE_LEN],
 ) -> Result<u32, Stopped>
     requires { piece < 256 }
     ensures leaves { Looks 16 (B.state bus.old) (B.state bus.new) }
@@ -109,16 +112,13 @@ fn read_part<B: Bus>(
 }
 
 // Puts a piece of the copy behind those before it. A refusal tells how many bytes went in with them.
-fn put_piece<V: Vault>(out: &mut V, piece: u32, bytes: &[u8; 65_536]) -> Result<(), Refusal>
+fn put_piece<V: Vault>(out: &mut V, piece: u32, bytes: &[u8; PIECE_LEN]) -> Result<(), Refusal>
     requires reachable { piece < 256 }
     requires unsealed { (V.state out.old).sealed ≡ false }
     ensures takes { OnOk result (Took (V.state out.old) bytes.now (V.state out.new)) }
     ensures tells { IfErr result (PutTells piece bytes.now (V.state out.old) (V.state out.new)) }
 {
-    match out.put(bytes) {
-        Ok(()) => Ok(()),
-        Err(fault) => Err(Refusal::Output {
-            written: 65_536 * u64::from(piece) + fault.kept as u64,
-        }),
-    }
+    out.put(bytes).map_err(|fault| Refusal::Output {
+        written: PIECE_LEN as u64 * u64::from(piece) + fault.kept as u64,
+    })
 }

@@ -122,8 +122,6 @@ fn first_other(
     let start = 4096 * sector as usize;
     let part = &image[start..start + 4096];
     fill_excluded(included, sector, &mut *bytes, part);
-    match bounds(&*bytes, part) {
-        None => None,
-        Some((first, _)) => Some(4096 * sector + first as u32),
-    }
+    let (first, _) = bounds(&*bytes, part)?;
+    Some(4096 * sector + first as u32)
 }
