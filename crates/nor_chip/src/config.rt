@@ -17,7 +17,10 @@ pub const TINY64_SFDP: [u8; 52] = [
     0x10, 0xD8, 0x00, 0x00, // 9: erases of 64 KiB
 ];
 
-/// The most sectors of 4 KiB that a chip has: three address bytes reach no further.
+/// The bytes of a sector, the smallest unit that a chip erases.
+pub const SECTOR_LEN: u32 = 4096;
+
+/// The most sectors that a chip has: three address bytes reach no further.
 pub const MOST_SECTORS: u32 = 4096;
 
 /// A chip's configuration: its ID as 9Fh replies, its size in bytes, which erases it has beside those of

@@ -8,7 +8,7 @@ ghost use Rattle.nor_read.specs.Reading.{ReadOutAlways, ReadOutHonest, ReadOutMo
 ghost use Rattle.nor_read.specs.Reading.{ReadsPart, ReadsPiece, ReadsAll, CopyTells, PutTells};
 
 use crate::finding::{find, report};
-use nor_chip::{Bus, Stopped};
+use nor_chip::{Bus, SECTOR_LEN, Stopped};
 use nor_driver::read_sector;
 use nor_journal::Vault;
 use nor_layout::{Ranges, blank_excluded, includes_in_sector, reaches_past};
@@ -81,8 +81,8 @@ fn read_piece<B: Bus>(
 {
     let mut reads = 0;
     for k in 0..16 {
-        let start = 4096 * k as usize;
-        let part = &mut bytes[start..start + 4096];
+        let start = (SECTOR_LEN * k) as usize;
+        let part = &mut bytes[start..start + SECTOR_LEN as usize];
         reads += read_part(bus, included, 16 * piece + k, part)?;
     }
     Ok(reads)
