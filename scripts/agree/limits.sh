@@ -24,7 +24,7 @@ limit() {
 # What files and texts may have.
 limit_sizes() {
     local files=crates/flashnor/src/files.rt regions=crates/nor_layout/src/region.rt
-    local records=crates/nor_journal/src/records.rt image
+    local chip=crates/nor_chip/src/config.rt records=crates/nor_journal/src/records.rt image
     image=$(constant "$files" 'MOST_IMAGE_BYTES: u64 = ')
     limit "bytes of an image" "$image" 2 '[Ii]mages? (is|are) read up to #'
     limit "bytes of an image that is too long" "$image" 1 'its length is told as #'
@@ -34,9 +34,9 @@ limit_sizes() {
     limit "regions" "$(constant "$regions" 'REGIONS: usize = ')" 2 \
         '(more than|layout holds at most|there are at most) #( regions|\.)'
     limit "bytes of a name" "$(constant "$regions" 'NAME_LEN: usize = ')" 2 '1 to # visible'
-    limit "bytes of a sector" "$(constant "$records" 'SECTOR: usize = ')" 2 \
+    limit "bytes of a sector" "$(constant "$chip" 'SECTOR_LEN: u32 = ')" 2 \
         '(sector \(|sector is |number and its |multiple of )#'
-    limit "greatest sector" $(($(constant crates/nor_chip/src/config.rt 'MOST_SECTORS: u32 = ') - 1)) 1 'a number past #'
+    limit "greatest sector" $(($(constant "$chip" 'MOST_SECTORS: u32 = ') - 1)) 1 'a number past #'
     limit "bytes of a sector's record" "$(constant "$records" 'requires \{ ')" 2 'and # for each sector'
     limit "bytes of a journal of no sector" $(($(constant crates/nor_journal/src/head.rt '^const HEAD: usize = ') +
         $(constant "$records" 'END_MARK: \[u8; ') + $(constant "$records" 'DIGEST: usize = '))) 2 \

@@ -8,7 +8,7 @@ ghost use Rattle.nor_apply.specs.Checking.{DoesChecks, CheckTells, NamesDifferen
 ghost use Rattle.nor_apply.specs.Change.{only, byte_of};
 
 use crate::Source;
-use nor_chip::{Bus, MOST_SECTORS, Stopped};
+use nor_chip::{Bus, MOST_SECTORS, SECTOR_LEN, Stopped};
 use nor_driver::read_sector;
 use nor_plan::{SectorSet, bounds};
 
@@ -45,7 +45,7 @@ pub fn check_all<B: Bus, S: Source>(
     ensures names { IfErr result (NamesDifference (has touched.now)) }
 {
     let mut sent = 0;
-    let mut bytes = [0; 4096];
+    let mut bytes = [0; SECTOR_LEN as usize];
     for sector in 0..MOST_SECTORS {
         if touched.contains(sector) {
             check_sector(bus, sector, source.sector(sector), &mut bytes)?;
@@ -60,7 +60,7 @@ fn check_sector<B: Bus>(
     bus: &mut B,
     sector: u32,
     wanted: &[u8],
-    bytes: &mut [u8; 4096],
+    bytes: &mut [u8; SECTOR_LEN as usize],
 ) -> Result<(), CheckFault>
     requires reachable { sector < 4096 }
     requires whole { length wanted.now ≡ 4096 }
@@ -75,7 +75,7 @@ fn check_sector<B: Bus>(
     match bounds(&*bytes, wanted) {
         None => Ok(()),
         Some((first, _)) => {
-            let address = 4096 * sector + first as u32;
+            let address = SECTOR_LEN * sector + first as u32;
             Err(CheckFault::Mismatch { address })
         }
     }

@@ -9,7 +9,7 @@ ghost use Rattle.nor_apply.specs.Programming.{LeavesSpans, DoesSpans, LeavesSect
 
 use crate::Source;
 use crate::tally::Tally;
-use nor_chip::{Bus, MOST_SECTORS, Stopped};
+use nor_chip::{Bus, MOST_SECTORS, SECTOR_LEN, Stopped};
 use nor_driver::{Halt, program_page, read_sector};
 use nor_plan::{SectorSet, spans};
 
@@ -56,7 +56,7 @@ fn program_sector<B: Bus>(
     ensures halts { IfErr result (Halts most_sector (B.state bus.old) (B.state bus.new)) }
     ensures names { IfErr result (NamesTimeoutIn (only sector)) }
 {
-    let mut old = [0xFF; 4096];
+    let mut old = [0xFF; SECTOR_LEN as usize];
     let reads = load(bus, sector, erased, &mut old)?;
     let tally = program_spans(bus, sector, &old, wanted)?;
     Ok(Tally {
@@ -90,7 +90,7 @@ fn program_spans<B: Bus>(bus: &mut B, sector: u32, old: &[u8], wanted: &[u8]) ->
 {
     let mut tally = Tally::NONE;
     for span in spans(old, wanted) {
-        let address = 4096 * sector + span.first as u32;
+        let address = SECTOR_LEN * sector + span.first as u32;
         let sent = program_page(bus, address, &wanted[span.first..span.last + 1])?;
         tally.count += 1;
         tally.transactions += u64::from(sent);

@@ -6,6 +6,12 @@ use Rattle.nor_chip.specs.Guard.{guarded_by, is_undefined}
 abbrev pub GuardsExactly : (size code start len : ℕ) → Type 0
 GuardsExactly size code start len = (a : ℕ) → (guarded_by size code a ≡ true) ↔ ((start ≤ a) × (a < start + len))
 
+-- The code is defined, and guards exactly so many places from `start` on. Where there are none, they start at 0.
+pub record IsRangeOf (size code start len : ℕ) : Type 0 where
+  pub defined : is_undefined code ≡ false
+  pub exactly : GuardsExactly size code start len
+  pub plain : len ≡ 0 → start ≡ 0
+
 -- the datasheets define the code
 pub record IsDefined (code : ℕ) : Type 0 where
   pub six_bits : code < 64

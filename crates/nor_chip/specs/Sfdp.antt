@@ -1,5 +1,5 @@
 -- The SFDP bytes of the emulated chips. (JESD216; the bytes are this project's own, and not the vendor's.)
-use Rattle.std.specs.Prelude.{ℕ, List, [], ◌∷◌}
+use Rattle.std.specs.Prelude.{ℕ, ◌/◌, ◌%◌, List, [], ◌∷◌}
 
 -- The header, one parameter header and the double words 1 to 9 of the basic flash parameter table. The chips differ in
 -- the second double word, the size in bits less one, of which these are the bytes, the low one first.
@@ -17,3 +17,7 @@ sfdp_of size0 size1 size2 size3 =
     ∷ 0x00 ∷ 0x00 ∷ 0x00 ∷ 0x00 ∷ 0x00 ∷ 0x00 ∷ 0x00 ∷ 0x00 ∷ 0x00 ∷ 0x00
     -- 8 and 9: erases of 2 ^ 12 bytes by 20h, of 2 ^ 15 by 52h, of 2 ^ 16 by D8h
     ∷ 0x0C ∷ 0x20 ∷ 0x0F ∷ 0x52 ∷ 0x10 ∷ 0xD8 ∷ 0x00 ∷ 0x00 ∷ []
+
+-- the same by the second double word
+abbrev pub sfdp_with : (density : ℕ) → List ℕ
+sfdp_with density = sfdp_of (density % 256) (density / 256 % 256) (density / 65536 % 256) (density / 16777216)

@@ -2,7 +2,7 @@
 ghost use Rattle.std.specs.Prelude.{◌≡◌, ◌<◌};
 ghost use Rattle.nor_chip.specs.Command.{command_of, bare_command, addressed_command, aligned_erase, address_of, begins_change};
 
-use crate::Config;
+use crate::{Config, SECTOR_LEN};
 
 /// What a transaction asks of the chip. (W25Q64FV datasheet, instruction set table.)
 #[derive(Clone, Copy, Debug, PartialEq, Eq)]
@@ -74,7 +74,7 @@ impl Command {
     {
         match opcode {
             0x03 => Command::ReadData(at),
-            0x20 if replies == 0 => Self::unit(4096, at),
+            0x20 if replies == 0 => Self::unit(SECTOR_LEN, at),
             0x52 if replies == 0 && config.k32 => Self::unit(32768, at),
             0xD8 if replies == 0 && config.k64 => Self::unit(65536, at),
             _ => Command::Ignored,
@@ -93,7 +93,7 @@ impl Command {
 fn address(config: &Config, x: u8, y: u8, z: u8) -> u32
     ensures { result ≡ address_of config.now x y z }
 {
-    (65536 * x as u32 + 256 * y as u32 + z as u32) % config.size
+    u32::from_be_bytes([0, x, y, z]) % config.size
 }
 
 /// The transaction begins with an opcode that may change a chip or ready it for a change: 06h, 01h, 02h, 20h,

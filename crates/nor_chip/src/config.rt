@@ -1,9 +1,11 @@
 //! What never changes of a chip.
-ghost use Rattle.std.specs.Prelude.{◌≡◌, ◌≤◌, ◌-◌, ◌++◌, ◌↔◌, true, length, replicate, IsTrue, IsSome, IfSome};
+ghost use Rattle.std.specs.Prelude.{◌≡◌, ◌≤◌, ◌-◌, ◌*◌, ◌++◌, ◌↔◌, true, length, replicate, IsTrue, IsSome, IfSome};
 ghost use Rattle.nor_chip.specs.Size.{is_chip_size};
+ghost use Rattle.nor_chip.specs.Sfdp.{sfdp_with};
 
 /// The SFDP bytes that `TINY64` shows from address 0 on: the header, one parameter header and the double
-/// words 1 to 9 of the basic flash parameter table (JESD216). They are this project's own.
+/// words 1 to 9 of the basic flash parameter table (JESD216). They are this project's own. The other emulated chips
+/// show the same with their size in double word 2, and not what the vendor's show.
 pub const TINY64_SFDP: [u8; 52] = [
     0x53, 0x46, 0x44, 0x50, 0x00, 0x01, 0x00, 0xFF, // signature, revision 1.0, one header
     0x00, 0x00, 0x01, 0x09, 0x10, 0x00, 0x00, 0xFF, // basic table, nine double words, at 10h
@@ -15,32 +17,10 @@ pub const TINY64_SFDP: [u8; 52] = [
     0x10, 0xD8, 0x00, 0x00, // 9: erases of 64 KiB
 ];
 
-// Those of the emulated `W25Q64FV`, which differ in the size. They are this project's own too, and not the
-// vendor's.
-const W25Q64FV_SFDP: [u8; 52] = [
-    0x53, 0x46, 0x44, 0x50, 0x00, 0x01, 0x00, 0xFF, //
-    0x00, 0x00, 0x01, 0x09, 0x10, 0x00, 0x00, 0xFF, //
-    0x05, 0x20, 0x00, 0x00, //
-    0xFF, 0xFF, 0xFF, 0x03, // 64 Mbit, minus one
-    0x00, 0x00, 0x00, 0x00, 0x00, 0x00, 0x00, 0x00, 0x00, 0x00, //
-    0x00, 0x00, 0x00, 0x00, 0x00, 0x00, 0x00, 0x00, 0x00, 0x00, //
-    0x0C, 0x20, 0x0F, 0x52, //
-    0x10, 0xD8, 0x00, 0x00, //
-];
+/// The bytes of a sector, the smallest unit that a chip erases.
+pub const SECTOR_LEN: u32 = 4096;
 
-// Those of the emulated `W25Q128FV`, likewise.
-const W25Q128FV_SFDP: [u8; 52] = [
-    0x53, 0x46, 0x44, 0x50, 0x00, 0x01, 0x00, 0xFF, //
-    0x00, 0x00, 0x01, 0x09, 0x10, 0x00, 0x00, 0xFF, //
-    0x05, 0x20, 0x00, 0x00, //
-    0xFF, 0xFF, 0xFF, 0x07, // 128 Mbit, minus one
-    0x00, 0x00, 0x00, 0x00, 0x00, 0x00, 0x00, 0x00, 0x00, 0x00, //
-    0x00, 0x00, 0x00, 0x00, 0x00, 0x00, 0x00, 0x00, 0x00, 0x00, //
-    0x0C, 0x20, 0x0F, 0x52, //
-    0x10, 0xD8, 0x00, 0x00, //
-];
-
-/// The most sectors of 4 KiB that a chip has: three address bytes reach no further.
+/// The most sectors that a chip has: three address bytes reach no further.
 pub const MOST_SECTORS: u32 = 4096;
 
 /// A chip's configuration: its ID as 9Fh replies, its size in bytes, which erases it has beside those of
@@ -93,15 +73,7 @@ impl Config {
     pub fn tiny64() -> Config
         ensures { IsTiny64 result }
     {
-        Config {
-            id: [0xFE, 0x10, 0x10],
-            size: 65536,
-            k32: true,
-            k64: true,
-            scheme: false,
-            unique: [0; 8],
-            sfdp: padded(&TINY64_SFDP),
-        }
+        Self::emulated([0xFE, 0x10, 0x10], 65_536, false)
     }
 
     /// The emulated chip `W25Q64FV`: 8 MiB, ID `EF 40 17`, all erase kinds, with block protection. (Winbond
@@ -109,15 +81,7 @@ impl Config {
     pub fn w25q64fv() -> Config
         ensures { IsW25q64fv result }
     {
-        Config {
-            id: [0xEF, 0x40, 0x17],
-            size: 8388608,
-            k32: true,
-            k64: true,
-            scheme: true,
-            unique: [0; 8],
-            sfdp: padded(&W25Q64FV_SFDP),
-        }
+        Self::emulated([0xEF, 0x40, 0x17], 8_388_608, true)
     }
 
     /// The emulated chip `W25Q128FV`: 16 MiB, ID `EF 40 18`, all erase kinds, with block protection. (Winbond
@@ -125,14 +89,22 @@ impl Config {
     pub fn w25q128fv() -> Config
         ensures { IsW25q128fv result }
     {
+        Self::emulated([0xEF, 0x40, 0x18], 16_777_216, true)
+    }
+
+    // An emulated chip of this size, with all erase kinds.
+    fn emulated(id: [u8; 3], size: u32, scheme: bool) -> Config
+        requires { IsTrue (is_chip_size size) }
+        ensures { HasParts id size true true scheme (sfdp_with (8 * size - 1)) result }
+    {
         Config {
-            id: [0xEF, 0x40, 0x18],
-            size: 16777216,
+            id,
+            size,
             k32: true,
             k64: true,
-            scheme: true,
+            scheme,
             unique: [0; 8],
-            sfdp: padded(&W25Q128FV_SFDP),
+            sfdp: padded(&sfdp_of(size)),
         }
     }
 
@@ -151,6 +123,16 @@ fn is_chip_size(size: u32) -> bool
     ensures { result ≡ is_chip_size size }
 {
     matches!(size, 0x1_0000..=0x100_0000) && size.is_power_of_two()
+}
+
+// The SFDP bytes that an emulated chip of this size shows.
+fn sfdp_of(size: u32) -> [u8; 52]
+    requires { IsTrue (is_chip_size size) }
+    ensures { result ≡ sfdp_with (8 * size - 1) }
+{
+    let mut bytes = TINY64_SFDP;
+    bytes[0x14..0x18].copy_from_slice(&(8 * size - 1).to_le_bytes());
+    bytes
 }
 
 // The SFDP bytes with FFh behind them.

@@ -1,11 +1,12 @@
 //! Which places the block protection bits keep from programs and erases. (W25Q64FV and W25Q128FV datasheets,
 //! status register memory protection.)
-ghost use Rattle.std.specs.Prelude.{◌≡◌, ◌≤◌, ◌<◌, ◌+◌, ◌-◌, ◌*◌, ◌/◌, ◌%◌, ◌==◌, ◌||◌, ◌↔◌, ℕ, true, false, if◌then◌else◌, IsTrue, IfSome, IfNone};
+ghost use Rattle.std.specs.Prelude.{◌≡◌, ◌≤◌, ◌<◌, ◌+◌, ◌-◌, ◌*◌, ◌/◌, ◌%◌, ◌==◌, ◌||◌, ◌↔◌, ℕ, true, false, if◌then◌else◌, IsTrue, IfSome, IfNone, MatchOption};
 ghost use Rattle.nor_chip.specs.Size.{is_chip_size};
 ghost use Rattle.nor_chip.specs.Code.{code_in};
 ghost use Rattle.nor_chip.specs.Guard.{guarded_by, is_place_named, named_length, is_bottom, names_sectors, is_complement, is_undefined};
+ghost use Rattle.nor_chip.specs.Status.{bytes_of};
 ghost use Rattle.nor_chip.specs.Units.{LieAtAnEnd, HoldsSomewhere};
-ghost use Rattle.nor_chip.specs.Offer.{GuardsExactly, IsLeastCode, IsNotOffered};
+ghost use Rattle.nor_chip.specs.Offer.{GuardsExactly, IsRangeOf, IsLeastCode, IsNotOffered};
 ghost use Rattle.nor_chip.specs.Offered.{IsStart};
 
 use crate::Status;
@@ -149,6 +150,22 @@ fn places_of(size: u32, code: u8) -> Places
     let len = guarded_length(size, code);
     let start = start_of(size, len, is_bottom(code) != is_complement(code));
     Places { start, len }
+}
+
+/// The places that this status guards on a chip of this size: the first one and how many there are from there on, or
+/// two zeros where there are none. `None` where the datasheets don't define its code, which then guards every place.
+/// `size` is one that a chip may have.
+pub fn guarded_range(status: Status, size: u32) -> Option<(u32, u32)>
+    requires { IsTrue (is_chip_size size) }
+    ensures { MatchOption result (is_undefined (code_in (bytes_of status)) ≡ true)
+        (λ places. IsRangeOf size (code_in (bytes_of status)) places.0 places.1) }
+{
+    let code = status.code();
+    if is_undefined(code) {
+        return None;
+    }
+    let places = places_of(size, code);
+    Some((places.start, places.len))
 }
 
 // A defined code guards exactly so many places from `start` on.

@@ -28,9 +28,9 @@ mod trace;
 
 pub use bus::{Bus, Meter, Stopped};
 pub use command::{Command, is_changing};
-pub use config::{Config, MOST_SECTORS, TINY64_SFDP};
+pub use config::{Config, MOST_SECTORS, SECTOR_LEN, TINY64_SFDP};
 pub use guard::walk::Offered;
-pub use guard::{code_for, offered, protected, unit_protected};
+pub use guard::{code_for, guarded_range, offered, protected, unit_protected};
 pub use running::Running;
 pub use sim::{Delays, SimBus, WrongLength};
 pub use spoilt::{Spoil, SpoiltBus};

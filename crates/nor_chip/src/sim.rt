@@ -5,7 +5,8 @@ ghost use Rattle.nor_chip.specs.Aim.{IsAimed};
 ghost use Rattle.nor_chip.specs.Step.{wears};
 
 use crate::{
-    Bus, Command, Config, MOST_SECTORS, Meter, Running, Status, Status1, Stopped, is_changing,
+    Bus, Command, Config, MOST_SECTORS, Meter, Running, SECTOR_LEN, Status, Status1, Stopped,
+    is_changing,
 };
 use bitflags::Flags;
 use flash::Flash;
@@ -169,7 +170,7 @@ fn wear(worn: &mut [bool], command: Command)
     ensures { (s : ℕ) → slice_index_or worn.new s false ≡ (slice_index_or worn.old s false || wears command s) }
 {
     if let Command::Erase(start, len) = command {
-        let first = start as usize / 4096;
-        worn[first..first + len as usize / 4096].fill(true);
+        let first = (start / SECTOR_LEN) as usize;
+        worn[first..first + (len / SECTOR_LEN) as usize].fill(true);
     }
 }

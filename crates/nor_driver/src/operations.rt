@@ -81,11 +81,8 @@ pub(crate) fn address_bytes(address: u32) -> [u8; 3]
     requires { address < 2 ^ 24 }
     ensures { BytesNameAddress address result }
 {
-    [
-        (address / 65536) as u8,
-        (address / 256 % 256) as u8,
-        (address % 256) as u8,
-    ]
+    let [_, high, middle, low] = address.to_be_bytes();
+    [high, middle, low]
 }
 
 // The bytes of a page program: the opcode, three address bytes and the data.

@@ -5,7 +5,7 @@ ghost use Rattle.nor_driver.specs.Looks.{Looks, RanOutIfHonest};
 ghost use Rattle.nor_driver.specs.Reads.{IsReading, Replies, ReadsId, ReadsStatus2, ReadsUnique, ReadsSfdp, ReadsSector};
 
 use crate::operations::address_bytes;
-use nor_chip::{Bus, Stopped};
+use nor_chip::{Bus, SECTOR_LEN, Stopped};
 
 // The opcodes of what only tells.
 const READ_DATA: u8 = 0x03;
@@ -70,7 +70,7 @@ pub fn read_sector<B: Bus>(bus: &mut B, sector: u32, bytes: &mut [u8]) -> Result
     ensures does { OnOk result (ReadsSector sector (B.state bus.old) (B.state bus.new) bytes.new) }
     ensures halts { OnErr result (RanOutIfHonest 1 (B.state bus.old) (B.state bus.new)) }
 {
-    let [high, middle, low] = address_bytes(4096 * sector);
+    let [high, middle, low] = address_bytes(SECTOR_LEN * sector);
     read(bus, &[READ_DATA, high, middle, low], bytes)
 }
 

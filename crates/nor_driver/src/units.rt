@@ -3,8 +3,7 @@
 ghost use Rattle.std.specs.Prelude.{◌≡◌, ◌*◌};
 ghost use Rattle.nor_driver.specs.Units.{opcode_of};
 
-/// The bytes of a sector.
-const SECTOR: u32 = 4096;
+use nor_chip::SECTOR_LEN;
 
 /// What one erase sets to FFh.
 #[derive(Clone, Copy, Debug, PartialEq, Eq)]
@@ -45,6 +44,6 @@ impl Erase {
     pub fn address(self) -> u32
         ensures { result ≡ 4096 * self.sector }
     {
-        SECTOR * u32::from(self.sector)
+        SECTOR_LEN * u32::from(self.sector)
     }
 }

@@ -9,9 +9,7 @@ use byteorder::{ByteOrder, LittleEndian};
 pub fn number_bytes(number: u32) -> [u8; 4]
     ensures { result ≡ number_text number }
 {
-    let mut bytes = [0; 4];
-    LittleEndian::write_u32(&mut bytes, number);
-    bytes
+    number.to_le_bytes()
 }
 
 /// The number that the first four bytes are.

@@ -1,22 +1,17 @@
 -- The number that digits write, digit by digit.
-use Rattle.std.proofs.Common.{◌≡◌, ℕ, suc, ◌+◌, ◌-◌, ◌*◌, ◌^◌, ◌<◌, ◌≤◌, true, cond, List, length, get_or, drop, Some, None, ap, inl, inr, arith}
+use Rattle.std.proofs.Common.{◌≡◌, ℕ, suc, ◌+◌, ◌-◌, ◌*◌, ◌^◌, ◌<◌, ◌≤◌, true, List, length, get_or, drop, ap, arith}
 use Rattle.std.proofs.Math.Nat.{pow-le-pow_right, pow-suc}
-use Rattle.std.proofs.lemmas.Bool.{cases_Bool}
 use Rattle.std.proofs.lemmas.Bool.Decides.{nat_tests}
 use Rattle.std.proofs.lemmas.List.{drop_more, length-drop}
+use Rattle.std.specs.Char.{digit_value}
 use Rattle.nor_layout.specs.Address.{is_hex_digit, hex_value, digits_number}
 
--- a digit is below 16
-pub hex_value-lt : (byte : ℕ) → is_hex_digit byte ≡ true → hex_value byte < 16
-hex_value-lt byte h = grind (arith, nat_tests)
+-- the characters that count below 16 are the digits of either case
+pub digit_is : (byte : ℕ) → digit_value byte < 16 → is_hex_digit byte ≡ true
+digit_is byte below = grind (arith, nat_tests)
 
--- what a digit's value says of the byte
-pub digit_is : (byte value : ℕ) → Some value ≡ cond (is_hex_digit byte) (Some (hex_value byte)) None → (is_hex_digit byte ≡ true) × (value ≡ hex_value byte)
-digit_is byte value e =
-    elim (cases_Bool (is_hex_digit byte)) [
-      | inl is ↦ (is, let f = rw is at e in cc)
-      | inr isnt ↦ absurd (let f = rw isnt at e in cc)
-    ]
+pub digit_counts : (byte : ℕ) → digit_value byte < 16 → digit_value byte ≡ hex_value byte
+digit_counts byte below = grind (arith, nat_tests)
 
 regroup : (v h p m : ℕ) → v * (p * 16) + (h * p + m) ≡ (v * 16 + h) * p + m
 regroup v h p m = omega arith

@@ -89,7 +89,7 @@ TellsChanges-zeros a b at = record {
 }
 
 -- so do two such vectors of neighbouring parts, put together
-pub TellsChanges-or : (a b : List ℕ) (at m n : ℕ) (xs ys : List ℕ) → TellsChanges a b at m xs → TellsChanges a b (at + m) n ys → TellsChanges a b at (m + n) (zip2 bit_or xs ys)
+TellsChanges-or : (a b : List ℕ) (at m n : ℕ) (xs ys : List ℕ) → TellsChanges a b at m xs → TellsChanges a b (at + m) n ys → TellsChanges a b at (m + n) (zip2 bit_or xs ys)
 TellsChanges-or a b at m n xs ys first second = record {
   long = or_lanes xs ys first.long second.long;
   none = λ zeros k low high.
@@ -105,14 +105,14 @@ TellsChanges-or a b at m n xs ys first second = record {
       ];
 }
 
--- so does the vector of the first blocks with that of the next one
-pub TellsChanges-next : (a b : List ℕ) (block : ℕ) (xs ys : List ℕ) → TellsChanges a b 0 (block * 256) xs → TellsChanges a b (block * 256) 256 ys → TellsChanges a b 0 ((block + 1) * 256) (zip2 bit_or xs ys)
-TellsChanges-next a b block xs ys first second =
-    let P : ℕ → Type 0 = λ at. TellsChanges a b at 256 ys in
-    let Q : ℕ → Type 0 = λ count. TellsChanges a b 0 count (zip2 bit_or xs ys) in
-    let here : block * 256 ≡ 0 + block * 256 = omega arith in
-    let count : block * 256 + 256 ≡ (block + 1) * 256 = omega arith in
-    subst Q count (TellsChanges-or a b 0 (block * 256) 256 xs ys first (subst P here second))
+-- so does the vector of the first parts of one length with that of the next one
+pub TellsChanges-next : (a b : List ℕ) (at len part from : ℕ) (xs ys : List ℕ) → from ≡ at + part * len
+    → TellsChanges a b at (part * len) xs → TellsChanges a b from len ys → TellsChanges a b at ((part + 1) * len) (zip2 bit_or xs ys)
+TellsChanges-next a b at len part from xs ys here first second =
+    let P : ℕ → Type 0 = λ place. TellsChanges a b place len ys in
+    let Q : ℕ → Type 0 = λ count. TellsChanges a b at count (zip2 bit_or xs ys) in
+    let count : part * len + len ≡ (part + 1) * len = omega arith in
+    subst Q count (TellsChanges-or a b at (part * len) len xs ys first (subst P here second))
 
 -- a vector whose lanes, put together, are nothing
 pub TellsChanges-none : (a b : List ℕ) (at count : ℕ) (xs : List ℕ) → TellsChanges a b at count xs → fold_l bit_or 0 xs ≡ 0 → AgreeWithin a b at (at + count)

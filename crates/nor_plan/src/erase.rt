@@ -12,16 +12,13 @@ ghost use Rattle.nor_plan.specs.Erases.{erases_left};
 ghost use Rattle.nor_plan.specs.SectorSet.{has, LiesBelow, member_count};
 
 use crate::set::SectorSet;
-use nor_chip::MOST_SECTORS;
+use nor_chip::{MOST_SECTORS, SECTOR_LEN};
 use nor_driver::{Erase, EraseUnit};
 use nor_probe::Kinds;
 
 mod iter;
 
 pub use iter::Erases;
-
-/// The bytes of a sector.
-const SECTOR: u32 = 4096;
 
 /// The fewest erases that set just the sectors of `set` to FFh, on a chip of `size` bytes that has these
 /// kinds: the whole chip, where all its sectors are in the set; else in rising order D8h for each aligned
@@ -37,7 +34,7 @@ pub fn erases(set: &SectorSet, kinds: Kinds, size: u32) -> Erases
         → LiesBelow set.now end → length (erases_left result) ≤ count end }
     ensures planned { erases_left result ≡ planned kinds (size / 4096) (has set.now) }
 {
-    let whole = is_run(set, 0, size / SECTOR);
+    let whole = is_run(set, 0, size / SECTOR_LEN);
     Erases::new(*set, kinds, whole)
 }
 

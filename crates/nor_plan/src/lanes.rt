@@ -136,27 +136,11 @@ fn changes_256(a: &[u8], b: &[u8], at: usize) -> u8x32
     requires b_within { at + 256 ≤ length b.now }
     ensures { TellsChanges a.now b.now at 256 result }
 {
-    changes_128(a, b, at) | changes_128(a, b, at + 128)
-}
-
-/// The changes of 128 bytes, put together.
-#[inline(always)]
-fn changes_128(a: &[u8], b: &[u8], at: usize) -> u8x32
-    requires a_within { at + 128 ≤ length a.now }
-    requires b_within { at + 128 ≤ length b.now }
-    ensures { TellsChanges a.now b.now at 128 result }
-{
-    changes_64(a, b, at) | changes_64(a, b, at + 64)
-}
-
-/// The changes of 64 bytes, put together.
-#[inline(always)]
-fn changes_64(a: &[u8], b: &[u8], at: usize) -> u8x32
-    requires a_within { at + 64 ≤ length a.now }
-    requires b_within { at + 64 ≤ length b.now }
-    ensures { TellsChanges a.now b.now at 64 result }
-{
-    changes_32(a, b, at) | changes_32(a, b, at + 32)
+    let mut changes = u8x32::splat(0);
+    for part in 0..BLOCK / LANES {
+        changes |= changes_32(a, b, at + part * LANES);
+    }
+    changes
 }
 
 /// The bits that differ of the 32 bytes from `at` on.

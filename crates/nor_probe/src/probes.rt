@@ -10,6 +10,7 @@ ghost use Rattle.nor_probe.specs.Steps.{Identifies, IdentityTells, IsIdentified,
 ghost use Rattle.nor_probe.specs.Steps.{GeometryTells, ReadsGeometry, ReadsParameters, reads_under, fault_of};
 
 use crate::{ChipName, Geometry, Kinds, Part, SfdpFault, part_of, read_sfdp};
+use byteorder::{ByteOrder, LittleEndian};
 use nor_chip::{Bus, Stopped};
 use nor_driver::{Halt, read_id, wait};
 
@@ -195,7 +196,7 @@ fn pointer_in(first: &[u8; 8]) -> u32
     ensures pointer { result ≡ pointer_in first.now }
     ensures reachable { result < 2 ^ 24 }
 {
-    u32::from(first[4]) + 256 * u32::from(first[5]) + 65536 * u32::from(first[6])
+    LittleEndian::read_u24(&first[4..])
 }
 
 // How many transactions tell which part a chip is: 9Fh, and where it has no name of its own three times 5Ah.

@@ -33,7 +33,7 @@ pub struct Geometry {
 #[derive(Clone, Copy, Debug, PartialEq, Eq)]
 pub enum SfdpFault {
     /// The header does not begin with `SFDP`.
-    Signature,
+    Signature = 1,
     /// The major revision is not 1.
     Major,
     /// The first parameter header is not that of the basic table in its first major revision.
@@ -57,16 +57,7 @@ impl SfdpFault {
     pub fn number(self) -> u8
         ensures { result ≡ number_of_sfdp_fault self }
     {
-        match self {
-            SfdpFault::Signature => 1,
-            SfdpFault::Major => 2,
-            SfdpFault::FirstHeader => 3,
-            SfdpFault::Length => 4,
-            SfdpFault::Address => 5,
-            SfdpFault::Granularity => 6,
-            SfdpFault::Size => 7,
-            SfdpFault::NoSector => 8,
-        }
+        self as u8
     }
 }
 

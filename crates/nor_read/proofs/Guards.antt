@@ -5,6 +5,7 @@ use Rattle.std.proofs.lemmas.Bool.Decides.{nat_tests}
 use Rattle.nor_chip.specs.Chip.{Chip}
 use Rattle.nor_chip.specs.Guard.{guarded_by, code_of, is_guarded, is_undefined}
 use Rattle.nor_chip.specs.Code.{code_in, is_lock_set}
+use Rattle.nor_chip.specs.Offer.{IsRangeOf}
 use Rattle.nor_chip.specs.Bus.{BusState}
 use Rattle.nor_driver.specs.Looks.{Looks, RanOutIfHonest}
 use Rattle.nor_driver.specs.Reads.{ReadsStatus2}
@@ -16,7 +17,7 @@ use Rattle.nor_save.specs.declared.refusal.Refusal.{Refusal}
 use Rattle.nor_save.specs.declared.refusal.Refusal.TheVariants.{NoChip, UnknownChip, OtherName, NoProtection, Stopped, Timeout}
 use Rattle.nor_save.specs.Opening.{OpeningTells}
 use Rattle.nor_read.specs.Finding.{IsModelled, HasFound, most_status}
-use Rattle.nor_read.specs.Protecting.{IsGuardedRange, IsRangeOf, ProtectionAlways, ProtectionHonest, ProtectionModelled, ProtectionTells, IsProtectionRefusal}
+use Rattle.nor_read.specs.Protecting.{IsGuardedRange, ProtectionAlways, ProtectionHonest, ProtectionModelled, ProtectionTells, IsProtectionRefusal}
 use Rattle.nor_read.proofs.Whole.{find_tells, whole_looks, ran_after, rested_after, has_name, size_of}
 
 code_read : (one two k1 k2 : ℕ) → one / 4 ≡ k1 → two ≡ k2 → code_in (one ∷ two ∷ []) ≡ 32 * (k2 / 64 % 2) + k1 % 32

@@ -1,9 +1,8 @@
 -- What is told of a chip's block protection.
-use Rattle.std.specs.Prelude.{◌≡◌, ◌<◌, ◌≤◌, ◌+◌, ◌↔◌, ℕ, true, false, not, Option, MatchOption, ⊤}
+use Rattle.std.specs.Prelude.{◌≡◌, ◌<◌, ◌≤◌, ◌+◌, ◌↔◌, ℕ, true, false, Option, MatchOption, ⊤}
 use Rattle.std.specs.Prelude.{Result, IfOk, IfErr, OnOk}
 use Rattle.nor_chip.specs.Chip.{Chip, is_locked}
-use Rattle.nor_chip.specs.Guard.{code_of, guarded_by, is_guarded, is_undefined}
-use Rattle.nor_chip.specs.Offer.{GuardsExactly}
+use Rattle.nor_chip.specs.Guard.{code_of, is_guarded, is_undefined}
 use Rattle.nor_chip.specs.Size.{is_chip_size}
 use Rattle.nor_chip.specs.Bus.{BusState}
 use Rattle.nor_driver.specs.Looks.{Looks, Rested}
@@ -69,17 +68,3 @@ pub record ProtectionModelled (named : Option ChipName) (old : BusState)
   pub told : IfOk result (IsProtection old.chip)
   -- refusal 6 tells that it has none
   pub tells : IfErr result (ProtectionTells named old.chip)
-
--- ---- by the status bytes
-
--- The same of any code, on a chip of this size.
-pub record IsRangeOf (size code start len : ℕ) : Type 0 where
-  pub defined : is_undefined code ≡ false
-  pub exactly : GuardsExactly size code start len
-  pub plain : len ≡ 0 → start ≡ 0
-
--- The places before it are guarded like the first one, and those from it on aren't.
-pub record IsBorder (size code border : ℕ) : Type 0 where
-  pub within : border ≤ size
-  pub before : (a : ℕ) → a < border → guarded_by size code a ≡ guarded_by size code 0
-  pub behind : (a : ℕ) → border ≤ a → a < size → guarded_by size code a ≡ not (guarded_by size code 0)

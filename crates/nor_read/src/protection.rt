@@ -1,21 +1,13 @@
 //! Tells which places of a chip are protected.
-ghost use Rattle.std.specs.Prelude.{◌≡◌, true, IsTrue, MatchOption};
-ghost use Rattle.nor_chip.specs.Size.{is_chip_size};
-ghost use Rattle.nor_chip.specs.Code.{code_in};
-ghost use Rattle.nor_chip.specs.Guard.{is_undefined};
-ghost use Rattle.nor_chip.specs.Status.{bytes_of};
+ghost use Rattle.std.specs.Prelude.{◌≡◌, true};
 ghost use Rattle.nor_read.specs.Finding.{IsModelled};
 ghost use Rattle.nor_read.specs.Protecting.{ProtectionAlways, ProtectionHonest, ProtectionModelled};
-ghost use Rattle.nor_read.specs.Protecting.{IsRangeOf, IsBorder};
 
 use crate::finding::find;
-use nor_chip::{Bus, Status, protected};
+use nor_chip::{Bus, Status, guarded_range};
 use nor_driver::read_status2;
 use nor_probe::ChipName;
 use nor_save::Refusal;
-
-/// The guarded places of a chip are whole blocks of so many bytes, at one of its ends.
-const BLOCK: u32 = 1024;
 
 /// What protects a chip.
 #[derive(Clone, Copy, Debug, PartialEq, Eq)]
@@ -47,37 +39,4 @@ pub fn wp_status<B: Bus>(bus: &mut B, named: Option<ChipName>) -> Result<Protect
         locked: status.is_locked(),
         size: found.size,
     })
-}
-
-// The places that a status guards on a chip of this size, where its code is defined.
-fn guarded_range(status: Status, size: u32) -> Option<(u32, u32)>
-    requires { IsTrue (is_chip_size size) }
-    ensures { MatchOption result (is_undefined (code_in (bytes_of status)) ≡ true)
-        (λ places. IsRangeOf size (code_in (bytes_of status)) places.0 places.1) }
-{
-    if status.is_undefined() {
-        return None;
-    }
-    let border = border(status.bytes(), size);
-    if protected(status.bytes(), size, 0) {
-        Some((0, border))
-    } else if border < size {
-        Some((border, size - border))
-    } else {
-        Some((0, 0))
-    }
-}
-
-// The first place that isn't guarded like the first one of the chip, or the chip's end.
-fn border(status: [u8; 2], size: u32) -> u32
-    requires { IsTrue (is_chip_size size) }
-    ensures { IsBorder size (code_in status) result }
-{
-    let first = protected(status, size, 0);
-    for block in 0..size / BLOCK {
-        if protected(status, size, BLOCK * block) != first {
-            return BLOCK * block;
-        }
-    }
-    size
 }

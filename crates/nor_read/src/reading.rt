@@ -8,12 +8,15 @@ ghost use Rattle.nor_read.specs.Reading.{ReadOutAlways, ReadOutHonest, ReadOutMo
 ghost use Rattle.nor_read.specs.Reading.{ReadsPart, ReadsPiece, ReadsAll, CopyTells, PutTells};
 
 use crate::finding::{find, report};
-use nor_chip::{Bus, Stopped};
+use nor_chip::{Bus, SECTOR_LEN, Stopped};
 use nor_driver::read_sector;
 use nor_journal::Vault;
 use nor_layout::{Ranges, blank_excluded, includes_in_sector, reaches_past};
 use nor_probe::ChipName;
 use nor_save::{Refusal, Report};
+
+// The bytes of a piece of the copy, sixteen sectors.
+const PIECE_LEN: usize = 65_536;
 
 /// Puts as many bytes into a vault as the chip has: the included ones as they are, FFh for the others. No ranges
 /// include the whole chip. The vault isn't sealed. It reads each sector that holds an included address, rising.
@@ -55,8 +58,8 @@ fn copy_all<B: Bus, V: Vault>(
         (B.state bus.old) (B.state bus.new) (V.state out.old) (V.state out.new)) }
 {
     let mut reads = 0;
-    let mut bytes = [0; 65_536];
-    for piece in 0..size / 65_536 {
+    let mut bytes = [0; PIECE_LEN];
+    for piece in 0..size / PIECE_LEN as u32 {
         reads += read_piece(bus, included, piece, &mut bytes)?;
         put_piece(out, piece, &bytes)?;
     }
@@ -68,7 +71,7 @@ fn read_piece<B: Bus>(
     bus: &mut B,
     included: Option<&Ranges>,
     piece: u32,
-    bytes: &mut [u8; 65_536],
+    bytes: &mut [u8; PIECE_LEN],
 ) -> Result<u32, Stopped>
     requires { piece < 256 }
     ensures leaves { Looks 16 (B.state bus.old) (B.state bus.new) }
@@ -78,8 +81,8 @@ fn read_piece<B: Bus>(
 {
     let mut reads = 0;
     for k in 0..16 {
-        let start = 4096 * k as usize;
-        let part = &mut bytes[start..start + 4096];
+        let start = (SECTOR_LEN * k) as usize;
+        let part = &mut bytes[start..start + SECTOR_LEN as usize];
         reads += read_part(bus, included, 16 * piece + k, part)?;
     }
     Ok(reads)
@@ -109,16 +112,13 @@ fn read_part<B: Bus>(
 }
 
 // Puts a piece of the copy behind those before it. A refusal tells how many bytes went in with them.
-fn put_piece<V: Vault>(out: &mut V, piece: u32, bytes: &[u8; 65_536]) -> Result<(), Refusal>
+fn put_piece<V: Vault>(out: &mut V, piece: u32, bytes: &[u8; PIECE_LEN]) -> Result<(), Refusal>
     requires reachable { piece < 256 }
     requires unsealed { (V.state out.old).sealed ≡ false }
     ensures takes { OnOk result (Took (V.state out.old) bytes.now (V.state out.new)) }
     ensures tells { IfErr result (PutTells piece bytes.now (V.state out.old) (V.state out.new)) }
 {
-    match out.put(bytes) {
-        Ok(()) => Ok(()),
-        Err(fault) => Err(Refusal::Output {
-            written: 65_536 * u64::from(piece) + fault.kept as u64,
-        }),
-    }
+    out.put(bytes).map_err(|fault| Refusal::Output {
+        written: PIECE_LEN as u64 * u64::from(piece) + fault.kept as u64,
+    })
 }

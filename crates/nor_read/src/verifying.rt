@@ -8,7 +8,7 @@ ghost use Rattle.nor_read.specs.Verifying.{VerifyAlways, VerifyHonest, VerifyMod
 ghost use Rattle.nor_read.specs.Verifying.{ComparesPart, ComparesAll, TellsFirst};
 
 use crate::finding::{find, report};
-use nor_chip::{Bus, Stopped};
+use nor_chip::{Bus, SECTOR_LEN, Stopped};
 use nor_driver::read_sector;
 use nor_layout::{Ranges, fill_excluded, includes_in_sector, reaches_past};
 use nor_plan::bounds;
@@ -71,8 +71,8 @@ fn compare_all<B: Bus>(
 {
     let mut first = None;
     let mut reads = 0;
-    let mut bytes = [0; 4096];
-    for sector in 0..size / 4096 {
+    let mut bytes = [0; SECTOR_LEN as usize];
+    for sector in 0..size / SECTOR_LEN {
         let part = compare_part(bus, image, included, sector, &mut bytes)?;
         first = first.or(part.first);
         reads += part.reads;
@@ -86,7 +86,7 @@ fn compare_part<B: Bus>(
     image: &[u8],
     included: Option<&Ranges>,
     sector: u32,
-    bytes: &mut [u8; 4096],
+    bytes: &mut [u8; SECTOR_LEN as usize],
 ) -> Result<Compared, Stopped>
     requires reachable { sector < 4096 }
     requires inside { 4096 * sector + 4096 ≤ length image.now }
@@ -112,18 +112,16 @@ fn first_other(
     image: &[u8],
     included: Option<&Ranges>,
     sector: u32,
-    bytes: &mut [u8; 4096],
+    bytes: &mut [u8; SECTOR_LEN as usize],
 ) -> Option<u32>
     requires reachable { sector < 4096 }
     requires inside { 4096 * sector + 4096 ≤ length image.now }
     ensures { (content : ℕ → ℕ) → AreOfSector content sector bytes.old
         → TellsFirst (option_copied included.entry) image.now content (4096 * sector) (4096 * (sector + 1)) result }
 {
-    let start = 4096 * sector as usize;
-    let part = &image[start..start + 4096];
+    let start = (SECTOR_LEN * sector) as usize;
+    let part = &image[start..start + SECTOR_LEN as usize];
     fill_excluded(included, sector, &mut *bytes, part);
-    match bounds(&*bytes, part) {
-        None => None,
-        Some((first, _)) => Some(4096 * sector + first as u32),
-    }
+    let (first, _) = bounds(&*bytes, part)?;
+    Some(SECTOR_LEN * sector + first as u32)
 }

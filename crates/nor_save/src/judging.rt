@@ -12,7 +12,7 @@ ghost use Rattle.nor_save.specs.Judging.{AcceptsOpening, RefusesOpening, FindsHe
 
 use crate::opening::Opening;
 use crate::{Refusal, Request, What};
-use nor_chip::{code_for, unit_protected};
+use nor_chip::{SECTOR_LEN, code_for, unit_protected};
 use nor_layout::reaches_past;
 use nor_plan::SectorSet;
 
@@ -69,8 +69,9 @@ pub fn first_held(touched: &SectorSet, opening: &Opening) -> Option<u32>
     }
     let size = opening.found.size;
     let status = [opening.found.status1, opening.status2];
-    for sector in 0..size / 4096 {
-        if touched.contains(sector) && unit_protected(status, size, 4096 * sector, 4096) {
+    for sector in 0..size / SECTOR_LEN {
+        let start = SECTOR_LEN * sector;
+        if touched.contains(sector) && unit_protected(status, size, start, SECTOR_LEN) {
             return Some(sector);
         }
     }
@@ -110,7 +111,7 @@ pub fn judge_scan(
         None => Ok(false),
         Some(_) if request.unlock => Ok(true),
         Some(sector) => Err(Refusal::Protected {
-            address: 4096 * sector,
+            address: SECTOR_LEN * sector,
         }),
     }
 }

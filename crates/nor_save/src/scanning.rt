@@ -13,7 +13,7 @@ ghost use Rattle.nor_save.specs.Scanning.{HasBegun, HasBegunWith, UnlessVault, H
 ghost use Rattle.nor_save.specs.declared.refusal.Refusal.TheVariants as Refusals;
 
 use crate::{Refusal, Request, What};
-use nor_chip::{Bus, Stopped};
+use nor_chip::{Bus, SECTOR_LEN, Stopped};
 use nor_driver::read_sector;
 use nor_journal::{Vault, Writer};
 use nor_layout::{fill_excluded, includes_in_sector};
@@ -75,7 +75,7 @@ fn scan_sector<B: Bus>(
     request: &Request,
     sector: u32,
     part: &mut [u8],
-    bytes: &mut [u8; 4096],
+    bytes: &mut [u8; SECTOR_LEN as usize],
     size: u32,
 ) -> Result<SectorPlan, Stopped>
     requires inside { 4096 * sector + 4096 ≤ size }
@@ -127,12 +127,16 @@ pub fn scan_all<B: Bus, V: Vault>(
         → IfOk result (λ scanned. HasBegunWith V.state writer.new size (size / 4096) (has scanned.touched)) }
 {
     let mut scanned = Scanned::none();
-    let mut bytes = [0; 4096];
-    let sectors = if request.is_data() { size / 4096 } else { 0 };
+    let mut bytes = [0; SECTOR_LEN as usize];
+    let sectors = if request.is_data() {
+        size / SECTOR_LEN
+    } else {
+        0
+    };
     for sector in 0..sectors {
         if includes_in_sector(request.included.as_ref(), sector) {
-            let start = 4096 * sector as usize;
-            let part = &mut image[start..start + 4096];
+            let start = (SECTOR_LEN * sector) as usize;
+            let part = &mut image[start..start + SECTOR_LEN as usize];
             let plan = scan_sector(bus, request, sector, part, &mut bytes, size)?;
             if plan.touched {
                 writer.add(sector, &bytes)?;

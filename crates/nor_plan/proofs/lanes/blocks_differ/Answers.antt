@@ -7,7 +7,7 @@ loop-block-init c = TellsChanges-zeros c.args.a.now c.args.b.now 0
 
 pub loop-block-preserved : goal.loop-block-preserved
 loop-block-preserved c =
-    TellsChanges-next c.args.a.now c.args.b.now c.loop-block.block c.loop-block.changes c.changes_256-changes.result c.loop-block.invariant c.changes_256-changes.ensures
+    TellsChanges-next c.args.a.now c.args.b.now 0 256 c.loop-block.block _ c.loop-block.changes c.changes_256-changes.result (omega arith) c.loop-block.invariant c.changes_256-changes.ensures
 
 pub returns : goal.returns
 returns c =
