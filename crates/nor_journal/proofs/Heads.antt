@@ -1,8 +1,16 @@
 -- The head of the bytes is the head's text.
-use Rattle.std.proofs.Common.{◌≡◌, ℕ, ◌+◌, ◌≤◌, List, [], ◌∷◌, ◌++◌, length, get_or, take, drop, refl, sym, arith, Some, None}
-use Rattle.std.proofs.lemmas.List.{take-append-drop, length-drop, get_or-drop}
+use Rattle.std.proofs.Common.{◌≡◌, ◌≢◌, ◌∙◌, ℕ, ◌+◌, ◌-◌, ◌≤◌, List, [], ◌∷◌, ◌++◌, length, get_or, take, drop, refl, sym, ap, arith, inl, inr, Option, Some, None, Result, Ok, Err}
+use Rattle.std.specs.Prelude.{IfSome, MatchResult}
+use Rattle.std.specs.Array.{IsWholeChunk}
+use Rattle.std.specs.Option.{MatchOption}
+use Rattle.std.specs.Result.{result_ok}
+use Rattle.std.proofs.lemmas.List.{length-append, take-append-drop, take_all, take_at, length-drop, length-take, get_or-drop}
+use Rattle.std.proofs.lemmas.Slice.{take-put_mid}
+use borrow.Rule.Slice.PartMut.{put_mid, same_len_mid}
 use Rattle.nor_journal.specs.Number.{number_text, number_at}
-use Rattle.nor_journal.specs.Text.{First, Second, magic, head}
+use Rattle.nor_journal.specs.Text.{Format, First, Second, magic, head}
+use Rattle.nor_journal.specs.Fault.{HasWrongSize, HeadFault, head_length}
+use Rattle.nor_journal.specs.declared.fault.JournalFault.TheVariants.{Size}
 use Rattle.nor_journal.proofs.Numbers.{IsBytes, IsBytes-drop, number_text-number_at}
 use Rattle.nor_journal.proofs.SectorRecords.{take_two}
 
@@ -25,44 +33,73 @@ parts k bytes =
     sym (rw (take_two 8 3 bytes, take_two 11 k bytes, take_two (11 + k) 2 bytes, take_two (11 + k + 2) 4 bytes) (take-append-drop (11 + k + 2 + 4) bytes))
 
 -- each part by another name
-renamed : (bytes a b u c d a' b' c' d' rest : List ℕ) → bytes ≡ ((((a ++ b) ++ u) ++ c) ++ d) ++ rest → a ≡ a' → b ≡ b' → c ≡ c' → d ≡ d' → bytes ≡ ((((a' ++ b') ++ u) ++ c') ++ d') ++ rest
-renamed bytes a b u c d a' b' c' d' rest whole one two three four = cc
+renamed : (bytes a b u c d a' b' u' c' d' rest : List ℕ) → bytes ≡ ((((a ++ b) ++ u) ++ c) ++ d) ++ rest → a ≡ a' → b ≡ b' → u ≡ u' → c ≡ c' → d ≡ d' → bytes ≡ ((((a' ++ b') ++ u') ++ c') ++ d') ++ rest
+renamed bytes a b u c d a' b' u' c' d' rest whole one two three four five = cc
 
 number_part : (n : ℕ) (bytes : List ℕ) → IsBytes bytes → n + 4 ≤ length bytes → take 4 (drop n bytes) ≡ number_text (number_at (drop n bytes))
 number_part n bytes fits long = sym (number_text-number_at (drop n bytes) (IsBytes-drop n bytes fits) (omega (arith, length-drop n bytes)))
 
-pub first_splits : (bytes : List ℕ) → IsBytes bytes → 17 ≤ length bytes → take 8 bytes ≡ magic First
-    → bytes
-    ≡ head
-    (record {
-      id = get_or bytes 8 0 ∷ get_or bytes 9 0 ∷ get_or bytes 10 0 ∷ [];
-      unique = None;
-      status = get_or bytes 11 0 ∷ get_or bytes 12 0 ∷ [];
-      size = number_at (drop 13 bytes);
-      saved = [];
-    })
-    ++ drop 17 bytes
-unfolding head
-first_splits bytes fits long begins =
-    renamed bytes (take 8 bytes) (take 3 (drop 8 bytes)) [] (take 2 (drop 11 bytes)) (take 4 (drop 13 bytes)) (magic First) (get_or bytes 8 0 ∷ get_or bytes 9 0 ∷ get_or bytes 10 0 ∷ [])
-    (get_or bytes 11 0 ∷ get_or bytes 12 0 ∷ []) (number_text (number_at (drop 13 bytes))) (drop 17 bytes) (parts 0 bytes) begins
-    (simp get_or-drop at (three_first (drop 8 bytes) (omega (arith, length-drop 8 bytes)))) (simp get_or-drop at (two_first (drop 11 bytes) (omega (arith, length-drop 11 bytes))))
-    (number_part 13 bytes fits long)
+-- the parts by what a head says
+said : (k : ℕ) (bytes magic unique status : List ℕ) → IsBytes bytes → 17 + k ≤ length bytes → take 8 bytes ≡ magic → take k (drop 11 bytes) ≡ unique → take 2 (drop (11 + k) bytes) ≡ status
+    → bytes ≡ ((((magic ++ get_or bytes 8 0 ∷ get_or bytes 9 0 ∷ get_or bytes 10 0 ∷ []) ++ unique) ++ status) ++ number_text (number_at (drop (11 + k + 2) bytes))) ++ drop (11 + k + 2 + 4) bytes
+said k bytes magic unique status fits long begins is two =
+    renamed bytes (take 8 bytes) (take 3 (drop 8 bytes)) (take k (drop 11 bytes)) (take 2 (drop (11 + k) bytes)) (take 4 (drop (11 + k + 2) bytes)) magic (get_or bytes 8 0 ∷ get_or bytes 9 0 ∷ get_or bytes 10 0 ∷ []) unique status (number_text (number_at (drop (11 + k + 2) bytes))) (drop (11 + k + 2 + 4) bytes) (parts k bytes) begins
+    (simp get_or-drop at (three_first (drop 8 bytes) (omega (arith, length-drop 8 bytes)))) is two (number_part (11 + k + 2) bytes fits (omega arith))
 
-pub second_splits : (bytes : List ℕ) → IsBytes bytes → 25 ≤ length bytes → take 8 bytes ≡ magic Second
-    → bytes
+-- Eight bytes are a unique ID, and any other number is none.
+abbrev IsUnique : (part : List ℕ) → Option (List ℕ) → Type 0
+IsUnique part unique = MatchOption unique (length part ≢ 8) (λ u. (part ≡ u) × (length u ≡ 8))
+
+pub unique_read : {E : Type 0} (part : List ℕ) (r : Result (List ℕ) E) → MatchResult r (λ u. IsWholeChunk part u 8) (λ _. length part ≢ 8) → IsUnique part (result_ok r)
+unique_read part (Ok u) whole = (sym whole.same, ap length whole.same ∙ whole.long)
+unique_read part (Err e) other = other
+
+-- a head of this format is what it says, with the rest behind it
+pub splits : (format : Format) (len : ℕ) (bytes : List ℕ) (unique : Option (List ℕ)) → IsBytes bytes → take 8 bytes ≡ magic format → len ≡ head_length format → len ≤ length bytes
+    → IsUnique (take (len - 6 - 11) (drop 11 bytes)) unique
+    → IfSome unique (λ u. length u ≡ 8)
+    × (bytes
     ≡ head
     (record {
       id = get_or bytes 8 0 ∷ get_or bytes 9 0 ∷ get_or bytes 10 0 ∷ [];
-      unique = Some (take 8 (drop 11 bytes));
-      status = get_or bytes 19 0 ∷ get_or bytes 20 0 ∷ [];
-      size = number_at (drop 21 bytes);
+      unique = unique;
+      status = get_or bytes (len - 6) 0 ∷ get_or bytes (len - 5) 0 ∷ [];
+      size = number_at (drop (len - 4) bytes);
       saved = [];
     })
-    ++ drop 25 bytes
+    ++ drop len bytes)
 unfolding head
-second_splits bytes fits long begins =
-    renamed bytes (take 8 bytes) (take 3 (drop 8 bytes)) (take 8 (drop 11 bytes)) (take 2 (drop 19 bytes)) (take 4 (drop 21 bytes)) (magic Second)
-    (get_or bytes 8 0 ∷ get_or bytes 9 0 ∷ get_or bytes 10 0 ∷ []) (get_or bytes 19 0 ∷ get_or bytes 20 0 ∷ []) (number_text (number_at (drop 21 bytes))) (drop 25 bytes) (parts 8 bytes) begins
-    (simp get_or-drop at (three_first (drop 8 bytes) (omega (arith, length-drop 8 bytes)))) (simp get_or-drop at (two_first (drop 19 bytes) (omega (arith, length-drop 19 bytes))))
-    (number_part 21 bytes fits long)
+splits First len bytes None fits begins is long read =
+    let whole : 17 ≤ length bytes = omega arith in
+    (tt, rw is (said 0 bytes (magic First) [] _ fits whole begins refl (simp get_or-drop at (two_first (drop 11 bytes) (omega (arith, length-drop 11 bytes))))))
+splits First len bytes (Some u) fits begins is long read =
+    absurd (omega (arith, is, read.1, ap length read.0, length-take (len - 6 - 11) (drop 11 bytes)))
+splits Second len bytes None fits begins is long read =
+    absurd (read (omega (arith, is, long, length-take (len - 6 - 11) (drop 11 bytes), length-drop 11 bytes)))
+splits Second len bytes (Some u) fits begins is long read =
+    let whole : 25 ≤ length bytes = omega arith in
+    (read.1, rw is (said 8 bytes (magic Second) u _ fits whole begins (rw is at read.0) (simp get_or-drop at (two_first (drop 19 bytes) (omega (arith, length-drop 19 bytes))))))
+
+-- a wrong size is one of either format
+pub wrong_size : (format : Format) (bytes : List ℕ) → HasWrongSize format bytes → HeadFault bytes Size
+wrong_size First bytes wrong = inl wrong
+wrong_size Second bytes wrong = inr wrong
+
+-- ---- a head that is written
+
+-- The first n bytes of a head are written.
+pub record Begins (n : ℕ) (front bytes : List ℕ) : Type 0 where
+  pub long : length bytes ≡ 25
+  pub is : take n bytes ≡ front
+
+pub begins_first : (magic left : List ℕ) → length magic ≡ 8 → length left ≡ 17 → Begins 8 magic (magic ++ left)
+begins_first magic left eight many = record { long = omega (arith, length-append magic left); is = take_at magic left 8 eight }
+
+pub begins_more : (n k : ℕ) (front bytes part : List ℕ) → Begins n front bytes → length part ≡ k → n + k ≤ 25 → Begins (n + k) (front ++ part) (put_mid n k bytes part)
+begins_more n k front bytes part before many within = record {
+  long = same_len_mid n k bytes part (omega (arith, length-take k (drop n bytes), length-drop n bytes, before.long)) ∙ before.long;
+  is = take-put_mid n k bytes part (n + k) (omega (arith, many)) (omega (arith, before.long)) ∙ ap (λ (t : List ℕ). t ++ part) before.is;
+}
+
+pub begins_all : (front bytes : List ℕ) → Begins 25 front bytes → bytes ≡ front
+begins_all front bytes before = sym (take_all 25 bytes (omega (arith, before.long))) ∙ before.is

@@ -6,21 +6,20 @@ use Rattle.nor_journal.specs.declared.vault.VaultFault.{VaultFault}
 use Rattle.std.proofs.lemmas.List.{append-nil}
 use Rattle.nor_journal.specs.Vault.{VaultState, Took, Seals}
 use Rattle.nor_journal.specs.declared.writer.Writer.{Writer}
-use Rattle.nor_journal.specs.Number.{number_text}
-use Rattle.nor_journal.specs.Text.{SavedSector, Content, IsContent, IsJournalSize, Second, magic, MayFollow, next_number, head, record_text, records_text, end_mark, front, body, text, empty_content, with_sector}
+use Rattle.nor_journal.specs.Text.{SavedSector, Content, IsContent, IsJournalSize, MayFollow, next_number, head, record_text, records_text, end_mark, front, body, text, empty_content, with_sector}
 use Rattle.nor_journal.specs.Writer.{HasPut, HasWritten}
 use Rattle.nor_journal.proofs.SectorRecords.{AreRising-push, records_text-push, records_text-nil}
 
-front-empty_content : (id unique status : List ℕ) (size : ℕ) → front (empty_content id (Some unique) status size) ≡ (((magic Second ++ id) ++ unique) ++ status) ++ number_text size
-unfolding front head
+front-empty_content : (id unique status : List ℕ) (size : ℕ) → front (empty_content id (Some unique) status size) ≡ head (empty_content id (Some unique) status size)
+unfolding front
 front-empty_content id unique status size =
-    let whole : List ℕ = (((magic Second ++ id) ++ unique) ++ status) ++ number_text size in
+    let whole : List ℕ = head (empty_content id (Some unique) status size) in
     ap (λ (t : List ℕ). whole ++ t) records_text-nil ∙ append-nil whole
 
 -- the head makes a content with no sector
-pub opens : {V : Type 0} (state : V → VaultState) (w : Writer V) (id unique status number : List ℕ) (size : ℕ) → length id ≡ 3 → length unique ≡ 8 → length status ≡ 2 → IsJournalSize size → number ≡ number_text size
-    → HasPut state w ((((magic Second ++ id) ++ unique) ++ status) ++ number) → HasWritten state w (empty_content id (Some unique) status size)
-opens state w id unique status number size three eight two is e put = record {
+pub opens : {V : Type 0} (state : V → VaultState) (w : Writer V) (id unique status piece : List ℕ) (size : ℕ) → length id ≡ 3 → length unique ≡ 8 → length status ≡ 2 → IsJournalSize size
+    → piece ≡ head (empty_content id (Some unique) status size) → HasPut state w piece → HasWritten state w (empty_content id (Some unique) status size)
+opens state w id unique status piece size three eight two is e put = record {
   is = record { id = three; unique = eight; status = two; size = is; saved = tt };
   put = rw (front-empty_content id unique status size, ← e) put;
 }

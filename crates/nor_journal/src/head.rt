@@ -1,14 +1,14 @@
 //! The head of a journal: what stands before its records. It differs by the format.
-ghost use Rattle.std.specs.Prelude.{◌≡◌, ◌↔◌, ◌++◌, take, IsTrue, IfOk, IfErr};
-ghost use Rattle.nor_journal.specs.Text.{IsJournalSize, First, Second, head, magic};
-ghost use Rattle.nor_journal.specs.Fault.{HeadFault};
+ghost use Rattle.std.specs.Prelude.{◌≡◌, ◌↔◌, ◌++◌, Some, take, IsTrue, IfOk, IfErr};
+ghost use Rattle.nor_journal.specs.Text.{IsJournalSize, Format, empty_content, head, magic};
+ghost use Rattle.nor_journal.specs.Fault.{HeadFault, head_length};
 ghost use Rattle.nor_journal.specs.Reading.{IsHead, headed};
 
 use crate::fault::JournalFault;
-use crate::number::number_of;
+use crate::number::{number_bytes, number_of};
 
 /// The first eight bytes of a journal of format 2, which tells the chip's unique ID.
-pub const MAGIC: [u8; 8] = *b"NORUNDO2";
+const MAGIC: [u8; 8] = *b"NORUNDO2";
 
 /// The first eight bytes of a journal of format 1, which is read and no more written.
 const FIRST_MAGIC: [u8; 8] = *b"NORUNDO1";
@@ -35,6 +35,19 @@ fn is_chip_size(size: u32) -> bool
     size.is_power_of_two() && (0x1_0000..=0x100_0000).contains(&size)
 }
 
+/// The head of format 2, with the chip's ID, its unique ID, its two status bytes and its size in bytes.
+pub fn head_bytes(id: [u8; 3], unique: [u8; 8], status: [u8; 2], size: u32) -> [u8; HEAD]
+    ensures { result ≡ head (empty_content id (Some unique) status size) }
+{
+    let mut bytes = [0; HEAD];
+    bytes[..8].copy_from_slice(&MAGIC);
+    bytes[8..11].copy_from_slice(&id);
+    bytes[11..19].copy_from_slice(&unique);
+    bytes[19..21].copy_from_slice(&status);
+    bytes[21..].copy_from_slice(&number_bytes(size));
+    bytes
+}
+
 /// Reads the head, and gives what stands behind it.
 pub fn read_head(bytes: &[u8]) -> Result<(Head, &[u8]), JournalFault>
     ensures fault { IfErr result (HeadFault bytes.now) }
@@ -44,60 +57,33 @@ pub fn read_head(bytes: &[u8]) -> Result<(Head, &[u8]), JournalFault>
         return Err(JournalFault::Short);
     }
     if bytes[..8] == FIRST_MAGIC[..] {
-        return read_first(bytes);
+        return read_form(bytes, FIRST_HEAD);
     }
     if bytes[..8] == MAGIC[..] {
-        return read_second(bytes);
+        return read_form(bytes, HEAD);
     }
     Err(JournalFault::Magic)
 }
 
-// Reads a head of format 1.
-fn read_first(bytes: &[u8]) -> Result<(Head, &[u8]), JournalFault>
-    requires { take 8 bytes.now ≡ magic First }
+// Reads a head of the format that has heads of this length. Between the ID and the status bytes stands the unique ID,
+// or nothing.
+fn read_form(bytes: &[u8], len: usize) -> Result<(Head, &[u8]), JournalFault>
+    requires { (format : Format) × (take 8 bytes.now ≡ magic format) × (len ≡ head_length format) }
     ensures fault { IfErr result (HeadFault bytes.now) }
     ensures found { IfOk result (λ x. IsHead x.0 × (bytes.now ≡ head (headed x.0) ++ x.1.now)) }
 {
-    if bytes.len() < FIRST_HEAD {
+    if bytes.len() < len {
         return Err(JournalFault::Short);
     }
-    let size = number_of(&bytes[13..]);
+    let size = number_of(&bytes[len - 4..]);
     if !is_chip_size(size) {
         return Err(JournalFault::Size);
     }
-    let id = [bytes[8], bytes[9], bytes[10]];
-    let status = [bytes[11], bytes[12]];
     let head = Head {
-        id,
-        unique: None,
-        status,
+        id: [bytes[8], bytes[9], bytes[10]],
+        unique: <[u8; 8]>::try_from(&bytes[11..len - 6]).ok(),
+        status: [bytes[len - 6], bytes[len - 5]],
         size,
     };
-    Ok((head, &bytes[FIRST_HEAD..]))
-}
-
-// Reads a head of format 2.
-fn read_second(bytes: &[u8]) -> Result<(Head, &[u8]), JournalFault>
-    requires { take 8 bytes.now ≡ magic Second }
-    ensures fault { IfErr result (HeadFault bytes.now) }
-    ensures found { IfOk result (λ x. IsHead x.0 × (bytes.now ≡ head (headed x.0) ++ x.1.now)) }
-{
-    if bytes.len() < HEAD {
-        return Err(JournalFault::Short);
-    }
-    let size = number_of(&bytes[21..]);
-    if !is_chip_size(size) {
-        return Err(JournalFault::Size);
-    }
-    let id = [bytes[8], bytes[9], bytes[10]];
-    let mut unique = [0; 8];
-    unique.copy_from_slice(&bytes[11..19]);
-    let status = [bytes[19], bytes[20]];
-    let head = Head {
-        id,
-        unique: Some(unique),
-        status,
-        size,
-    };
-    Ok((head, &bytes[HEAD..]))
+    Ok((head, &bytes[len..]))
 }

@@ -6,8 +6,7 @@ ghost use Rattle.nor_journal.specs.Text.{Content, IsJournalSize, MayFollow, empt
 ghost use Rattle.nor_journal.specs.Saved.{IsWholeSector, HasOneMore, JournalSaves};
 ghost use Rattle.nor_journal.specs.Writer.{vault_of, vault_seen, HasPut, HasWritten, HasPutSectors};
 
-use crate::head::MAGIC;
-use crate::number::number_bytes;
+use crate::head::head_bytes;
 use crate::records::{END_MARK, record_bytes};
 use crate::vault::{Vault, VaultFault};
 use nor_chip::SECTOR_LEN;
@@ -107,11 +106,7 @@ impl<'a, V: Vault> Writer<'a, V> {
         ensures written { HasPut V.state self.old []
             → OnOk result (HasWritten V.state self.new (empty_content id (Some unique) status size)) }
     {
-        self.piece(&MAGIC)?;
-        self.piece(&id)?;
-        self.piece(&unique)?;
-        self.piece(&status)?;
-        self.piece(&number_bytes(size))
+        self.piece(&head_bytes(id, unique, status, size))
     }
 
     /// Writes a sector behind the others. Its number is above theirs, and a sector of the chip has it.

@@ -6,8 +6,8 @@ use Rattle.std.specs.List.{starts_with}
 use Rattle.std.specs.Option.{MatchOption}
 use Rattle.std.specs.Str.Pattern.{FindsTextPrefix, StripsPrefix}
 use Rattle.std.proofs.lemmas.Str.Pattern.{starts_text}
-use Rattle.nor_words.specs.Programmer.{are_settings, chip_named, is_programmer_text, said, settings_of, value_in}
-use Rattle.nor_words.specs.Text.{Text, pieces_of}
+use Rattle.nor_words.specs.Programmer.{are_settings, chip_named, is_programmer_text, said, settings_of}
+use Rattle.nor_words.specs.Text.{Text}
 use Rattle.nor_words.specs.declared.programmer.Emulated.{Emulated}
 
 pub stripped : (p s : List ℕ) (r : Option (Bor (List ℕ))) → MatchOption r (FindsTextPrefix p s None) (λ x. StripsPrefix (FindsTextPrefix p) s x.now)
@@ -22,9 +22,6 @@ both : (a b : Bool) → b ≡ false → (a && b) ≡ false
 both true b is = is
 both false b is = refl
 
-pub is_programmer-other : (text : Text) → starts_with nat_eq text (codes "dummy:") ≡ false → is_programmer_text text ≡ false
-is_programmer-other text other = rw other refl
-
 pub is_programmer-unsound : (text : Text) → are_settings (settings_of text) ≡ false → is_programmer_text text ≡ false
 is_programmer-unsound text unsound =
     both (starts_with nat_eq text (codes "dummy:")) _ (ap (λ b. b && is_some (option_and_then chip_named (said text (codes "emulate")))) unsound)
@@ -38,13 +35,13 @@ pub is_programmer-sound : (text : Text) (chip : Emulated) → starts_with nat_eq
 is_programmer-sound text chip begins sound named =
     ap₂ (λ a b. a && (b && is_some (option_and_then chip_named (said text (codes "emulate"))))) begins sound ∙ ap is_some named
 
--- the value that was found is what the text says
-pub said-found : (text listed key : Text) (r : Option (Bor Text)) → listed ≡ drop 6 text → option_map (λ x. x.now) r ≡ value_in (pieces_of listed) key
-    → said text key ≡ option_map (λ x. x.now) r
-said-found text listed key r same h = sym (h ∙ ap (λ (l : Text). value_in (pieces_of l) key) same)
-
 -- a reading of a text that there may be
 pub and_then-read : {T : Type 0} (f : Text → Option T) (o : Option (Bor Text)) (r : Option T) → MatchOption o (r ≡ None) (λ x. r ≡ f x.now)
     → option_and_then f (option_map (λ x. x.now) o) ≡ r
 and_then-read f None r h = sym h
 and_then-read f (Some x) r h = sym h
+
+-- a value that is read as it stands
+pub and_then-some : {T : Type 0} (o : Option T) → option_and_then Some o ≡ o
+and_then-some None = refl
+and_then-some (Some x) = refl

@@ -11,4 +11,5 @@ pub mod Faults
 pub mod Job
 pub mod Words
 -- What the code makes of the texts on the way there.
+pub mod Settings
 pub mod Meaning

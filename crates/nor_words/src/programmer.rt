@@ -2,8 +2,7 @@
 ghost use Rattle.std.specs.Prelude.{◌≡◌, false};
 ghost use Rattle.std.specs.Option.{MatchOption};
 
-use crate::numbers::{read_byte, read_number, read_polls, read_unique};
-use crate::settings::{are_sound, find_value};
+use crate::settings::Settings;
 use nor_chip::Config;
 
 /// A chip that the program emulates.
@@ -74,20 +73,19 @@ impl<'a> Programmer<'a> {
     pub fn read(text: &'a str) -> Option<Programmer<'a>>
         ensures { MatchOption result (is_programmer_text text.now ≡ false) (IsProgrammer text.now) }
     {
-        let listed = text.strip_prefix("dummy:")?;
-        if !are_sound(listed) {
-            return None;
+        let mut settings = Settings::default();
+        for setting in text.strip_prefix("dummy:")?.split(',') {
+            settings.take_in(setting)?;
         }
-        let chip = Emulated::named(find_value(listed, "emulate")?)?;
         Some(Programmer {
-            chip,
-            image: find_value(listed, "image"),
-            status: find_value(listed, "status"),
-            trace: find_value(listed, "trace"),
-            stop: find_value(listed, "stop").and_then(read_number),
-            unique: find_value(listed, "unique").and_then(read_unique),
-            busy: find_value(listed, "busy").and_then(read_polls),
-            power: find_value(listed, "power").and_then(read_byte),
+            chip: settings.chip?,
+            image: settings.image,
+            status: settings.status,
+            trace: settings.trace,
+            stop: settings.stop,
+            unique: settings.unique,
+            busy: settings.busy,
+            power: settings.power,
         })
     }
 }

@@ -1,61 +1,46 @@
 //! The settings of a programmer: `key=value`, separated by commas.
-ghost use Rattle.std.specs.Prelude.{◌≡◌, ◌&&◌, nat_le, option_map};
-ghost use Rattle.std.specs.List.{count_by};
-ghost use Rattle.nor_words.specs.Programmer.{are_settings, has_key, is_alone_in, is_setting, may_have, value_in};
-ghost use Rattle.nor_words.specs.Text.{key_of, pieces_of, value_of};
+ghost use Rattle.std.specs.Prelude.{◌≡◌, ◌&&◌, None, false, true, is_none, is_some};
+ghost use Rattle.std.specs.Option.{MatchOption};
+ghost use Rattle.nor_words.specs.Programmer.{is_file, is_setting};
+ghost use Rattle.nor_words.specs.Text.{key_of, value_of};
 
 use crate::numbers::{read_byte, read_number, read_polls, read_unique};
 use crate::programmer::Emulated;
 
-/// Each setting has a key that there is and a value of this key, and none has the key of another.
-pub fn are_sound(listed: &str) -> bool
-    ensures { result ≡ are_settings (pieces_of listed.now) }
-{
-    for setting in listed.split(',') {
-        if !is_sound(listed, setting) {
-            return false;
-        }
-    }
-    true
+/// What settings say, each of them with another key.
+#[derive(Clone, Copy, Default)]
+pub struct Settings<'a> {
+    pub chip: Option<Emulated>,
+    pub image: Option<&'a str>,
+    pub status: Option<&'a str>,
+    pub trace: Option<&'a str>,
+    pub stop: Option<u64>,
+    pub unique: Option<[u8; 8]>,
+    pub busy: Option<u16>,
+    pub power: Option<u8>,
 }
 
-// It is a setting, and the only one of those that are listed with its key.
-fn is_sound(listed: &str, setting: &str) -> bool
-    ensures { result ≡ (is_setting setting.now && is_alone_in (pieces_of listed.now) setting.now) }
-{
-    let (key, value) = split_setting(setting);
-    is_known(key, value) && is_alone(listed, key)
-}
+impl<'a> Settings<'a> {
+    ghost use Rattle.nor_words.specs.Settings.{Adds, IsRefused};
 
-/// The value of the key, where a setting has it.
-pub fn find_value<'a>(listed: &'a str, key: &str) -> Option<&'a str>
-    ensures { option_map (λ found. found.now) result ≡ value_in (pieces_of listed.entry.now) key.now }
-{
-    for setting in listed.split(',') {
-        let (found, value) = split_setting(setting);
-        if found == key {
-            return Some(value);
+    /// Takes in one more setting, which has a key that there is and a value of this key; none had this key before.
+    pub fn take_in(&mut self, setting: &'a str) -> Option<()>
+        ensures { MatchOption result (IsRefused setting.now self.old)
+            (λ _. (is_setting setting.now ≡ true) × Adds setting.now self.old self.new) }
+    {
+        let (key, value) = split_setting(setting);
+        match key {
+            "emulate" => set(&mut self.chip, Emulated::named(value)),
+            "image" => set(&mut self.image, filled(value)),
+            "status" => set(&mut self.status, filled(value)),
+            "trace" => set(&mut self.trace, filled(value)),
+            "stop" => set(&mut self.stop, read_number(value)),
+            "unique" => set(&mut self.unique, read_unique(value)),
+            "busy" => set(&mut self.busy, read_polls(value)),
+            "power" => set(&mut self.power, read_byte(value)),
+            _ => None,
         }
     }
-    None
-}
-
-// At most one setting has the key.
-fn is_alone(listed: &str, key: &str) -> bool
-    ensures { result ≡ nat_le (count_by (has_key key.now) (pieces_of listed.now)) 1 }
-{
-    let mut found = false;
-    for setting in listed.split(',') {
-        let (other, _) = split_setting(setting);
-        if other != key {
-            continue;
-        }
-        if found {
-            return false;
-        }
-        found = true;
-    }
-    true
 }
 
 // The key goes on to the first `=`, and all behind it is the value.
@@ -68,17 +53,22 @@ fn split_setting(setting: &str) -> (&str, &str)
     }
 }
 
-// There is such a key, and this is a value of it.
-fn is_known(key: &str, value: &str) -> bool
-    ensures { result ≡ may_have key.now value.now }
+// The name of a file isn't empty.
+fn filled(name: &str) -> Option<&str>
+    ensures { MatchOption result (is_file name.now ≡ false)
+        (λ file. (is_file name.now ≡ true) × (file.now ≡ name.now)) }
 {
-    match key {
-        "emulate" => Emulated::named(value).is_some(),
-        "image" | "status" | "trace" => !value.is_empty(),
-        "stop" => read_number(value).is_some(),
-        "unique" => read_unique(value).is_some(),
-        "busy" => read_polls(value).is_some(),
-        "power" => read_byte(value).is_some(),
-        _ => false,
+    if name.is_empty() { None } else { Some(name) }
+}
+
+// Puts what was read into a place that is empty.
+fn set<T: Copy>(place: &mut Option<T>, read: Option<T>) -> Option<()>
+    ensures { MatchOption result ((is_none place.old && is_some read) ≡ false)
+        (λ _. (place.old ≡ None) × (place.new ≡ read) × (is_some read ≡ true)) }
+{
+    if place.is_some() {
+        return None;
     }
+    *place = Some(read?);
+    Some(())
 }

@@ -167,14 +167,14 @@ fn fail_at_each(rt: &impl Abort, alloc: Global, row: Row, most: usize, counted: 
     assert!(rt; file.has(&right.writes, right.syncs, &right.bytes));
 }
 
-// The head has five pieces, a record is one of 4,100 bytes, and the end has two.
+// The head is one piece of 25 bytes, a record is one of 4,100, and the end has two, of 4 and 32.
 const ROWS: [(Row, usize, (usize, usize)); 3] = [
-    (Row::ABitRises, 5000, (5 + 1 + 2, 61 + 4100)),
-    (Row::ABitRises, 1000, (5 + 5 + 2, 61 + 4100)),
+    (Row::ABitRises, 5000, (1 + 1 + 2, 61 + 4100)),
+    (Row::ABitRises, 1000, (1 + 5 + 2, 61 + 4100)),
     (
         Row::NineSectorsAreErased,
         4096,
-        (5 + 2 * 9 + 2, 61 + 4100 * 9),
+        (1 + 2 * 9 + 2, 61 + 4100 * 9),
     ),
 ];
 

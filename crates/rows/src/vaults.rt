@@ -42,11 +42,11 @@ fn refuse_each(rt: &impl Abort, alloc: Global, row: Row, calls: u64, kept: usize
     assert!(rt; left == (None, 0, true, true));
 }
 
-// The head has five pieces, each record is one, the end has two; the last call is the seal. The piece before it is
+// The head is one piece, each record is one, the end has two; the last call is the seal. The piece before it is
 // shorter than 4,095 bytes, so where so many are kept of it the journal is whole already.
 const ROWS: [(Row, u64); 2] = [
-    (Row::ABitRises, 5 + 1 + 2 + 1),
-    (Row::NineSectorsAreErased, 5 + 9 + 2 + 1),
+    (Row::ABitRises, 1 + 1 + 2 + 1),
+    (Row::NineSectorsAreErased, 1 + 9 + 2 + 1),
 ];
 
 #[test]
