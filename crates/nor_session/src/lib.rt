@@ -18,8 +18,7 @@
 #![tactic(auto)]
 
 mod answering;
-mod following;
-mod keeping;
+mod laws;
 mod preparing;
 mod rehearsals;
 mod reopening;
@@ -29,8 +28,10 @@ mod sessions;
 mod sources;
 mod states;
 
-pub use following::{restored_stays, undone_in_turn};
-pub use keeping::{read_gives_back, restore_written_over, same_written_over, session_written_over};
+pub use laws::{
+    read_gives_back, restore_written_over, restored_stays, same_written_over, session_written_over,
+    undone_in_turn,
+};
 pub use nor_save::{Refusal, Report, Request, What};
 pub use rehearsals::{Rehearsal, rehearse};
 pub use restores::restore;

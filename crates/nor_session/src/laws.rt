@@ -1,14 +1,33 @@
-//! Laws for whoever keeps a chip in files, and its journal: from a session to a restore, and at each moment between.
+//! Laws on sessions and restores that follow one another, and for whoever keeps a chip in files, and its journal: from a
+//! session to a restore, and at each moment between.
 ghost use Rattle.std.specs.Prelude.{◌≡◌, true, ℕ, List};
 ghost use Rattle.nor_chip.specs.Bus.{BusState};
 ghost use Rattle.nor_chip.specs.Chip.{Chip, IsChip, IsSame};
 ghost use Rattle.nor_journal.specs.Text.{Content, IsContent, text};
 ghost use Rattle.nor_journal.specs.Vault.{VaultState};
+ghost use Rattle.nor_save.specs.declared.report.Report.{Report};
 ghost use Rattle.nor_save.specs.declared.report.Request.{Request};
 ghost use Rattle.nor_probe.specs.Known.{IsModelled};
-ghost use Rattle.nor_session.specs.Restore.{CanGiveBack};
+ghost use Rattle.nor_session.specs.Following.{LeavesJournal, ChangesNothing};
+ghost use Rattle.nor_session.specs.Restore.{SavesChip, IsRestored, CanGiveBack};
 ghost use Rattle.nor_session.specs.Session.{CanBeUndone};
 ghost use Rattle.nor_session.specs.WrittenOver.{IsWrittenOver};
+
+/// A restore of a chip that is the saved one already, since it was just given back, changes nothing.
+pub fn restored_stays()
+    ensures { (journal : Content) (first : Chip) (old new : BusState) (report : Report)
+        → SavesChip journal first → IsSame first old.chip → IsRestored journal old new report
+        → ChangesNothing journal old new report }
+{}
+
+/// Two sessions, one after the other, are undone by restores from their journals in the reverse order.
+pub fn undone_in_turn()
+    ensures { (request later : Request) (image aim : List ℕ) (old mid new back end : BusState)
+        (journal other : Content) (report last : Report)
+        → LeavesJournal request image old mid journal → LeavesJournal later aim mid new other
+        → IsRestored other new back report → IsRestored journal back end last
+        → IsSame old.chip end.chip }
+{}
 
 /// What a session kept gives its chip back: from what it promises once its vault is sealed, and a journal that is read
 /// from the bytes of that vault, follows what a restore asks for.
