@@ -7,6 +7,6 @@ pub mod Answering
 pub mod Restore
 pub mod WrittenOver
 pub mod Preparing
-pub mod Following
+pub mod InTurn
 pub mod Rehearsal
 pub mod Rehearsing

@@ -8,7 +8,7 @@ ghost use Rattle.nor_journal.specs.Vault.{VaultState};
 ghost use Rattle.nor_save.specs.declared.report.Report.{Report};
 ghost use Rattle.nor_save.specs.declared.report.Request.{Request};
 ghost use Rattle.nor_probe.specs.Known.{IsModelled};
-ghost use Rattle.nor_session.specs.Following.{LeavesJournal, ChangesNothing};
+ghost use Rattle.nor_session.specs.InTurn.{LeavesJournal, ChangesNothing};
 ghost use Rattle.nor_session.specs.Restore.{SavesChip, IsRestored, CanGiveBack};
 ghost use Rattle.nor_session.specs.Session.{CanBeUndone};
 ghost use Rattle.nor_session.specs.WrittenOver.{IsWrittenOver};

@@ -13,7 +13,7 @@
 //! ```
 //!
 //! What each call promises stands in `specs/`: `Verdict.antt`, `Session.antt`, `Restore.antt`, `Rehearsal.antt`, and of
-//! which buses `IsModelled` of nor_probe; what laws say of calls that follow one another in `Following.antt`, and
+//! which buses `IsModelled` of nor_probe; what laws say of calls that follow one another in `InTurn.antt`, and
 //! of a chip that is kept in files in `WrittenOver.antt`.
 #![tactic(auto)]
 
