@@ -4,7 +4,7 @@ use Rattle.nor_chip.specs.Code.{code_in, is_lock_set}
 use Rattle.nor_chip.specs.Guard.{code_of}
 use Rattle.nor_plan.specs.SectorSet.{has}
 use Rattle.nor_save.proofs.Held.{lock_same}
-use Rattle.nor_session.proofs.Judged.{some_held, some_or_none, none_needed, code_opened}
+use Rattle.nor_session.proofs.JudgedStatus.{some_held, some_or_none, none_needed, code_opened}
 use Rattle.nor_session.proofs.preparing.judge_changes.Goals as goal
 use Rattle.nor_session.proofs.preparing.judge_changes.Goals.{then-unlock, else-unlock, else-writes-via-then-writes+else-is_locked, else-writes-via-else-writes}
 
