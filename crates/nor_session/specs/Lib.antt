@@ -3,7 +3,7 @@ pub mod Made
 pub mod Verdict
 pub mod Changing
 pub mod Session
-pub mod Answering
+pub mod Judged
 pub mod Restore
 pub mod WrittenOver
 pub mod Preparing

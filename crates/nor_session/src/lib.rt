@@ -17,7 +17,7 @@
 //! of a chip that is kept in files in `WrittenOver.antt`.
 #![tactic(auto)]
 
-mod answering;
+mod judged;
 mod laws;
 mod preparing;
 mod rehearsals;

@@ -8,7 +8,7 @@ ghost use Rattle.nor_probe.specs.Known.{IsModelled};
 ghost use Rattle.nor_session.specs.Verdict.{IsVerdict, IsAccepted};
 ghost use Rattle.nor_session.specs.Session.{SessionAlways, SessionHonest, SessionModelled};
 
-use crate::answering::Judged;
+use crate::judged::Judged;
 use nor_chip::Bus;
 use nor_journal::Vault;
 use nor_save::{Refusal, Report, Request, judge_opening, open};

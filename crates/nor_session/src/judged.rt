@@ -2,7 +2,7 @@
 //! back.
 ghost use Rattle.std.specs.Prelude.{length};
 ghost use Rattle.nor_journal.specs.Vault.{IsFresh};
-ghost use Rattle.nor_session.specs.Answering.{IsJudged, SinceOpening, KeepsPromise};
+ghost use Rattle.nor_session.specs.Judged.{IsJudged, SinceOpening, KeepsPromise};
 
 use crate::sources::Image;
 use crate::states::{Kept, WayBack};

@@ -14,7 +14,7 @@ use Rattle.nor_session.proofs.ReadyChip.{small_first, is_opening, shows, falls_s
 use Rattle.nor_session.proofs.SessionChanges.{change_gives_up, change_tells}
 use Rattle.nor_session.proofs.SessionEnds.{ready_chip, can_be_undone, done, spared}
 use Rattle.nor_session.proofs.Naming.{keep_names, work_names}
-use Rattle.nor_session.proofs.answering.Judged.answer.Goals as goal
+use Rattle.nor_session.proofs.judged.Judged.answer.Goals as goal
 
 pub finish-requires-clause-sourced : goal.finish-requires-clause-sourced
 finish-requires-clause-sourced g c = λ s touched.
