@@ -4,8 +4,8 @@ ghost use Rattle.std.specs.Prelude.{length};
 ghost use Rattle.nor_journal.specs.Vault.{IsFresh};
 ghost use Rattle.nor_session.specs.Judged.{IsJudged, SinceOpening, KeepsPromise};
 
+use crate::kept::{Kept, WayBack};
 use crate::sources::Image;
-use crate::states::{Kept, WayBack};
 use nor_apply::Changes;
 use nor_chip::Bus;
 use nor_journal::Vault;

@@ -18,6 +18,7 @@
 #![tactic(auto)]
 
 mod judged;
+mod kept;
 mod laws;
 mod preparing;
 mod rehearsals;
@@ -26,7 +27,6 @@ mod rescanning;
 mod restores;
 mod sessions;
 mod sources;
-mod states;
 
 pub use laws::{
     read_gives_back, restore_written_over, restored_stays, same_written_over, session_written_over,

@@ -1,6 +1,6 @@
 use Rattle.std.proofs.Common.{arith}
 use Rattle.nor_session.proofs.Changed.{touched_most}
-use Rattle.nor_session.proofs.states.Done.check.Goals as goal
+use Rattle.nor_session.proofs.kept.Done.check.Goals as goal
 
 pub overflow_add-result : goal.overflow_add-result
 overflow_add-result g c =

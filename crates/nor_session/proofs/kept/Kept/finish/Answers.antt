@@ -1,6 +1,6 @@
 use Rattle.std.proofs.lemmas.Result.{IfOk-weaker}
 use Rattle.nor_session.proofs.Changed.{checked, fits_work}
-use Rattle.nor_session.proofs.states.Kept.finish.Goals as goal
+use Rattle.nor_session.proofs.kept.Kept.finish.Goals as goal
 
 pub check-requires-clause-fits : goal.check-requires-clause-fits
 check-requires-clause-fits g c =
