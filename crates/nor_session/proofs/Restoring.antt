@@ -23,7 +23,7 @@ use Rattle.nor_apply.proofs.Kept.{fixed_then, kept_fixed}
 use Rattle.nor_save.specs.declared.report.Report.{Report}
 use Rattle.nor_save.specs.declared.refusal.Refusal.{Refusal}
 use Rattle.nor_save.specs.declared.refusal.Refusal.TheVariants.{Stopped, Timeout, Mismatch}
-use Rattle.nor_session.specs.declared.preparing.Prepared.{Prepared}
+use Rattle.nor_session.specs.declared.prepare.Prepared.{Prepared}
 use Rattle.nor_probe.specs.Known.{IsModelled}
 use Rattle.nor_save.specs.Opening.{most_opening}
 use Rattle.nor_session.specs.Made.{kinds_of}

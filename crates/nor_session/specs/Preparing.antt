@@ -21,7 +21,7 @@ use Rattle.nor_save.specs.declared.refusal.Refusal.{Refusal}
 use Rattle.nor_save.specs.declared.refusal.Refusal.TheVariants.{OtherUnit, StatusDiffers, Stopped, Timeout}
 use Rattle.nor_save.specs.Scanning.{AreMarks, IsOpen}
 use Rattle.nor_save.specs.Saving.{IsOpening, NoneHeld, SomeHeld}
-use Rattle.nor_session.specs.declared.preparing.Prepared.{Prepared}
+use Rattle.nor_session.specs.declared.prepare.Prepared.{Prepared}
 use Rattle.nor_session.specs.Bounds.{most_looked}
 use Rattle.nor_session.specs.Made.{kinds_of}
 use Rattle.nor_session.specs.Changing.{touched_count}

@@ -20,10 +20,8 @@
 mod judged;
 mod kept;
 mod laws;
-mod preparing;
+mod prepare;
 mod rehearsals;
-mod reopening;
-mod rescanning;
 mod restores;
 mod sessions;
 mod sources;

@@ -4,7 +4,7 @@ ghost use Rattle.nor_probe.specs.Known.{IsModelled};
 ghost use Rattle.nor_session.specs.Restore.{RestoreAlways, RestoreHonest, RestoreModelled};
 
 use crate::kept::{Kept, WayBack};
-use crate::preparing::prepare;
+use crate::prepare::prepare;
 use crate::sources::Saved;
 use nor_chip::Bus;
 use nor_journal::Journal;

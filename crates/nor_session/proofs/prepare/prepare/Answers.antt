@@ -6,7 +6,7 @@ use Rattle.nor_apply.proofs.CheckingLooks.{looks_then, looks_more}
 use Rattle.nor_session.specs.Bounds.{most_looked}
 use Rattle.nor_session.specs.Preparing.{PrepareTells}
 use Rattle.nor_session.proofs.Changeable.{AreRead, shut_tells, prepared_all}
-use Rattle.nor_session.proofs.preparing.prepare.Goals as goal
+use Rattle.nor_session.proofs.prepare.prepare.Goals as goal
 
 pub returns-in_err-changes-clause-tells : goal.returns-in_err-changes-clause-tells
 returns-in_err-changes-clause-tells g c =

@@ -1,7 +1,7 @@
 use Rattle.std.proofs.Common.{rules, arith}
 use Rattle.nor_journal.proofs.Saved.{saved_few}
 use Rattle.nor_session.proofs.Rescanned.{nothing_rescanned, rescanned_more, all_rescanned}
-use Rattle.nor_session.proofs.rescanning.scan_saved.Goals as goal
+use Rattle.nor_session.proofs.prepare.scan_saved.Goals as goal
 
 pub loop-i-init : goal.loop-i-init
 loop-i-init g c = nothing_rescanned c.args.journal.now (g.B.Bus.state c.args.bus.now) c.none-scanned.result c.none-scanned.ensures

@@ -4,7 +4,7 @@ use Rattle.nor_probe.specs.Found.{most_probe}
 use Rattle.nor_save.specs.Opening.{most_opening}
 use Rattle.nor_apply.proofs.CheckingLooks.{looks_then, looks_more}
 use Rattle.nor_session.proofs.Reopened.{probe_tells}
-use Rattle.nor_session.proofs.reopening.open_of_kind.Goals as goal
+use Rattle.nor_session.proofs.prepare.open_of_kind.Goals as goal
 
 pub returns-in_err-probed-clause-tells : goal.returns-in_err-probed-clause-tells
 returns-in_err-probed-clause-tells g c =

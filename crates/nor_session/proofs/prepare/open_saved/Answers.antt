@@ -2,7 +2,7 @@ use Rattle.std.proofs.Common.{arith}
 use Rattle.std.proofs.lemmas.Grind.{common_steps}
 use Rattle.nor_save.specs.Opening.{most_opening}
 use Rattle.nor_session.proofs.Reopened.{unit_tells, opening_of, kind_of}
-use Rattle.nor_session.proofs.reopening.open_saved.Goals as goal
+use Rattle.nor_session.proofs.prepare.open_saved.Goals as goal
 
 pub returns-in_err-judge_unit-clause-tells : goal.returns-in_err-judge_unit-clause-tells
 returns-in_err-judge_unit-clause-tells g c =
