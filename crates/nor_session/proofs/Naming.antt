@@ -16,7 +16,7 @@ use Rattle.nor_save.specs.Opening.{OpeningTells, most_opening}
 use Rattle.nor_save.specs.Judging.{IsOpeningRefusal}
 use Rattle.nor_session.specs.Changing.{NamesTouchedSector}
 use Rattle.nor_session.specs.Session.{SavesSector, NamesSector, NamesAddress}
-use Rattle.nor_session.specs.Preparing.{PrepareTells}
+use Rattle.nor_session.specs.Prepare.{PrepareTells}
 
 -- a scan waits for nothing
 pub keep_names : (request : Request) (opening : Opening) (code : ℕ) (image : List ℕ) (old new : BusState) (refusal : Refusal)

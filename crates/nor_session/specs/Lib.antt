@@ -6,7 +6,7 @@ pub mod Session
 pub mod Judged
 pub mod Restore
 pub mod WrittenOver
-pub mod Preparing
+pub mod Prepare
 pub mod InTurn
 pub mod Rehearsal
 pub mod Rehearsing

@@ -7,9 +7,9 @@ ghost use Rattle.nor_plan.specs.SectorSet.{has, LiesBelow};
 ghost use Rattle.nor_save.specs.Opening.{Opens, most_opening};
 ghost use Rattle.nor_save.specs.declared.refusal.Refusal.TheVariants as Refusals;
 ghost use Rattle.nor_session.specs.Bounds.{most_looked};
-ghost use Rattle.nor_session.specs.Preparing.{IsOfKindFound, IsUnitRefusal, FitsOpening, ShowsFixed};
-ghost use Rattle.nor_session.specs.Preparing.{AcceptsUnit, RefusesUnit, PlansSaved, ScansSaved};
-ghost use Rattle.nor_session.specs.Preparing.{AreChanges, MakesChanges, RefusesShut, IsPrepared, PrepareTells};
+ghost use Rattle.nor_session.specs.Prepare.{IsOfKindFound, IsUnitRefusal, FitsOpening, ShowsFixed};
+ghost use Rattle.nor_session.specs.Prepare.{AcceptsUnit, RefusesUnit, PlansSaved, ScansSaved};
+ghost use Rattle.nor_session.specs.Prepare.{AreChanges, MakesChanges, RefusesShut, IsPrepared, PrepareTells};
 
 use nor_apply::Changes;
 use nor_chip::{Bus, Status, Stopped};

@@ -4,7 +4,7 @@ use Rattle.nor_save.specs.declared.refusal.Refusal.TheVariants.{StatusLocked}
 use Rattle.nor_save.specs.Opening.{most_opening}
 use Rattle.nor_apply.proofs.CheckingLooks.{looks_then, looks_more}
 use Rattle.nor_session.specs.Bounds.{most_looked}
-use Rattle.nor_session.specs.Preparing.{PrepareTells}
+use Rattle.nor_session.specs.Prepare.{PrepareTells}
 use Rattle.nor_session.proofs.Changeable.{AreRead, shut_tells, prepared_all}
 use Rattle.nor_session.proofs.prepare.prepare.Goals as goal
 
