@@ -20,12 +20,14 @@ mod judging;
 mod opening;
 mod refusal;
 mod report;
+mod request;
 mod saving;
 mod scanning;
 
 pub use judging::{first_held, judge_opening};
 pub use opening::{Opening, open, read_on};
 pub use refusal::Refusal;
-pub use report::{Report, Request, What};
+pub use report::Report;
+pub use request::{Request, What};
 pub use saving::{SavedScan, keep};
 pub use scanning::Scanned;

@@ -15,7 +15,7 @@ use Rattle.nor_apply.specs.Content.{once_erased, is_programmed}
 use Rattle.nor_apply.proofs.Changing.{within_then, same_within}
 use Rattle.nor_apply.proofs.Counting.{count_below-none}
 use Rattle.nor_save.specs.declared.report.Report.{Report}
-use Rattle.nor_save.specs.declared.report.Request.{Request}
+use Rattle.nor_save.specs.declared.request.Request.{Request}
 use Rattle.nor_save.specs.Request.{is_touched_by}
 use Rattle.nor_save.specs.Saving.{head_of}
 use Rattle.nor_save.proofs.Planned.{untouched, unraised}

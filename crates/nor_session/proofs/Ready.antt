@@ -19,9 +19,9 @@ use Rattle.nor_apply.specs.Applying.{status_writes, writes_code}
 use Rattle.nor_apply.proofs.ProgrammingWhole.{room}
 use Rattle.nor_save.specs.declared.opening.Opening.{Opening}
 use Rattle.nor_save.specs.declared.saving.SavedScan.{SavedScan}
-use Rattle.nor_save.specs.declared.report.Request.{Request}
-use Rattle.nor_save.specs.declared.report.What.{What}
-use Rattle.nor_save.specs.declared.report.What.TheVariants.{Write, Erase, WpRange}
+use Rattle.nor_save.specs.declared.request.Request.{Request}
+use Rattle.nor_save.specs.declared.request.What.{What}
+use Rattle.nor_save.specs.declared.request.What.TheVariants.{Write, Erase, WpRange}
 use Rattle.nor_save.specs.Request.{is_data, scanned_sectors}
 use Rattle.nor_save.specs.Opening.{status_read, Opens, most_opening}
 use Rattle.nor_save.specs.Judging.{Lifts}

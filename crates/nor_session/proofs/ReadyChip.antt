@@ -10,7 +10,7 @@ use Rattle.nor_probe.specs.declared.table.ChipName.{ChipName}
 use Rattle.nor_probe.specs.Found.{IsConfigOf, part_in}
 use Rattle.nor_apply.specs.Spending.{Spends}
 use Rattle.nor_save.specs.declared.opening.Opening.{Opening}
-use Rattle.nor_save.specs.declared.report.Request.{Request}
+use Rattle.nor_save.specs.declared.request.Request.{Request}
 use Rattle.nor_save.specs.declared.refusal.Refusal.{Refusal}
 use Rattle.nor_save.specs.declared.refusal.Refusal.TheVariants.{Vault, Stopped, Timeout, StatusLocked, Protected}
 use Rattle.nor_save.specs.Refusal.{number_of}

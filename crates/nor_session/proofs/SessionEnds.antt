@@ -25,7 +25,7 @@ use Rattle.nor_apply.proofs.Counting.{any_below-false, any_below-same, count_bel
 use Rattle.nor_apply.proofs.Kept.{fixed_then, kept_fixed}
 use Rattle.nor_save.specs.declared.opening.Opening.{Opening}
 use Rattle.nor_save.specs.declared.saving.SavedScan.{SavedScan}
-use Rattle.nor_save.specs.declared.report.Request.{Request}
+use Rattle.nor_save.specs.declared.request.Request.{Request}
 use Rattle.nor_save.specs.Request.{is_data, wanted, scanned_sectors, is_touched_by, is_raised_by}
 use Rattle.nor_save.specs.Opening.{Opens, most_opening}
 use Rattle.nor_save.specs.Saving.{IsOpening, OpeningAccepts}

@@ -4,7 +4,7 @@ use Rattle.nor_chip.specs.Chip.{IsChip}
 use Rattle.nor_chip.specs.Bus.{BusState}
 use Rattle.nor_journal.specs.Text.{Content, IsContent, text}
 use Rattle.nor_journal.specs.Vault.{VaultState}
-use Rattle.nor_save.specs.declared.report.Request.{Request}
+use Rattle.nor_save.specs.declared.request.Request.{Request}
 use Rattle.nor_save.specs.declared.report.Report.{Report}
 use Rattle.nor_probe.specs.Known.{IsModelled}
 use Rattle.nor_session.specs.Session.{CanBeUndone}

@@ -10,8 +10,8 @@ use Rattle.nor_journal.specs.Saved.{is_saved, JournalSaves}
 use Rattle.nor_probe.specs.Known.{IsKnown, IsModelled}
 use Rattle.nor_apply.specs.Counts.{sector_count}
 use Rattle.nor_apply.specs.Within.{IsWithin, places_of}
-use Rattle.nor_save.specs.declared.report.Request.{Request}
-use Rattle.nor_save.specs.declared.report.What.{What}
+use Rattle.nor_save.specs.declared.request.Request.{Request}
+use Rattle.nor_save.specs.declared.request.What.{What}
 use Rattle.nor_save.specs.declared.refusal.Refusal.{Refusal}
 use Rattle.nor_save.specs.Request.{wanted, is_touched_by, IsWantedCode}
 use Rattle.nor_save.specs.Saving.{head_of, NoneHeld}

@@ -6,7 +6,7 @@ ghost use Rattle.nor_chip.specs.Chip.{Chip, IsChip, IsSame};
 ghost use Rattle.nor_journal.specs.Text.{Content, IsContent, text};
 ghost use Rattle.nor_journal.specs.Vault.{VaultState};
 ghost use Rattle.nor_save.specs.declared.report.Report.{Report};
-ghost use Rattle.nor_save.specs.declared.report.Request.{Request};
+ghost use Rattle.nor_save.specs.declared.request.Request.{Request};
 ghost use Rattle.nor_probe.specs.Known.{IsModelled};
 ghost use Rattle.nor_session.specs.InTurn.{LeavesJournal, ChangesNothing};
 ghost use Rattle.nor_session.specs.Restore.{SavesChip, IsRestored, CanGiveBack};
