@@ -42,7 +42,7 @@ SUBJECTS = {
     "Touched and raised sectors": "nor_apply: specs/Content specs/Counts",
     "What a request wants": "nor_save: specs/Request",
     "The vault": "nor_journal: src/vault specs/Vault src/mem_vault specs/MemVault",
-    "The journal": "nor_journal: specs/Number specs/Text src/fault src/journal specs/Saved nor_save: specs/Keeping",
+    "The journal": "nor_journal: specs/Number specs/Text src/fault src/journal specs/Saved nor_save: specs/SavedScan",
     "Refusals": "nor_save: src/refusal specs/Refusal",
     "What each refusal says, and the verdict": "nor_save: specs/Saving specs/Judging nor_session: specs/Verdict",
     "A chip that can be given back": "nor_apply: specs/Within specs/Change nor_session: specs/Changing",

@@ -9,7 +9,7 @@ use crate::sources::Image;
 use nor_apply::Changes;
 use nor_chip::Bus;
 use nor_journal::Vault;
-use nor_save::{Opening, Refusal, Report, Request, keep};
+use nor_save::{Opening, Refusal, Report, Request, save};
 
 /// The opening is judged, and nothing saved yet. What a session uses is held from here to its answer.
 pub(crate) struct Judged<'a, B: Bus, V: Vault> {
@@ -38,14 +38,14 @@ impl<'a, B: Bus, V: Vault> Judged<'a, B, V> {
             opening,
             code,
         } = self;
-        let kept = keep(bus, vault, image, request, &opening, code)?;
+        let saved = save(bus, vault, image, request, &opening, code)?;
         let changes = Changes {
-            touched: kept.scanned.touched,
-            raised: kept.scanned.raised,
+            touched: saved.scanned.touched,
+            raised: saved.scanned.raised,
             kinds: opening.found.kinds,
             size: opening.found.size,
             status: opening.status(),
-            unlock: kept.unlock,
+            unlock: saved.unlock,
             code,
         };
         let kept_chip = Kept {
@@ -57,10 +57,10 @@ impl<'a, B: Bus, V: Vault> Judged<'a, B, V> {
         let work = kept_chip.finish(request.verify)?;
         Ok(Report {
             found: opening.found,
-            touched: kept.scanned.count,
+            touched: saved.scanned.count,
             erases: work.erases,
             programs: work.programs,
-            transactions: opening.transactions + u64::from(kept.scanned.reads) + work.transactions,
+            transactions: opening.transactions + u64::from(saved.scanned.reads) + work.transactions,
         })
     }
 }

@@ -10,10 +10,10 @@ use Rattle.nor_plan.specs.SectorSet.{has}
 use Rattle.nor_apply.specs.Change.{none}
 use Rattle.nor_save.specs.Request.{is_touched_by}
 use Rattle.nor_save.specs.Saving.{head_of}
-use Rattle.nor_save.specs.Keeping.{KeepTells, KeepBegins}
+use Rattle.nor_save.specs.SavedScan.{SaveTells, SaveBegins}
 use Rattle.nor_save.proofs.KeptHeads.{same_bytes, is_open, touched_right, raised_right, merged_right, judged_tells, accepts_touched, kept_touched, head_same}
 use Rattle.nor_save.proofs.Begun.{begun_none, with_none, begins_of, begins_all, err_same, unless_refused_err}
-use Rattle.nor_save.proofs.saving.keep.Goals as goal
+use Rattle.nor_save.proofs.saving.save.Goals as goal
 
 pub header-requires-clause-size : goal.header-requires-clause-size
 header-requires-clause-size g c =
@@ -24,7 +24,7 @@ pub returns-in_err-unlock-clause-tells : goal.returns-in_err-unlock-clause-tells
 returns-in_err-unlock-clause-tells g c =
     let old = g.B.Bus.state c.args.bus.now in
     let scans = c.in_ok-scanned.ensures.scans in
-    let before : KeepTells c.args.request.now c.args.opening.now c.args.code c.args.image.now old (g.B.Bus.state c.scan_all.new.bus) c.in_err-unlock.field-0.0
+    let before : SaveTells c.args.request.now c.args.opening.now c.args.code c.args.image.now old (g.B.Bus.state c.scan_all.new.bus) c.in_err-unlock.field-0.0
     = judged_tells c.args.request.now c.args.opening.now c.args.code c.args.image.now old (g.B.Bus.state c.scan_all.new.bus) (has c.in_ok-scanned.scanned.touched) c.in_err-unlock.field-0.0 c.in_err-unlock.ensures.faults
     (λ chip is shows. touched_right c.args.request.now c.args.image.now c.args.opening.now chip old c.in_ok-scanned.scanned is shows (scans.right (is_open chip c.args.opening.now old is shows)))
     (λ chip is. c.in_err-unlock.ensures.tells chip is) in
@@ -79,24 +79,24 @@ pub returns-in_err-scanned-clause-begins : goal.returns-in_err-scanned-clause-be
 returns-in_err-scanned-clause-begins g c =
     let old = g.B.Bus.state c.args.bus.now in
     let opening = c.args.opening.now in
-    let begins : KeepBegins c.args.request.now opening c.args.image.now old (vault_seen g.V.Vault.state c.scan_all.new.writer) c.in_err-scanned.field-0.0
+    let begins : SaveBegins c.args.request.now opening c.args.image.now old (vault_seen g.V.Vault.state c.scan_all.new.writer) c.in_err-scanned.field-0.0
     = λ other telling chip is shows.
     let head = head_same chip opening c.bytes.result is (let small = (g.met.B.Bus.reaches c.args.bus.now shows.honest).kept2 in let same = shows.same.kept2 in omega arith) (grind (arith, common_steps)) in
     let begun = HasKept-none g.V.Vault.state c.header.new.self opening.found.id _ c.bytes.result opening.found.size old.chip.bytes none 0 (c.in_ok-header.ensures.written c.on-writer.ensures.nothing) (λ s. refl) in
     let kept : HasPutSectors g.V.Vault.state c.header.new.self (head_of chip) old.chip.bytes none 0 = subst (λ (h : Content). HasPutSectors g.V.Vault.state c.header.new.self h old.chip.bytes none 0) head begun in
     begins_of g.V.Vault.state c.scan_all.new.writer c.args.request.now c.args.image.now opening.found.size chip old.chip.bytes (same_bytes chip old shows) is.config.size telling
     (c.in_err-scanned.ensures.begins (is_open chip opening old is shows) (head_of chip) (sym is.config.size) kept other) in
-    let told : IfErr c.from_residual-in_err-scanned.result (KeepBegins c.args.request.now opening c.args.image.now old (vault_seen g.V.Vault.state c.scan_all.new.writer))
-    = err_same c.from_residual-in_err-scanned.result c.in_err-scanned.field-0.0 (KeepBegins c.args.request.now opening c.args.image.now old (vault_seen g.V.Vault.state c.scan_all.new.writer)) c.from_residual-in_err-scanned.ensures.1 begins in
+    let told : IfErr c.from_residual-in_err-scanned.result (SaveBegins c.args.request.now opening c.args.image.now old (vault_seen g.V.Vault.state c.scan_all.new.writer))
+    = err_same c.from_residual-in_err-scanned.result c.in_err-scanned.field-0.0 (SaveBegins c.args.request.now opening c.args.image.now old (vault_seen g.V.Vault.state c.scan_all.new.writer)) c.from_residual-in_err-scanned.ensures.1 begins in
     let same : vault_seen g.V.Vault.state c.scan_all.new.writer ≡ g.V.Vault.state c.in_err-scanned.vault-in-Break-branch-2-1-own.given.0 = search rules in
-    subst (λ (v : VaultState). IfErr c.from_residual-in_err-scanned.result (KeepBegins c.args.request.now opening c.args.image.now old v)) same told
+    subst (λ (v : VaultState). IfErr c.from_residual-in_err-scanned.result (SaveBegins c.args.request.now opening c.args.image.now old v)) same told
 
 pub returns-in_err-unlock-clause-begins : goal.returns-in_err-unlock-clause-begins
 returns-in_err-unlock-clause-begins g c =
     let old = g.B.Bus.state c.args.bus.now in
     let opening = c.args.opening.now in
     let scans = c.in_ok-scanned.ensures.scans in
-    let begins : KeepBegins c.args.request.now opening c.args.image.now old (vault_seen g.V.Vault.state c.scan_all.new.writer) c.in_err-unlock.field-0.0
+    let begins : SaveBegins c.args.request.now opening c.args.image.now old (vault_seen g.V.Vault.state c.scan_all.new.writer) c.in_err-unlock.field-0.0
     = λ other telling chip is shows.
     let open_now = is_open chip opening old is shows in
     let touched = touched_right c.args.request.now c.args.image.now opening chip old c.in_ok-scanned.scanned is shows (scans.right open_now) in
@@ -107,10 +107,10 @@ returns-in_err-unlock-clause-begins g c =
     let marked = kept_touched g.V.Vault.state c.scan_all.new.writer (head_of chip) old.chip.bytes chip.bytes (has c.in_ok-scanned.scanned.touched) (is_touched_by c.args.request.now c.args.image.now chip) (opening.found.size / 4096)
     (same_bytes chip old shows) touched scanned in
     begins_all g.V.Vault.state c.scan_all.new.writer c.args.request.now c.args.image.now chip (opening.found.size / 4096) telling marked in
-    let told : IfErr c.from_residual-in_err-unlock.result (KeepBegins c.args.request.now opening c.args.image.now old (vault_seen g.V.Vault.state c.scan_all.new.writer))
-    = err_same c.from_residual-in_err-unlock.result c.in_err-unlock.field-0.0 (KeepBegins c.args.request.now opening c.args.image.now old (vault_seen g.V.Vault.state c.scan_all.new.writer)) c.from_residual-in_err-unlock.ensures.1 begins in
+    let told : IfErr c.from_residual-in_err-unlock.result (SaveBegins c.args.request.now opening c.args.image.now old (vault_seen g.V.Vault.state c.scan_all.new.writer))
+    = err_same c.from_residual-in_err-unlock.result c.in_err-unlock.field-0.0 (SaveBegins c.args.request.now opening c.args.image.now old (vault_seen g.V.Vault.state c.scan_all.new.writer)) c.from_residual-in_err-unlock.ensures.1 begins in
     let same : vault_seen g.V.Vault.state c.scan_all.new.writer ≡ g.V.Vault.state c.in_err-unlock.vault-in-Break-branch-3-1-own.given.0 = search rules in
-    subst (λ (v : VaultState). IfErr c.from_residual-in_err-unlock.result (KeepBegins c.args.request.now opening c.args.image.now old v)) same told
+    subst (λ (v : VaultState). IfErr c.from_residual-in_err-unlock.result (SaveBegins c.args.request.now opening c.args.image.now old v)) same told
 
 pub returns-in_err-end-clause-begins : goal.returns-in_err-end-clause-begins
 returns-in_err-end-clause-begins g c = unless_refused_err c.from_residual-in_err-end.result _ c.from_residual-in_err-end.ensures.1

@@ -19,10 +19,10 @@ use Rattle.nor_save.specs.Saving.{IsOpening, Shows, ScanAccepts, ScanJudges, hea
 
 -- What is left of the vault: sealed at the end; unsealed at a refusal, which is one more failure where it is the
 -- vault's.
-abbrev pub KeepPuts : Result SavedScan Refusal → (old new : VaultState) → Type 0
-KeepPuts (Ok kept) old new = Completed old new
-KeepPuts (Err Vault) old new = Refused old new
-KeepPuts (Err _) old new = Accepted old new
+abbrev pub SavePuts : Result SavedScan Refusal → (old new : VaultState) → Type 0
+SavePuts (Ok saved) old new = Completed old new
+SavePuts (Err Vault) old new = Refused old new
+SavePuts (Err _) old new = Accepted old new
 
 -- The bytes are a journal.
 pub record IsJournal (bytes : List ℕ) : Type 0 where
@@ -44,23 +44,23 @@ HoldsJournal vault = vault.sealed ≡ true → vault.telling ≡ true → IsJour
 -- Of a chip with this opening: the marks are those of the touched and the raised sectors, nothing is refused of them,
 -- the image has what is wanted of the touched ones, and a telling vault has the journal of the chip, which saves just
 -- these.
-pub record KeepsChip (request : Request) (code : ℕ) (image image' : List ℕ)
-    (chip : Chip) (vault : VaultState) (kept : SavedScan) : Type 0 where
-  pub touched : (s : ℕ) → has kept.scanned.touched s ≡ is_touched_by request image chip s
-  pub raised : (s : ℕ) → has kept.scanned.raised s ≡ is_raised_by request image chip s
-  pub accepts : ScanAccepts request code (is_touched_by request image chip) chip kept.unlock
-  pub merged : (a : ℕ) → has kept.scanned.touched (a / 4096) ≡ true
+pub record HasSavedChip (request : Request) (code : ℕ) (image image' : List ℕ)
+    (chip : Chip) (vault : VaultState) (saved : SavedScan) : Type 0 where
+  pub touched : (s : ℕ) → has saved.scanned.touched s ≡ is_touched_by request image chip s
+  pub raised : (s : ℕ) → has saved.scanned.raised s ≡ is_raised_by request image chip s
+  pub accepts : ScanAccepts request code (is_touched_by request image chip) chip saved.unlock
+  pub merged : (a : ℕ) → has saved.scanned.touched (a / 4096) ≡ true
       → slice_index image' a ≡ wanted request image chip a
   pub journal : vault.telling ≡ true
       → JournalSaves (head_of chip) chip.bytes (is_touched_by request image chip) vault.bytes
 
 -- The touched sectors are known, may be changed, and stand in the journal.
-pub record Keeps (request : Request) (opening : Opening) (code : ℕ) (image image' : List ℕ)
-    (old new : BusState) (vault : VaultState) (kept : SavedScan) : Type 0 where
-  pub lifts : Lifts request kept.scanned.touched kept.unlock
-  pub scans : Scans request opening.found.size image image' old new kept.scanned
+pub record HasSaved (request : Request) (opening : Opening) (code : ℕ) (image image' : List ℕ)
+    (old new : BusState) (vault : VaultState) (saved : SavedScan) : Type 0 where
+  pub lifts : Lifts request saved.scanned.touched saved.unlock
+  pub scans : Scans request opening.found.size image image' old new saved.scanned
   pub chip : (chip : Chip) → IsOpening chip opening → Shows chip old
-      → KeepsChip request code image image' chip vault kept
+      → HasSavedChip request code image image' chip vault saved
 
 -- what a refusal tells, of the touched sectors of a chip with this opening
 abbrev pub JudgesChip : Request → Opening → ℕ → List ℕ → BusState → Refusal → Type 0
@@ -68,14 +68,14 @@ JudgesChip request opening code image old refusal =
     (chip : Chip) → IsOpening chip opening → Shows chip old
     → ScanJudges request code (is_touched_by request image chip) chip refusal
 
-abbrev pub KeepTells : Request → Opening → ℕ → List ℕ → (old new : BusState) → Refusal → Type 0
-KeepTells request opening code image old new Stopped =
+abbrev pub SaveTells : Request → Opening → ℕ → List ℕ → (old new : BusState) → Refusal → Type 0
+SaveTells request opening code image old new Stopped =
     RanOutIfHonest (scanned_sectors request opening.found.size) old new
-KeepTells request opening code image old new Vault = ⊤
-KeepTells request opening code image old new StatusLocked = JudgesChip request opening code image old StatusLocked
-KeepTells request opening code image old new (Protected address) =
+SaveTells request opening code image old new Vault = ⊤
+SaveTells request opening code image old new StatusLocked = JudgesChip request opening code image old StatusLocked
+SaveTells request opening code image old new (Protected address) =
     JudgesChip request opening code image old (Protected address)
-KeepTells request opening code image old new _ = ⊥
+SaveTells request opening code image old new _ = ⊥
 
 -- A beginning of the journal of a chip in which these sectors are touched: its head, and the records of those that lie
 -- below some bound.
@@ -87,7 +87,7 @@ pub record BeginsJournal (head : Content) (chip : ℕ → ℕ) (touched : ℕ �
   pub is : bytes ≡ front content
 
 -- what a telling vault has after a refusal that isn't its own
-abbrev pub KeepBegins : Request → Opening → List ℕ → BusState → VaultState → Refusal → Type 0
-KeepBegins request opening image old vault refusal = refusal ≢ Vault → vault.telling ≡ true
+abbrev pub SaveBegins : Request → Opening → List ℕ → BusState → VaultState → Refusal → Type 0
+SaveBegins request opening image old vault refusal = refusal ≢ Vault → vault.telling ≡ true
     → (chip : Chip) → IsOpening chip opening → Shows chip old
     → BeginsJournal (head_of chip) chip.bytes (is_touched_by request image chip) vault.bytes
