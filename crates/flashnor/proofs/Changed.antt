@@ -6,7 +6,7 @@ use Rattle.nor_driver.specs.Looks.{IsCalm, Looks}
 use Rattle.nor_journal.specs.Vault.{VaultState}
 use Rattle.nor_save.specs.Refusal.{number_of}
 use Rattle.nor_session.specs.Bounds.{most_of}
-use Rattle.nor_save.specs.declared.report.Request.{Request}
+use Rattle.nor_save.specs.declared.request.Request.{Request}
 use Rattle.nor_save.specs.declared.refusal.Refusal.{Refusal}
 use Rattle.nor_save.specs.declared.refusal.Refusal.TheVariants as why
 use Rattle.nor_save.specs.declared.report.Report.{Report}

@@ -7,7 +7,7 @@ use Rattle.nor_chip.specs.Start.{status_of}
 use Rattle.nor_files.specs.Files.{AllStay, AreAtRest, FilesState, IsKnown, IsSettled, Name, Stays, View, is_lawful}
 use Rattle.nor_journal.specs.Vault.{VaultState}
 use Rattle.nor_save.specs.declared.refusal.Refusal.{Refusal}
-use Rattle.nor_save.specs.declared.report.Request.{Request}
+use Rattle.nor_save.specs.declared.request.Request.{Request}
 use Rattle.nor_words.specs.Text.{Text}
 use Rattle.nor_words.specs.declared.job.ChipJob.{ChipJob}
 use Rattle.nor_words.specs.declared.job.Keeping.{Keeping}

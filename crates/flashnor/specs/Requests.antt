@@ -5,9 +5,9 @@ use Rattle.nor_layout.specs.declared.region.Region.{Region}
 use Rattle.nor_layout.specs.Grammar.{IsLayout}
 use Rattle.nor_layout.specs.Included.{is_included}
 use Rattle.nor_layout.specs.Ranges.{contains}
-use Rattle.nor_save.specs.declared.report.Request.{Request}
-use Rattle.nor_save.specs.declared.report.What.{What}
-use Rattle.nor_save.specs.declared.report.What.TheVariants as what
+use Rattle.nor_save.specs.declared.request.Request.{Request}
+use Rattle.nor_save.specs.declared.request.What.{What}
+use Rattle.nor_save.specs.declared.request.What.TheVariants as what
 use Rattle.nor_words.specs.declared.job.Change.{Change}
 use Rattle.nor_words.specs.declared.job.Regions.{Regions}
 use Rattle.nor_words.specs.declared.job.Wanted.{Wanted}

@@ -15,10 +15,10 @@ use Rattle.nor_save.specs.declared.refusal.Refusal.{Refusal}
 use Rattle.nor_save.specs.declared.refusal.Refusal.TheVariants.{Vault}
 use Rattle.nor_save.specs.declared.scanning.Scanned.{Scanned}
 use Rattle.nor_save.specs.Scanning.{wanted_at, AreRight, HasBegun, HasBegunWith, UnlessVault, HasKeptBelow}
-use Rattle.nor_save.specs.Keeping.{BeginsJournal}
+use Rattle.nor_save.specs.SavedScan.{BeginsJournal}
 use Rattle.nor_save.specs.Saving.{head_of}
 use Rattle.nor_save.specs.Request.{wanted, is_touched_by}
-use Rattle.nor_save.specs.declared.report.Request.{Request}
+use Rattle.nor_save.specs.declared.request.Request.{Request}
 use Rattle.nor_save.proofs.Parts.{kept_same}
 use Rattle.nor_apply.specs.Content.{is_touched}
 use Rattle.nor_plan.specs.SectorSet.{has}

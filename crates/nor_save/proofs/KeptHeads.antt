@@ -13,7 +13,7 @@ use Rattle.nor_journal.specs.Writer.{HasPutSectors}
 use Rattle.nor_plan.specs.SectorSet.{has}
 use Rattle.nor_apply.specs.Content.{is_touched, is_raised}
 use Rattle.nor_save.specs.declared.opening.Opening.{Opening}
-use Rattle.nor_save.specs.declared.report.Request.{Request}
+use Rattle.nor_save.specs.declared.request.Request.{Request}
 use Rattle.nor_save.specs.declared.refusal.Refusal.{Refusal}
 use Rattle.nor_save.specs.declared.refusal.Refusal.TheVariants.{StatusLocked, Protected}
 use Rattle.nor_save.specs.declared.scanning.Scanned.{Scanned}
@@ -21,7 +21,7 @@ use Rattle.nor_save.specs.Request.{wanted, is_touched_by, is_raised_by}
 use Rattle.nor_save.specs.Scanning.{wanted_at, AreRight, IsOpen}
 use Rattle.nor_save.specs.Saving.{IsOpening, Shows, ScanJudges, ScanAccepts, head_of}
 use Rattle.nor_save.specs.Judging.{IsScanRefusal}
-use Rattle.nor_save.specs.Keeping.{KeepTells}
+use Rattle.nor_save.specs.SavedScan.{SaveTells}
 
 -- the bytes of a chip that the bus has
 pub same_bytes : (chip : Chip) (state : BusState) → Shows chip state → state.chip.bytes ≡ chip.bytes
@@ -67,7 +67,7 @@ merged_right request image opening chip state a x is shows merged =
 -- a judgement of the scan tells of the touched sectors
 pub judged_tells : (request : Request) (opening : Opening) (code : ℕ) (image : List ℕ) (old new : BusState) (touched : ℕ → Bool) (refusal : Refusal) → IsScanRefusal refusal
     → ((chip : Chip) → IsOpening chip opening → Shows chip old → (s : ℕ) → touched s ≡ is_touched_by request image chip s)
-    → ((chip : Chip) → IsOpening chip opening → ScanJudges request code touched chip refusal) → KeepTells request opening code image old new refusal
+    → ((chip : Chip) → IsOpening chip opening → ScanJudges request code touched chip refusal) → SaveTells request opening code image old new refusal
 judged_tells request opening code image old new touched StatusLocked is right judges =
     λ chip opened shows. subst (λ (set : ℕ → Bool). ScanJudges request code set chip StatusLocked) (fun_ext (right chip opened shows)) (judges chip opened)
 judged_tells request opening code image old new touched (Protected address) is right judges =

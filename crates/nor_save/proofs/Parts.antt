@@ -12,7 +12,7 @@ use Rattle.nor_journal.specs.Writer.{HasPutSectors}
 use Rattle.nor_journal.specs.declared.writer.Writer.{Writer}
 use Rattle.nor_plan.specs.SectorSet.{has}
 use Rattle.nor_plan.specs.declared.plan.SectorPlan.{SectorPlan}
-use Rattle.nor_save.specs.declared.report.Request.{Request}
+use Rattle.nor_save.specs.declared.request.Request.{Request}
 use Rattle.nor_save.specs.declared.scanning.Scanned.{Scanned}
 use Rattle.nor_save.specs.Scanning.{IsOpen, HasMarked, ScansSector}
 use Rattle.nor_save.proofs.Rests.{HasLooked}

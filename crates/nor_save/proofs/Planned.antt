@@ -10,9 +10,9 @@ use Rattle.nor_layout.specs.Sectors.{includes}
 use Rattle.nor_plan.specs.Plan.{AreBytesOf, IsPlan}
 use Rattle.nor_plan.specs.declared.plan.SectorPlan.{SectorPlan}
 use Rattle.nor_apply.specs.Content.{is_other, must_rise, is_touched, is_raised}
-use Rattle.nor_save.specs.declared.report.Request.{Request}
-use Rattle.nor_save.specs.declared.report.What.{What}
-use Rattle.nor_save.specs.declared.report.What.TheVariants.{Write, Erase, WpRange}
+use Rattle.nor_save.specs.declared.request.Request.{Request}
+use Rattle.nor_save.specs.declared.request.What.{What}
+use Rattle.nor_save.specs.declared.request.What.TheVariants.{Write, Erase, WpRange}
 use Rattle.nor_save.specs.Request.{is_data, target, is_requested}
 use Rattle.nor_save.specs.Scanning.{wanted_at, IsOpen, ScansSector}
 use Rattle.nor_layout.specs.Below.{any_below}

@@ -14,7 +14,7 @@ use Rattle.nor_plan.specs.SectorSet.{has}
 use Rattle.nor_plan.specs.declared.plan.SectorPlan.{SectorPlan}
 use Rattle.nor_apply.specs.Content.{is_touched, is_raised}
 use Rattle.nor_apply.specs.Counts.{sector_count}
-use Rattle.nor_save.specs.declared.report.Request.{Request}
+use Rattle.nor_save.specs.declared.request.Request.{Request}
 use Rattle.nor_save.specs.declared.scanning.Scanned.{Scanned}
 use Rattle.nor_save.specs.Request.{is_data, is_requested, scanned_sectors}
 use Rattle.nor_save.specs.Scanning.{wanted_at, AreMarks, AreRight, IsOpen, IsBlank, HasMarked, ScansSector, Scans}

@@ -4,4 +4,4 @@ pub mod Scanning
 pub mod Opening
 pub mod Judging
 pub mod Saving
-pub mod Keeping
+pub mod SavedScan

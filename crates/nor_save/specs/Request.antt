@@ -5,9 +5,9 @@ use Rattle.nor_chip.specs.Guard.{code_of}
 use Rattle.nor_chip.specs.Offer.{IsLeastCode}
 use Rattle.nor_layout.specs.Sectors.{includes, sectors_included}
 use Rattle.nor_apply.specs.Content.{is_touched, is_raised}
-use Rattle.nor_save.specs.declared.report.Request.{Request}
-use Rattle.nor_save.specs.declared.report.What.{What}
-use Rattle.nor_save.specs.declared.report.What.TheVariants.{Write, WpRange}
+use Rattle.nor_save.specs.declared.request.Request.{Request}
+use Rattle.nor_save.specs.declared.request.What.{What}
+use Rattle.nor_save.specs.declared.request.What.TheVariants.{Write, WpRange}
 
 -- what is asked for is about bytes, not about protection
 abbrev pub is_data : What → Bool

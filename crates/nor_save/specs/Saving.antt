@@ -9,9 +9,9 @@ use Rattle.nor_journal.specs.Text.{Content, empty_content}
 use Rattle.nor_layout.specs.Sectors.{ReachesPast}
 use Rattle.nor_probe.specs.Found.{IsConfigOf}
 use Rattle.nor_save.specs.declared.opening.Opening.{Opening}
-use Rattle.nor_save.specs.declared.report.Request.{Request}
-use Rattle.nor_save.specs.declared.report.What.{What}
-use Rattle.nor_save.specs.declared.report.What.TheVariants.{WpRange}
+use Rattle.nor_save.specs.declared.request.Request.{Request}
+use Rattle.nor_save.specs.declared.request.What.{What}
+use Rattle.nor_save.specs.declared.request.What.TheVariants.{WpRange}
 use Rattle.nor_save.specs.declared.refusal.Refusal.{Refusal}
 use Rattle.nor_save.specs.declared.refusal.Refusal.TheVariants.{ImageSize, RegionOutside, NoProtection, UndefinedProtection, RangeNotOffered, StatusLocked, Protected}
 use Rattle.nor_save.specs.Request.{is_data, IsWantedCode}

@@ -1,11 +1,11 @@
-//! What a session keeps before it changes anything: the sealed journal of the chip.
+//! What a session saves before it changes anything: the sealed journal of the chip.
 ghost use Rattle.std.specs.Prelude.{◌≡◌, ◌/◌, true, length, IfOk, IfErr, IsTrue};
 ghost use Rattle.nor_chip.specs.Size.{is_chip_size};
 ghost use Rattle.nor_driver.specs.Looks.{Looks};
 ghost use Rattle.nor_journal.specs.Vault.{IsFresh};
 ghost use Rattle.nor_plan.specs.SectorSet.{has};
 ghost use Rattle.nor_save.specs.Request.{scanned_sectors, is_data};
-ghost use Rattle.nor_save.specs.Keeping.{Keeps, KeepTells, KeepPuts, HoldsJournal, IsJournalOf, KeepBegins};
+ghost use Rattle.nor_save.specs.SavedScan.{HasSaved, SaveTells, SavePuts, HoldsJournal, IsJournalOf, SaveBegins};
 
 use crate::judging::judge_scan;
 use crate::opening::Opening;
@@ -23,7 +23,7 @@ pub struct SavedScan {
 }
 
 /// Scans the chip, judges what would change, and saves the touched sectors into the vault, which is sealed then.
-pub fn keep<B: Bus, V: Vault>(
+pub fn save<B: Bus, V: Vault>(
     bus: &mut B,
     vault: &mut V,
     image: &mut [u8],
@@ -35,16 +35,16 @@ pub fn keep<B: Bus, V: Vault>(
     requires whole { is_data request.now.what ≡ true → length image.old ≡ opening.now.found.size }
     requires fresh { IsFresh (V.state vault.old) }
     ensures leaves { Looks (scanned_sectors request.now opening.now.found.size) (B.state bus.old) (B.state bus.new) }
-    ensures puts { KeepPuts result (V.state vault.old) (V.state vault.new) }
+    ensures puts { SavePuts result (V.state vault.old) (V.state vault.new) }
     ensures holds { HoldsJournal (V.state vault.new) }
-    ensures saves { IfOk result (λ kept. (V.state vault.new).telling ≡ true
-        → IsJournalOf (has kept.scanned.touched) (V.state vault.new).bytes) }
+    ensures saves { IfOk result (λ saved. (V.state vault.new).telling ≡ true
+        → IsJournalOf (has saved.scanned.touched) (V.state vault.new).bytes) }
     ensures keeps { IfOk result
-        (Keeps request.now opening.now code image.old image.new
+        (HasSaved request.now opening.now code image.old image.new
         (B.state bus.old) (B.state bus.new) (V.state vault.new)) }
-    ensures begins { IfErr result (KeepBegins request.now opening.now image.old (B.state bus.old) (V.state vault.new)) }
+    ensures begins { IfErr result (SaveBegins request.now opening.now image.old (B.state bus.old) (V.state vault.new)) }
     ensures tells { IfErr result
-        (KeepTells request.now opening.now code image.old (B.state bus.old) (B.state bus.new)) }
+        (SaveTells request.now opening.now code image.old (B.state bus.old) (B.state bus.new)) }
 {
     let size = opening.found.size;
     let mut writer = Writer::on(vault);

@@ -60,15 +60,6 @@ impl Scanned {
     }
 }
 
-impl Request {
-    /// It is about bytes, not about protection.
-    pub fn is_data(&self) -> bool
-        ensures { result ≡ is_data self.now.what }
-    {
-        !matches!(self.what, What::WpRange { .. })
-    }
-}
-
 /// Reads a sector that holds an address which may change, takes what may not into the image's part, and plans it.
 fn scan_sector<B: Bus>(
     bus: &mut B,

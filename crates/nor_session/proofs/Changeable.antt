@@ -33,7 +33,7 @@ use Rattle.nor_save.proofs.Rests.{rested_then}
 use Rattle.nor_probe.specs.Known.{IsModelled}
 use Rattle.nor_session.specs.Made.{kinds_of}
 use Rattle.nor_session.specs.Restore.{restored, is_touched_from, is_raised_from, Fits, NeedsStatusFrom}
-use Rattle.nor_session.specs.Preparing.{IsOfKindFound, FitsOpening, PrepareTells, ScansSaved, AreChanges, MayChangeStatus, IsShut, IsPreparedFor, IsPrepared}
+use Rattle.nor_session.specs.Prepare.{IsOfKindFound, FitsOpening, PrepareTells, ScansSaved, AreChanges, MayChangeStatus, IsShut, IsPreparedFor, IsPrepared}
 use Rattle.nor_session.proofs.ReadyChip.{told_idle}
 use Rattle.nor_session.proofs.Reopened.{opening_of}
 use Rattle.nor_session.proofs.Rescanned.{restored_saved}

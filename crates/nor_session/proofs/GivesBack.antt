@@ -19,7 +19,7 @@ use Rattle.nor_probe.specs.Known.{IsGenuine}
 use Rattle.nor_apply.specs.Content.{is_touched}
 use Rattle.nor_apply.specs.Within.{places_of}
 use Rattle.nor_apply.proofs.Changing.{within_wider}
-use Rattle.nor_save.specs.declared.report.Request.{Request}
+use Rattle.nor_save.specs.declared.request.Request.{Request}
 use Rattle.nor_save.specs.Request.{wanted, is_touched_by}
 use Rattle.nor_save.specs.Saving.{head_of}
 use Rattle.nor_session.specs.Restore.{SavesChip, open_places, CanGiveBack}

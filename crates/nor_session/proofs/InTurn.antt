@@ -15,12 +15,12 @@ use Rattle.nor_apply.specs.Content.{once_erased, is_programmed}
 use Rattle.nor_apply.proofs.Changing.{within_then, same_within}
 use Rattle.nor_apply.proofs.Counting.{count_below-none}
 use Rattle.nor_save.specs.declared.report.Report.{Report}
-use Rattle.nor_save.specs.declared.report.Request.{Request}
+use Rattle.nor_save.specs.declared.request.Request.{Request}
 use Rattle.nor_save.specs.Request.{is_touched_by}
 use Rattle.nor_save.specs.Saving.{head_of}
 use Rattle.nor_save.proofs.Planned.{untouched, unraised}
 use Rattle.nor_session.specs.Restore.{restored, is_touched_from, is_raised_from, NeedsStatusFrom, SavesChip, open_places, CanGiveBack, IsRestored}
-use Rattle.nor_session.specs.Following.{LeavesJournal, ChangesNothing}
+use Rattle.nor_session.specs.InTurn.{LeavesJournal, ChangesNothing}
 use Rattle.nor_session.proofs.Rescanned.{restored_saved, restored_other}
 use Rattle.nor_session.proofs.GivesBack.{leads_back, can_give_back}
 use Rattle.nor_session.proofs.Restoring.{restored_back}

@@ -8,7 +8,7 @@ pub mod SavedBytes
 pub mod Reopened
 pub mod Rescanned
 pub mod Naming
-pub mod Judged
+pub mod JudgedStatus
 pub mod RestoredBytes
 pub mod Changeable
 pub mod GivenBack

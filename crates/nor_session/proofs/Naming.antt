@@ -8,22 +8,22 @@ use Rattle.nor_probe.specs.declared.table.ChipName.{ChipName}
 use Rattle.nor_apply.specs.declared.changes.Changes.{Changes}
 use Rattle.nor_apply.specs.Applying.{touched_in}
 use Rattle.nor_save.specs.declared.opening.Opening.{Opening}
-use Rattle.nor_save.specs.declared.report.Request.{Request}
+use Rattle.nor_save.specs.declared.request.Request.{Request}
 use Rattle.nor_save.specs.declared.refusal.Refusal.{Refusal}
 use Rattle.nor_save.specs.declared.refusal.Refusal.TheVariants.{Timeout, Mismatch}
-use Rattle.nor_save.specs.Keeping.{IsJournalOf, KeepTells}
+use Rattle.nor_save.specs.SavedScan.{IsJournalOf, SaveTells}
 use Rattle.nor_save.specs.Opening.{OpeningTells, most_opening}
 use Rattle.nor_save.specs.Judging.{IsOpeningRefusal}
 use Rattle.nor_session.specs.Changing.{NamesTouchedSector}
 use Rattle.nor_session.specs.Session.{SavesSector, NamesSector, NamesAddress}
-use Rattle.nor_session.specs.Preparing.{PrepareTells}
+use Rattle.nor_session.specs.Prepare.{PrepareTells}
 
 -- a scan waits for nothing
-pub keep_names : (request : Request) (opening : Opening) (code : ℕ) (image : List ℕ) (old new : BusState) (refusal : Refusal)
-    → KeepTells request opening code image old new refusal → NamesSector (λ sector. ⊥) refusal
-keep_names request opening code image old new (Timeout address) tells = absurd tells
-keep_names request opening code image old new (Mismatch address) tells = absurd tells
-keep_names request opening code image old new _ tells = tt
+pub save_names : (request : Request) (opening : Opening) (code : ℕ) (image : List ℕ) (old new : BusState) (refusal : Refusal)
+    → SaveTells request opening code image old new refusal → NamesSector (λ sector. ⊥) refusal
+save_names request opening code image old new (Timeout address) tells = absurd tells
+save_names request opening code image old new (Mismatch address) tells = absurd tells
+save_names request opening code image old new _ tells = tt
 
 -- an opening waits at 0
 pub opening_names : (named : Option ChipName) (old new : BusState) (refusal : Refusal) → OpeningTells most_opening named old new refusal → NamesSector (λ sector. ⊥) refusal

@@ -19,14 +19,14 @@ use Rattle.nor_apply.specs.Applying.{status_writes, writes_code}
 use Rattle.nor_apply.proofs.ProgrammingWhole.{room}
 use Rattle.nor_save.specs.declared.opening.Opening.{Opening}
 use Rattle.nor_save.specs.declared.saving.SavedScan.{SavedScan}
-use Rattle.nor_save.specs.declared.report.Request.{Request}
-use Rattle.nor_save.specs.declared.report.What.{What}
-use Rattle.nor_save.specs.declared.report.What.TheVariants.{Write, Erase, WpRange}
+use Rattle.nor_save.specs.declared.request.Request.{Request}
+use Rattle.nor_save.specs.declared.request.What.{What}
+use Rattle.nor_save.specs.declared.request.What.TheVariants.{Write, Erase, WpRange}
 use Rattle.nor_save.specs.Request.{is_data, scanned_sectors}
 use Rattle.nor_save.specs.Opening.{status_read, Opens, most_opening}
 use Rattle.nor_save.specs.Judging.{Lifts}
 use Rattle.nor_save.specs.Scanning.{AreMarks}
-use Rattle.nor_save.specs.Keeping.{Keeps}
+use Rattle.nor_save.specs.SavedScan.{HasSaved}
 use Rattle.nor_save.proofs.Rests.{HasLooked, rested_then}
 use Rattle.nor_session.specs.Bounds.{most_of}
 use Rattle.nor_session.specs.Changing.{touched_count, most_changed, DoesChange}
@@ -69,7 +69,7 @@ has_opened request opening old mid looks opens = record {
 }
 
 pub ready : (request : Request) (opening : Opening) (status : Status) (code most : ℕ) (image image' : List ℕ) (vault : _) (kept : SavedScan) (old mid new : BusState) → Looks most_opening old mid → Opens request.named old mid opening
-    → Looks most mid new → Keeps request opening code image image' mid new vault kept → bytes_of status ≡ status_read opening
+    → Looks most mid new → HasSaved request opening code image image' mid new vault kept → bytes_of status ≡ status_read opening
     → (is_data request.what ≡ true → code ≡ code_in (status_read opening)) → Ready request opening status code kept old new
 ready request opening status code most image image' vault kept old mid new looks opens more keeps is_status same_code = record {
   part = opens.part;

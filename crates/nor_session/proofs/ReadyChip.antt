@@ -10,14 +10,14 @@ use Rattle.nor_probe.specs.declared.table.ChipName.{ChipName}
 use Rattle.nor_probe.specs.Found.{IsConfigOf, part_in}
 use Rattle.nor_apply.specs.Spending.{Spends}
 use Rattle.nor_save.specs.declared.opening.Opening.{Opening}
-use Rattle.nor_save.specs.declared.report.Request.{Request}
+use Rattle.nor_save.specs.declared.request.Request.{Request}
 use Rattle.nor_save.specs.declared.refusal.Refusal.{Refusal}
 use Rattle.nor_save.specs.declared.refusal.Refusal.TheVariants.{Vault, Stopped, Timeout, StatusLocked, Protected}
 use Rattle.nor_save.specs.Refusal.{number_of}
 use Rattle.nor_save.specs.Request.{scanned_sectors}
 use Rattle.nor_save.specs.Opening.{Opens, OpeningTells, most_opening}
 use Rattle.nor_save.specs.Saving.{IsOpening, Shows, OpeningAccepts}
-use Rattle.nor_save.specs.Keeping.{KeepPuts, KeepTells}
+use Rattle.nor_save.specs.SavedScan.{SavePuts, SaveTells}
 use Rattle.nor_probe.specs.Known.{IsModelled}
 use Rattle.nor_session.specs.Bounds.{most_of}
 use Rattle.nor_session.specs.Verdict.{IsNamed}
@@ -108,41 +108,41 @@ still_same named opening few old mid new honest looks opens more =
       kept2 = after.kept2 ∙ before.kept2;
     }
 
-pub keep_gives_up : (request : Request) (image : List ℕ) (opening : Opening) (code few : ℕ) (old mid new : BusState) (refusal : Refusal) → old.honest ≡ true → Looks most_opening old mid → Opens request.named old mid opening
-    → Looks few mid new → KeepTells request opening code image mid new refusal → HonestTells (most_of 4096) (λ refusal. number_of refusal ≤ 11) old new refusal
-keep_gives_up request image opening code few old mid new Stopped honest looks opens more tells =
+pub save_gives_up : (request : Request) (image : List ℕ) (opening : Opening) (code few : ℕ) (old mid new : BusState) (refusal : Refusal) → old.honest ≡ true → Looks most_opening old mid → Opens request.named old mid opening
+    → Looks few mid new → SaveTells request opening code image mid new refusal → HonestTells (most_of 4096) (λ refusal. number_of refusal ≤ 11) old new refusal
+save_gives_up request image opening code few old mid new Stopped honest looks opens more tells =
     let ran = tells (looks.nature.honest ∙ honest) in
     let below = ran.below in let count = opens.count honest in let most = opens.most in
     let sectors = scanned_few request opening.found.size opens.part.at_most in
     record { none_left = ran.none_left; below = omega arith }
-keep_gives_up request image opening code few old mid new Vault honest looks opens more tells = λ early. still_same request.named opening few old mid new honest looks opens more
-keep_gives_up request image opening code few old mid new StatusLocked honest looks opens more tells = λ early. still_same request.named opening few old mid new honest looks opens more
-keep_gives_up request image opening code few old mid new (Protected address) honest looks opens more tells = λ early. still_same request.named opening few old mid new honest looks opens more
-keep_gives_up request image opening code few old mid new _ honest looks opens more tells = absurd tells
+save_gives_up request image opening code few old mid new Vault honest looks opens more tells = λ early. still_same request.named opening few old mid new honest looks opens more
+save_gives_up request image opening code few old mid new StatusLocked honest looks opens more tells = λ early. still_same request.named opening few old mid new honest looks opens more
+save_gives_up request image opening code few old mid new (Protected address) honest looks opens more tells = λ early. still_same request.named opening few old mid new honest looks opens more
+save_gives_up request image opening code few old mid new _ honest looks opens more tells = absurd tells
 
-pub not_sealed : (refusal : Refusal) (old new : VaultState) → old.sealed ≡ false → KeepPuts (Err refusal) old new → new.sealed ≡ false
+pub not_sealed : (refusal : Refusal) (old new : VaultState) → old.sealed ≡ false → SavePuts (Err refusal) old new → new.sealed ≡ false
 not_sealed Vault old new unsealed puts = puts.sealed ∙ unsealed
 not_sealed _ old new unsealed puts = puts.sealed ∙ unsealed
 
-pub keep_tells : (request : Request) (image : List ℕ) (opening : Opening) (code : ℕ) (old mid new : BusState) (vault vault' : VaultState) (refusal : Refusal)
+pub save_tells : (request : Request) (image : List ℕ) (opening : Opening) (code : ℕ) (old mid new : BusState) (vault vault' : VaultState) (refusal : Refusal)
     → IsModelled old → Looks most_opening old mid → Opens request.named old mid opening → OpeningAccepts request (length image) old.chip code
-    → (refusal ≡ Vault → Rose vault vault') → KeepTells request opening code image mid new refusal → SessionTells request image old new vault vault' refusal
-keep_tells request image opening code old mid new vault vault' Vault is looks opens accepts rose tells = rose refl
-keep_tells request image opening code old mid new vault vault' Stopped is looks opens accepts rose tells =
+    → (refusal ≡ Vault → Rose vault vault') → SaveTells request opening code image mid new refusal → SessionTells request image old new vault vault' refusal
+save_tells request image opening code old mid new vault vault' Vault is looks opens accepts rose tells = rose refl
+save_tells request image opening code old mid new vault vault' Stopped is looks opens accepts rose tells =
     let ran = tells (looks.nature.honest ∙ is.honest) in
     let below = ran.below in let count = opens.count is.honest in let few = opens.most in
     let most = scanned_most request opening.found.size in let size = (opens.genuine is).size in
     record { none_left = ran.none_left; below = omega arith }
-keep_tells request image opening code old mid new vault vault' StatusLocked is looks opens accepts rose tells = record {
+save_tells request image opening code old mid new vault vault' StatusLocked is looks opens accepts rose tells = record {
   named = named request opening old mid is opens;
   code = code;
   opening = accepts;
   judges = tells old.chip (is_opening request opening old mid is opens) (shows request opening old mid is looks opens);
 }
-keep_tells request image opening code old mid new vault vault' (Protected address) is looks opens accepts rose tells = record {
+save_tells request image opening code old mid new vault vault' (Protected address) is looks opens accepts rose tells = record {
   named = named request opening old mid is opens;
   code = code;
   opening = accepts;
   judges = tells old.chip (is_opening request opening old mid is opens) (shows request opening old mid is looks opens);
 }
-keep_tells request image opening code old mid new vault vault' _ is looks opens accepts rose tells = absurd tells
+save_tells request image opening code old mid new vault vault' _ is looks opens accepts rose tells = absurd tells

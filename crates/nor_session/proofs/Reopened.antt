@@ -21,7 +21,7 @@ use Rattle.nor_save.specs.Opening.{Opens, most_opening}
 use Rattle.nor_save.specs.Saving.{IsOpening, Shows}
 use Rattle.nor_session.specs.Verdict.{IsNamed}
 use Rattle.nor_session.specs.Restore.{IsOfKind, IsOfOtherUnit, IsRestoreVerdict}
-use Rattle.nor_session.specs.Preparing.{IsOfKindFound, IsUnitRefusal, PrepareTells}
+use Rattle.nor_session.specs.Prepare.{IsOfKindFound, IsUnitRefusal, PrepareTells}
 
 -- ---- the chip is named
 

@@ -19,7 +19,7 @@ use Rattle.nor_save.proofs.Planned.{planned, untouched, unraised}
 use Rattle.nor_save.proofs.Rests.{HasLooked, has_looked-none, has_looked-more}
 use Rattle.nor_save.proofs.Scans.{marks_more, opened_later}
 use Rattle.nor_session.specs.Restore.{restored, is_touched_from, is_raised_from}
-use Rattle.nor_session.specs.Preparing.{PlansSaved, ScansSaved}
+use Rattle.nor_session.specs.Prepare.{PlansSaved, ScansSaved}
 use Rattle.nor_session.proofs.SavedBytes.{byte_at, is_saved-some}
 
 -- one of the first i records has the sector

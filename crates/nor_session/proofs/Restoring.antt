@@ -23,7 +23,7 @@ use Rattle.nor_apply.proofs.Kept.{fixed_then, kept_fixed}
 use Rattle.nor_save.specs.declared.report.Report.{Report}
 use Rattle.nor_save.specs.declared.refusal.Refusal.{Refusal}
 use Rattle.nor_save.specs.declared.refusal.Refusal.TheVariants.{Stopped, Timeout, Mismatch}
-use Rattle.nor_session.specs.declared.preparing.Prepared.{Prepared}
+use Rattle.nor_session.specs.declared.prepare.Prepared.{Prepared}
 use Rattle.nor_probe.specs.Known.{IsModelled}
 use Rattle.nor_save.specs.Opening.{most_opening}
 use Rattle.nor_session.specs.Made.{kinds_of}
@@ -31,7 +31,7 @@ use Rattle.nor_session.specs.Bounds.{most_of}
 use Rattle.nor_session.specs.Session.{HonestTells, IsWithinBound}
 use Rattle.nor_session.specs.Changing.{most_changed, LeavesChange, DoesChange, ChangeTells}
 use Rattle.nor_session.specs.Restore.{is_touched_from, is_raised_from, NeedsStatusFrom, IsJudgedFirst, IsRestoreRefusal, RestoreTells, LeavesRestore, IsRestored, open_places, CanGiveBack}
-use Rattle.nor_session.specs.Preparing.{PrepareTells, IsPrepared}
+use Rattle.nor_session.specs.Prepare.{PrepareTells, IsPrepared}
 use Rattle.nor_session.proofs.Changed.{two_writes, no_write, fewest_at}
 use Rattle.nor_session.proofs.RestoredBytes.{touched_saved, written_restored, pages_same}
 use Rattle.nor_session.proofs.GivenBack.{looked_within, change_within, given_back}

@@ -23,9 +23,9 @@ use Rattle.nor_apply.proofs.Kept.{kept_fixed, writable_same}
 use Rattle.nor_apply.proofs.Counting.{any_below-false}
 use Rattle.nor_save.specs.declared.opening.Opening.{Opening}
 use Rattle.nor_save.specs.declared.saving.SavedScan.{SavedScan}
-use Rattle.nor_save.specs.declared.report.Request.{Request}
-use Rattle.nor_save.specs.declared.report.What.{What}
-use Rattle.nor_save.specs.declared.report.What.TheVariants.{Write, Erase, WpRange}
+use Rattle.nor_save.specs.declared.request.Request.{Request}
+use Rattle.nor_save.specs.declared.request.What.{What}
+use Rattle.nor_save.specs.declared.request.What.TheVariants.{Write, Erase, WpRange}
 use Rattle.nor_save.specs.declared.refusal.Refusal.{Refusal}
 use Rattle.nor_save.specs.declared.refusal.Refusal.TheVariants.{Stopped, Timeout, Mismatch}
 use Rattle.nor_save.specs.Request.{is_data, wanted, is_touched_by, is_raised_by}

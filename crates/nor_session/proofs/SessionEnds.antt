@@ -25,11 +25,11 @@ use Rattle.nor_apply.proofs.Counting.{any_below-false, any_below-same, count_bel
 use Rattle.nor_apply.proofs.Kept.{fixed_then, kept_fixed}
 use Rattle.nor_save.specs.declared.opening.Opening.{Opening}
 use Rattle.nor_save.specs.declared.saving.SavedScan.{SavedScan}
-use Rattle.nor_save.specs.declared.report.Request.{Request}
+use Rattle.nor_save.specs.declared.request.Request.{Request}
 use Rattle.nor_save.specs.Request.{is_data, wanted, scanned_sectors, is_touched_by, is_raised_by}
 use Rattle.nor_save.specs.Opening.{Opens, most_opening}
 use Rattle.nor_save.specs.Saving.{IsOpening, OpeningAccepts}
-use Rattle.nor_save.specs.Keeping.{Keeps}
+use Rattle.nor_save.specs.SavedScan.{HasSaved}
 use Rattle.nor_save.proofs.Planned.{wanted-kept}
 use Rattle.nor_probe.specs.Known.{IsModelled}
 use Rattle.nor_session.specs.Made.{kinds_of}
@@ -43,7 +43,7 @@ use Rattle.nor_session.proofs.OneVerdict.{free_or_lifts, locked_code}
 
 pub ready_chip : (request : Request) (image image' : List ℕ) (opening : Opening) (status : Status) (code : ℕ) (kept : SavedScan) (old mid new : BusState) (vault : VaultState) → IsModelled old
     → Looks most_opening old mid → Opens request.named old mid opening → Ready request opening status code kept old new
-    → (IsOpening old.chip opening → OpeningAccepts request (length image) old.chip code) → Keeps request opening code image image' mid new vault kept
+    → (IsOpening old.chip opening → OpeningAccepts request (length image) old.chip code) → HasSaved request opening code image image' mid new vault kept
     → ((a : ℕ) → slice_index image' a < 256) → old.chip.kept2 < 128 → ReadyChip request image image' opening code kept old new
 ready_chip request image image' opening status code kept old mid new vault modelled looks opens is accepts keeps bytes small =
     let opened = is_opening request opening old mid modelled opens in
@@ -93,7 +93,7 @@ may_change_wanted request image image' opening status code kept old mid new is o
     }
 
 pub can_be_undone : (request : Request) (image image' : List ℕ) (opening : Opening) (status : Status) (code : ℕ) (kept : SavedScan) (old mid ready new : BusState) (vault : VaultState) → IsModelled old
-    → Looks most_opening old mid → Opens request.named old mid opening → Keeps request opening code image image' mid ready vault kept
+    → Looks most_opening old mid → Opens request.named old mid opening → HasSaved request opening code image image' mid ready vault kept
     → Ready request opening status code kept old ready → ReadyChip request image image' opening code kept old ready
     → LeavesChange (changes_of opening kept status code) (λ a. slice_index image' a) ready new → CanBeUndone request image old new vault
 can_be_undone request image image' opening status code kept old mid ready new vault modelled looks opens keeps is of leaves =

@@ -3,10 +3,10 @@ pub mod Made
 pub mod Verdict
 pub mod Changing
 pub mod Session
-pub mod Answering
+pub mod Judged
 pub mod Restore
 pub mod WrittenOver
-pub mod Preparing
-pub mod Following
+pub mod Prepare
+pub mod InTurn
 pub mod Rehearsal
 pub mod Rehearsing

@@ -7,7 +7,7 @@ use Rattle.nor_driver.specs.Looks.{IsCalm}
 use Rattle.nor_journal.specs.Vault.{VaultState, Rose}
 use Rattle.nor_journal.specs.Saved.{JournalSaves}
 use Rattle.nor_apply.specs.Counts.{sector_count}
-use Rattle.nor_save.specs.declared.report.Request.{Request}
+use Rattle.nor_save.specs.declared.request.Request.{Request}
 use Rattle.nor_save.specs.declared.refusal.Refusal.{Refusal}
 use Rattle.nor_save.specs.declared.refusal.Refusal.TheVariants.{Vault}
 use Rattle.nor_save.specs.Refusal.{number_of}

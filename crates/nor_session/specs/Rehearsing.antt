@@ -10,12 +10,12 @@ use Rattle.nor_journal.specs.Saved.{is_saved, JournalSaves}
 use Rattle.nor_probe.specs.Known.{IsKnown, IsModelled}
 use Rattle.nor_apply.specs.Counts.{sector_count}
 use Rattle.nor_apply.specs.Within.{IsWithin, places_of}
-use Rattle.nor_save.specs.declared.report.Request.{Request}
-use Rattle.nor_save.specs.declared.report.What.{What}
+use Rattle.nor_save.specs.declared.request.Request.{Request}
+use Rattle.nor_save.specs.declared.request.What.{What}
 use Rattle.nor_save.specs.declared.refusal.Refusal.{Refusal}
 use Rattle.nor_save.specs.Request.{wanted, is_touched_by, IsWantedCode}
 use Rattle.nor_save.specs.Saving.{head_of, NoneHeld}
-use Rattle.nor_save.specs.Keeping.{IsJournal, HoldsJournal}
+use Rattle.nor_save.specs.SavedScan.{IsJournal, HoldsJournal}
 use Rattle.nor_session.specs.Bounds.{most_of}
 use Rattle.nor_session.specs.Verdict.{IsAccepted}
 use Rattle.nor_session.specs.Session.{AnswersSession, SavesSector, NamesSector, NamesAddress}

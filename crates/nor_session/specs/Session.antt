@@ -9,16 +9,16 @@ use Rattle.nor_journal.specs.Vault.{VaultState, Rose}
 use Rattle.nor_journal.specs.Saved.{JournalSaves, is_saved}
 use Rattle.nor_apply.specs.Change.{MayChange}
 use Rattle.nor_apply.specs.Spending.{Spends}
-use Rattle.nor_save.specs.declared.report.Request.{Request}
+use Rattle.nor_save.specs.declared.request.Request.{Request}
 use Rattle.nor_save.specs.declared.report.Report.{Report}
-use Rattle.nor_save.specs.declared.report.What.{What}
-use Rattle.nor_save.specs.declared.report.What.TheVariants.{WpRange}
+use Rattle.nor_save.specs.declared.request.What.{What}
+use Rattle.nor_save.specs.declared.request.What.TheVariants.{WpRange}
 use Rattle.nor_save.specs.declared.refusal.Refusal.{Refusal}
 use Rattle.nor_save.specs.declared.refusal.Refusal.TheVariants.{Vault, Stopped, Timeout, Mismatch}
 use Rattle.nor_save.specs.Refusal.{number_of}
 use Rattle.nor_save.specs.Request.{wanted, scanned_sectors, is_touched_by, is_raised_by, IsWantedCode}
 use Rattle.nor_save.specs.Saving.{head_of, NeedsStatus}
-use Rattle.nor_save.specs.Keeping.{IsJournal, BeginsJournal, HoldsJournal}
+use Rattle.nor_save.specs.SavedScan.{IsJournal, BeginsJournal, HoldsJournal}
 use Rattle.nor_session.specs.Bounds.{most_looked, most_of}
 use Rattle.nor_session.specs.Made.{IsMade}
 use Rattle.nor_session.specs.Verdict.{IsVerdict, IsAccepted}

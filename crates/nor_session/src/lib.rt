@@ -13,24 +13,23 @@
 //! ```
 //!
 //! What each call promises stands in `specs/`: `Verdict.antt`, `Session.antt`, `Restore.antt`, `Rehearsal.antt`, and of
-//! which buses `IsModelled` of nor_probe; what laws say of calls that follow one another in `Following.antt`, and
+//! which buses `IsModelled` of nor_probe; what laws say of calls that follow one another in `InTurn.antt`, and
 //! of a chip that is kept in files in `WrittenOver.antt`.
 #![tactic(auto)]
 
-mod answering;
-mod following;
-mod keeping;
-mod preparing;
+mod judged;
+mod kept;
+mod laws;
+mod prepare;
 mod rehearsals;
-mod reopening;
-mod rescanning;
 mod restores;
 mod sessions;
 mod sources;
-mod states;
 
-pub use following::{restored_stays, undone_in_turn};
-pub use keeping::{read_gives_back, restore_written_over, same_written_over, session_written_over};
+pub use laws::{
+    read_gives_back, restore_written_over, restored_stays, same_written_over, session_written_over,
+    undone_in_turn,
+};
 pub use nor_save::{Refusal, Report, Request, What};
 pub use rehearsals::{Rehearsal, rehearse};
 pub use restores::restore;

@@ -3,9 +3,9 @@ ghost use Rattle.std.specs.Prelude.{◌≡◌, true};
 ghost use Rattle.nor_probe.specs.Known.{IsModelled};
 ghost use Rattle.nor_session.specs.Restore.{RestoreAlways, RestoreHonest, RestoreModelled};
 
-use crate::preparing::prepare;
+use crate::kept::{Kept, WayBack};
+use crate::prepare::prepare;
 use crate::sources::Saved;
-use crate::states::{Kept, WayBack};
 use nor_chip::Bus;
 use nor_journal::Journal;
 use nor_save::{Refusal, Report};

@@ -1,5 +1,0 @@
-use Rattle.nor_session.proofs.InTurn as in_turn
-use Rattle.nor_session.proofs.following.undone_in_turn.Goals as goal
-
-pub returns : goal.returns
-returns c = in_turn.both_undone

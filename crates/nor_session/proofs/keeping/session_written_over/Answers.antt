@@ -1,5 +1,0 @@
-use Rattle.nor_session.proofs.WrittenBack as over
-use Rattle.nor_session.proofs.keeping.session_written_over.Goals as goal
-
-pub returns : goal.returns
-returns c = over.session_over

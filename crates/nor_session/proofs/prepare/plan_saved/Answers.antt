@@ -1,0 +1,14 @@
+use Rattle.std.proofs.Common.{◌≡◌, ℕ, length, subst, arith}
+use Rattle.nor_plan.specs.Plan.{IsPlan}
+use Rattle.nor_session.proofs.prepare.plan_saved.Goals as goal
+
+pub returns-clause-plans : goal.returns-clause-plans
+returns-clause-plans g c =
+    let long : length c.read_sector.new.bytes ≡ 4096 = omega arith in
+    record {
+      small = λ k. omega (arith, c.type_inv.saved k);
+      read = c.in_ok-read_sector.ensures.does;
+      whole = long;
+      needed = c.of.ensures.needed;
+      planned = λ content wanted shown aims. subst (λ (n : ℕ). IsPlan content wanted n c.of.result) long (c.of.ensures.anywhere content wanted shown aims);
+    }

@@ -1,0 +1,40 @@
+-- What a session knows once its opening is judged, and from where its promises count.
+use Rattle.std.specs.Prelude.{◌≡◌, ◌≤◌, ◌<◌, ℕ, true, Option, List, Result}
+use Rattle.nor_chip.specs.Chip.{Chip}
+use Rattle.nor_chip.specs.Code.{code_in}
+use Rattle.nor_chip.specs.Bus.{BusState}
+use Rattle.nor_driver.specs.Looks.{Looks}
+use Rattle.nor_probe.specs.declared.table.ChipName.{ChipName}
+use Rattle.nor_probe.specs.Found.{IsPart}
+use Rattle.nor_save.specs.declared.opening.Opening.{Opening}
+use Rattle.nor_save.specs.declared.request.Request.{Request}
+use Rattle.nor_save.specs.declared.report.Report.{Report}
+use Rattle.nor_save.specs.declared.refusal.Refusal.{Refusal}
+use Rattle.nor_journal.specs.Vault.{VaultState}
+use Rattle.nor_save.specs.Request.{is_data}
+use Rattle.nor_save.specs.Opening.{status_read, Opens, most_opening}
+use Rattle.nor_save.specs.Saving.{IsOpening, OpeningAccepts}
+use Rattle.nor_probe.specs.Known.{IsModelled}
+use Rattle.nor_session.specs.Session.{SessionAlways, SessionHonest, SessionModelled}
+
+-- The opening found a part, and its judgement accepted the request against an image of so many bytes, with this wanted
+-- code.
+pub record IsJudged (request : Request) (image : ℕ) (opening : Opening) (code : ℕ) : Type 0 where
+  pub part : IsPart opening.found
+  pub few : opening.transactions ≤ most_opening
+  pub six_bits : code < 64
+  pub sized : is_data request.what ≡ true → image ≡ opening.found.size
+  pub same_code : is_data request.what ≡ true → code ≡ code_in (status_read opening)
+  pub accepts : (chip : Chip) → IsOpening chip opening → OpeningAccepts request image chip code
+
+-- this holds of every state of the bus from which the opening led to the one now
+abbrev pub SinceOpening : Option ChipName → Opening → BusState → (BusState → Type 0) → Type 0
+SinceOpening named opening now promise =
+    (first : BusState) → Looks most_opening first now → Opens named first now opening → promise first
+
+-- All that a session promises, from one state of the bus to another.
+pub record KeepsPromise (request : Request) (image : List ℕ) (old new : BusState) (vault vault' : VaultState)
+    (result : Result Report Refusal) : Type 0 where
+  pub always : SessionAlways request old new vault vault' result
+  pub honest : old.honest ≡ true → SessionHonest old new result
+  pub modelled : IsModelled old → SessionModelled request image old new vault vault' result

@@ -1,0 +1,166 @@
+-- What a restore finds of a chip before it changes anything.
+use Rattle.std.specs.Prelude.{◌≡◌, ◌<◌, ◌≤◌, ◌+◌, ◌/◌, ◌||◌, ◌⊎◌, ℕ, Bool, true, List, Result, Ok, IfErr, OnOk, OnErr, IfOk, MatchBool, length, slice_index, ⊤}
+use Rattle.nor_chip.specs.Code.{code_in}
+use Rattle.nor_chip.specs.Chip.{Chip, IsSame, is_locked, status1_of}
+use Rattle.nor_chip.specs.Bus.{BusState}
+use Rattle.nor_driver.specs.Looks.{Rested, RanOutIfHonest}
+use Rattle.nor_driver.specs.Reads.{ReadsSector}
+use Rattle.nor_journal.specs.Text.{Content}
+use Rattle.nor_journal.specs.Saved.{is_saved, saved_byte}
+use Rattle.nor_plan.specs.declared.plan.SectorPlan.{SectorPlan}
+use Rattle.nor_plan.specs.Plan.{AreBytesOf, IsPlan}
+use Rattle.nor_plan.specs.SectorSet.{has, LiesBelow}
+use Rattle.nor_probe.specs.declared.probes.Found.{Found}
+use Rattle.nor_probe.specs.Known.{shown_as, IsModelled}
+use Rattle.nor_probe.specs.Found.{part_in}
+use Rattle.nor_apply.specs.declared.changes.Changes.{Changes}
+use Rattle.nor_apply.specs.Applying.{writes_code, CanApply}
+use Rattle.nor_save.specs.declared.opening.Opening.{Opening}
+use Rattle.nor_save.specs.declared.scanning.Scanned.{Scanned}
+use Rattle.nor_save.specs.declared.refusal.Refusal.{Refusal}
+use Rattle.nor_save.specs.declared.refusal.Refusal.TheVariants.{OtherUnit, StatusDiffers, Stopped, Timeout}
+use Rattle.nor_save.specs.Scanning.{AreMarks, IsOpen}
+use Rattle.nor_save.specs.Saving.{IsOpening, NoneHeld, SomeHeld}
+use Rattle.nor_session.specs.declared.prepare.Prepared.{Prepared}
+use Rattle.nor_session.specs.Bounds.{most_looked}
+use Rattle.nor_session.specs.Made.{kinds_of}
+use Rattle.nor_session.specs.Changing.{touched_count}
+use Rattle.nor_session.specs.Restore.{is_touched_from, is_raised_from, IsOfKind, FitsStatus, Fits, NeedsStatusFrom, IsJudgedFirst, IsRestoreVerdict, IsRestorable}
+
+-- ---- the opening
+
+-- what was found has the journal's ID and size
+pub record IsOfKindFound (journal : Content) (found : Found) : Type 0 where
+  pub id : journal.id ≡ found.id
+  pub size : journal.size ≡ found.size
+
+-- the refusals that are judged by the unit and by its status
+abbrev pub IsUnitRefusal : Refusal → Type 0
+IsUnitRefusal OtherUnit = ⊤
+IsUnitRefusal StatusDiffers = ⊤
+IsUnitRefusal _ = ⊥
+
+-- an opening of a chip that the journal is of
+abbrev pub FitsOpening : Content → Opening → Type 0
+FitsOpening journal opening = (chip : Chip) → chip.kept2 < 128 → IsOpening chip opening → Fits journal chip
+
+-- the fixed bits that an opening shows are those that the journal tells, on each chip that it is an opening of
+abbrev pub ShowsFixed : Content → Opening → Bool → Type 0
+ShowsFixed journal opening shown = (chip : Chip) → chip.kept2 < 128 → IsOpening chip opening
+    → MatchBool shown (FitsStatus journal chip) (¬ FitsStatus journal chip)
+
+-- where the unit is accepted the journal is one of each such chip that has its ID and size
+abbrev pub AcceptsUnit : Content → Opening → Result Unit Refusal → Type 0
+AcceptsUnit journal opening judged = (chip : Chip) → chip.kept2 < 128 → IsOpening chip opening
+    → IsOfKind journal chip.config → OnOk judged (Fits journal chip)
+
+-- and where it is refused, that is the verdict
+abbrev pub RefusesUnit : Content → Opening → Result Unit Refusal → Type 0
+RefusesUnit journal opening judged = (chip : Chip) → chip.kept2 < 128 → IsOpening chip opening
+    → IsOfKind journal chip.config → IfErr judged (IsRestoreVerdict journal chip)
+
+-- A refusal that was judged: nothing changed, and on a modelled bus it is the verdict.
+pub record IsRefusedFor (journal : Content) (old new : BusState) (refusal : Refusal) : Type 0 where
+  pub judged : IsJudgedFirst refusal
+  pub same : old.honest ≡ true → IsSame old.chip new.chip
+  pub verdict : IsModelled old → IsRestoreVerdict journal old.chip refusal
+
+-- What a refusal tells before anything is changed: the bus stopped, with fewer transactions left than these; another
+-- bus than an honest one stayed busy, which is told at 0; or it was judged.
+abbrev pub PrepareTells : Content → ℕ → (old new : BusState) → Refusal → Type 0
+PrepareTells journal most old new Stopped = RanOutIfHonest most old new
+PrepareTells journal most old new (Timeout address) = (address ≡ 0) × (old.honest ≡ true → ⊥)
+PrepareTells journal most old new refusal = IsRefusedFor journal old new refusal
+
+-- ---- the scan
+
+-- A sector was read, and its plan says what it takes to make it what was saved of it.
+pub record PlansSaved (sector : ℕ) (saved bytes : List ℕ) (old new : BusState) (plan : SectorPlan) : Type 0 where
+  pub small : (k : ℕ) → slice_index saved k < 256
+  pub read : ReadsSector sector old new bytes
+  pub whole : length bytes ≡ 4096
+  pub needed : plan.raised ≡ true → plan.touched ≡ true
+  pub planned : (content wanted : ℕ → ℕ) → AreBytesOf content bytes → AreBytesOf wanted saved
+      → IsPlan content wanted 4096 plan
+
+-- Each saved sector was read once, and marked by what was read: touched where a byte differs from the saved one,
+-- raised where a bit of it has to rise.
+pub record ScansSaved (journal : Content) (old new : BusState) (scanned : Scanned) : Type 0 where
+  pub marks : AreMarks (journal.size / 4096) scanned
+  pub saved : (s : ℕ) → has scanned.touched s ≡ true → is_saved journal s ≡ true
+  pub bytes : (a : ℕ) → is_saved journal (a / 4096) ≡ true → saved_byte journal a < 256
+  pub reads : scanned.reads ≡ length journal.saved
+  pub few : scanned.count ≤ scanned.reads
+  pub room : length journal.saved ≤ 4096
+  pub rested : old.honest ≡ true → Rested old new
+  pub sent : old.honest ≡ true → old.left ≡ new.left + length journal.saved
+  pub touched : IsOpen journal.size old → (s : ℕ) → has scanned.touched s ≡ is_touched_from journal old.chip s
+  pub raised : IsOpen journal.size old → (s : ℕ) → has scanned.raised s ≡ is_raised_from journal old.chip s
+
+-- ---- what is to be changed
+
+-- The changes are those that the scan found, to the journal's code.
+pub record AreChanges (journal : Content) (opening : Opening) (scanned : Scanned) (changes : Changes) : Type 0 where
+  pub touched : changes.touched ≡ scanned.touched
+  pub raised : changes.raised ≡ scanned.raised
+  pub kinds : changes.kinds ≡ opening.found.kinds
+  pub size : changes.size ≡ opening.found.size
+  pub one : changes.status.one.0 ≡ opening.found.status1
+  pub two : changes.status.two.0 ≡ opening.status2
+  pub code : changes.code ≡ code_in journal.status
+  pub six_bits : changes.code < 64
+
+-- Protection is lifted just where a touched sector is guarded, and a status that is locked isn't written.
+pub record MayChangeStatus (journal : Content) (touched : ℕ → Bool) (chip : Chip) (changes : Changes) : Type 0 where
+  pub lifts : changes.unlock ≡ true → SomeHeld touched chip
+  pub free : changes.unlock ≡ true ⊎ NoneHeld touched chip
+  pub not_locked : is_locked chip ≡ true → ¬ NeedsStatusFrom journal touched chip
+
+-- The status is locked, and would have to be written.
+pub record IsShut (journal : Content) (touched : ℕ → Bool) (chip : Chip) : Type 0 where
+  pub locked : is_locked chip ≡ true
+  pub needs : NeedsStatusFrom journal touched chip
+
+-- changes are only made where the status of each chip with this opening may be changed so
+abbrev pub MakesChanges : Content → Opening → (ℕ → Bool) → Result Changes Refusal → Type 0
+MakesChanges journal opening touched judged =
+    (chip : Chip) → IsOpening chip opening → IfOk judged (MayChangeStatus journal touched chip)
+
+-- and refused where it is shut
+abbrev pub RefusesShut : Content → Opening → (ℕ → Bool) → Result Changes Refusal → Type 0
+RefusesShut journal opening touched judged =
+    (chip : Chip) → IsOpening chip opening → OnErr judged (IsShut journal touched chip)
+
+-- ---- all of it
+
+-- On a modelled bus: the chip as it was before may be restored, was found as what it shows itself to be, and as it is
+-- now the changes that the journal asks for can be made, which write the status only where that is needed.
+pub record IsPreparedFor (journal : Content) (old new : Chip) (prepared : Prepared) : Type 0 where
+  pub accepted : IsRestorable journal old
+  pub shown : shown_as old.config ≡ Ok (part_in prepared.found)
+  pub status1 : prepared.found.status1 / 4 ≡ old.kept1
+  pub told : old.busy ≡ 0 → prepared.found.status1 ≡ status1_of old
+  pub kinds : prepared.changes.kinds ≡ kinds_of old.config
+  pub size : prepared.changes.size ≡ old.config.size
+  pub code : prepared.changes.code ≡ code_in journal.status
+  pub touched : (s : ℕ) → has prepared.changes.touched s ≡ is_touched_from journal old s
+  pub raised : (s : ℕ) → has prepared.changes.raised s ≡ is_raised_from journal old s
+  pub can : CanApply prepared.changes (saved_byte journal) new
+  pub needed : (prepared.changes.unlock || writes_code prepared.changes) ≡ true
+      → NeedsStatusFrom journal (is_touched_from journal old) old
+
+-- All is known that a restore has to know before it changes anything.
+pub record IsPrepared (journal : Content) (old new : BusState) (prepared : Prepared) : Type 0 where
+  pub inside : LiesBelow prepared.changes.touched (prepared.changes.size / 4096)
+  pub raised : (s : ℕ) → has prepared.changes.raised s ≡ true → has prepared.changes.touched s ≡ true
+  pub small : prepared.changes.size ≤ 16777216
+  pub six_bits : prepared.changes.code < 64
+  pub saved : (s : ℕ) → has prepared.changes.touched s ≡ true → is_saved journal s ≡ true
+  pub count : prepared.touched ≡ touched_count prepared.changes
+  pub few : prepared.touched ≤ length journal.saved
+  pub room : length journal.saved ≤ 4096
+  pub least : 4 + length journal.saved ≤ prepared.transactions
+  pub most : prepared.transactions ≤ most_looked (length journal.saved)
+  pub rested : old.honest ≡ true → Rested old new
+  pub sent : old.honest ≡ true → old.left ≡ new.left + prepared.transactions
+  pub modelled : IsModelled old → IsPreparedFor journal old.chip new.chip prepared
