@@ -8,11 +8,13 @@ ghost use Rattle.nor_journal.specs.Reading.{sector_at, BeginsRecord, HasRecords,
 use crate::fault::JournalFault;
 use crate::head::Head;
 use crate::number::{number_bytes, number_of};
-use nor_chip::SECTOR_LEN;
 use sha2::{Digest, Sha256};
 
+/// The length of a sector in bytes.
+pub const SECTOR: usize = 4096;
+
 /// The length of a record in bytes: a sector's number and its bytes.
-pub const RECORD: usize = 4 + SECTOR_LEN as usize;
+pub const RECORD: usize = 4 + SECTOR;
 
 /// What stands where no record follows.
 pub const END_MARK: [u8; 4] = [0xFF; 4];
@@ -51,7 +53,7 @@ pub fn count_records(head: &Head, bytes: &[u8]) -> Result<usize, JournalFault>
     ensures fault { IfErr result (FaultBehindRecords head.now bytes.now) }
     ensures found { IfOk result (EndsBehind head.now bytes.now) }
 {
-    let sectors = head.size / SECTOR_LEN;
+    let sectors = head.size / 4096;
     let mut count = 0;
     let mut least = 0;
     let mut rest = bytes;
@@ -65,7 +67,7 @@ pub fn count_records(head: &Head, bytes: &[u8]) -> Result<usize, JournalFault>
 }
 
 /// The bytes of a record.
-pub fn record_bytes(number: u32, bytes: &[u8; SECTOR_LEN as usize]) -> [u8; RECORD]
+pub fn record_bytes(number: u32, bytes: &[u8; 4096]) -> [u8; RECORD]
     ensures { result ≡ record_text (record { number = number; bytes = bytes.now }) }
 {
     let mut record = [0; RECORD];
@@ -80,7 +82,7 @@ pub fn record_at(records: &[u8], i: usize) -> (u32, &[u8])
     ensures { record { number = result.0; bytes = result.1.now } ≡ sector_at records.now i }
 {
     let record = &records[RECORD * i..];
-    (number_of(record), &record[4..RECORD])
+    (number_of(record), &record[RECORD - SECTOR..RECORD])
 }
 
 /// Looks at what stands behind the end mark, whose place is given: the digest and nothing else.

@@ -9,7 +9,6 @@ ghost use Rattle.nor_journal.specs.Writer.{vault_of, vault_seen, HasPut, HasWrit
 use crate::head::head_bytes;
 use crate::records::{END_MARK, record_bytes};
 use crate::vault::{Vault, VaultFault};
-use nor_chip::SECTOR_LEN;
 use sha2::{Digest, Sha256};
 
 /// Writes a journal of format 2 into a vault, which it holds until the end: the head, the sectors in rising order, the
@@ -62,11 +61,7 @@ impl<'a, V: Vault> Writer<'a, V> {
 
     /// Writes a sector behind the others, as `add` does. A refusal spends the writer, and leaves the vault as that
     /// of `add` does; the contract can't say so.
-    pub fn sector(
-        mut self,
-        number: u32,
-        bytes: &[u8; SECTOR_LEN as usize],
-    ) -> Result<Writer<'a, V>, VaultFault>
+    pub fn sector(mut self, number: u32, bytes: &[u8; 4096]) -> Result<Writer<'a, V>, VaultFault>
         requires { (vault_seen V.state self).sealed ≡ false }
         ensures same_vault { IfOk result
             (λ writer. (vault_of writer).ghost_name ≡ (vault_of self.entry).ghost_name) }
@@ -110,7 +105,7 @@ impl<'a, V: Vault> Writer<'a, V> {
     }
 
     /// Writes a sector behind the others. Its number is above theirs, and a sector of the chip has it.
-    pub fn add(&mut self, number: u32, bytes: &[u8; SECTOR_LEN as usize]) -> Result<(), VaultFault>
+    pub fn add(&mut self, number: u32, bytes: &[u8; 4096]) -> Result<(), VaultFault>
         requires { (vault_seen V.state self.old).sealed ≡ false }
         ensures same_vault { (vault_of self.new).ghost_name ≡ (vault_of self.old).ghost_name }
         ensures vault { PutsOn (vault_seen V.state self.old) result (vault_seen V.state self.new) }

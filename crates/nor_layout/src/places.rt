@@ -5,7 +5,9 @@ ghost use Rattle.std.specs.Iterator.{YieldsFirst, item_count};
 ghost use Rattle.nor_layout.specs.Places.{part_in_sector, parts_in_sector, places_left};
 
 use crate::ranges::Span;
-use nor_chip::SECTOR_LEN;
+
+/// The size of a sector, in bytes: the smallest unit that a chip erases.
+pub const SECTOR: u32 = 4096;
 
 /// Places of a sector in a row, counted in bytes from its beginning: from `start` on, `end` no longer among them.
 #[derive(Clone, Copy, Debug, PartialEq, Eq)]
@@ -33,19 +35,19 @@ impl<'a> PlacesIn<'a> {
 fn part_of(span: &Span, sector: u32) -> Option<Places>
     ensures { result ≡ part_in_sector sector span.now }
 {
-    let (first, last) = (span.first / SECTOR_LEN, span.last / SECTOR_LEN);
+    let (first, last) = (span.first / SECTOR, span.last / SECTOR);
     if sector < first || last < sector {
         return None;
     }
     let start = if first < sector {
         0
     } else {
-        span.first % SECTOR_LEN
+        span.first % SECTOR
     };
     let end = if sector < last {
-        SECTOR_LEN
+        SECTOR
     } else {
-        span.last % SECTOR_LEN + 1
+        span.last % SECTOR + 1
     };
     Some(Places {
         start: start as usize,

@@ -7,10 +7,9 @@ ghost use Rattle.nor_layout.specs.Places.{AreIncludedIn, places_left};
 ghost use Rattle.nor_layout.specs.Steps.{join};
 
 use crate::merge::fill_around;
-use crate::places::PlacesIn;
+use crate::places::{PlacesIn, SECTOR};
 use crate::region::REGIONS;
 use arrayvec::ArrayVec;
-use nor_chip::SECTOR_LEN;
 use std::marker::Model;
 
 /// Addresses in a row, in bytes from the chip's beginning: both ends belong to it.
@@ -133,8 +132,7 @@ impl Ranges {
         ensures cases { MatchBool result
             (SomeInSector (contains self.now) sector) (NoneInSector (contains self.now) sector) }
     {
-        self.spans.iter().any(|span| span.first / SECTOR_LEN <= sector
-            && sector <= span.last / SECTOR_LEN)
+        self.spans.iter().any(|span| span.first / SECTOR <= sector && sector <= span.last / SECTOR)
     }
 
     /// Whether some address from `size` on belongs to the set.
