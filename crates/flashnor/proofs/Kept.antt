@@ -1,5 +1,5 @@
 -- What a run that changes a chip leaves of files, whatever its task.
-use Rattle.std.proofs.Common.{◌≡◌, ◌<◌, ◌∙◌, ℕ, Bool, true, false, List, Option, None, Some, Result, ap, inr, length, refl, sym, true≢false}
+use Rattle.std.proofs.Common.{◌≡◌, ◌<◌, ◌∙◌, ℕ, Bool, true, false, List, Option, None, Some, Result, ap, inr, length, refl, sym, true≢false, arith}
 use Rattle.std.specs.Borrow.{Bor}
 use Rattle.std.proofs.lemmas.List.{length-replicate}
 use Rattle.nor_chip.specs.Bus.{BusState}
@@ -18,7 +18,8 @@ use Rattle.nor_words.specs.declared.programmer.Programmer.{Programmer}
 use Rattle.flashnor.specs.Changes.{HasKeptChange, HasMadeChange, IsKeptFile}
 use Rattle.flashnor.specs.Chips.{IsContentOf, OpensChip}
 use Rattle.flashnor.specs.Found.{emulated_part}
-use Rattle.flashnor.specs.Holding.{AreAmid, AreHeld, AreReady, IsReady, IsReadyFile, Settles, StandsFor, was}
+use Rattle.flashnor.specs.Holding.{AreAmid, AreHeld, AreReady, IsReady, IsReadyFile, LeavesAmid, Settles, StandsFor, was}
+use Rattle.flashnor.specs.Left.{LeavesAsLong}
 use Rattle.flashnor.specs.Roles.{HaveOneRole, named_by}
 use Rattle.flashnor.specs.Run.{DoesJob, IsViewBut, KeepsChange, KeepsFiles}
 use Rattle.flashnor.specs.Stored.{AreTwo, IsNot}
@@ -26,6 +27,7 @@ use Rattle.flashnor.specs.Tasks.{journal_of, keeps_journal, made_by, puts_back}
 use Rattle.flashnor.specs.declared.answers.Answer.{Answer}
 use Rattle.flashnor.specs.declared.holding.Held.{Held}
 use Rattle.flashnor.proofs.Before.{not_that}
+use Rattle.flashnor.proofs.Held.{same_some}
 use Rattle.flashnor.proofs.Stays.{lawful_after, lawful_before, stays_on}
 use Rattle.flashnor.proofs.Traced.{reads_before}
 use Rattle.flashnor.proofs.WayBack.{as_many, restorable, size_with, way_back}
@@ -178,6 +180,20 @@ does_after task.WpList amid s2 s3 programmer named old new outcome puts one othe
 does_after (task.Read file regions) amid s2 s3 programmer named old new outcome puts one other nature last does = absurd (true≢false (sym puts))
 does_after (task.Verify file regions) amid s2 s3 programmer named old new outcome puts one other nature last does = absurd (true≢false (sym puts))
 
+-- a file that was there has all its bytes while it is written over
+as_long : (name : Option (Bor Text)) (there : Bool) (had put : List ℕ) (s0 s1 s3 : FilesState) → AllStay s0 s1
+    → Settles name (was there had) s1 → length had ≡ length put → LeavesAmid name there had put s3 → LeavesAsLong name s0 s3
+as_long None there had put s0 s1 s3 stay settled many amid = tt
+as_long (Some name) true had put s0 s1 s3 stay settled many amid = λ all seen left can.
+    let (has, is, mix) = amid left can in
+    let same : all ≡ had = same_some all had (sym seen ∙ sym (stay name.now).seen ∙ settled.seen) in
+    rw is (omega (arith, mix.shortest, mix.longest, many, ap length same))
+as_long (Some name) false had put s0 s1 s3 stay settled many amid = λ all seen left can.
+    absurd (none_some all (sym settled.seen ∙ (stay name.now).seen ∙ seen))
+  where
+    none_some : (all : List ℕ) → None ≡ Some all → ⊥
+    none_some all is = cc
+
 module _ (programmer : Programmer) (held : Held) (s0 s1 s2 s3 : FilesState) (bus bus' : BusState) (amid : View)
     (read : IsContentOf s0.view programmer held.content) (opens : OpensChip programmer held.content bus)
     (many : length held.content.bytes.items ≡ (emulated_part programmer.chip).size) (stands : StandsFor programmer held)
@@ -185,7 +201,21 @@ module _ (programmer : Programmer) (held : Held) (s0 s1 s2 s3 : FilesState) (bus
     (nature1 : s1.view.nature ≡ s0.view.nature) (nature2 : s2.view.nature ≡ s1.view.nature)
     (but : IsViewBut programmer.trace s0.view amid)
     (last : (any : Name) → IsNot programmer.image any → IsNot programmer.status any → Stays any s2 s3)
-    (is_amid : AreAmid programmer held.image_there held.status_there held.content.bytes.items held.content.status bus'.chip s3) where
+    (is_amid : AreAmid programmer held.image_there held.status_there held.content.bytes.items held.content.status bus'.chip s3)
+    (is_held : AreHeld programmer held s0 s1) (setup : bus'.chip.config ≡ bus.chip.config) where
+  had_size : bus.chip.config.size ≡ (emulated_part programmer.chip).size
+  had_size = size_with programmer.chip programmer.unique bus.chip.config opens.ready.config
+
+  image_whole : LeavesAsLong programmer.image s0 s3
+  image_whole =
+      as_long programmer.image held.image_there held.content.bytes.items is_amid.put s0 s1 s3 first is_held.image
+      (many ∙ sym had_size ∙ sym (ap (λ c. c.size) setup) ∙ sym is_amid.are.len) is_amid.image
+
+  status_whole : LeavesAsLong programmer.status s0 s3
+  status_whole =
+      as_long programmer.status held.status_there held.content.status (status_of bus'.chip) s0 s1 s3 first is_held.status
+      (as_many s0.view programmer.status 2 _ _ read.status refl) is_amid.status
+
   lawful2 : is_lawful s2.view ≡ true
   lawful2 = lawful_after s1 s2 nature2 (lawful_after s0 s1 nature1 rest.lawful)
 
@@ -194,7 +224,7 @@ module _ (programmer : Programmer) (held : Held) (s0 s1 s2 s3 : FilesState) (bus
       → HasMadeChange request image kept bus bus' s2 outcome → KeepsChange programmer kept s0 s3
   keeps_change (keeping.Journal file) request image outcome keeps one other made =
       let stays = last file.now (not_that programmer.image file one) (not_that programmer.status file other) in
-      inr (way_back programmer held s0 s3 bus bus' read opens many stands small is_amid file.now request image made.vault made.vault' outcome
+      inr (way_back programmer held s0 s3 bus bus' read opens many stands small is_amid image_whole status_whole file.now request image made.vault made.vault' outcome
       made.done (kept_after file.now made.vault' s2 s3 stays (made.kept_in lawful2)))
   keeps_change (keeping.Rehearse stops) request image outcome keeps one other made = absurd (true≢false (sym keeps))
 
@@ -210,7 +240,7 @@ module _ (programmer : Programmer) (held : Held) (s0 s1 s2 s3 : FilesState) (bus
       let not = not_that programmer.trace journal apart in
       let stays1 = stay journal.now not tt in
       let stays2 = last journal.now (not_that programmer.image journal (rw is at one)) (not_that programmer.status journal (rw is at other)) in
-      inr (restorable programmer held s0 s3 bus bus' read opens many stands small is_amid journal.now does.journal named outcome does.sound
+      inr (restorable programmer held s0 s3 bus bus' read opens many stands small is_amid image_whole status_whole journal.now does.journal named outcome does.sound
       (reads_before programmer.trace journal.now 16793662 _ s0.view amid not but does.read)
       (stays_on journal.now s0 s1 s3 (first journal.now) (stays_on journal.now s1 s2 s3 stays1 stays2)) does.restored)
   keeps_files task.Probe named outcome puts stay journal one other traced is does = absurd (true≢false (sym puts))

@@ -16,7 +16,7 @@ use Rattle.flashnor.specs.Changes.{HasKeptChange, HasRestored, IsKeptFile}
 use Rattle.flashnor.specs.Chips.{IsConfigWith, IsContentOf, OpensChip}
 use Rattle.flashnor.specs.Found.{emulated_part}
 use Rattle.flashnor.specs.Holding.{AreAmid, StandsFor}
-use Rattle.flashnor.specs.Left.{IsOpenedFrom, LeadsBack, LeavesRestorable, LeavesWayBack, MayLeave, Opened}
+use Rattle.flashnor.specs.Left.{IsOpenedFrom, LeadsBack, LeavesAsLong, LeavesRestorable, LeavesWayBack, MayLeave, Opened}
 use Rattle.flashnor.specs.Stored.{AreOfFile, IsRead}
 use Rattle.flashnor.specs.declared.answers.Answer.{Answer}
 use Rattle.flashnor.specs.declared.holding.Held.{Held}
@@ -51,7 +51,8 @@ module _ (programmer : Programmer) (held : Held) (old new : FilesState) (bus bus
     (read : IsContentOf old.view programmer held.content) (opens : OpensChip programmer held.content bus)
     (many : length held.content.bytes.items ≡ (emulated_part programmer.chip).size) (stands : StandsFor programmer held)
     (small : bus'.chip.kept2 < 128)
-    (amid : AreAmid programmer held.image_there held.status_there held.content.bytes.items held.content.status bus'.chip new) where
+    (amid : AreAmid programmer held.image_there held.status_there held.content.bytes.items held.content.status bus'.chip new)
+    (image_whole : LeavesAsLong programmer.image old new) (status_whole : LeavesAsLong programmer.status old new) where
   size : bus.chip.config.size ≡ (emulated_part programmer.chip).size
   size = size_with programmer.chip programmer.unique bus.chip.config opens.ready.config
 
@@ -96,7 +97,14 @@ module _ (programmer : Programmer) (held : Held) (old new : FilesState) (bus bus
 
     pub way_back : LeavesWayBack programmer file old new
     unfolding first
-    way_back = record { first = first; sealed = vault'.sealed; same = unsealed; back = sealed }
+    way_back = record {
+      image = image_whole;
+      status = status_whole;
+      first = first;
+      sealed = vault'.sealed;
+      same = unsealed;
+      back = sealed;
+    }
 
   -- behind a restore from the file of this name
   pub restorable : (file : Text) (journal : Journal) (named : Option (Bor Text)) (outcome : Result Answer Refusal) → IsContent journal
@@ -104,6 +112,8 @@ module _ (programmer : Programmer) (held : Held) (old new : FilesState) (bus bus
       → LeavesRestorable programmer file old new
   unfolding first
   restorable file journal named outcome sound is_read stays restored = record {
+    image = image_whole;
+    status = status_whole;
     found = first;
     journal = journal;
     sound = sound;

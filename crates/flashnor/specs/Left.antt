@@ -1,6 +1,6 @@
 -- What a machine that is lost leaves of a chip's files and its journal, and what a later run opens from it.
-use Rattle.std.specs.Prelude.{◌≡◌, ◌≢◌, ◌⊎◌, ◌/◌, ◌%◌, ◌∷◌, [], ℕ, Bool, true, false, Option, None, Some, IfSome, length, replicate}
-use Rattle.std.specs.Prelude.{slice_index, unwrap_or}
+use Rattle.std.specs.Prelude.{◌≡◌, ◌≢◌, ◌⊎◌, ◌/◌, ◌%◌, ◌∷◌, [], ℕ, Bool, true, false, List, Option, None, Some}
+use Rattle.std.specs.Prelude.{IfSome, IsSomeAnd, length, replicate, slice_index, unwrap_or, ⊤}
 use Rattle.std.specs.Borrow.{Bor}
 use Rattle.nor_chip.specs.Bus.{BusState}
 use Rattle.nor_chip.specs.Chip.{Chip, IsSame}
@@ -56,10 +56,18 @@ pub record LeadsBack (programmer : Programmer) (file : Text) (first : BusState) 
   pub left : LeavesJournal file journal files
   pub back : LeavesOnly programmer first.chip.config (CanGiveBack journal first.chip) files
 
+-- where the file that is named was there it is, whatever may be left of it, and has as many bytes
+abbrev pub LeavesAsLong : Option (Bor Text) → (old new : FilesState) → Type 0
+LeavesAsLong None old new = ⊤
+LeavesAsLong (Some name) old new = (had : List ℕ) → old.view.seen name.now ≡ Some had → (left : Found)
+    → new.may_leave name.now left → IsSomeAnd left (λ has. length has ≡ length had)
+
 -- At an exit of a run that changes a chip, with its journal in the file of this name. Until the journal is sealed
 -- whatever may be left of the chip's files opens to the first chip; from then on there is just one journal, and what
--- may be left opens to a chip from which it gives the first one back.
+-- may be left opens to a chip from which it gives the first one back. Of a file that was there all bytes are.
 pub record LeavesWayBack (programmer : Programmer) (file : Text) (old new : FilesState) : Type 0 where
+  pub image : LeavesAsLong programmer.image old new
+  pub status : LeavesAsLong programmer.status old new
   pub first : Opened programmer old
   pub sealed : Bool
   pub same : sealed ≡ false → LeavesOnly programmer first.bus.chip.config
@@ -88,8 +96,11 @@ pub record LeavesSources (programmer : Programmer) (file : Text) (old new : File
   pub others : (name : Text) → IsNot programmer.trace name → LeavesNoMore name old new
 
 -- At an exit of a run that restores from the journal in the file of this name: that is as before, and each chip that
--- it could give back from what the run opened it can still, from whatever may be left.
+-- it could give back from what the run opened it can still, from whatever may be left. Of a file that was there all
+-- bytes are.
 pub record LeavesRestorable (programmer : Programmer) (file : Text) (old new : FilesState) : Type 0 where
+  pub image : LeavesAsLong programmer.image old new
+  pub status : LeavesAsLong programmer.status old new
   pub found : Opened programmer old
   pub journal : Journal
   pub sound : IsContent journal

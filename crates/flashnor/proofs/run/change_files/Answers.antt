@@ -93,5 +93,6 @@ returns-clause-keeps g c =
     (as_many s0.view job.programmer.image _ _ _ held.ok.bytes (length-replicate _ 255)) held.stands c.in_ok-called.called.bus.flash.kept2_in
     rest is_held.stay held.nature called.nature (view_before job.programmer.trace s0 s1 d.0 held.nature held.stay d.1)
     (c.write_back.ensures.others (lawful_after s1 s2 called.nature lawful1)) (c.write_back.ensures.amid two _ _ ready)
+    is_held setup
     job.task job.named _ puts (called.others lawful1) (named_by job.task).journal roles.image_journal roles.status_journal roles.trace_journal
     refl d.2
