@@ -79,7 +79,7 @@ pub fn run_over<R: Store, O: Write, E: Write>(
     ensures { IsStatus (R.state rt.old) (R.state rt.new) (map string_bytes words.now)
         (O.contents output.old) (O.contents output.new) (E.contents errors.old) (E.contents errors.new) result }
 {
-    // Nothing is done here: what a run leaves is joined to what the next one finds.
+    // It does nothing: a program's laws are checked only where its runs call them.
     runs_lead_back::<R>();
     let Ended { answer, unwritten } = run(rt, words);
     print_end(output, errors, answer, unwritten)

@@ -1,5 +1,5 @@
-//! Laws on sessions and restores that follow one another, and for whoever keeps a chip in files, and its journal: from a
-//! session to a restore, and at each moment between.
+//! Laws on sessions and restores that follow one another, and for whoever keeps a chip in files, and its journal: from
+//! a session to a restore, and at each moment between.
 ghost use Rattle.std.specs.Prelude.{◌≡◌, true, ℕ, List};
 ghost use Rattle.nor_chip.specs.Bus.{BusState};
 ghost use Rattle.nor_chip.specs.Chip.{Chip, IsChip, IsSame};
