@@ -1,5 +1,10 @@
--- Counts of the numbers that pass a test.
+-- Counts of the numbers that pass a test, and of the sectors of a set.
 use Rattle.std.specs.Prelude.{ℕ, ◌≡◌, ◌+◌, Bool, if◌then◌else◌}
+use Rattle.nor_count.specs.Below.{count_below}
+
+-- how many sectors a set has, of the 4,096 that there may be
+abbrev pub sector_count : (ℕ → Bool) → ℕ
+sector_count sectors = count_below 4096 sectors
 
 -- how many of the numbers below each one pass the test
 pub record IsCount (test : ℕ → Bool) (count : ℕ → ℕ) : Type 0 where

@@ -1,8 +1,8 @@
 -- Tests of the numbers below a bound, and their count.
 use Rattle.std.proofs.Common.{◌≡◌, ◌<◌, ◌≤◌, ◌+◌, ◌||◌, ◌∙◌, ℕ, zero, suc, Bool, true, false, refl, ap, arith, add-one}
 use Rattle.std.specs.Prelude.{if◌then◌else◌}
-use Rattle.nor_layout.specs.Below.{any_below, count_below}
-pub use Rattle.nor_layout.proofs.Below.{any_below-some, count_below-zero, count_below-more, count_below-most}
+use Rattle.nor_count.specs.Below.{any_below, count_below}
+pub use Rattle.nor_count.proofs.Below.{any_below-some, count_below-zero, count_below-more, count_below-most}
 
 -- how many there are with a number that passes, or with one that doesn't
 pub count_below-with : (n : ℕ) (test : ℕ → Bool) → test n ≡ true → count_below (n + 1) test ≡ count_below n test + 1

@@ -2,9 +2,9 @@
 use Rattle.std.proofs.Common.{◌≡◌, ◌<◌, ◌+◌, ◌||◌, ◌∙◌, ℕ, zero, suc, Bool, true, false, ap, sym, arith, inl, inr}
 use Rattle.std.specs.Prelude.{MatchBool, if◌then◌else◌, ◌==◌}
 use Rattle.std.proofs.lemmas.Bool.{cases_eq, or_left, ne_eqb, eq-eqb}
-use Rattle.nor_layout.specs.Below.{any_below, count_below}
-use Rattle.nor_layout.proofs.Below.{any_below-some}
-use Rattle.nor_apply.proofs.Counting.{any_below-all, count_below-same}
+use Rattle.nor_count.specs.Below.{any_below, count_below}
+use Rattle.nor_count.proofs.Below.{any_below-some}
+use Rattle.nor_count.proofs.Counting.{any_below-all, count_below-same}
 
 -- a verdict by a number that passes, or by all that fail
 pub any_below-decided : (n : ℕ) (verdict : Bool) (test : ℕ → Bool) (P Q : ℕ → Type 0) → ((k : ℕ) → P k → test k ≡ true) → ((k : ℕ) → Q k → test k ≡ false)

@@ -3,7 +3,7 @@ use Rattle.std.proofs.Common.{ℕ, zero, suc, ◌≡◌, ◌<◌, ◌+◌, Bool,
 use Rattle.std.specs.Prelude.{count_by}
 use Rattle.std.specs.List.{range_with_len}
 use Rattle.std.proofs.lemmas.List.Sums.{sum_by_push}
-use Rattle.nor_plan.specs.Counts.{IsCount}
+use Rattle.nor_count.specs.Counts.{IsCount}
 
 range_more : (from n : ℕ) → range_with_len from (suc n) ≡ range_with_len from n ++ (from + n) ∷ []
 range_more from zero = let first : from ≡ from + 0 = omega arith in ap (λ k. k ∷ []) first

@@ -1,0 +1,4 @@
+pub mod Below
+pub mod Counting
+pub mod CountedRanges
+pub mod Verdicts
