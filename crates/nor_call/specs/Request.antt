@@ -1,13 +1,16 @@
 -- What a request asks of a chip.
-use Rattle.std.specs.Prelude.{◌≡◌, ◌/◌, ◌&&◌, ℕ, Bool, true, false, nat_lt, List, slice_index, if◌then◌else◌}
+use Rattle.std.specs.Prelude.{◌≡◌, ◌&&◌, ℕ, Bool, true, false, nat_lt, List, None, slice_index, if◌then◌else◌}
 use Rattle.nor_chip.specs.Chip.{Chip}
 use Rattle.nor_chip.specs.Guard.{code_of}
 use Rattle.nor_chip.specs.Offer.{IsLeastCode}
 use Rattle.nor_layout.specs.Sectors.{includes, sectors_included}
-use Rattle.nor_apply.specs.Content.{is_touched, is_raised}
-use Rattle.nor_save.specs.declared.request.Request.{Request}
-use Rattle.nor_save.specs.declared.request.What.{What}
-use Rattle.nor_save.specs.declared.request.What.TheVariants.{Write, WpRange}
+use Rattle.nor_call.specs.declared.request.Request.{Request}
+use Rattle.nor_call.specs.declared.request.What.{What}
+use Rattle.nor_call.specs.declared.request.What.TheVariants.{Write, WpRange}
+
+-- the request for this and nothing besides: the whole chip, of any name, with no unlock, and nothing read back
+abbrev pub plain : What → Request
+plain wish = record { what = wish; named = None; included = None; unlock = false; verify = false }
 
 -- what is asked for is about bytes, not about protection
 abbrev pub is_data : What → Bool
@@ -36,13 +39,3 @@ scanned_sectors request size = if is_data request.what then sectors_included req
 abbrev pub IsWantedCode : What → Chip → (code : ℕ) → Type 0
 IsWantedCode (WpRange start len) chip code = IsLeastCode chip.config.size start len code
 IsWantedCode _ chip code = code ≡ code_of chip
-
--- a sector of the chip is touched: some byte of it isn't the wanted one
-abbrev pub is_touched_by : Request → (image : List ℕ) → Chip → (s : ℕ) → Bool
-is_touched_by request image chip s =
-    nat_lt s (chip.config.size / 4096) && is_touched chip.bytes (wanted request image chip) s
-
--- a sector of the chip is raised: some bit of it has to go from 0 to 1 to make it the wanted one
-abbrev pub is_raised_by : Request → (image : List ℕ) → Chip → (s : ℕ) → Bool
-is_raised_by request image chip s =
-    nat_lt s (chip.config.size / 4096) && is_raised chip.bytes (wanted request image chip) s

@@ -1,13 +1,14 @@
 //! Why a call gave up.
-ghost use Rattle.std.specs.Prelude.{◌≡◌, ◌↔◌, IsTrue};
-ghost use Rattle.nor_save.specs.declared.refusal.Refusal.TheVariants as Refusals;
-ghost use Rattle.nor_save.specs.Refusal.{of_probe, of_halt, of_check};
+ghost use Rattle.std.specs.Prelude.{◌≡◌, ◌↔◌, IsTrue, Some};
+ghost use Rattle.nor_call.specs.declared.refusal.Refusal.TheVariants as Refusals;
+ghost use Rattle.nor_call.specs.Refusal.{of_probe, of_halt};
 
-use nor_apply::CheckFault;
 use nor_chip::Stopped;
 use nor_driver::Halt;
 use nor_journal::{JournalFault, VaultFault};
 use nor_probe::{ProbeFault, SfdpFault};
+use std::error::Error;
+use std::fmt;
 
 /// Why a call gave up. Each refusal has a number of its own, `number`. Those from 1 to 10 are judged in this order,
 /// and the first that holds is the answer.
@@ -57,7 +58,7 @@ pub enum Refusal {
 }
 
 impl Refusal {
-    ghost use Rattle.nor_save.specs.Refusal.{number_of};
+    ghost use Rattle.nor_call.specs.Refusal.{number_of};
 
     /// The number that a message shows.
     pub fn number(self) -> u8
@@ -95,6 +96,43 @@ impl Refusal {
     }
 }
 
+// Written out, since a text that is derived has no contract.
+impl fmt::Display for Refusal {
+    ghost use Rattle.nor_call.specs.Texts.{refusal_text};
+
+    ghost output = { λ refusal. Some (refusal_text refusal) };
+
+    #[tactic(auto, using(crate::proofs::Printed::padded_hex))]
+    fn fmt<W: fmt::Write>(&self, f: &mut fmt::Formatter<W>) -> fmt::Result {
+        match self {
+            Refusal::NoChip => f.write_str("no chip"),
+            Refusal::UnknownChip(fault) => write!(f, "unknown chip, SFDP fault {}", fault.number()),
+            Refusal::OtherName => f.write_str("another chip than named"),
+            Refusal::ImageSize { chip, image } => {
+                write!(f, "image of {image} bytes, chip of {chip} bytes")
+            }
+            Refusal::RegionOutside => f.write_str("region outside the chip"),
+            Refusal::NoProtection => f.write_str("no protection on this chip"),
+            Refusal::UndefinedProtection => f.write_str("undefined protection"),
+            Refusal::RangeNotOffered => f.write_str("range not offered"),
+            Refusal::StatusLocked => f.write_str("status locked"),
+            Refusal::Protected { address } => write!(f, "protected at 0x{address:06x}"),
+            Refusal::Vault => f.write_str("journal not written"),
+            Refusal::Stopped => f.write_str("stopped"),
+            Refusal::Timeout { address } => write!(f, "timeout at 0x{address:06x}"),
+            Refusal::Mismatch { address } => write!(f, "bytes differ at 0x{address:06x}"),
+            Refusal::BadJournal(fault) => write!(f, "journal fault {}", fault.number()),
+            Refusal::OtherChip => f.write_str("another chip than the journal's"),
+            Refusal::StatusDiffers => f.write_str("status differs from the journal's"),
+            Refusal::Memory => f.write_str("out of memory"),
+            Refusal::Output { written } => write!(f, "output failed after {written} bytes"),
+            Refusal::OtherUnit => f.write_str("another unit than the journal's"),
+        }
+    }
+}
+
+impl Error for Refusal {}
+
 impl From<ProbeFault> for Refusal {
     ghost from_gives = { λ fault refusal. refusal ≡ of_probe fault };
 
@@ -116,17 +154,6 @@ impl From<Halt> for Refusal {
         match halt {
             Halt::Stopped => Refusal::Stopped,
             Halt::Timeout { address } => Refusal::Timeout { address },
-        }
-    }
-}
-
-impl From<CheckFault> for Refusal {
-    ghost from_gives = { λ fault refusal. refusal ≡ of_check fault };
-
-    fn from(fault: CheckFault) -> Refusal {
-        match fault {
-            CheckFault::Stopped => Refusal::Stopped,
-            CheckFault::Mismatch { address } => Refusal::Mismatch { address },
         }
     }
 }

@@ -4,10 +4,8 @@ use Rattle.nor_driver.specs.declared.waits.Halt.{Halt}
 use Rattle.nor_driver.specs.declared.waits.Halt.TheVariants as Halts
 use Rattle.nor_probe.specs.declared.probes.ProbeFault.{ProbeFault}
 use Rattle.nor_probe.specs.declared.probes.ProbeFault.TheVariants as Probes
-use Rattle.nor_apply.specs.declared.checks.CheckFault.{CheckFault}
-use Rattle.nor_apply.specs.declared.checks.CheckFault.TheVariants as Checks
-use Rattle.nor_save.specs.declared.refusal.Refusal.{Refusal}
-use Rattle.nor_save.specs.declared.refusal.Refusal.TheVariants.{NoChip, UnknownChip, OtherName, ImageSize, RegionOutside, NoProtection, UndefinedProtection, RangeNotOffered, StatusLocked, Protected, Vault, Stopped, Timeout, Mismatch, BadJournal, OtherChip, StatusDiffers, Memory, Output, OtherUnit}
+use Rattle.nor_call.specs.declared.refusal.Refusal.{Refusal}
+use Rattle.nor_call.specs.declared.refusal.Refusal.TheVariants.{NoChip, UnknownChip, OtherName, ImageSize, RegionOutside, NoProtection, UndefinedProtection, RangeNotOffered, StatusLocked, Protected, Vault, Stopped, Timeout, Mismatch, BadJournal, OtherChip, StatusDiffers, Memory, Output, OtherUnit}
 
 -- the number that a message shows
 abbrev pub number_of : Refusal → ℕ
@@ -43,7 +41,3 @@ of_probe Probes.Timeout = Timeout 0
 abbrev pub of_halt : Halt → Refusal
 of_halt Halts.Stopped = Stopped
 of_halt (Halts.Timeout address) = Timeout address
-
-abbrev pub of_check : CheckFault → Refusal
-of_check Checks.Stopped = Stopped
-of_check (Checks.Mismatch address) = Mismatch address

@@ -1,0 +1,4 @@
+pub mod Refusal
+pub mod Request
+pub mod Tells
+pub mod Texts
