@@ -1,8 +1,11 @@
 -- What a bus keeps. Contracts see a bus as one state.
-use Rattle.std.specs.Prelude.{◌≡◌, ◌+◌, ◌||◌, ℕ, Bool, true, List, length, if◌then◌else◌}
+use Rattle.std.specs.Prelude.{◌≡◌, ◌+◌, ◌||◌, ℕ, Bool, true, false, List, [], length}
+use Rattle.std.proofs.Common.{refl}
+use Rattle.nor_chip.specs.declared.running.Running.TheVariants.{Unknown}
 use Rattle.nor_chip.specs.Chip.{Chip}
 use Rattle.nor_chip.specs.Power.{AtStop}
-use Rattle.nor_chip.specs.Command.{begins_change}
+use Rattle.nor_chip.specs.declared.sent.Sent.{Sent}
+use Rattle.nor_chip.specs.Sent.{Notes}
 use Rattle.nor_chip.specs.Step.{Step, done_of, wears}
 
 -- A bus, as contracts see it.
@@ -12,8 +15,8 @@ pub record BusState : Type 0 where
   pub left : ℕ
   -- the bus keeps the law
   pub honest : Bool
-  -- a transaction that begins with a changing opcode was sent, or tried
-  pub stirred : Bool
+  -- what was sent that may change a chip, or was tried
+  pub sent : Sent
   -- the sectors that were erased
   pub worn : ℕ → Bool
   -- a stop leaves the chip as it was, and no power is lost
@@ -24,10 +27,10 @@ pub record KeepsNature (old new : BusState) : Type 0 where
   pub honest : new.honest ≡ old.honest
   pub steady : new.steady ≡ old.steady
 
--- On every bus: whether it is honest and steady never changes, and a changing opcode stirs it for good.
+-- On every bus: whether it is honest and steady never changes, and what is sent that may change a chip is noted.
 pub record Sends (out : List ℕ) (old new : BusState) : Type 0 where
   pub nature : KeepsNature old new
-  pub stirred : new.stirred ≡ (if begins_change out then true else old.stirred)
+  pub sent : Notes out old.sent new.sent
 
 -- Stopped: there was no transaction left, and nothing moved, or on a bus that isn't steady the power was lost.
 pub record Stops (old new : BusState) : Type 0 where
@@ -47,5 +50,33 @@ pub record Allows (n : ℕ) (old new : BusState) : Type 0 where
   pub chip : new.chip ≡ old.chip
   pub left : old.honest ≡ true → new.left ≡ n
   pub nature : KeepsNature old new
-  pub stirred : new.stirred ≡ old.stirred
+  pub sent : new.sent ≡ old.sent
   pub worn : (s : ℕ) → new.worn s ≡ old.worn s
+
+-- A bus of which nothing is known but what was sent over it, as one to a chip that isn't modelled: it isn't honest, so
+-- nothing is promised of its chip, and any stands for it.
+abbrev pub unknown_bus : Sent → BusState
+unknown_bus sent = record {
+  chip = record {
+    config = record {
+      id = [];
+      size = 65536;
+      kinds = record { k32 = false; k64 = false };
+      scheme = false;
+      unique = [];
+      sfdp = [];
+      sized = refl;
+    };
+    bytes = λ a. 0;
+    kept1 = 0;
+    kept2 = 0;
+    latch = false;
+    busy = 0;
+    running = Unknown;
+  };
+  left = 0;
+  honest = false;
+  sent = sent;
+  worn = λ s. false;
+  steady = false;
+}

@@ -14,7 +14,7 @@ state_of bus = record {
   chip = chip_of bus.flash;
   left = bus.left;
   honest = true;
-  stirred = bus.stirred;
+  sent = bus.sent;
   worn = λ s. slice_index_or bus.worn s false;
   steady = is_none bus.fill;
 }

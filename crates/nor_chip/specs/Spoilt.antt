@@ -4,6 +4,7 @@ use Rattle.nor_chip.specs.declared.spoilt.SpoiltBus.{SpoiltBus}
 use Rattle.nor_chip.specs.declared.spoilt.Spoil.{Spoil}
 use Rattle.nor_chip.specs.declared.spoilt.Spoil.TheVariants.{Fill, BusyFrom, Drop, Low}
 use Rattle.nor_chip.specs.declared.bus.Stopped.{Stopped}
+use Rattle.nor_chip.specs.declared.sent.Sent.{Sent}
 use Rattle.nor_chip.specs.Bus.{BusState, Stops, Carries}
 
 -- the bus inside, how it is spoilt, and how many transactions were carried out or answered
@@ -13,25 +14,29 @@ inner_of bus = bus.bus
 abbrev pub spoil_of : {B : Type 0} → SpoiltBus B → Spoil
 spoil_of bus = bus.spoil
 
+-- what was sent over it that may change a chip
+abbrev pub noted_of : {B : Type 0} → SpoiltBus B → Sent
+noted_of bus = bus.noted
+
 abbrev pub sent_of : {B : Type 0} → SpoiltBus B → ℕ
 sent_of bus = bus.sent
 
--- it isn't honest; all else is as the bus inside, and a changing opcode stirs it that doesn't get there
+-- it isn't honest, and what is sent over it is noted also where it doesn't get there; all else is as the bus inside
 abbrev pub spoilt_state : {B : Type 0} → (B → BusState) → SpoiltBus B → BusState
 spoilt_state state bus = record (state bus.bus) {
   honest = false;
-  stirred = if bus.stirred then true else (state bus.bus).stirred;
+  sent = bus.noted;
 }
 
 -- the one byte that a transaction replies which isn't carried out: every transaction, or the one behind so many
-abbrev pub kept_back : Spoil → ℕ → Option ℕ
-kept_back (Fill byte) sent = Some byte
-kept_back (BusyFrom first) sent = None
-kept_back (Drop number) sent = if sent + 1 == number then Some 255 else None
-kept_back (Low bit) sent = None
+abbrev pub withheld : Spoil → ℕ → Option ℕ
+withheld (Fill byte) sent = Some byte
+withheld (BusyFrom first) sent = None
+withheld (Drop number) sent = if sent + 1 == number then Some 255 else None
+withheld (Low bit) sent = None
 
-abbrev pub kept_back_of : {B : Type 0} → SpoiltBus B → Option ℕ
-kept_back_of bus = kept_back (spoil_of bus) (sent_of bus)
+abbrev pub withheld_of : {B : Type 0} → SpoiltBus B → Option ℕ
+withheld_of bus = withheld (spoil_of bus) (sent_of bus)
 
 -- a poll goes out
 abbrev pub is_poll : List ℕ → Bool
@@ -47,7 +52,7 @@ spoilt_byte (Drop number) sent out byte = byte
 spoilt_byte (Low bit) sent out byte = if nat_lt bit 8 then bit_and byte (255 - 2 ^ bit) else byte
 
 -- Not carried out: the bus inside stays as it is, and each reply byte is this one.
-pub record IsKeptBack {B : Type 0} (byte : ℕ) (asked answer : List ℕ) (outcome : Result Unit Stopped)
+pub record IsWithheld {B : Type 0} (byte : ℕ) (asked answer : List ℕ) (outcome : Result Unit Stopped)
     (old new : B) : Type 0 where
   pub answered : IsOk outcome
   pub inner : new ≡ old
@@ -71,7 +76,7 @@ pub record Spoils {B : Type 0} (state : B → BusState) (out asked answer : List
   pub spoil : spoil_of new ≡ spoil_of old
   pub counted : OnOk outcome (sent_of new ≡ min (sent_of old + 1) (2 ^ 64 - 1))
   pub uncounted : OnErr outcome (sent_of new ≡ sent_of old)
-  pub kept_back : IfSome (kept_back_of old) (λ byte. IsKeptBack byte asked answer outcome (inner_of old) (inner_of new))
-  pub passed_on : IfNone (kept_back_of old)
+  pub withheld : IfSome (withheld_of old) (λ byte. IsWithheld byte asked answer outcome (inner_of old) (inner_of new))
+  pub passed_on : IfNone (withheld_of old)
       (GoesThrough (spoilt_byte (spoil_of old) (sent_of old) out) out asked answer outcome
       (state (inner_of old)) (state (inner_of new)))

@@ -4,6 +4,7 @@ use Rattle.nor_chip.specs.declared.config.Config.{Config}
 use Rattle.nor_chip.specs.declared.sim.Delays.{Delays}
 use Rattle.nor_chip.specs.declared.running.Running.TheVariants.{Unknown}
 use Rattle.nor_chip.specs.Chip.{Chip, status1_of, status2_of}
+use Rattle.nor_chip.specs.Sent.{IsNothing}
 use Rattle.nor_chip.specs.Bus.{BusState}
 
 -- A new bus: its chip has this configuration, these bytes, the kept bits and the latch of these two status
@@ -19,7 +20,7 @@ pub record Starts (setup : Config) (image flags : List ℕ) (delays : Delays) (s
   pub running : state.chip.running ≡ Unknown
   pub left : state.left ≡ 0
   pub honest : state.honest ≡ true
-  pub stirred : state.stirred ≡ false
+  pub sent : IsNothing state.sent
   pub worn : (s : ℕ) → state.worn s ≡ false
   pub steady : state.steady ≡ true
 

@@ -3,15 +3,25 @@ ghost use Rattle.std.specs.Prelude.{◌≡◌, true, length, OnOk, OnErr};
 ghost use Rattle.nor_chip.specs.Chip.{IsChip};
 ghost use Rattle.nor_chip.specs.Bus.{BusState, Sends, Stops, Carries, Allows};
 
+use std::fmt;
+
 /// The bus carried a transaction out no more: its power went, or its allowance was used up.
 #[derive(Clone, Copy, Debug, PartialEq, Eq)]
 pub struct Stopped;
+
+impl fmt::Display for Stopped {
+    fn fmt<W: fmt::Write>(&self, f: &mut fmt::Formatter<W>) -> fmt::Result {
+        f.write_str("the bus stopped")
+    }
+}
+
+impl std::error::Error for Stopped {}
 
 /// A way to a chip. A transaction sends the bytes `out` and then takes in as many bytes as `reply` holds.
 ///
 /// Contracts see a bus as a `BusState`. Where that is honest, the bus keeps the law: it stops exactly where no
 /// transaction is left, and then nothing moves; else the chip makes one step. A bus that lies may do anything
-/// but change its honesty or hide that a changing opcode was sent.
+/// but change its honesty or hide what was sent that may change a chip.
 pub trait Bus {
     ghost state: { Self → BusState };
 

@@ -5,8 +5,7 @@ ghost use Rattle.nor_chip.specs.Aim.{IsAimed};
 ghost use Rattle.nor_chip.specs.Step.{wears};
 
 use crate::{
-    Bus, Command, Config, MOST_SECTORS, Meter, Running, SECTOR_LEN, Status, Status1, Stopped,
-    is_changing,
+    Bus, Command, Config, MOST_SECTORS, Meter, Running, SECTOR_LEN, Sent, Status, Status1, Stopped,
 };
 use bitflags::Flags;
 use flash::Flash;
@@ -41,7 +40,7 @@ pub struct SimBus {
     flash: Flash,
     left: u64,
     fill: Option<u8>,
-    stirred: bool,
+    sent: Sent,
     worn: [bool; MOST_SECTORS as usize],
 }
 
@@ -77,11 +76,12 @@ impl SimBus {
             each: delays.each,
             running: Running::Unknown,
         };
+        let sent = Sent::new();
         Ok(SimBus {
             flash,
             left: 0,
             fill: None,
-            stirred: false,
+            sent,
             worn: [false; MOST_SECTORS as usize],
         })
     }
@@ -136,7 +136,7 @@ impl Bus for SimBus {
             → OnOk result (Carries out.now reply.new (state_of self.old) (state_of self.new)) }
         ensures simulates { Simulates out.now reply.new result self.old self.new }
     {
-        self.stirred = is_changing(out) || self.stirred;
+        self.sent.note(out);
         if self.left == 0 {
             if let Some(fill) = self.fill {
                 self.flash.lose_power(fill);

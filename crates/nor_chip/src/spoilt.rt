@@ -2,10 +2,11 @@
 ghost use Rattle.std.specs.Prelude.{◌≡◌, Bool, true, false, OnOk, OnErr, MatchBool, EachIndex, slice_index, ⊤};
 ghost use Rattle.std.proofs.Common.{subst};
 ghost use Rattle.nor_chip.specs.Chip.{IsChip};
+ghost use Rattle.nor_chip.specs.Sent.{IsNothing};
 ghost use Rattle.nor_chip.specs.Bus.{Sends, Stops, Carries, Allows};
-ghost use Rattle.nor_chip.specs.Spoilt.{inner_of, spoil_of, sent_of, spoilt_state, kept_back, spoilt_byte, Spoils};
+ghost use Rattle.nor_chip.specs.Spoilt.{inner_of, spoil_of, sent_of, noted_of, spoilt_state, withheld, spoilt_byte, Spoils};
 
-use crate::{Bus, Meter, Stopped, is_changing};
+use crate::{Bus, Meter, Sent, Stopped};
 
 /// How a spoilt bus lies. Its transactions are counted from 1.
 #[derive(Clone, Copy, Debug, PartialEq, Eq)]
@@ -26,7 +27,7 @@ pub struct SpoiltBus<B> {
     bus: B,
     spoil: Spoil,
     sent: u64,
-    stirred: bool,
+    noted: Sent,
 }
 
 impl<B: Bus> SpoiltBus<B> {
@@ -35,13 +36,14 @@ impl<B: Bus> SpoiltBus<B> {
         ensures inner { inner_of result ≡ inner }
         ensures spoil { spoil_of result ≡ spoil }
         ensures sent { sent_of result ≡ 0 }
-        ensures state { ⟦<SpoiltBus<B> as Bus>⟧.state result ≡ record (B.state inner) { honest = false } }
+        ensures state { ⟦<SpoiltBus<B> as Bus>⟧.state result ≡ record (B.state inner) { honest = false; sent = noted_of result } }
+        ensures nothing { IsNothing (noted_of result) }
     {
         SpoiltBus {
             bus: inner,
             spoil,
             sent: 0,
-            stirred: false,
+            noted: Sent::new(),
         }
     }
 
@@ -61,7 +63,7 @@ impl<B: Bus> SpoiltBus<B> {
             bus,
             spoil: _,
             sent: _,
-            stirred: _,
+            noted: _,
         } = self;
         bus
     }
@@ -82,8 +84,8 @@ impl<B: Bus> Bus for SpoiltBus<B> {
             → OnOk result (Carries out.now reply.new (spoilt_state B.state self.old) (spoilt_state B.state self.new)) }
         ensures spoils { Spoils B.state out.now reply.old reply.new result self.old self.new }
     {
-        self.stirred = is_changing(out) || self.stirred;
-        match kept_back(self.spoil, self.sent) {
+        self.noted.note(out);
+        match withheld(self.spoil, self.sent) {
             Some(byte) => reply.fill(byte),
             None => {
                 self.bus.transfer(out, reply)?;
@@ -106,9 +108,9 @@ impl<B: Meter> Meter for SpoiltBus<B> {
     }
 }
 
-// What each reply byte is, where the transaction behind so many isn't carried out.
-fn kept_back(spoil: Spoil, sent: u64) -> Option<u8>
-    ensures { result ≡ kept_back spoil sent }
+// What each reply byte is, where the transaction behind so many is withheld from the bus inside.
+fn withheld(spoil: Spoil, sent: u64) -> Option<u8>
+    ensures { result ≡ withheld spoil sent }
 {
     match spoil {
         Spoil::Fill(byte) => Some(byte),

@@ -16,7 +16,7 @@ returns-clause-starts c = record {
   running = grind (arith, common_steps);
   left = grind (arith, common_steps);
   honest = grind (arith, common_steps);
-  stirred = grind (arith, common_steps);
+  sent = c.new-sent.ensures;
   worn = λ s. get_or-replicate_all 4096 s false;
   steady = grind (arith, common_steps);
 }

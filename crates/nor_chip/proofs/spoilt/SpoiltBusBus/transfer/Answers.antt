@@ -1,20 +1,20 @@
 use Rattle.std.proofs.Common.{rules, refl, ◌≡◌, ◌∙◌, sym}
 use Rattle.std.specs.Prelude.{None, Some}
-use Rattle.nor_chip.specs.Spoilt.{kept_back}
+use Rattle.nor_chip.specs.Spoilt.{withheld}
 use Rattle.nor_chip.proofs.spoilt.SpoiltBusBus.transfer.Goals as goal
 use Rattle.nor_chip.proofs.spoilt.SpoiltBusBus.transfer.Goals.{in-Some, in-None+in_ok-transfer-in-None}
 
 pub returns-clause-spoils : goal.returns-clause-spoils
 returns-clause-spoils g c =
-    elim c.match-kept_back.branch [
+    elim c.match-withheld.branch [
       | in-Some w ↦
-          let kept : kept_back c.args.self.now.spoil c.args.self.now.sent ≡ Some w.in-Some.byte = sym c.kept_back.ensures ∙ w.in-Some.is in
+          let kept : withheld c.args.self.now.spoil c.args.self.now.sent ≡ Some w.in-Some.byte = sym c.withheld.ensures ∙ w.in-Some.is in
           let fill = w.fill.ensures.after (λ byte same. same) in
           record {
             spoil = rw w.self-is refl;
             counted = rw (c.saturating_add-self.ensures, w.self-is) refl;
             uncounted = tt;
-            kept_back = rw kept record {
+            withheld = rw kept record {
               answered = refl;
               inner = rw w.self-is refl;
               replies = w.reply-is ∙ fill;
@@ -22,12 +22,12 @@ returns-clause-spoils g c =
             passed_on = rw kept tt;
           }
       | in-None+in_ok-transfer-in-None w ↦
-          let passed : kept_back c.args.self.now.spoil c.args.self.now.sent ≡ None = sym c.kept_back.ensures ∙ w.in-None.is in
+          let passed : withheld c.args.self.now.spoil c.args.self.now.sent ≡ None = sym c.withheld.ensures ∙ w.in-None.is in
           record {
             spoil = rw w.self-is refl;
             counted = rw (c.saturating_add-self.ensures, w.self-is) refl;
             uncounted = tt;
-            kept_back = rw passed tt;
+            withheld = rw passed tt;
             passed_on = rw (passed, w.self-is, w.reply-is) record {
               replied = w.transfer.new.reply;
               as_many = search rules;
