@@ -40,8 +40,8 @@ addressed_command-aimed : (config : Config) (opcode at replies : ℕ) → config
 addressed_command-aimed config opcode at replies blocks below =
     let size = config.size in
     IsAimed-if size (opcode == 0x03) _ _ below (IsAimed-if size (opcode == 0x20 && replies == 0) _ _ (sector_aimed config.size at blocks below)
-    (IsAimed-if size (opcode == 0x52 && replies == 0 && config.k32) _ _ (half_block_aimed config.size at blocks below)
-    (IsAimed-if size (opcode == 0xD8 && replies == 0 && config.k64) _ _ (block_aimed config.size at blocks below) tt)))
+    (IsAimed-if size (opcode == 0x52 && replies == 0 && config.kinds.k32) _ _ (half_block_aimed config.size at blocks below)
+    (IsAimed-if size (opcode == 0xD8 && replies == 0 && config.kinds.k64) _ _ (block_aimed config.size at blocks below) tt)))
 
 -- what a transaction asks for aims at places of the chip
 pub command_of-aimed : (config : Config) (out : List ℕ) (replies : ℕ) → 65536 ≤ config.size → config.size % 65536 ≡ 0 → IsAimed config.size (command_of config out replies)

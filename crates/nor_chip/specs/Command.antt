@@ -28,8 +28,8 @@ abbrev pub addressed_command : Config → (opcode at replies : ℕ) → Command
 addressed_command config opcode at replies =
     if opcode == 0x03 then ReadData at
     else if opcode == 0x20 && replies == 0 then aligned_erase 4096 at
-    else if opcode == 0x52 && replies == 0 && config.k32 then aligned_erase 32768 at
-    else if opcode == 0xD8 && replies == 0 && config.k64 then aligned_erase 65536 at
+    else if opcode == 0x52 && replies == 0 && config.kinds.k32 then aligned_erase 32768 at
+    else if opcode == 0xD8 && replies == 0 && config.kinds.k64 then aligned_erase 65536 at
     else Ignored
 
 -- What a transaction asks for, by how many bytes go out, the first of them and how many replies are taken in.

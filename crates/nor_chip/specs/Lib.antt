@@ -5,6 +5,7 @@ pub mod Power
 pub mod Guard
 pub mod Command
 pub mod Step
+pub mod Sent
 pub mod Bus
 pub mod Cells
 pub mod Aim

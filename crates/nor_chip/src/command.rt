@@ -75,8 +75,8 @@ impl Command {
         match opcode {
             0x03 => Command::ReadData(at),
             0x20 if replies == 0 => Self::unit(SECTOR_LEN, at),
-            0x52 if replies == 0 && config.k32 => Self::unit(32768, at),
-            0xD8 if replies == 0 && config.k64 => Self::unit(65536, at),
+            0x52 if replies == 0 && config.kinds.k32 => Self::unit(32768, at),
+            0xD8 if replies == 0 && config.kinds.k64 => Self::unit(65536, at),
             _ => Command::Ignored,
         }
     }

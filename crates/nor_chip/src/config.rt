@@ -23,15 +23,28 @@ pub const SECTOR_LEN: u32 = 4096;
 /// The most sectors that a chip has: three address bytes reach no further.
 pub const MOST_SECTORS: u32 = 4096;
 
-/// A chip's configuration: its ID as 9Fh replies, its size in bytes, which erases it has beside those of
-/// 4 KiB and of the whole chip, whether it has block protection, the unique ID that 4Bh replies, and its SFDP bytes,
-/// FFh past their end.
+/// The erase kinds beside the sector of 4 KiB (20h) and the whole chip (C7h), which every chip has.
+#[derive(Clone, Copy, Debug, PartialEq, Eq)]
+pub struct Kinds {
+    /// 52h erases 32 KiB.
+    pub k32: bool,
+    /// D8h erases 64 KiB.
+    pub k64: bool,
+}
+
+/// Every erase kind.
+pub const ALL_KINDS: Kinds = Kinds {
+    k32: true,
+    k64: true,
+};
+
+/// A chip's configuration: its ID as 9Fh replies, its size in bytes, its erase kinds, whether it has block
+/// protection, the unique ID that 4Bh replies, and its SFDP bytes, FFh past their end.
 #[derive(Clone, Copy)]
 pub struct Config {
     pub id: [u8; 3],
     pub size: u32,
-    pub k32: bool,
-    pub k64: bool,
+    pub kinds: Kinds,
     pub scheme: bool,
     pub unique: [u8; 8],
     pub sfdp: [u8; 256],
@@ -39,7 +52,7 @@ pub struct Config {
 }
 
 impl Config {
-    ghost use Rattle.nor_chip.specs.Makers.{HasParts, IsTiny64, IsW25q64fv, IsW25q128fv};
+    ghost use Rattle.nor_chip.specs.Makers.{HasParts, all_kinds, IsTiny64, IsW25q64fv, IsW25q128fv};
 
     /// A chip of one's own, whose SFDP bytes are `sfdp` from address 0 on. There is none where the size isn't a
     /// power of two from 65,536 to 16,777,216, or the SFDP bytes are more than 256. It takes no memory.
@@ -52,7 +65,7 @@ impl Config {
         sfdp: &[u8],
     ) -> Option<Config>
         ensures allowed { IsSome result ↔ ((is_chip_size size ≡ true) × (length sfdp.now ≤ 256)) }
-        ensures made { IfSome result (HasParts id size k32 k64 scheme sfdp.now) }
+        ensures made { IfSome result (HasParts id size (record { k32 = k32; k64 = k64 }) scheme sfdp.now) }
     {
         if !is_chip_size(size) || sfdp.len() > 256 {
             return None;
@@ -60,8 +73,7 @@ impl Config {
         Some(Config {
             id,
             size,
-            k32,
-            k64,
+            kinds: Kinds { k32, k64 },
             scheme,
             unique: [0; 8],
             sfdp: padded(sfdp),
@@ -95,13 +107,12 @@ impl Config {
     // An emulated chip of this size, with all erase kinds.
     fn emulated(id: [u8; 3], size: u32, scheme: bool) -> Config
         requires { IsTrue (is_chip_size size) }
-        ensures { HasParts id size true true scheme (sfdp_with (8 * size - 1)) result }
+        ensures { HasParts id size all_kinds scheme (sfdp_with (8 * size - 1)) result }
     {
         Config {
             id,
             size,
-            k32: true,
-            k64: true,
+            kinds: ALL_KINDS,
             scheme,
             unique: [0; 8],
             sfdp: padded(&sfdp_of(size)),

@@ -14,7 +14,7 @@ use walk::Offered;
 
 pub(crate) mod walk;
 
-/// Codes of six bits: CMP, SEC, TB, BP2, BP1, BP0 from the high end.
+// Codes of six bits: CMP, SEC, TB, BP2, BP1, BP0 from the high end.
 const CODES: u8 = 64;
 
 // Places of a chip: so many from `start` on.
@@ -45,7 +45,7 @@ fn is_complement(code: u8) -> bool
     code / 32 % 2 == 1
 }
 
-/// The datasheets don't define the code.
+// The datasheets don't define the code.
 pub(crate) fn is_undefined(code: u8) -> bool
     ensures { result ≡ is_undefined code }
 {
@@ -82,7 +82,7 @@ fn is_named(size: u32, code: u8, at: u32) -> bool
     }
 }
 
-/// The code guards this place of a chip of this size: where it isn't defined, every place.
+// The code guards this place of a chip of this size: where it isn't defined, every place.
 #[tactic(auto, unfolding(crate::specs::Guard::guarded_by))]
 pub(crate) fn is_guarded(size: u32, code: u8, at: u32) -> bool
     requires { 65536 ≤ size }

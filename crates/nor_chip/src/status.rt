@@ -130,13 +130,13 @@ impl Status2 {
     // The kept bits that aren't of the code.
     const FIXED: Status2 = Status2(Self::KEPT.0 & !Self::CODE.0);
 
-    /// The bits that a status write sets as sent.
+    // The bits that a status write sets as sent.
     const WRITTEN: Status2 = Status2(Self::SRP1.0 | Self::QE.0 | Self::CMP.0);
 
-    /// The bits that stay set once they are.
+    // The bits that stay set once they are.
     const LB: Status2 = Status2(Self::LB1.0 | Self::LB2.0 | Self::LB3.0);
 
-    /// The bits that a status write doesn't clear: those and the reserved one.
+    // The bits that a status write doesn't clear: those and the reserved one.
     const HELD: Status2 = Status2(Self::LB.0 | 0x04);
 
     // What a status write leaves of these bits.
@@ -232,8 +232,8 @@ impl Status {
         }
     }
 
-    /// What a status write leaves of these kept bits: BP, TB, SEC, SRP0, SRP1, QE and CMP are as sent, an LB bit
-    /// stays set once it is, and the reserved bit stays as it is.
+    // What a status write leaves of these kept bits: BP, TB, SEC, SRP0, SRP1, QE and CMP are as sent, an LB bit
+    // stays set once it is, and the reserved bit stays as it is.
     #[tactic(auto, using(crate::proofs::StatusBits::written_lt))]
     pub(crate) fn written(self, sent: Status) -> Status
         ensures one { result.one.0 ≡ sent.one.0 / 4 * 4 }

@@ -8,7 +8,7 @@ ghost use Rattle.nor_chip.specs.Trace.{traced_by, log_of, has_lost, traced_line,
 use crate::{Bus, Meter, Stopped};
 use std::io::{self, Write};
 
-/// How many bytes of a transaction are turned into digits at once.
+// How many bytes of a transaction are turned into digits at once.
 const PIECE: usize = 64;
 
 /// A bus that prints one line to a log for each transaction that the bus inside carries out: the bytes sent, as

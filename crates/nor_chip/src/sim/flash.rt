@@ -5,8 +5,8 @@ ghost use Rattle.nor_chip.specs.Power.{RunsInside};
 use super::cells;
 use crate::{Command, Config, Running, Status, guard};
 
-/// A chip: its configuration, its bytes, the kept bits of its status, its latch, how many polls will
-/// still answer BUSY, how many after each operation, and what runs.
+// A chip: its configuration, its bytes, the kept bits of its status, its latch, how many polls will
+// still answer BUSY, how many after each operation, and what runs.
 #[derive(Drop)]
 pub(crate) struct Flash {
     pub(crate) config: Config,
@@ -35,7 +35,7 @@ impl Flash {
     ghost use Rattle.nor_chip.specs.Guard.{code_of, is_guarded, is_unit_guarded};
     ghost use Rattle.nor_chip.specs.Step.{is_carried_out, done_of, reply_byte, Does, Step, kept2_after};
 
-    /// The status registers, as 05h and 35h reply them.
+    // The status registers, as 05h and 35h reply them.
     pub(crate) fn status(&self) -> Status
         ensures { bytes_of result ≡ status_of (chip_of self.now) }
     {
@@ -86,7 +86,7 @@ impl Flash {
         }
     }
 
-    /// What the chip will do at a transaction: what is asked for, or nothing where that isn't carried out.
+    // What the chip will do at a transaction: what is asked for, or nothing where that isn't carried out.
     pub(crate) fn command(&self, out: &[u8], replies: usize) -> Command
         ensures done { result ≡ done_of (chip_of self.now) out.now replies }
         ensures aimed { IsAimed self.now.config.size result }
@@ -182,8 +182,8 @@ impl Flash {
         }
     }
 
-    /// The power is lost: what runs is cut off, each byte of it becomes this fill, and a status write leaves the
-    /// old bits where the fill is even.
+    // The power is lost: what runs is cut off, each byte of it becomes this fill, and a status write leaves the
+    // old bits where the fill is even.
     pub(crate) fn lose_power(&mut self, fill: u8)
         ensures cut { PowerLostWith fill (chip_of self.old) (chip_of self.new) }
         ensures pace { self.new.each ≡ self.old.each }
@@ -216,7 +216,7 @@ impl Flash {
         }
     }
 
-    /// One transaction that is let through. Gives what the chip did.
+    // One transaction that is let through. Gives what the chip did.
     pub(crate) fn step(&mut self, out: &[u8], reply: &mut [u8]) -> Command
         ensures steps { Step (chip_of self.old) out.now reply.new (chip_of self.new) }
         ensures done { result ≡ done_of (chip_of self.old) out.now (length reply.new) }
