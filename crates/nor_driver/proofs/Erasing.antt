@@ -9,6 +9,7 @@ use Rattle.nor_chip.specs.Chip.{Chip}
 use Rattle.nor_chip.specs.Guard.{is_unit_guarded}
 use Rattle.nor_chip.specs.Command.{address_of}
 use Rattle.nor_chip.specs.Step.{is_idle, is_operation, is_carried_out}
+use Rattle.nor_chip.specs.Sent.{aims, is_in_aim, aim_unit}
 use Rattle.nor_chip.specs.Bus.{BusState}
 use Rattle.nor_chip.proofs.Sizes.{sized_bounds}
 use Rattle.nor_driver.proofs.Bools.{bool_same, tested}
@@ -16,8 +17,9 @@ use Rattle.nor_driver.specs.declared.units.Erase.{Erase}
 use Rattle.nor_driver.specs.declared.units.EraseUnit.{EraseUnit}
 use Rattle.nor_driver.specs.declared.units.EraseUnit.TheVariants as Units
 use Rattle.nor_driver.specs.Units.{opcode_of, sectors_in}
-use Rattle.nor_driver.specs.Operations.{operation_of, is_operation_or_none, AsksForOperation, MayOperate, HasOperated, LeavesOperation, Operates}
-use Rattle.nor_driver.specs.Erases.{sectors_of, unit_length, IsOnChip, CanErase, takes_erase, is_sector_in_unit, is_place_in_unit, MayErase, HasErased, LeavesErase, Erases}
+use Rattle.nor_driver.specs.Operations.{operation_of, is_operation_or_none, AsksForOperation, Stirs, writes_in, MayOperate, HasOperated, LeavesOperation, Operates}
+use Rattle.nor_driver.specs.Erases.{sectors_of, unit_length, IsOnChip, CanErase, takes_erase, is_sector_in_unit, is_place_in_unit, is_sector_named, MayErase, HasErased, LeavesErase, Erases}
+use Rattle.nor_driver.proofs.Aims.{stirs_more}
 use Rattle.nor_driver.proofs.Programming.{same_address}
 
 -- the bytes that are sent for a unit
@@ -34,8 +36,8 @@ either_change false command is = refl
 -- they ask for nothing else
 pub asks_to_erase : (unit : EraseUnit) (x y z : ℕ) → AsksForOperation (erase_bytes unit x y z)
 asks_to_erase Units.Sector x y z config = refl
-asks_to_erase Units.Block32 x y z config = either_change config.k32 (Commands.Erase (address_of config x y z / 32768 * 32768) 32768) refl
-asks_to_erase Units.Block64 x y z config = either_change config.k64 (Commands.Erase (address_of config x y z / 65536 * 65536) 65536) refl
+asks_to_erase Units.Block32 x y z config = either_change config.kinds.k32 (Commands.Erase (address_of config x y z / 32768 * 32768) 32768) refl
+asks_to_erase Units.Block64 x y z config = either_change config.kinds.k64 (Commands.Erase (address_of config x y z / 65536 * 65536) 65536) refl
 asks_to_erase Units.Chip x y z config = refl
 
 -- what comes of an erase of places that the chip may have as a unit
@@ -63,10 +65,10 @@ erase_command chip Units.Sector sector x y z names on =
     erased_where chip true _ (4096 * sector) 4096 4096 (unit_start chip.config x y z sector 4096 names (omega arith) (omega arith)) refl
 erase_command chip Units.Block32 sector x y z names on =
     let within = on.within in let aligned : sector % 8 ≡ 0 = tested (sector % 8) 0 on.aligned in
-    erased_where chip chip.config.k32 _ (4096 * sector) 32768 32768 (unit_start chip.config x y z sector 32768 names (omega arith) (omega arith)) refl
+    erased_where chip chip.config.kinds.k32 _ (4096 * sector) 32768 32768 (unit_start chip.config x y z sector 32768 names (omega arith) (omega arith)) refl
 erase_command chip Units.Block64 sector x y z names on =
     let within = on.within in let aligned : sector % 16 ≡ 0 = tested (sector % 16) 0 on.aligned in
-    erased_where chip chip.config.k64 _ (4096 * sector) 65536 65536 (unit_start chip.config x y z sector 65536 names (omega arith) (omega arith)) refl
+    erased_where chip chip.config.kinds.k64 _ (4096 * sector) 65536 65536 (unit_start chip.config x y z sector 65536 names (omega arith) (omega arith)) refl
 erase_command chip Units.Chip sector x y z names on =
     let first : sector ≡ 0 = tested sector 0 on.aligned in let blocks = (sized_bounds chip.config).blocks in
     erased_where chip true 0 (4096 * sector) chip.config.size (4096 * (chip.config.size / 4096)) (omega arith) (omega arith)
@@ -123,13 +125,32 @@ other_bytes Units.Sector opcode x y z same other = ap (λ (n : ℕ). n ∷ x ∷
 other_bytes Units.Block32 opcode x y z same other = ap (λ (n : ℕ). n ∷ x ∷ y ∷ z ∷ []) same
 other_bytes Units.Block64 opcode x y z same other = ap (λ (n : ℕ). n ∷ x ∷ y ∷ z ∷ []) same
 
+-- they are aimed at the unit that the erase names
+named : (unit : EraseUnit) (sector x y z : ℕ) → 65536 * x + 256 * y + z ≡ 4096 * sector → sector < 4096
+    → (s : ℕ) → aims (erase_bytes unit x y z) s ≡ true → is_sector_named (record { unit = unit; sector = sector }) s ≡ true
+named Units.Sector sector x y z names below s is =
+    let same : (65536 * x + 256 * y + z) / 4096 ≡ sector = omega (arith, names) in subst (λ (n : ℕ). is_in_aim (aim_unit 1 n) s ≡ true) same is
+named Units.Block32 sector x y z names below s is =
+    let same : (65536 * x + 256 * y + z) / 4096 ≡ sector = omega (arith, names) in subst (λ (n : ℕ). is_in_aim (aim_unit 8 n) s ≡ true) same is
+named Units.Block64 sector x y z names below s is =
+    let same : (65536 * x + 256 * y + z) / 4096 ≡ sector = omega (arith, names) in subst (λ (n : ℕ). is_in_aim (aim_unit 16 n) s ≡ true) same is
+named Units.Chip sector x y z names below s is =
+    let first : 0 ≡ sector / 4096 * 4096 = omega (arith, below) in subst (λ (n : ℕ). (nat_le n s && nat_lt s (n + 4096)) ≡ true) first is
+
 short : (unit : EraseUnit) (x y z : ℕ) → drop 4 (erase_bytes unit x y z) ≡ []
 short Units.Sector x y z = refl
 short Units.Block32 x y z = refl
 short Units.Block64 x y z = refl
 short Units.Chip x y z = refl
 
-module _ (erase : Erase) (x y z : ℕ) (names : 65536 * x + 256 * y + z ≡ 4096 * erase.sector) (old new : BusState) where
+module _ (erase : Erase) (x y z : ℕ) (names : 65536 * x + 256 * y + z ≡ 4096 * erase.sector) (below : erase.sector < 4096) (old new : BusState) where
+  -- no status write is among them
+  stirs_as : (unit : EraseUnit) (x y z : ℕ) → Stirs (aims (erase_bytes unit x y z)) (writes_in (erase_bytes unit x y z)) old new → Stirs (aims (erase_bytes unit x y z)) 0 old new
+  stirs_as Units.Sector x y z stirs = stirs
+  stirs_as Units.Block32 x y z stirs = stirs
+  stirs_as Units.Block64 x y z stirs = stirs
+  stirs_as Units.Chip x y z stirs = stirs
+
   abbrev asked : Command
   asked = operation_of old.chip (erase_bytes erase.unit x y z)
 
@@ -143,7 +164,7 @@ module _ (erase : Erase) (x y z : ℕ) (names : 65536 * x + 256 * y + z ≡ 4096
   leaves_erase out sent left =
       let leaves : LeavesOperation (erase_bytes erase.unit x y z) old new = subst (λ (out : List ℕ). LeavesOperation out old new) sent left in
       record {
-        stirs = leaves.stirs;
+        stirs = stirs_more (aims (erase_bytes erase.unit x y z)) (is_sector_named erase) 0 0 old new (named erase.unit erase.sector x y z names below) (omega arith) (stirs_as erase.unit x y z leaves.stirs);
         falls = leaves.falls;
         reached = λ honest can.
             let is = erases can.on_chip (taken old.chip erase can) in

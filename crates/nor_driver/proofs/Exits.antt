@@ -1,7 +1,7 @@
 -- What an operation leaves wherever it ends: at its write enable or its command, in its wait, or well.
-use Rattle.std.proofs.Common.{◌≡◌, ◌+◌, ◌||◌, ◌∙◌, ℕ, Bool, true, false, cond, List, [], ◌∷◌, length, drop, ap, refl, subst, arith}
+use Rattle.std.proofs.Common.{◌≡◌, ◌+◌, ◌||◌, ◌∙◌, ℕ, Bool, true, false, List, [], ◌∷◌, length, drop, ap, refl, subst, arith}
 use Rattle.nor_chip.specs.declared.command.Command.{Command}
-use Rattle.nor_chip.specs.Command.{begins_change}
+use Rattle.nor_chip.specs.Sent.{aims, is_stirred}
 use Rattle.nor_chip.specs.Step.{Does, is_operation, done_of, wears}
 use Rattle.nor_chip.specs.Bus.{BusState, Sends, Stops, Carries}
 use Rattle.nor_chip.proofs.Nature.{nature_then}
@@ -9,7 +9,8 @@ use Rattle.nor_driver.specs.declared.waits.Waited.{Waited}
 use Rattle.nor_driver.specs.Looks.{Unchanged, Stays, Looks}
 use Rattle.nor_driver.specs.Waits.{Waits, HasWaited}
 use Rattle.nor_driver.specs.Reads.{HasRead}
-use Rattle.nor_driver.specs.Operations.{operation_of, AsksForOperation, Stirs, LeavesOperation, Operates}
+use Rattle.nor_driver.specs.Operations.{operation_of, AsksForOperation, AimsWithin, Stirs, writes_in, LeavesOperation, Operates}
+use Rattle.nor_driver.proofs.Aims.{aims_none, aims_then, enable_aims, command_aims, still_stirred}
 use Rattle.nor_driver.proofs.Cuts.{stays_at_stop, stays_after, unchanged_then}
 use Rattle.nor_driver.proofs.Readings.{carried_ignored}
 use Rattle.nor_driver.proofs.Begun.{IsEnabled, enabled, then_done, operation-ignored, idle-takes, HasBegun, operation-begins, may-before, may-after, operated, latch-kept}
@@ -17,25 +18,27 @@ use Rattle.nor_driver.proofs.Begun.{IsEnabled, enabled, then_done, operation-ign
 -- the write enable itself was the last thing sent
 pub leaves-at_enable : (out : List ℕ) (old new : BusState) → Sends (6 ∷ []) old new → (old.honest ≡ true → Stops old new) → LeavesOperation out old new
 leaves-at_enable out old new sends stops = record {
-  stirs = record { nature = sends.nature; stirred = sends.stirred };
+  stirs = record { nature = sends.nature; stirred = sends.sent.stirred refl; aims = enable_aims (aims out) (writes_in out) old new sends };
   falls = λ honest. let same = (stops honest).left in record { fell = omega arith; bound = omega arith };
   reached = λ honest is. may-before (operation_of old.chip out) (drop 4 out) old new (idle-takes old.chip out is) (stays_at_stop old new (stops honest));
   ignored = λ honest _. stays_at_stop old new (stops honest);
 }
 
-either : (b : Bool) → cond b true true ≡ true
-either true = refl
-either false = refl
+-- nothing that may change a chip was sent after it
+looked_aims : (t : ℕ → Bool) (n : ℕ) (old mid new : BusState) → AimsWithin t n old mid → new.sent ≡ mid.sent → AimsWithin t n old new
+looked_aims t n old mid new aims same =
+    aims_then t n 0 n old mid new (omega arith) aims (aims_none t 0 mid new same)
 
 module _ (out : List ℕ) (asks : AsksForOperation out) (old ready : BusState) (first : List ℕ) (none : length first ≡ 0) (sends : Sends (6 ∷ []) old ready) (carries : old.honest ≡ true → Carries (6 ∷ []) first old ready) where
   enabling : old.honest ≡ true → IsEnabled old ready
   enabling honest = enabled old ready first none (carries honest)
 
   -- the command itself was the last thing sent
-  stirs-by : (new : BusState) → Sends out ready new → Stirs old new
+  stirs-by : (new : BusState) → Sends out ready new → Stirs (aims out) (writes_in out) old new
   stirs-by new sends' = record {
     nature = nature_then old ready new sends'.nature sends.nature;
-    stirred = sends'.stirred ∙ ap (λ (b : Bool). cond (begins_change out) true b) sends.stirred ∙ either (begins_change out);
+    stirred = still_stirred out ready new (sends.sent.stirred refl) sends';
+    aims = command_aims out old ready new sends sends';
   }
 
   pub leaves-at_command : (new : BusState) → Sends out ready new → (ready.honest ≡ true → Stops ready new) → LeavesOperation out old new
@@ -73,7 +76,7 @@ module _ (out : List ℕ) (asks : AsksForOperation out) (old ready : BusState) (
     leaves-at_wait new looks =
         let stirs = stirs-by begun sends' in
         record {
-          stirs = record { nature = nature_then old begun new looks.nature stirs.nature; stirred = looks.stirred ∙ stirs.stirred };
+          stirs = record { nature = nature_then old begun new looks.nature stirs.nature; stirred = ap is_stirred looks.sent ∙ stirs.stirred; aims = looked_aims (aims out) (writes_in out) old begun new stirs.aims looks.sent };
           falls = λ honest.
               let looked = looks.looked (stirs.nature.honest ∙ honest) in
               let fell = looked.falls.fell in let bound = looked.falls.bound in

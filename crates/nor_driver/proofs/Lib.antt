@@ -1,6 +1,9 @@
+pub mod Aims
 pub mod Bools
 pub mod Cuts
+pub mod LooksInTurn
 pub mod Readings
+pub mod RestsInTurn
 pub mod Told
 pub mod Begun
 pub mod Exits

@@ -1,5 +1,5 @@
 -- What the program of a part of a page does, from what an operation does.
-use Rattle.std.proofs.Common.{◌≡◌, ◌<◌, ◌≤◌, ◌+◌, ◌-◌, ◌*◌, ◌%◌, ◌&&◌, ◌⊎◌, ◌∙◌, ℕ, Bool, true, false, not, cond, nat_lt, nat_le, suc, List, [], ◌∷◌, length, slice_index, bit_and, ap, sym, refl, subst, arith, inl, inr}
+use Rattle.std.proofs.Common.{◌≡◌, ◌<◌, ◌≤◌, ◌+◌, ◌-◌, ◌*◌, ◌/◌, ◌%◌, ◌&&◌, ◌⊎◌, ◌∙◌, ℕ, Bool, true, false, not, cond, nat_lt, nat_le, suc, List, [], ◌∷◌, length, slice_index, bit_and, ap, sym, refl, subst, arith, inl, inr}
 use Rattle.std.proofs.Math.Nat.{mod-eq_of_lt}
 use Rattle.std.proofs.lemmas.Bool.Decides.{nat_tests}
 use Rattle.std.proofs.Math.Bool.{or-false, and-true}
@@ -10,10 +10,12 @@ use Rattle.nor_chip.specs.Chip.{Chip}
 use Rattle.nor_chip.specs.Guard.{is_guarded}
 use Rattle.nor_chip.specs.Command.{address_of}
 use Rattle.nor_chip.specs.Step.{is_idle, is_operation, byte_after}
+use Rattle.nor_chip.specs.Sent.{aims, is_in_aim, aim_unit}
 use Rattle.nor_chip.specs.Bus.{BusState}
 use Rattle.nor_chip.proofs.Page.{byte_after-program, byte_after-program_other}
 use Rattle.nor_driver.specs.Operations.{operation_of, AsksForOperation, IsCommandAt, MayOperate, HasOperated, LeavesOperation, Operates}
-use Rattle.nor_driver.specs.Programs.{CanProgram, takes_program, programmed, MayProgram, HasProgrammed, LeavesProgram, Programs}
+use Rattle.nor_driver.proofs.Aims.{stirs_more}
+use Rattle.nor_driver.specs.Programs.{CanProgram, takes_program, is_sector_of, programmed, MayProgram, HasProgrammed, LeavesProgram, Programs}
 
 -- an address below the chip's size is itself
 pub same_address : (config : Config) (x y z at : ℕ) → 65536 * x + 256 * y + z ≡ at → at < config.size → address_of config x y z ≡ at
@@ -89,7 +91,8 @@ module _ (x y z at byte : ℕ) (rest : List ℕ) (names : 65536 * x + 256 * y + 
 
   leaves_by : LeavesOperation out old new → LeavesProgram at (byte ∷ rest) old new
   leaves_by leaves = record {
-    stirs = leaves.stirs;
+    stirs = stirs_more (aims out) (is_sector_of at) 0 0 old new
+        (λ s is. subst (λ (n : ℕ). is_in_aim (aim_unit 1 (n / 4096)) s ≡ true) names is) (omega arith) leaves.stirs;
     falls = leaves.falls;
     reached = λ honest can.
         let is = programs (let inside = can.inside in omega arith) (taken old.chip at (suc (length rest)) can) in

@@ -168,7 +168,7 @@ carried_poll answer old new one carries =
 pub quiet_send : (out : List ℕ) (most : ℕ) (old new : BusState) → begins_change out ≡ false → Sends out old new → (old.honest ≡ true → LooksHonest most old new) → Looks most old new
 quiet_send out most old new quiet sends looked = record {
   nature = sends.nature;
-  stirred = sends.stirred ∙ ap (λ (b : Bool). cond b true old.stirred) quiet;
+  sent = sends.sent.quiet quiet;
   looked = looked;
 }
 

@@ -12,6 +12,8 @@ use Rattle.nor_chip.specs.Step.{is_idle, is_operation}
 use Rattle.nor_chip.specs.Bus.{BusState}
 use Rattle.nor_driver.proofs.Bools.{left_of, right_of, tested}
 use Rattle.nor_driver.specs.Operations.{operation_of, AsksForOperation, MayOperate, HasOperated, LeavesOperation, Operates}
+use Rattle.nor_chip.specs.Sent.{aims}
+use Rattle.nor_driver.proofs.Aims.{stirs_more, in_none}
 use Rattle.nor_driver.specs.StatusWrites.{KeepsFixed, HasCode, HasFixedBits, CanWriteStatus, takes_status, MayWriteStatus, HasWrittenStatus, LeavesStatusWrite, WritesStatus}
 
 -- what a status write leaves of the kept bits of status 2
@@ -121,7 +123,7 @@ module _ (status : Status) (code : ℕ) (below : code < 64) where
     leaves_status bytes sent small left =
         let leaves : LeavesOperation (1 ∷ one ∷ two ∷ []) old new = subst (λ (out : List ℕ). LeavesOperation out old new) (sent_as bytes sent) left in
         record {
-          stirs = leaves.stirs;
+          stirs = stirs_more (aims (1 ∷ one ∷ two ∷ [])) (λ _. false) 1 1 old new (λ s is. absurd (in_none s is)) (omega arith) leaves.stirs;
           falls = leaves.falls;
           reached = λ honest can.
               let is = taken can in

@@ -5,6 +5,7 @@ use Rattle.nor_chip.specs.Chip.{Chip}
 use Rattle.nor_chip.specs.Power.{KeptStay}
 use Rattle.nor_chip.specs.Guard.{is_unit_guarded}
 use Rattle.nor_chip.specs.Step.{is_idle}
+use Rattle.nor_chip.specs.Sent.{is_in_aim, aim_unit}
 use Rattle.nor_chip.specs.Bus.{BusState}
 use Rattle.nor_driver.specs.declared.units.Erase.{Erase}
 use Rattle.nor_driver.specs.Units.{sectors_in, has_unit, is_aligned, erases_sector}
@@ -44,6 +45,10 @@ is_sector_in_unit erase chip s = erases_sector (sectors_of chip) s erase
 abbrev pub is_place_in_unit : Erase → Chip → ℕ → Bool
 is_place_in_unit erase chip a = is_sector_in_unit erase chip (a / 4096)
 
+-- a sector of the aligned unit that the erase names, of all that 24 bits can name
+abbrev pub is_sector_named : Erase → ℕ → Bool
+is_sector_named erase s = is_in_aim (aim_unit (sectors_in 4096 erase.unit) erase.sector) s
+
 -- On an honest bus, at every exit: bytes and worn sectors outside the unit are as they were, and all kept bits. In
 -- the unit a byte is as it was or FFh, or if the power went any.
 pub record MayErase (erase : Erase) (old new : BusState) : Type 0 where
@@ -63,7 +68,7 @@ pub record HasErased (erase : Erase) (old new : BusState) : Type 0 where
 
 -- What an erase leaves at every exit, by whether the chip can carry it out or ignores it.
 pub record LeavesErase (erase : Erase) (old new : BusState) : Type 0 where
-  pub stirs : Stirs old new
+  pub stirs : Stirs (is_sector_named erase) 0 old new
   pub falls : old.honest ≡ true → Falls most_operation old new
   pub reached : old.honest ≡ true → CanErase erase old.chip → MayErase erase old new
   pub ignored : old.honest ≡ true → IsOnChip erase old.chip → takes_erase old.chip erase ≡ false → Stays old new

@@ -49,7 +49,7 @@ pub record LooksHonest (most : ℕ) (old new : BusState) : Type 0 where
 -- On every bus, at every exit: no changing opcode was sent; on an honest one, at most so many transactions were.
 pub record Looks (most : ℕ) (old new : BusState) : Type 0 where
   pub nature : KeepsNature old new
-  pub stirred : new.stirred ≡ old.stirred
+  pub sent : new.sent ≡ old.sent
   pub looked : old.honest ≡ true → LooksHonest most old new
 
 -- On an honest bus, a call that needs so many transactions stopped: there were fewer, and they were used up.
@@ -60,3 +60,9 @@ pub record RanOut (needed : ℕ) (old new : BusState) : Type 0 where
 -- the same of any bus
 abbrev pub RanOutIfHonest : ℕ → (old new : BusState) → Type 0
 RanOutIfHonest needed old new = old.honest ≡ true → RanOut needed old new
+
+-- An idle chip of this size, on an honest bus.
+pub record IsOpen (size : ℕ) (state : BusState) : Type 0 where
+  pub honest : state.honest ≡ true
+  pub idle : state.chip.busy ≡ 0
+  pub same : state.chip.config.size ≡ size

@@ -1,11 +1,12 @@
 -- What operations leave, whatever they are: write enable, a command, a wait.
-use Rattle.std.specs.Prelude.{◌≡◌, ◌≢◌, ◌≤◌, ◌+◌, ◌*◌, ◌⊎◌, ◌||◌, ℕ, Bool, true, false, List, ◌∷◌, drop, slice_index}
+use Rattle.std.specs.Prelude.{◌≡◌, ◌≢◌, ◌≤◌, ◌+◌, ◌*◌, ◌⊎◌, ◌||◌, ℕ, Bool, true, false, List, ◌∷◌, drop, slice_index, if◌then◌else◌}
 use Rattle.nor_chip.specs.declared.config.Config.{Config}
 use Rattle.nor_chip.specs.declared.command.Command.{Command}
 use Rattle.nor_chip.specs.declared.command.Command.TheVariants.{WriteStatus, Program, Erase, Ignored}
 use Rattle.nor_chip.specs.Chip.{Chip, IsSame}
 use Rattle.nor_chip.specs.Power.{is_in_work, KeptStay}
 use Rattle.nor_chip.specs.Command.{command_of}
+use Rattle.nor_chip.specs.Sent.{aims, begins_status_write, is_aimed_at, is_stirred, status_writes_of}
 use Rattle.nor_chip.specs.Step.{is_idle, is_operation, done_of, byte_after, kept1_after, kept2_after, running_after, wears}
 use Rattle.nor_chip.specs.Bus.{BusState, KeepsNature}
 use Rattle.nor_driver.specs.Looks.{Stays, Falls}
@@ -40,10 +41,17 @@ abbrev pub ChangesOnly : Bool → (ℕ → Bool) → (wanted old new : ℕ → �
 ChangesOnly steady places wanted old new =
     (a : ℕ) → (new a ≡ old a) ⊎ ((places a ≡ true) × (steady ≡ true → new a ≡ wanted a))
 
--- On every bus, at every exit of an operation: it is stirred, and keeps its honesty and its steadiness.
-pub record Stirs (old new : BusState) : Type 0 where
+-- On every bus: no sector but these was aimed at, and at most so many status writes were sent.
+pub record AimsWithin (sectors : ℕ → Bool) (most_writes : ℕ) (old new : BusState) : Type 0 where
+  pub aimed : (s : ℕ) → (is_aimed_at new.sent s ≡ is_aimed_at old.sent s) ⊎ (sectors s ≡ true)
+  pub writes : status_writes_of new.sent ≤ status_writes_of old.sent + most_writes
+
+-- On every bus, at every exit of an operation: it is stirred, keeps its honesty and its steadiness, and was aimed no
+-- further.
+pub record Stirs (sectors : ℕ → Bool) (most_writes : ℕ) (old new : BusState) : Type 0 where
   pub nature : KeepsNature old new
-  pub stirred : new.stirred ≡ true
+  pub stirred : is_stirred new.sent ≡ true
+  pub aims : AimsWithin sectors most_writes old new
 
 -- On an honest bus, an operation that was ignored has ended: nothing changed but the latch, which is set now, unless
 -- the chip was busy with something else that has ended too.
@@ -83,9 +91,13 @@ pub record HasOperated (command : Command) (sent : List ℕ) (old new : BusState
   pub worn : (s : ℕ) → new.worn s ≡ (old.worn s || wears command s)
   pub latch : new.chip.latch ≡ false
 
+-- how many status writes a command is
+abbrev pub writes_in : List ℕ → ℕ
+writes_in out = if begins_status_write out then 1 else 0
+
 -- What an operation leaves at every exit.
 pub record LeavesOperation (out : List ℕ) (old new : BusState) : Type 0 where
-  pub stirs : Stirs old new
+  pub stirs : Stirs (aims out) (writes_in out) old new
   pub falls : old.honest ≡ true → Falls most_operation old new
   pub reached : old.honest ≡ true → is_operation (operation_of old.chip out) ≡ true
       → MayOperate (operation_of old.chip out) (drop 4 out) old new

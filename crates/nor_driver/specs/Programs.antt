@@ -5,6 +5,7 @@ use Rattle.nor_chip.specs.Chip.{Chip}
 use Rattle.nor_chip.specs.Power.{KeptStay}
 use Rattle.nor_chip.specs.Guard.{is_guarded}
 use Rattle.nor_chip.specs.Step.{is_idle}
+use Rattle.nor_chip.specs.Sent.{is_in_aim, aim_unit}
 use Rattle.nor_chip.specs.Bus.{BusState}
 use Rattle.nor_driver.specs.Looks.{Stays, Falls}
 use Rattle.nor_driver.specs.Operations.{ChangesOnly, Stirs, EndsWaiting, HasIgnored, most_operation}
@@ -23,6 +24,10 @@ takes_program chip at = is_idle chip && not (is_guarded chip at)
 abbrev pub programmed : ℕ → List ℕ → (ℕ → ℕ) → ℕ → ℕ
 programmed at sent old a =
     if nat_le at a && nat_lt a (at + length sent) then bit_and (old a) (slice_index sent (a - at)) else old a
+
+-- the sector that holds an address
+abbrev pub is_sector_of : (at s : ℕ) → Bool
+is_sector_of at s = is_in_aim (aim_unit 1 (at / 4096)) s
 
 -- a place of the page that holds an address
 abbrev pub is_in_page : (at a : ℕ) → Bool
@@ -47,7 +52,7 @@ pub record HasProgrammed (at : ℕ) (sent : List ℕ) (old new : BusState) : Typ
 
 -- What a program leaves at every exit, by whether the chip can carry it out or ignores it.
 pub record LeavesProgram (at : ℕ) (sent : List ℕ) (old new : BusState) : Type 0 where
-  pub stirs : Stirs old new
+  pub stirs : Stirs (is_sector_of at) 0 old new
   pub falls : old.honest ≡ true → Falls most_operation old new
   pub reached : old.honest ≡ true → CanProgram at (length sent) old.chip → MayProgram at sent old new
   pub ignored : old.honest ≡ true → at < old.chip.config.size → takes_program old.chip at ≡ false → Stays old new

@@ -62,7 +62,7 @@ pub record HasWrittenStatus (code : ℕ) (old new : BusState) : Type 0 where
 
 -- What a status write leaves at every exit, by whether the chip can carry it out or ignores it.
 pub record LeavesStatusWrite (status : Status) (code : ℕ) (old new : BusState) : Type 0 where
-  pub stirs : Stirs old new
+  pub stirs : Stirs (λ _. false) 1 old new
   pub falls : old.honest ≡ true → Falls most_operation old new
   pub reached : old.honest ≡ true → CanWriteStatus status old.chip → MayWriteStatus code old new
   pub ignored : old.honest ≡ true → takes_status old.chip ≡ false → Stays old new

@@ -22,8 +22,8 @@ sectors_in total Chip = total
 -- a chip of this configuration has the unit
 abbrev pub has_unit : Config → EraseUnit → Bool
 has_unit config Sector = true
-has_unit config Block32 = config.k32
-has_unit config Block64 = config.k64
+has_unit config Block32 = config.kinds.k32
+has_unit config Block64 = config.kinds.k64
 has_unit config Chip = true
 
 -- a unit may begin at this sector: a block at multiples of its size, the chip at 0

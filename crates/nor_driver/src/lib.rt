@@ -1,9 +1,14 @@
 //! The commands that a flash chip takes, each as one function over any bus. Opcodes are sent from here alone.
 //!
 //! ```rust
+//! use nor_chip::{Config, Delays, Meter, SimBus};
 //! use nor_driver::{program_page, read_id, read_sector, wait};
 //!
-//! // `bus` reaches an erased TINY64 that is idle.
+//! let idle = Delays { now: 0, each: 0 };
+//! let erased = vec![in rt.alloc(); 0xFF; 65536]?;
+//! let mut bus = SimBus::new(Config::tiny64(), erased, [0x00, 0x00], idle)?;
+//! bus.allow(u64::MAX);
+//!
 //! assert_eq!(rt; wait(&mut bus, 0)?.polls, 1);
 //! assert_eq!(rt; read_id(&mut bus)?, [0xFE, 0x10, 0x10]);
 //! assert_eq!(rt; program_page(&mut bus, 0x100, &[0xA5])?, 3);
@@ -22,6 +27,6 @@ mod units;
 mod waits;
 
 pub use operations::{erase, program_page, write_status};
-pub use reads::{read_id, read_sector, read_sfdp, read_status2, read_unique};
+pub use reads::{read_id, read_parameters, read_sector, read_status2, read_unique};
 pub use units::{Erase, EraseUnit};
 pub use waits::{Halt, Waited, poll, wait};

@@ -76,7 +76,7 @@ fn operation<B: Bus>(bus: &mut B, command: &[u8], address: u32) -> Result<u32, H
     Ok(waited.polls + 2)
 }
 
-/// The three bytes of an address, high byte first.
+// The three bytes of an address, high byte first.
 pub(crate) fn address_bytes(address: u32) -> [u8; 3]
     requires { address < 2 ^ 24 }
     ensures { BytesNameAddress address result }

@@ -52,7 +52,7 @@ pub fn read_unique<B: Bus>(bus: &mut B) -> Result<[u8; 8], Stopped>
 }
 
 /// SFDP bytes from an address on, as many as `bytes` takes (5Ah; JESD216).
-pub fn read_sfdp<B: Bus>(bus: &mut B, address: u32, bytes: &mut [u8]) -> Result<(), Stopped>
+pub fn read_parameters<B: Bus>(bus: &mut B, address: u32, bytes: &mut [u8]) -> Result<(), Stopped>
     requires { address < 2 ^ 24 }
     ensures leaves { Looks 1 (B.state bus.old) (B.state bus.new) }
     ensures does { OnOk result (ReadsSfdp address (length bytes.old) (B.state bus.old) (B.state bus.new) bytes.new) }

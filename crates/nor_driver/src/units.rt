@@ -19,7 +19,7 @@ pub enum EraseUnit {
 }
 
 impl EraseUnit {
-    /// The opcode that erases it.
+    // The opcode that erases it.
     pub(crate) fn opcode(self) -> u8
         ensures { result ≡ opcode_of self }
     {

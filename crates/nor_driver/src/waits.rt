@@ -7,6 +7,7 @@ ghost use Rattle.nor_driver.specs.Waits.{Polls, Waits, WaitHalts};
 
 use bitflags::Flags;
 use nor_chip::{Bus, Status1, Stopped};
+use thiserror::Error;
 
 // The opcode of a poll.
 const READ_STATUS1: u8 = 0x05;
@@ -26,11 +27,13 @@ pub fn poll<B: Bus>(bus: &mut B) -> Result<u8, Stopped>
 }
 
 /// Why a command wasn't seen to its end.
-#[derive(Clone, Copy, Debug, PartialEq, Eq)]
+#[derive(Clone, Copy, Debug, PartialEq, Eq, Error)]
 pub enum Halt {
     /// The bus stopped.
+    #[error("the bus stopped")]
     Stopped,
     /// 65,536 polls in a row showed BUSY, after the command for this address.
+    #[error("the chip stayed busy after the command for address 0x{address:06x}")]
     Timeout { address: u32 },
 }
 

@@ -9,7 +9,7 @@ invariant-loop-polls g l =
     let old = g.B.Bus.state l.fn.bus in let now = g.B.Bus.state l.bus in
     record {
       nature : KeepsNature old now;
-      stirred : now.stirred ≡ old.stirred;
+      sent : now.sent ≡ old.sent;
       rested : old.honest ≡ true → Rested old now;
       busy : old.honest ≡ true → now.chip.busy + l.polls ≡ old.chip.busy;
       running : old.honest ≡ true → 0 < now.chip.busy → now.chip.latch ≡ old.chip.latch;

@@ -1,6 +1,6 @@
 use Rattle.std.proofs.lemmas.Result.{on_ok_weaker}
 use Rattle.nor_driver.proofs.Told.{reads_sfdp}
-use Rattle.nor_driver.proofs.reads.read_sfdp.Goals as goal
+use Rattle.nor_driver.proofs.reads.read_parameters.Goals as goal
 
 pub returns-clause-does : goal.returns-clause-does
 returns-clause-does g c =

@@ -1,0 +1,60 @@
+-- Readings that follow one another and succeed, and the one that stops behind them.
+use Rattle.std.proofs.Common.{◌≡◌, ◌<◌, ◌≤◌, ◌+◌, ◌∙◌, ℕ, true, refl, arith}
+use Rattle.nor_chip.specs.Bus.{BusState, KeepsNature}
+use Rattle.nor_chip.proofs.Nature.{nature_refl, nature_then}
+use Rattle.nor_driver.specs.Looks.{Rested, Looks, RanOutIfHonest}
+use Rattle.nor_driver.specs.Reads.{HasRead}
+use Rattle.nor_driver.proofs.Cuts.{unchanged_stays}
+use Rattle.nor_driver.proofs.LooksInTurn.{looks_then, looks_more}
+pub use Rattle.nor_driver.proofs.Readings.{rested_none, rested_then}
+
+-- Readings succeeded, so many; whatever the bus, what nothing changes is as it was.
+pub record HasLooked (reads : ℕ) (old new : BusState) : Type 0 where
+  pub nature : KeepsNature old new
+  pub same_sent : new.sent ≡ old.sent
+  pub rested : old.honest ≡ true → Rested old new
+  pub sent : old.honest ≡ true → old.left ≡ new.left + reads
+
+pub has_looked-none : (state : BusState) → HasLooked 0 state state
+has_looked-none state = record {
+  nature = nature_refl state;
+  same_sent = refl;
+  rested = λ honest. rested_none state;
+  sent = λ honest. omega arith;
+}
+
+-- what succeeded is bounded by what it took
+pub has_looked-looks : (reads : ℕ) (old new : BusState) → HasLooked reads old new → Looks reads old new
+has_looked-looks reads old new has = record {
+  nature = has.nature;
+  sent = has.same_sent;
+  looked = λ honest.
+      let rested = has.rested honest in
+      let sent = has.sent honest in
+      record {
+        stays = unchanged_stays old new rested.unchanged;
+        latch = rested.latch;
+        idle_latch = λ on. rested.idle_latch;
+        falls = record { fell = omega arith; bound = omega arith };
+      };
+}
+
+-- a reading more, which may stop
+pub looks_after : (reads more most : ℕ) (old mid new : BusState) → reads + more ≤ most → HasLooked reads old mid → Looks more mid new → Looks most old new
+looks_after reads more most old mid new few has looks =
+    looks_more (reads + more) most old new few (looks_then reads more old mid new (has_looked-looks reads old mid has) looks)
+
+-- the next one stopped
+pub runs_out : (reads most : ℕ) (old mid new : BusState) → reads < most → HasLooked reads old mid → RanOutIfHonest 1 mid new → RanOutIfHonest most old new
+runs_out reads most old mid new few has out honest =
+    let sent = has.sent honest in let none = out (has.nature.honest ∙ honest) in let below = none.below in
+    record { none_left = none.none_left; below = omega arith }
+
+-- the next one succeeded too
+pub has_looked-more : (reads : ℕ) (old mid new : BusState) → HasLooked reads old mid → Looks 1 mid new → (mid.honest ≡ true → HasRead mid new) → HasLooked (reads + 1) old new
+has_looked-more reads old mid new has looks read = record {
+  nature = nature_then old mid new looks.nature has.nature;
+  same_sent = looks.sent ∙ has.same_sent;
+  rested = λ honest. rested_then old mid new (has.rested honest) (read (has.nature.honest ∙ honest)).rested;
+  sent = λ honest. let sent = has.sent honest in let count = (read (has.nature.honest ∙ honest)).count in omega arith;
+}
