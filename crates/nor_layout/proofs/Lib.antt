@@ -1,4 +1,3 @@
-pub mod Below
 pub mod Digits
 pub mod Cuts
 pub mod LineLaws
@@ -6,6 +5,7 @@ pub mod Texts
 pub mod TextLaws
 pub mod Unions
 pub mod Spans
+pub mod Sweeps
 pub mod Sectors
 pub mod Parts
 pub mod Fills

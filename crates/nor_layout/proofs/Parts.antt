@@ -7,7 +7,7 @@ use Rattle.nor_layout.specs.declared.ranges.Span.{Span}
 use Rattle.nor_layout.specs.declared.places.Places.{Places}
 use Rattle.nor_layout.specs.Ranges.{is_in_span, contains, IsApartFrom, AreApart}
 use Rattle.nor_layout.specs.Places.{is_in_places, is_covered, part_in_sector, parts_in_sector, AreRisingFrom, AreIncludedIn}
-use Rattle.nor_layout.proofs.Below.{same_tests}
+use Rattle.nor_count.proofs.Below.{same_tests}
 
 -- these are the places of a span in a sector
 record IsPart (sector : ℕ) (span : Span) (part : Places) : Type 0 where

@@ -6,7 +6,7 @@ use Rattle.std.proofs.lemmas.Bool.{cases_Bool, cases_lt, both_ways, leb-true, le
 use Rattle.nor_layout.specs.declared.ranges.Span.{Span}
 use Rattle.nor_layout.specs.Ranges.{is_in_span, contains, AreApart}
 use Rattle.nor_layout.specs.Sectors.{includes, sectors_included, SomeInSector, NoneInSector, has_in_sector, ReachesPast}
-use Rattle.nor_layout.proofs.Below.{same_tests, any_below-some, any_below-found, any_below-cases, count_below-all, count_below-most}
+use Rattle.nor_count.proofs.Below.{same_tests, any_below-some, any_below-found, any_below-cases, count_below-all, count_below-most}
 
 -- ---- from an address on
 

@@ -6,7 +6,6 @@ pub mod Grammar
 -- The addresses that names include, and what a set of addresses is asked.
 pub mod Included
 pub mod Ranges
-pub mod Below
 pub mod Sectors
 pub mod Places
 pub mod Faults

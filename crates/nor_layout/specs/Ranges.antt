@@ -1,5 +1,5 @@
 -- Sets of addresses, as spans.
-use Rattle.std.specs.Prelude.{ℕ, ◌+◌, ◌<◌, ◌≤◌, Bool, ◌&&◌, nat_le, List, [], ◌∷◌, length, ⊤}
+use Rattle.std.specs.Prelude.{◌≡◌, ◌⊎◌, ℕ, ◌+◌, ◌<◌, ◌≤◌, Bool, true, ◌&&◌, nat_le, nat_lt, List, [], ◌∷◌, length, ⊤}
 use Rattle.std.specs.List.{list_any}
 use Rattle.nor_layout.specs.declared.ranges.Span.{Span}
 
@@ -25,3 +25,16 @@ AreApart (span ∷ spans) = (span.first ≤ span.last) × IsApartFrom span spans
 pub record AreRanges (spans : List Span) : Type 0 where
   pub few : length spans ≤ 64
   pub apart : AreApart spans
+
+-- one of the spans ends before it begins
+abbrev pub has_backwards : List Span → Bool
+has_backwards spans = list_any (λ span. nat_lt span.last span.first) spans
+
+-- a set with exactly the addresses of these spans
+pub record IsSetOf (spans set : List Span) : Type 0 where
+  pub ranges : AreRanges set
+  pub same : (address : ℕ) → contains set address ≡ contains spans address
+
+-- Spans make no set: one of them ends before it begins, or no set has their addresses.
+abbrev pub MakeNoSet : List Span → Type 0
+MakeNoSet spans = (has_backwards spans ≡ true) ⊎ ((set : List Span) → ¬ IsSetOf spans set)

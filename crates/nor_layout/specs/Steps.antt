@@ -1,5 +1,5 @@
 -- What private functions answer. No public clause rests on these.
-use Rattle.std.specs.Prelude.{◌≡◌, ◌≢◌, ◌<◌, ℕ, Bool, ◌&&◌, min, max, List, [], ◌∷◌, ◌++◌, length, slice_index, Result, Ok, Err, ⊤}
+use Rattle.std.specs.Prelude.{◌≡◌, ◌≢◌, ◌<◌, ◌≤◌, ℕ, Bool, true, false, ◌&&◌, nat_le, nat_lt, min, max, if◌then◌else◌, Option, Some, None, MatchOption, List, [], ◌∷◌, ◌++◌, length, slice_index, Result, Ok, Err, ⊤}
 use Rattle.std.specs.Str.{bytes_eq}
 use Rattle.std.specs.List.{list_any}
 use Rattle.nor_layout.specs.declared.fault.LayoutFault.{LayoutFault}
@@ -7,6 +7,7 @@ use Rattle.nor_layout.specs.declared.fault.LayoutFault.TheVariants.{Memory}
 use Rattle.nor_layout.specs.declared.ranges.Span.{Span}
 use Rattle.nor_layout.specs.declared.region.Region.{Region}
 use Rattle.nor_layout.specs.Included.{names_of, has_address}
+use Rattle.nor_layout.specs.Ranges.{is_in_span, contains}
 
 -- the first such byte stands at this place
 pub record IsFirst (byte : ℕ) (text : List ℕ) (at : ℕ) : Type 0 where
@@ -32,3 +33,26 @@ is_listed_address regions text address =
 -- the least span that holds both
 abbrev pub join : (a b : Span) → Span
 join a b = record { first = min a.first b.first; last = max a.last b.last }
+
+-- no address from a bound on belongs to the spans
+abbrev pub EndBelow : (done : ℕ) → List Span → Type 0
+EndBelow done spans = (address : ℕ) → done ≤ address → contains spans address ≡ false
+
+-- Of the spans that reach a bound it begins first: what they have from the bound on is at or above its beginning.
+pub record IsNext (done : ℕ) (spans : List Span) (next : Span) : Type 0 where
+  pub forward : next.first ≤ next.last
+  pub reaches : done ≤ next.last
+  pub taken : (address : ℕ) → is_in_span next address ≡ true → contains spans address ≡ true
+  pub least : (address : ℕ) → done ≤ address → contains spans address ≡ true → next.first ≤ address
+
+abbrev pub IsNextOrNone : (done : ℕ) → List Span → Option Span → Type 0
+IsNextOrNone done spans next = MatchOption next (EndBelow done spans) (IsNext done spans)
+
+-- the one that begins first
+abbrev pub first_of : Option Span → Span → Option Span
+first_of None span = Some span
+first_of (Some next) span = if nat_le next.first span.first then Some next else Some span
+
+-- the one that begins first of those that reach a bound
+abbrev pub sooner : Option Span → Span → (done : ℕ) → Option Span
+sooner next span done = if nat_lt span.last done then next else first_of next span

@@ -4,7 +4,10 @@ ghost use Rattle.std.specs.Prelude.{◌≡◌};
 ghost use Rattle.nor_layout.specs.Faults.{number_of_fault, line_of_fault};
 ghost use Rattle.nor_layout.specs.declared.fault.LayoutFault.TheVariants.{Memory};
 
+use crate::region::REGIONS;
 use std::alloc::{AllocError, AllocFailed};
+use std::error::Error;
+use std::fmt;
 
 /// What is wrong with one line of a layout text, in the order in which it is told.
 #[derive(Clone, Copy, Debug, PartialEq, Eq)]
@@ -20,6 +23,20 @@ pub enum LineFault {
     /// An earlier line gave the same name.
     Twice,
 }
+
+impl fmt::Display for LineFault {
+    fn fmt<W: fmt::Write>(&self, f: &mut fmt::Formatter<W>) -> fmt::Result {
+        f.write_str(match self {
+            LineFault::Line => "the line isn't `start:end name`",
+            LineFault::Address => "the start or the end is no address",
+            LineFault::Backwards => "the end lies below the start",
+            LineFault::Name => "the name is empty, too long, or has a byte that no name may have",
+            LineFault::Twice => "an earlier line gave the same name",
+        })
+    }
+}
+
+impl Error for LineFault {}
 
 /// Why there is no layout, or no set of included addresses.
 #[derive(Clone, Copy, Debug, PartialEq, Eq)]
@@ -57,6 +74,19 @@ impl LayoutFault {
         }
     }
 }
+
+impl fmt::Display for LayoutFault {
+    fn fmt<W: fmt::Write>(&self, f: &mut fmt::Formatter<W>) -> fmt::Result {
+        match self {
+            LayoutFault::InLine { line, fault } => write!(f, "line {line}: {fault}"),
+            LayoutFault::TooMany => write!(f, "the layout has more than {REGIONS} regions"),
+            LayoutFault::Memory => f.write_str("memory was refused"),
+            LayoutFault::NoRegion => f.write_str("no region has one of the names"),
+        }
+    }
+}
+
+impl Error for LayoutFault {}
 
 impl From<AllocError> for LayoutFault {
     ghost from_gives = { λ _ e. e ≡ Memory };

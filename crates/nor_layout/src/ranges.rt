@@ -1,10 +1,10 @@
 //! Sets of addresses, as a few sorted spans.
 
-ghost use Rattle.std.specs.Prelude.{◌≡◌, ◌≤◌, ◌<◌, ◌+◌, ◌||◌, ◌*◌, ℕ, MatchBool, length, nat_lt, [], slice_index, if◌then◌else◌};
-ghost use Rattle.nor_layout.specs.Ranges.{is_in_span, contains, AreApart, AreRanges};
+ghost use Rattle.std.specs.Prelude.{◌≡◌, ◌≤◌, ◌<◌, ◌+◌, ◌||◌, ◌*◌, ℕ, false, MatchBool, MatchOption, length, nat_lt, [], slice_index, if◌then◌else◌};
+ghost use Rattle.nor_layout.specs.Ranges.{is_in_span, contains, has_backwards, AreApart, AreRanges, IsSetOf, MakeNoSet};
 ghost use Rattle.nor_layout.specs.Sectors.{SomeInSector, NoneInSector, has_in_sector, ReachesPast};
 ghost use Rattle.nor_layout.specs.Places.{AreIncludedIn, places_left};
-ghost use Rattle.nor_layout.specs.Steps.{join};
+ghost use Rattle.nor_layout.specs.Steps.{join, sooner, IsNextOrNone};
 
 use crate::merge::fill_around;
 use crate::places::{PlacesIn, SECTOR};
@@ -19,12 +19,15 @@ pub struct Span {
     pub last: u32,
 }
 
+// One span more than a set has, since whether one that is added joins others is seen afterwards.
+const ROOM: usize = REGIONS + 1;
+
 /// A set of addresses: at most 64 spans that rise, with an address between each two that belongs to none.
 ///
 /// Each question takes time by the number of spans, and not by that of addresses.
-#[derive(Debug, Drop)]
+#[derive(Clone, Debug, Drop)]
 pub struct Ranges {
-    spans: ArrayVec<Span, REGIONS>,
+    spans: ArrayVec<Span, ROOM>,
 }
 
 impl Model for Ranges {
@@ -58,9 +61,39 @@ impl Span {
     }
 }
 
+// Whether one of the spans ends before it begins.
+fn has_backwards(spans: &[Span]) -> bool
+    ensures { result ≡ has_backwards spans.now }
+{
+    spans.iter().any(|span| span.last < span.first)
+}
+
+// Of a span and the one found before it, the one that begins first, if it reaches the address `done`.
+fn sooner(next: Option<Span>, span: &Span, done: u64) -> Option<Span>
+    ensures { result ≡ sooner next span.now done }
+{
+    match next {
+        _ if u64::from(span.last) < done => next,
+        Some(other) if other.first <= span.first => next,
+        _ => Some(*span),
+    }
+}
+
+// Of the spans that reach the address `done`, the one that begins first.
+fn next_span(spans: &[Span], done: u64) -> Option<Span>
+    requires { has_backwards spans.now ≡ false }
+    ensures { IsNextOrNone done spans.now result }
+{
+    let mut next = None;
+    for span in spans {
+        next = sooner(next, span, done);
+    }
+    next
+}
+
 /// The spans of a set to which one more is added.
-fn with_span(spans: &[Span], added: Span) -> ArrayVec<Span, REGIONS>
-    requires room { length spans.now < 64 }
+fn with_span(spans: &[Span], added: Span) -> ArrayVec<Span, ROOM>
+    requires room { length spans.now ≤ 64 }
     requires forward { added.first ≤ added.last }
     requires apart { AreApart spans.now }
     ensures apart { AreApart result.items }
@@ -85,6 +118,29 @@ fn with_span(spans: &[Span], added: Span) -> ArrayVec<Span, REGIONS>
 }
 
 impl Ranges {
+    /// The set with the addresses of these spans, which come in any order, and may touch or overlap.
+    ///
+    /// There is none where a span ends before it begins, or where the addresses make more than 64 spans with an
+    /// address between each two that belongs to none. Takes no memory, and time by the square of the number of spans.
+    pub fn of(spans: &[Span]) -> Option<Ranges>
+        ensures { MatchOption result (MakeNoSet spans.now)
+            (λ ranges. (has_backwards spans.now ≡ false) × IsSetOf spans.now ranges) }
+    {
+        if has_backwards(spans) {
+            return None;
+        }
+        let mut all = ArrayVec::new();
+        let mut done = 0;
+        while let Some(next) = next_span(spans, done) {
+            all = with_span(&all, next);
+            if all.len() > REGIONS {
+                return None;
+            }
+            done = u64::from(next.last) + 1;
+        }
+        Some(Ranges { spans: all })
+    }
+
     /// The empty set.
     pub(crate) fn new() -> Ranges
         ensures empty { result ≡ [] }
@@ -127,7 +183,7 @@ impl Ranges {
     }
 
     /// Whether some address of a sector belongs to the set; sectors are counted from 0.
-    pub fn has_in_sector(&self, sector: u32) -> bool
+    pub(crate) fn has_in_sector(&self, sector: u32) -> bool
         ensures test { result ≡ has_in_sector (contains self.now) sector }
         ensures cases { MatchBool result
             (SomeInSector (contains self.now) sector) (NoneInSector (contains self.now) sector) }
@@ -143,7 +199,7 @@ impl Ranges {
     }
 
     /// The places of a sector whose addresses belong to the set, rising; sectors are counted from 0.
-    pub fn places_in(&self, sector: u32) -> PlacesIn<'_>
+    pub(crate) fn places_in(&self, sector: u32) -> PlacesIn<'_>
         ensures { AreIncludedIn self.now sector (places_left result) }
     {
         PlacesIn::new(self.spans(), sector)
@@ -152,7 +208,7 @@ impl Ranges {
     /// Takes over the bytes of a sector that don't belong to the set from another copy of it.
     ///
     /// Both copies have 4,096 bytes, and `bytes` keeps those at addresses of the set.
-    pub fn fill_excluded(&self, sector: u32, bytes: &mut [u8], other: &[u8])
+    pub(crate) fn fill_excluded(&self, sector: u32, bytes: &mut [u8], other: &[u8])
         requires long { length bytes.old ≡ 4096 }
         requires other_long { length other.now ≡ 4096 }
         ensures { (at : ℕ) → at < 4096 → slice_index bytes.new at

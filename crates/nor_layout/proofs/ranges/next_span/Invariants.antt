@@ -1,0 +1,7 @@
+use Rattle.std.proofs.Common.{take}
+use Rattle.nor_layout.specs.Steps.{IsNextOrNone}
+use Rattle.nor_layout.proofs.ranges.next_span.Given as goal
+
+-- what the spans so far answer
+abbrev pub invariant-loop-span : goal.invariant-loop-span
+invariant-loop-span l = IsNextOrNone l.done (take l.span-index l.spans) l.next
