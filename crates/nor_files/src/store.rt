@@ -2,11 +2,12 @@
 
 use nor_journal::Vault;
 use std::alloc::Global;
-use std::io;
+use std::error::Error;
 use std::io::Write;
+use std::{fmt, io};
 
 /// Why a file can't be held.
-#[derive(Drop)]
+#[derive(Debug, Drop)]
 pub enum HoldFault {
     /// It can't be opened or read.
     Unread(io::Error),
@@ -15,6 +16,18 @@ pub enum HoldFault {
     /// Another run holds it.
     Busy,
 }
+
+impl fmt::Display for HoldFault {
+    fn fmt<W: fmt::Write>(&self, f: &mut fmt::Formatter<W>) -> fmt::Result {
+        match self {
+            HoldFault::Unread(why) => write!(f, "the file can't be opened or read: {why}"),
+            HoldFault::Unheld => f.write_str("the file can't be written over"),
+            HoldFault::Busy => f.write_str("another run holds the file"),
+        }
+    }
+}
+
+impl Error for HoldFault {}
 
 /// The files of a run, by their names.
 ///
@@ -110,7 +123,7 @@ pub trait Store: AllocGlobal {
         ensures fails { OnErr result ((state self.old).view.nature.fails (Unwritten name.now) ≡ true) };
 
     /// A vault in the file of this name, which is made, and wasn't there before; and stays there, whatever becomes of
-    /// the machine. It is to be handed back.
+    /// the machine, where its folder can be synced. It is to be handed back.
     fn vault_in_new(&mut self, name: &str) -> io::Result<Self::Filed>
         ensures nature { (state self.new).view.nature ≡ (state self.old).view.nature }
         ensures fresh { IfOk result (λ vault. IsFresh (Self.Filed.state vault)) }

@@ -2,6 +2,9 @@
 ghost use Rattle.std.specs.Prelude.{◌≡◌};
 ghost use Rattle.nor_journal.specs.Fault.{number_of_fault};
 
+use std::error::Error;
+use std::fmt;
+
 /// The first fault that is met where a journal is read from its front, part by part.
 #[derive(Clone, Copy, Debug, PartialEq, Eq)]
 pub enum JournalFault {
@@ -29,3 +32,19 @@ impl JournalFault {
         self as u8
     }
 }
+
+impl fmt::Display for JournalFault {
+    fn fmt<W: fmt::Write>(&self, f: &mut fmt::Formatter<W>) -> fmt::Result {
+        f.write_str(match self {
+            JournalFault::Short => "the journal is cut short",
+            JournalFault::Magic => "the first bytes aren't those of a journal",
+            JournalFault::Size => "the size in the journal is that of no chip",
+            JournalFault::Place => "the journal saves a sector that its chip lacks",
+            JournalFault::Order => "the sectors of the journal don't rise",
+            JournalFault::Long => "bytes follow the end of the journal",
+            JournalFault::Digest => "the digest isn't that of the journal's bytes",
+        })
+    }
+}
+
+impl Error for JournalFault {}

@@ -1,12 +1,27 @@
 //! What takes the bytes of a journal.
 ghost use Rattle.std.specs.Prelude.{◌≡◌, false};
 
+use std::error::Error;
+use std::fmt;
+
 /// A refusal of a vault: how many bytes of the piece went in before it, from the piece's front. A refused
 /// seal keeps 0.
 #[derive(Clone, Copy, Debug, PartialEq, Eq)]
 pub struct VaultFault {
     pub kept: usize,
 }
+
+impl fmt::Display for VaultFault {
+    fn fmt<W: fmt::Write>(&self, f: &mut fmt::Formatter<W>) -> fmt::Result {
+        write!(
+            f,
+            "the vault refused, and kept {} bytes of the piece",
+            self.kept
+        )
+    }
+}
+
+impl Error for VaultFault {}
 
 /// A place that bytes are put into, one piece behind the other, until it is sealed.
 ///
