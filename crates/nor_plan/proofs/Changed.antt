@@ -3,10 +3,10 @@ use Rattle.std.proofs.Common.{ℕ, zero, suc, ◌≡◌, ◌≢◌, ◌<◌, ◌
 use Rattle.std.specs.Prelude.{MatchBool, count_by}
 use Rattle.std.specs.List.{list_any, range_with_len}
 use Rattle.std.proofs.lemmas.Bool.{cases_Bool}
-use Rattle.nor_plan.specs.Counts.{IsCount}
+use Rattle.nor_count.specs.Counts.{IsCount}
 use Rattle.nor_plan.specs.Plan.{AreBytesOf}
 use Rattle.nor_plan.specs.Span.{page_differs, pages_changed, page_count}
-use Rattle.nor_plan.proofs.Counting.{count_by-range, count_by-same}
+use Rattle.nor_count.proofs.CountedRanges.{count_by-range, count_by-same}
 use Rattle.nor_plan.proofs.Masks.{other_from_test, same_from_test}
 use Rattle.nor_plan.proofs.PageSpans.{other}
 use Rattle.nor_plan.proofs.Plans.{MatchBool-map}

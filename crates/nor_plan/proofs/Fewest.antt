@@ -6,7 +6,7 @@ use Rattle.std.proofs.Common.{get_or}
 use Rattle.std.proofs.lemmas.Bool.{and_parts, and_from, both_ways, eq-eqb, eqb-true, le-leb, leb-true, lt-ltb, ltb-true}
 use Rattle.std.proofs.lemmas.List.{length-map}
 use Rattle.std.proofs.lemmas.List.Folds.{list_any_at}
-use Rattle.nor_probe.specs.declared.sfdp.Kinds.{Kinds}
+use Rattle.nor_chip.specs.declared.config.Kinds.{Kinds}
 use Rattle.nor_driver.specs.declared.units.Erase.{Erase}
 use Rattle.nor_plan.specs.declared.set.SectorSet.{SectorSet}
 use Rattle.nor_plan.specs.SectorSet.{has, members_from}

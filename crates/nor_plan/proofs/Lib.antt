@@ -1,12 +1,12 @@
 pub mod Agreement
 pub mod Blocks
 pub mod Changed
-pub mod Counting
 pub mod Coverage
 pub mod Ends
 pub mod Fewest
 pub mod Masks
 pub mod Members
+pub mod Parts
 pub mod Places
 pub mod PageSpans
 pub mod Planning

@@ -6,8 +6,8 @@ use Rattle.std.proofs.lemmas.Bool.{cases_lt, both_ways}
 use Rattle.std.proofs.lemmas.List.Sums.{length-filter}
 use Rattle.nor_plan.specs.declared.set.SectorSet.{SectorSet}
 use Rattle.nor_plan.specs.SectorSet.{has, members_from, member_count, LiesBelow, NoneFrom, IsLeastFrom}
-use Rattle.nor_plan.specs.Counts.{IsCount}
-use Rattle.nor_plan.proofs.Counting.{count_by-range}
+use Rattle.nor_count.specs.Counts.{IsCount}
+use Rattle.nor_count.proofs.CountedRanges.{count_by-range}
 use Rattle.nor_plan.proofs.Places.{passing, passing-none, passing-first, passing-same, length-passing}
 use Rattle.nor_plan.proofs.Words.{none_past}
 

@@ -1,6 +1,6 @@
 -- The list of planned erases: from one sector to the next, and what they erase together.
 use Rattle.std.proofs.Common.{ℕ, suc, ◌≡◌, ◌<◌, ◌≤◌, ◌+◌, ◌-◌, Bool, true, false, [], ◌∷◌, map, sym, ap, ◌∙◌, arith}
-use Rattle.nor_probe.specs.declared.sfdp.Kinds.{Kinds}
+use Rattle.nor_chip.specs.declared.config.Kinds.{Kinds}
 use Rattle.nor_plan.specs.Planned.{begins_unit, erase_at, planned_from}
 use Rattle.nor_plan.proofs.Places.{passing, passing-true, passing-false}
 

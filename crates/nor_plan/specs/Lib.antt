@@ -1,5 +1,5 @@
 pub mod Bytes
-pub mod Counts
+pub mod Content
 pub mod Erase
 pub mod Erases
 pub mod Mask

@@ -46,3 +46,7 @@ pub record IsLeastFrom (set : SectorSet) (from sector : ℕ) : Type 0 where
   pub below : sector < 4096
   pub member : has set sector ≡ true
   pub before : (s : ℕ) → from ≤ s → s < sector → has set s ≡ false
+
+-- no sector
+abbrev pub none : ℕ → Bool
+none s = false

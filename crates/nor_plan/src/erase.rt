@@ -3,8 +3,8 @@
 ghost use Rattle.std.specs.Prelude.{◌≡◌, ◌+◌, ◌*◌, ◌/◌, ◌^◌, ◌<◌, ◌≤◌, ℕ, Bool};
 ghost use Rattle.std.specs.Prelude.{true, List, length};
 ghost use Rattle.nor_driver.specs.Units.{is_aligned};
-ghost use Rattle.nor_probe.specs.declared.sfdp.Kinds.{Kinds};
-ghost use Rattle.nor_plan.specs.Counts.{IsCount};
+ghost use Rattle.nor_chip.specs.declared.config.Kinds.{Kinds};
+ghost use Rattle.nor_count.specs.Counts.{IsCount};
 ghost use Rattle.nor_plan.specs.Erase.{Covers};
 ghost use Rattle.nor_plan.specs.Planned.{holds_block, holds_run, planned_unit, planned, fewest_erases};
 ghost use Rattle.nor_plan.specs.Planned.{HeadsPlanned, IsLeastLength};

@@ -11,7 +11,7 @@ pub struct SectorSet {
 impl SectorSet {
     ghost use Rattle.std.specs.Prelude.{◌≡◌, ◌<◌, ℕ, MatchBool, MatchOption};
     ghost use Rattle.nor_plan.specs.SectorSet.{has, IsEmpty, HasSome, Inserts, NoneFrom, IsLeastFrom, LiesBelow, members, member_count};
-    ghost use Rattle.nor_plan.specs.Counts.{IsCount};
+    ghost use Rattle.nor_count.specs.Counts.{IsCount};
     ghost use Rattle.nor_plan.specs.Sectors.{sectors_left};
 
     /// The empty set.
