@@ -1,6 +1,8 @@
 -- What a genuine chip shows itself as is its configuration.
 use Rattle.std.proofs.Common.{◌≡◌, ◌∙◌, ℕ, Bool, true, false, List, [], ◌∷◌, ap, sym, subst, refl, inl, inr}
 use Rattle.std.specs.Prelude.{◌⊎◌, Option, None, Some, Result, Ok, Err, find, bytes_eq, IsOk, if◌then◌else◌}
+use Rattle.std.specs.List.{list_all}
+use Rattle.std.proofs.lemmas.Bool.{and_parts}
 use Rattle.std.proofs.lemmas.Option.{same_Some}
 use Rattle.std.proofs.lemmas.Slice.Eq.{bytes_eq-Decides}
 use Rattle.nor_chip.specs.declared.config.Config.{Config}
@@ -28,12 +30,27 @@ found_id of_id (first ∷ parts) part is =
       | inr later ↦ found_id of_id parts part later
     ]
 
+-- what each part has, the one that is found has
+found_has : (holds : Part → Bool) (of_id : List ℕ) (parts : List Part) (part : Part) → list_all holds parts ≡ true
+    → find (λ p. bytes_eq p.id of_id) parts ≡ Some part → holds part ≡ true
+found_has holds of_id [] part all is = absurd (cc)
+found_has holds of_id (first ∷ parts) part all is =
+    let both = and_parts (holds first) (list_all holds parts) all in
+    elim (chosen (bytes_eq first.id of_id) (find (λ p. bytes_eq p.id of_id) parts) first part is) [
+      | inl here ↦ ap holds (sym here.1) ∙ both.0
+      | inr later ↦ found_has holds of_id parts part both.1 later
+    ]
+
+-- .. so what each row of the table has, that of an ID has
+pub row_has : (holds : Part → Bool) (of_id : List ℕ) (part : Part) → list_all holds chips ≡ true
+    → part_with_id of_id ≡ Some part → holds part ≡ true
+row_has holds of_id part all is = found_has holds of_id chips part all is
+
 -- What the chip is, by a part that has its ID, size, erase kinds and protection.
 record IsPartOf (config : Config) (part : Part) : Type 0 where
   id : part.id ≡ id_of config
   size : part.size ≡ config.size
-  k32 : part.kinds.k32 ≡ config.k32
-  k64 : part.kinds.k64 ≡ config.k64
+  kinds : part.kinds ≡ config.kinds
   scheme : part.scheme ≡ config.scheme
 
 by_row : (config : Config) (row : Option Part) (says : Result Geometry SfdpFault) (part : Part) → IsGenuine config → part_with_id (id_of config) ≡ row → chip_says config ≡ says
@@ -45,14 +62,13 @@ by_row config (Some row) says part genuine listed tells is =
       record {
         id = found_id (id_of config) chips row listed;
         size = sym has.0.size;
-        k32 = sym has.0.k32;
-        k64 = sym has.0.k64;
+        kinds = sym has.0.kinds;
         scheme = sym has.1;
       },
     )
 by_row config None (Ok geometry) part genuine listed tells is =
     let has = genuine.described listed geometry tells in
-    (sfdp_part (id_of config) geometry, (cc), record { id = refl; size = sym has.size; k32 = sym has.k32; k64 = sym has.k64; scheme = sym (genuine.unlisted listed) })
+    (sfdp_part (id_of config) geometry, (cc), record { id = refl; size = sym has.size; kinds = sym has.kinds; scheme = sym (genuine.unlisted listed) })
 by_row config None (Err fault) part genuine listed tells is = absurd (cc)
 
 by_test : (none : Bool) (config : Config) (part : Part) → IsGenuine config
@@ -70,7 +86,6 @@ shown_config config found genuine is =
       known = record { genuine = genuine; shown = subst (λ (r : Result Part ProbeFault). IsOk r) (sym is) refl };
       id = ap (λ (p : Part). p.id) same ∙ by.2.id;
       size = ap (λ (p : Part). p.size) same ∙ by.2.size;
-      k32 = ap (λ (p : Part). p.kinds.k32) same ∙ by.2.k32;
-      k64 = ap (λ (p : Part). p.kinds.k64) same ∙ by.2.k64;
+      kinds = ap (λ (p : Part). p.kinds) same ∙ by.2.kinds;
       scheme = ap (λ (p : Part). p.scheme) same ∙ by.2.scheme;
     }

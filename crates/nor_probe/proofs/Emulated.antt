@@ -4,7 +4,7 @@ use Rattle.std.specs.Prelude.{Result, Ok, Err, Option, None, Some, not, map, rep
 use Rattle.std.specs.List.{range_with_len}
 use Rattle.nor_chip.specs.declared.config.Config.{Config}
 use Rattle.nor_chip.specs.declared.config.TheConstants.{TINY64_SFDP}
-use Rattle.nor_chip.specs.Makers.{IsTiny64, IsW25q64fv, IsW25q128fv}
+use Rattle.nor_chip.specs.Makers.{all_kinds, IsTiny64, IsW25q64fv, IsW25q128fv}
 use Rattle.nor_probe.specs.declared.sfdp.Geometry.{Geometry}
 use Rattle.nor_probe.specs.declared.sfdp.SfdpFault.{SfdpFault}
 use Rattle.nor_probe.specs.declared.sfdp.SfdpFault.TheVariants.{Size}
@@ -21,7 +21,7 @@ unfolding is_chip_size_in_bits
 supported = refl
 
 abbrev tiny64 : Geometry
-tiny64 = record { size = 65536; kinds = record { k32 = true; k64 = true } }
+tiny64 = record { size = 65536; kinds = all_kinds }
 
 -- what is shown, by the SFDP bytes and the size
 shown_by : (config : Config) (sfdp : List ℕ) (size at len : ℕ) → config.sfdp ≡ sfdp → config.size ≡ size
@@ -68,7 +68,7 @@ tiny64_known config tiny =
         unlisted = λ _. tiny.scheme;
         described = λ _ geometry is.
             let same : tiny64 ≡ geometry = cc in
-            subst (λ (g : Geometry). HasGeometry g config) same (record { size = tiny.size; k32 = tiny.k32; k64 = tiny.k64 });
+            subst (λ (g : Geometry). HasGeometry g config) same (record { size = tiny.size; kinds = tiny.kinds });
       };
       shown = subst (λ (r : Result Part ProbeFault). IsOk r)
           (sym (ap (λ (i : List ℕ). shown_from i (chip_says config)) id ∙ ap (λ (s : Result Geometry SfdpFault). shown_from (254 ∷ 16 ∷ 16 ∷ []) s) says)) refl;
@@ -77,12 +77,12 @@ tiny64_known config tiny =
 -- a chip of the table, whatever its SFDP
 listed_known : (config : Config) (part : Part)
     → part_with_id (id_of config) ≡ Some part → is_no_chip (id_of config) ≡ false
-    → config.size ≡ part.size → config.k32 ≡ part.kinds.k32 → config.k64 ≡ part.kinds.k64 → config.scheme ≡ part.scheme → IsKnown config
-listed_known config part listed driven size k32 k64 scheme = record {
+    → config.size ≡ part.size → config.kinds ≡ part.kinds → config.scheme ≡ part.scheme → IsKnown config
+listed_known config part listed driven size kinds scheme = record {
   genuine = record {
     listed = λ other is.
         let row : part ≡ other = cc in
-        subst (λ (p : Part). HasGeometry (record { size = p.size; kinds = p.kinds }) config × (config.scheme ≡ p.scheme)) row (record { size = size; k32 = k32; k64 = k64 }, scheme);
+        subst (λ (p : Part). HasGeometry (record { size = p.size; kinds = p.kinds }) config × (config.scheme ≡ p.scheme)) row (record { size = size; kinds = kinds }, scheme);
     unlisted = λ none. absurd (let both : None ≡ Some part = sym none ∙ listed in cc);
     described = λ none geometry is. absurd (let both : None ≡ Some part = sym none ∙ listed in cc);
   };
@@ -94,9 +94,9 @@ listed_known config part listed driven size k32 k64 scheme = record {
 pub w25q64fv_known : (config : Config) → IsW25q64fv config → IsKnown config
 w25q64fv_known config made =
     let id = same_id config _ made.id in
-    listed_known config w25q64fv (ap part_with_id id) (ap is_no_chip id) made.size made.k32 made.k64 made.scheme
+    listed_known config w25q64fv (ap part_with_id id) (ap is_no_chip id) made.size made.kinds made.scheme
 
 pub w25q128fv_known : (config : Config) → IsW25q128fv config → IsKnown config
 w25q128fv_known config made =
     let id = same_id config _ made.id in
-    listed_known config w25q128fv (ap part_with_id id) (ap is_no_chip id) made.size made.k32 made.k64 made.scheme
+    listed_known config w25q128fv (ap part_with_id id) (ap is_no_chip id) made.size made.kinds made.scheme

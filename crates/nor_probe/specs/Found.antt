@@ -83,8 +83,7 @@ pub record IsConfigOf (config : Config) (found : Found) : Type 0 where
   pub known : IsKnown config
   pub id : found.id ≡ id_of config
   pub size : found.size ≡ config.size
-  pub k32 : found.kinds.k32 ≡ config.k32
-  pub k64 : found.kinds.k64 ≡ config.k64
+  pub kinds : found.kinds ≡ config.kinds
   pub scheme : found.scheme ≡ config.scheme
 
 -- The chip shows itself as a part with the name that is wanted.

@@ -48,8 +48,7 @@ shown_as config =
 -- The chip has the size and the erase kinds of this geometry.
 pub record HasGeometry (geometry : Geometry) (config : Config) : Type 0 where
   pub size : config.size ≡ geometry.size
-  pub k32 : config.k32 ≡ geometry.kinds.k32
-  pub k64 : config.k64 ≡ geometry.kinds.k64
+  pub kinds : config.kinds ≡ geometry.kinds
 
 -- A chip is genuine: if its ID is in the table, size, erase kinds and protection are those of the row; and if it
 -- isn't, the chip has no block protection, and an SFDP that is accepted tells its size and erase kinds.

@@ -1,5 +1,6 @@
 -- The chips that are known by their ID, and the names that chips have.
 use Rattle.std.specs.Prelude.{ℕ, true, Option, List, [], ◌∷◌, find, bytes_eq, codes, if◌then◌else◌}
+use Rattle.nor_chip.specs.Makers.{all_kinds}
 use Rattle.nor_probe.specs.declared.table.ChipName.{ChipName}
 use Rattle.nor_probe.specs.declared.table.ChipName.TheVariants.{W25Q64FV, W25Q128FV, Sfdp, Other}
 use Rattle.nor_probe.specs.declared.table.Part.{Part}
@@ -23,7 +24,7 @@ name_text Other = codes "other"
 -- and device identification, memory organization, instruction set table.)
 abbrev pub winbond : ChipName → (with_id : List ℕ) → (with_size : ℕ) → Part
 winbond called with_id with_size =
-    record { name = called; id = with_id; size = with_size; kinds = record { k32 = true; k64 = true }; scheme = true }
+    record { name = called; id = with_id; size = with_size; kinds = all_kinds; scheme = true }
 
 -- the row of W25Q64FV, of 64 Mbit
 abbrev pub w25q64fv : Part

@@ -1,9 +1,14 @@
 //! Which chip is on the bus, and what it says of itself.
 //!
 //! ```rust
+//! use nor_chip::{Config, Delays, Meter, SimBus};
 //! use nor_probe::{ChipName, ProbeFault, probe};
 //!
-//! // `bus` reaches a W25Q64FV.
+//! let idle = Delays { now: 0, each: 0 };
+//! let erased = vec![in rt.alloc(); 0xFF; 8_388_608]?;
+//! let mut bus = SimBus::new(Config::w25q64fv(), erased, [0x00, 0x00], idle)?;
+//! bus.allow(u64::MAX);
+//!
 //! let found = probe(&mut bus, None)?;
 //! assert_eq!(rt; (found.id, found.size), ([0xEF, 0x40, 0x17], 8_388_608));
 //! let other = ChipName::of("W25Q128FV");
@@ -14,9 +19,10 @@
 #![tactic(auto)]
 
 mod probes;
-pub mod sfdp;
+mod sfdp;
 mod table;
 
+pub use nor_chip::Kinds;
 pub use probes::{Found, ProbeFault, Probed, probe, probe_counted};
-pub use sfdp::{Geometry, Kinds, SfdpFault, read_sfdp};
+pub use sfdp::{Geometry, SfdpFault, read_sfdp};
 pub use table::{ChipName, Part, chips, part_of};

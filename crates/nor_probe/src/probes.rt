@@ -9,23 +9,29 @@ ghost use Rattle.nor_probe.specs.Found.{found_in, part_in, IsConfigOf, IsCounted
 ghost use Rattle.nor_probe.specs.Steps.{Identifies, IdentityTells, IsIdentified, IsIdentityFault};
 ghost use Rattle.nor_probe.specs.Steps.{GeometryTells, ReadsGeometry, ReadsParameters, reads_under, fault_of};
 
-use crate::{ChipName, Geometry, Kinds, Part, SfdpFault, part_of, read_sfdp};
+use crate::{ChipName, Geometry, Part, SfdpFault, part_of, read_sfdp};
 use byteorder::{ByteOrder, LittleEndian};
-use nor_chip::{Bus, Stopped};
-use nor_driver::{Halt, read_id, wait};
+use nor_chip::{Bus, Kinds, Stopped};
+use nor_driver::{Halt, read_id, read_parameters, wait};
+use thiserror::Error;
 
 /// Why no chip was found. The first three are judged in this order.
-#[derive(Clone, Copy, Debug, PartialEq, Eq)]
+#[derive(Clone, Copy, Debug, PartialEq, Eq, Error)]
 pub enum ProbeFault {
     /// Nothing drives the bus: the ID is `FF FF FF` or `00 00 00`.
+    #[error("there is no chip")]
     NoChip,
     /// The chip isn't in the table, and its SFDP is refused.
+    #[error("the chip isn't known: {0}")]
     UnknownChip(SfdpFault),
     /// The chip has another name than the one given.
+    #[error("the chip has another name")]
     OtherName,
     /// The bus stopped.
+    #[error("the bus stopped")]
     Stopped,
     /// 65,536 polls in a row showed BUSY.
+    #[error("the chip stayed busy")]
     Timeout,
 }
 
@@ -158,7 +164,7 @@ fn read_geometry<B: Bus>(bus: &mut B) -> Result<Geometry, ProbeFault>
     ensures tells { (B.state bus.old).honest ≡ true → (B.state bus.old).chip.busy ≡ 0
         → IfErr result (GeometryTells (B.state bus.old) (B.state bus.new)) }
 {
-    let parameters = read_parameters(bus)?;
+    let parameters = read_parts(bus)?;
     let geometry = read_sfdp(&parameters.header, &parameters.first, &parameters.table)?;
     Ok(geometry)
 }
@@ -172,7 +178,7 @@ struct Parameters {
 }
 
 // The header, the first parameter header and the table that it points to, of an idle chip.
-fn read_parameters<B: Bus>(bus: &mut B) -> Result<Parameters, Stopped>
+fn read_parts<B: Bus>(bus: &mut B) -> Result<Parameters, Stopped>
     ensures leaves { Looks 3 (B.state bus.old) (B.state bus.new) }
     ensures reads { (B.state bus.old).honest ≡ true
         → IfOk result (ReadsParameters (B.state bus.old) (B.state bus.new)) }
@@ -181,9 +187,9 @@ fn read_parameters<B: Bus>(bus: &mut B) -> Result<Parameters, Stopped>
     let mut header = [0; 8];
     let mut first = [0; 8];
     let mut table = [0; 36];
-    nor_driver::read_sfdp(bus, 0, &mut header)?;
-    nor_driver::read_sfdp(bus, 8, &mut first)?;
-    nor_driver::read_sfdp(bus, pointer_in(&first), &mut table)?;
+    read_parameters(bus, 0, &mut header)?;
+    read_parameters(bus, 8, &mut first)?;
+    read_parameters(bus, pointer_in(&first), &mut table)?;
     Ok(Parameters {
         header,
         first,

@@ -11,15 +11,8 @@ ghost use Rattle.nor_probe.specs.Sfdp.{has_write_granularity, is_erase_type_at, 
 ghost use Rattle.nor_probe.specs.Sfdp.{table_faults, first_fault_or, sfdp_says};
 
 use byteorder::{ByteOrder, LittleEndian};
-
-/// The erase kinds beside the sector of 4 KiB (20h) and the whole chip (C7h), which every chip has.
-#[derive(Clone, Copy, Debug, PartialEq, Eq)]
-pub struct Kinds {
-    /// 52h erases 32 KiB.
-    pub k32: bool,
-    /// D8h erases 64 KiB.
-    pub k64: bool,
-}
+use nor_chip::Kinds;
+use thiserror::Error;
 
 /// What is read from the SFDP of an accepted chip.
 #[derive(Clone, Copy, Debug, PartialEq, Eq)]
@@ -30,23 +23,31 @@ pub struct Geometry {
 }
 
 /// Why the SFDP of a chip is refused, in the order in which the tests are made.
-#[derive(Clone, Copy, Debug, PartialEq, Eq)]
+#[derive(Clone, Copy, Debug, PartialEq, Eq, Error)]
 pub enum SfdpFault {
     /// The header does not begin with `SFDP`.
+    #[error("the SFDP header has another signature")]
     Signature = 1,
     /// The major revision is not 1.
+    #[error("the SFDP has a major revision other than 1")]
     Major,
     /// The first parameter header is not that of the basic table in its first major revision.
+    #[error("the first parameter header is not that of the basic table")]
     FirstHeader,
     /// The table has fewer than nine double words.
+    #[error("the basic table is too short")]
     Length,
     /// The chip takes addresses of four bytes alone, or the field is reserved.
+    #[error("the chip doesn't take addresses of three bytes")]
     Address,
     /// The chip is not written in pages.
+    #[error("the chip is not written in pages")]
     Granularity,
     /// The size is not a power of two from 64 KiB to 16 MiB.
+    #[error("the size is not a power of two from 64 KiB to 16 MiB")]
     Size,
     /// No erase type is 20h at 4 KiB.
+    #[error("the chip erases no sectors of 4 KiB")]
     NoSector,
 }
 
@@ -61,13 +62,13 @@ impl SfdpFault {
     }
 }
 
-/// The least number of double words of the table: those up to the erase types.
+// The least number of double words of the table: those up to the erase types.
 const TABLE_LENGTH: u8 = 9;
 
-/// Set in the density double word where its other bits are the exponent of the size.
+// Set in the density double word where its other bits are the exponent of the size.
 const BY_EXPONENT: u32 = 0x8000_0000;
 
-/// The sizes that are supported, in bits.
+// The sizes that are supported, in bits.
 const LEAST_BITS: u32 = 1 << 19;
 
 const MOST_EXPONENT: u32 = 27;
@@ -93,7 +94,7 @@ pub fn read_sfdp(header: &[u8; 8], first: &[u8; 8], table: &[u8; 36]) -> Result<
     read_table(table)
 }
 
-/// The part of `read_sfdp` that looks at the table.
+// The part of `read_sfdp` that looks at the table.
 fn read_table(table: &[u8; 36]) -> Result<Geometry, SfdpFault>
     ensures says { result ≡ first_fault_or (geometry_of table.now) (table_faults table.now) }
     ensures sized { IfOk result (λ geometry. is_chip_size geometry.size ≡ true) }
@@ -117,7 +118,7 @@ fn read_table(table: &[u8; 36]) -> Result<Geometry, SfdpFault>
     Ok(Geometry { size, kinds })
 }
 
-/// Whether the header begins with the letters `SFDP`.
+// Whether the header begins with the letters `SFDP`.
 #[tactic(auto, unfolding(crate::specs::Sfdp::has_signature))]
 fn is_sfdp(header: &[u8; 8]) -> bool
     ensures { result ≡ has_signature header.now }
@@ -125,7 +126,7 @@ fn is_sfdp(header: &[u8; 8]) -> bool
     header[0] == b'S' && header[1] == b'F' && header[2] == b'D' && header[3] == b'P'
 }
 
-/// Whether the first parameter header is that of the basic table, in its first major revision.
+// Whether the first parameter header is that of the basic table, in its first major revision.
 #[tactic(auto, unfolding(crate::specs::Sfdp::is_basic))]
 fn is_basic_table(first: &[u8; 8]) -> bool
     ensures { result ≡ is_basic first.now }
@@ -133,7 +134,7 @@ fn is_basic_table(first: &[u8; 8]) -> bool
     first[0] == 0 && first[2] == 1
 }
 
-/// How addresses are sent: 2 means by four bytes alone, and 3 is reserved.
+// How addresses are sent: 2 means by four bytes alone, and 3 is reserved.
 #[tactic(auto, unfolding(crate::specs::Sfdp::address_mode))]
 fn address_bits(table: &[u8; 36]) -> u32
     ensures { result ≡ address_mode table.now }
@@ -141,7 +142,7 @@ fn address_bits(table: &[u8; 36]) -> u32
     (double_word_of(table, 1) >> 17) % 4
 }
 
-/// Whether a program may send 64 bytes and more at a time.
+// Whether a program may send 64 bytes and more at a time.
 #[tactic(auto, unfolding(crate::specs::Sfdp::has_write_granularity))]
 fn takes_pages(table: &[u8; 36]) -> bool
     ensures { result ≡ has_write_granularity table.now }
@@ -149,7 +150,7 @@ fn takes_pages(table: &[u8; 36]) -> bool
     (double_word_of(table, 1) >> 2) % 2 == 1
 }
 
-/// Double word `k` of the table, counted from 1.
+// Double word `k` of the table, counted from 1.
 #[tactic(auto, unfolding(crate::specs::Sfdp::double_word))]
 fn double_word_of(table: &[u8; 36], k: usize) -> u32
     requires counted { 1 ≤ k }
@@ -159,7 +160,7 @@ fn double_word_of(table: &[u8; 36], k: usize) -> u32
     LittleEndian::read_u32(&table[4 * (k - 1)..])
 }
 
-/// The size in bytes that the density double word gives, if it is one of those that are supported.
+// The size in bytes that the density double word gives, if it is one of those that are supported.
 #[tactic(auto, using(crate::proofs::SfdpLemmas::large_exponent, crate::proofs::SfdpLemmas::in_bits), unfolding(crate::specs::Sfdp::size_in_bits))]
 fn size_in_bytes(density: u32) -> Option<u32>
     ensures value { SomeIff result (IsTrue (is_chip_size_in_bits (size_in_bits density))) (size_in_bits density / 8) }
@@ -179,7 +180,7 @@ fn size_in_bytes(density: u32) -> Option<u32>
     }
 }
 
-/// Whether one of the four erase types is this one.
+// Whether one of the four erase types is this one.
 #[tactic(auto, unfolding(crate::specs::Sfdp::has_erase_type))]
 fn offers(table: &[u8; 36], exponent: u8, opcode: u8) -> bool
     ensures { result ≡ has_erase_type exponent opcode table.now }
@@ -190,7 +191,7 @@ fn offers(table: &[u8; 36], exponent: u8, opcode: u8) -> bool
         || offers_at(table, exponent, opcode, 34)
 }
 
-/// Whether the erase type at a place of the table is this one.
+// Whether the erase type at a place of the table is this one.
 fn offers_at(table: &[u8; 36], exponent: u8, opcode: u8, at: usize) -> bool
     requires { at < 35 }
     ensures { result ≡ is_erase_type_at exponent opcode table.now at }

@@ -3,7 +3,7 @@
 ghost use Rattle.std.specs.Prelude.{◌≡◌};
 ghost use Rattle.nor_probe.specs.Table.{name_of, name_text, chips, part_with_id};
 
-use crate::Kinds;
+use nor_chip::{ALL_KINDS, Kinds};
 
 /// The name of a chip.
 #[derive(Clone, Copy, Debug, PartialEq, Eq)]
@@ -58,31 +58,26 @@ pub struct Part {
     pub scheme: bool,
 }
 
-const BOTH: Kinds = Kinds {
-    k32: true,
-    k64: true,
-};
-
-/// The table. (Winbond W25Q64FV and W25Q128FV datasheets.)
+// The table. (Winbond W25Q64FV and W25Q128FV datasheets.)
 const CHIPS: [Part; 2] = [
     Part {
         name: ChipName::W25Q64FV,
         id: [0xEF, 0x40, 0x17],
         size: 8_388_608,
-        kinds: BOTH,
+        kinds: ALL_KINDS,
         scheme: true,
     },
     Part {
         name: ChipName::W25Q128FV,
         id: [0xEF, 0x40, 0x18],
         size: 16_777_216,
-        kinds: BOTH,
+        kinds: ALL_KINDS,
         scheme: true,
     },
 ];
 
 /// The table of the chips that are known by their ID.
-pub fn chips() -> &'static [Part; 2]
+pub fn chips() -> &'static [Part]
     ensures { result.now ≡ chips }
 {
     &CHIPS
