@@ -3,10 +3,10 @@ use Rattle.std.proofs.Common.{◌≡◌, ◌<◌, ◌≤◌, ◌+◌, ◌∙◌,
 use Rattle.std.proofs.lemmas.Bool.{cases_eq}
 use Rattle.std.proofs.lemmas.Bool.Decides.{nat_tests}
 use Rattle.std.specs.Prelude.{if◌then◌else◌}
-use Rattle.nor_layout.specs.Below.{count_below}
-use Rattle.nor_apply.specs.Counts.{sector_count}
+use Rattle.nor_count.specs.Below.{count_below}
+use Rattle.nor_count.specs.Counts.{sector_count}
 use Rattle.nor_apply.specs.Change.{only}
-use Rattle.nor_apply.proofs.Counting.{count_below-none}
+use Rattle.nor_count.proofs.Counting.{count_below-none}
 
 -- one that passes is counted in each bound above it
 pub count_below-next : (n k : ℕ) (test : ℕ → Bool) → k < n → test k ≡ true → count_below k test + 1 ≤ count_below n test

@@ -9,11 +9,12 @@ use Rattle.nor_driver.specs.Operations.{most_operation}
 use Rattle.nor_apply.specs.declared.changes.Changes.{Changes}
 use Rattle.nor_apply.specs.declared.changes.Work.{Work}
 use Rattle.nor_apply.specs.declared.tally.Tally.{Tally}
-use Rattle.nor_layout.specs.Below.{count_below}
-use Rattle.nor_apply.specs.Counts.{sector_count}
-use Rattle.nor_apply.specs.Content.{once_erased, is_page_other, is_programmed, is_other}
+use Rattle.nor_count.specs.Below.{count_below}
+use Rattle.nor_count.specs.Counts.{sector_count}
+use Rattle.nor_plan.specs.Content.{once_erased, is_page_other, is_programmed, is_other}
 use Rattle.nor_apply.specs.Within.{is_writable}
-use Rattle.nor_apply.specs.Change.{MayChange, HasChanged, blank, none}
+use Rattle.nor_apply.specs.Change.{MayChange, HasChanged, blank}
+use Rattle.nor_plan.specs.SectorSet.{none}
 use Rattle.nor_driver.specs.Waits.{Halts}
 use Rattle.nor_apply.specs.Spending.{Spends}
 use Rattle.nor_apply.specs.Protecting.{LeavesCode, DoesCode}
@@ -21,7 +22,7 @@ use Rattle.nor_apply.specs.Erasing.{LeavesErases, DoesErases}
 use Rattle.nor_apply.specs.Programming.{LeavesPrograms, DoesPrograms, most_sector}
 use Rattle.nor_apply.specs.Applying.{touched_in, raised_in, writes_code, most_applied, CanApply, LeavesApply, DoesApply}
 use Rattle.nor_apply.proofs.Kept.{fixed_refl, writable_same}
-use Rattle.nor_apply.proofs.Counting.{count_below-same, count_below-most, any_below-same}
+use Rattle.nor_count.proofs.Counting.{count_below-same, count_below-most, any_below-same}
 use Rattle.nor_apply.proofs.Changing.{idle_change, change_wider, change_then, erases_change, status_change}
 use Rattle.nor_apply.proofs.ApplyingSteps.{Lifted, Made, can_write, writable_lifted, writable_last, lifts, can_erase_all, bytes_erased, can_program_all, makes, applies}
 
@@ -329,10 +330,10 @@ does_applied changes wanted needed old free mid made new sent erased programmed 
           let shut = not_set changes.unlock (omega (arith, none)) in
           let plain : needed ≡ false = sym is ∙ not_set (writes_code changes) (omega (arith, none)) in
           let few = raised_few changes first.inside in
-          ap (λ (state : BusState). state.stirred) (leaves.still plain)
+          ap (λ (state : BusState). state.sent) (leaves.still plain)
           ∙ third.does.still (omega (arith, none))
           ∙ second.does.still (omega (arith, none, few, fewer_erased))
-          ∙ ap (λ (state : BusState). state.stirred) (first.leaves.still shut);
+          ∙ ap (λ (state : BusState). state.sent) (first.leaves.still shut);
       done = λ honest can.
           applies changes wanted needed old made new last is (after.nature.honest ∙ honest) can
           (made_then changes wanted old free mid made sent erased programmed third honest can) leaves does;

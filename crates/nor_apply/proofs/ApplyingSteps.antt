@@ -14,9 +14,10 @@ use Rattle.nor_chip.specs.Bus.{BusState}
 use Rattle.nor_chip.proofs.Guarded.{is_guarded-zero, is_guarded-same}
 use Rattle.nor_driver.specs.StatusWrites.{KeepsFixed, HasCode, CanWriteStatus, HasWrittenStatus}
 use Rattle.nor_apply.specs.declared.changes.Changes.{Changes}
-use Rattle.nor_apply.specs.Content.{once_erased}
+use Rattle.nor_plan.specs.Content.{once_erased}
 use Rattle.nor_apply.specs.Within.{is_writable}
-use Rattle.nor_apply.specs.Change.{HasChanged, blank, none}
+use Rattle.nor_apply.specs.Change.{HasChanged, blank}
+use Rattle.nor_plan.specs.SectorSet.{none}
 use Rattle.nor_apply.specs.Protecting.{LeavesCode, DoesCode}
 use Rattle.nor_apply.specs.Erasing.{CanEraseAll}
 use Rattle.nor_apply.specs.Programming.{CanProgramAll}
@@ -139,8 +140,7 @@ can_erase_all changes wanted lifted old new can free = record {
   };
   sized = record {
     same = ap (λ (c : Config). c.size) free.config ∙ can.sized.same;
-    k32 = ap (λ (c : Config). c.k32) free.config ∙ can.sized.k32;
-    k64 = ap (λ (c : Config). c.k64) free.config ∙ can.sized.k64;
+    same_kinds = ap (λ (c : Config). c.kinds) free.config ∙ can.sized.same_kinds;
   };
 }
 

@@ -7,14 +7,14 @@ use Rattle.nor_chip.proofs.Nature.{nature_refl, nature_then}
 use Rattle.nor_driver.specs.Looks.{Rested, Looks, RanOut, RanOutIfHonest}
 use Rattle.nor_driver.specs.Reads.{IsSectorOf, ReadsSector}
 use Rattle.nor_plan.specs.Bytes.{AllAgree, IsFirstDifference}
-use Rattle.nor_layout.specs.Below.{count_below}
-use Rattle.nor_apply.specs.Counts.{sector_count}
+use Rattle.nor_count.specs.Below.{count_below}
+use Rattle.nor_count.specs.Counts.{sector_count}
 use Rattle.nor_apply.specs.Change.{only, byte_of}
 use Rattle.nor_apply.specs.Checking.{CanCheck, DoesChecks, CheckTells}
 use Rattle.nor_apply.specs.declared.checks.CheckFault.{CheckFault}
 use Rattle.nor_apply.specs.declared.checks.CheckFault.TheVariants.{Stopped, Mismatch}
 use Rattle.nor_driver.proofs.Readings.{looked_after, looked_more, rested_none, rested_then}
-use Rattle.nor_apply.proofs.Counting.{count_below-zero, count_below-with, count_below-without}
+use Rattle.nor_count.proofs.Counting.{count_below-zero, count_below-with, count_below-without}
 use Rattle.nor_apply.proofs.Alone.{count_below-next, only-here, only-is, only-same, sector_count-only}
 
 -- ---- a sector
@@ -73,7 +73,7 @@ stops sector wanted old new below out = λ honest. subst (λ (n : ℕ). RanOut n
 -- The sectors of a set below a number were checked, and passed.
 pub record HasChecked (sectors : ℕ → Bool) (wanted : ℕ → ℕ) (n : ℕ) (old new : BusState) (sent : ℕ) : Type 0 where
   pub nature : KeepsNature old new
-  pub stirred : new.stirred ≡ old.stirred
+  pub same_sent : new.sent ≡ old.sent
   pub few : sent ≤ n
   pub counted : sent ≡ count_below n sectors
   pub count : old.honest ≡ true → old.left ≡ new.left + sent
@@ -87,7 +87,7 @@ pub record AreWanted (wanted : ℕ → ℕ) (sector : ℕ) (bytes : List ℕ) : 
 pub checked_none : (t : ℕ → Bool) (w : ℕ → ℕ) (state : BusState) → HasChecked t w 0 state state 0
 checked_none t w state = record {
   nature = nature_refl state;
-  stirred = refl;
+  same_sent = refl;
   few = omega arith;
   counted = sym (count_below-zero t);
   count = λ honest. omega arith;
@@ -105,7 +105,7 @@ other_sector t n s not is below = elim (cases_eq s n) [
 pub checked_without : (t : ℕ → Bool) (w : ℕ → ℕ) (n sent : ℕ) (old new : BusState) → t n ≡ false → HasChecked t w n old new sent → HasChecked t w (n + 1) old new sent
 checked_without t w n sent old new not has = record {
   nature = has.nature;
-  stirred = has.stirred;
+  same_sent = has.same_sent;
   few = let few = has.few in omega arith;
   counted = has.counted ∙ sym (count_below-without n t not);
   count = has.count;
@@ -132,7 +132,7 @@ pub checked_with : (t : ℕ → Bool) (w : ℕ → ℕ) (n sent : ℕ) (bytes : 
     → HasChecked t w n old mid sent → Looks 1 mid new → DoesChecks (only n) (byte_of n bytes) mid new 1 → HasChecked t w (n + 1) old new (sent + 1)
 checked_with t w n sent bytes old mid new is are has looks does = record {
   nature = nature_then old mid new looks.nature has.nature;
-  stirred = looks.stirred ∙ has.stirred;
+  same_sent = looks.sent ∙ has.same_sent;
   few = let few = has.few in omega arith;
   counted = let counted = has.counted in let more = count_below-with n t is in omega arith;
   count = λ honest. let before = has.count honest in let after = does.count (has.nature.honest ∙ honest) in omega arith;
@@ -153,7 +153,7 @@ pub failed_looks : (t : ℕ → Bool) (w : ℕ → ℕ) (n sent : ℕ) (old mid 
     → Looks (sector_count t) old new
 failed_looks t w n sent old mid new below is has looks = record {
   nature = nature_then old mid new looks.nature has.nature;
-  stirred = looks.stirred ∙ has.stirred;
+  sent = looks.sent ∙ has.same_sent;
   looked = λ honest.
       let most : sent + 1 ≤ count_below 4096 t = let next = count_below-next 4096 n t below is in let counted = has.counted in omega arith in
       looked_more old new (sent + 1) (count_below 4096 t) most

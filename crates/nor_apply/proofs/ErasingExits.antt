@@ -4,7 +4,7 @@ use Rattle.std.proofs.lemmas.List.{length-append, append_assoc, append-nil}
 use Rattle.nor_chip.specs.declared.config.Config.{Config}
 use Rattle.nor_chip.specs.Bus.{BusState, KeepsNature}
 use Rattle.nor_chip.proofs.Nature.{nature_refl, nature_then}
-use Rattle.nor_probe.specs.declared.sfdp.Kinds.{Kinds}
+use Rattle.nor_chip.specs.declared.config.Kinds.{Kinds}
 use Rattle.nor_driver.specs.declared.units.Erase.{Erase}
 use Rattle.nor_driver.specs.declared.waits.Halt.{Halt}
 use Rattle.nor_driver.specs.Waits.{Halts}
@@ -13,12 +13,12 @@ use Rattle.nor_driver.specs.Operations.{most_operation}
 use Rattle.nor_plan.specs.Erase.{Covers}
 use Rattle.nor_plan.specs.Planned.{planned}
 use Rattle.nor_apply.specs.declared.tally.Tally.{Tally}
-use Rattle.nor_apply.specs.Counts.{sector_count}
+use Rattle.nor_count.specs.Counts.{sector_count}
 use Rattle.nor_apply.specs.Change.{MayChange, HasChanged, blank}
 use Rattle.nor_apply.specs.Spending.{Tallies}
 use Rattle.nor_apply.specs.Erasing.{CanEraseAll, LeavesErases, DoesErases}
 use Rattle.nor_apply.proofs.Changing.{has_may, change_then, change_wider}
-use Rattle.nor_apply.proofs.Counting.{count_below-most}
+use Rattle.nor_count.proofs.Counting.{count_below-most}
 use Rattle.nor_apply.proofs.ErasingUnits.{union_of, IsOfPlan, union_more, planned_few, next_of_plan, union_of_plan, next_few}
 use Rattle.nor_apply.proofs.ErasingSteps.{can_erase, erase_change, erased_more, changed_same, changed_none}
 
@@ -26,7 +26,7 @@ use Rattle.nor_apply.proofs.ErasingSteps.{can_erase, erase_change, erased_more, 
 pub record ErasesSoFar (kinds : Kinds) (size : ℕ) (set : ℕ → Bool) (units : List Erase) (old new : BusState) (tally : Tally) : Type 0 where
   pub nature : KeepsNature old new
   pub count : tally.count ≡ length units
-  pub still : tally.count ≡ 0 → new.stirred ≡ old.stirred
+  pub still : tally.count ≡ 0 → new.sent ≡ old.sent
   pub tallies : Tallies 0 old new tally
   pub done : old.honest ≡ true → CanEraseAll set kinds size old.chip → HasChanged (union_of (size / 4096) units) blank (union_of (size / 4096) units) old new
 

@@ -10,7 +10,7 @@ use Rattle.nor_chip.specs.Chip.{Chip}
 use Rattle.nor_chip.specs.Power.{KeptStay, is_known_running, is_in_work}
 use Rattle.nor_chip.specs.Guard.{is_guarded, is_unit_guarded, guarded_by, code_of}
 use Rattle.nor_chip.specs.Bus.{BusState}
-use Rattle.nor_probe.specs.declared.sfdp.Kinds.{Kinds}
+use Rattle.nor_chip.specs.declared.config.Kinds.{Kinds}
 use Rattle.nor_driver.specs.declared.units.Erase.{Erase}
 use Rattle.nor_driver.specs.declared.units.EraseUnit.{EraseUnit}
 use Rattle.nor_driver.specs.declared.units.EraseUnit.TheVariants as Units
@@ -32,11 +32,11 @@ same_guarded x y config kept a =
     ∙ ap (λ (k : ℕ). x.config.scheme && guarded_by x.config.size (32 * (k / 64 % 2) + y.kept1 % 32) a) kept.1
     ∙ ap (λ (k : ℕ). x.config.scheme && guarded_by x.config.size (32 * (x.kept2 / 64 % 2) + k % 32) a) kept.0
 
-has_offered : (unit : EraseUnit) (config : Config) (kinds : Kinds) → config.k32 ≡ kinds.k32 → config.k64 ≡ kinds.k64 → is_offered kinds unit ≡ true → has_unit config unit ≡ true
-has_offered Units.Sector config kinds k32 k64 offered = refl
-has_offered Units.Block32 config kinds k32 k64 offered = k32 ∙ offered
-has_offered Units.Block64 config kinds k32 k64 offered = k64 ∙ offered
-has_offered Units.Chip config kinds k32 k64 offered = refl
+has_offered : (unit : EraseUnit) (config : Config) (kinds : Kinds) → config.kinds ≡ kinds → is_offered kinds unit ≡ true → has_unit config unit ≡ true
+has_offered Units.Sector config kinds same offered = refl
+has_offered Units.Block32 config kinds same offered = ap (λ (k : Kinds). k.k32) same ∙ offered
+has_offered Units.Block64 config kinds same offered = ap (λ (k : Kinds). k.k64) same ∙ offered
+has_offered Units.Chip config kinds same offered = refl
 
 -- no place of a unit is guarded whose sectors have none
 free_unit : (chip : Chip) (sectors : ℕ → Bool) (from n : ℕ) → ((a : ℕ) → sectors (a / 4096) ≡ true → is_guarded chip a ≡ false)
@@ -67,7 +67,7 @@ can_erase kinds size set done unit old mid plan can has =
         within = let P : ℕ → Type 0 = λ n. unit.sector + sectors_in n unit.unit ≤ n in subst P (sym total) plan.is.within;
       };
       idle = has.idle;
-      offered = has_offered unit.unit mid.chip.config kinds (ap (λ (c : Config). c.k32) has.config ∙ can.sized.k32) (ap (λ (c : Config). c.k64) has.config ∙ can.sized.k64) plan.is.offered;
+      offered = has_offered unit.unit mid.chip.config kinds (ap (λ (c : Config). c.kinds) has.config ∙ can.sized.same_kinds) plan.is.offered;
       free = ap (λ (n : ℕ). is_unit_guarded mid.chip (4096 * unit.sector) (4096 * sectors_in n unit.unit)) total ∙ free;
     }
 

@@ -7,7 +7,7 @@ use Rattle.std.proofs.lemmas.List.{length-append, length-map}
 use Rattle.std.proofs.lemmas.List.Elements.{All-head, All-tail}
 use Rattle.std.proofs.lemmas.List.Folds.{list_any-append}
 use Rattle.std.proofs.Math.Bool.{or-false, or-true}
-use Rattle.nor_probe.specs.declared.sfdp.Kinds.{Kinds}
+use Rattle.nor_chip.specs.declared.config.Kinds.{Kinds}
 use Rattle.nor_driver.specs.declared.units.Erase.{Erase}
 use Rattle.nor_driver.specs.declared.units.EraseUnit.{EraseUnit}
 use Rattle.nor_driver.specs.declared.units.EraseUnit.TheVariants.{Sector, Block32, Block64, Chip}
@@ -15,8 +15,8 @@ use Rattle.nor_driver.specs.Units.{sectors_in, erases_sector}
 use Rattle.nor_plan.specs.Erase.{IsErase, Covers}
 use Rattle.nor_plan.specs.Planned.{begins_unit, erase_at, planned_from, planned, holds_run}
 use Rattle.nor_plan.proofs.Coverage.{begins_in}
-use Rattle.nor_layout.specs.Below.{count_below}
-use Rattle.nor_apply.specs.Counts.{sector_count}
+use Rattle.nor_count.specs.Below.{count_below}
+use Rattle.nor_count.specs.Counts.{sector_count}
 
 -- the sectors that some erases of a list set to FFh
 abbrev pub union_of : ℕ → List Erase → ℕ → Bool

@@ -1,6 +1,5 @@
 pub mod Kept
 pub mod Changing
-pub mod Counting
 pub mod Alone
 pub mod ErasingUnits
 pub mod ErasingSteps
@@ -10,7 +9,6 @@ pub mod ProgrammingSpans
 pub mod ProgrammingExits
 pub mod ProgrammingSectors
 pub mod ProgrammingWhole
-pub mod CheckingLooks
 pub mod CheckingSteps
 pub mod Naming
 pub mod ApplyingSteps

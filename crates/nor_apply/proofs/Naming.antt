@@ -1,7 +1,7 @@
 -- The address that a halt or a difference names, carried up to the sectors that are changed.
 use Rattle.std.proofs.Common.{ℕ, ◌≡◌, ◌<◌, ◌+◌, ◌*◌, ◌/◌, ◌∙◌, Bool, true, List, inl, inr, ap, arith}
 use Rattle.std.proofs.lemmas.Bool.{le-leb, lt-ltb, and_from}
-use Rattle.nor_probe.specs.declared.sfdp.Kinds.{Kinds}
+use Rattle.nor_chip.specs.declared.config.Kinds.{Kinds}
 use Rattle.nor_driver.specs.declared.units.Erase.{Erase}
 use Rattle.nor_driver.specs.declared.waits.Halt.{Halt}
 use Rattle.nor_driver.specs.declared.waits.Halt.TheVariants.{Stopped, Timeout}

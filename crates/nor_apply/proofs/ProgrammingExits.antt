@@ -12,7 +12,8 @@ use Rattle.nor_plan.specs.declared.page.Span.{Span}
 use Rattle.nor_plan.specs.Span.{spans_of}
 use Rattle.nor_plan.specs.SpanFacts.{IsSpan, AreSpans}
 use Rattle.nor_apply.specs.declared.tally.Tally.{Tally}
-use Rattle.nor_apply.specs.Change.{only, none, byte_of}
+use Rattle.nor_apply.specs.Change.{only, byte_of}
+use Rattle.nor_plan.specs.SectorSet.{none}
 use Rattle.nor_apply.specs.Programming.{CanProgramSpans, LeavesSpans, DoesSpans, most_pages}
 use Rattle.nor_apply.proofs.Changing.{has_may}
 use Rattle.nor_apply.proofs.ProgrammingPages.{spans_pages, spans_most}

@@ -5,10 +5,10 @@ use Rattle.std.specs.List.{filter_map, cons_option, range_with_len}
 use Rattle.std.proofs.Math.Bool.{or-false, or_assoc}
 use Rattle.nor_plan.specs.Span.{ends, page_span, spans_in, spans_of, page_count}
 use Rattle.nor_driver.specs.Reads.{IsSectorOf}
-use Rattle.nor_layout.specs.Below.{any_below, count_below}
-use Rattle.nor_apply.specs.Content.{is_other, is_page_other}
+use Rattle.nor_count.specs.Below.{any_below, count_below}
+use Rattle.nor_plan.specs.Content.{is_other, is_page_other}
 use Rattle.nor_apply.specs.Change.{byte_of}
-use Rattle.nor_apply.proofs.Counting.{count_below-most, any_below-same, count_below-same}
+use Rattle.nor_count.proofs.Counting.{count_below-most, any_below-same, count_below-same}
 
 abbrev is_some : {A : Type 0} → Option A → Bool
 is_some None = false

@@ -7,13 +7,14 @@ use Rattle.nor_chip.specs.Bus.{BusState}
 use Rattle.nor_chip.proofs.Nature.{nature_then}
 use Rattle.nor_driver.specs.Reads.{IsSectorOf}
 use Rattle.nor_apply.specs.declared.tally.Tally.{Tally}
-use Rattle.nor_apply.specs.Content.{is_other, is_page_other}
-use Rattle.nor_apply.specs.Change.{only, none, byte_of}
+use Rattle.nor_plan.specs.Content.{is_other, is_page_other}
+use Rattle.nor_apply.specs.Change.{only, byte_of}
+use Rattle.nor_plan.specs.SectorSet.{none}
 use Rattle.nor_apply.specs.Programming.{CanProgramSpans, LeavesSpans, DoesSpans, CanProgramSector, LoadsOk, Loads, LeavesSector, DoesSector}
 use Rattle.nor_apply.proofs.Kept.{kept_then}
 use Rattle.nor_apply.proofs.Alone.{only-here}
 use Rattle.nor_apply.proofs.Changing.{looks_change, change_then}
-use Rattle.nor_apply.proofs.Counting.{any_below-same, count_below-same}
+use Rattle.nor_count.proofs.Counting.{any_below-same, count_below-same}
 use Rattle.nor_apply.proofs.ProgrammingSpans.{guarded_same}
 
 -- A sector's bytes are known, and the chip is as it was.

@@ -21,7 +21,8 @@ use Rattle.nor_driver.specs.Reads.{IsSectorOf}
 use Rattle.nor_plan.specs.declared.page.Span.{Span}
 use Rattle.nor_plan.specs.Bytes.{DifferAt}
 use Rattle.nor_plan.specs.SpanFacts.{IsSpan, AreSpans}
-use Rattle.nor_apply.specs.Change.{MayChange, HasChanged, none, only, byte_of}
+use Rattle.nor_apply.specs.Change.{MayChange, HasChanged, only, byte_of}
+use Rattle.nor_plan.specs.SectorSet.{none}
 use Rattle.nor_apply.specs.Programming.{CanProgramSpans}
 use Rattle.nor_apply.proofs.Kept.{kept_fixed, kept_then}
 use Rattle.nor_apply.proofs.Alone.{only-here, only-is}

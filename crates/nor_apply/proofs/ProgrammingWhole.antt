@@ -11,17 +11,18 @@ use Rattle.nor_chip.proofs.Nature.{nature_refl, nature_then}
 use Rattle.nor_driver.specs.declared.waits.Halt.{Halt}
 use Rattle.nor_driver.specs.Operations.{most_operation}
 use Rattle.nor_apply.specs.declared.tally.Tally.{Tally}
-use Rattle.nor_layout.specs.Below.{count_below}
-use Rattle.nor_apply.specs.Counts.{sector_count}
-use Rattle.nor_apply.specs.Content.{is_page_other, is_programmed}
+use Rattle.nor_count.specs.Below.{count_below}
+use Rattle.nor_count.specs.Counts.{sector_count}
+use Rattle.nor_plan.specs.Content.{is_page_other, is_programmed}
 use Rattle.nor_apply.specs.Within.{places_of}
-use Rattle.nor_apply.specs.Change.{MayChange, HasChanged, only, none, byte_of}
+use Rattle.nor_apply.specs.Change.{MayChange, HasChanged, only, byte_of}
+use Rattle.nor_plan.specs.SectorSet.{none}
 use Rattle.nor_driver.specs.Waits.{Halts}
 use Rattle.nor_apply.specs.Programming.{CanProgramSector, LeavesSector, DoesSector, CanProgramAll, LeavesPrograms, DoesPrograms, most_sector}
 use Rattle.nor_apply.proofs.Kept.{kept_then}
 use Rattle.nor_apply.proofs.Alone.{only-is}
 use Rattle.nor_apply.proofs.Changing.{change_then, change_wider, within_wider, has_may}
-use Rattle.nor_apply.proofs.Counting.{count_below-zero, count_below-with, count_below-without, count_below-add, count_below-same, count_below-none, count_below-most}
+use Rattle.nor_count.proofs.Counting.{count_below-zero, count_below-with, count_below-without, count_below-add, count_below-same, count_below-none, count_below-most}
 use Rattle.nor_apply.proofs.ProgrammingSpans.{guarded_same, only_other}
 use Rattle.nor_apply.proofs.ProgrammingSectors.{pages_same}
 
@@ -61,7 +62,7 @@ before_skip touched n s free =
 pub record SectorsSoFar (touched raised : ℕ → Bool) (wanted : ℕ → ℕ) (n : ℕ) (first now : BusState) (tally : Tally) : Type 0 where
   pub nature : KeepsNature first now
   pub fewer : tally.count ≤ 16 * count_below n touched
-  pub still : count_below n touched ≡ 0 → now.stirred ≡ first.stirred
+  pub still : count_below n touched ≡ 0 → now.sent ≡ first.sent
   pub least : 3 * tally.count ≤ tally.transactions
   pub few : tally.transactions ≤ count_below n touched + most_operation * tally.count
   pub sent : first.honest ≡ true → first.left ≡ now.left + tally.transactions

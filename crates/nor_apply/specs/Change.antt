@@ -5,7 +5,7 @@ use Rattle.nor_chip.specs.Chip.{Chip}
 use Rattle.nor_chip.specs.Guard.{is_guarded}
 use Rattle.nor_chip.specs.Power.{KeptStay}
 use Rattle.nor_chip.specs.Bus.{BusState}
-use Rattle.nor_probe.specs.declared.sfdp.Kinds.{Kinds}
+use Rattle.nor_chip.specs.declared.config.Kinds.{Kinds}
 use Rattle.nor_apply.specs.Within.{IsWithin, places_of}
 
 -- The sectors can be changed: the chip is idle, and they lie inside it and hold no guarded place.
@@ -17,8 +17,7 @@ pub record CanChange (sectors : ℕ → Bool) (chip : Chip) : Type 0 where
 -- the chip has this size and these erase kinds
 pub record IsSized (size : ℕ) (kinds : Kinds) (chip : Chip) : Type 0 where
   pub same : chip.config.size ≡ size
-  pub k32 : chip.config.k32 ≡ kinds.k32
-  pub k64 : chip.config.k64 ≡ kinds.k64
+  pub same_kinds : chip.config.kinds ≡ kinds
 
 -- no bit of these sectors has to rise to make the content the wanted one
 abbrev pub OnlyFalls : (sectors : ℕ → Bool) → (wanted content : ℕ → ℕ) → Type 0
@@ -46,10 +45,6 @@ pub record HasChanged (sectors : ℕ → Bool) (wanted : ℕ → ℕ) (erased : 
 -- what an erased place holds
 abbrev pub blank : ℕ → ℕ
 blank a = 255
-
--- no sector
-abbrev pub none : ℕ → Bool
-none s = false
 
 -- this sector alone
 abbrev pub only : (sector s : ℕ) → Bool

@@ -3,9 +3,11 @@ use Rattle.std.specs.Prelude.{◌≡◌, ◌≢◌, ◌≤◌, ◌<◌, ◌+◌,
 use Rattle.nor_chip.specs.Chip.{Chip}
 use Rattle.nor_chip.specs.Bus.{BusState}
 use Rattle.nor_driver.specs.Looks.{Rested, RanOutIfHonest}
+use Rattle.nor_call.specs.declared.refusal.Refusal.{Refusal}
+use Rattle.nor_call.specs.declared.refusal.Refusal.TheVariants as Refusals
 use Rattle.nor_apply.specs.declared.checks.CheckFault.{CheckFault}
 use Rattle.nor_apply.specs.declared.checks.CheckFault.TheVariants.{Stopped, Mismatch}
-use Rattle.nor_apply.specs.Counts.{sector_count}
+use Rattle.nor_count.specs.Counts.{sector_count}
 
 -- The chip is idle, and the sectors lie inside it.
 pub record CanCheck (sectors : ℕ → Bool) (chip : Chip) : Type 0 where
@@ -36,3 +38,8 @@ CheckTells sectors wanted old new (Mismatch address) =
 abbrev pub NamesDifference : (ℕ → Bool) → CheckFault → Type 0
 NamesDifference sectors Stopped = ⊤
 NamesDifference sectors (Mismatch address) = sectors (address / 4096) ≡ true
+
+-- the refusal that a fault of a check is
+abbrev pub of_check : CheckFault → Refusal
+of_check Stopped = Refusals.Stopped
+of_check (Mismatch address) = Refusals.Mismatch address

@@ -3,10 +3,10 @@ use Rattle.std.specs.Prelude.{◌≡◌, ◌≤◌, ◌*◌, ◌/◌, ℕ, Bool,
 use Rattle.nor_chip.specs.Chip.{Chip}
 use Rattle.nor_chip.specs.Bus.{BusState}
 use Rattle.nor_driver.specs.Operations.{most_operation}
-use Rattle.nor_probe.specs.declared.sfdp.Kinds.{Kinds}
+use Rattle.nor_chip.specs.declared.config.Kinds.{Kinds}
 use Rattle.nor_plan.specs.Planned.{planned}
 use Rattle.nor_apply.specs.declared.tally.Tally.{Tally}
-use Rattle.nor_apply.specs.Counts.{sector_count}
+use Rattle.nor_count.specs.Counts.{sector_count}
 use Rattle.nor_apply.specs.Change.{CanChange, IsSized, MayChange, HasChanged, blank}
 use Rattle.nor_apply.specs.Spending.{Spends, Tallies}
 
@@ -25,7 +25,7 @@ pub record LeavesErases (sectors : ℕ → Bool) (kinds : Kinds) (size : ℕ) (o
 pub record DoesErases (sectors : ℕ → Bool) (kinds : Kinds) (size : ℕ) (old new : BusState)
     (tally : Tally) : Type 0 where
   pub count : tally.count ≡ length (planned kinds (size / 4096) sectors)
-  pub still : tally.count ≡ 0 → new.stirred ≡ old.stirred
+  pub still : tally.count ≡ 0 → new.sent ≡ old.sent
   pub fewer : tally.count ≤ sector_count sectors
   pub tallies : Tallies 0 old new tally
   pub done : old.honest ≡ true → CanEraseAll sectors kinds size old.chip → HasChanged sectors blank sectors old new

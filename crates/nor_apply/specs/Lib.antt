@@ -1,5 +1,3 @@
-pub mod Counts
-pub mod Content
 pub mod Within
 pub mod Change
 pub mod Spending

@@ -6,10 +6,11 @@ use Rattle.nor_chip.specs.Bus.{BusState}
 use Rattle.nor_driver.specs.Looks.{Looks, RanOutIfHonest}
 use Rattle.nor_driver.specs.Reads.{IsSectorOf, HasRead}
 use Rattle.nor_apply.specs.declared.tally.Tally.{Tally}
-use Rattle.nor_layout.specs.Below.{count_below}
-use Rattle.nor_apply.specs.Counts.{sector_count}
-use Rattle.nor_apply.specs.Content.{is_page_other, is_programmed}
-use Rattle.nor_apply.specs.Change.{CanChange, OnlyFalls, MayChange, HasChanged, none, only, byte_of}
+use Rattle.nor_count.specs.Below.{count_below}
+use Rattle.nor_count.specs.Counts.{sector_count}
+use Rattle.nor_plan.specs.Content.{is_page_other, is_programmed}
+use Rattle.nor_apply.specs.Change.{CanChange, OnlyFalls, MayChange, HasChanged, only, byte_of}
+use Rattle.nor_plan.specs.SectorSet.{none}
 use Rattle.nor_apply.specs.Spending.{Spends, Tallies}
 
 -- ---- the spans of a sector
@@ -97,7 +98,7 @@ pub record LeavesPrograms (touched raised : ℕ → Bool) (wanted : ℕ → ℕ)
 -- sector is touched.
 pub record DoesPrograms (touched raised : ℕ → Bool) (wanted : ℕ → ℕ) (old new : BusState) (tally : Tally) : Type 0 where
   pub fewer : tally.count ≤ 16 * sector_count touched
-  pub still : sector_count touched ≡ 0 → new.stirred ≡ old.stirred
+  pub still : sector_count touched ≡ 0 → new.sent ≡ old.sent
   pub tallies : Tallies (sector_count touched) old new tally
   pub done : old.honest ≡ true → CanProgramAll touched raised wanted old.chip → HasChanged touched wanted none old new
   pub counted : old.honest ≡ true → CanProgramAll touched raised wanted old.chip

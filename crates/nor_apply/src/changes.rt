@@ -1,7 +1,7 @@
 //! The changes of a session or restore, as one.
 ghost use Rattle.std.specs.Prelude.{◌≡◌, ◌<◌, ◌≤◌, ◌/◌, ℕ, true, IfOk, IfErr};
 ghost use Rattle.nor_plan.specs.SectorSet.{has, LiesBelow};
-ghost use Rattle.nor_apply.specs.Counts.{sector_count};
+ghost use Rattle.nor_count.specs.Counts.{sector_count};
 ghost use Rattle.nor_driver.specs.Waits.{Halts};
 ghost use Rattle.nor_apply.specs.Applying.{LeavesApply, DoesApply, NamesChange, writes_code, touched_in, most_applied};
 

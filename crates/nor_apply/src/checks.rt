@@ -3,21 +3,25 @@ ghost use Rattle.std.specs.Prelude.{◌≡◌, ◌<◌, ℕ, true, length, IfOk,
 ghost use Rattle.nor_driver.specs.Looks.{Looks};
 ghost use Rattle.nor_plan.specs.SectorSet.{has};
 ghost use Rattle.nor_apply.specs.declared.checks.CheckFault.TheVariants as Faults;
-ghost use Rattle.nor_apply.specs.Counts.{sector_count};
-ghost use Rattle.nor_apply.specs.Checking.{DoesChecks, CheckTells, NamesDifference};
+ghost use Rattle.nor_count.specs.Counts.{sector_count};
+ghost use Rattle.nor_apply.specs.Checking.{DoesChecks, CheckTells, NamesDifference, of_check};
 ghost use Rattle.nor_apply.specs.Change.{only, byte_of};
 
 use crate::Source;
+use nor_call::Refusal;
 use nor_chip::{Bus, MOST_SECTORS, SECTOR_LEN, Stopped};
 use nor_driver::read_sector;
 use nor_plan::{SectorSet, bounds};
+use thiserror::Error;
 
 /// Why a check wasn't passed.
-#[derive(Clone, Copy, Debug, PartialEq, Eq)]
+#[derive(Clone, Copy, Debug, PartialEq, Eq, Error)]
 pub enum CheckFault {
     /// The bus stopped.
+    #[error("the bus stopped")]
     Stopped,
     /// A byte that was read back isn't the wanted one, first at this address.
+    #[error("the bytes differ from the wanted ones, first at address 0x{address:06x}")]
     Mismatch { address: u32 },
 }
 
@@ -26,6 +30,17 @@ impl From<Stopped> for CheckFault {
 
     fn from(_: Stopped) -> CheckFault {
         CheckFault::Stopped
+    }
+}
+
+impl From<CheckFault> for Refusal {
+    ghost from_gives = { λ fault refusal. refusal ≡ of_check fault };
+
+    fn from(fault: CheckFault) -> Refusal {
+        match fault {
+            CheckFault::Stopped => Refusal::Stopped,
+            CheckFault::Mismatch { address } => Refusal::Mismatch { address },
+        }
     }
 }
 

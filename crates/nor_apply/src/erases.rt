@@ -2,7 +2,7 @@
 ghost use Rattle.std.specs.Prelude.{◌≤◌, ◌*◌, ◌/◌, IfOk, IfErr};
 ghost use Rattle.nor_driver.specs.Operations.{most_operation};
 ghost use Rattle.nor_plan.specs.SectorSet.{has, LiesBelow};
-ghost use Rattle.nor_apply.specs.Counts.{sector_count};
+ghost use Rattle.nor_count.specs.Counts.{sector_count};
 ghost use Rattle.nor_driver.specs.Waits.{Halts};
 ghost use Rattle.nor_apply.specs.Spending.{NamesTimeoutIn};
 ghost use Rattle.nor_apply.specs.Erasing.{LeavesErases, DoesErases};

@@ -1,13 +1,35 @@
 //! Makes sectors of a flash chip what is wanted of them: erases, programs, checks, and the protection code.
 //!
 //! ```rust
-//! use nor_apply::{CheckFault, check_all};
+//! ghost use Rattle.std.specs.Prelude.{◌%◌, true, slice_index};
+//!
+//! use nor_apply::{CheckFault, Source, check_all};
+//! use nor_chip::{Config, Delays, Meter, SimBus};
 //! use nor_plan::SectorSet;
+//!
+//! // Each sector is to have these bytes.
+//! #[derive(Drop)]
+//! struct Same([u8; 4096]);
+//!
+//! impl Source for Same {
+//!     ghost has = { λ _ _. true };
+//!
+//!     ghost wanted = { λ same a. slice_index same.0 (a % 4096) };
+//!
+//!     fn sector(&self, _sector: u32) -> &[u8] {
+//!         &self.0
+//!     }
+//! }
+//!
+//! let idle = Delays { now: 0, each: 0 };
+//! let mut bytes = vec![in rt.alloc(); 0xFF; 65536]?;
+//! bytes[0x3210] = 0x00;
+//! let mut bus = SimBus::new(Config::tiny64(), bytes, [0x00, 0x00], idle)?;
+//! bus.allow(u64::MAX);
 //!
 //! let mut touched = SectorSet::new();
 //! touched.insert(3);
-//! // `source` wants FFh everywhere, and `bus` reaches a chip that has 00h at 3210h.
-//! let told = check_all(&mut bus, &source, &touched);
+//! let told = check_all(&mut bus, &Same([0xFF; 4096]), &touched);
 //! assert_eq!(rt; told, Err(CheckFault::Mismatch { address: 0x3210 }));
 //! ```
 //!

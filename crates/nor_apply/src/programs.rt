@@ -1,7 +1,7 @@
 //! The page programs of a session or restore.
 ghost use Rattle.std.specs.Prelude.{◌≡◌, ◌<◌, ◌*◌, ℕ, true, length, IfOk, IfErr};
 ghost use Rattle.nor_plan.specs.SectorSet.{has};
-ghost use Rattle.nor_apply.specs.Counts.{sector_count};
+ghost use Rattle.nor_count.specs.Counts.{sector_count};
 ghost use Rattle.nor_driver.specs.Waits.{Halts};
 ghost use Rattle.nor_apply.specs.Spending.{NamesTimeoutIn};
 ghost use Rattle.nor_apply.specs.Change.{only};

@@ -2,7 +2,7 @@ use Rattle.std.proofs.Common.{◌∙◌, sym, arith}
 use Rattle.std.specs.Prelude.{◌*◌}
 use Rattle.std.proofs.lemmas.Grind.{common_steps}
 use Rattle.nor_plan.specs.SectorSet.{has}
-use Rattle.nor_apply.specs.Counts.{sector_count}
+use Rattle.nor_count.specs.Counts.{sector_count}
 use Rattle.nor_driver.specs.Waits.{Halts}
 use Rattle.nor_apply.proofs.ProgrammingWhole.{IsTouched, sectors_none, sectors_skip, sectors_more, few_sectors, leaves_halted, halts_below, does_ended, leaves_ended}
 use Rattle.nor_apply.proofs.Naming.{names_member}
