@@ -11,19 +11,19 @@ use Rattle.nor_journal.specs.Vault.{VaultState}
 use Rattle.nor_journal.specs.Saved.{Saves, HasOneMore}
 use Rattle.nor_journal.specs.Writer.{vault_seen, HasWritten, HasPutSectors}
 use Rattle.nor_journal.proofs.Saved.{saved_in-empty_content, saved_in-with_sector, next_number-empty_content, next_number-with_sector}
-use Rattle.nor_save.specs.declared.refusal.Refusal.{Refusal}
-use Rattle.nor_save.specs.declared.refusal.Refusal.TheVariants.{Vault}
+use Rattle.nor_call.specs.declared.refusal.Refusal.{Refusal}
+use Rattle.nor_call.specs.declared.refusal.Refusal.TheVariants.{Vault}
 use Rattle.nor_save.specs.declared.scanning.Scanned.{Scanned}
 use Rattle.nor_save.specs.Scanning.{wanted_at, AreRight, HasBegun, HasBegunWith, UnlessVault, HasKeptBelow}
 use Rattle.nor_save.specs.SavedScan.{BeginsJournal}
 use Rattle.nor_save.specs.Saving.{head_of}
-use Rattle.nor_save.specs.Request.{wanted, is_touched_by}
-use Rattle.nor_save.specs.declared.request.Request.{Request}
+use Rattle.nor_call.specs.Request.{wanted}
+use Rattle.nor_save.specs.Touched.{is_touched_by}
+use Rattle.nor_call.specs.declared.request.Request.{Request}
 use Rattle.nor_save.proofs.Parts.{kept_same}
-use Rattle.nor_apply.specs.Content.{is_touched}
-use Rattle.nor_plan.specs.SectorSet.{has}
+use Rattle.nor_plan.specs.Content.{is_touched}
+use Rattle.nor_plan.specs.SectorSet.{has, none}
 use Rattle.nor_chip.specs.Chip.{Chip}
-use Rattle.nor_apply.specs.Change.{none}
 
 -- the head alone
 pub begun_none : {V : Type 0} (state : V → VaultState) (writer : Writer V) (id : List ℕ) (unique : Option (List ℕ)) (status : List ℕ) (size : ℕ)

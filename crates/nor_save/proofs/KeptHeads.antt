@@ -11,14 +11,16 @@ use Rattle.nor_journal.specs.declared.writer.Writer.{Writer}
 use Rattle.nor_journal.specs.Vault.{VaultState}
 use Rattle.nor_journal.specs.Writer.{HasPutSectors}
 use Rattle.nor_plan.specs.SectorSet.{has}
-use Rattle.nor_apply.specs.Content.{is_touched, is_raised}
+use Rattle.nor_plan.specs.Content.{is_touched, is_raised}
 use Rattle.nor_save.specs.declared.opening.Opening.{Opening}
-use Rattle.nor_save.specs.declared.request.Request.{Request}
-use Rattle.nor_save.specs.declared.refusal.Refusal.{Refusal}
-use Rattle.nor_save.specs.declared.refusal.Refusal.TheVariants.{StatusLocked, Protected}
+use Rattle.nor_call.specs.declared.request.Request.{Request}
+use Rattle.nor_call.specs.declared.refusal.Refusal.{Refusal}
+use Rattle.nor_call.specs.declared.refusal.Refusal.TheVariants.{StatusLocked, Protected}
 use Rattle.nor_save.specs.declared.scanning.Scanned.{Scanned}
-use Rattle.nor_save.specs.Request.{wanted, is_touched_by, is_raised_by}
-use Rattle.nor_save.specs.Scanning.{wanted_at, AreRight, IsOpen}
+use Rattle.nor_call.specs.Request.{wanted}
+use Rattle.nor_save.specs.Touched.{is_touched_by, is_raised_by}
+use Rattle.nor_save.specs.Scanning.{wanted_at, AreRight}
+use Rattle.nor_driver.specs.Looks.{IsOpen}
 use Rattle.nor_save.specs.Saving.{IsOpening, Shows, ScanJudges, ScanAccepts, head_of}
 use Rattle.nor_save.specs.Judging.{IsScanRefusal}
 use Rattle.nor_save.specs.SavedScan.{SaveTells}

@@ -1,6 +1,4 @@
-pub mod Below
 pub mod Planned
-pub mod Rests
 pub mod Scans
 pub mod Begun
 pub mod Parts

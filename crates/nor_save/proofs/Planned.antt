@@ -9,15 +9,16 @@ use Rattle.nor_layout.specs.declared.ranges.Span.{Span}
 use Rattle.nor_layout.specs.Sectors.{includes}
 use Rattle.nor_plan.specs.Plan.{AreBytesOf, IsPlan}
 use Rattle.nor_plan.specs.declared.plan.SectorPlan.{SectorPlan}
-use Rattle.nor_apply.specs.Content.{is_other, must_rise, is_touched, is_raised}
-use Rattle.nor_save.specs.declared.request.Request.{Request}
-use Rattle.nor_save.specs.declared.request.What.{What}
-use Rattle.nor_save.specs.declared.request.What.TheVariants.{Write, Erase, WpRange}
-use Rattle.nor_save.specs.Request.{is_data, target, is_requested}
-use Rattle.nor_save.specs.Scanning.{wanted_at, IsOpen, ScansSector}
-use Rattle.nor_layout.specs.Below.{any_below}
-use Rattle.nor_apply.proofs.Counting.{any_below-all, any_below-same}
-use Rattle.nor_save.proofs.Below.{any_below-decided}
+use Rattle.nor_plan.specs.Content.{is_other, must_rise, is_touched, is_raised}
+use Rattle.nor_call.specs.declared.request.Request.{Request}
+use Rattle.nor_call.specs.declared.request.What.{What}
+use Rattle.nor_call.specs.declared.request.What.TheVariants.{Write, Erase, WpRange}
+use Rattle.nor_call.specs.Request.{is_data, target, is_requested}
+use Rattle.nor_save.specs.Scanning.{wanted_at, ScansSector}
+use Rattle.nor_driver.specs.Looks.{IsOpen}
+use Rattle.nor_count.specs.Below.{any_below}
+use Rattle.nor_count.proofs.Counting.{any_below-all, any_below-same}
+use Rattle.nor_count.proofs.Verdicts.{any_below-decided}
 
 -- a request about bytes may change what it includes of the chip
 pub may_change-included : (request : Request) (size a : ℕ) → is_data request.what ≡ true → a < size → is_requested request size a ≡ includes request.included a

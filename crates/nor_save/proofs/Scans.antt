@@ -1,27 +1,30 @@
 -- What a scan has found so far.
-use Rattle.std.proofs.Common.{◌≡◌, ◌≢◌, ◌<◌, ◌≤◌, ◌+◌, ◌-◌, ◌*◌, ◌/◌, ◌%◌, ◌&&◌, ◌||◌, ◌∙◌, ℕ, zero, suc, Bool, true, false, List, slice_index, Option, refl, ap, sym, subst, arith, inl, inr}
-use Rattle.std.specs.Prelude.{IsTrue, MatchBool, if◌then◌else◌, ◌==◌, nat_lt}
+use Rattle.std.proofs.Common.{◌≡◌, ◌<◌, ◌≤◌, ◌+◌, ◌-◌, ◌*◌, ◌/◌, ◌%◌, ◌&&◌, ◌||◌, ◌∙◌, ℕ, zero, suc, Bool, true, false, List, slice_index, Option, Result, Ok, Err, refl, ap, sym, subst, arith, inl, inr}
+use Rattle.std.specs.Prelude.{IsTrue, IfErr, IsErrAnd, MatchBool, if◌then◌else◌, ◌==◌, nat_lt}
 use Rattle.std.proofs.lemmas.Bool.{MatchBool-at_false, cases_Bool, cases_eq, cases_lt, ne_eqb, eq-eqb, eqb-true, lt-ltb, le-ltb, and_left, and_right, and_parts, and_from, or_cases, or_left, or_right, both_ways}
 use Rattle.nor_chip.specs.declared.config.Config.{Config}
 use Rattle.nor_chip.specs.Bus.{BusState}
 use Rattle.nor_chip.specs.Size.{is_chip_size}
 use Rattle.nor_chip.proofs.Sizes.{is_chip_size-in_blocks}
-use Rattle.nor_driver.specs.Looks.{Looks, RanOutIfHonest}
+use Rattle.nor_driver.specs.Looks.{Looks, RanOutIfHonest, IsOpen}
 use Rattle.nor_layout.specs.declared.ranges.Span.{Span}
-use Rattle.nor_layout.specs.Below.{count_below}
+use Rattle.nor_count.specs.Below.{count_below}
 use Rattle.nor_layout.specs.Sectors.{includes, has_in_sector, SomeInSector, NoneInSector}
 use Rattle.nor_plan.specs.SectorSet.{has}
 use Rattle.nor_plan.specs.declared.plan.SectorPlan.{SectorPlan}
-use Rattle.nor_apply.specs.Content.{is_touched, is_raised}
-use Rattle.nor_apply.specs.Counts.{sector_count}
-use Rattle.nor_save.specs.declared.request.Request.{Request}
+use Rattle.nor_plan.specs.Content.{is_touched, is_raised}
+use Rattle.nor_count.specs.Counts.{sector_count}
+use Rattle.nor_call.specs.declared.request.Request.{Request}
 use Rattle.nor_save.specs.declared.scanning.Scanned.{Scanned}
-use Rattle.nor_save.specs.Request.{is_data, is_requested, scanned_sectors}
-use Rattle.nor_save.specs.Scanning.{wanted_at, AreMarks, AreRight, IsOpen, IsBlank, HasMarked, ScansSector, Scans}
-use Rattle.nor_apply.proofs.Counting.{count_below-zero, count_below-more, count_below-none, count_below-same}
-use Rattle.nor_save.proofs.Below.{count_below-insert}
+use Rattle.nor_call.specs.declared.refusal.Refusal.{Refusal}
+use Rattle.nor_call.specs.declared.refusal.Refusal.TheVariants.{Stopped}
+use Rattle.nor_call.specs.Request.{is_data, is_requested, scanned_sectors}
+use Rattle.nor_save.specs.Scanning.{ScanTells, wanted_at, AreMarks, AreRight, IsBlank, HasMarked, ScansSector, Scans}
+use Rattle.nor_count.proofs.Counting.{count_below-zero, count_below-more, count_below-none, count_below-same}
+use Rattle.nor_count.proofs.Verdicts.{count_below-insert}
 use Rattle.nor_save.proofs.Planned.{may_change-included, wanted-kept, wanted-same, untouched, unraised, touched-later, raised-later}
-use Rattle.nor_save.proofs.Rests.{HasLooked, has_looked-none, has_looked-more, looks_then, runs_out}
+use Rattle.nor_driver.proofs.RestsInTurn.{HasLooked, has_looked-none, has_looked-more, looks_after, runs_out}
+use Rattle.nor_plan.proofs.Parts.{HasPart}
 
 -- The sectors below n were scanned, and no byte of the image from there on was changed.
 pub record HasScanned (request : Request) (size n : ℕ) (image image' : List ℕ) (old new : BusState) (scanned : Scanned) : Type 0 where
@@ -207,11 +210,6 @@ opened_later size reads old mid is_open looked =
       same = ap (λ (config : Config). config.size) was.same.config ∙ is_open.same;
     }
 
--- The image after a sector's part of it was written: the part is new, and nothing else.
-pub record HasPart (n : ℕ) (part : List ℕ) (old new : List ℕ) : Type 0 where
-  pub inside : (i : ℕ) → i < 4096 → slice_index new (4096 * n + i) ≡ slice_index part i
-  pub outside : (a : ℕ) → a / 4096 ≢ n → slice_index new a ≡ slice_index old a
-
 -- a sector more was scanned
 pub scanned_more : (request : Request) (size n : ℕ) (image image' image'' part part' bytes : List ℕ) (plan : SectorPlan) (old mid new : BusState) (scanned next : Scanned)
     → IsAt request size n true
@@ -268,7 +266,7 @@ room request size n image image' old mid scanned at was =
 pub looks_on : (request : Request) (size n : ℕ) (image image' : List ℕ) (old mid new : BusState) (scanned : Scanned) → IsAt request size n true → HasScanned request size n image image' old mid scanned
     → Looks 1 mid new → Looks (scanned_sectors request size) old new
 looks_on request size n image image' old mid new scanned at was looks =
-    looks_then scanned.reads 1 (scanned_sectors request size) old mid new (room request size n image image' old mid scanned at was) was.looked looks
+    looks_after scanned.reads 1 (scanned_sectors request size) old mid new (room request size n image image' old mid scanned at was) was.looked looks
 
 pub runs_out_at : (request : Request) (size n : ℕ) (image image' : List ℕ) (old mid new : BusState) (scanned : Scanned) → IsAt request size n true → HasScanned request size n image image' old mid scanned
     → RanOutIfHonest 1 mid new → RanOutIfHonest (scanned_sectors request size) old new
@@ -323,3 +321,8 @@ none_to_scan request size image image' old new scanned other few was =
       };
       merged = λ is_open a is. absurd (both_ways (has scanned.touched (a / 4096)) (free (a / 4096)) is);
     }
+
+-- a refusal that is a stop tells that the transactions ran out
+pub tells_stop : {T : Type 0} (outcome : Result T Refusal) (most : ℕ) (old new : BusState) → IsErrAnd outcome (λ refusal. refusal ≡ Stopped) → RanOutIfHonest most old new → IfErr outcome (ScanTells most old new)
+tells_stop (Ok value) most old new stopped out = tt
+tells_stop (Err refusal) most old new stopped out = subst (λ (r : Refusal). ScanTells most old new r) (sym stopped) out

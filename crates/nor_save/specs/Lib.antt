@@ -1,5 +1,4 @@
-pub mod Refusal
-pub mod Request
+pub mod Touched
 pub mod Scanning
 pub mod Opening
 pub mod Judging

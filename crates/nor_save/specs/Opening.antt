@@ -2,16 +2,13 @@
 use Rattle.std.specs.Prelude.{◌≡◌, ◌≤◌, ◌+◌, ℕ, true, Option, Ok, List, [], ◌∷◌}
 use Rattle.nor_chip.specs.Chip.{status1_of}
 use Rattle.nor_chip.specs.Bus.{BusState}
-use Rattle.nor_driver.specs.Looks.{Rested, RanOutIfHonest}
+use Rattle.nor_driver.specs.Looks.{Rested}
 use Rattle.nor_driver.specs.Reads.{unique_of}
 use Rattle.nor_probe.specs.declared.table.ChipName.{ChipName}
 use Rattle.nor_probe.specs.declared.probes.Probed.{Probed}
-use Rattle.nor_probe.specs.declared.probes.ProbeFault.TheVariants as Probes
 use Rattle.nor_probe.specs.Known.{shown_as, IsModelled}
-use Rattle.nor_probe.specs.Found.{part_in, IsPart, IsWanted, IsConfigOf, Tells}
+use Rattle.nor_probe.specs.Found.{part_in, IsPart, IsWanted, IsConfigOf}
 use Rattle.nor_save.specs.declared.opening.Opening.{Opening}
-use Rattle.nor_save.specs.declared.refusal.Refusal.{Refusal}
-use Rattle.nor_save.specs.declared.refusal.Refusal.TheVariants.{NoChip, UnknownChip, OtherName, Stopped, Timeout}
 
 -- the most transactions of an opening: a probe, status 2 and the unique ID
 abbrev pub most_opening : ℕ
@@ -45,13 +42,3 @@ pub record Opens (named : Option ChipName) (old new : BusState) (opening : Openi
   pub status2 : old.honest ≡ true → opening.status2 ≡ new.chip.kept2
   pub unique : old.honest ≡ true → opening.unique ≡ unique_of new.chip.config
   pub count : old.honest ≡ true → old.left ≡ new.left + opening.transactions
-
--- What a refusal tells of a probe and the readings behind it, which send at most so many transactions: a chip's is the
--- probe's own, a stop comes where fewer were left, and a timeout, at 0, where the bus isn't honest.
-abbrev pub OpeningTells : (most : ℕ) → Option ChipName → (old new : BusState) → Refusal → Type 0
-OpeningTells most named old new NoChip = old.honest ≡ true → Tells named old new Probes.NoChip
-OpeningTells most named old new (UnknownChip fault) = old.honest ≡ true → Tells named old new (Probes.UnknownChip fault)
-OpeningTells most named old new OtherName = old.honest ≡ true → Tells named old new Probes.OtherName
-OpeningTells most named old new Stopped = RanOutIfHonest most old new
-OpeningTells most named old new (Timeout address) = (address ≡ 0) × (old.honest ≡ true → ⊥)
-OpeningTells most named old new _ = ⊥

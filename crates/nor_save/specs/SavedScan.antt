@@ -9,10 +9,11 @@ use Rattle.nor_journal.specs.Vault.{VaultState, Refused, Completed, Accepted}
 use Rattle.nor_plan.specs.SectorSet.{has}
 use Rattle.nor_save.specs.declared.opening.Opening.{Opening}
 use Rattle.nor_save.specs.declared.saving.SavedScan.{SavedScan}
-use Rattle.nor_save.specs.declared.request.Request.{Request}
-use Rattle.nor_save.specs.declared.refusal.Refusal.{Refusal}
-use Rattle.nor_save.specs.declared.refusal.Refusal.TheVariants.{StatusLocked, Protected, Vault, Stopped}
-use Rattle.nor_save.specs.Request.{wanted, scanned_sectors, is_touched_by, is_raised_by}
+use Rattle.nor_call.specs.declared.request.Request.{Request}
+use Rattle.nor_call.specs.declared.refusal.Refusal.{Refusal}
+use Rattle.nor_call.specs.declared.refusal.Refusal.TheVariants.{StatusLocked, Protected, Vault, Stopped}
+use Rattle.nor_call.specs.Request.{wanted, scanned_sectors}
+use Rattle.nor_save.specs.Touched.{is_touched_by, is_raised_by}
 use Rattle.nor_save.specs.Scanning.{Scans}
 use Rattle.nor_save.specs.Judging.{Lifts}
 use Rattle.nor_save.specs.Saving.{IsOpening, Shows, ScanAccepts, ScanJudges, head_of}

@@ -9,12 +9,12 @@ use Rattle.nor_journal.specs.Text.{Content, empty_content}
 use Rattle.nor_layout.specs.Sectors.{ReachesPast}
 use Rattle.nor_probe.specs.Found.{IsConfigOf}
 use Rattle.nor_save.specs.declared.opening.Opening.{Opening}
-use Rattle.nor_save.specs.declared.request.Request.{Request}
-use Rattle.nor_save.specs.declared.request.What.{What}
-use Rattle.nor_save.specs.declared.request.What.TheVariants.{WpRange}
-use Rattle.nor_save.specs.declared.refusal.Refusal.{Refusal}
-use Rattle.nor_save.specs.declared.refusal.Refusal.TheVariants.{ImageSize, RegionOutside, NoProtection, UndefinedProtection, RangeNotOffered, StatusLocked, Protected}
-use Rattle.nor_save.specs.Request.{is_data, IsWantedCode}
+use Rattle.nor_call.specs.declared.request.Request.{Request}
+use Rattle.nor_call.specs.declared.request.What.{What}
+use Rattle.nor_call.specs.declared.request.What.TheVariants.{WpRange}
+use Rattle.nor_call.specs.declared.refusal.Refusal.{Refusal}
+use Rattle.nor_call.specs.declared.refusal.Refusal.TheVariants.{ImageSize, RegionOutside, NoProtection, UndefinedProtection, RangeNotOffered, StatusLocked, Protected}
+use Rattle.nor_call.specs.Request.{is_data, IsWantedCode}
 
 -- The opening has the configuration, the kept bits and the own number of a chip.
 pub record IsOpening (chip : Chip) (opening : Opening) : Type 0 where

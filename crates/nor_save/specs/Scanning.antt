@@ -1,7 +1,7 @@
 -- What scans tell: which sectors are touched and raised.
 use Rattle.std.specs.Prelude.{◌≡◌, ◌≢◌, ◌<◌, ◌≤◌, ◌+◌, ◌*◌, ◌/◌, ◌==◌, ◌&&◌, ◌||◌, ℕ, Bool, true, false, nat_lt, Result, Ok, Err, List, slice_index, if◌then◌else◌, ⊤}
 use Rattle.nor_chip.specs.Bus.{BusState}
-use Rattle.nor_driver.specs.Looks.{Rested, RanOutIfHonest}
+use Rattle.nor_driver.specs.Looks.{Rested, RanOutIfHonest, IsOpen}
 use Rattle.nor_journal.specs.declared.writer.Writer.{Writer}
 use Rattle.nor_journal.specs.Text.{Content, next_number}
 use Rattle.nor_journal.specs.Saved.{is_saved}
@@ -10,13 +10,13 @@ use Rattle.nor_journal.specs.Writer.{HasWritten, HasPutSectors}
 use Rattle.nor_driver.specs.Reads.{HasRead, IsSectorOf}
 use Rattle.nor_plan.specs.declared.plan.SectorPlan.{SectorPlan}
 use Rattle.nor_plan.specs.SectorSet.{has}
-use Rattle.nor_apply.specs.Counts.{sector_count}
-use Rattle.nor_apply.specs.Content.{is_touched, is_raised}
-use Rattle.nor_save.specs.declared.refusal.Refusal.{Refusal}
-use Rattle.nor_save.specs.declared.refusal.Refusal.TheVariants.{Vault, Stopped}
-use Rattle.nor_save.specs.declared.request.Request.{Request}
+use Rattle.nor_count.specs.Counts.{sector_count}
+use Rattle.nor_plan.specs.Content.{is_touched, is_raised}
+use Rattle.nor_call.specs.declared.refusal.Refusal.{Refusal}
+use Rattle.nor_call.specs.declared.refusal.Refusal.TheVariants.{Vault, Stopped}
+use Rattle.nor_call.specs.declared.request.Request.{Request}
 use Rattle.nor_save.specs.declared.scanning.Scanned.{Scanned}
-use Rattle.nor_save.specs.Request.{target, is_requested, scanned_sectors}
+use Rattle.nor_call.specs.Request.{target, is_requested, scanned_sectors}
 
 -- What `wanted` is of a chip of this size and content.
 abbrev pub wanted_at : Request → (image : List ℕ) → (size : ℕ) → (content : ℕ → ℕ) → (a : ℕ) → ℕ
@@ -47,12 +47,6 @@ pub record AreMarks (n : ℕ) (scanned : Scanned) : Type 0 where
 pub record AreRight (wanted content : ℕ → ℕ) (n : ℕ) (scanned : Scanned) : Type 0 where
   pub touched : (s : ℕ) → has scanned.touched s ≡ (nat_lt s n && is_touched content wanted s)
   pub raised : (s : ℕ) → has scanned.raised s ≡ (nat_lt s n && is_raised content wanted s)
-
--- An idle chip of this size, on an honest bus.
-pub record IsOpen (size : ℕ) (state : BusState) : Type 0 where
-  pub honest : state.honest ≡ true
-  pub idle : state.chip.busy ≡ 0
-  pub same : state.chip.config.size ≡ size
 
 -- What scanning one sector does: its bytes are read, and those of the image that aren't to change are taken from them.
 pub record ScansSector (request : Request) (size sector : ℕ) (part part' bytes : List ℕ)

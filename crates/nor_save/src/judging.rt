@@ -5,7 +5,7 @@ ghost use Rattle.nor_chip.specs.Guard.{is_undefined, guarded_by};
 ghost use Rattle.nor_chip.specs.Code.{code_in};
 ghost use Rattle.nor_chip.specs.Size.{is_chip_size};
 ghost use Rattle.nor_plan.specs.SectorSet.{has, LiesBelow};
-ghost use Rattle.nor_save.specs.Request.{is_data};
+ghost use Rattle.nor_call.specs.Request.{is_data};
 ghost use Rattle.nor_save.specs.Opening.{status_read};
 ghost use Rattle.nor_save.specs.Judging.{IsOpeningRefusal, IsScanRefusal, Lifts};
 ghost use Rattle.nor_save.specs.Judging.{AcceptsOpening, RefusesOpening, FindsHeld, FindsNeed, AcceptsScan, RefusesScan};

@@ -2,9 +2,19 @@
 //! touched ones into the journal.
 //!
 //! ```rust
-//! use nor_save::{judge_opening, open, save};
+//! use nor_chip::{Config, Delays, Meter, SimBus};
+//! use nor_journal::MemVault;
+//! use nor_save::{Request, judge_opening, open, save};
 //!
-//! // `bus` reaches an erased chip, `image` differs in one byte, and `request` writes it.
+//! let idle = Delays { now: 0, each: 0 };
+//! let erased = vec![in rt.alloc(); 0xFF; 65536]?;
+//! let mut bus = SimBus::new(Config::tiny64(), erased, [0x00, 0x00], idle)?;
+//! bus.allow(u64::MAX);
+//!
+//! let mut image = vec![in rt.alloc(); 0xFF; 65536]?;
+//! image[0] = 0x5A;
+//! let request = Request::write();
+//! let mut vault = MemVault::new(rt.alloc());
 //! let opening = open(&mut bus, request.named)?;
 //! let code = judge_opening(&request, &opening, image.len())?;
 //! let saved = save(&mut bus, &mut vault, &mut image, &request, &opening, code)?;
@@ -18,16 +28,11 @@
 
 mod judging;
 mod opening;
-mod refusal;
-mod report;
-mod request;
 mod saving;
 mod scanning;
 
 pub use judging::{first_held, judge_opening};
+pub use nor_call::{Refusal, Report, Request, What};
 pub use opening::{Opening, open, read_on};
-pub use refusal::Refusal;
-pub use report::Report;
-pub use request::{Request, What};
 pub use saving::{SavedScan, save};
 pub use scanning::Scanned;

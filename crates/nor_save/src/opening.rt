@@ -3,7 +3,8 @@ ghost use Rattle.std.specs.Prelude.{◌≡◌, ◌≤◌, IfOk, IfErr, OnErr};
 ghost use Rattle.nor_chip.specs.Status.{bytes_of};
 ghost use Rattle.nor_driver.specs.Looks.{Looks, RanOutIfHonest};
 ghost use Rattle.nor_probe.specs.Found.{most_probe};
-ghost use Rattle.nor_save.specs.Opening.{Opens, OpeningTells, status_read, ReadsRest, most_opening};
+ghost use Rattle.nor_save.specs.Opening.{Opens, status_read, ReadsRest, most_opening};
+ghost use Rattle.nor_call.specs.Tells.{OpeningTells};
 
 use crate::Refusal;
 use nor_chip::{Bus, Status, Stopped};

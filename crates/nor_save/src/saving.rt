@@ -4,7 +4,7 @@ ghost use Rattle.nor_chip.specs.Size.{is_chip_size};
 ghost use Rattle.nor_driver.specs.Looks.{Looks};
 ghost use Rattle.nor_journal.specs.Vault.{IsFresh};
 ghost use Rattle.nor_plan.specs.SectorSet.{has};
-ghost use Rattle.nor_save.specs.Request.{scanned_sectors, is_data};
+ghost use Rattle.nor_call.specs.Request.{scanned_sectors, is_data};
 ghost use Rattle.nor_save.specs.SavedScan.{HasSaved, SaveTells, SavePuts, HoldsJournal, IsJournalOf, SaveBegins};
 
 use crate::judging::judge_scan;

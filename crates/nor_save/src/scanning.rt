@@ -1,16 +1,15 @@
 //! What is read before anything is changed.
 ghost use Rattle.std.specs.Prelude.{◌≡◌, ◌≢◌, ◌<◌, ◌≤◌, ◌+◌, ◌*◌, ◌/◌, true, false, length, IfOk, IfErr, OnErr, IsTrue};
 ghost use Rattle.nor_chip.specs.Size.{is_chip_size};
-ghost use Rattle.nor_driver.specs.Looks.{Looks, RanOutIfHonest};
+ghost use Rattle.nor_driver.specs.Looks.{Looks, RanOutIfHonest, IsOpen};
 ghost use Rattle.nor_journal.specs.Text.{Content};
 ghost use Rattle.nor_journal.specs.Writer.{vault_of, vault_seen, HasPutSectors};
-ghost use Rattle.nor_plan.specs.SectorSet.{has};
-ghost use Rattle.nor_save.specs.Request.{scanned_sectors, is_data};
-ghost use Rattle.nor_apply.specs.Content.{is_touched};
-ghost use Rattle.nor_apply.specs.Change.{none};
-ghost use Rattle.nor_save.specs.Scanning.{HasMarked, IsBlank, IsOpen, ScansSector, Scans, ScanTells, ScanPuts};
+ghost use Rattle.nor_plan.specs.SectorSet.{has, none};
+ghost use Rattle.nor_call.specs.Request.{scanned_sectors, is_data};
+ghost use Rattle.nor_plan.specs.Content.{is_touched};
+ghost use Rattle.nor_save.specs.Scanning.{HasMarked, IsBlank, ScansSector, Scans, ScanTells, ScanPuts};
 ghost use Rattle.nor_save.specs.Scanning.{HasBegun, HasBegunWith, UnlessVault, HasKeptBelow, wanted_at};
-ghost use Rattle.nor_save.specs.declared.refusal.Refusal.TheVariants as Refusals;
+ghost use Rattle.nor_call.specs.declared.refusal.Refusal.TheVariants as Refusals;
 
 use crate::{Refusal, Request, What};
 use nor_chip::{Bus, SECTOR_LEN, Stopped};

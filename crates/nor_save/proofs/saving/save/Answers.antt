@@ -6,9 +6,8 @@ use Rattle.nor_journal.specs.Text.{Content, empty_content}
 use Rattle.nor_journal.specs.Vault.{VaultState}
 use Rattle.nor_journal.specs.Writer.{vault_seen, HasPutSectors}
 use Rattle.nor_journal.proofs.Saves.{HasKept-none}
-use Rattle.nor_plan.specs.SectorSet.{has}
-use Rattle.nor_apply.specs.Change.{none}
-use Rattle.nor_save.specs.Request.{is_touched_by}
+use Rattle.nor_plan.specs.SectorSet.{has, none}
+use Rattle.nor_save.specs.Touched.{is_touched_by}
 use Rattle.nor_save.specs.Saving.{head_of}
 use Rattle.nor_save.specs.SavedScan.{SaveTells, SaveBegins}
 use Rattle.nor_save.proofs.KeptHeads.{same_bytes, is_open, touched_right, raised_right, merged_right, judged_tells, accepts_touched, kept_touched, head_same}

@@ -1,13 +1,13 @@
 use Rattle.std.proofs.Common.{◌≡◌, ◌≤◌, ◌+◌, ◌-◌, ◌*◌, ◌/◌, ◌∙◌, ℕ, Bool, true, false, length, refl, sym, subst, arith, rules}
 use Rattle.std.specs.Prelude.{option_copied}
-use Rattle.nor_plan.specs.SectorSet.{has}
-use Rattle.nor_save.specs.Request.{scanned_sectors}
-use Rattle.nor_apply.proofs.Counting.{at_most_one}
-use Rattle.nor_apply.specs.Change.{none}
-use Rattle.nor_save.proofs.Rests.{tells_stop}
+use Rattle.nor_plan.specs.SectorSet.{has, none}
+use Rattle.nor_call.specs.Request.{scanned_sectors}
+use Rattle.nor_count.proofs.Counting.{at_most_one}
+use Rattle.nor_save.proofs.Scans.{tells_stop}
 use Rattle.nor_save.proofs.Scans.{nothing_scanned, skipped, scanned_more, IsAt, is_at, looks_on, runs_out_at, all_scanned, HasScanned, none_to_scan}
 use Rattle.nor_save.proofs.Begun.{begun_later, begun_more, with_later, with_more, kept_below, unless_any, unless_refused, unless_any_err, unless_refused_err}
-use Rattle.nor_save.proofs.Parts.{cut_out, part_long, put_back, kept_later, kept_same, marked_more, marked_none, read_before}
+use Rattle.nor_plan.proofs.Parts.{cut_out, part_long, put_back}
+use Rattle.nor_save.proofs.Parts.{kept_later, kept_same, marked_more, marked_none, read_before}
 use Rattle.nor_save.proofs.scanning.scan_all.Goals as goal
 use Rattle.nor_save.proofs.scanning.scan_all.Goals.{then-is_data, else-is_data, then-includes_in_sector+in_ok-plan, then-plan+in_ok-add, else-plan, else-includes_in_sector}
 

@@ -2,10 +2,10 @@ use Rattle.std.proofs.Common.{◌≡◌, ◌<◌, ◌≤◌, ◌/◌, true}
 use Rattle.nor_journal.specs.Text.{Content}
 use Rattle.nor_journal.specs.Vault.{Accepted}
 use Rattle.nor_journal.specs.Writer.{vault_of, vault_seen, HasPutSectors}
-use Rattle.nor_plan.specs.SectorSet.{has}
-use Rattle.nor_apply.specs.Change.{none}
-use Rattle.nor_save.specs.Request.{is_data}
-use Rattle.nor_save.specs.Scanning.{HasBegun, HasBegunWith, IsOpen}
+use Rattle.nor_plan.specs.SectorSet.{has, none}
+use Rattle.nor_call.specs.Request.{is_data}
+use Rattle.nor_save.specs.Scanning.{HasBegun, HasBegunWith}
+use Rattle.nor_driver.specs.Looks.{IsOpen}
 use Rattle.nor_save.proofs.Scans.{HasScanned}
 use Rattle.nor_save.proofs.scanning.scan_all.Given as goal
 

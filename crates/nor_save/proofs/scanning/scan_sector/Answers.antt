@@ -1,6 +1,6 @@
 use Rattle.std.proofs.Common.{◌≡◌, ◌<◌, ◌∙◌, ℕ, List, slice_index, option_copied, refl, ap, sym, arith}
-use Rattle.nor_save.specs.declared.request.What.{What}
-use Rattle.nor_save.specs.Request.{target}
+use Rattle.nor_call.specs.declared.request.What.{What}
+use Rattle.nor_call.specs.Request.{target}
 use Rattle.nor_save.proofs.Planned.{scans_sector, target-write}
 use Rattle.nor_save.proofs.scanning.scan_sector.Goals as goal
 use Rattle.nor_save.proofs.scanning.scan_sector.Goals.{in-Erase, in_default}
