@@ -10,11 +10,11 @@ use Rattle.nor_probe.specs.declared.table.ChipName.{ChipName}
 use Rattle.nor_probe.specs.declared.probes.Found.{Found}
 use Rattle.nor_probe.specs.declared.probes.Probed.{Probed}
 use Rattle.nor_probe.specs.Found.{most_probe}
-use Rattle.nor_apply.proofs.CheckingLooks.{looks_more}
-use Rattle.nor_save.specs.declared.refusal.Refusal.{Refusal}
-use Rattle.nor_save.specs.declared.refusal.Refusal.TheVariants.{NoChip, UnknownChip, OtherName, ImageSize, RegionOutside, Stopped, Timeout, Mismatch}
-use Rattle.nor_save.specs.declared.report.Report.{Report}
-use Rattle.nor_save.specs.Opening.{OpeningTells}
+use Rattle.nor_driver.proofs.LooksInTurn.{looks_more}
+use Rattle.nor_call.specs.declared.refusal.Refusal.{Refusal}
+use Rattle.nor_call.specs.declared.refusal.Refusal.TheVariants.{NoChip, UnknownChip, OtherName, ImageSize, RegionOutside, Stopped, Timeout, Mismatch}
+use Rattle.nor_call.specs.declared.report.Report.{Report}
+use Rattle.nor_call.specs.Tells.{OpeningTells}
 use Rattle.nor_read.specs.declared.verifying.Compared.{Compared}
 use Rattle.nor_read.specs.Finding.{IsModelled, HasFound, ReportsReads, ReadingTells, most_read}
 use Rattle.nor_read.specs.Verifying.{VerifyAlways, VerifyHonest, VerifyModelled, VerifyTells, IsVerifyRefusal, TellsFirst, ComparesAll}

@@ -4,14 +4,13 @@ use Rattle.std.specs.Prelude.{◌/◌, if◌then◌else◌}
 use Rattle.std.proofs.lemmas.Bool.{cases_lt}
 use Rattle.std.proofs.lemmas.List.{get_or_append_left, get_or-append_right}
 use Rattle.nor_chip.specs.Bus.{BusState}
-use Rattle.nor_driver.specs.Looks.{Looks}
+use Rattle.nor_driver.specs.Looks.{Looks, IsOpen}
 use Rattle.nor_journal.specs.Vault.{VaultState, Accepted, Took}
 use Rattle.nor_layout.specs.declared.ranges.Span.{Span}
-use Rattle.nor_layout.specs.Below.{count_below}
+use Rattle.nor_count.specs.Below.{count_below}
 use Rattle.nor_layout.specs.Sectors.{includes, has_in_sector, sectors_included}
-use Rattle.nor_layout.proofs.Below.{count_below-zero}
-use Rattle.nor_save.specs.Scanning.{IsOpen}
-use Rattle.nor_save.proofs.Rests.{HasLooked, has_looked-none}
+use Rattle.nor_count.proofs.Below.{count_below-zero}
+use Rattle.nor_driver.proofs.RestsInTurn.{HasLooked, has_looked-none}
 use Rattle.nor_read.specs.Reading.{copied, Grows, Copies, ReadsPiece, ReadsAll}
 use Rattle.nor_read.proofs.Onward.{looked_on, open_on}
 

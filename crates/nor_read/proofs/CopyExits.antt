@@ -5,9 +5,9 @@ use Rattle.std.proofs.lemmas.List.{get_or-take, length-take-le}
 use Rattle.nor_chip.specs.Bus.{BusState}
 use Rattle.nor_journal.specs.Vault.{VaultState, PutRefused, one_more}
 use Rattle.nor_layout.specs.declared.ranges.Span.{Span}
-use Rattle.nor_save.specs.Scanning.{IsOpen}
-use Rattle.nor_save.specs.declared.refusal.Refusal.{Refusal}
-use Rattle.nor_save.specs.declared.refusal.Refusal.TheVariants.{Output}
+use Rattle.nor_driver.specs.Looks.{IsOpen}
+use Rattle.nor_call.specs.declared.refusal.Refusal.{Refusal}
+use Rattle.nor_call.specs.declared.refusal.Refusal.TheVariants.{Output}
 use Rattle.nor_read.specs.Reading.{ReadsPiece, BreaksCopy, CopyTells, PutTells}
 use Rattle.nor_driver.specs.Looks.{Looks}
 use Rattle.nor_read.proofs.Onward.{looked_on}

@@ -5,14 +5,13 @@ use Rattle.std.specs.Option.{option_or}
 use Rattle.std.proofs.lemmas.Bool.{cases_lt, cases_Bool}
 use Rattle.std.proofs.lemmas.List.{get_or-take, get_or-drop}
 use Rattle.nor_chip.specs.Bus.{BusState}
-use Rattle.nor_driver.specs.Looks.{Looks}
+use Rattle.nor_driver.specs.Looks.{Looks, IsOpen}
 use Rattle.nor_layout.specs.declared.ranges.Span.{Span}
-use Rattle.nor_layout.specs.Below.{count_below}
+use Rattle.nor_count.specs.Below.{count_below}
 use Rattle.nor_layout.specs.Sectors.{includes, has_in_sector, AreOfSector, NoneInSector}
-use Rattle.nor_layout.proofs.Below.{count_below-zero}
+use Rattle.nor_count.proofs.Below.{count_below-zero}
 use Rattle.nor_plan.specs.Bytes.{AllAgree, IsFirstDifference}
-use Rattle.nor_save.specs.Scanning.{IsOpen}
-use Rattle.nor_save.proofs.Rests.{HasLooked, has_looked-none, rested_none}
+use Rattle.nor_driver.proofs.RestsInTurn.{HasLooked, has_looked-none, rested_none}
 use Rattle.nor_read.specs.declared.verifying.Compared.{Compared}
 use Rattle.nor_read.specs.Verifying.{AgreeIn, IsFirstOther, TellsFirst, ComparesPart}
 use Rattle.nor_read.proofs.Onward.{looked_on, counted_on, at_most, open_on}

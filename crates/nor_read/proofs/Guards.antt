@@ -12,10 +12,10 @@ use Rattle.nor_driver.specs.Reads.{ReadsStatus2}
 use Rattle.nor_probe.specs.declared.table.ChipName.{ChipName}
 use Rattle.nor_probe.specs.declared.probes.Probed.{Probed}
 use Rattle.nor_probe.specs.Found.{most_probe}
-use Rattle.nor_apply.proofs.CheckingLooks.{looks_more}
-use Rattle.nor_save.specs.declared.refusal.Refusal.{Refusal}
-use Rattle.nor_save.specs.declared.refusal.Refusal.TheVariants.{NoChip, UnknownChip, OtherName, NoProtection, Stopped, Timeout}
-use Rattle.nor_save.specs.Opening.{OpeningTells}
+use Rattle.nor_driver.proofs.LooksInTurn.{looks_more}
+use Rattle.nor_call.specs.declared.refusal.Refusal.{Refusal}
+use Rattle.nor_call.specs.declared.refusal.Refusal.TheVariants.{NoChip, UnknownChip, OtherName, NoProtection, Stopped, Timeout}
+use Rattle.nor_call.specs.Tells.{OpeningTells}
 use Rattle.nor_read.specs.Finding.{IsModelled, HasFound, most_status}
 use Rattle.nor_read.specs.Protecting.{IsGuardedRange, ProtectionAlways, ProtectionHonest, ProtectionModelled, ProtectionTells, IsProtectionRefusal}
 use Rattle.nor_read.proofs.Whole.{find_tells, whole_looks, ran_after, rested_after, has_name, size_of}

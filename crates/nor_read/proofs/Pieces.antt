@@ -7,11 +7,11 @@ use Rattle.nor_chip.specs.declared.config.Config.{Config}
 use Rattle.nor_chip.specs.Bus.{BusState}
 use Rattle.nor_driver.specs.Looks.{Looks, RanOutIfHonest}
 use Rattle.nor_layout.specs.declared.ranges.Span.{Span}
-use Rattle.nor_layout.specs.Below.{count_below}
+use Rattle.nor_count.specs.Below.{count_below}
 use Rattle.nor_layout.specs.Sectors.{includes, has_in_sector}
-use Rattle.nor_layout.proofs.Below.{count_below-more}
-use Rattle.nor_save.proofs.Parts.{put_back}
-use Rattle.nor_save.proofs.Rests.{HasLooked, has_looked-none}
+use Rattle.nor_count.proofs.Below.{count_below-more}
+use Rattle.nor_plan.proofs.Parts.{put_back}
+use Rattle.nor_driver.proofs.RestsInTurn.{HasLooked, has_looked-none}
 use Rattle.nor_read.specs.Reading.{copied, ReadsPart, ReadsPiece}
 use Rattle.nor_read.proofs.Onward.{looked_on, at_most}
 

@@ -3,7 +3,7 @@ use Rattle.std.proofs.Common.{◌≡◌, ◌≤◌, ◌+◌, ◌∙◌, ℕ, tru
 use Rattle.std.specs.Prelude.{◌/◌, IsErrAnd}
 use Rattle.nor_chip.specs.declared.config.Config.{Config}
 use Rattle.nor_chip.specs.Bus.{BusState}
-use Rattle.nor_driver.specs.Looks.{Rested, Looks, RanOut, RanOutIfHonest}
+use Rattle.nor_driver.specs.Looks.{Rested, Looks, RanOut, RanOutIfHonest, IsOpen}
 use Rattle.nor_layout.specs.declared.ranges.Span.{Span}
 use Rattle.nor_layout.specs.Sectors.{FitsInto, ReachesPast}
 use Rattle.nor_probe.specs.declared.table.ChipName.{ChipName}
@@ -11,13 +11,12 @@ use Rattle.nor_probe.specs.declared.probes.Found.{Found}
 use Rattle.nor_probe.specs.declared.probes.Probed.{Probed}
 use Rattle.nor_probe.specs.Known.{shown_as}
 use Rattle.nor_probe.specs.Found.{part_in, IsConfigOf, IsPart, IsWanted, most_probe}
-use Rattle.nor_apply.proofs.CheckingLooks.{looks_then, looks_more}
-use Rattle.nor_save.specs.declared.refusal.Refusal.{Refusal}
-use Rattle.nor_save.specs.declared.refusal.Refusal.TheVariants.{NoChip, UnknownChip, OtherName, Stopped, Timeout}
-use Rattle.nor_save.specs.declared.report.Report.{Report}
-use Rattle.nor_save.specs.Scanning.{IsOpen}
-use Rattle.nor_save.proofs.Rests.{rested_then}
-use Rattle.nor_save.specs.Opening.{OpeningTells}
+use Rattle.nor_driver.proofs.LooksInTurn.{looks_then, looks_more}
+use Rattle.nor_call.specs.declared.refusal.Refusal.{Refusal}
+use Rattle.nor_call.specs.declared.refusal.Refusal.TheVariants.{NoChip, UnknownChip, OtherName, Stopped, Timeout}
+use Rattle.nor_call.specs.declared.report.Report.{Report}
+use Rattle.nor_driver.proofs.RestsInTurn.{rested_then}
+use Rattle.nor_call.specs.Tells.{OpeningTells}
 use Rattle.nor_read.specs.Finding.{IsModelled, HasFound, IsNamed, IsPassed, IsTaken}
 use Rattle.nor_read.specs.Finding.{ReportsPart, ReportsReads, IsFindRefusal, ReadingTells, most_read}
 

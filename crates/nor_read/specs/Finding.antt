@@ -14,9 +14,9 @@ pub use Rattle.nor_probe.specs.Known.{IsModelled}
 use Rattle.nor_probe.specs.Known.{shown_as}
 pub use Rattle.nor_probe.specs.Found.{IsNamed}
 use Rattle.nor_probe.specs.Found.{needed, part_in, IsPart, IsWanted, IsConfigOf, Tells, most_probe}
-use Rattle.nor_save.specs.declared.refusal.Refusal.{Refusal}
-use Rattle.nor_save.specs.declared.refusal.Refusal.TheVariants.{NoChip, UnknownChip, OtherName, Stopped, Timeout}
-use Rattle.nor_save.specs.declared.report.Report.{Report}
+use Rattle.nor_call.specs.declared.refusal.Refusal.{Refusal}
+use Rattle.nor_call.specs.declared.refusal.Refusal.TheVariants.{NoChip, UnknownChip, OtherName, Stopped, Timeout}
+use Rattle.nor_call.specs.declared.report.Report.{Report}
 
 -- the most transactions until the status of a chip is read: a probe, and status 2
 abbrev pub most_status : ℕ

@@ -2,12 +2,12 @@
 ghost use Rattle.std.specs.Prelude.{◌≡◌, ◌≤◌, ◌+◌, IfOk, IfErr};
 ghost use Rattle.nor_driver.specs.Looks.{Looks};
 ghost use Rattle.nor_probe.specs.Found.{most_probe};
-ghost use Rattle.nor_save.specs.Opening.{OpeningTells};
+ghost use Rattle.nor_call.specs.Tells.{OpeningTells};
 ghost use Rattle.nor_read.specs.Finding.{HasFound};
 
+use nor_call::{Refusal, Report};
 use nor_chip::Bus;
 use nor_probe::{ChipName, Probed, probe_counted};
-use nor_save::{Refusal, Report};
 
 /// Tells which chip is on the bus.
 pub fn find<B: Bus>(bus: &mut B, named: Option<ChipName>) -> Result<Probed, Refusal>

@@ -8,12 +8,12 @@ ghost use Rattle.nor_read.specs.Reading.{ReadOutAlways, ReadOutHonest, ReadOutMo
 ghost use Rattle.nor_read.specs.Reading.{ReadsPart, ReadsPiece, ReadsAll, CopyTells, PutTells};
 
 use crate::finding::{find, report};
+use nor_call::{Refusal, Report};
 use nor_chip::{Bus, SECTOR_LEN, Stopped};
 use nor_driver::read_sector;
 use nor_journal::Vault;
 use nor_layout::{Ranges, blank_excluded, includes_in_sector, reaches_past};
 use nor_probe::ChipName;
-use nor_save::{Refusal, Report};
 
 // The bytes of a piece of the copy, sixteen sectors.
 const PIECE_LEN: usize = 65_536;

@@ -8,12 +8,12 @@ ghost use Rattle.nor_read.specs.Verifying.{VerifyAlways, VerifyHonest, VerifyMod
 ghost use Rattle.nor_read.specs.Verifying.{ComparesPart, ComparesAll, TellsFirst};
 
 use crate::finding::{find, report};
+use nor_call::{Refusal, Report};
 use nor_chip::{Bus, SECTOR_LEN, Stopped};
 use nor_driver::read_sector;
 use nor_layout::{Ranges, fill_excluded, includes_in_sector, reaches_past};
 use nor_plan::bounds;
 use nor_probe::ChipName;
-use nor_save::{Refusal, Report};
 
 // What a comparison told: the first address that differs, if one does, and how many sectors were read.
 #[derive(Clone, Copy)]

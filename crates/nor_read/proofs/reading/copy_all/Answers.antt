@@ -1,7 +1,7 @@
 use Rattle.std.proofs.Common.{◌≡◌, ◌∙◌, ◌*◌, ◌/◌, ℕ, length, option_copied, ap, arith}
 use Rattle.std.proofs.lemmas.Grind.{common_steps}
 use Rattle.nor_chip.proofs.Sizes.{is_chip_size-in_blocks}
-use Rattle.nor_layout.specs.Below.{count_below}
+use Rattle.nor_count.specs.Below.{count_below}
 use Rattle.nor_layout.specs.Sectors.{includes, has_in_sector}
 use Rattle.nor_read.specs.Reading.{CopyTells}
 use Rattle.nor_read.proofs.Copied.{copied_none, copied_more, copied_all}

@@ -1,5 +1,5 @@
 use Rattle.std.proofs.Common.{◌≡◌, ◌+◌, ◌-◌, ◌*◌, ◌∙◌, length, option_copied, arith}
-use Rattle.nor_save.proofs.Parts.{part_long}
+use Rattle.nor_plan.proofs.Parts.{part_long}
 use Rattle.nor_read.proofs.Pieces.{pieced_none, pieced_more, pieced_all}
 use Rattle.nor_read.proofs.reading.read_piece.Goals as goal
 

@@ -1,6 +1,6 @@
 use Rattle.std.proofs.Common.{◌≡◌, ◌≢◌, None, Some, length, option_copied, rules}
 use Rattle.nor_layout.specs.Sectors.{FitsInto, ReachesPast}
-use Rattle.nor_save.specs.declared.refusal.Refusal.TheVariants.{ImageSize, RegionOutside}
+use Rattle.nor_call.specs.declared.refusal.Refusal.TheVariants.{ImageSize, RegionOutside}
 use Rattle.nor_read.proofs.Whole.{HasReported, is_err}
 use Rattle.nor_read.proofs.Compared.{unfound_always, unfound_honest, unfound_modelled, early_always, early_honest, other_size, past}
 use Rattle.nor_read.proofs.Compared.{stopped_always, stopped_honest, stopped_modelled, mismatch_always, mismatch_honest, mismatch_modelled}
