@@ -11,27 +11,24 @@ use Rattle.nor_chip.specs.Guard.{code_of, is_guarded, is_unit_guarded}
 use Rattle.nor_chip.specs.Bus.{BusState}
 use Rattle.nor_chip.proofs.Sizes.{sized_bounds}
 use Rattle.nor_chip.proofs.Guarded.{is_guarded-sector, is_guarded-no_scheme, is_guarded-same}
-use Rattle.nor_driver.specs.Looks.{Looks, Rested}
+use Rattle.nor_driver.specs.Looks.{Looks, Rested, IsOpen}
 use Rattle.nor_journal.specs.Text.{Content}
 use Rattle.nor_journal.specs.Saved.{saved_byte}
 use Rattle.nor_plan.specs.SectorSet.{has}
 use Rattle.nor_plan.specs.declared.set.SectorSet.{SectorSet}
-use Rattle.nor_probe.specs.declared.sfdp.Kinds.{Kinds}
 use Rattle.nor_apply.specs.declared.changes.Changes.{Changes}
-use Rattle.nor_apply.specs.Counts.{sector_count}
-use Rattle.nor_apply.specs.Content.{is_touched, is_raised}
+use Rattle.nor_count.specs.Counts.{sector_count}
+use Rattle.nor_plan.specs.Content.{is_touched, is_raised}
 use Rattle.nor_apply.specs.Within.{is_writable}
 use Rattle.nor_apply.specs.Applying.{writes_code}
 use Rattle.nor_apply.proofs.Kept.{writable_same, kept_fixed}
 use Rattle.nor_save.specs.declared.opening.Opening.{Opening}
 use Rattle.nor_save.specs.declared.scanning.Scanned.{Scanned}
-use Rattle.nor_save.specs.declared.refusal.Refusal.TheVariants.{StatusLocked}
+use Rattle.nor_call.specs.declared.refusal.Refusal.TheVariants.{StatusLocked}
 use Rattle.nor_save.specs.Opening.{Opens, most_opening}
-use Rattle.nor_save.specs.Scanning.{IsOpen}
 use Rattle.nor_save.specs.Saving.{IsOpening, NoneHeld, SomeHeld, is_held}
-use Rattle.nor_save.proofs.Rests.{rested_then}
+use Rattle.nor_driver.proofs.RestsInTurn.{rested_then}
 use Rattle.nor_probe.specs.Known.{IsModelled}
-use Rattle.nor_session.specs.Made.{kinds_of}
 use Rattle.nor_session.specs.Restore.{restored, is_touched_from, is_raised_from, Fits, NeedsStatusFrom}
 use Rattle.nor_session.specs.Prepare.{IsOfKindFound, FitsOpening, PrepareTells, ScansSaved, AreChanges, MayChangeStatus, IsShut, IsPreparedFor, IsPrepared}
 use Rattle.nor_session.proofs.ReadyChip.{told_idle}
@@ -95,9 +92,6 @@ shut_tells journal opening scanned most old mid new read shut = record {
 }
 
 -- ---- the changes can be made
-
-kinds_same : (kinds : Kinds) (config : Config) → kinds.k32 ≡ config.k32 → kinds.k64 ≡ config.k64 → kinds ≡ kinds_of config
-kinds_same kinds config one two = ap (λ (b : Bool). (let k : Kinds = record { k32 = b; k64 = kinds.k64 } in k)) one ∙ ap (λ (b : Bool). (let k : Kinds = record { k32 = config.k32; k64 = b } in k)) two
 
 -- a chip with a held sector has block protection
 held_scheme : (touched : ℕ → Bool) (chip : Chip) → SomeHeld touched chip → chip.config.scheme ≡ true
@@ -183,7 +177,7 @@ prepared_for journal opening scanned changes sent old mid new read are judged mo
     let size_now : new.chip.config.size ≡ old.chip.config.size = ap (λ (config : Config). config.size) same.config in
     let one : changes.status.one.0 / 4 ≡ old.chip.kept1 = ap (λ (n : ℕ). n / 4) are.one ∙ is.one in
     let two : changes.status.two.0 ≡ old.chip.kept2 = are.two ∙ is.two in
-    let kinds : changes.kinds ≡ kinds_of old.chip.config = are.kinds ∙ kinds_same opening.found.kinds old.chip.config is.config.k32 is.config.k64 in
+    let kinds : changes.kinds ≡ old.chip.config.kinds = are.kinds ∙ is.config.kinds in
     let below : (s : ℕ) → has changes.touched s ≡ true → s < journal.size / 4096 = λ s hit. read.scans.marks.below s (sym (touched s) ∙ hit) in
     let whole : journal.size ≡ old.chip.config.size = read.kind.size ∙ is.config.size in
     let blocks = (sized_bounds old.chip.config).blocks in
@@ -206,8 +200,7 @@ prepared_for journal opening scanned changes sent old mid new read are judged mo
         idle = let mid_idle = read.opens.idle modelled.honest in let less = (read.scans.rested (read.looks.nature.honest ∙ modelled.honest)).unchanged.busy in omega arith;
         sized = record {
           same = size_now ∙ sym size;
-          k32 = ap (λ (config : Config). config.k32) same.config ∙ sym (ap (λ (k : Kinds). k.k32) kinds);
-          k64 = ap (λ (config : Config). config.k64) same.config ∙ sym (ap (λ (k : Kinds). k.k64) kinds);
+          same_kinds = ap (λ (config : Config). config.kinds) same.config ∙ sym kinds;
         };
         kept = record {
           one = one ∙ sym same.kept1;

@@ -6,7 +6,7 @@ use Rattle.nor_chip.specs.declared.config.Config.{Config}
 use Rattle.nor_chip.specs.Bus.{BusState}
 use Rattle.nor_chip.proofs.Sizes.{sized_bounds}
 use Rattle.nor_driver.specs.Looks.{Rested}
-use Rattle.nor_layout.proofs.Below.{count_below-most}
+use Rattle.nor_count.proofs.Below.{count_below-most}
 use Rattle.nor_plan.specs.Planned.{fewest_erases, IsLeastLength}
 use Rattle.nor_plan.proofs.Fewest.{fewest_least}
 use Rattle.nor_apply.specs.declared.changes.Changes.{Changes}
@@ -14,7 +14,7 @@ use Rattle.nor_apply.specs.declared.changes.Work.{Work}
 use Rattle.nor_apply.specs.Applying.{touched_in, raised_in, status_writes, writes_code, most_applied, HasApplied, LeavesApply, DoesApply}
 use Rattle.nor_apply.proofs.Kept.{fixed_then, kept_fixed}
 use Rattle.nor_apply.proofs.ApplyingExits.{raised_few}
-use Rattle.nor_session.specs.Made.{kinds_of, AreFewestErases}
+use Rattle.nor_session.specs.Made.{AreFewestErases}
 use Rattle.nor_session.specs.Changing.{touched_count, DoesCheck, DoesChange}
 
 -- ---- how much they take
@@ -54,10 +54,10 @@ fits_work changes wanted old new work inside does =
 
 -- as many as are planned are the fewest
 pub fewest_at : (config : Config) (sectors : ℕ → Bool) (count : ℕ) → ((s : ℕ) → sectors s ≡ true → s < config.size / 4096)
-    → count ≡ fewest_erases (kinds_of config) (config.size / 4096) sectors → AreFewestErases config sectors count
+    → count ≡ fewest_erases config.kinds (config.size / 4096) sectors → AreFewestErases config sectors count
 fewest_at config sectors count below is =
     let most = (sized_bounds config).small in
-    subst (IsLeastLength (kinds_of config) (config.size / 4096) sectors) (sym is) (fewest_least (kinds_of config) (config.size / 4096) sectors (omega arith) below)
+    subst (IsLeastLength config.kinds (config.size / 4096) sectors) (sym is) (fewest_least config.kinds (config.size / 4096) sectors (omega arith) below)
 
 -- ---- what they and their check leave
 

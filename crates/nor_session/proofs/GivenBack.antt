@@ -1,8 +1,7 @@
 -- How a restore leads back to a chip that the journal saves.
 use Rattle.std.proofs.Common.{◌≡◌, ◌<◌, ◌+◌, ◌-◌, ◌*◌, ◌/◌, ◌%◌, ◌∙◌, ◌⊎◌, ◌&&◌, ℕ, Bool, true, false, true≢false, List, ap, sym, subst, refl, arith, inl, inr}
-use Rattle.std.specs.Prelude.{◌≢◌, if◌then◌else◌, not, nat_lt, nat_le, Option, Some, None, Result, Ok, Err, IsOk, IfSome, IsSomeAnd}
-use Rattle.std.proofs.lemmas.Option.{same_Some}
-use Rattle.std.proofs.lemmas.Bool.{cases_Bool, cases_eq, cases_lt, and_left, and_parts, or_cases, both_ways, false_from_ne_true, lt-ltb, le-ltb, lt-leb, le-leb}
+use Rattle.std.specs.Prelude.{◌≢◌, ◌==◌, not, nat_lt, nat_le, Option, Some, None, Result, Ok, Err, IsOk, IfSome, IsSomeAnd}
+use Rattle.std.proofs.lemmas.Bool.{cases_Bool, cases_eq, cases_lt, and_left, and_parts, or_cases, both_ways, eqb-true, false_from_ne_true, lt-ltb, le-ltb, lt-leb, le-leb}
 use Rattle.nor_chip.specs.Code.{code_in}
 use Rattle.nor_chip.specs.declared.config.Config.{Config}
 use Rattle.nor_chip.specs.declared.running.Running.{Running}
@@ -22,14 +21,15 @@ use Rattle.nor_journal.specs.Saved.{is_saved}
 use Rattle.nor_probe.specs.declared.table.Part.{Part}
 use Rattle.nor_probe.specs.declared.probes.ProbeFault.{ProbeFault}
 use Rattle.nor_probe.specs.declared.probes.ProbeFault.TheVariants as Probes
-use Rattle.nor_probe.specs.Table.{part_with_id, w25q64fv, w25q128fv}
+use Rattle.nor_probe.specs.Table.{part_with_id}
 use Rattle.nor_probe.specs.Known.{shown_as, IsGenuine, IsKnown}
+use Rattle.nor_probe.proofs.Configs.{row_has}
 use Rattle.nor_apply.specs.Within.{is_writable, WorksIn, IsWithin, places_of}
 use Rattle.nor_apply.specs.Change.{MayChange}
 use Rattle.nor_apply.proofs.Kept.{fixed_then, kept_fixed, kept_then, locked_same}
 use Rattle.nor_apply.proofs.Changing.{within_then, within_wider}
-use Rattle.nor_save.specs.declared.refusal.Refusal.{Refusal}
-use Rattle.nor_save.specs.declared.refusal.Refusal.TheVariants.{NoChip, UnknownChip, StatusLocked, Stopped, OtherChip, OtherUnit, StatusDiffers}
+use Rattle.nor_call.specs.declared.refusal.Refusal.{Refusal}
+use Rattle.nor_call.specs.declared.refusal.Refusal.TheVariants.{NoChip, UnknownChip, StatusLocked, Stopped, OtherChip, OtherUnit, StatusDiffers}
 use Rattle.nor_save.specs.Saving.{SomeHeld}
 use Rattle.nor_session.specs.Restore.{restored, is_touched_from, IsOfKind, IsOfOtherUnit, FitsStatus, RestoreTells, SavesChip, open_places, CanGiveBack}
 use Rattle.nor_session.proofs.Rescanned.{restored_saved, restored_other}
@@ -95,18 +95,9 @@ looked_within p first most old new steady looked within =
 
 -- ---- guarded places are whole sectors
 
-pick : (b c : Bool) (x y part : Part) → (if b then Some x else (if c then Some y else None)) ≡ Some part → (x ≡ part) ⊎ (y ≡ part)
-pick true c x y part is = inl (same_Some x part is)
-pick false true x y part is = inr (same_Some y part is)
-pick false false x y part is = absurd cc
-
 -- each chip of the table has 256 KiB in whole numbers
 listed_size : (of_id : List ℕ) (part : Part) → part_with_id of_id ≡ Some part → part.size % 262144 ≡ 0
-listed_size of_id part is =
-    elim (pick _ _ w25q64fv w25q128fv part is) [
-      | inl small ↦ subst (λ (p : Part). p.size % 262144 ≡ 0) small refl
-      | inr large ↦ subst (λ (p : Part). p.size % 262144 ≡ 0) large refl
-    ]
+listed_size of_id part is = eqb-true (part.size % 262144) 0 (row_has (λ p. p.size % 262144 == 0) of_id part refl is)
 
 scheme_size_at : (config : Config) (row : Option Part) → part_with_id (id_of config) ≡ row → IsGenuine config → config.scheme ≡ true → config.size % 262144 ≡ 0
 scheme_size_at config (Some part) is genuine scheme =

@@ -16,11 +16,12 @@ use Rattle.nor_journal.proofs.Saves.{Saves-set, Saves-same}
 use Rattle.nor_probe.specs.declared.table.Part.{Part}
 use Rattle.nor_probe.specs.declared.probes.ProbeFault.{ProbeFault}
 use Rattle.nor_probe.specs.Known.{IsGenuine}
-use Rattle.nor_apply.specs.Content.{is_touched}
+use Rattle.nor_plan.specs.Content.{is_touched}
 use Rattle.nor_apply.specs.Within.{places_of}
 use Rattle.nor_apply.proofs.Changing.{within_wider}
-use Rattle.nor_save.specs.declared.request.Request.{Request}
-use Rattle.nor_save.specs.Request.{wanted, is_touched_by}
+use Rattle.nor_call.specs.declared.request.Request.{Request}
+use Rattle.nor_call.specs.Request.{wanted}
+use Rattle.nor_save.specs.Touched.{is_touched_by}
 use Rattle.nor_save.specs.Saving.{head_of}
 use Rattle.nor_session.specs.Restore.{SavesChip, open_places, CanGiveBack}
 use Rattle.nor_session.specs.Session.{CanBeUndone}

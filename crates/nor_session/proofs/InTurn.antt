@@ -11,12 +11,12 @@ use Rattle.nor_journal.specs.Saved.{Saves, JournalSaves, is_saved}
 use Rattle.nor_journal.proofs.OneForm.{one_text}
 use Rattle.nor_journal.proofs.Saves.{saved_byte-is}
 use Rattle.nor_plan.specs.Erase.{Covers}
-use Rattle.nor_apply.specs.Content.{once_erased, is_programmed}
+use Rattle.nor_plan.specs.Content.{once_erased, is_programmed}
 use Rattle.nor_apply.proofs.Changing.{within_then, same_within}
-use Rattle.nor_apply.proofs.Counting.{count_below-none}
-use Rattle.nor_save.specs.declared.report.Report.{Report}
-use Rattle.nor_save.specs.declared.request.Request.{Request}
-use Rattle.nor_save.specs.Request.{is_touched_by}
+use Rattle.nor_count.proofs.Counting.{count_below-none}
+use Rattle.nor_call.specs.declared.report.Report.{Report}
+use Rattle.nor_call.specs.declared.request.Request.{Request}
+use Rattle.nor_save.specs.Touched.{is_touched_by}
 use Rattle.nor_save.specs.Saving.{head_of}
 use Rattle.nor_save.proofs.Planned.{untouched, unraised}
 use Rattle.nor_session.specs.Restore.{restored, is_touched_from, is_raised_from, NeedsStatusFrom, SavesChip, open_places, CanGiveBack, IsRestored}

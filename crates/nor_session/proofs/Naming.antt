@@ -8,11 +8,12 @@ use Rattle.nor_probe.specs.declared.table.ChipName.{ChipName}
 use Rattle.nor_apply.specs.declared.changes.Changes.{Changes}
 use Rattle.nor_apply.specs.Applying.{touched_in}
 use Rattle.nor_save.specs.declared.opening.Opening.{Opening}
-use Rattle.nor_save.specs.declared.request.Request.{Request}
-use Rattle.nor_save.specs.declared.refusal.Refusal.{Refusal}
-use Rattle.nor_save.specs.declared.refusal.Refusal.TheVariants.{Timeout, Mismatch}
+use Rattle.nor_call.specs.declared.request.Request.{Request}
+use Rattle.nor_call.specs.declared.refusal.Refusal.{Refusal}
+use Rattle.nor_call.specs.declared.refusal.Refusal.TheVariants.{Timeout, Mismatch}
 use Rattle.nor_save.specs.SavedScan.{IsJournalOf, SaveTells}
-use Rattle.nor_save.specs.Opening.{OpeningTells, most_opening}
+use Rattle.nor_call.specs.Tells.{OpeningTells}
+use Rattle.nor_save.specs.Opening.{most_opening}
 use Rattle.nor_save.specs.Judging.{IsOpeningRefusal}
 use Rattle.nor_session.specs.Changing.{NamesTouchedSector}
 use Rattle.nor_session.specs.Session.{SavesSector, NamesSector, NamesAddress}

@@ -9,12 +9,13 @@ use Rattle.nor_probe.specs.declared.table.Part.{Part}
 use Rattle.nor_probe.specs.declared.probes.ProbeFault.{ProbeFault}
 use Rattle.nor_probe.specs.Known.{shown_as}
 use Rattle.nor_probe.specs.Found.{IsWanted, HasOtherName}
-use Rattle.nor_save.specs.declared.request.Request.{Request}
-use Rattle.nor_save.specs.declared.request.What.{What}
-use Rattle.nor_save.specs.declared.request.What.TheVariants.{Write, Erase, WpRange}
-use Rattle.nor_save.specs.declared.refusal.Refusal.{Refusal}
-use Rattle.nor_save.specs.declared.refusal.Refusal.TheVariants.{NoChip, UnknownChip, OtherName, ImageSize, RegionOutside, NoProtection, UndefinedProtection, RangeNotOffered, StatusLocked, Protected}
-use Rattle.nor_save.specs.Request.{is_touched_by, IsWantedCode}
+use Rattle.nor_call.specs.declared.request.Request.{Request}
+use Rattle.nor_call.specs.declared.request.What.{What}
+use Rattle.nor_call.specs.declared.request.What.TheVariants.{Write, Erase, WpRange}
+use Rattle.nor_call.specs.declared.refusal.Refusal.{Refusal}
+use Rattle.nor_call.specs.declared.refusal.Refusal.TheVariants.{NoChip, UnknownChip, OtherName, ImageSize, RegionOutside, NoProtection, UndefinedProtection, RangeNotOffered, StatusLocked, Protected}
+use Rattle.nor_save.specs.Touched.{is_touched_by}
+use Rattle.nor_call.specs.Request.{IsWantedCode}
 use Rattle.nor_save.specs.Saving.{AsksForNone, NeedsStatus, NoneHeld, SomeHeld, ScanAccepts}
 use Rattle.nor_session.specs.Verdict.{IsNamed, IsVerdict, MayLift, IsAccepted}
 use Rattle.nor_session.proofs.SessionChanges.{not_locked}

@@ -9,7 +9,7 @@ use Rattle.nor_chip.specs.Bus.{BusState}
 use Rattle.nor_chip.proofs.Nature.{nature_then}
 use Rattle.nor_driver.specs.Looks.{Looks, RanOut}
 use Rattle.nor_layout.specs.Sectors.{includes, has_in_sector, sectors_included}
-use Rattle.nor_layout.proofs.Below.{count_below-most}
+use Rattle.nor_count.proofs.Below.{count_below-most}
 use Rattle.nor_plan.specs.SectorSet.{has}
 use Rattle.nor_probe.specs.Found.{IsPart}
 use Rattle.nor_apply.specs.declared.changes.Changes.{Changes}
@@ -19,15 +19,15 @@ use Rattle.nor_apply.specs.Applying.{status_writes, writes_code}
 use Rattle.nor_apply.proofs.ProgrammingWhole.{room}
 use Rattle.nor_save.specs.declared.opening.Opening.{Opening}
 use Rattle.nor_save.specs.declared.saving.SavedScan.{SavedScan}
-use Rattle.nor_save.specs.declared.request.Request.{Request}
-use Rattle.nor_save.specs.declared.request.What.{What}
-use Rattle.nor_save.specs.declared.request.What.TheVariants.{Write, Erase, WpRange}
-use Rattle.nor_save.specs.Request.{is_data, scanned_sectors}
+use Rattle.nor_call.specs.declared.request.Request.{Request}
+use Rattle.nor_call.specs.declared.request.What.{What}
+use Rattle.nor_call.specs.declared.request.What.TheVariants.{Write, Erase, WpRange}
+use Rattle.nor_call.specs.Request.{is_data, scanned_sectors}
 use Rattle.nor_save.specs.Opening.{status_read, Opens, most_opening}
 use Rattle.nor_save.specs.Judging.{Lifts}
 use Rattle.nor_save.specs.Scanning.{AreMarks}
 use Rattle.nor_save.specs.SavedScan.{HasSaved}
-use Rattle.nor_save.proofs.Rests.{HasLooked, rested_then}
+use Rattle.nor_driver.proofs.RestsInTurn.{HasLooked, rested_then}
 use Rattle.nor_session.specs.Bounds.{most_of}
 use Rattle.nor_session.specs.Changing.{touched_count, most_changed, DoesChange}
 use Rattle.nor_session.specs.Session.{most_status_writes, IsWithinBound}
@@ -63,7 +63,7 @@ pub record Ready (request : Request) (opening : Opening) (status : Status) (code
 pub has_opened : (request : Request) (opening : Opening) (old mid : BusState) → Looks most_opening old mid → Opens request.named old mid opening → HasLooked opening.transactions old mid
 has_opened request opening old mid looks opens = record {
   nature = looks.nature;
-  stirred = looks.stirred;
+  same_sent = looks.sent;
   rested = opens.rested;
   sent = opens.count;
 }
@@ -75,7 +75,7 @@ ready request opening status code most image image' vault kept old mid new looks
   part = opens.part;
   looked = record {
     nature = nature_then old mid new more.nature looks.nature;
-    stirred = more.stirred ∙ looks.stirred;
+    same_sent = more.sent ∙ looks.sent;
     rested = λ honest.
         rested_then old mid new (opens.rested honest) (keeps.scans.rested (looks.nature.honest ∙ honest));
     sent = λ honest. let sent = opens.count honest in let again = keeps.scans.sent (looks.nature.honest ∙ honest) in omega arith;

@@ -10,12 +10,13 @@ use Rattle.nor_probe.specs.declared.table.ChipName.{ChipName}
 use Rattle.nor_probe.specs.Found.{IsConfigOf, part_in}
 use Rattle.nor_apply.specs.Spending.{Spends}
 use Rattle.nor_save.specs.declared.opening.Opening.{Opening}
-use Rattle.nor_save.specs.declared.request.Request.{Request}
-use Rattle.nor_save.specs.declared.refusal.Refusal.{Refusal}
-use Rattle.nor_save.specs.declared.refusal.Refusal.TheVariants.{Vault, Stopped, Timeout, StatusLocked, Protected}
-use Rattle.nor_save.specs.Refusal.{number_of}
-use Rattle.nor_save.specs.Request.{scanned_sectors}
-use Rattle.nor_save.specs.Opening.{Opens, OpeningTells, most_opening}
+use Rattle.nor_call.specs.declared.request.Request.{Request}
+use Rattle.nor_call.specs.declared.refusal.Refusal.{Refusal}
+use Rattle.nor_call.specs.declared.refusal.Refusal.TheVariants.{Vault, Stopped, Timeout, StatusLocked, Protected}
+use Rattle.nor_call.specs.Refusal.{number_of}
+use Rattle.nor_call.specs.Request.{scanned_sectors}
+use Rattle.nor_save.specs.Opening.{Opens, most_opening}
+use Rattle.nor_call.specs.Tells.{OpeningTells}
 use Rattle.nor_save.specs.Saving.{IsOpening, Shows, OpeningAccepts}
 use Rattle.nor_save.specs.SavedScan.{SavePuts, SaveTells}
 use Rattle.nor_probe.specs.Known.{IsModelled}

@@ -10,9 +10,9 @@ use Rattle.nor_journal.specs.Saved.{Saves, JournalSaves, is_saved}
 use Rattle.nor_journal.proofs.Saves.{Saves-set}
 use Rattle.nor_probe.specs.Known.{IsGenuine, IsModelled}
 use Rattle.nor_apply.specs.Spending.{Spends}
-use Rattle.nor_save.specs.declared.report.Report.{Report}
-use Rattle.nor_save.specs.declared.refusal.Refusal.{Refusal}
-use Rattle.nor_save.specs.declared.refusal.Refusal.TheVariants.{Stopped, Timeout, BadJournal}
+use Rattle.nor_call.specs.declared.report.Report.{Report}
+use Rattle.nor_call.specs.declared.refusal.Refusal.{Refusal}
+use Rattle.nor_call.specs.declared.refusal.Refusal.TheVariants.{Stopped, Timeout, BadJournal}
 use Rattle.nor_save.specs.Saving.{head_of}
 use Rattle.nor_session.specs.Bounds.{most_of}
 use Rattle.nor_session.specs.Restore.{CanGiveBack, LeavesRestore, IsJudgedFirst, IsRestoreRefusal}

@@ -8,14 +8,15 @@ use Rattle.nor_chip.proofs.Nature.{nature_then}
 use Rattle.nor_driver.specs.Looks.{Looks, IsCalm}
 use Rattle.nor_journal.specs.Vault.{VaultState}
 use Rattle.nor_apply.specs.Spending.{Spends}
-use Rattle.nor_apply.specs.Counts.{sector_count}
-use Rattle.nor_apply.specs.Content.{is_touched, is_raised}
-use Rattle.nor_save.specs.declared.request.Request.{Request}
-use Rattle.nor_save.specs.declared.report.Report.{Report}
-use Rattle.nor_save.specs.declared.refusal.Refusal.{Refusal}
-use Rattle.nor_save.specs.declared.refusal.Refusal.TheVariants.{NoChip, UnknownChip, OtherName, ImageSize, RegionOutside, NoProtection, UndefinedProtection, RangeNotOffered, StatusLocked, Protected, Vault, Stopped, Timeout, Mismatch, BadJournal, OtherChip, StatusDiffers, Memory, Output, OtherUnit}
-use Rattle.nor_save.specs.Refusal.{number_of}
-use Rattle.nor_save.specs.Request.{wanted, scanned_sectors, is_touched_by, is_raised_by}
+use Rattle.nor_count.specs.Counts.{sector_count}
+use Rattle.nor_plan.specs.Content.{is_touched, is_raised}
+use Rattle.nor_call.specs.declared.request.Request.{Request}
+use Rattle.nor_call.specs.declared.report.Report.{Report}
+use Rattle.nor_call.specs.declared.refusal.Refusal.{Refusal}
+use Rattle.nor_call.specs.declared.refusal.Refusal.TheVariants.{NoChip, UnknownChip, OtherName, ImageSize, RegionOutside, NoProtection, UndefinedProtection, RangeNotOffered, StatusLocked, Protected, Vault, Stopped, Timeout, Mismatch, BadJournal, OtherChip, StatusDiffers, Memory, Output, OtherUnit}
+use Rattle.nor_call.specs.Refusal.{number_of}
+use Rattle.nor_call.specs.Request.{wanted, scanned_sectors}
+use Rattle.nor_save.specs.Touched.{is_touched_by, is_raised_by}
 use Rattle.nor_save.specs.SavedScan.{IsJournal, HoldsJournal}
 use Rattle.nor_probe.specs.Known.{IsGenuine, IsModelled}
 use Rattle.nor_probe.proofs.Configs.{shown_config}
@@ -236,7 +237,7 @@ session_refuses n few request image old mid new before after refusal allows answ
           record {
             same = same_at old.chip mid.chip new.chip allows.chip (is_early.1 (gives_up mid_modelled.honest));
             latch = λ set. sym (ap (λ (chip : Chip). chip.latch) allows.chip) ∙ looked.latch set;
-            still = (looks unsealed).stirred ∙ allows.stirred;
+            still = (looks unsealed).sent ∙ allows.sent;
             unsealed = unsealed;
           };
     }

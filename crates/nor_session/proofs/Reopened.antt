@@ -14,9 +14,9 @@ use Rattle.nor_probe.specs.declared.probes.Found.{Found}
 use Rattle.nor_probe.specs.Known.{shown_as, IsKnown, IsModelled}
 use Rattle.nor_probe.specs.Found.{BlamesName, Tells, IsConfigOf}
 use Rattle.nor_save.specs.declared.opening.Opening.{Opening}
-use Rattle.nor_save.specs.declared.refusal.Refusal.{Refusal}
-use Rattle.nor_save.specs.declared.refusal.Refusal.TheVariants.{OtherUnit, StatusDiffers}
-use Rattle.nor_save.specs.Refusal.{of_probe}
+use Rattle.nor_call.specs.declared.refusal.Refusal.{Refusal}
+use Rattle.nor_call.specs.declared.refusal.Refusal.TheVariants.{OtherUnit, StatusDiffers}
+use Rattle.nor_call.specs.Refusal.{of_probe}
 use Rattle.nor_save.specs.Opening.{Opens, most_opening}
 use Rattle.nor_save.specs.Saving.{IsOpening, Shows}
 use Rattle.nor_session.specs.Verdict.{IsNamed}

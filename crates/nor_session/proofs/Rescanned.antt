@@ -5,18 +5,18 @@ use Rattle.std.specs.Option.{is_some, unwrap_or}
 use Rattle.std.proofs.lemmas.Option.{same_Some}
 use Rattle.std.proofs.lemmas.Bool.{cases_eq, ne_eqb, eq-eqb, and_left, and_parts, or_cases, or_left, or_right, both_ways}
 use Rattle.nor_chip.specs.Bus.{BusState}
-use Rattle.nor_driver.specs.Looks.{Looks}
+use Rattle.nor_driver.specs.Looks.{Looks, IsOpen}
 use Rattle.nor_journal.specs.Text.{SavedSector, Content, IsContent, least_after}
 use Rattle.nor_journal.specs.Saved.{saved_in, is_saved, saved_byte}
 use Rattle.nor_journal.proofs.Saved.{saved_in-nil, saved_in-take_more, saved_in-at, rising_at, take-next, take-all_sectors, least_within, saved_few}
 use Rattle.nor_plan.specs.SectorSet.{has}
 use Rattle.nor_plan.specs.declared.plan.SectorPlan.{SectorPlan}
-use Rattle.nor_apply.specs.Content.{is_touched, is_raised}
-use Rattle.nor_apply.proofs.Counting.{at_most_one, count_below-none}
+use Rattle.nor_plan.specs.Content.{is_touched, is_raised}
+use Rattle.nor_count.proofs.Counting.{at_most_one, count_below-none}
 use Rattle.nor_save.specs.declared.scanning.Scanned.{Scanned}
-use Rattle.nor_save.specs.Scanning.{AreMarks, IsOpen, IsBlank, HasMarked}
+use Rattle.nor_save.specs.Scanning.{AreMarks, IsBlank, HasMarked}
 use Rattle.nor_save.proofs.Planned.{planned, untouched, unraised}
-use Rattle.nor_save.proofs.Rests.{HasLooked, has_looked-none, has_looked-more}
+use Rattle.nor_driver.proofs.RestsInTurn.{HasLooked, has_looked-none, has_looked-more}
 use Rattle.nor_save.proofs.Scans.{marks_more, opened_later}
 use Rattle.nor_session.specs.Restore.{restored, is_touched_from, is_raised_from}
 use Rattle.nor_session.specs.Prepare.{PlansSaved, ScansSaved}

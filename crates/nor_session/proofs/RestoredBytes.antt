@@ -3,12 +3,12 @@ use Rattle.std.proofs.Common.{◌≡◌, ◌<◌, ◌+◌, ◌*◌, ◌/◌, ◌
 use Rattle.std.specs.Prelude.{◌==◌, not, if◌then◌else◌, Option, Some, None, IsSomeAnd}
 use Rattle.std.specs.Option.{unwrap_or}
 use Rattle.std.proofs.lemmas.Bool.{cases_Bool, eqb-true, eq-eqb, both_ways}
-use Rattle.nor_layout.specs.Below.{count_below}
-use Rattle.nor_layout.proofs.Below.{any_below-found}
+use Rattle.nor_count.specs.Below.{count_below}
+use Rattle.nor_count.proofs.Below.{any_below-found}
 use Rattle.nor_journal.specs.Text.{Content}
 use Rattle.nor_journal.specs.Saved.{saved_in, is_saved, saved_byte, IsWholeSector, Saves}
-use Rattle.nor_apply.specs.Content.{is_other, must_rise, is_touched, is_raised, is_page_other, is_programmed}
-use Rattle.nor_apply.proofs.Counting.{any_below-false, any_below-same, count_below-same}
+use Rattle.nor_plan.specs.Content.{is_other, must_rise, is_touched, is_raised, is_page_other, is_programmed}
+use Rattle.nor_count.proofs.Counting.{any_below-false, any_below-same, count_below-same}
 use Rattle.nor_save.proofs.Planned.{unraised}
 use Rattle.nor_session.specs.Restore.{restored}
 use Rattle.nor_session.proofs.Rescanned.{restored_saved, untouched_other}

@@ -9,24 +9,23 @@ use Rattle.nor_driver.specs.Looks.{LooksHonest, Looks}
 use Rattle.nor_driver.specs.StatusWrites.{HasCode}
 use Rattle.nor_journal.specs.Text.{Content}
 use Rattle.nor_journal.specs.Saved.{is_saved, saved_byte}
-use Rattle.nor_layout.specs.Below.{count_below}
+use Rattle.nor_count.specs.Below.{count_below}
 use Rattle.nor_plan.specs.Planned.{fewest_erases}
-use Rattle.nor_probe.specs.declared.sfdp.Kinds.{Kinds}
+use Rattle.nor_chip.specs.declared.config.Kinds.{Kinds}
 use Rattle.nor_apply.specs.declared.changes.Changes.{Changes}
 use Rattle.nor_apply.specs.declared.changes.Work.{Work}
-use Rattle.nor_apply.specs.Counts.{sector_count}
-use Rattle.nor_apply.specs.Content.{once_erased, is_programmed}
+use Rattle.nor_count.specs.Counts.{sector_count}
+use Rattle.nor_plan.specs.Content.{once_erased, is_programmed}
 use Rattle.nor_apply.specs.Change.{MayChange}
 use Rattle.nor_apply.specs.Spending.{Spends}
 use Rattle.nor_apply.specs.Applying.{touched_in, raised_in, status_writes}
 use Rattle.nor_apply.proofs.Kept.{fixed_then, kept_fixed}
-use Rattle.nor_save.specs.declared.report.Report.{Report}
-use Rattle.nor_save.specs.declared.refusal.Refusal.{Refusal}
-use Rattle.nor_save.specs.declared.refusal.Refusal.TheVariants.{Stopped, Timeout, Mismatch}
+use Rattle.nor_call.specs.declared.report.Report.{Report}
+use Rattle.nor_call.specs.declared.refusal.Refusal.{Refusal}
+use Rattle.nor_call.specs.declared.refusal.Refusal.TheVariants.{Stopped, Timeout, Mismatch}
 use Rattle.nor_session.specs.declared.prepare.Prepared.{Prepared}
 use Rattle.nor_probe.specs.Known.{IsModelled}
 use Rattle.nor_save.specs.Opening.{most_opening}
-use Rattle.nor_session.specs.Made.{kinds_of}
 use Rattle.nor_session.specs.Bounds.{most_of}
 use Rattle.nor_session.specs.Session.{HonestTells, IsWithinBound}
 use Rattle.nor_session.specs.Changing.{most_changed, LeavesChange, DoesChange, ChangeTells}
@@ -41,7 +40,7 @@ use Rattle.nor_session.proofs.GivenBack.{looked_within, change_within, given_bac
 pub looks_most : (few most : ℕ) (old new : BusState) → few ≤ most → Looks few old new → Looks most old new
 looks_most few most old new fits looks = record {
   nature = looks.nature;
-  stirred = looks.stirred;
+  sent = looks.sent;
   looked = λ honest.
       let looked = looks.looked honest in let bound = looked.falls.bound in
       record {
@@ -271,8 +270,8 @@ restored_done journal prepared old mid new work sent are does modelled =
             (λ s is. let inside = are.is.inside s (are.is.raised s (for.raised s ∙ is)) in let size = for.size in omega arith)
             (does.erases
             ∙ ap (λ (k : Kinds). fewest_erases k (changes.size / 4096) (raised_in changes)) for.kinds
-            ∙ ap (λ (n : ℕ). fewest_erases (kinds_of old.chip.config) (n / 4096) (raised_in changes)) for.size
-            ∙ ap (λ (set : ℕ → Bool). fewest_erases (kinds_of old.chip.config) (old.chip.config.size / 4096) set) raised);
+            ∙ ap (λ (n : ℕ). fewest_erases old.chip.config.kinds (n / 4096) (raised_in changes)) for.size
+            ∙ ap (λ (set : ℕ → Bool). fewest_erases old.chip.config.kinds (old.chip.config.size / 4096) set) raised);
         programs =
             does.programs honest for.can
             ∙ ap (λ (set : ℕ → Bool). count_below 65536 (is_programmed set (once_erased (raised_in changes) mid.chip.bytes) (saved_byte journal))) touched
@@ -284,7 +283,7 @@ restored_done journal prepared old mid new work sent are does modelled =
       still = λ none never.
           let writes = no_write changes (λ needed. never (for.needed needed)) in
           let count = are.is.count in
-          does.still (omega arith) ∙ are.looks.stirred;
+          does.still (omega arith) ∙ are.looks.sent;
     }
 
 -- and it is the first chip again

@@ -7,11 +7,11 @@ use Rattle.std.proofs.lemmas.Bool.Decides.{eqb_tells}
 use Rattle.nor_journal.specs.Text.{SavedSector, Content, AreRising}
 use Rattle.nor_journal.specs.Saved.{Saves, saved_in}
 use Rattle.nor_journal.proofs.Saves.{Saves-set}
-use Rattle.nor_layout.specs.Below.{count_below}
-use Rattle.nor_layout.proofs.Below.{count_below-most}
-use Rattle.nor_apply.specs.Counts.{sector_count}
-use Rattle.nor_apply.proofs.Counting.{count_below-none, count_below-same}
-use Rattle.nor_save.proofs.Below.{count_below-insert}
+use Rattle.nor_count.specs.Below.{count_below}
+use Rattle.nor_count.proofs.Below.{count_below-most}
+use Rattle.nor_count.specs.Counts.{sector_count}
+use Rattle.nor_count.proofs.Counting.{count_below-none, count_below-same}
+use Rattle.nor_count.proofs.Verdicts.{count_below-insert}
 
 -- whether one of these records has the sector
 abbrev has_record : List SavedSector → ℕ → Bool

@@ -15,22 +15,23 @@ use Rattle.nor_chip.specs.Bus.{BusState}
 use Rattle.nor_chip.proofs.Guarded.{is_guarded-sector, is_guarded-no_scheme, is_guarded-same}
 use Rattle.nor_driver.specs.Looks.{Rested}
 use Rattle.nor_plan.specs.SectorSet.{has}
-use Rattle.nor_apply.specs.Content.{must_rise, is_touched, is_raised}
+use Rattle.nor_plan.specs.Content.{must_rise, is_touched, is_raised}
 use Rattle.nor_apply.specs.Within.{is_writable}
 use Rattle.nor_apply.specs.Applying.{CanApply, writes_code}
 use Rattle.nor_journal.specs.Vault.{VaultState}
 use Rattle.nor_apply.proofs.Kept.{kept_fixed, writable_same}
-use Rattle.nor_apply.proofs.Counting.{any_below-false}
+use Rattle.nor_count.proofs.Counting.{any_below-false}
 use Rattle.nor_save.specs.declared.opening.Opening.{Opening}
 use Rattle.nor_save.specs.declared.saving.SavedScan.{SavedScan}
-use Rattle.nor_save.specs.declared.request.Request.{Request}
-use Rattle.nor_save.specs.declared.request.What.{What}
-use Rattle.nor_save.specs.declared.request.What.TheVariants.{Write, Erase, WpRange}
-use Rattle.nor_save.specs.declared.refusal.Refusal.{Refusal}
-use Rattle.nor_save.specs.declared.refusal.Refusal.TheVariants.{Stopped, Timeout, Mismatch}
-use Rattle.nor_save.specs.Request.{is_data, wanted, is_touched_by, is_raised_by}
+use Rattle.nor_call.specs.declared.request.Request.{Request}
+use Rattle.nor_call.specs.declared.request.What.{What}
+use Rattle.nor_call.specs.declared.request.What.TheVariants.{Write, Erase, WpRange}
+use Rattle.nor_call.specs.declared.refusal.Refusal.{Refusal}
+use Rattle.nor_call.specs.declared.refusal.Refusal.TheVariants.{Stopped, Timeout, Mismatch}
+use Rattle.nor_call.specs.Request.{is_data, wanted}
+use Rattle.nor_save.specs.Touched.{is_touched_by, is_raised_by}
 use Rattle.nor_save.specs.Opening.{status_read}
-use Rattle.nor_save.specs.Refusal.{number_of}
+use Rattle.nor_call.specs.Refusal.{number_of}
 use Rattle.nor_session.specs.Bounds.{most_of}
 use Rattle.nor_save.specs.Saving.{IsOpening, OpeningAccepts, ScanAccepts, SomeHeld, NeedsStatus, is_held}
 use Rattle.nor_session.specs.Changing.{ChangeTells}
@@ -196,8 +197,7 @@ can_apply request image image' opening status code kept old mid is of =
       idle = of.idle;
       sized = record {
         same = size;
-        k32 = ap (λ (config : Config). config.k32) same.config ∙ sym of.is.config.k32;
-        k64 = ap (λ (config : Config). config.k64) same.config ∙ sym of.is.config.k64;
+        same_kinds = ap (λ (config : Config). config.kinds) same.config ∙ sym of.is.config.kinds;
       };
       kept = kept_bits opening kept status code old mid is.is_status of.is of.kept2 same;
       inside = inside;

@@ -3,36 +3,35 @@ use Rattle.std.proofs.Common.{◌≡◌, ◌<◌, ◌+◌, ◌*◌, ◌/◌, ◌
 use mathlib.Core.Path.{fun_ext}
 use Rattle.std.specs.Prelude.{if◌then◌else◌, not, ◌||◌, nat_lt, slice_index}
 use Rattle.std.proofs.lemmas.Bool.{cases_Bool, cases_eq, ne_eqb, cases_lt, le-ltb, lt-ltb, ltb-true, and_parts}
-use Rattle.nor_chip.specs.declared.config.Config.{Config}
 use Rattle.nor_chip.specs.declared.status.Status.{Status}
 use Rattle.nor_chip.specs.Chip.{Chip}
 use Rattle.nor_chip.specs.Bus.{BusState}
 use Rattle.nor_driver.specs.Looks.{Looks}
 use Rattle.nor_journal.specs.Vault.{VaultState}
-use Rattle.nor_layout.specs.Below.{count_below}
+use Rattle.nor_count.specs.Below.{count_below}
 use Rattle.nor_layout.specs.Sectors.{includes}
 use Rattle.nor_plan.specs.SectorSet.{has}
 use Rattle.nor_plan.specs.Planned.{fewest_erases}
-use Rattle.nor_probe.specs.declared.sfdp.Kinds.{Kinds}
+use Rattle.nor_chip.specs.declared.config.Kinds.{Kinds}
 use Rattle.nor_apply.specs.declared.changes.Work.{Work}
-use Rattle.nor_apply.specs.Counts.{sector_count}
-use Rattle.nor_apply.specs.Content.{is_other, is_touched, is_raised, is_page_other, is_programmed, once_erased}
+use Rattle.nor_count.specs.Counts.{sector_count}
+use Rattle.nor_plan.specs.Content.{is_other, is_touched, is_raised, is_page_other, is_programmed, once_erased}
 use Rattle.nor_apply.specs.Within.{IsWithin, places_of}
 use Rattle.nor_apply.specs.Change.{MayChange}
 use Rattle.nor_apply.specs.Applying.{HasApplied, writes_code}
 use Rattle.nor_apply.proofs.Changing.{within_then, same_within}
-use Rattle.nor_apply.proofs.Counting.{any_below-false, any_below-same, count_below-same}
+use Rattle.nor_count.proofs.Counting.{any_below-false, any_below-same, count_below-same}
 use Rattle.nor_apply.proofs.Kept.{fixed_then, kept_fixed}
 use Rattle.nor_save.specs.declared.opening.Opening.{Opening}
 use Rattle.nor_save.specs.declared.saving.SavedScan.{SavedScan}
-use Rattle.nor_save.specs.declared.request.Request.{Request}
-use Rattle.nor_save.specs.Request.{is_data, wanted, scanned_sectors, is_touched_by, is_raised_by}
+use Rattle.nor_call.specs.declared.request.Request.{Request}
+use Rattle.nor_call.specs.Request.{is_data, wanted, scanned_sectors}
+use Rattle.nor_save.specs.Touched.{is_touched_by, is_raised_by}
 use Rattle.nor_save.specs.Opening.{Opens, most_opening}
 use Rattle.nor_save.specs.Saving.{IsOpening, OpeningAccepts}
 use Rattle.nor_save.specs.SavedScan.{HasSaved}
 use Rattle.nor_save.proofs.Planned.{wanted-kept}
 use Rattle.nor_probe.specs.Known.{IsModelled}
-use Rattle.nor_session.specs.Made.{kinds_of}
 use Rattle.nor_session.specs.Changing.{LeavesChange, DoesChange}
 use Rattle.nor_session.specs.Session.{IsWithinBound, IsDone, NeedsNoStatus, CanBeUndone}
 use Rattle.nor_session.proofs.Changed.{no_write, fewest_at}
@@ -170,11 +169,6 @@ bytes_done request image image' opening status code kept old mid new is of appli
           ∙ sym (wanted_untouched request image old.chip a blocks (sym (of.touched (a / 4096)) ∙ other))
     ]
 
-kinds_same : (kinds : Kinds) (config : Config) → kinds.k32 ≡ config.k32 → kinds.k64 ≡ config.k64 → kinds ≡ kinds_of config
-kinds_same kinds config one two =
-    let first : kinds ≡ record { k32 = config.k32; k64 = kinds.k64 } = ap {B = Kinds} (λ (b : Bool). record { k32 = b; k64 = kinds.k64 }) one in
-    first ∙ ap {B = Kinds} (λ (b : Bool). record { k32 = config.k32; k64 = b }) two
-
 -- a page of a touched sector is the same by the image and by what is wanted
 page_same : (touched : ℕ → Bool) (old aim aim' : ℕ → ℕ) (page : ℕ) → ((a : ℕ) → touched (a / 4096) ≡ true → aim a ≡ aim' a) → is_programmed touched old aim page ≡ is_programmed touched old aim' page
 unfolding is_page_other
@@ -223,9 +217,9 @@ done request image image' opening status code kept old mid new verify work sent 
         told = of.told;
         sectors = is.marks.count ∙ ap sector_count (fun_ext of.touched);
         erases = fewest_at old.chip.config (is_raised_by request image old.chip) work.erases (raised_inside request image old.chip) (does.erases
-            ∙ ap (λ (kinds : Kinds). fewest_erases kinds (opening.found.size / 4096) (has kept.scanned.raised)) (kinds_same opening.found.kinds old.chip.config of.is.config.k32 of.is.config.k64)
-            ∙ ap (λ (n : ℕ). fewest_erases (kinds_of old.chip.config) (n / 4096) (has kept.scanned.raised)) of.is.config.size
-            ∙ ap (λ (set : ℕ → Bool). fewest_erases (kinds_of old.chip.config) (old.chip.config.size / 4096) set) (fun_ext of.raised));
+            ∙ ap (λ (kinds : Kinds). fewest_erases kinds (opening.found.size / 4096) (has kept.scanned.raised)) of.is.config.kinds
+            ∙ ap (λ (n : ℕ). fewest_erases old.chip.config.kinds (n / 4096) (has kept.scanned.raised)) of.is.config.size
+            ∙ ap (λ (set : ℕ → Bool). fewest_erases old.chip.config.kinds (old.chip.config.size / 4096) set) (fun_ext of.raised));
         programs = does.programs honest can ∙ programs_done request image image' opening code kept old mid of;
       };
       code = code;
@@ -234,7 +228,7 @@ done request image image' opening status code kept old mid new verify work sent 
       still = λ none never.
           let writes = no_write (changes_of opening kept status code) (λ needed. never code of.accepts.is_wanted (needs request image image' opening status code kept old mid is of needed)) in
           let count = is.marks.count in
-          does.still (omega arith) ∙ is.looked.stirred;
+          does.still (omega arith) ∙ is.looked.same_sent;
     }
 
 -- where the request needs no status write, there is none

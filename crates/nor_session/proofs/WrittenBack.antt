@@ -8,9 +8,9 @@ use Rattle.nor_journal.specs.Saved.{JournalSaves, Saves}
 use Rattle.nor_journal.specs.Vault.{VaultState}
 use Rattle.nor_journal.proofs.OneForm.{one_text}
 use Rattle.nor_apply.specs.Within.{IsWithin}
-use Rattle.nor_save.specs.Request.{is_touched_by}
+use Rattle.nor_save.specs.Touched.{is_touched_by}
 use Rattle.nor_save.specs.Saving.{head_of}
-use Rattle.nor_save.specs.declared.request.Request.{Request}
+use Rattle.nor_call.specs.declared.request.Request.{Request}
 use Rattle.nor_probe.specs.Known.{IsModelled}
 use Rattle.nor_session.specs.Restore.{CanGiveBack, open_places}
 use Rattle.nor_session.specs.Session.{CanBeUndone}

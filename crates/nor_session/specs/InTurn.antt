@@ -4,8 +4,8 @@ use Rattle.nor_chip.specs.Chip.{IsChip}
 use Rattle.nor_chip.specs.Bus.{BusState}
 use Rattle.nor_journal.specs.Text.{Content, IsContent, text}
 use Rattle.nor_journal.specs.Vault.{VaultState}
-use Rattle.nor_save.specs.declared.request.Request.{Request}
-use Rattle.nor_save.specs.declared.report.Report.{Report}
+use Rattle.nor_call.specs.declared.request.Request.{Request}
+use Rattle.nor_call.specs.declared.report.Report.{Report}
 use Rattle.nor_probe.specs.Known.{IsModelled}
 use Rattle.nor_session.specs.Session.{CanBeUndone}
 use Rattle.nor_session.specs.Restore.{NeedsStatusFrom, is_touched_from}
@@ -24,7 +24,7 @@ pub record LeavesJournal (request : Request) (image : List ℕ) (old new : BusSt
 -- A restore changed nothing: nothing changing was sent, no sector was touched, nothing was erased or programmed, and no
 -- status write is needed.
 pub record ChangesNothing (journal : Content) (old new : BusState) (report : Report) : Type 0 where
-  pub still : new.stirred ≡ old.stirred
+  pub still : new.sent ≡ old.sent
   pub touched : report.touched ≡ 0
   pub erases : report.erases ≡ 0
   pub programs : report.programs ≡ 0

@@ -7,11 +7,11 @@ use Rattle.nor_driver.specs.Looks.{Looks}
 use Rattle.nor_probe.specs.declared.table.ChipName.{ChipName}
 use Rattle.nor_probe.specs.Found.{IsPart}
 use Rattle.nor_save.specs.declared.opening.Opening.{Opening}
-use Rattle.nor_save.specs.declared.request.Request.{Request}
-use Rattle.nor_save.specs.declared.report.Report.{Report}
-use Rattle.nor_save.specs.declared.refusal.Refusal.{Refusal}
+use Rattle.nor_call.specs.declared.request.Request.{Request}
+use Rattle.nor_call.specs.declared.report.Report.{Report}
+use Rattle.nor_call.specs.declared.refusal.Refusal.{Refusal}
 use Rattle.nor_journal.specs.Vault.{VaultState}
-use Rattle.nor_save.specs.Request.{is_data}
+use Rattle.nor_call.specs.Request.{is_data}
 use Rattle.nor_save.specs.Opening.{status_read, Opens, most_opening}
 use Rattle.nor_save.specs.Saving.{IsOpening, OpeningAccepts}
 use Rattle.nor_probe.specs.Known.{IsModelled}

@@ -4,22 +4,17 @@ use Rattle.nor_chip.specs.declared.config.Config.{Config}
 use Rattle.nor_chip.specs.Chip.{status1_of}
 use Rattle.nor_chip.specs.Bus.{BusState}
 use Rattle.nor_driver.specs.StatusWrites.{KeepsFixed}
-use Rattle.nor_layout.specs.Below.{count_below}
+use Rattle.nor_count.specs.Below.{count_below}
 use Rattle.nor_plan.specs.Planned.{IsLeastLength}
-use Rattle.nor_probe.specs.declared.sfdp.Kinds.{Kinds}
 use Rattle.nor_probe.specs.Known.{shown_as}
 use Rattle.nor_probe.specs.Found.{part_in}
-use Rattle.nor_apply.specs.Counts.{sector_count}
-use Rattle.nor_apply.specs.Content.{once_erased, is_programmed}
-use Rattle.nor_save.specs.declared.report.Report.{Report}
-
--- the chip's erase kinds beside 4 KiB
-abbrev pub kinds_of : Config → Kinds
-kinds_of config = record { k32 = config.k32; k64 = config.k64 }
+use Rattle.nor_count.specs.Counts.{sector_count}
+use Rattle.nor_plan.specs.Content.{once_erased, is_programmed}
+use Rattle.nor_call.specs.declared.report.Report.{Report}
 
 -- so many erases are the fewest: some list of them makes just these sectors of the chip FFh, and no shorter one does
 abbrev pub AreFewestErases : Config → (sectors : ℕ → Bool) → (erases : ℕ) → Type 0
-AreFewestErases config = IsLeastLength (kinds_of config) (config.size / 4096)
+AreFewestErases config = IsLeastLength config.kinds (config.size / 4096)
 
 -- how many pages need a program, once the raised sectors are erased
 abbrev pub pages_of : (touched raised : ℕ → Bool) → (old wanted : ℕ → ℕ) → ℕ

@@ -3,7 +3,7 @@ use Rattle.std.specs.Prelude.{◌≡◌, ◌<◌, ◌≤◌, ◌+◌, ◌/◌, �
 use Rattle.nor_chip.specs.Code.{code_in}
 use Rattle.nor_chip.specs.Chip.{Chip, IsSame, is_locked, status1_of}
 use Rattle.nor_chip.specs.Bus.{BusState}
-use Rattle.nor_driver.specs.Looks.{Rested, RanOutIfHonest}
+use Rattle.nor_driver.specs.Looks.{Rested, RanOutIfHonest, IsOpen}
 use Rattle.nor_driver.specs.Reads.{ReadsSector}
 use Rattle.nor_journal.specs.Text.{Content}
 use Rattle.nor_journal.specs.Saved.{is_saved, saved_byte}
@@ -17,13 +17,12 @@ use Rattle.nor_apply.specs.declared.changes.Changes.{Changes}
 use Rattle.nor_apply.specs.Applying.{writes_code, CanApply}
 use Rattle.nor_save.specs.declared.opening.Opening.{Opening}
 use Rattle.nor_save.specs.declared.scanning.Scanned.{Scanned}
-use Rattle.nor_save.specs.declared.refusal.Refusal.{Refusal}
-use Rattle.nor_save.specs.declared.refusal.Refusal.TheVariants.{OtherUnit, StatusDiffers, Stopped, Timeout}
-use Rattle.nor_save.specs.Scanning.{AreMarks, IsOpen}
+use Rattle.nor_call.specs.declared.refusal.Refusal.{Refusal}
+use Rattle.nor_call.specs.declared.refusal.Refusal.TheVariants.{OtherUnit, StatusDiffers, Stopped, Timeout}
+use Rattle.nor_save.specs.Scanning.{AreMarks}
 use Rattle.nor_save.specs.Saving.{IsOpening, NoneHeld, SomeHeld}
 use Rattle.nor_session.specs.declared.prepare.Prepared.{Prepared}
 use Rattle.nor_session.specs.Bounds.{most_looked}
-use Rattle.nor_session.specs.Made.{kinds_of}
 use Rattle.nor_session.specs.Changing.{touched_count}
 use Rattle.nor_session.specs.Restore.{is_touched_from, is_raised_from, IsOfKind, FitsStatus, Fits, NeedsStatusFrom, IsJudgedFirst, IsRestoreVerdict, IsRestorable}
 
@@ -140,7 +139,7 @@ pub record IsPreparedFor (journal : Content) (old new : Chip) (prepared : Prepar
   pub shown : shown_as old.config ≡ Ok (part_in prepared.found)
   pub status1 : prepared.found.status1 / 4 ≡ old.kept1
   pub told : old.busy ≡ 0 → prepared.found.status1 ≡ status1_of old
-  pub kinds : prepared.changes.kinds ≡ kinds_of old.config
+  pub kinds : prepared.changes.kinds ≡ old.config.kinds
   pub size : prepared.changes.size ≡ old.config.size
   pub code : prepared.changes.code ≡ code_in journal.status
   pub touched : (s : ℕ) → has prepared.changes.touched s ≡ is_touched_from journal old s

@@ -6,12 +6,13 @@ use Rattle.nor_chip.specs.Bus.{BusState, KeepsNature}
 use Rattle.nor_driver.specs.Looks.{IsCalm}
 use Rattle.nor_journal.specs.Vault.{VaultState, Rose}
 use Rattle.nor_journal.specs.Saved.{JournalSaves}
-use Rattle.nor_apply.specs.Counts.{sector_count}
-use Rattle.nor_save.specs.declared.request.Request.{Request}
-use Rattle.nor_save.specs.declared.refusal.Refusal.{Refusal}
-use Rattle.nor_save.specs.declared.refusal.Refusal.TheVariants.{Vault}
-use Rattle.nor_save.specs.Refusal.{number_of}
-use Rattle.nor_save.specs.Request.{wanted, scanned_sectors, is_touched_by, is_raised_by}
+use Rattle.nor_count.specs.Counts.{sector_count}
+use Rattle.nor_call.specs.declared.request.Request.{Request}
+use Rattle.nor_call.specs.declared.refusal.Refusal.{Refusal}
+use Rattle.nor_call.specs.declared.refusal.Refusal.TheVariants.{Vault}
+use Rattle.nor_call.specs.Refusal.{number_of}
+use Rattle.nor_call.specs.Request.{wanted, scanned_sectors}
+use Rattle.nor_save.specs.Touched.{is_touched_by, is_raised_by}
 use Rattle.nor_save.specs.Saving.{head_of}
 use Rattle.nor_session.specs.declared.rehearsals.Rehearsal.{Rehearsal}
 use Rattle.nor_session.specs.Bounds.{most_looked, most_of}
@@ -71,7 +72,7 @@ FitsLastStop sectors stops left restores =
 pub record LeavesRefused (old new : BusState) (vault : VaultState) : Type 0 where
   pub same : IsSame old.chip new.chip
   pub latch : new.chip.latch ≡ true → old.chip.latch ≡ true
-  pub still : new.stirred ≡ old.stirred
+  pub still : new.sent ≡ old.sent
   pub unsealed : vault.sealed ≡ false
 
 -- on every bus a refusal is the session's, or once the vault is sealed that of a restore

@@ -13,13 +13,13 @@ use Rattle.nor_journal.specs.Text.{Content}
 use Rattle.nor_journal.specs.Saved.{Saves, is_saved, saved_byte}
 use Rattle.nor_probe.specs.declared.probes.ProbeFault.TheVariants as Probes
 use Rattle.nor_probe.specs.Known.{shown_as, IsKnown}
-use Rattle.nor_apply.specs.Content.{is_touched, is_raised}
+use Rattle.nor_plan.specs.Content.{is_touched, is_raised}
 use Rattle.nor_apply.specs.Within.{IsWithin}
 use Rattle.nor_apply.specs.Spending.{Spends}
-use Rattle.nor_save.specs.declared.report.Report.{Report}
-use Rattle.nor_save.specs.declared.refusal.Refusal.{Refusal}
-use Rattle.nor_save.specs.declared.refusal.Refusal.TheVariants.{NoChip, UnknownChip, StatusLocked, Stopped, OtherChip, OtherUnit, StatusDiffers}
-use Rattle.nor_save.specs.Refusal.{number_of}
+use Rattle.nor_call.specs.declared.report.Report.{Report}
+use Rattle.nor_call.specs.declared.refusal.Refusal.{Refusal}
+use Rattle.nor_call.specs.declared.refusal.Refusal.TheVariants.{NoChip, UnknownChip, StatusLocked, Stopped, OtherChip, OtherUnit, StatusDiffers}
+use Rattle.nor_call.specs.Refusal.{number_of}
 use Rattle.nor_save.specs.Saving.{SomeHeld}
 use Rattle.nor_session.specs.Bounds.{most_looked, most_of}
 use Rattle.nor_session.specs.Made.{IsMade}
@@ -104,8 +104,8 @@ abbrev pub RestoreTells : Content → (old new : BusState) → Refusal → Type 
 RestoreTells journal old new Stopped = RanOut (most_of (length journal.saved)) old new
 RestoreTells journal old new refusal = IsRestoreVerdict journal old.chip refusal
 
--- At every exit, whatever the journal: outside the saved sectors bytes are as they were, the fixed bits are, and only
--- sectors with a bit that had to rise were erased.
+-- At every exit, whatever the journal: on a calm bus the bytes outside the saved sectors and the fixed bits are as they
+-- were, and only sectors with a bit that had to rise were erased.
 pub record LeavesRestore (journal : Content) (old new : BusState) : Type 0 where
   pub config : new.chip.config ≡ old.chip.config
   pub bytes : IsCalm old → (a : ℕ) → is_saved journal (a / 4096) ≡ false → new.chip.bytes a ≡ old.chip.bytes a
@@ -120,7 +120,7 @@ pub record IsRestored (journal : Content) (old new : BusState) (report : Report)
       (is_raised_from journal old.chip) old new report
   pub code : HasCode (code_in journal.status) new.chip
   pub still : report.touched ≡ 0 → (¬ NeedsStatusFrom journal (is_touched_from journal old.chip) old.chip)
-      → new.stirred ≡ old.stirred
+      → new.sent ≡ old.sent
 
 -- ---- giving a chip back
 

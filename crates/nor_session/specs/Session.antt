@@ -9,14 +9,15 @@ use Rattle.nor_journal.specs.Vault.{VaultState, Rose}
 use Rattle.nor_journal.specs.Saved.{JournalSaves, is_saved}
 use Rattle.nor_apply.specs.Change.{MayChange}
 use Rattle.nor_apply.specs.Spending.{Spends}
-use Rattle.nor_save.specs.declared.request.Request.{Request}
-use Rattle.nor_save.specs.declared.report.Report.{Report}
-use Rattle.nor_save.specs.declared.request.What.{What}
-use Rattle.nor_save.specs.declared.request.What.TheVariants.{WpRange}
-use Rattle.nor_save.specs.declared.refusal.Refusal.{Refusal}
-use Rattle.nor_save.specs.declared.refusal.Refusal.TheVariants.{Vault, Stopped, Timeout, Mismatch}
-use Rattle.nor_save.specs.Refusal.{number_of}
-use Rattle.nor_save.specs.Request.{wanted, scanned_sectors, is_touched_by, is_raised_by, IsWantedCode}
+use Rattle.nor_call.specs.declared.request.Request.{Request}
+use Rattle.nor_call.specs.declared.report.Report.{Report}
+use Rattle.nor_call.specs.declared.request.What.{What}
+use Rattle.nor_call.specs.declared.request.What.TheVariants.{WpRange}
+use Rattle.nor_call.specs.declared.refusal.Refusal.{Refusal}
+use Rattle.nor_call.specs.declared.refusal.Refusal.TheVariants.{Vault, Stopped, Timeout, Mismatch}
+use Rattle.nor_call.specs.Refusal.{number_of}
+use Rattle.nor_call.specs.Request.{wanted, scanned_sectors, IsWantedCode}
+use Rattle.nor_save.specs.Touched.{is_touched_by, is_raised_by}
 use Rattle.nor_save.specs.Saving.{head_of, NeedsStatus}
 use Rattle.nor_save.specs.SavedScan.{IsJournal, BeginsJournal, HoldsJournal}
 use Rattle.nor_session.specs.Bounds.{most_looked, most_of}
@@ -103,7 +104,7 @@ pub record IsDone (request : Request) (image : List ℕ) (old new : BusState) (r
   pub code : ℕ
   pub is_wanted : IsWantedCode request.what old.chip code
   pub has_code : HasCode code new.chip
-  pub still : report.touched ≡ 0 → NeedsNoStatus request image old.chip → new.stirred ≡ old.stirred
+  pub still : report.touched ≡ 0 → NeedsNoStatus request image old.chip → new.sent ≡ old.sent
 
 -- Once the vault is sealed the request is accepted, so where the status is locked no touched sector is guarded; a
 -- telling vault has the journal of the starting chip, which saves just the touched sectors; and the chip is on the way

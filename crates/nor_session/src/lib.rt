@@ -1,13 +1,22 @@
 //! Sessions that change a flash chip and can be undone, the restores that undo them, and rehearsals of both.
 //!
 //! ```rust
+//! use nor_chip::{Config, Delays, Meter, SimBus};
 //! use nor_journal::{Journal, MemVault};
-//! use nor_session::{restore, session};
+//! use nor_session::{Request, restore, session};
 //!
-//! // `request` writes `image`, which `bus` is to reach in place of what the chip has.
+//! let idle = Delays { now: 0, each: 0 };
+//! let before = vec![in rt.alloc(); 0xFF; 65536]?;
+//! let mut bus = SimBus::new(Config::tiny64(), before.clone()?, [0x00, 0x00], idle)?;
+//! bus.allow(u64::MAX);
+//!
+//! let mut image = before.clone()?;
+//! image[0] = 0x5A;
+//! let wanted = image.clone()?; // `session` uses the image up
+//! let request = Request::write().verified();
 //! let mut vault = MemVault::new(rt.alloc());
 //! session(&mut bus, &mut vault, &mut image, &request)?;
-//! assert_eq!(rt; bus.bytes(), image.as_slice());
+//! assert_eq!(rt; bus.bytes(), wanted.as_slice());
 //! restore(&mut bus, &Journal::read(vault.bytes())?)?;
 //! assert_eq!(rt; bus.bytes(), before.as_slice());
 //! ```
@@ -30,7 +39,7 @@ pub use laws::{
     read_gives_back, restore_written_over, restored_stays, same_written_over, session_written_over,
     undone_in_turn,
 };
-pub use nor_save::{Refusal, Report, Request, What};
+pub use nor_call::{Refusal, Report, Request, What};
 pub use rehearsals::{Rehearsal, rehearse};
 pub use restores::restore;
 pub use sessions::{accepted_alone, session};

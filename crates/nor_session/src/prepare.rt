@@ -5,14 +5,14 @@ ghost use Rattle.nor_chip.specs.Size.{is_chip_size};
 ghost use Rattle.nor_driver.specs.Looks.{Looks, RanOutIfHonest};
 ghost use Rattle.nor_plan.specs.SectorSet.{has, LiesBelow};
 ghost use Rattle.nor_save.specs.Opening.{Opens, most_opening};
-ghost use Rattle.nor_save.specs.declared.refusal.Refusal.TheVariants as Refusals;
+ghost use Rattle.nor_call.specs.declared.refusal.Refusal.TheVariants as Refusals;
 ghost use Rattle.nor_session.specs.Bounds.{most_looked};
 ghost use Rattle.nor_session.specs.Prepare.{IsOfKindFound, IsUnitRefusal, FitsOpening, ShowsFixed};
 ghost use Rattle.nor_session.specs.Prepare.{AcceptsUnit, RefusesUnit, PlansSaved, ScansSaved};
 ghost use Rattle.nor_session.specs.Prepare.{AreChanges, MakesChanges, RefusesShut, IsPrepared, PrepareTells};
 
 use nor_apply::Changes;
-use nor_chip::{Bus, Status, Stopped};
+use nor_chip::{Bus, SECTOR_LEN, Status, Stopped};
 use nor_driver::read_sector;
 use nor_journal::Journal;
 use nor_plan::{Plan, SectorPlan};
@@ -118,7 +118,7 @@ fn scan_saved<B: Bus>(bus: &mut B, journal: &Journal<'_>) -> Result<Scanned, Sto
     ensures stops { OnErr result (RanOutIfHonest (length journal.now.saved) (B.state bus.old) (B.state bus.new)) }
 {
     let mut scanned = Scanned::none();
-    let mut bytes = [0; 4096];
+    let mut bytes = [0; SECTOR_LEN as usize];
     for i in 0..journal.count() {
         let (sector, saved) = journal.sector(i);
         let plan = plan_saved(bus, sector, saved, &mut bytes)?;
@@ -132,7 +132,7 @@ fn plan_saved<B: Bus>(
     bus: &mut B,
     sector: u32,
     saved: &[u8],
-    bytes: &mut [u8; 4096],
+    bytes: &mut [u8; SECTOR_LEN as usize],
 ) -> Result<SectorPlan, Stopped>
     requires reachable { sector < 4096 }
     requires whole { length saved.now ≡ 4096 }

@@ -12,7 +12,7 @@ ghost use Rattle.nor_session.specs.Rehearsal.{RehearsalAlways, RehearsalModelled
 use crate::restores::restore;
 use crate::sessions::session;
 use crate::{Refusal, Request};
-use nor_chip::{Bus, Meter};
+use nor_chip::{Bus, MOST_SECTORS, Meter};
 use nor_journal::{Journal, MemVault, Vault};
 
 /// What a rehearsal showed: whether the session ended, whether its vault was sealed, and how many restores were run,
@@ -70,7 +70,7 @@ const OPERATION: u64 = 65_538;
 fn most_needed() -> u64
     ensures { result ≡ most_of 4096 }
 {
-    let sectors = 4096;
+    let sectors = u64::from(MOST_SECTORS);
     OPENING + 3 * sectors + OPERATION * (17 * sectors + 2)
 }
 

@@ -2,8 +2,8 @@
 ghost use Rattle.std.specs.Prelude.{◌≡◌, ℕ, List, true};
 ghost use Rattle.nor_chip.specs.Chip.{Chip};
 ghost use Rattle.nor_journal.specs.Vault.{IsFresh};
-ghost use Rattle.nor_save.specs.declared.request.Request.{Request};
-ghost use Rattle.nor_save.specs.declared.refusal.Refusal.{Refusal};
+ghost use Rattle.nor_call.specs.declared.request.Request.{Request};
+ghost use Rattle.nor_call.specs.declared.refusal.Refusal.{Refusal};
 ghost use Rattle.nor_probe.specs.Known.{IsModelled};
 ghost use Rattle.nor_session.specs.Verdict.{IsVerdict, IsAccepted};
 ghost use Rattle.nor_session.specs.Session.{SessionAlways, SessionHonest, SessionModelled};

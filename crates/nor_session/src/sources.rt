@@ -4,6 +4,7 @@ ghost use Rattle.std.proofs.lemmas.Bool.Decides.{nat_tests};
 ghost use Rattle.nor_journal.specs.Saved.{is_saved, saved_byte};
 
 use nor_apply::Source;
+use nor_chip::SECTOR_LEN;
 use nor_journal::Journal;
 
 /// An image of the whole chip.
@@ -18,8 +19,8 @@ impl Source for Image<'_> {
     ghost wanted = { λ image a. slice_index image.bytes.now a };
 
     fn sector(&self, sector: u32) -> &[u8] {
-        let start = 4096 * sector as usize;
-        &self.bytes[start..start + 4096]
+        let start = SECTOR_LEN as usize * sector as usize;
+        &self.bytes[start..start + SECTOR_LEN as usize]
     }
 }
 

@@ -2,7 +2,7 @@ use Rattle.std.proofs.Common.{arith}
 use Rattle.std.proofs.lemmas.Grind.{common_steps}
 use Rattle.nor_probe.specs.Found.{most_probe}
 use Rattle.nor_save.specs.Opening.{most_opening}
-use Rattle.nor_apply.proofs.CheckingLooks.{looks_then, looks_more}
+use Rattle.nor_driver.proofs.LooksInTurn.{looks_then, looks_more}
 use Rattle.nor_session.proofs.Reopened.{probe_tells}
 use Rattle.nor_session.proofs.prepare.open_of_kind.Goals as goal
 

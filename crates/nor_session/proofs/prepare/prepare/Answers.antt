@@ -1,8 +1,8 @@
 use Rattle.std.proofs.Common.{◌+◌, length, rules, arith}
 use Rattle.std.proofs.lemmas.Grind.{common_steps}
-use Rattle.nor_save.specs.declared.refusal.Refusal.TheVariants.{StatusLocked}
+use Rattle.nor_call.specs.declared.refusal.Refusal.TheVariants.{StatusLocked}
 use Rattle.nor_save.specs.Opening.{most_opening}
-use Rattle.nor_apply.proofs.CheckingLooks.{looks_then, looks_more}
+use Rattle.nor_driver.proofs.LooksInTurn.{looks_then, looks_more}
 use Rattle.nor_session.specs.Bounds.{most_looked}
 use Rattle.nor_session.specs.Prepare.{PrepareTells}
 use Rattle.nor_session.proofs.Changeable.{AreRead, shut_tells, prepared_all}

@@ -1,7 +1,7 @@
 use Rattle.std.proofs.Common.{◌+◌, ◌≡◌, true, length, rules, arith}
 use Rattle.nor_journal.specs.Saved.{is_saved}
 use Rattle.nor_save.proofs.Begun.{err_same}
-use Rattle.nor_save.specs.declared.refusal.Refusal.TheVariants.{Stopped}
+use Rattle.nor_call.specs.declared.refusal.Refusal.TheVariants.{Stopped}
 use Rattle.nor_save.specs.Opening.{most_opening}
 use Rattle.nor_session.specs.Bounds.{most_looked, most_of}
 use Rattle.nor_session.specs.Session.{HonestTells, NamesSector}

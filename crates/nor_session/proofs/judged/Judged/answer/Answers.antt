@@ -1,11 +1,12 @@
 use Rattle.std.proofs.Common.{rules, arith, ◌≡◌, ◌≢◌, ◌⊎◌, ◌∙◌, [], inr, sym, true≢false, ◌+◌, ◌*◌, length}
 use Rattle.std.proofs.lemmas.Bool.{lt-ltb}
 use Rattle.nor_driver.specs.Looks.{Looks}
-use Rattle.nor_save.specs.Request.{scanned_sectors, is_touched_by}
+use Rattle.nor_call.specs.Request.{scanned_sectors}
+use Rattle.nor_save.specs.Touched.{is_touched_by}
 use Rattle.nor_save.specs.Saving.{head_of}
 use Rattle.nor_save.specs.SavedScan.{BeginsJournal}
-use Rattle.nor_save.specs.declared.refusal.Refusal.TheVariants.{Vault}
-use Rattle.nor_save.proofs.Rests.{looks_then}
+use Rattle.nor_call.specs.declared.refusal.Refusal.TheVariants.{Vault}
+use Rattle.nor_driver.proofs.RestsInTurn.{looks_after}
 use Rattle.nor_save.proofs.Begun.{err_same}
 use Rattle.nor_session.specs.Bounds.{most_looked, most_of}
 use Rattle.nor_session.specs.Session.{CanBeUndone, NamesAddress}
@@ -36,9 +37,9 @@ returns-in_err-saved g c = λ first looks opens.
     let few = scanned_few request opening.found.size opens.part.at_most in
     let most = opens.most in
     let looked_on : Looks (most_looked 4096) first new
-    = looks_then opening.transactions (scanned_sectors request opening.found.size) (most_looked 4096) first mid new (omega arith) looked c.save.ensures.leaves in
+    = looks_after opening.transactions (scanned_sectors request opening.found.size) (most_looked 4096) first mid new (omega arith) looked c.save.ensures.leaves in
     let looked_sized : Looks (most_of (scanned_sectors request opening.found.size)) first new
-    = looks_then opening.transactions (scanned_sectors request opening.found.size) (most_of (scanned_sectors request opening.found.size)) first mid new (omega arith) looked c.save.ensures.leaves in
+    = looks_after opening.transactions (scanned_sectors request opening.found.size) (most_of (scanned_sectors request opening.found.size)) first mid new (omega arith) looked c.save.ensures.leaves in
     let unsealed = not_sealed refusal vault vault' c.requires.fresh.unsealed c.in_err-saved.ensures.puts in
     record {
       always = record {
