@@ -2,6 +2,7 @@
 use Rattle.std.specs.Prelude.{◌≡◌, true, false, Option, Some, None, not, option_and_then, option_map}
 use Rattle.std.specs.Borrow.{Bor}
 use Rattle.std.specs.Option.{IsSomeAnd}
+use Rattle.nor_probe.specs.Table.{name_of}
 use Rattle.nor_words.specs.Given.{Texts, operations}
 use Rattle.nor_words.specs.Numbers.{range_of}
 use Rattle.nor_words.specs.Programmer.{IsProgrammer}
@@ -11,8 +12,8 @@ use Rattle.nor_words.specs.declared.job.Change.{Change}
 use Rattle.nor_words.specs.declared.job.ChipJob.{ChipJob}
 use Rattle.nor_words.specs.declared.job.Job.{Job}
 use Rattle.nor_words.specs.declared.job.Job.TheVariants as job
-use Rattle.nor_words.specs.declared.job.Keeping.{Keeping}
-use Rattle.nor_words.specs.declared.job.Keeping.TheVariants as keep
+use Rattle.nor_words.specs.declared.job.JournalUse.{JournalUse}
+use Rattle.nor_words.specs.declared.job.JournalUse.TheVariants as uses
 use Rattle.nor_words.specs.declared.job.Regions.{Regions}
 use Rattle.nor_words.specs.declared.job.Task.{Task}
 use Rattle.nor_words.specs.declared.job.Task.TheVariants as task
@@ -35,9 +36,9 @@ IsWantedByWords given want.Erase = given.erase ≡ true
 IsWantedByWords given (want.Range start len) = option_and_then range_of given.wp_range ≡ Some (start, len)
 
 -- where its journal is kept, or how it is rehearsed
-abbrev pub IsKeeping : Texts → Keeping → Type 0
-IsKeeping given (keep.Journal file) = NamesFile given.journal file
-IsKeeping given (keep.Rehearse stops) = option_and_then stops_of given.rehearse ≡ Some stops.items
+abbrev pub IsJournalUse : Texts → JournalUse → Type 0
+IsJournalUse given (uses.Journal file) = NamesFile given.journal file
+IsJournalUse given (uses.Rehearse stops) = option_and_then stops_of given.rehearse ≡ Some stops.items
 
 -- Each part of a change is what the options say.
 pub record IsChange (given : Texts) (change : Change) : Type 0 where
@@ -45,7 +46,7 @@ pub record IsChange (given : Texts) (change : Change) : Type 0 where
   pub regions : IsRegions given change.regions
   pub unlock : change.unlock ≡ given.unlock
   pub verify : change.verify ≡ not given.no_verify
-  pub keeping : IsKeeping given change.keeping
+  pub journal_use : IsJournalUse given change.journal_use
 
 -- the one operation that there is; none is a probe
 abbrev pub IsTask : Texts → Task → Type 0
@@ -61,7 +62,7 @@ IsTask given (task.Restore journal) = NamesFile given.restore journal
 -- Each part of a job on a chip is what the options say.
 pub record IsChipJob (given : Texts) (on_chip : ChipJob) : Type 0 where
   pub programmer : IsSomeAnd given.programmer (λ text. IsProgrammer text on_chip.programmer)
-  pub named : given.chip ≡ option_map (λ name. name.now) on_chip.named
+  pub named : on_chip.named ≡ option_map name_of given.chip
   pub task : IsTask given on_chip.task
 
 -- `-L` is the list of chips, and all else is done with a chip

@@ -1,5 +1,5 @@
 -- What the text of `-p` says.
-use Rattle.std.specs.Prelude.{◌≡◌, ◌&&◌, Bool, true, List, [], ◌∷◌, Option, Some, None, length, drop, find, codes, is_some, nat_eq, nat_lt, nat_le, option_map, option_and_then, if◌then◌else◌}
+use Rattle.std.specs.Prelude.{◌≡◌, ◌&&◌, ℕ, Bool, true, List, [], ◌∷◌, Option, Some, None, length, drop, find, codes, is_some, nat_eq, nat_lt, nat_le, option_map, option_and_then, if◌then◌else◌}
 use Rattle.std.specs.List.{count_by, list_all, list_any, starts_with}
 use Rattle.std.specs.Str.{bytes_eq}
 use Rattle.nor_chip.specs.Makers.{IsTiny64, IsW25q64fv, IsW25q128fv}
@@ -16,6 +16,12 @@ chip_named name = if bytes_eq name (codes "TINY64") then Some Tiny64
     else if bytes_eq name (codes "W25Q64FV") then Some W25q64fv
     else if bytes_eq name (codes "W25Q128FV") then Some W25q128fv
     else None
+
+-- how many bytes an emulated chip has
+abbrev pub emulated_size : Emulated → ℕ
+emulated_size Tiny64 = 65536
+emulated_size W25q64fv = 8388608
+emulated_size W25q128fv = 16777216
 
 -- the configuration of an emulated chip
 abbrev pub IsConfigOfEmulated : Emulated → Config → Type 0

@@ -5,20 +5,21 @@ ghost use Rattle.std.specs.Option.{option_map_or};
 ghost use Rattle.clap.specs.Words.{found_of, rows_of};
 ghost use Rattle.nor_words.specs.Given.{given_in, is_set_in, operations, is_new_content, asks_change, takes_regions};
 ghost use Rattle.nor_words.specs.Faults.{first_fault, has_wrong_journal, has_wrong_regions, is_no, is_there, usage_faults};
-ghost use Rattle.nor_words.specs.Job.{IsAsked, IsKeeping, IsRegions, IsTask, IsWantedByWords};
+ghost use Rattle.nor_words.specs.Job.{IsAsked, IsJournalUse, IsRegions, IsTask, IsWantedByWords};
 ghost use Rattle.nor_words.specs.Meaning.{IsMeaning};
 ghost use Rattle.nor_words.specs.Numbers.{range_of};
 ghost use Rattle.nor_words.specs.Programmer.{has_stop, is_programmer_text};
 ghost use Rattle.nor_words.specs.Stops.{stops_of};
 ghost use Rattle.nor_words.specs.Text.{reads};
 
-use crate::job::{Change, ChipJob, Job, Keeping, Regions, Task, Wanted};
+use crate::job::{Change, ChipJob, Job, JournalUse, Regions, Task, Wanted};
 use crate::numbers::read_range;
 use crate::programmer::Programmer;
 use crate::stops::{MOST_STOPS, read_stops};
 use crate::words::UsageFault;
 use arrayvec::ArrayVec;
 use clap::ArgMatches;
+use nor_probe::ChipName;
 
 /// The texts of the options that take one, and whether the flags are set.
 #[derive(Clone, Copy)]
@@ -43,7 +44,7 @@ pub struct Given<'a> {
     rehearse: Option<&'a str>,
 }
 
-/// What the texts mean that aren't names; nothing where a text isn't there or has no meaning.
+// What the texts mean that aren't names; nothing where a text isn't there or has no meaning.
 #[derive(Drop)]
 struct Meaning<'a> {
     programmer: Option<Programmer<'a>>,
@@ -93,7 +94,7 @@ impl<'a> Given<'a> {
         match meaning.programmer {
             Some(programmer) if !self.list => Ok(Job::Chip(ChipJob {
                 programmer,
-                named: self.chip,
+                named: self.chip.map(ChipName::of),
                 task: self.task(meaning.range, meaning.stops),
             })),
             _ => Ok(Job::List),
@@ -254,7 +255,7 @@ impl<'a> Given<'a> {
             regions: self.regions(),
             unlock: self.unlock,
             verify: !self.no_verify,
-            keeping: self.keeping(stops),
+            journal_use: self.journal_use(stops),
         })
     }
 
@@ -273,15 +274,15 @@ impl<'a> Given<'a> {
     }
 
     // What becomes of a change's journal.
-    fn keeping(&self, stops: Option<ArrayVec<u64, MOST_STOPS>>) -> Keeping<'a>
+    fn journal_use(&self, stops: Option<ArrayVec<u64, MOST_STOPS>>) -> JournalUse<'a>
         requires read { option_and_then stops_of (texts_of self.now).rehearse
             ≡ option_map (λ stops. stops.items) stops }
         requires kept { (texts_of self.now).journal ≡ None → is_some stops ≡ true }
-        ensures { IsKeeping (texts_of self.now) result }
+        ensures { IsJournalUse (texts_of self.now) result }
     {
         match self.journal {
-            Some(file) => Keeping::Journal { file },
-            None => Keeping::Rehearse {
+            Some(file) => JournalUse::Journal { file },
+            None => JournalUse::Rehearse {
                 stops: stops.unwrap(),
             },
         }

@@ -3,6 +3,7 @@
 use crate::programmer::Programmer;
 use crate::stops::MOST_STOPS;
 use arrayvec::ArrayVec;
+use nor_probe::ChipName;
 
 /// What the words ask for.
 #[derive(Drop)]
@@ -18,7 +19,7 @@ pub enum Job<'a> {
 pub struct ChipJob<'a> {
     pub programmer: Programmer<'a>,
     /// `-c NAME`: the name that the chip must have.
-    pub named: Option<&'a str>,
+    pub named: Option<ChipName>,
     pub task: Task<'a>,
 }
 
@@ -70,7 +71,7 @@ pub struct Change<'a> {
     pub unlock: bool,
     /// What was written is read back and compared, which `-n` forgoes.
     pub verify: bool,
-    pub keeping: Keeping<'a>,
+    pub journal_use: JournalUse<'a>,
 }
 
 /// What a change makes of the chip.
@@ -86,7 +87,7 @@ pub enum Wanted<'a> {
 
 /// What becomes of the journal of a change.
 #[derive(Drop)]
-pub enum Keeping<'a> {
+pub enum JournalUse<'a> {
     /// `--journal FILE`: it is kept in the file of this name.
     Journal { file: &'a str },
     /// `--rehearse N,N,..`: the change is a rehearsal. It and then each restore is stopped after so many transactions,

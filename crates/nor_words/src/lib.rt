@@ -23,7 +23,7 @@ mod settings;
 mod stops;
 mod words;
 
-pub use job::{Change, ChipJob, Job, Keeping, Regions, Task, Wanted};
+pub use job::{Change, ChipJob, Job, JournalUse, Regions, Task, Wanted};
 pub use programmer::{Emulated, Programmer};
 pub use stops::MOST_STOPS;
 pub use words::{UsageFault, request_of};

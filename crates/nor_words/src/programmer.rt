@@ -17,7 +17,8 @@ pub enum Emulated {
 }
 
 impl Emulated {
-    ghost use Rattle.nor_words.specs.Programmer.{chip_named, IsConfigOfEmulated};
+    ghost use Rattle.nor_chip.specs.declared.config.Config.{Config};
+    ghost use Rattle.nor_words.specs.Programmer.{chip_named, emulated_size, IsConfigOfEmulated};
 
     /// The chip of this name.
     pub fn named(name: &str) -> Option<Emulated>
@@ -39,6 +40,18 @@ impl Emulated {
             Emulated::Tiny64 => Config::tiny64(),
             Emulated::W25q64fv => Config::w25q64fv(),
             Emulated::W25q128fv => Config::w25q128fv(),
+        }
+    }
+
+    /// How many bytes the chip has.
+    pub fn size(self) -> u32
+        ensures size { result ≡ emulated_size self }
+        ensures configured { (config : Config) → IsConfigOfEmulated self config → config.size ≡ result }
+    {
+        match self {
+            Emulated::Tiny64 => 65_536,
+            Emulated::W25q64fv => 8_388_608,
+            Emulated::W25q128fv => 16_777_216,
         }
     }
 }

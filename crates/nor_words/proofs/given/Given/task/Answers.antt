@@ -9,8 +9,8 @@ plain_task-requires c =
     let facts : (is_new_content (texts_of c.args.self.now) ≡ false) × (c.args.range ≡ None) = c.in_default.ensures in
     (c.requires.0, no_change-wanted (texts_of c.args.self.now) sound facts.0 (c.requires.2 ∙ facts.1), sound.regions)
 
-pub keeping-requires-clause-kept : goal.keeping-requires-clause-kept
-keeping-requires-clause-kept c = λ journal.
+pub journal_use-requires-clause-kept : goal.journal_use-requires-clause-kept
+journal_use-requires-clause-kept c = λ journal.
     stops-kept (λ stops. stops.items) (texts_of c.args.self.now) c.in-Some.wanted c.args.stops
     (sound-none (texts_of c.args.self.now) c.requires.1) c.in-Some.ensures c.requires.3 journal
 
