@@ -5,8 +5,8 @@ use Rattle.nor_files.specs.Files.{AllStay, AreAtRest, FilesState, IsKnown, Name,
 use Rattle.nor_files.specs.Calls.{LeavesNoMore}
 use Rattle.nor_words.specs.Text.{Text}
 use Rattle.nor_words.specs.declared.job.ChipJob.{ChipJob}
-use Rattle.nor_words.specs.declared.job.Keeping.{Keeping}
-use Rattle.nor_words.specs.declared.job.Keeping.TheVariants as keeping
+use Rattle.nor_words.specs.declared.job.JournalUse.{JournalUse}
+use Rattle.nor_words.specs.declared.job.JournalUse.TheVariants as uses
 use Rattle.nor_words.specs.declared.job.Task.{Task}
 use Rattle.nor_words.specs.declared.job.Task.TheVariants as task
 use Rattle.nor_words.specs.declared.programmer.Programmer.{Programmer}
@@ -55,17 +55,17 @@ module _ (old new : FilesState) where
     others = λ name not other. stay name;
   }
 
-  keeps_all : (programmer : Programmer) (kept : Keeping) → AllStay old new → KeepsChange programmer kept old new
-  keeps_all programmer (keeping.Journal file) stay = inl (record {
+  keeps_all : (programmer : Programmer) (kept : JournalUse) → AllStay old new → KeepsChange programmer kept old new
+  keeps_all programmer (uses.Journal file) stay = inl (record {
     image = leaves_of programmer.image (λ name. (stay name).leaves);
     status = leaves_of programmer.status (λ name. (stay name).leaves);
     others = λ name not other. (stay name).leaves;
     empty = λ left can. inl ((stay file.now).leaves left can);
   })
-  keeps_all programmer (keeping.Rehearse stops) stay = stay_all programmer None stay
+  keeps_all programmer (uses.Rehearse stops) stay = stay_all programmer None stay
 
   pub keeps_still : (programmer : Programmer) (done : Task) → AllStay old new → KeepsFiles programmer done old new
-  keeps_still programmer (task.Change change) stay = keeps_all programmer change.keeping stay
+  keeps_still programmer (task.Change change) stay = keeps_all programmer change.journal_use stay
   keeps_still programmer (task.Restore journal) stay = inl (record {
     image = leaves_of programmer.image (λ name. (stay name).leaves);
     status = leaves_of programmer.status (λ name. (stay name).leaves);
@@ -135,13 +135,13 @@ module _ (job : ChipJob) (roles : HaveOneRole job) where
 
 -- ---- where the file of a journal may be empty, too
 
-keeps_begun : (programmer : Programmer) (kept : Keeping) (old new : FilesState) → keeps_journal kept ≡ true
+keeps_begun : (programmer : Programmer) (kept : JournalUse) (old new : FilesState) → keeps_journal kept ≡ true
     → LeavesNoMoreOf programmer.image old new → LeavesNoMoreOf programmer.status old new
     → ((any : Name) → IsNot programmer.trace any → IsNot (journal_of kept) any → LeavesNoMore any old new)
     → ((file : Bor Text) → journal_of kept ≡ Some file → LeavesOrEmpty file.now old new) → KeepsChange programmer kept old new
-keeps_begun programmer (keeping.Journal file) old new keeps image status leave empty =
+keeps_begun programmer (uses.Journal file) old new keeps image status leave empty =
     inl (record { image = image; status = status; others = leave; empty = empty file refl })
-keeps_begun programmer (keeping.Rehearse stops) old new keeps image status leave empty = absurd (true≢false (sym keeps))
+keeps_begun programmer (uses.Rehearse stops) old new keeps image status leave empty = absurd (true≢false (sym keeps))
 
 keeps_unmade : (programmer : Programmer) (done : Task) (old new : FilesState) → puts_back done ≡ true
     → LeavesNoMoreOf programmer.image old new → LeavesNoMoreOf programmer.status old new
@@ -149,7 +149,7 @@ keeps_unmade : (programmer : Programmer) (done : Task) (old new : FilesState) �
     → ((any : Name) → IsNot programmer.trace any → IsNot (made_by done) any → LeavesNoMore any old new)
     → ((file : Bor Text) → journal_by done ≡ Some file → LeavesOrEmpty file.now old new) → KeepsFiles programmer done old new
 keeps_unmade programmer (task.Change change) old new puts image status apart leave empty =
-    keeps_begun programmer change.keeping old new puts image status leave empty
+    keeps_begun programmer change.journal_use old new puts image status leave empty
 keeps_unmade programmer (task.Restore journal) old new puts image status apart leave empty = inl (record {
   image = image;
   status = status;

@@ -4,12 +4,12 @@ use Rattle.nor_chip.specs.Bus.{BusState}
 use Rattle.nor_chip.specs.Chip.{IsChip, IsSame}
 use Rattle.nor_driver.specs.Looks.{IsCalm, Looks}
 use Rattle.nor_journal.specs.Vault.{VaultState}
-use Rattle.nor_save.specs.Refusal.{number_of}
+use Rattle.nor_call.specs.Refusal.{number_of}
 use Rattle.nor_session.specs.Bounds.{most_of}
-use Rattle.nor_save.specs.declared.request.Request.{Request}
-use Rattle.nor_save.specs.declared.refusal.Refusal.{Refusal}
-use Rattle.nor_save.specs.declared.refusal.Refusal.TheVariants as why
-use Rattle.nor_save.specs.declared.report.Report.{Report}
+use Rattle.nor_call.specs.declared.request.Request.{Request}
+use Rattle.nor_call.specs.declared.refusal.Refusal.{Refusal}
+use Rattle.nor_call.specs.declared.refusal.Refusal.TheVariants as why
+use Rattle.nor_call.specs.declared.report.Report.{Report}
 use Rattle.nor_probe.specs.Known.{IsModelled}
 use Rattle.nor_session.specs.WrittenOver.{IsWrittenOver}
 use Rattle.nor_session.proofs.WrittenBack.{same_over, session_over}

@@ -1,14 +1,14 @@
 -- How calls and jobs end a run.
 use Rattle.std.proofs.Common.{◌≡◌, ◌≤◌, ℕ, zero, suc, Bool, true, false, List, Option, None, Some, Result, Ok, Err, arith, inl, inr, refl, subst}
 use Rattle.std.specs.Prelude.{IsSomeAnd}
-use Rattle.nor_save.specs.declared.refusal.Refusal.{Refusal}
+use Rattle.nor_call.specs.declared.refusal.Refusal.{Refusal}
 use Rattle.nor_words.specs.Text.{Text}
 use Rattle.clap.specs.Words.{IsAmong}
 use Rattle.nor_words.specs.Words.{IsFault, IsJob, IsRefused, refusals_of}
 use Rattle.nor_words.specs.declared.job.ChipJob.{ChipJob}
 use Rattle.nor_words.specs.declared.job.Job.TheVariants as job
-use Rattle.nor_words.specs.declared.job.Keeping.{Keeping}
-use Rattle.nor_words.specs.declared.job.Keeping.TheVariants as keeping
+use Rattle.nor_words.specs.declared.job.JournalUse.{JournalUse}
+use Rattle.nor_words.specs.declared.job.JournalUse.TheVariants as uses
 use Rattle.nor_words.specs.declared.job.Regions.{Regions}
 use Rattle.nor_words.specs.declared.job.Task.{Task}
 use Rattle.nor_words.specs.declared.job.Task.TheVariants as task
@@ -52,9 +52,9 @@ module _ (view : View) where
   no_read wanted.Erase fault fails = cc
   no_read (wanted.Range start len) fault fails = fails
 
-  no_keep : (kept : Keeping) (fault : UsageFault) → FailsToKeep view kept (end.Usage fault) → ⊥
-  no_keep (keeping.Journal file) fault fails = fails
-  no_keep (keeping.Rehearse stops) fault fails = fails
+  no_keep : (kept : JournalUse) (fault : UsageFault) → FailsToKeep view kept (end.Usage fault) → ⊥
+  no_keep (uses.Journal file) fault fails = fails
+  no_keep (uses.Rehearse stops) fault fails = fails
 
   no_before : (done : Task) (fault : UsageFault) → FailsBefore view done (end.Usage fault) → ⊥
   no_before task.Probe fault fails = fails
@@ -65,7 +65,7 @@ module _ (view : View) where
   no_before (task.Verify file regions) fault fails = elim fails [ inl f ↦ no_include regions fault f | inr f ↦ f ]
   no_before (task.Change change) fault fails = elim fails [
     | inl f ↦ no_include change.regions fault f
-    | inr f ↦ elim f [ inl g ↦ no_read change.wanted fault g | inr g ↦ no_keep change.keeping fault g ]
+    | inr f ↦ elim f [ inl g ↦ no_read change.wanted fault g | inr g ↦ no_keep change.journal_use fault g ]
   ]
   no_before (task.Restore journal) fault fails = fails
 

@@ -1,17 +1,18 @@
 -- What a run that changes a chip leaves of files, whatever its task.
 use Rattle.std.proofs.Common.{◌≡◌, ◌<◌, ◌∙◌, ℕ, Bool, true, false, List, Option, None, Some, Result, ap, inr, length, refl, sym, true≢false, arith}
 use Rattle.std.specs.Borrow.{Bor}
+use Rattle.nor_probe.specs.declared.table.ChipName.{ChipName}
 use Rattle.std.proofs.lemmas.List.{length-replicate}
 use Rattle.nor_chip.specs.Bus.{BusState}
 use Rattle.nor_chip.specs.Start.{status_of}
 use Rattle.nor_files.specs.Files.{AllStay, AreAtRest, FilesState, IsKnown, IsSettled, Name, Stays, View, is_lawful}
 use Rattle.nor_journal.specs.Vault.{VaultState}
-use Rattle.nor_save.specs.declared.refusal.Refusal.{Refusal}
-use Rattle.nor_save.specs.declared.request.Request.{Request}
+use Rattle.nor_call.specs.declared.refusal.Refusal.{Refusal}
+use Rattle.nor_call.specs.declared.request.Request.{Request}
 use Rattle.nor_words.specs.Text.{Text}
 use Rattle.nor_words.specs.declared.job.ChipJob.{ChipJob}
-use Rattle.nor_words.specs.declared.job.Keeping.{Keeping}
-use Rattle.nor_words.specs.declared.job.Keeping.TheVariants as keeping
+use Rattle.nor_words.specs.declared.job.JournalUse.{JournalUse}
+use Rattle.nor_words.specs.declared.job.JournalUse.TheVariants as uses
 use Rattle.nor_words.specs.declared.job.Task.{Task}
 use Rattle.nor_words.specs.declared.job.Task.TheVariants as task
 use Rattle.nor_words.specs.declared.programmer.Programmer.{Programmer}
@@ -116,18 +117,18 @@ setup_by request image old new vault vault' outcome kept false is = (kept.same i
 setup_by request image old new vault vault' outcome kept true is = (kept.undo is).changes.within.config
 
 -- the chip that a change leaves has the same configuration
-setup_kept : (kept : Keeping) (request : Request) (image : List ℕ) (old new : BusState) (after : FilesState)
+setup_kept : (kept : JournalUse) (request : Request) (image : List ℕ) (old new : BusState) (after : FilesState)
     (outcome : Result Answer Refusal) → keeps_journal kept ≡ true → HasMadeChange request image kept old new after outcome
     → new.chip.config ≡ old.chip.config
-setup_kept (keeping.Journal file) request image old new after outcome keeps made =
+setup_kept (uses.Journal file) request image old new after outcome keeps made =
     setup_by request image old new made.vault made.vault' outcome made.done made.vault'.sealed refl
-setup_kept (keeping.Rehearse stops) request image old new after outcome keeps made = absurd (true≢false (sym keeps))
+setup_kept (uses.Rehearse stops) request image old new after outcome keeps made = absurd (true≢false (sym keeps))
 
-pub setup_done : (done : Task) (amid : View) (after : FilesState) (programmer : Programmer) (named : Option (Bor Text)) (old new : BusState)
+pub setup_done : (done : Task) (amid : View) (after : FilesState) (programmer : Programmer) (named : Option ChipName) (old new : BusState)
     (outcome : Result Answer Refusal) → puts_back done ≡ true → DoesJob amid after programmer named done old new outcome
     → new.chip.config ≡ old.chip.config
 setup_done (task.Change change) amid after programmer named old new outcome puts does =
-    setup_kept change.keeping _ does.image old new after outcome puts does.changed
+    setup_kept change.journal_use _ does.image old new after outcome puts does.changed
 setup_done (task.Restore journal) amid after programmer named old new outcome puts does = does.restored.config
 setup_done task.Probe amid after programmer named old new outcome puts does = absurd (true≢false (sym puts))
 setup_done task.FlashSize amid after programmer named old new outcome puts does = absurd (true≢false (sym puts))
@@ -137,12 +138,12 @@ setup_done (task.Read file regions) amid after programmer named old new outcome 
 setup_done (task.Verify file regions) amid after programmer named old new outcome puts does = absurd (true≢false (sym puts))
 
 -- a change keeps its journal while the chip's files are written
-made_after : (kept : Keeping) (programmer : Programmer) (request : Request) (image : List ℕ) (old new : BusState) (s2 s3 : FilesState)
+made_after : (kept : JournalUse) (programmer : Programmer) (request : Request) (image : List ℕ) (old new : BusState) (s2 s3 : FilesState)
     (outcome : Result Answer Refusal) → AreTwo programmer.image (journal_of kept) → AreTwo programmer.status (journal_of kept)
     → s3.view.nature ≡ s2.view.nature
     → (is_lawful s2.view ≡ true → (any : Name) → IsNot programmer.image any → IsNot programmer.status any → Stays any s2 s3)
     → HasMadeChange request image kept old new s2 outcome → HasMadeChange request image kept old new s3 outcome
-made_after (keeping.Journal file) programmer request image old new s2 s3 outcome one other nature last made = record {
+made_after (uses.Journal file) programmer request image old new s2 s3 outcome one other nature last made = record {
   vault = made.vault;
   vault' = made.vault';
   fresh = made.fresh;
@@ -152,7 +153,7 @@ made_after (keeping.Journal file) programmer request image old new s2 s3 outcome
       (last before file.now (not_that programmer.image file one) (not_that programmer.status file other)) (made.kept_in before);
   done = made.done;
 }
-made_after (keeping.Rehearse stops) programmer request image old new s2 s3 outcome one other nature last made = record {
+made_after (uses.Rehearse stops) programmer request image old new s2 s3 outcome one other nature last made = record {
   vault = made.vault;
   vault' = made.vault';
   fresh = made.fresh;
@@ -160,7 +161,7 @@ made_after (keeping.Rehearse stops) programmer request image old new s2 s3 outco
   done = made.done;
 }
 
-pub does_after : (done : Task) (amid : View) (s2 s3 : FilesState) (programmer : Programmer) (named : Option (Bor Text)) (old new : BusState)
+pub does_after : (done : Task) (amid : View) (s2 s3 : FilesState) (programmer : Programmer) (named : Option ChipName) (old new : BusState)
     (outcome : Result Answer Refusal) → puts_back done ≡ true → AreTwo programmer.image (named_by done).journal
     → AreTwo programmer.status (named_by done).journal → s3.view.nature ≡ s2.view.nature
     → (is_lawful s2.view ≡ true → (any : Name) → IsNot programmer.image any → IsNot programmer.status any → Stays any s2 s3)
@@ -170,7 +171,7 @@ does_after (task.Change change) amid s2 s3 programmer named old new outcome puts
   included = does.included;
   image = does.image;
   buffer = does.buffer;
-  changed = made_after change.keeping programmer _ does.image old new s2 s3 outcome one other nature last does.changed;
+  changed = made_after change.journal_use programmer _ does.image old new s2 s3 outcome one other nature last does.changed;
 }
 does_after (task.Restore journal) amid s2 s3 programmer named old new outcome puts one other nature last does = does
 does_after task.Probe amid s2 s3 programmer named old new outcome puts one other nature last does = absurd (true≢false (sym puts))
@@ -219,22 +220,22 @@ module _ (programmer : Programmer) (held : Held) (s0 s1 s2 s3 : FilesState) (bus
   lawful2 : is_lawful s2.view ≡ true
   lawful2 = lawful_after s1 s2 nature2 (lawful_after s0 s1 nature1 rest.lawful)
 
-  keeps_change : (kept : Keeping) (request : Request) (image : List ℕ) (outcome : Result Answer Refusal) → keeps_journal kept ≡ true
+  keeps_change : (kept : JournalUse) (request : Request) (image : List ℕ) (outcome : Result Answer Refusal) → keeps_journal kept ≡ true
       → AreTwo programmer.image (journal_of kept) → AreTwo programmer.status (journal_of kept)
       → HasMadeChange request image kept bus bus' s2 outcome → KeepsChange programmer kept s0 s3
-  keeps_change (keeping.Journal file) request image outcome keeps one other made =
+  keeps_change (uses.Journal file) request image outcome keeps one other made =
       let stays = last file.now (not_that programmer.image file one) (not_that programmer.status file other) in
       inr (way_back programmer held s0 s3 bus bus' read opens many stands small is_amid image_whole status_whole file.now request image made.vault made.vault' outcome
       made.done (kept_after file.now made.vault' s2 s3 stays (made.kept_in lawful2)))
-  keeps_change (keeping.Rehearse stops) request image outcome keeps one other made = absurd (true≢false (sym keeps))
+  keeps_change (uses.Rehearse stops) request image outcome keeps one other made = absurd (true≢false (sym keeps))
 
-  pub keeps_files : (done : Task) (named : Option (Bor Text)) (outcome : Result Answer Refusal) → puts_back done ≡ true
+  pub keeps_files : (done : Task) (named : Option ChipName) (outcome : Result Answer Refusal) → puts_back done ≡ true
       → ((any : Name) → IsNot programmer.trace any → IsNot (made_by done) any → Stays any s1 s2)
       → (journal : Option (Bor Text)) → AreTwo programmer.image journal → AreTwo programmer.status journal
       → AreTwo programmer.trace journal → journal ≡ (named_by done).journal
       → DoesJob amid s2 programmer named done bus bus' outcome → KeepsFiles programmer done s0 s3
   keeps_files (task.Change change) named outcome puts stay journal one other traced is does =
-      keeps_change change.keeping _ does.image outcome puts (rw is at one) (rw is at other) does.changed
+      keeps_change change.journal_use _ does.image outcome puts (rw is at one) (rw is at other) does.changed
   keeps_files (task.Restore journal) named outcome puts stay given one other traced is does =
       let apart : AreTwo programmer.trace (Some journal) = rw is at traced in
       let not = not_that programmer.trace journal apart in

@@ -1,10 +1,10 @@
--- What writes print that follow one another, and numbers in hexadecimal digits.
-use Rattle.std.proofs.Common.{◌≡◌, ◌∙◌, ℕ, ◌+◌, ◌-◌, ◌^◌, ◌<◌, ◌≤◌, Bool, true, false, List, [], ◌∷◌, ◌++◌, Option, None, Some, Result, Ok, Err, IfSome, length, get_or, take, ap, append_assoc, append-nil, arith, add-one, refl, subst, sym}
+-- What writes print that follow one another.
+use Rattle.std.proofs.Common.{◌≡◌, ◌∙◌, ℕ, ◌+◌, ◌<◌, ◌≤◌, Bool, true, false, List, [], ◌∷◌, ◌++◌, Option, None, Some, Result, Ok, Err, IfSome, length, get_or, take, ap, append_assoc, append-nil, arith, add-one, refl, subst, sym}
 use Rattle.std.proofs.Math.Seq.{take-suc}
 use Rattle.std.proofs.lemmas.Grind.{flat_map-append}
 use Rattle.std.proofs.lemmas.List.{take_all}
 use Rattle.std.specs.Prelude.{flat_map}
-use Rattle.std.specs.Fmt.{char_count, digits, format_spec, option_append, padded_integral}
+use Rattle.std.specs.Fmt.{option_append}
 use Rattle.std.specs.Io.KnownBytes.{Appends, Keeps}
 use Rattle.nor_probe.specs.Table.{chips}
 use Rattle.nor_probe.specs.declared.table.Part.{Part}
@@ -12,7 +12,6 @@ use Rattle.nor_words.specs.declared.words.UsageFault.TheVariants as usage
 use Rattle.flashnor.specs.AnswerLines.{chip_line}
 use Rattle.flashnor.specs.Endings.{EndsBadly, EndsWell, HasPrinted, IsAnswered, PrintsAnswer, lines_told}
 use Rattle.flashnor.specs.FaultLines.{lines_of_unwritten}
-use Rattle.flashnor.specs.Lines.{hex_digits}
 use Rattle.flashnor.specs.declared.answers.Answer.{Answer}
 use Rattle.flashnor.specs.declared.holding.Unwritten.{Unwritten}
 use Rattle.flashnor.specs.declared.messages.Fault.{Fault}
@@ -36,32 +35,21 @@ appends_kept (Some x) None c text one two = absurd one
 appends_kept (Some x) (Some y) None text one two = absurd two
 appends_kept (Some x) (Some y) (Some z) text one two = two ∙ one
 
-pub padded_hex : (width number : ℕ)
-    → padded_integral (format_spec 32 0 4 width (2 ^ 64 - 1)) false [] (digits 16 false number) ≡ hex_digits width number
-unfolding padded_integral char_count
-padded_hex width number =
-    let short : width - length (digits 16 false number) - 0 - 0 ≡ width - length (digits 16 false number) = omega arith in
-    rw (short, append-nil (digits 16 false number))
-
 -- ---- the table of chips
 
 -- the line of one more chip was printed
-pub chips_then : (a b c : Option (List ℕ)) (items : List Part) (i : ℕ) (none : Part) → items ≡ chips → i < length chips
+pub chips_then : (a b c : Option (List ℕ)) (items : List Part) (i : ℕ) (none : Part) → i < length items
     → Appends a b (flat_map chip_line (take i items)) → Appends b c (chip_line (get_or items i none))
     → Appends a c (flat_map chip_line (take (i + 1) items))
-chips_then a b c items i none same below one two =
-    let long : length items ≡ length chips = ap length same in
-    let within : i < length items = omega (arith, long, below) in
-    rw (add-one, take-suc items i none within, flat_map-append chip_line (take i items) (get_or items i none ∷ []), append-nil (chip_line (get_or items i none)))
+chips_then a b c items i none below one two =
+    rw (add-one, take-suc items i none below, flat_map-append chip_line (take i items) (get_or items i none ∷ []), append-nil (chip_line (get_or items i none)))
     (appends_then a b c (flat_map chip_line (take i items)) (chip_line (get_or items i none)) one two)
 
 -- those of all chips were
-pub chips_all : (a b : Option (List ℕ)) (items : List Part) (i : ℕ) → items ≡ chips → length chips ≤ i
+pub chips_all : (a b : Option (List ℕ)) (items : List Part) (i : ℕ) → items ≡ chips → length items ≤ i
     → Appends a b (flat_map chip_line (take i items)) → Appends a b (flat_map chip_line chips)
 chips_all a b items i same above printed =
-    let long : length items ≡ length chips = ap length same in
-    let all : length items ≤ i = omega (arith, long, above) in
-    subst (λ (parts : List Part). Appends a b (flat_map chip_line parts)) (take_all i items all ∙ same) printed
+    subst (λ (parts : List Part). Appends a b (flat_map chip_line parts)) (take_all i items above ∙ same) printed
 
 -- ---- ends of runs
 

@@ -1,6 +1,5 @@
 -- What the jobs that leave a chip as it is come to, with what is asked of them.
 use Rattle.std.proofs.Common.{◌≡◌, ℕ, true, List, Option, Result, Some, subst}
-use Rattle.std.specs.Borrow.{Bor}
 use Rattle.nor_chip.specs.Bus.{BusState}
 use Rattle.nor_files.specs.Files.{View, is_lawful}
 use Rattle.nor_journal.specs.Vault.{IsFresh, VaultState}
@@ -8,28 +7,23 @@ use Rattle.nor_layout.specs.declared.ranges.Span.{Span}
 use Rattle.nor_probe.specs.declared.table.ChipName.{ChipName}
 use Rattle.nor_probe.specs.Known.{IsModelled}
 use Rattle.nor_read.specs.Verifying.{VerifyAlways, VerifyHonest, VerifyModelled}
-use Rattle.nor_save.specs.declared.refusal.Refusal.{Refusal}
-use Rattle.nor_save.specs.declared.report.Report.{Report}
+use Rattle.nor_call.specs.declared.refusal.Refusal.{Refusal}
+use Rattle.nor_call.specs.declared.report.Report.{Report}
 use Rattle.nor_words.specs.Text.{Text}
 use Rattle.nor_words.specs.declared.job.Regions.{Regions}
 use Rattle.flashnor.specs.Stored.{IsRead}
-use Rattle.flashnor.specs.Found.{wanted_name}
 use Rattle.flashnor.specs.Readings.{AnswersCall, HasReadInto, TellsVerified}
 use Rattle.flashnor.specs.Requests.{AreRangesOf}
 use Rattle.flashnor.specs.Run.{DoesRead, DoesVerify}
 use Rattle.flashnor.specs.declared.answers.Answer.{Answer}
 
-module _ (named : Option (Bor Text)) (asked : Option ChipName) (same : asked ≡ wanted_name named) (old new : BusState) (view : View) (file : Text) (regions : Option Regions) (ranges given : Option (List Span))
+module _ (named : Option ChipName) (old new : BusState) (view : View) (file : Text) (regions : Option Regions) (ranges given : Option (List Span))
     (included : AreRangesOf view regions ranges) (lent : given ≡ ranges) where
-  -- what is promised of the name and the ranges that the call was given
-  of_given : (P : Option ChipName → Option (List Span) → Type 0) → P asked given → P (wanted_name named) ranges
-  of_given P is = subst (λ (r : Option (List Span)). P (wanted_name named) r) lent (subst (λ (a : Option ChipName). P a given) same is)
-
   -- the chip is compared with an image
   pub does_verify : (image : List ℕ) (result : Result Report Refusal) (outcome : Result Answer Refusal)
-      → IsRead view file 16777217 image → VerifyAlways asked given image old new result
-      → (old.honest ≡ true → VerifyHonest asked given old new result)
-      → (IsModelled old → VerifyModelled asked given image old new result)
+      → IsRead view file 16777217 image → VerifyAlways named given image old new result
+      → (old.honest ≡ true → VerifyHonest named given old new result)
+      → (IsModelled old → VerifyModelled named given image old new result)
       → AnswersCall TellsVerified result outcome → DoesVerify view named file regions old new outcome
   does_verify image result outcome read always honest modelled told = record {
     ranges = ranges;
@@ -38,15 +32,15 @@ module _ (named : Option (Bor Text)) (asked : Option ChipName) (same : asked ≡
     read = read;
     verified = record {
       result = result;
-      always = of_given (λ a r. VerifyAlways a r image old new result) always;
-      honest = λ is. of_given (λ a r. VerifyHonest a r old new result) (honest is);
-      modelled = λ is. of_given (λ a r. VerifyModelled a r image old new result) (modelled is);
+      always = subst (λ (r : Option (List Span)). VerifyAlways named r image old new result) lent always;
+      honest = λ is. subst (λ (r : Option (List Span)). VerifyHonest named r old new result) lent (honest is);
+      modelled = λ is. subst (λ (r : Option (List Span)). VerifyModelled named r image old new result) lent (modelled is);
       told = told;
     };
   }
 
 -- a vault in the file was handed out, the chip read into it, and it was handed back
-pub does_read : (view after : View) (named : Option (Bor Text)) (file : Text) (regions : Option Regions)
+pub does_read : (view after : View) (named : Option ChipName) (file : Text) (regions : Option Regions)
     (ranges given : Option (List Span)) (old new : BusState) (vault vault' : VaultState) (outcome : Result Answer Refusal)
     → AreRangesOf view regions ranges → given ≡ ranges → IsFresh vault
     → HasReadInto named given old new vault vault' outcome

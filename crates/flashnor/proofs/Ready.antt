@@ -1,8 +1,8 @@
 -- A bus to the programmer's chip is one that promises are made for.
 use Rattle.std.proofs.Common.{◌≡◌, ◌∙◌, ◌<◌, ℕ, List, Option, None, Some, Ok, Err, ap, arith, inl, inr, refl, replicate, subst, sym, true}
 use Rattle.std.specs.Prelude.{if◌then◌else◌, is_none}
-use Rattle.std.specs.Borrow.{Bor}
 use Rattle.nor_chip.specs.declared.config.Config.{Config}
+use Rattle.nor_chip.specs.Sent.{IsNothing}
 use Rattle.nor_chip.specs.Bus.{Allows, BusState}
 use Rattle.nor_chip.specs.Power.{KeptCut}
 use Rattle.nor_chip.specs.declared.running.Running.{Running}
@@ -20,12 +20,11 @@ use Rattle.nor_probe.specs.declared.probes.ProbeFault.TheVariants as Probes
 use Rattle.nor_probe.specs.declared.table.ChipName.{ChipName}
 use Rattle.nor_probe.specs.declared.table.Part.{Part}
 use Rattle.nor_probe.proofs.Emulated.{tiny64_known, w25q64fv_known, w25q128fv_known}
-use Rattle.nor_save.specs.Refusal.{of_probe}
-use Rattle.nor_save.specs.declared.refusal.Refusal.{Refusal}
-use Rattle.nor_save.specs.declared.report.Report.{Report}
+use Rattle.nor_call.specs.Refusal.{of_probe}
+use Rattle.nor_call.specs.declared.refusal.Refusal.{Refusal}
+use Rattle.nor_call.specs.declared.report.Report.{Report}
 use Rattle.nor_session.specs.Restore.{CanGiveBack, IsJudgedFirst, IsRestored, RestoreTells}
 use Rattle.nor_words.specs.Programmer.{IsConfigOfEmulated}
-use Rattle.nor_words.specs.Text.{Text}
 use Rattle.nor_words.specs.declared.programmer.Emulated.{Emulated}
 use Rattle.nor_words.specs.declared.programmer.Emulated.TheVariants.{Tiny64, W25q64fv, W25q128fv}
 use Rattle.nor_words.specs.declared.programmer.Programmer.{Programmer}
@@ -33,7 +32,7 @@ use Rattle.flashnor.specs.Changes.{HasGivenName, HasRestored, Passes, ProbeRefus
 use Rattle.flashnor.specs.declared.answers.Answer.TheVariants as answer
 use Rattle.flashnor.specs.Chips.{IsConfigWith, IsReady, HoldsFiles, OpensChip, allowance_of}
 use Rattle.flashnor.specs.declared.chips.Content.{Content}
-use Rattle.flashnor.specs.Found.{IsEmulatedFound, emulated_part, wanted_name}
+use Rattle.flashnor.specs.Found.{IsEmulatedFound, emulated_part}
 use Rattle.flashnor.specs.Readings.{FindRefuses}
 use Rattle.flashnor.proofs.Amid.{restored_over, same_can, unfound_over}
 use Rattle.flashnor.proofs.Shown.{ok-same, shown-emulated}
@@ -54,11 +53,11 @@ genuine-free : (config : Config) (number : List ℕ) → IsGenuine (record confi
 genuine-free config number is = record {
   listed = λ part row.
       let has = is.listed part row in
-      (record { size = has.0.size; k32 = has.0.k32; k64 = has.0.k64 }, has.1);
+      (record { size = has.0.size; kinds = has.0.kinds }, has.1);
   unlisted = is.unlisted;
   described = λ none geometry says.
       let has = is.described none geometry (says-free config number ∙ says) in
-      record { size = has.size; k32 = has.k32; k64 = has.k64 };
+      record { size = has.size; kinds = has.kinds };
 }
 
 -- ---- the emulated chips
@@ -97,31 +96,31 @@ shown-ready : (programmer : Programmer) (bus : BusState) → IsReady programmer 
 shown-ready programmer bus ready = shown-with programmer.chip programmer.unique bus.chip.config ready.config
 
 -- what is found on it
-pub finds_ready : (programmer : Programmer) (named : Option (Bor Text)) (asked : Option ChipName) (old new : BusState) (found : Found)
-    → asked ≡ wanted_name named → IsReady programmer old → IsWanted asked found.name → Finds old new found → IsEmulatedFound named programmer.chip found
-finds_ready programmer named asked old new found same ready name finds =
+pub finds_ready : (programmer : Programmer) (named : Option ChipName) (old new : BusState) (found : Found)
+    → IsReady programmer old → IsWanted named found.name → Finds old new found → IsEmulatedFound named programmer.chip found
+finds_ready programmer named old new found ready name finds =
     let part : emulated_part programmer.chip ≡ part_in found =
     ok-same (emulated_part programmer.chip) (part_in found) (shown_as old.chip.config) (shown-ready programmer old ready) finds.part in
-    record { part = sym part; name = rw (← same, part) name }
+    record { part = sym part; name = rw part name }
 
 -- and what is refused
-pub refuses_ready : (programmer : Programmer) (named : Option (Bor Text)) (asked : Option ChipName) (old new : BusState)
+pub refuses_ready : (programmer : Programmer) (named : Option ChipName) (old new : BusState)
     (fault : ProbeFault)
-    → asked ≡ wanted_name named → IsReady programmer old → Tells asked old new fault → FindRefuses programmer named (of_probe fault)
-refuses_ready programmer named asked old new Probes.NoChip same ready tells =
+    → IsReady programmer old → Tells named old new fault → FindRefuses programmer named (of_probe fault)
+refuses_ready programmer named old new Probes.NoChip ready tells =
     let bad = sym (shown-ready programmer old ready) ∙ tells.0 in
     cc
-refuses_ready programmer named asked old new (Probes.UnknownChip fault) same ready tells =
+refuses_ready programmer named old new (Probes.UnknownChip fault) ready tells =
     let bad = sym (shown-ready programmer old ready) ∙ tells.0 in
     cc
-refuses_ready programmer named asked old new Probes.OtherName same ready tells = λ has.
+refuses_ready programmer named old new Probes.OtherName ready tells = λ has.
     let other = tells.0 in
     let part : emulated_part programmer.chip ≡ other.part =
     ok-same (emulated_part programmer.chip) other.part (shown_as old.chip.config) (shown-ready programmer old ready) other.shown in
-    other.other (rw (same, ← part) has)
-refuses_ready programmer named asked old new Probes.Stopped same ready tells =
+    other.other (rw (← part) has)
+refuses_ready programmer named old new Probes.Stopped ready tells =
     subst (λ (n : ℕ). n < most_probe) ready.left tells.1
-refuses_ready programmer named asked old new Probes.Timeout same ready tells = tells
+refuses_ready programmer named old new Probes.Timeout ready tells = tells
 
 -- how it is started: with all that its files tell, then the power that may be lost, then its allowance
 pub opens_held : (programmer : Programmer) (content : Content) (allowed : ℕ) (first lost last : BusState)
@@ -137,7 +136,7 @@ opens_held programmer content allowed first lost last held lose allowance allows
         left = allows.left honest ∙ allowance;
         honest = allows.nature.honest ∙ honest;
         steady = allows.nature.steady ∙ ap (λ state. state.steady) lose;
-        still = allows.stirred ∙ (ap (λ state. state.stirred) lose ∙ held.still);
+        still = subst IsNothing (sym (allows.sent ∙ ap (λ state. state.sent) lose)) held.still;
       };
       holds = record {
         bytes = λ a. ap (λ x. x.bytes a) chip ∙ held.bytes a;
@@ -158,19 +157,19 @@ modelled_same old new honest same modelled = record {
   genuine = subst IsGenuine (sym same.config) modelled.genuine;
 }
 
-given_name : (named : Option (Bor Text)) (chip : Chip) (part : Part) → shown_as chip.config ≡ Ok part → IsWanted
-    (wanted_name named) part.name → HasGivenName named chip
+given_name : (named : Option ChipName) (chip : Chip) (part : Part) → shown_as chip.config ≡ Ok part → IsWanted
+    named part.name → HasGivenName named chip
 given_name None chip part shown name = tt
 given_name (Some text) chip part shown name = record { part = part; shown = shown; wanted = name }
 
-pub passes_probe : (named : Option (Bor Text)) (asked : Option ChipName) (old new : BusState) (found : Found)
-    → asked ≡ wanted_name named → IsModelled old → new.honest ≡ old.honest → IsWanted asked found.name → Finds old new found →
+pub passes_probe : (named : Option ChipName) (old new : BusState) (found : Found)
+    → IsModelled old → new.honest ≡ old.honest → IsWanted named found.name → Finds old new found →
     Passes named old new
-passes_probe named asked old new found same modelled honest name finds = record {
+passes_probe named old new found modelled honest name finds = record {
   same = finds.rested.unchanged.same;
   modelled = modelled_same old new honest finds.rested.unchanged.same modelled;
   calm = inr finds.idle;
-  name = given_name named old.chip (part_in found) finds.part (rw (← same) name);
+  name = given_name named old.chip (part_in found) finds.part name;
 }
 
 pub passes_none : (bus : BusState) → IsModelled bus → IsCalm bus → Passes None bus bus
@@ -193,7 +192,7 @@ kept_cut runs.Unknown chip = tt
 pub looks_none : (most : ℕ) (bus : BusState) → Looks most bus bus
 looks_none most bus = record {
   nature = record { honest = refl; steady = refl };
-  stirred = refl;
+  sent = refl;
   looked = λ honest. record {
     stays = record {
       config = refl;
@@ -210,7 +209,7 @@ looks_none most bus = record {
   };
 }
 
-pub restores_done : (journal : Journal) (named : Option (Bor Text)) (old found new : BusState) (report : Report)
+pub restores_done : (journal : Journal) (named : Option ChipName) (old found new : BusState) (report : Report)
     → Looks most_probe old found → new.chip.config ≡ found.chip.config
     → Passes named old found → IsRestored journal found new report
     → ((first : Chip) → CanGiveBack journal first found → CanGiveBack journal first new)
@@ -227,7 +226,7 @@ restores_done journal named old found new report looked setup passes restored ke
   back = λ first can. back first (same_can journal first old found passes.same passes.calm can);
 }
 
-pub restores_refused : (journal : Journal) (named : Option (Bor Text)) (old found new : BusState) (refusal : Refusal)
+pub restores_refused : (journal : Journal) (named : Option ChipName) (old found new : BusState) (refusal : Refusal)
     → Looks most_probe old found → new.chip.config ≡ found.chip.config
     → Passes named old found → RestoreTells journal found new refusal → (IsJudgedFirst refusal → Looks 69638 found new)
     → ((first : Chip) → CanGiveBack journal first found → CanGiveBack journal first new)
@@ -243,7 +242,7 @@ restores_refused journal named old found new refusal looked setup passes tells l
   back = tt;
 }
 
-pub restores_unfound : (journal : Journal) (named : Option (Bor Text)) (old new : BusState) (refusal : Refusal)
+pub restores_unfound : (journal : Journal) (named : Option ChipName) (old new : BusState) (refusal : Refusal)
     → Looks most_probe old new → IsSame old.chip new.chip → ProbeRefuses named old new refusal
     → HasRestored journal named old new (Err refusal)
 restores_unfound journal named old new refusal looked same refuses =

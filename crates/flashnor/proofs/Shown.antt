@@ -1,8 +1,8 @@
 -- What the emulated chips show themselves as.
-use Rattle.std.proofs.Common.{◌≡◌, ◌∙◌, true, List, ℕ, [], ◌∷◌, None, Result, Ok, Err, ap, refl, subst, sym}
+use Rattle.std.proofs.Common.{◌≡◌, ◌∙◌, List, ℕ, [], ◌∷◌, None, Result, Ok, Err, ap, refl, subst, sym}
 use Rattle.std.specs.Prelude.{IsOk, if◌then◌else◌}
 use Rattle.nor_chip.specs.declared.config.Config.{Config}
-use Rattle.nor_chip.specs.Makers.{IsTiny64}
+use Rattle.nor_chip.specs.Makers.{all_kinds, IsTiny64}
 use Rattle.nor_probe.specs.Known.{HasGeometry, chip_says, id_of, is_no_chip, listed_or, part_by_sfdp, shown_as}
 use Rattle.nor_probe.specs.Table.{part_with_id as row_of}
 use Rattle.nor_probe.proofs.Emulated.{tiny64_known}
@@ -23,9 +23,8 @@ by_geometry : (config : Config) → IsTiny64 config → (says : Result Geometry 
 by_geometry config is (Ok geometry) described ok =
     let has = described geometry refl in
     let size : geometry.size ≡ 65536 = sym has.size ∙ is.size in
-    let k32 : geometry.kinds.k32 ≡ true = sym has.k32 ∙ is.k32 in
-    let k64 : geometry.kinds.k64 ≡ true = sym has.k64 ∙ is.k64 in
-    rw (size, k32, k64) refl
+    let kinds : geometry.kinds ≡ all_kinds = sym has.kinds ∙ is.kinds in
+    rw (size, kinds) refl
 by_geometry config is (Err fault) described ok = cc
 
 -- a chip with the ID of TINY64 is what its SFDP says

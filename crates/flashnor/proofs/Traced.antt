@@ -6,7 +6,7 @@ use Rattle.nor_chip.specs.Bus.{BusState}
 use Rattle.nor_files.specs.Calls.{Reads}
 use Rattle.nor_files.specs.Files.{FilesState, Found, IsKnown, Nature, OthersStay, View, is_lawful}
 use Rattle.nor_files.specs.Files.Failure.{Unmade}
-use Rattle.nor_save.specs.declared.refusal.Refusal.{Refusal}
+use Rattle.nor_call.specs.declared.refusal.Refusal.{Refusal}
 use Rattle.nor_words.specs.Text.{Text}
 use Rattle.nor_words.specs.declared.job.ChipJob.{ChipJob}
 use Rattle.flashnor.specs.Chips.{IsReady}
@@ -16,7 +16,7 @@ use Rattle.flashnor.specs.Run.{DoesJob, DoesTraced, FailsTraced, IsViewBut}
 use Rattle.flashnor.specs.declared.messages.Fault.{Fault}
 use Rattle.flashnor.specs.declared.messages.Fault.TheVariants as end
 use Rattle.flashnor.specs.declared.messages.FileFault.TheVariants as file
-use Rattle.flashnor.specs.Stored.{IsNot}
+use Rattle.flashnor.specs.Stored.{IsNot, MakesNothing}
 use Rattle.flashnor.specs.declared.answers.Answer.{Answer}
 use Rattle.flashnor.proofs.Stays.{lawful_after}
 
@@ -47,6 +47,15 @@ reads_before trace file most found old amid not but reads = λ known.
     let same = but.stays file not known in
     let is_known : IsKnown file amid = record { lawful = ap (λ n. n.lawful) but.nature ∙ known.lawful; in_store = same.0 ∙ known.in_store } in
     reads is_known ∙ ap (λ (f : Found). option_map (take most) f) same.1
+
+-- of a file that isn't the trace nothing may be left but what could be left before the trace was made
+pub makes_nothing_before : (name : Bor Text) (journal : Option (Bor Text)) (old mid new : FilesState) → mid.view.nature ≡ old.view.nature
+    → IsNot journal name.now → (is_lawful old.view ≡ true → OthersStay name.now old mid) → MakesNothing journal mid new → MakesNothing journal old new
+makes_nothing_before name None old mid new nature not others made = tt
+makes_nothing_before name (Some file) old mid new nature not others made = λ known left may.
+    let stays = others known.lawful file.now (λ same. not (sym same)) in
+    let is_known : IsKnown file.now mid.view = record { lawful = lawful_after old mid nature known.lawful; in_store = stays.out ∙ known.in_store } in
+    elim (made is_known left may) [ inl was ↦ inl (stays.leaves left was) | inr empty ↦ inr empty ]
 
 pub traced_does : (files mid after : FilesState) (job : ChipJob) (old old' new new' : BusState) (outcome : Result Answer Refusal)
     → IsViewBut job.programmer.trace files.view mid.view → old' ≡ old → new ≡ new'

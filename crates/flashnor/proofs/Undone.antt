@@ -3,6 +3,7 @@ use Rattle.std.proofs.Common.{◌≡◌, ◌<◌, ◌+◌, ◌/◌, ◌%◌, ◌
 use Rattle.std.proofs.Common.{ap, arith, drop, inl, inr, length, refl, replicate, subst, sym, take, true}
 use Rattle.std.specs.Prelude.{◌⊎◌, IfSome, IsTrue, option_map, slice_index, unwrap_or}
 use Rattle.std.specs.Borrow.{Bor}
+use Rattle.nor_probe.specs.declared.table.ChipName.{ChipName}
 use Rattle.std.proofs.Math.Bool.{Bool-set}
 use Rattle.std.proofs.lemmas.Bool.{cases_lt}
 use Rattle.std.proofs.lemmas.List.{append-nil, get_or_past, length-replicate, length-take, take-append-drop, take_all}
@@ -12,11 +13,12 @@ use Rattle.nor_chip.specs.Makers.{HasParts}
 use Rattle.nor_chip.specs.Size.{is_chip_size}
 use Rattle.nor_chip.specs.Start.{status_of}
 use Rattle.nor_chip.specs.declared.config.Config.{Config}
+use Rattle.nor_chip.specs.declared.config.Kinds.{Kinds}
 use Rattle.nor_files.specs.Calls.{LeavesNoMore}
 use Rattle.nor_files.specs.Files.{AreAtRest, FilesState, Found, IsKnown, Name, Nature, View, is_lawful}
 use Rattle.nor_journal.specs.Text.{Content as Journal, IsContent, text}
 use Rattle.nor_journal.proofs.OneForm.{one_text}
-use Rattle.nor_save.specs.declared.refusal.Refusal.{Refusal}
+use Rattle.nor_call.specs.declared.refusal.Refusal.{Refusal}
 use Rattle.nor_session.specs.Restore.{CanGiveBack}
 use Rattle.nor_words.specs.Programmer.{IsConfigOfEmulated}
 use Rattle.nor_words.specs.Text.{Text}
@@ -47,44 +49,44 @@ use Rattle.flashnor.proofs.WayBack.{as_many, of_none, size_with}
 true_once : (b : Bool) (z z' : IsTrue b) → z ≡ z'
 true_once b z z' = Bool-set b true z z'
 
-same_fields : (i i' : List ℕ) (n n' : ℕ) (k k' l l' s s' : Bool) (u u' f f' : List ℕ)
+same_fields : (i i' : List ℕ) (n n' : ℕ) (k k' : Kinds) (s s' : Bool) (u u' f f' : List ℕ)
     (z : IsTrue (is_chip_size n)) (z' : IsTrue (is_chip_size n'))
-    → i ≡ i' → n ≡ n' → k ≡ k' → l ≡ l' → s ≡ s' → u ≡ u' → f ≡ f'
-    → (let c : Config = record { id = i; size = n; k32 = k; k64 = l; scheme = s; unique = u; sfdp = f; sized = z } in c)
-    ≡ record { id = i'; size = n'; k32 = k'; k64 = l'; scheme = s'; unique = u'; sfdp = f'; sized = z' }
-same_fields i i' n n' k k' l l' s s' u u' f f' z z' a b c d e g h =
+    → i ≡ i' → n ≡ n' → k ≡ k' → s ≡ s' → u ≡ u' → f ≡ f'
+    → (let c : Config = record { id = i; size = n; kinds = k; scheme = s; unique = u; sfdp = f; sized = z } in c)
+    ≡ record { id = i'; size = n'; kinds = k'; scheme = s'; unique = u'; sfdp = f'; sized = z' }
+same_fields i i' n n' k k' s s' u u' f f' z z' a b c d e g =
     let with : (m : ℕ) → IsTrue (is_chip_size m) → Config =
-    λ m y. record { id = i; size = m; k32 = k; k64 = l; scheme = s; unique = u; sfdp = f; sized = y } in
+    λ m y. record { id = i; size = m; kinds = k; scheme = s; unique = u; sfdp = f; sized = y } in
     let sized : (y : IsTrue (is_chip_size n')) → with n z ≡ with n' y =
     subst (λ (m : ℕ). (y : IsTrue (is_chip_size m)) → with n z ≡ with m y) b
     (λ y. ap (with n) (true_once (is_chip_size n) z y)) in
-    sized z' ∙ (rw (a, c, d, e, g, h) refl)
+    sized z' ∙ (rw (a, c, d, e, g) refl)
 
-same_config : (one other : Config) → one.id ≡ other.id → one.size ≡ other.size → one.k32 ≡ other.k32 → one.k64 ≡ other.k64
+same_config : (one other : Config) → one.id ≡ other.id → one.size ≡ other.size → one.kinds ≡ other.kinds
     → one.scheme ≡ other.scheme → one.unique ≡ other.unique → one.sfdp ≡ other.sfdp → one ≡ other
-same_config one other a b c d e g h =
-    same_fields one.id other.id one.size other.size one.k32 other.k32 one.k64 other.k64 one.scheme other.scheme
-    one.unique other.unique one.sfdp other.sfdp one.sized other.sized a b c d e g h
+same_config one other a b c d e g =
+    same_fields one.id other.id one.size other.size one.kinds other.kinds one.scheme other.scheme
+    one.unique other.unique one.sfdp other.sfdp one.sized other.sized a b c d e g
 
-same_parts : (i : List ℕ) (n : ℕ) (k l s : Bool) (f : List ℕ) (one other : Config) → HasParts i n k l s f one
-    → HasParts i n k l s f other → one ≡ other
-same_parts i n k l s f one other a b =
-    same_config one other (a.id ∙ sym b.id) (a.size ∙ sym b.size) (a.k32 ∙ sym b.k32) (a.k64 ∙ sym b.k64)
+same_parts : (i : List ℕ) (n : ℕ) (k : Kinds) (s : Bool) (f : List ℕ) (one other : Config) → HasParts i n k s f one
+    → HasParts i n k s f other → one ≡ other
+same_parts i n k s f one other a b =
+    same_config one other (a.id ∙ sym b.id) (a.size ∙ sym b.size) (a.kinds ∙ sym b.kinds)
     (a.scheme ∙ sym b.scheme) (a.unique ∙ sym b.unique) (a.sfdp ∙ sym b.sfdp)
 
 same_emulated : (chip : Emulated) (one other : Config) → IsConfigOfEmulated chip one → IsConfigOfEmulated chip other
     → one ≡ other
-same_emulated Tiny64 one other a b = same_parts _ _ _ _ _ _ one other a b
-same_emulated W25q64fv one other a b = same_parts _ _ _ _ _ _ one other a b
-same_emulated W25q128fv one other a b = same_parts _ _ _ _ _ _ one other a b
+same_emulated Tiny64 one other a b = same_parts _ _ _ _ _ one other a b
+same_emulated W25q64fv one other a b = same_parts _ _ _ _ _ one other a b
+same_emulated W25q128fv one other a b = same_parts _ _ _ _ _ one other a b
 
 same_with : (chip : Emulated) (number : Option (List ℕ)) (one other : Config) → IsConfigWith chip number one
     → IsConfigWith chip number other → one ≡ other
 same_with chip None one other a b = same_emulated chip one other a b
 same_with chip (Some number) one other a b =
     let bare = same_emulated chip (record one { unique = replicate 8 0 }) (record other { unique = replicate 8 0 }) a.0 b.0 in
-    same_config one other (ap (λ (c : Config). c.id) bare) (ap (λ (c : Config). c.size) bare) (ap (λ (c : Config). c.k32) bare)
-    (ap (λ (c : Config). c.k64) bare) (ap (λ (c : Config). c.scheme) bare) (a.1 ∙ sym b.1) (ap (λ (c : Config). c.sfdp) bare)
+    same_config one other (ap (λ (c : Config). c.id) bare) (ap (λ (c : Config). c.size) bare) (ap (λ (c : Config). c.kinds) bare)
+    (ap (λ (c : Config). c.scheme) bare) (a.1 ∙ sym b.1) (ap (λ (c : Config). c.sfdp) bare)
 
 -- ---- what a run reads of a file is what may be left of it
 
@@ -169,7 +171,7 @@ keeps_of programmer file (task.Verify image regions) old new is keeps = absurd i
 record IsRestore (trace : Option (Bor Text)) (file : Text) (done : Task) : Type 1 where
   pub puts : puts_back done ≡ true
   pub apart : AreTwo trace (named_by done).journal → IsNot trace file
-  pub does : (view : View) (after : FilesState) (programmer : Programmer) (named : Option (Bor Text)) (old new : BusState)
+  pub does : (view : View) (after : FilesState) (programmer : Programmer) (named : Option ChipName) (old new : BusState)
       (outcome : Result Answer Refusal) → DoesJob view after programmer named done old new outcome
       → DoesRestore view named file old new outcome
 

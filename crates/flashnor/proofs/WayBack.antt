@@ -1,13 +1,14 @@
 -- What a run that changes a chip leaves of its files, at every exit.
 use Rattle.std.proofs.Common.{◌≡◌, ◌<◌, ◌∙◌, ℕ, true, false, List, Option, None, Some, ap, length, refl, replicate, sym}
 use Rattle.std.specs.Borrow.{Bor}
+use Rattle.nor_probe.specs.declared.table.ChipName.{ChipName}
 use Rattle.nor_chip.specs.Bus.{BusState}
 use Rattle.nor_chip.specs.Chip.{IsSame}
 use Rattle.nor_chip.specs.declared.config.Config.{Config}
 use Rattle.nor_files.specs.Files.{FilesState, Found, Stays, View}
 use Rattle.nor_journal.specs.Text.{Content as Journal, IsContent, text}
 use Rattle.nor_journal.specs.Vault.{VaultState}
-use Rattle.nor_save.specs.declared.request.Request.{Request}
+use Rattle.nor_call.specs.declared.request.Request.{Request}
 use Rattle.nor_session.specs.WrittenOver.{IsWrittenOver}
 use Rattle.nor_words.specs.Text.{Text}
 use Rattle.nor_words.specs.declared.programmer.Emulated.{Emulated}
@@ -20,7 +21,7 @@ use Rattle.flashnor.specs.Left.{IsOpenedFrom, LeadsBack, LeavesAsLong, LeavesRes
 use Rattle.flashnor.specs.Stored.{AreOfFile, IsRead}
 use Rattle.flashnor.specs.declared.answers.Answer.{Answer}
 use Rattle.flashnor.specs.declared.holding.Held.{Held}
-use Rattle.nor_save.specs.declared.refusal.Refusal.{Refusal}
+use Rattle.nor_call.specs.declared.refusal.Refusal.{Refusal}
 use Rattle.std.specs.Prelude.{IfSome, Result, unwrap_or}
 use Rattle.flashnor.proofs.Amid.{opened_over}
 use Rattle.flashnor.proofs.Ready.{size_emulated}
@@ -107,7 +108,7 @@ module _ (programmer : Programmer) (held : Held) (old new : FilesState) (bus bus
     }
 
   -- behind a restore from the file of this name
-  pub restorable : (file : Text) (journal : Journal) (named : Option (Bor Text)) (outcome : Result Answer Refusal) → IsContent journal
+  pub restorable : (file : Text) (journal : Journal) (named : Option ChipName) (outcome : Result Answer Refusal) → IsContent journal
       → IsRead old.view file 16793662 (text journal) → Stays file old new → HasRestored journal named bus bus' outcome
       → LeavesRestorable programmer file old new
   unfolding first

@@ -9,9 +9,10 @@ use Rattle.nor_probe.specs.declared.table.ChipName.{ChipName}
 use Rattle.nor_probe.specs.declared.table.ChipName.TheVariants.{Sfdp}
 use Rattle.nor_probe.specs.declared.table.Part.{Part}
 use Rattle.nor_read.specs.declared.protection.Protection.{Protection}
-use Rattle.nor_save.specs.declared.report.Report.{Report}
+use Rattle.nor_call.specs.declared.report.Report.{Report}
 use Rattle.nor_session.specs.declared.rehearsals.Rehearsal.{Rehearsal}
-use Rattle.flashnor.specs.Lines.{hex_digits, id_digits, line}
+use Rattle.nor_call.specs.Texts.{hex_digits}
+use Rattle.flashnor.specs.Lines.{id_digits, line}
 use Rattle.flashnor.specs.declared.answers.Answer.{Answer}
 use Rattle.flashnor.specs.declared.answers.Answer.TheVariants as answer
 

@@ -1,21 +1,21 @@
 -- What the jobs come to that change a chip.
 use Rattle.std.specs.Prelude.{◌≡◌, ◌≤◌, ◌/◌, ◌⊎◌, ℕ, List, Option, None, Some, Result, false, true, drop, length}
 use Rattle.std.specs.Prelude.{IsOk, MatchResult, OnOk, ⊤}
-use Rattle.std.specs.Borrow.{Bor}
 use Rattle.nor_chip.specs.Bus.{BusState}
 use Rattle.nor_chip.specs.Chip.{Chip, IsSame}
 use Rattle.nor_driver.specs.Looks.{IsCalm, Looks}
 use Rattle.nor_journal.specs.Saved.{JournalSaves}
 use Rattle.nor_journal.specs.Text.{Content as Journal, IsContent, text}
 use Rattle.nor_journal.specs.Vault.{IsFresh, VaultState}
-use Rattle.nor_apply.specs.Counts.{sector_count}
+use Rattle.nor_count.specs.Counts.{sector_count}
 use Rattle.nor_probe.specs.Found.{Tells, most_probe}
 use Rattle.nor_probe.specs.declared.probes.ProbeFault.{ProbeFault}
-use Rattle.nor_save.specs.Refusal.{number_of, of_probe}
-use Rattle.nor_save.specs.Request.{is_touched_by}
+use Rattle.nor_probe.specs.declared.table.ChipName.{ChipName}
+use Rattle.nor_call.specs.Refusal.{number_of, of_probe}
+use Rattle.nor_save.specs.Touched.{is_touched_by}
 use Rattle.nor_save.specs.Saving.{head_of}
-use Rattle.nor_save.specs.declared.request.Request.{Request}
-use Rattle.nor_save.specs.declared.refusal.Refusal.{Refusal}
+use Rattle.nor_call.specs.declared.request.Request.{Request}
+use Rattle.nor_call.specs.declared.refusal.Refusal.{Refusal}
 use Rattle.nor_probe.specs.Known.{IsModelled}
 use Rattle.nor_session.specs.Bounds.{most_of}
 use Rattle.nor_session.specs.Verdict.{IsAccepted, IsNamed}
@@ -25,10 +25,9 @@ use Rattle.nor_session.specs.WrittenOver.{IsWrittenOver}
 use Rattle.nor_session.specs.Rehearsal.{AreRestores, CanEnd, IsRehearsal, RehearsalTells, SealFits, first_allowance}
 use Rattle.nor_session.specs.declared.rehearsals.Rehearsal.{Rehearsal}
 use Rattle.nor_words.specs.Text.{Text}
-use Rattle.nor_words.specs.declared.job.Keeping.{Keeping}
-use Rattle.nor_words.specs.declared.job.Keeping.TheVariants as keeping
+use Rattle.nor_words.specs.declared.job.JournalUse.{JournalUse}
+use Rattle.nor_words.specs.declared.job.JournalUse.TheVariants as uses
 use Rattle.nor_files.specs.Files.{FilesState, IsSettled, is_lawful}
-use Rattle.flashnor.specs.Found.{wanted_name}
 use Rattle.flashnor.specs.declared.answers.Answer.{Answer}
 use Rattle.flashnor.specs.declared.answers.Answer.TheVariants as answer
 
@@ -104,21 +103,21 @@ pub record IsKeptFile (name : Text) (vault : VaultState) (files : FilesState) : 
   pub settled : vault.sealed ≡ true → IsSettled name (Some vault.bytes) files
 
 -- where a journal is kept: in the file that is named; for a rehearsal in memory
-abbrev pub IsKeptIn : Keeping → (vault vault' : VaultState) → FilesState → Type 0
-IsKeptIn (keeping.Journal file) vault vault' files =
+abbrev pub IsKeptIn : JournalUse → (vault vault' : VaultState) → FilesState → Type 0
+IsKeptIn (uses.Journal file) vault vault' files =
     is_lawful files.view ≡ true → IsKeptFile file.now vault' files
-IsKeptIn (keeping.Rehearse stops) vault vault' files = vault.telling ≡ true
+IsKeptIn (uses.Rehearse stops) vault vault' files = vault.telling ≡ true
 
 -- what a change came to, whose vault starts and ends so
-abbrev pub HasDone : Request → List ℕ → Keeping → (old new : BusState) → (vault vault' : VaultState)
+abbrev pub HasDone : Request → List ℕ → JournalUse → (old new : BusState) → (vault vault' : VaultState)
     → Result Answer Refusal → Type 0
-HasDone request image (keeping.Journal file) old new vault vault' outcome =
+HasDone request image (uses.Journal file) old new vault vault' outcome =
     HasKeptChange request image old new vault vault' outcome
-HasDone request image (keeping.Rehearse stops) old new vault vault' outcome =
+HasDone request image (uses.Rehearse stops) old new vault vault' outcome =
     HasRehearsed request image stops.items old new vault vault' outcome
 
 -- A change was made, or rehearsed, with its journal where it is to be kept.
-pub record HasMadeChange (request : Request) (image : List ℕ) (kept : Keeping) (old new : BusState)
+pub record HasMadeChange (request : Request) (image : List ℕ) (kept : JournalUse) (old new : BusState)
     (after : FilesState) (outcome : Result Answer Refusal) : Type 0 where
   pub vault : VaultState
   pub vault' : VaultState
@@ -134,9 +133,9 @@ TellsRestored journal old new (answer.Done report) = IsRestored journal old new 
 TellsRestored journal old new _ = ⊥
 
 -- a probe refused, for the name or before
-abbrev pub ProbeRefuses : Option (Bor Text) → (old new : BusState) → Refusal → Type 0
+abbrev pub ProbeRefuses : Option ChipName → (old new : BusState) → Refusal → Type 0
 ProbeRefuses named old new refusal =
-    (fault : ProbeFault) × (refusal ≡ of_probe fault) × Tells (wanted_name named) old new fault
+    (fault : ProbeFault) × (refusal ≡ of_probe fault) × Tells named old new fault
 
 -- A restore refused: for its verdict on the chip, which is as before then, or since the bus stopped.
 pub record RestoreRefuses (journal : Journal) (old new : BusState) (refusal : Refusal) : Type 0 where
@@ -144,12 +143,12 @@ pub record RestoreRefuses (journal : Journal) (old new : BusState) (refusal : Re
   pub same : IsJudgedFirst refusal → IsSame old.chip new.chip
 
 -- the chip has the name that is given, if one is
-abbrev pub HasGivenName : Option (Bor Text) → Chip → Type 0
+abbrev pub HasGivenName : Option ChipName → Chip → Type 0
 HasGivenName None chip = ⊤
-HasGivenName (Some name) chip = IsNamed (wanted_name (Some name)) chip.config
+HasGivenName (Some name) chip = IsNamed (Some name) chip.config
 
 -- A probe for that name was passed.
-pub record Passes (named : Option (Bor Text)) (old new : BusState) : Type 0 where
+pub record Passes (named : Option ChipName) (old new : BusState) : Type 0 where
   pub same : IsSame old.chip new.chip
   pub modelled : IsModelled new
   pub calm : IsCalm new
@@ -158,7 +157,7 @@ pub record Passes (named : Option (Bor Text)) (old new : BusState) : Type 0 wher
 -- A restore was made on the chip, after a probe for the name that is given, if one is. Each chip that the journal could
 -- give back before it still can, from files that had the old chip, at each moment of their being written over; and at
 -- the end the chip is that one.
-pub record HasRestored (journal : Journal) (named : Option (Bor Text)) (old new : BusState)
+pub record HasRestored (journal : Journal) (named : Option ChipName) (old new : BusState)
     (outcome : Result Answer Refusal) : Type 0 where
   -- the bus after that probe, which tells that the chip has the name
   pub found : BusState

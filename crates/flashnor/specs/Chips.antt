@@ -3,10 +3,11 @@ use Rattle.std.specs.Prelude.{◌≡◌, ◌⊎◌, ◌/◌, ◌%◌, ◌==◌, 
 use Rattle.std.specs.Prelude.{is_none, replicate, slice_index, unwrap_or}
 use Rattle.std.specs.Borrow.{Bor}
 use Rattle.nor_chip.specs.Bus.{BusState}
+use Rattle.nor_chip.specs.Sent.{IsNothing}
 use Rattle.nor_chip.specs.Chip.{Chip}
 use Rattle.nor_chip.specs.Start.{AreChipBytes, status_of}
 use Rattle.nor_chip.specs.declared.config.Config.{Config}
-use Rattle.nor_save.specs.declared.refusal.Refusal.TheVariants.{Memory}
+use Rattle.nor_call.specs.declared.refusal.Refusal.TheVariants.{Memory}
 use Rattle.nor_words.specs.Programmer.{IsConfigOfEmulated}
 use Rattle.nor_words.specs.declared.programmer.Emulated.{Emulated}
 use Rattle.nor_words.specs.declared.programmer.Programmer.{Programmer}
@@ -37,7 +38,7 @@ pub record IsReady (programmer : Programmer) (bus : BusState) : Type 0 where
   pub left : bus.left ≡ allowance_of programmer
   pub honest : bus.honest ≡ true
   pub steady : bus.steady ≡ is_none programmer.power
-  pub still : bus.stirred ≡ false
+  pub still : IsNothing bus.sent
 
 -- It is what the chip's files have: FFh and clear status bytes where none is named or there.
 pub record IsContentOf (view : View) (programmer : Programmer) (content : Content) : Type 0 where
@@ -62,7 +63,7 @@ pub record HoldsFiles (programmer : Programmer) (content : Content) (bus : BusSt
   pub config : IsConfigWith programmer.chip programmer.unique bus.chip.config
   pub idle : bus.chip.busy ≡ 0
   pub honest : bus.honest ≡ true
-  pub still : bus.stirred ≡ false
+  pub still : IsNothing bus.sent
   pub bytes : (a : ℕ) → bus.chip.bytes a ≡ slice_index content.bytes.items a
   pub kept1 : bus.chip.kept1 ≡ slice_index content.status 0 / 4
   pub kept2 : bus.chip.kept2 ≡ slice_index content.status 1 % 128

@@ -3,60 +3,17 @@ use Rattle.std.specs.Prelude.{ℕ, List, [], ◌∷◌, ◌++◌, Option, Some, 
 use Rattle.std.specs.Borrow.{Bor}
 use Rattle.std.specs.Fmt.{with_newline}
 use Rattle.std.specs.List.{concat}
-use Rattle.nor_journal.specs.Fault.{number_of_fault as journal_number}
 use Rattle.nor_layout.specs.Faults.{line_of_fault, number_of_fault as layout_number}
-use Rattle.nor_probe.specs.Sfdp.{number_of_sfdp_fault as sfdp_number}
-use Rattle.nor_save.specs.Refusal.{number_of}
-use Rattle.nor_save.specs.declared.refusal.Refusal.{Refusal}
-use Rattle.nor_save.specs.declared.refusal.Refusal.TheVariants as why
+use Rattle.nor_call.specs.Refusal.{number_of}
+use Rattle.nor_call.specs.Texts.{refusal_text}
 use Rattle.nor_words.specs.Faults.{usage_fault_text as usage_text}
 use Rattle.nor_words.specs.Text.{Text}
-use Rattle.flashnor.specs.Lines.{hex_digits}
 use Rattle.flashnor.specs.Messages.{file_number}
 use Rattle.flashnor.specs.declared.holding.Unwritten.{Unwritten}
 use Rattle.flashnor.specs.declared.messages.Fault.{Fault}
 use Rattle.flashnor.specs.declared.messages.Fault.TheVariants as end
-use Rattle.flashnor.specs.declared.messages.Reason.{Reason}
-use Rattle.flashnor.specs.declared.messages.Reason.TheVariants as by
 use Rattle.flashnor.specs.declared.messages.FileFault.{FileFault}
 use Rattle.flashnor.specs.declared.messages.FileFault.TheVariants as file
-
--- an address
-abbrev pub address : ℕ → List ℕ
-address place = codes "0x" ++ hex_digits 6 place
-
--- why a call refused
-abbrev pub reason : Refusal → List ℕ
-reason why.NoChip = codes "no chip"
-reason (why.UnknownChip fault) = codes "unknown chip, SFDP fault " ++ decimal (sfdp_number fault)
-reason why.OtherName = codes "another chip than named"
-reason (why.ImageSize chip image) =
-    concat (codes "image of " ∷ decimal image ∷ codes " bytes, chip of " ∷ decimal chip ∷ codes " bytes" ∷ [])
-reason why.RegionOutside = codes "region outside the chip"
-reason why.NoProtection = codes "no protection on this chip"
-reason why.UndefinedProtection = codes "undefined protection"
-reason why.RangeNotOffered = codes "range not offered"
-reason why.StatusLocked = codes "status locked"
-reason (why.Protected at) = codes "protected at " ++ address at
-reason why.Vault = codes "journal not written"
-reason why.Stopped = codes "stopped"
-reason (why.Timeout at) = codes "timeout at " ++ address at
-reason (why.Mismatch at) = codes "bytes differ at " ++ address at
-reason (why.BadJournal fault) = codes "journal fault " ++ decimal (journal_number fault)
-reason why.OtherChip = codes "another chip than the journal's"
-reason why.StatusDiffers = codes "status differs from the journal's"
-reason why.Memory = codes "out of memory"
-reason (why.Output written) = concat (codes "output failed after " ∷ decimal written ∷ codes " bytes" ∷ [])
-reason why.OtherUnit = codes "another unit than the journal's"
-
--- the same, as the code takes it apart
-abbrev pub told : Reason → List ℕ
-told (by.Words words) = words.now
-told (by.Fault words number) = words.now ++ (codes " fault " ++ decimal number)
-told (by.At words at) = words.now ++ (codes " at " ++ address at)
-told (by.Sizes image chip) =
-    concat (codes "image of " ∷ decimal image ∷ codes " bytes, chip of " ∷ decimal chip ∷ codes " bytes" ∷ [])
-told (by.Written bytes) = concat (codes "output failed after " ∷ decimal bytes ∷ codes " bytes" ∷ [])
 
 -- in which line of a layout a fault is, if it is in one
 abbrev pub place : Option ℕ → List ℕ
@@ -75,7 +32,7 @@ text_of (end.Layout fault) =
     Some (concat (codes "Layout fault " ∷ decimal (layout_number fault) ∷ place (line_of_fault fault) ∷ codes "." ∷ []))
 text_of (end.File fault name) = Some (file_text fault name.now)
 text_of (end.Refused refusal) =
-    Some (concat (codes "Error " ∷ decimal (number_of refusal) ∷ codes ": " ∷ reason refusal ∷ codes "." ∷ []))
+    Some (concat (codes "Error " ∷ decimal (number_of refusal) ∷ codes ": " ∷ refusal_text refusal ∷ codes "." ∷ []))
 
 -- its line
 abbrev pub line_of : Fault → Option (List ℕ)

@@ -1,6 +1,6 @@
 -- How the files of a run may end it: a fault of a file comes only where that view to the file of that name.
 use Rattle.std.specs.Prelude.{◌≡◌, ◌≢◌, ◌<◌, ◌+◌, ◌⊎◌, ℕ, List, None, length}
-use Rattle.nor_save.specs.declared.refusal.Refusal.TheVariants.{Memory}
+use Rattle.nor_call.specs.declared.refusal.Refusal.TheVariants.{Memory}
 use Rattle.nor_words.specs.Text.{Text}
 use Rattle.nor_files.specs.Calls.{Reads}
 use Rattle.nor_files.specs.Files.{View}

@@ -1,13 +1,12 @@
 -- Which chip a run finds.
-use Rattle.std.specs.Prelude.{◌≡◌, true, false, [], ◌∷◌, Option, option_map}
-use Rattle.std.specs.Borrow.{Bor}
+use Rattle.std.specs.Prelude.{◌≡◌, false, [], ◌∷◌, Option}
+use Rattle.nor_chip.specs.Makers.{all_kinds}
 use Rattle.nor_probe.specs.Found.{IsWanted, part_in}
-use Rattle.nor_probe.specs.Table.{name_of, w25q64fv, w25q128fv}
+use Rattle.nor_probe.specs.Table.{w25q64fv, w25q128fv}
 use Rattle.nor_probe.specs.declared.probes.Found.{Found}
 use Rattle.nor_probe.specs.declared.table.ChipName.{ChipName}
 use Rattle.nor_probe.specs.declared.table.ChipName.TheVariants.{Sfdp}
 use Rattle.nor_probe.specs.declared.table.Part.{Part}
-use Rattle.nor_words.specs.Text.{Text}
 use Rattle.nor_words.specs.declared.programmer.Emulated.{Emulated}
 use Rattle.nor_words.specs.declared.programmer.Emulated.TheVariants.{Tiny64, W25q64fv, W25q128fv}
 
@@ -17,21 +16,17 @@ emulated_part Tiny64 = record {
   name = Sfdp;
   id = 0xFE ∷ 0x10 ∷ 0x10 ∷ [];
   size = 65536;
-  kinds = record { k32 = true; k64 = true };
+  kinds = all_kinds;
   scheme = false;
 }
 emulated_part W25q64fv = w25q64fv
 emulated_part W25q128fv = w25q128fv
 
--- the name that the chip must have, if one is given
-abbrev pub wanted_name : Option (Bor Text) → Option ChipName
-wanted_name = option_map (λ name. name_of name.now)
-
 -- the chip is found under the name that is given, if one is
-abbrev pub HasName : Option (Bor Text) → Emulated → Type 0
-HasName named chip = IsWanted (wanted_name named) (emulated_part chip).name
+abbrev pub HasName : Option ChipName → Emulated → Type 0
+HasName named chip = IsWanted named (emulated_part chip).name
 
 -- This chip was found.
-pub record IsEmulatedFound (named : Option (Bor Text)) (chip : Emulated) (found : Found) : Type 0 where
+pub record IsEmulatedFound (named : Option ChipName) (chip : Emulated) (found : Found) : Type 0 where
   pub part : part_in found ≡ emulated_part chip
   pub name : HasName named chip

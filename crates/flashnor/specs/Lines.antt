@@ -1,15 +1,11 @@
 -- Lines, and the numbers in them.
-use Rattle.std.specs.Prelude.{ℕ, ◌-◌, false, List, [], ◌∷◌, ◌++◌, codes, length, replicate, slice_index}
-use Rattle.std.specs.Fmt.{digits}
+use Rattle.std.specs.Prelude.{ℕ, List, [], ◌∷◌, ◌++◌, codes, slice_index}
+use Rattle.nor_call.specs.Texts.{hex_digits}
 
 -- the line that these pieces make
 unfoldable pub line : List (List ℕ) → List ℕ
 line [] = codes "\n"
 line (piece ∷ pieces) = piece ++ line pieces
-
--- a number in hexadecimal digits, small letters: at least so many, with zeros in front
-abbrev pub hex_digits : (width number : ℕ) → List ℕ
-hex_digits width number = replicate (width - length (digits 16 false number)) 48 ++ digits 16 false number
 
 -- the three bytes of an ID, two digits each
 abbrev pub id_digits : List ℕ → List ℕ

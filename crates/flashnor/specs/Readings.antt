@@ -1,6 +1,5 @@
 -- What the jobs come to that leave a chip as it is.
 use Rattle.std.specs.Prelude.{◌≡◌, ◌<◌, ℕ, true, List, Option, Some, Result, Ok, Err, MatchResult}
-use Rattle.std.specs.Borrow.{Bor}
 use Rattle.nor_chip.specs.Bus.{BusState}
 use Rattle.nor_chip.specs.Offered.{IsStart}
 use Rattle.nor_driver.specs.Looks.{Looks}
@@ -8,35 +7,36 @@ use Rattle.nor_journal.specs.Vault.{IsFresh, VaultState}
 use Rattle.nor_layout.specs.declared.ranges.Span.{Span}
 use Rattle.nor_probe.specs.Known.{IsModelled}
 use Rattle.nor_probe.specs.Found.{most_probe}
+use Rattle.nor_probe.specs.declared.table.ChipName.{ChipName}
 use Rattle.nor_read.specs.Protecting.{ProtectionAlways, ProtectionHonest, ProtectionModelled}
 use Rattle.nor_read.specs.Reading.{ReadOutAlways, ReadOutHonest, ReadOutModelled}
 use Rattle.nor_read.specs.Verifying.{VerifyAlways, VerifyHonest, VerifyModelled}
 use Rattle.nor_read.specs.declared.protection.Protection.{Protection}
-use Rattle.nor_save.specs.declared.refusal.Refusal.{Refusal}
-use Rattle.nor_save.specs.declared.refusal.Refusal.TheVariants.{OtherName, Stopped}
-use Rattle.nor_save.specs.declared.report.Report.{Report}
+use Rattle.nor_call.specs.declared.refusal.Refusal.{Refusal}
+use Rattle.nor_call.specs.declared.refusal.Refusal.TheVariants.{OtherName, Stopped}
+use Rattle.nor_call.specs.declared.report.Report.{Report}
 use Rattle.nor_words.specs.Text.{Text}
 use Rattle.nor_words.specs.declared.programmer.Programmer.{Programmer}
 use Rattle.flashnor.specs.Chips.{allowance_of}
 use Rattle.nor_files.specs.Files.{View, is_lawful}
-use Rattle.flashnor.specs.Found.{HasName, IsEmulatedFound, emulated_part, wanted_name}
+use Rattle.flashnor.specs.Found.{HasName, IsEmulatedFound, emulated_part}
 use Rattle.flashnor.specs.declared.answers.Answer.{Answer}
 use Rattle.flashnor.specs.declared.answers.Answer.TheVariants as answer
 
 -- What the finding of a chip may be refused for: it has another name than the one given, or fewer transactions are
 -- allowed than it may take. An emulated chip is known, and nothing else is ever wrong with it.
-abbrev pub FindRefuses : Programmer → Option (Bor Text) → Refusal → Type 0
+abbrev pub FindRefuses : Programmer → Option ChipName → Refusal → Type 0
 FindRefuses programmer named OtherName = HasName named programmer.chip → ⊥
 FindRefuses programmer named Stopped = allowance_of programmer < most_probe
 FindRefuses programmer named _ = ⊥
 
 -- the programmer's chip, which has the name that is given
-abbrev pub TellsFound : Programmer → Option (Bor Text) → Answer → Type 0
+abbrev pub TellsFound : Programmer → Option ChipName → Answer → Type 0
 TellsFound programmer named (answer.Found found) = IsEmulatedFound named programmer.chip found
 TellsFound programmer named _ = ⊥
 
 -- its size
-abbrev pub TellsSize : Programmer → Option (Bor Text) → Answer → Type 0
+abbrev pub TellsSize : Programmer → Option ChipName → Answer → Type 0
 TellsSize programmer named (answer.Size size) =
     HasName named programmer.chip × (size ≡ (emulated_part programmer.chip).size)
 TellsSize programmer named _ = ⊥
@@ -68,31 +68,31 @@ TellsVerified report (answer.Verified told) = told ≡ report
 TellsVerified report _ = ⊥
 
 -- The chip's protection was asked for, and told or refused.
-pub record HasTold (tells : Protection → Answer → Type 0) (named : Option (Bor Text)) (old new : BusState)
+pub record HasTold (tells : Protection → Answer → Type 0) (named : Option ChipName) (old new : BusState)
     (outcome : Result Answer Refusal) : Type 0 where
   pub result : Result Protection Refusal
   pub always : ProtectionAlways old new result
-  pub honest : old.honest ≡ true → ProtectionHonest (wanted_name named) old new result
-  pub modelled : IsModelled old → ProtectionModelled (wanted_name named) old result
+  pub honest : old.honest ≡ true → ProtectionHonest named old new result
+  pub modelled : IsModelled old → ProtectionModelled named old result
   pub told : AnswersCall tells result outcome
 
 -- The chip was found, or not, and only looked at.
-pub record HasLookedUp (tells : Answer → Type 0) (programmer : Programmer) (named : Option (Bor Text))
+pub record HasLookedUp (tells : Answer → Type 0) (programmer : Programmer) (named : Option ChipName)
     (old new : BusState) (outcome : Result Answer Refusal) : Type 0 where
   pub looks : Looks most_probe old new
   pub told : MatchResult outcome tells (FindRefuses programmer named)
 
 -- The chip was read out into a vault, in these ranges, or the reading refused.
-pub record HasReadInto (named : Option (Bor Text)) (ranges : Option (List Span)) (old new : BusState)
+pub record HasReadInto (named : Option ChipName) (ranges : Option (List Span)) (old new : BusState)
     (empty filled : VaultState) (outcome : Result Answer Refusal) : Type 0 where
   pub result : Result Report Refusal
-  pub always : ReadOutAlways (wanted_name named) ranges old new empty filled result
-  pub honest : old.honest ≡ true → ReadOutHonest (wanted_name named) ranges old new result
-  pub modelled : IsModelled old → ReadOutModelled (wanted_name named) ranges old new empty filled result
+  pub always : ReadOutAlways named ranges old new empty filled result
+  pub honest : old.honest ≡ true → ReadOutHonest named ranges old new result
+  pub modelled : IsModelled old → ReadOutModelled named ranges old new empty filled result
   pub told : AnswersCall TellsRead result outcome
 
 -- The vault is in the file of this name, which has just the bytes that went in.
-pub record HasReadOut (named : Option (Bor Text)) (file : Text) (ranges : Option (List Span)) (old new : BusState)
+pub record HasReadOut (named : Option ChipName) (file : Text) (ranges : Option (List Span)) (old new : BusState)
     (after : View) (outcome : Result Answer Refusal) : Type 0 where
   pub empty : VaultState
   pub filled : VaultState
@@ -101,10 +101,10 @@ pub record HasReadOut (named : Option (Bor Text)) (file : Text) (ranges : Option
   pub holds : is_lawful after ≡ true → (filled.telling ≡ true) × (after.seen file ≡ Some filled.bytes)
 
 -- The chip was compared with this image, in these ranges, or the comparison refused.
-pub record HasVerified (named : Option (Bor Text)) (ranges : Option (List Span)) (image : List ℕ)
+pub record HasVerified (named : Option ChipName) (ranges : Option (List Span)) (image : List ℕ)
     (old new : BusState) (outcome : Result Answer Refusal) : Type 0 where
   pub result : Result Report Refusal
-  pub always : VerifyAlways (wanted_name named) ranges image old new result
-  pub honest : old.honest ≡ true → VerifyHonest (wanted_name named) ranges old new result
-  pub modelled : IsModelled old → VerifyModelled (wanted_name named) ranges image old new result
+  pub always : VerifyAlways named ranges image old new result
+  pub honest : old.honest ≡ true → VerifyHonest named ranges old new result
+  pub modelled : IsModelled old → VerifyModelled named ranges image old new result
   pub told : AnswersCall TellsVerified result outcome

@@ -5,20 +5,19 @@ use Rattle.nor_layout.specs.declared.region.Region.{Region}
 use Rattle.nor_layout.specs.Grammar.{IsLayout}
 use Rattle.nor_layout.specs.Included.{is_included}
 use Rattle.nor_layout.specs.Ranges.{contains}
-use Rattle.nor_save.specs.declared.request.Request.{Request}
-use Rattle.nor_save.specs.declared.request.What.{What}
-use Rattle.nor_save.specs.declared.request.What.TheVariants as what
+use Rattle.nor_probe.specs.declared.table.ChipName.{ChipName}
+use Rattle.nor_call.specs.declared.request.Request.{Request}
+use Rattle.nor_call.specs.declared.request.What.{What}
+use Rattle.nor_call.specs.declared.request.What.TheVariants as what
 use Rattle.nor_words.specs.declared.job.Change.{Change}
 use Rattle.nor_words.specs.declared.job.Regions.{Regions}
 use Rattle.nor_words.specs.declared.job.Wanted.{Wanted}
 use Rattle.nor_words.specs.declared.job.Wanted.TheVariants as wanted
-use Rattle.nor_words.specs.Text.{Text}
 use Rattle.nor_words.specs.declared.programmer.Emulated.{Emulated}
-use Rattle.std.specs.Borrow.{Bor}
 use Rattle.flashnor.specs.Stored.{IsRead}
 use Rattle.nor_files.specs.Files.{View}
 use Rattle.flashnor.specs.Files.{IsReadingFault, IsTooLong}
-use Rattle.flashnor.specs.Found.{emulated_part, wanted_name as name_wanted}
+use Rattle.flashnor.specs.Found.{emulated_part}
 use Rattle.flashnor.specs.declared.messages.Fault.{Fault}
 use Rattle.flashnor.specs.declared.messages.Fault.TheVariants as end
 
@@ -29,10 +28,10 @@ what_of wanted.Erase = what.Erase
 what_of (wanted.Range start len) = what.WpRange start len
 
 -- the request for a change, of a chip of this name, if one is given, in these ranges
-abbrev pub request_for : Change → Option (Bor Text) → Option (List Span) → Request
+abbrev pub request_for : Change → Option ChipName → Option (List Span) → Request
 request_for change named ranges = record {
   what = what_of change.wanted;
-  named = name_wanted named;
+  named = named;
   included = ranges;
   unlock = change.unlock;
   verify = change.verify;

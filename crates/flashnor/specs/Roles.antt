@@ -39,7 +39,7 @@ named_by (task.Change change) = record {
   layout = layout_of change.regions;
   wanted = image_of change.wanted;
   output = None;
-  journal = journal_of change.keeping;
+  journal = journal_of change.journal_use;
 }
 named_by (task.Restore journal) = record { layout = None; wanted = None; output = None; journal = Some journal }
 named_by _ = record { layout = None; wanted = None; output = None; journal = None }

@@ -5,8 +5,9 @@ use Rattle.nor_chip.specs.Bus.{BusState}
 use Rattle.nor_journal.specs.Fault.{HasFault}
 use Rattle.nor_journal.specs.Text.{Content as Journal, IsContent, text}
 use Rattle.nor_layout.specs.declared.ranges.Span.{Span}
-use Rattle.nor_save.specs.declared.refusal.Refusal.{Refusal}
-use Rattle.nor_save.specs.declared.refusal.Refusal.TheVariants.{Memory, BadJournal}
+use Rattle.nor_probe.specs.declared.table.ChipName.{ChipName}
+use Rattle.nor_call.specs.declared.refusal.Refusal.{Refusal}
+use Rattle.nor_call.specs.declared.refusal.Refusal.TheVariants.{Memory, BadJournal}
 use Rattle.nor_words.specs.Text.{Text}
 use Rattle.clap.specs.Words.{IsAmong}
 use Rattle.clap.specs.declared.error.kind.ErrorKind.TheVariants as kind
@@ -15,9 +16,9 @@ use Rattle.nor_words.specs.declared.job.Change.{Change}
 use Rattle.nor_words.specs.declared.job.ChipJob.{ChipJob}
 use Rattle.nor_words.specs.declared.job.Job.{Job}
 use Rattle.nor_words.specs.declared.job.Job.TheVariants as job
-use Rattle.nor_words.specs.declared.job.Keeping.{Keeping}
+use Rattle.nor_words.specs.declared.job.JournalUse.{JournalUse}
 use Rattle.nor_words.specs.declared.job.Regions.{Regions}
-use Rattle.nor_words.specs.declared.job.Keeping.TheVariants as keeping
+use Rattle.nor_words.specs.declared.job.JournalUse.TheVariants as uses
 use Rattle.nor_words.specs.declared.job.Task.{Task}
 use Rattle.nor_words.specs.declared.job.Task.TheVariants as task
 use Rattle.nor_words.specs.declared.job.Wanted.{Wanted}
@@ -47,16 +48,16 @@ use Rattle.flashnor.specs.declared.printing.Ending.{Ending}
 -- ---- calls
 
 -- A change was asked for, in the ranges of the regions and with the image.
-pub record ChangesChip (view : View) (after : FilesState) (chip : Emulated) (named : Option (Bor Text))
+pub record ChangesChip (view : View) (after : FilesState) (chip : Emulated) (named : Option ChipName)
     (change : Change) (old new : BusState) (outcome : Result Answer Refusal) : Type 0 where
   pub ranges : Option (List Span)
   pub included : AreRangesOf view change.regions ranges
   pub image : List ℕ
   pub buffer : IsBufferOf view chip change.wanted image
-  pub changed : HasMadeChange (request_for change named ranges) image change.keeping old new after outcome
+  pub changed : HasMadeChange (request_for change named ranges) image change.journal_use old new after outcome
 
 -- The chip was read out into the file in the ranges of the regions, if there are any.
-pub record DoesRead (view after : View) (named : Option (Bor Text)) (file : Text) (regions : Option Regions)
+pub record DoesRead (view after : View) (named : Option ChipName) (file : Text) (regions : Option Regions)
     (old new : BusState) (outcome : Result Answer Refusal) : Type 0 where
   pub ranges : Option (List Span)
   pub included : AreRangesOf view regions ranges
@@ -64,7 +65,7 @@ pub record DoesRead (view after : View) (named : Option (Bor Text)) (file : Text
 
 -- It was compared in these ranges with the image in the file, of which at most one byte more is read than the largest
 -- chip has.
-pub record DoesVerify (view : View) (named : Option (Bor Text)) (file : Text) (regions : Option Regions)
+pub record DoesVerify (view : View) (named : Option ChipName) (file : Text) (regions : Option Regions)
     (old new : BusState) (outcome : Result Answer Refusal) : Type 0 where
   pub ranges : Option (List Span)
   pub included : AreRangesOf view regions ranges
@@ -73,7 +74,7 @@ pub record DoesVerify (view : View) (named : Option (Bor Text)) (file : Text) (r
   pub verified : HasVerified named ranges image old new outcome
 
 -- The journal in the file was restored, of which at most one byte more is read than the longest journal has.
-pub record DoesRestore (view : View) (named : Option (Bor Text)) (file : Text) (old new : BusState)
+pub record DoesRestore (view : View) (named : Option ChipName) (file : Text) (old new : BusState)
     (outcome : Result Answer Refusal) : Type 0 where
   pub journal : Journal
   pub sound : IsContent journal
@@ -81,7 +82,7 @@ pub record DoesRestore (view : View) (named : Option (Bor Text)) (file : Text) (
   pub restored : HasRestored journal named old new outcome
 
 -- what the call for a task came to, on a bus to the programmer's chip
-abbrev pub DoesJob : View → FilesState → Programmer → Option (Bor Text) → Task → (old new : BusState)
+abbrev pub DoesJob : View → FilesState → Programmer → Option ChipName → Task → (old new : BusState)
     → Result Answer Refusal → Type 0
 DoesJob view after programmer named task.Probe old new outcome =
     HasLookedUp (TellsFound programmer named) programmer named old new outcome
@@ -143,9 +144,9 @@ FailsToRead view wanted.Erase fault = fault ≡ end.Refused Memory
 FailsToRead view (wanted.Range start len) fault = ⊥
 
 -- how the making of a change's journal may end it
-abbrev pub FailsToKeep : View → Keeping → Fault → Type 0
-FailsToKeep view (keeping.Journal file) fault = IsMakingNew view file.now fault
-FailsToKeep view (keeping.Rehearse stops) fault = ⊥
+abbrev pub FailsToKeep : View → JournalUse → Fault → Type 0
+FailsToKeep view (uses.Journal file) fault = IsMakingNew view file.now fault
+FailsToKeep view (uses.Rehearse stops) fault = ⊥
 
 -- how the reading of a journal may end it
 abbrev pub FailsToRestore : View → Text → Fault → Type 0
@@ -161,7 +162,7 @@ FailsBefore view (task.Verify file regions) fault =
     FailsToInclude view regions fault ⊎ IsReadingFault view file.now 16777217 fault
 FailsBefore view (task.Change change) fault =
     FailsToInclude view change.regions fault
-    ⊎ (FailsToRead view change.wanted fault ⊎ FailsToKeep view change.keeping fault)
+    ⊎ (FailsToRead view change.wanted fault ⊎ FailsToKeep view change.journal_use fault)
 FailsBefore view (task.Restore journal) fault = FailsToRestore view journal.now fault
 FailsBefore view _ fault = ⊥
 
@@ -192,13 +193,13 @@ pub record StayBut (programmer : Programmer) (made : Option (Bor Text)) (old new
   pub others : (name : Name) → IsNot programmer.trace name → IsNot made name → Stays name old new
 
 -- of a change: with a journal in a file the way back is kept, and a rehearsal leaves the files as they were
-abbrev pub KeepsChange : Programmer → Keeping → (old new : FilesState) → Type 0
-KeepsChange programmer (keeping.Journal file) old new = KeepsFirst programmer file.now old new
-KeepsChange programmer (keeping.Rehearse stops) old new = StayBut programmer None old new
+abbrev pub KeepsChange : Programmer → JournalUse → (old new : FilesState) → Type 0
+KeepsChange programmer (uses.Journal file) old new = KeepsFirst programmer file.now old new
+KeepsChange programmer (uses.Rehearse stops) old new = StayBut programmer None old new
 
 -- of each task
 abbrev pub KeepsFiles : Programmer → Task → (old new : FilesState) → Type 0
-KeepsFiles programmer (task.Change change) old new = KeepsChange programmer change.keeping old new
+KeepsFiles programmer (task.Change change) old new = KeepsChange programmer change.journal_use old new
 KeepsFiles programmer (task.Restore journal) old new = KeepsRestorable programmer journal.now old new
 KeepsFiles programmer done old new = StayBut programmer (made_by done) old new
 

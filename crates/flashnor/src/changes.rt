@@ -21,8 +21,9 @@ use crate::requests::{read_included, request_for};
 use nor_chip::{Bus, Meter};
 use nor_files::Store;
 use nor_journal::{Journal, MemVault, Vault};
+use nor_probe::ChipName;
 use nor_session::{Refusal, Request, rehearse, restore, session};
-use nor_words::{Change, Emulated, Keeping, Wanted};
+use nor_words::{Change, Emulated, JournalUse, Wanted};
 
 /// Changes the chip, or rehearses that. A fault is one from before the session.
 #[tactic(auto, using(crate::proofs::Doing::does_change))]
@@ -30,25 +31,25 @@ pub fn change_chip<'a, R: Store, B: Meter>(
     rt: &mut R,
     bus: &mut B,
     chip: Emulated,
-    named: Option<&str>,
+    named: Option<ChipName>,
     change: &Change<'a>,
 ) -> Result<Outcome, Fault<'a>>
     ensures nature { (R.state rt.new).view.nature ≡ (R.state rt.old).view.nature }
     ensures others { is_lawful (R.state rt.old).view ≡ true → (name : Name)
-        → IsNot (journal_of change.now.keeping) name → Stays name (R.state rt.old) (R.state rt.new) }
+        → IsNot (journal_of change.now.journal_use) name → Stays name (R.state rt.old) (R.state rt.new) }
     ensures unmade { is_lawful (R.state rt.old).view ≡ true
-        → OnErr result (MakesNothing (journal_of change.now.keeping) (R.state rt.old) (R.state rt.new)) }
+        → OnErr result (MakesNothing (journal_of change.now.journal_use) (R.state rt.old) (R.state rt.new)) }
     ensures ok { IsModelled (B.state bus.old) → IsCalm (B.state bus.old)
-        → IfOk result (ChangesChip (R.state rt.old).view (R.state rt.new) chip named.entry change.now
+        → IfOk result (ChangesChip (R.state rt.old).view (R.state rt.new) chip named change.now
         (B.state bus.old) (B.state bus.new)) }
     ensures err { IfErr result (λ fault. FailsToInclude (R.state rt.old).view change.now.regions fault
         ⊎ (FailsToRead (R.state rt.old).view change.now.wanted fault
-        ⊎ FailsToKeep (R.state rt.old).view change.now.keeping fault)) }
+        ⊎ FailsToKeep (R.state rt.old).view change.now.journal_use fault)) }
 {
     let included = read_included(rt, change.regions)?;
     let request = request_for(change, named, included);
     let mut image = read_wanted(rt, chip, change.wanted)?;
-    change_with(rt, bus, &mut image, &request, &change.keeping)
+    change_with(rt, bus, &mut image, &request, &change.journal_use)
 }
 
 // The buffer of a session: for a write the image, for an erase as many bytes as the chip has.
@@ -62,7 +63,7 @@ fn read_wanted<'a, R: Store>(
 {
     match wanted {
         Wanted::Write { image } => read_file(rt, image, MOST_IMAGE_BYTES),
-        Wanted::Erase => Ok(erased(rt.alloc(), chip.config().size)?),
+        Wanted::Erase => Ok(erased(rt.alloc(), chip.size())?),
         Wanted::Range { .. } => Ok(Vec::new(rt.alloc())),
     }
 }
@@ -73,26 +74,26 @@ fn change_with<'a, R: Store, B: Meter>(
     bus: &mut B,
     image: &mut [u8],
     request: &Request,
-    keeping: &Keeping<'a>,
+    journal_use: &JournalUse<'a>,
 ) -> Result<Outcome, Fault<'a>>
     ensures nature { (R.state rt.new).view.nature ≡ (R.state rt.old).view.nature }
     ensures others { is_lawful (R.state rt.old).view ≡ true → (name : Name)
-        → IsNot (journal_of keeping.now) name → Stays name (R.state rt.old) (R.state rt.new) }
+        → IsNot (journal_of journal_use.now) name → Stays name (R.state rt.old) (R.state rt.new) }
     ensures unmade { is_lawful (R.state rt.old).view ≡ true
-        → OnErr result (MakesNothing (journal_of keeping.now) (R.state rt.old) (R.state rt.new)) }
+        → OnErr result (MakesNothing (journal_of journal_use.now) (R.state rt.old) (R.state rt.new)) }
     ensures ok { IsModelled (B.state bus.old) → IsCalm (B.state bus.old)
-        → IfOk result (HasMadeChange request.now image.old keeping.now (B.state bus.old) (B.state bus.new)
+        → IfOk result (HasMadeChange request.now image.old journal_use.now (B.state bus.old) (B.state bus.new)
         (R.state rt.new)) }
-    ensures err { IfErr result (FailsToKeep (R.state rt.old).view keeping.now) }
+    ensures err { IfErr result (FailsToKeep (R.state rt.old).view journal_use.now) }
 {
-    match keeping {
-        Keeping::Journal { file } => {
+    match journal_use {
+        JournalUse::Journal { file } => {
             let mut journal = make(rt, *file)?;
-            let outcome = keep_change(bus, &mut journal, image, request);
+            let outcome = change_with_journal(bus, &mut journal, image, request);
             rt.hand_back(journal);
             Ok(outcome)
         }
-        Keeping::Rehearse { stops } => {
+        JournalUse::Rehearse { stops } => {
             let mut vault = MemVault::new(rt.alloc());
             Ok(rehearse_change(bus, &mut vault, image, request, stops.as_slice()))
         }
@@ -100,7 +101,7 @@ fn change_with<'a, R: Store, B: Meter>(
 }
 
 // Runs the session of a request, which keeps its journal in this vault.
-fn keep_change<B: Bus, V: Vault>(
+fn change_with_journal<B: Bus, V: Vault>(
     bus: &mut B,
     vault: &mut V,
     image: &mut [u8],
@@ -137,11 +138,11 @@ fn rehearse_change<B: Meter>(
 pub fn restore_chip<'a, R: Store, B: Bus>(
     rt: &R,
     bus: &mut B,
-    named: Option<&str>,
+    named: Option<ChipName>,
     journal: &'a str,
 ) -> Result<Outcome, Fault<'a>>
     ensures ok { IsModelled (B.state bus.old) → IsCalm (B.state bus.old)
-        → IfOk result (DoesRestore (R.state rt.now).view named.entry journal.now (B.state bus.old) (B.state bus.new)) }
+        → IfOk result (DoesRestore (R.state rt.now).view named journal.now (B.state bus.old) (B.state bus.new)) }
     ensures err { IfErr result (FailsToRestore (R.state rt.now).view journal.now) }
 {
     let text = read_file(rt, journal, MOST_JOURNAL_BYTES)?;
@@ -152,9 +153,9 @@ pub fn restore_chip<'a, R: Store, B: Bus>(
 }
 
 // Makes a chip, which must have the name that is given, if one is, again what a journal says.
-fn restore_named<B: Bus>(bus: &mut B, named: Option<&str>, journal: &Journal<'_>) -> Outcome
+fn restore_named<B: Bus>(bus: &mut B, named: Option<ChipName>, journal: &Journal<'_>) -> Outcome
     ensures { IsModelled (B.state bus.old) → IsCalm (B.state bus.old)
-        → HasRestored journal.now named.entry (B.state bus.old) (B.state bus.new) result }
+        → HasRestored journal.now named (B.state bus.old) (B.state bus.new) result }
 {
     find_named(bus, named)?;
     let report = restore(bus, journal)?;
@@ -163,14 +164,14 @@ fn restore_named<B: Bus>(bus: &mut B, named: Option<&str>, journal: &Journal<'_>
 
 // Sees that the chip has the name that is given, if one is.
 #[tactic(auto, using(crate::proofs::Ready::passes_probe, crate::proofs::Ready::passes_none, crate::proofs::Ready::looked_same, crate::proofs::Ready::looks_none))]
-fn find_named<B: Bus>(bus: &mut B, named: Option<&str>) -> Result<(), Refusal>
+fn find_named<B: Bus>(bus: &mut B, named: Option<ChipName>) -> Result<(), Refusal>
     ensures looks { Looks most_probe (B.state bus.old) (B.state bus.new) }
     ensures passes { IsModelled (B.state bus.old) → IsCalm (B.state bus.old)
-        → OnOk result (Passes named.entry (B.state bus.old) (B.state bus.new)) }
+        → OnOk result (Passes named (B.state bus.old) (B.state bus.new)) }
     ensures same { IsModelled (B.state bus.old) → IsCalm (B.state bus.old)
         → IsSame (B.state bus.old).chip (B.state bus.new).chip }
     ensures refuses { IsModelled (B.state bus.old)
-        → IfErr result (ProbeRefuses named.entry (B.state bus.old) (B.state bus.new)) }
+        → IfErr result (ProbeRefuses named (B.state bus.old) (B.state bus.new)) }
 {
     if named.is_some() {
         find(bus, named)?;

@@ -27,7 +27,7 @@ pub fn read_content<'a, R: Store>(rt: &R, programmer: &Programmer<'a>) -> Result
     ensures ok { IfOk result (IsContentOf (R.state rt.now).view programmer.now) }
     ensures err { IfErr result (FailsToOpen (R.state rt.now).view programmer.now) }
 {
-    let size = programmer.chip.config().size;
+    let size = programmer.chip.size();
     let image = read_whole(rt, programmer.image, size)?;
     let status = read_whole(rt, programmer.status, 2)?;
     Ok(content_of(rt.alloc(), size, image, status)?)

@@ -9,7 +9,7 @@ ghost use Rattle.flashnor.specs.Stored.{IsRead};
 ghost use Rattle.flashnor.specs.Files.{IsReadingFault, IsMaking, IsMakingNew, IsLogging, IsUnreadFault};
 ghost use Rattle.flashnor.specs.declared.messages.Fault.TheVariants as Faults;
 ghost use Rattle.flashnor.specs.declared.messages.FileFault.TheVariants as FileFaults;
-ghost use Rattle.nor_save.specs.declared.refusal.Refusal.TheVariants as Refusals;
+ghost use Rattle.nor_call.specs.declared.refusal.Refusal.TheVariants as Refusals;
 
 use crate::messages::{Fault, FileFault};
 use nor_files::Store;

@@ -42,7 +42,7 @@ pub fn hold_content<'a, R: Store>(
     ensures no_more { AreAtRest (R.state rt.old) → LeaveNoMore (R.state rt.old) (R.state rt.new) }
     ensures err { IfErr result (FailsToHold (R.state rt.old).view programmer.now) }
 {
-    let size = programmer.chip.config().size;
+    let size = programmer.chip.size();
     let image = hold_whole(rt, programmer.image, size)?;
     let status = hold_whole(rt, programmer.status, 2)?;
     let (image_there, status_there) = (image.is_some(), status.is_some());

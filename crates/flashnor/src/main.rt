@@ -17,8 +17,7 @@ mod requests;
 mod roles;
 mod run;
 
-use run::run_collected;
-pub use run::run_words;
+use run::run_words;
 use std::alloc::Global;
 use std::io::{LineWriter, Write};
 use std::process::ExitCode;
@@ -27,7 +26,7 @@ use std::{env, io};
 fn main(rt: HostRuntime) -> ExitCode {
     let mut output = by_line(rt.alloc(), rt.stdout());
     let mut errors = by_line(rt.alloc(), rt.stderr());
-    let status = run_collected(&rt, words_of(&rt), &mut output, &mut errors);
+    let status = run_words(&rt, words_of(&rt), &mut output, &mut errors);
     ExitCode::from(status)
 }
 

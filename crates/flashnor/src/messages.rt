@@ -75,7 +75,7 @@ impl From<LayoutFault> for Fault<'_> {
 
 impl From<AllocError> for Fault<'_> {
     ghost use Rattle.flashnor.specs.declared.messages.Fault.TheVariants.{Refused};
-    ghost use Rattle.nor_save.specs.declared.refusal.Refusal.TheVariants.{Memory};
+    ghost use Rattle.nor_call.specs.declared.refusal.Refusal.TheVariants.{Memory};
 
     ghost from_gives = { λ _ fault. fault ≡ Refused Memory };
 
@@ -100,9 +100,7 @@ impl fmt::Display for Fault<'_> {
                 write!(f, "Layout fault {}{}.", fault.number(), Place(fault.line()))
             }
             Fault::File { fault, name } => write!(f, "File fault {}: {name}.", fault.number()),
-            Fault::Refused(refusal) => {
-                write!(f, "Error {}: {}.", refusal.number(), Reason::of(*refusal))
-            }
+            Fault::Refused(refusal) => write!(f, "Error {}: {refusal}.", refusal.number()),
         }
     }
 }
@@ -120,67 +118,6 @@ impl fmt::Display for Place {
         match self.0 {
             Some(line) => write!(f, " at line {line}"),
             None => Ok(()),
-        }
-    }
-}
-
-// Why a call refused, in words and numbers.
-#[derive(Drop)]
-enum Reason {
-    Words(&'static str),
-    // A fault that has its own number.
-    Fault(&'static str, u8),
-    At(&'static str, u32),
-    Sizes { image: usize, chip: u32 },
-    Written(u64),
-}
-
-impl Reason {
-    ghost use Rattle.flashnor.specs.FaultLines.{reason, told};
-
-    fn of(refusal: Refusal) -> Reason
-        ensures { told result ≡ reason refusal }
-    {
-        match refusal {
-            Refusal::NoChip => Reason::Words("no chip"),
-            Refusal::UnknownChip(fault) => Reason::Fault("unknown chip, SFDP", fault.number()),
-            Refusal::OtherName => Reason::Words("another chip than named"),
-            Refusal::ImageSize { chip, image } => Reason::Sizes { image, chip },
-            Refusal::RegionOutside => Reason::Words("region outside the chip"),
-            Refusal::NoProtection => Reason::Words("no protection on this chip"),
-            Refusal::UndefinedProtection => Reason::Words("undefined protection"),
-            Refusal::RangeNotOffered => Reason::Words("range not offered"),
-            Refusal::StatusLocked => Reason::Words("status locked"),
-            Refusal::Protected { address } => Reason::At("protected", address),
-            Refusal::Vault => Reason::Words("journal not written"),
-            Refusal::Stopped => Reason::Words("stopped"),
-            Refusal::Timeout { address } => Reason::At("timeout", address),
-            Refusal::Mismatch { address } => Reason::At("bytes differ", address),
-            Refusal::BadJournal(fault) => Reason::Fault("journal", fault.number()),
-            Refusal::OtherChip => Reason::Words("another chip than the journal's"),
-            Refusal::StatusDiffers => Reason::Words("status differs from the journal's"),
-            Refusal::Memory => Reason::Words("out of memory"),
-            Refusal::Output { written } => Reason::Written(written),
-            Refusal::OtherUnit => Reason::Words("another unit than the journal's"),
-        }
-    }
-}
-
-impl fmt::Display for Reason {
-    ghost use Rattle.flashnor.specs.FaultLines.{told};
-
-    ghost output = { λ shown. Some (told shown) };
-
-    #[tactic(auto, using(crate::proofs::Printed::padded_hex))]
-    fn fmt<W: fmt::Write>(&self, f: &mut fmt::Formatter<W>) -> fmt::Result {
-        match self {
-            Reason::Words(words) => f.write_str(words),
-            Reason::Fault(words, number) => write!(f, "{words} fault {number}"),
-            Reason::At(words, address) => write!(f, "{words} at 0x{address:06x}"),
-            Reason::Sizes { image, chip } => {
-                write!(f, "image of {image} bytes, chip of {chip} bytes")
-            }
-            Reason::Written(bytes) => write!(f, "output failed after {bytes} bytes"),
         }
     }
 }

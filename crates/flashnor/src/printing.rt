@@ -261,7 +261,7 @@ fn print_protection<W: Write>(output: &mut W, protection: &Protection) -> io::Re
     writeln!(output, "Mode: {mode}")
 }
 
-#[tactic(auto, using(crate::proofs::Printed::padded_hex), unfolding(crate::specs::Lines::line))]
+#[tactic(auto, using(nor_call::proofs::Printed::padded_hex), unfolding(crate::specs::Lines::line))]
 fn print_range<W: Write>(output: &mut W, range: Option<(u32, u32)>) -> io::Result<()>
     ensures { OnOk result (Appends (W.contents output.old) (W.contents output.new) (protected_line range)) }
 {
@@ -280,7 +280,7 @@ fn print_ranges<W: Write>(output: &mut W, ranges: Offered) -> io::Result<()>
     Ok(())
 }
 
-#[tactic(auto, using(crate::proofs::Printed::padded_hex), unfolding(crate::specs::Lines::line))]
+#[tactic(auto, using(nor_call::proofs::Printed::padded_hex), unfolding(crate::specs::Lines::line))]
 fn print_places<W: Write>(output: &mut W, places: (u32, u32)) -> io::Result<()>
     ensures { OnOk result (Appends (W.contents output.old) (W.contents output.new) (range_line places)) }
 {
@@ -298,7 +298,7 @@ impl fmt::Display for Digits {
 
     ghost output = { λ digits. Some (id_digits digits.0) };
 
-    #[tactic(auto, using(crate::proofs::Printed::padded_hex))]
+    #[tactic(auto, using(nor_call::proofs::Printed::padded_hex))]
     fn fmt<W: fmt::Write>(&self, f: &mut fmt::Formatter<W>) -> fmt::Result {
         let (maker, kind, capacity) = (self.0[0], self.0[1], self.0[2]);
         write!(f, "{maker:02x}{kind:02x}{capacity:02x}")

@@ -7,7 +7,7 @@ ghost use Rattle.nor_words.specs.declared.programmer.Programmer.{Programmer};
 ghost use Rattle.flashnor.specs.Changes.{ProbeRefuses};
 ghost use Rattle.flashnor.specs.Chips.{IsReady};
 ghost use Rattle.flashnor.specs.Files.{IsMaking, IsReadingFault};
-ghost use Rattle.flashnor.specs.Found.{IsEmulatedFound, wanted_name};
+ghost use Rattle.flashnor.specs.Found.{IsEmulatedFound};
 ghost use Rattle.flashnor.specs.Readings.{FindRefuses, HasLookedUp, HasReadInto, HasTold, ListsRanges, TellsFound, TellsGuarded, TellsSize};
 ghost use Rattle.flashnor.specs.Requests.{FailsToInclude};
 ghost use Rattle.flashnor.specs.Run.{DoesRead, DoesVerify};
@@ -15,20 +15,20 @@ ghost use Rattle.flashnor.specs.Run.{DoesRead, DoesVerify};
 use crate::answers::{Answer, Outcome};
 use crate::files::{MOST_IMAGE_BYTES, empty, read_file};
 use crate::messages::Fault;
-use crate::requests::{read_included, read_name};
+use crate::requests::read_included;
 use nor_chip::{Bus, offered};
 use nor_files::Store;
 use nor_journal::Vault;
 use nor_layout::Ranges;
-use nor_probe::{Found, probe};
+use nor_probe::{ChipName, Found, probe};
 use nor_read::{read_out, verify, wp_status};
 use nor_session::Refusal;
 use nor_words::Regions;
 
 /// Finds the chip.
-pub fn find_chip<B: Bus>(bus: &mut B, named: Option<&str>) -> Outcome
+pub fn find_chip<B: Bus>(bus: &mut B, named: Option<ChipName>) -> Outcome
     ensures { (programmer : Programmer) → IsReady programmer (B.state bus.old)
-        → HasLookedUp (TellsFound programmer named.entry) programmer named.entry
+        → HasLookedUp (TellsFound programmer named) programmer named
         (B.state bus.old) (B.state bus.new) result }
 {
     let found = find(bus, named)?;
@@ -36,9 +36,9 @@ pub fn find_chip<B: Bus>(bus: &mut B, named: Option<&str>) -> Outcome
 }
 
 /// Tells the chip's size.
-pub fn tell_size<B: Bus>(bus: &mut B, named: Option<&str>) -> Outcome
+pub fn tell_size<B: Bus>(bus: &mut B, named: Option<ChipName>) -> Outcome
     ensures { (programmer : Programmer) → IsReady programmer (B.state bus.old)
-        → HasLookedUp (TellsSize programmer named.entry) programmer named.entry
+        → HasLookedUp (TellsSize programmer named) programmer named
         (B.state bus.old) (B.state bus.new) result }
 {
     let found = find(bus, named)?;
@@ -47,31 +47,31 @@ pub fn tell_size<B: Bus>(bus: &mut B, named: Option<&str>) -> Outcome
 
 /// The chip, which must have the name that is given, if one is.
 #[tactic(auto, using(crate::proofs::Ready::finds_ready))]
-pub fn find<B: Bus>(bus: &mut B, named: Option<&str>) -> Result<Found, Refusal>
+pub fn find<B: Bus>(bus: &mut B, named: Option<ChipName>) -> Result<Found, Refusal>
     ensures looks { Looks most_probe (B.state bus.old) (B.state bus.new) }
-    ensures wanted { IfOk result (λ found. IsWanted (wanted_name named.entry) found.name) }
+    ensures wanted { IfOk result (λ found. IsWanted named found.name) }
     ensures finds { (B.state bus.old).honest ≡ true → IfOk result (Finds (B.state bus.old) (B.state bus.new)) }
     ensures refuses { (B.state bus.old).honest ≡ true
-        → IfErr result (ProbeRefuses named.entry (B.state bus.old) (B.state bus.new)) }
+        → IfErr result (ProbeRefuses named (B.state bus.old) (B.state bus.new)) }
     ensures found { (programmer : Programmer) → IsReady programmer (B.state bus.old)
-        → MatchResult result (IsEmulatedFound named.entry programmer.chip) (FindRefuses programmer named.entry) }
+        → MatchResult result (IsEmulatedFound named programmer.chip) (FindRefuses programmer named) }
 {
-    Ok(probe(bus, read_name(named))?)
+    Ok(probe(bus, named)?)
 }
 
 /// Tells what protects the chip.
-pub fn tell_protection<B: Bus>(bus: &mut B, named: Option<&str>) -> Outcome
-    ensures { HasTold TellsGuarded named.entry (B.state bus.old) (B.state bus.new) result }
+pub fn tell_protection<B: Bus>(bus: &mut B, named: Option<ChipName>) -> Outcome
+    ensures { HasTold TellsGuarded named (B.state bus.old) (B.state bus.new) result }
 {
-    let protection = wp_status(bus, read_name(named))?;
+    let protection = wp_status(bus, named)?;
     Ok(Answer::Protection(protection))
 }
 
 /// Tells which ranges of the chip can be protected.
-pub fn list_ranges<B: Bus>(bus: &mut B, named: Option<&str>) -> Outcome
-    ensures { HasTold ListsRanges named.entry (B.state bus.old) (B.state bus.new) result }
+pub fn list_ranges<B: Bus>(bus: &mut B, named: Option<ChipName>) -> Outcome
+    ensures { HasTold ListsRanges named (B.state bus.old) (B.state bus.new) result }
 {
-    let protection = wp_status(bus, read_name(named))?;
+    let protection = wp_status(bus, named)?;
     Ok(Answer::Ranges(offered(protection.size)))
 }
 
@@ -79,7 +79,7 @@ pub fn list_ranges<B: Bus>(bus: &mut B, named: Option<&str>) -> Outcome
 pub fn read_chip<'a, R: Store, B: Bus>(
     rt: &mut R,
     bus: &mut B,
-    named: Option<&str>,
+    named: Option<ChipName>,
     file: &'a str,
     regions: Option<Regions<'a>>,
 ) -> Result<Outcome, Fault<'a>>
@@ -87,7 +87,7 @@ pub fn read_chip<'a, R: Store, B: Bus>(
     ensures others { is_lawful (R.state rt.old).view ≡ true
         → OthersStay file.now (R.state rt.old) (R.state rt.new) }
     ensures ok { IfOk result
-        (DoesRead (R.state rt.old).view (R.state rt.new).view named.entry file.now regions.entry
+        (DoesRead (R.state rt.old).view (R.state rt.new).view named file.now regions.entry
         (B.state bus.old) (B.state bus.new)) }
     ensures err { IfErr result (λ fault. FailsToInclude (R.state rt.old).view regions.entry fault
         ⊎ IsMaking (R.state rt.old).view file.now fault) }
@@ -102,15 +102,15 @@ pub fn read_chip<'a, R: Store, B: Bus>(
 // Reads the chip into this vault.
 fn read_into<B: Bus, V: Vault>(
     bus: &mut B,
-    named: Option<&str>,
+    named: Option<ChipName>,
     included: Option<&Ranges>,
     out: &mut V,
 ) -> Outcome
     requires { (V.state out.old).sealed ≡ false }
-    ensures { HasReadInto named.entry (option_copied included.entry) (B.state bus.old) (B.state bus.new)
+    ensures { HasReadInto named (option_copied included.entry) (B.state bus.old) (B.state bus.new)
         (V.state out.old) (V.state out.new) result }
 {
-    let report = read_out(bus, included, read_name(named), out)?;
+    let report = read_out(bus, included, named, out)?;
     Ok(Answer::Read(report))
 }
 
@@ -118,18 +118,18 @@ fn read_into<B: Bus, V: Vault>(
 pub fn verify_chip<'a, R: Store, B: Bus>(
     rt: &R,
     bus: &mut B,
-    named: Option<&str>,
+    named: Option<ChipName>,
     file: &'a str,
     regions: Option<Regions<'a>>,
 ) -> Result<Outcome, Fault<'a>>
     ensures ok { IfOk result
-        (DoesVerify ((R.state rt.now).view) named.entry file.now regions.entry (B.state bus.old) (B.state bus.new)) }
+        (DoesVerify ((R.state rt.now).view) named file.now regions.entry (B.state bus.old) (B.state bus.new)) }
     ensures err { IfErr result (λ fault. FailsToInclude ((R.state rt.now).view) regions.entry fault
         ⊎ IsReadingFault ((R.state rt.now).view) file.now 16777217 fault) }
 {
     let included = read_included(rt, regions)?;
     let image = read_file(rt, file, MOST_IMAGE_BYTES)?;
-    match verify(bus, &image, included.as_ref(), read_name(named)) {
+    match verify(bus, &image, included.as_ref(), named) {
         Ok(report) => Ok(Ok(Answer::Verified(report))),
         Err(refusal) => Ok(Err(refusal)),
     }

@@ -1,6 +1,5 @@
 //! What is asked of a chip, in the words of the calls that work on it.
 ghost use Rattle.std.specs.Prelude.{◌≡◌, IfOk, IfErr, option_copied};
-ghost use Rattle.flashnor.specs.Found.{wanted_name};
 ghost use Rattle.flashnor.specs.Requests.{AreIncluded, AreRangesOf, FailsToInclude, request_for, what_of};
 
 use crate::files::{MOST_LAYOUT_BYTES, read_file};
@@ -11,13 +10,6 @@ use nor_probe::ChipName;
 use nor_session::{Request, What};
 use nor_words::{Change, Regions, Wanted};
 use std::alloc::Global;
-
-/// The chip's name that the text says, if there is one.
-pub fn read_name(named: Option<&str>) -> Option<ChipName>
-    ensures { result ≡ wanted_name named.entry }
-{
-    named.map(ChipName::of)
-}
 
 /// The addresses of the regions, if there are any; their layout is read from its file.
 pub fn read_included<'a, R: Store>(
@@ -47,12 +39,16 @@ fn included_in(alloc: Global, text: &[u8], names: &str) -> Result<Ranges, Layout
 }
 
 /// The request for a change of a chip that must have this name, if one is given, in these ranges.
-pub fn request_for(change: &Change<'_>, named: Option<&str>, included: Option<Ranges>) -> Request
-    ensures { result ≡ request_for change.now named.entry included }
+pub fn request_for(
+    change: &Change<'_>,
+    named: Option<ChipName>,
+    included: Option<Ranges>,
+) -> Request
+    ensures { result ≡ request_for change.now named included }
 {
     Request {
         what: what_of(change.wanted),
-        named: read_name(named),
+        named,
         included,
         unlock: change.unlock,
         verify: change.verify,

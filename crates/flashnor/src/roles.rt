@@ -7,7 +7,7 @@ ghost use Rattle.flashnor.specs.Stored.{AreTwo};
 use crate::messages::{Fault, FileFault};
 use crate::run::puts_back;
 use nor_files::Store;
-use nor_words::{Change, ChipJob, Keeping, Regions, Task, Wanted};
+use nor_words::{Change, ChipJob, JournalUse, Regions, Task, Wanted};
 
 // The files that a task names beside the chip's.
 #[derive(Clone, Copy)]
@@ -135,11 +135,11 @@ fn image_of<'a>(change: &Change<'a>) -> Option<&'a str>
 
 // The journal that it keeps.
 fn journal_of<'a>(change: &Change<'a>) -> Option<&'a str>
-    ensures { result ≡ journal_of change.now.keeping }
+    ensures { result ≡ journal_of change.now.journal_use }
 {
-    match &change.keeping {
-        Keeping::Journal { file } => Some(*file),
-        Keeping::Rehearse { .. } => None,
+    match &change.journal_use {
+        JournalUse::Journal { file } => Some(*file),
+        JournalUse::Rehearse { .. } => None,
     }
 }
 

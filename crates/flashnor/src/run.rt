@@ -22,30 +22,14 @@ use crate::readings::{find_chip, list_ranges, read_chip, tell_protection, tell_s
 use crate::roles::have_one_role;
 use nor_chip::{Bus, Meter, SimBus, TraceBus};
 use nor_files::{Disk, LockFile, Store};
-use nor_words::{Change, ChipJob, Job, Keeping, Task, request_of};
+use nor_words::{Change, ChipJob, Job, JournalUse, Task, request_of};
 use std::io;
 use std::io::Write;
 use std::rt::Files;
 
 /// Does what the words ask for, which are those after the program's name, and prints results to `output` and faults to
-/// `errors`. Answers the exit status: 0, or 1 at any fault.
+/// `errors`. Answers the exit status: 0, or 1 at any fault. That the words couldn't be collected is a fault as others are.
 pub fn run_words<R: Files + AllocGlobal, O: Write, E: Write>(
-    rt: &R,
-    words: &[String],
-    output: &mut O,
-    errors: &mut E,
-) -> u8
-where
-    R::File: LockFile,
-    ensures { EndsWith (IsStatus unknown unknown (map string_bytes words.now)
-        (O.contents output.old) (O.contents output.new) (E.contents errors.old) (E.contents errors.new)) result }
-{
-    let ending = run_over(&mut Disk::new(rt), words, output, errors);
-    ending.status
-}
-
-/// The same of words that perhaps couldn't be collected, which is a fault as others are.
-pub fn run_collected<R: Files + AllocGlobal, O: Write, E: Write>(
     rt: &R,
     words: io::Result<Vec<String>>,
     output: &mut O,
@@ -58,14 +42,14 @@ where
     ensures unread { IfErr words (λ error. EndsWith (IsUnread error
         (O.contents output.old) (O.contents output.new) (E.contents errors.old) (E.contents errors.new)) result) }
 {
-    match words {
-        Ok(words) => run_words(rt, words.as_slice(), output, errors),
+    let ending = match words {
+        Ok(words) => run_over(&mut Disk::new(rt), words.as_slice(), output, errors),
         Err(error) => {
-            let Ended { answer, unwritten } = Ended::before(Err(Fault::of_words(&error)));
-            let ending = print_end(output, errors, answer, unwritten);
-            ending.status
+            let Work { answer, unwritten } = Work::before(Err(Fault::of_words(&error)));
+            print_end(output, errors, answer, unwritten)
         }
-    }
+    };
+    ending.status
 }
 
 /// The same over any store of files.
@@ -81,20 +65,20 @@ pub fn run_over<R: Store, O: Write, E: Write>(
 {
     // It does nothing: a program's laws are checked only where its runs call them.
     runs_lead_back::<R>();
-    let Ended { answer, unwritten } = run(rt, words);
+    let Work { answer, unwritten } = run(rt, words);
     print_end(output, errors, answer, unwritten)
 }
 
-// How a run ended: what it came to, and the files that couldn't be written after its call.
+// What the work of a run came to, and the files that couldn't be written after its call.
 #[derive(Drop)]
-struct Ended<'a> {
+struct Work<'a> {
     answer: Result<Answer, Fault<'a>>,
     unwritten: Unwritten<'a>,
 }
 
-impl<'a> Ended<'a> {
-    // A run without a call.
-    fn before(answer: Result<Answer, Fault<'a>>) -> Ended<'a>
+impl<'a> Work<'a> {
+    // That of a run without a call.
+    fn before(answer: Result<Answer, Fault<'a>>) -> Work<'a>
         ensures answer { result.answer ≡ answer.entry }
         ensures none { result.unwritten ≡ all_written }
     {
@@ -103,29 +87,29 @@ impl<'a> Ended<'a> {
             status: None,
             trace: None,
         };
-        Ended { answer, unwritten }
+        Work { answer, unwritten }
     }
 }
 
 // Does what the words ask for.
-fn run<'a, R: Store>(rt: &mut R, words: &'a [String]) -> Ended<'a>
+fn run<'a, R: Store>(rt: &mut R, words: &'a [String]) -> Work<'a>
     ensures { AnswersWords (R.state rt.old) (R.state rt.new) (map string_bytes words.now) result.answer
         result.unwritten }
 {
     match request_of(rt.alloc(), words) {
-        Ok(Job::List) => Ended::before(Ok(Answer::Chips)),
+        Ok(Job::List) => Work::before(Ok(Answer::Chips)),
         Ok(Job::Chip(job)) => match work_on_chip(rt, &job) {
-            Ok(ended) => ended,
-            Err(fault) => Ended::before(Err(fault)),
+            Ok(work) => work,
+            Err(fault) => Work::before(Err(fault)),
         },
-        Err(fault) => Ended::before(Err(Fault::Usage(fault))),
+        Err(fault) => Work::before(Err(Fault::Usage(fault))),
     }
 }
 
 // Does the job's task on the programmer's chip. An error is a fault from before the call.
-fn work_on_chip<'a, R: Store>(rt: &mut R, job: &ChipJob<'a>) -> Result<Ended<'a>, Fault<'a>>
-    ensures ok { IfOk result (λ ended.
-        EndsJob (R.state rt.old) (R.state rt.new) job.now ended.unwritten ended.answer) }
+fn work_on_chip<'a, R: Store>(rt: &mut R, job: &ChipJob<'a>) -> Result<Work<'a>, Fault<'a>>
+    ensures ok { IfOk result (λ work.
+        EndsJob (R.state rt.old) (R.state rt.new) job.now work.unwritten work.answer) }
     ensures err { IfErr result (FailsJob (R.state rt.old).view job.now) }
     ensures keeps { AreAtRest (R.state rt.old)
         → KeepsFiles job.now.programmer job.now.task (R.state rt.old) (R.state rt.new) }
@@ -139,11 +123,11 @@ fn work_on_chip<'a, R: Store>(rt: &mut R, job: &ChipJob<'a>) -> Result<Ended<'a>
 }
 
 // Reads the chip's files, does a task that leaves them as they are.
-fn look_at_files<'a, R: Store>(rt: &mut R, job: &ChipJob<'a>) -> Result<Ended<'a>, Fault<'a>>
+fn look_at_files<'a, R: Store>(rt: &mut R, job: &ChipJob<'a>) -> Result<Work<'a>, Fault<'a>>
     requires looks { puts_back job.now.task ≡ false }
     requires roles { HaveOneRole job.now }
-    ensures ok { IfOk result (λ ended.
-        EndsJob (R.state rt.old) (R.state rt.new) job.now ended.unwritten ended.answer) }
+    ensures ok { IfOk result (λ work.
+        EndsJob (R.state rt.old) (R.state rt.new) job.now work.unwritten work.answer) }
     ensures err { IfErr result (FailsJob (R.state rt.old).view job.now) }
     ensures keeps { is_lawful (R.state rt.old).view ≡ true
         → StayBut job.now.programmer (made_by job.now.task) (R.state rt.old) (R.state rt.new) }
@@ -158,15 +142,15 @@ fn look_at_files<'a, R: Store>(rt: &mut R, job: &ChipJob<'a>) -> Result<Ended<'a
         trace: lost,
     };
     let answer = told(outcome);
-    Ok(Ended { answer, unwritten })
+    Ok(Work { answer, unwritten })
 }
 
 // Holds the chip's files, does a task that changes the chip, and writes it over them.
-fn change_files<'a, R: Store>(rt: &mut R, job: &ChipJob<'a>) -> Result<Ended<'a>, Fault<'a>>
+fn change_files<'a, R: Store>(rt: &mut R, job: &ChipJob<'a>) -> Result<Work<'a>, Fault<'a>>
     requires changes { puts_back job.now.task ≡ true }
     requires roles { HaveOneRole job.now }
-    ensures ok { IfOk result (λ ended.
-        EndsJob (R.state rt.old) (R.state rt.new) job.now ended.unwritten ended.answer) }
+    ensures ok { IfOk result (λ work.
+        EndsJob (R.state rt.old) (R.state rt.new) job.now work.unwritten work.answer) }
     ensures err { IfErr result (FailsJob (R.state rt.old).view job.now) }
     ensures keeps { AreAtRest (R.state rt.old)
         → KeepsFiles job.now.programmer job.now.task (R.state rt.old) (R.state rt.new) }
@@ -187,7 +171,7 @@ fn change_files<'a, R: Store>(rt: &mut R, job: &ChipJob<'a>) -> Result<Ended<'a>
         trace: lost,
     };
     let answer = told(outcome);
-    Ok(Ended { answer, unwritten })
+    Ok(Work { answer, unwritten })
 }
 
 // What a call came to, as a run tells it.
@@ -278,9 +262,9 @@ pub fn puts_back(task: &Task<'_>) -> bool
     ensures { result ≡ puts_back task.now }
 {
     match task {
-        Task::Change(Change { keeping, .. }) => match keeping {
-            Keeping::Journal { .. } => true,
-            Keeping::Rehearse { .. } => false,
+        Task::Change(Change { journal_use, .. }) => match journal_use {
+            JournalUse::Journal { .. } => true,
+            JournalUse::Rehearse { .. } => false,
         },
         Task::Restore { .. } => true,
         _ => false,

@@ -1,6 +1,6 @@
 use Rattle.std.proofs.lemmas.Result.{err_from_is_err_and}
 use Rattle.flashnor.proofs.Changed.{kept_done, kept_refused}
-use Rattle.flashnor.proofs.changes.keep_change.Goals as goal
+use Rattle.flashnor.proofs.changes.change_with_journal.Goals as goal
 
 pub returns-in_err-report : goal.returns-in_err-report
 returns-in_err-report g c = λ modelled calm.
