@@ -1,0 +1,27 @@
+//! What ends the example.
+
+use nor_chip::WrongLength;
+use nor_journal::{JournalFault, VaultFault};
+use nor_probe::ProbeFault;
+use nor_session::Refusal;
+use std::alloc::AllocError;
+use std::io;
+use thiserror::Error;
+
+#[derive(Debug, Drop, Error)]
+pub enum Fault {
+    #[error("no chip is found: {0}")]
+    Probe(#[from] ProbeFault),
+    #[error("a call refused: {0}")]
+    Refused(#[from] Refusal),
+    #[error("the vault refused: {0}")]
+    Vault(#[from] VaultFault),
+    #[error("no journal: {0}")]
+    Journal(#[from] JournalFault),
+    #[error(transparent)]
+    Chip(#[from] WrongLength),
+    #[error(transparent)]
+    System(#[from] io::Error),
+    #[error(transparent)]
+    Memory(#[from(alloc)] AllocError),
+}

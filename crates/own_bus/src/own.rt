@@ -1,0 +1,73 @@
+//! A bus to a chip of your own, of which nothing is known.
+ghost use Rattle.std.proofs.lemmas.Bool.{false≢true};
+ghost use Rattle.nor_chip.specs.Bus.{unknown_bus};
+
+use nor_chip::{Bus, Sent, Stopped};
+
+/// The wires to a chip. This is what you write for hardware of your own.
+pub trait Wires {
+    /// What went wrong on them.
+    type Cause: Drop;
+
+    /// Pulls chip select low, where a transaction begins, or lets it go, where it ends.
+    fn select(&mut self, selected: bool) -> Result<(), Self::Cause>;
+
+    /// Sends a byte, and takes in the one that comes back meanwhile.
+    fn exchange(&mut self, byte: u8) -> Result<u8, Self::Cause>;
+}
+
+/// A bus over wires of which nothing is known. It keeps the cause of the last transfer that failed, since a refusal
+/// tells alone that the bus stopped.
+#[derive(Drop)]
+pub struct OwnBus<W: Wires + Drop> {
+    pub wires: W,
+    pub cause: Option<W::Cause>,
+    sent: Sent,
+}
+
+impl<W: Wires + Drop> OwnBus<W> {
+    pub fn new(wires: W) -> OwnBus<W> {
+        OwnBus {
+            wires,
+            cause: None,
+            sent: Sent::new(),
+        }
+    }
+}
+
+impl<W: Wires + Drop> Bus for OwnBus<W> {
+    ghost state = { λ own. unknown_bus own.sent };
+
+    ghost reaches = { λ own honest. absurd (false≢true honest) };
+
+    fn transfer(&mut self, out: &[u8], reply: &mut [u8]) -> Result<(), Stopped> {
+        self.sent.note(out);
+        match carry(&mut self.wires, out, reply) {
+            Ok(()) => Ok(()),
+            Err(cause) => {
+                self.cause = Some(cause);
+                Err(Stopped)
+            }
+        }
+    }
+}
+
+// One transaction. Chip select is let go also where an exchange failed, so that the next transaction begins anew.
+fn carry<W: Wires>(wires: &mut W, out: &[u8], reply: &mut [u8]) -> Result<(), W::Cause> {
+    wires.select(true)?;
+    let exchanged = exchange_all(wires, out, reply);
+    let released = wires.select(false);
+    exchanged?;
+    released
+}
+
+// Sends the bytes `out`, and then takes in as many as `reply` holds.
+fn exchange_all<W: Wires>(wires: &mut W, out: &[u8], reply: &mut [u8]) -> Result<(), W::Cause> {
+    for byte in out {
+        wires.exchange(*byte)?;
+    }
+    for slot in reply.iter_mut() {
+        *slot = wires.exchange(0x00)?;
+    }
+    Ok(())
+}

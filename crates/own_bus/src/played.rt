@@ -1,0 +1,90 @@
+//! Wires that play a chip, so that the example has one.
+
+use crate::own::Wires;
+use arrayvec::ArrayVec;
+use nor_chip::{Bus, SimBus, is_changing};
+use std::fmt;
+
+// A command has at most an opcode, three address bytes and a page.
+const LONGEST: usize = 260;
+
+/// The wires were cut.
+#[derive(Clone, Copy, Debug, PartialEq, Eq)]
+pub struct Cut;
+
+impl fmt::Display for Cut {
+    fn fmt<W: fmt::Write>(&self, f: &mut fmt::Formatter<W>) -> fmt::Result {
+        f.write_str("the wires were cut")
+    }
+}
+
+/// Wires to a simulated chip, which are cut after so many exchanges.
+#[derive(Drop)]
+pub struct Played {
+    pub chip: SimBus,
+    pub left: u64,
+    /// How many commands were sent that may change the chip.
+    pub changing: u64,
+    // the bytes of a command, and where they are all there what the chip replies, and how much of it went out
+    sent: ArrayVec<u8, LONGEST>,
+    reply: [u8; 4096],
+    taken: usize,
+}
+
+impl Played {
+    pub fn new(chip: SimBus) -> Played {
+        Played {
+            chip,
+            left: u64::MAX,
+            changing: 0,
+            sent: ArrayVec::new(),
+            reply: [0xFF; 4096],
+            taken: 0,
+        }
+    }
+}
+
+// How many bytes come before the reply to a command that reads.
+fn reply_begins(sent: &[u8]) -> Option<usize> {
+    match sent.first()? {
+        0x05 | 0x35 | 0x9F => Some(1),
+        0x03 => Some(4),
+        0x5A | 0x4B => Some(5),
+        _ => None,
+    }
+}
+
+impl Wires for Played {
+    type Cause = Cut;
+
+    fn select(&mut self, selected: bool) -> Result<(), Cut> {
+        if selected {
+            self.sent.clear();
+            self.taken = 0;
+        } else if reply_begins(&self.sent).is_none() {
+            // A chip carries a command that doesn't read out as it is let go.
+            if is_changing(&self.sent) {
+                self.changing = self.changing.saturating_add(1);
+            }
+            self.chip.transfer(&self.sent, &mut []).map_err(|_| Cut)?;
+        }
+        Ok(())
+    }
+
+    fn exchange(&mut self, byte: u8) -> Result<u8, Cut> {
+        self.left = self.left.checked_sub(1).ok_or(Cut)?;
+        let begins = reply_begins(&self.sent);
+        if begins == Some(self.sent.len()) {
+            let at = self.taken;
+            self.taken = at.saturating_add(1);
+            return Ok(self.reply.get(at).copied().unwrap_or(0xFF));
+        }
+        self.sent.try_push(byte).map_err(|_| Cut)?;
+        if reply_begins(&self.sent) == Some(self.sent.len()) {
+            self.chip
+                .transfer(&self.sent, &mut self.reply)
+                .map_err(|_| Cut)?;
+        }
+        Ok(0xFF)
+    }
+}
