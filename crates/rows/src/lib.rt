@@ -31,6 +31,8 @@ mod runs;
 #[cfg(test)]
 mod sessions;
 #[cfg(test)]
+mod sets;
+#[cfg(test)]
 mod sinks;
 #[cfg(test)]
 mod spoilt;

@@ -1,15 +1,10 @@
 //! Probes of chips, by what SFDP bytes say (JESD216), which chips are found, what is sent and how long is waited.
 use crate::held::assert_held;
 use crate::row::{Start, erased, put_run};
-use nor_chip::{Config, Delays, Meter, SimBus, Spoil, SpoiltBus, TINY64_SFDP, TraceBus};
+use nor_chip::{ALL_KINDS, Config, Delays, Meter, SimBus, Spoil, SpoiltBus, TINY64_SFDP, TraceBus};
 use nor_probe::{ChipName, Found, Kinds, ProbeFault, Probed, SfdpFault, probe_counted};
 use std::alloc::Global;
 use std::process::Abort;
-
-const ALL: Kinds = Kinds {
-    k32: true,
-    k64: true,
-};
 
 const SECTORS_ALONE: Kinds = Kinds {
     k32: false,
@@ -21,7 +16,7 @@ const TINY64: Found = Found {
     name: ChipName::Sfdp,
     id: [0xFE, 0x10, 0x10],
     size: 65_536,
-    kinds: ALL,
+    kinds: ALL_KINDS,
     scheme: false,
     status1: 0x04,
 };
@@ -30,7 +25,7 @@ const W25Q64FV: Found = Found {
     name: ChipName::W25Q64FV,
     id: [0xEF, 0x40, 0x17],
     size: 8_388_608,
-    kinds: ALL,
+    kinds: ALL_KINDS,
     scheme: true,
     status1: 0x04,
 };
@@ -39,7 +34,7 @@ const W25Q128FV: Found = Found {
     name: ChipName::W25Q128FV,
     id: [0xEF, 0x40, 0x18],
     size: 16_777_216,
-    kinds: ALL,
+    kinds: ALL_KINDS,
     scheme: true,
     status1: 0x04,
 };
@@ -110,7 +105,7 @@ type Said = Result<(u32, Kinds), SfdpFault>;
 // A table at FFFFFFh lies past the SFDP bytes, so each of its bytes is FFh; one at 0 is the header, which begins with
 // 53 46 44 50. As double word 1, both have a 2 or a 3 where they tell how many address bytes there are.
 const SAYINGS: &[(usize, &[u8], Said)] = &[
-    (0x00, &[], Ok((65_536, ALL))),
+    (0x00, &[], Ok((65_536, ALL_KINDS))),
     (0x0C, &[0xFF, 0xFF, 0xFF], Err(SfdpFault::Address)),
     (0x0C, &[0x00, 0x00, 0x00], Err(SfdpFault::Address)),
     (0x05, &[0x02], Err(SfdpFault::Major)),
@@ -131,10 +126,10 @@ const SAYINGS: &[(usize, &[u8], Said)] = &[
     ),
     (0x10, &[0x01], Err(SfdpFault::Granularity)),
     (0x10, &[0x01, 0x20, 0x04], Err(SfdpFault::Address)),
-    (0x12, &[0x02], Ok((65_536, ALL))),
-    (0x14, &[0xFF, 0xFF, 0xFF, 0x03], Ok((8_388_608, ALL))),
-    (0x14, &[0xFF, 0xFF, 0xFF, 0x07], Ok((16_777_216, ALL))),
-    (0x14, &[0x13, 0x00, 0x00, 0x80], Ok((65_536, ALL))),
+    (0x12, &[0x02], Ok((65_536, ALL_KINDS))),
+    (0x14, &[0xFF, 0xFF, 0xFF, 0x03], Ok((8_388_608, ALL_KINDS))),
+    (0x14, &[0xFF, 0xFF, 0xFF, 0x07], Ok((16_777_216, ALL_KINDS))),
+    (0x14, &[0x13, 0x00, 0x00, 0x80], Ok((65_536, ALL_KINDS))),
     (0x14, &[0x1C, 0x00, 0x00, 0x80], Err(SfdpFault::Size)),
     (0x14, &[0xFE, 0xFF, 0x07, 0x00], Err(SfdpFault::Size)),
     (0x14, &[0xFF, 0xFF, 0x03, 0x00], Err(SfdpFault::Size)),

@@ -1,24 +1,31 @@
-//! Rehearsals under each stop of the session and each of the restore behind it, by what they tell.
+//! Rehearsals, by what they tell: under each stop of the session and each of the restore behind it, and on buses that
+//! lie.
+ghost use Rattle.std.specs.Prelude.{◌≤◌, length};
+
 use crate::held::assert_held;
 use crate::row::{Row, Start};
 use crate::runs::Runs;
+use crate::spoilt::most;
+use nor_chip::{Spoil, SpoiltBus};
 use nor_journal::MemVault;
 use nor_session::{Refusal, Rehearsal, rehearse};
 use std::alloc::Global;
 use std::process::Abort;
 
-// Rehearses under these two stops. The chip is as before.
+// Rehearses under these stops. The chip is as before.
 fn rehearsed(
     rt: &impl Abort,
     alloc: Global,
     row: Row,
-    stops: [u64; 2],
-) -> (Result<Rehearsal, Refusal>, bool) {
+    stops: &[u64],
+) -> (Result<Rehearsal, Refusal>, bool)
+    requires { length stops.now ≤ 64 }
+{
     let mut bus = row.bus(rt, alloc, Start::IDLE);
     let mut vault = MemVault::new(alloc);
     let mut image = row.wanted(rt, alloc);
     let request = row.request(rt, alloc);
-    let told = rehearse(&mut bus, &mut vault, &mut image, &request, &stops);
+    let told = rehearse(&mut bus, &mut vault, &mut image, &request, stops);
     Runs::new(rt, alloc, row, Start::IDLE).assert_as_before(rt, &bus);
     (told, vault.is_sealed())
 }
@@ -49,8 +56,97 @@ fn each_pair_of_stops_tells_how_it_went(rt: HostRuntime) {
                 sealed,
                 restores,
             };
-            let told = rehearsed(&rt, rt.alloc(), row, [n, m]);
+            let told = rehearsed(&rt, rt.alloc(), row, &[n, m]);
             assert_held(&rt, told == (Ok(wanted), sealed), n);
+        }
+    }
+}
+
+// How many transactions a restore sends behind one that needs so many and was stopped behind so many of them. The
+// eleventh of thirteen is the program, and behind that the sector is as saved.
+fn restore_again(needed: u64, sent: u64) -> u64 {
+    if sent < 11 { needed } else { 8 }
+}
+
+// How many restores are run behind a session where the first needs so many transactions, under these two stops. The
+// third isn't stopped.
+fn restores_under(needed: u64, first: u64, second: u64) -> u32 {
+    if first >= needed {
+        1
+    } else if second >= restore_again(needed, first) {
+        2
+    } else {
+        3
+    }
+}
+
+// The session is stopped as its journal is sealed, behind its erase, behind its program, or not at all.
+#[test]
+fn a_third_stop_is_the_second_restores(rt: HostRuntime) {
+    let row = Row::ABitRises;
+    for n in [23, 25, 28, 30] {
+        let needed = restore_behind(n).expect(&rt, "a sealed journal");
+        for m in 0..=14 {
+            for k in [0, 7, 8, 12, 13] {
+                let wanted = Rehearsal {
+                    ended: n == 30,
+                    sealed: true,
+                    restores: restores_under(needed, m, k),
+                };
+                let told = rehearsed(&rt, rt.alloc(), row, &[n, m, k]);
+                assert_held(&rt, told == (Ok(wanted), true), m);
+            }
+        }
+    }
+}
+
+// What a rehearsal tells, whether its vault is sealed, and whether the chip is as before.
+type Told = (Result<Rehearsal, Refusal>, bool, bool);
+
+// Rehearses under so many stops, of which none comes, on a bus that lies so.
+fn rehearsed_lied(rt: &impl Abort, alloc: Global, spoil: Spoil, stops: usize) -> Told {
+    let row = Row::ABitRises;
+    let bus = row.bus(rt, alloc, Start::IDLE);
+    let mut bus = SpoiltBus::new(bus, spoil);
+    let mut vault = MemVault::new(alloc);
+    let mut image = row.wanted(rt, alloc);
+    let request = row.request(rt, alloc);
+    let all = [most(16); 2];
+    let stops = all.get(..stops).unwrap_or(&all);
+    let told = rehearse(&mut bus, &mut vault, &mut image, &request, stops);
+    let before = row.before(rt, alloc);
+    let bus = bus.into_inner();
+    (told, vault.is_sealed(), bus.bytes() == before.as_slice())
+}
+
+const ENDED: Rehearsal = Rehearsal {
+    ended: true,
+    sealed: true,
+    restores: 1,
+};
+
+const TIMEOUT: Refusal = Refusal::Timeout { address: 0 };
+
+const MISMATCH: Refusal = Refusal::Mismatch { address: 0 };
+
+// The session ends with its 30th transaction, and a restore of thirteen gives the chip back. 24 enables the erase: where
+// it is dropped that is ignored, and a program gives no bit back. 26 is the poll behind the erase, 31 the restore's
+// first, and 40 enables its program.
+const TOLD: [(Spoil, Result<Rehearsal, Refusal>, bool); 5] = [
+    (Spoil::BusyFrom(u64::MAX), Ok(ENDED), true),
+    (Spoil::Drop(24), Err(MISMATCH), true),
+    (Spoil::BusyFrom(26), Err(TIMEOUT), false),
+    (Spoil::BusyFrom(31), Err(TIMEOUT), false),
+    (Spoil::Drop(40), Err(MISMATCH), false),
+];
+
+// A refusal is told also where stops are given.
+#[test]
+fn a_refusal_in_a_rehearsal_is_told(rt: HostRuntime) {
+    for (spoil, told, as_before) in TOLD {
+        for stops in 0..3 {
+            let came = rehearsed_lied(&rt, rt.alloc(), spoil, stops);
+            assert!(rt; came == (told, true, as_before));
         }
     }
 }

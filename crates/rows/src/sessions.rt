@@ -1,9 +1,9 @@
-//! Sessions, and a rehearsal, on chips and buses that no file of a chip gives.
+//! Sessions on chips that no file of a chip gives.
 use crate::held::assert_held;
 use crate::row::{Row, Start};
-use nor_chip::{Config, Delays, Meter, SimBus, Spoil, SpoiltBus, TINY64_SFDP};
+use nor_chip::{Config, Delays, Meter, SimBus, TINY64_SFDP};
 use nor_journal::MemVault;
-use nor_session::{Refusal, Rehearsal, Report, rehearse, session};
+use nor_session::{Report, session};
 use std::alloc::Global;
 use std::process::Abort;
 
@@ -71,40 +71,4 @@ fn a_busy_chip_is_waited_for(rt: HostRuntime) {
     };
     let report = blank(&rt, rt.alloc(), Config::tiny64(), 0, [0x02, 0x00], busy);
     assert!(rt; report.transactions == 65_558 && report.found.status1 == 0x00);
-}
-
-// Rehearses, with no stop, on a bus on which each poll from the one of this number on shows BUSY. Answers what that
-// tells, whether the vault is sealed, and whether the chip is as before.
-fn rehearsed(
-    rt: &impl Abort,
-    alloc: Global,
-    busy_from: u64,
-) -> (Result<Rehearsal, Refusal>, bool, bool) {
-    let row = Row::ABitRises;
-    let bus = row.bus(rt, alloc, Start::IDLE);
-    let mut bus = SpoiltBus::new(bus, Spoil::BusyFrom(busy_from));
-    let mut vault = MemVault::new(alloc);
-    let mut image = row.wanted(rt, alloc);
-    let request = row.request(rt, alloc);
-    let told = rehearse(&mut bus, &mut vault, &mut image, &request, &[]);
-    let before = row.before(rt, alloc);
-    let bus = bus.into_inner();
-    (told, vault.is_sealed(), bus.bytes() == before.as_slice())
-}
-
-const ENDED: Rehearsal = Rehearsal {
-    ended: true,
-    sealed: true,
-    restores: 1,
-};
-
-// Without a stop the session ends, with its 30th transaction, and its restore gives the chip back. Where each poll from
-// the next one on shows BUSY, the restore's first wait has no end; the address of the opening is 0.
-#[test]
-fn the_refusal_of_a_restore_is_told(rt: HostRuntime) {
-    let told = rehearsed(&rt, rt.alloc(), u64::MAX);
-    assert!(rt; told == (Ok(ENDED), true, true));
-    let told = rehearsed(&rt, rt.alloc(), 31);
-    let timeout = Err(Refusal::Timeout { address: 0 });
-    assert!(rt; told == (timeout, true, false));
 }
