@@ -112,7 +112,7 @@ pub fn check_found(chip: &Chip, found: &Found) -> Result<(), Fault> {
     let config = &chip.config;
     let named = found.name == verdicts::name_of(config);
     let sized = found.id == config.id && found.size == config.size;
-    let kinds = found.kinds.k32 == config.k32 && found.kinds.k64 == config.k64;
+    let kinds = found.kinds == config.kinds;
     let kinds = kinds && found.scheme == config.scheme;
     let [status1, _] = guards::kept(chip.status);
     let seen = found.status1 == status1 | Pace::of(chip).waited().bits();

@@ -198,7 +198,7 @@ pub fn protect(lines: &mut Lines, chip: &Chip, wanted: &Wanted) {
 fn erase_blocks(lines: &mut Lines, chip: &Chip, wanted: &Wanted) {
     for block in 0..chip.sectors() / 16 {
         let first = block.saturating_mul(16);
-        if chip.config.k64 && wanted.raises_all(first, 16) {
+        if chip.config.kinds.k64 && wanted.raises_all(first, 16) {
             lines.erase("d8", first.saturating_mul(4096));
         } else {
             erase_half(lines, chip, wanted, first);
@@ -208,7 +208,7 @@ fn erase_blocks(lines: &mut Lines, chip: &Chip, wanted: &Wanted) {
 }
 
 fn erase_half(lines: &mut Lines, chip: &Chip, wanted: &Wanted, first: u32) {
-    if chip.config.k32 && wanted.raises_all(first, 8) {
+    if chip.config.kinds.k32 && wanted.raises_all(first, 8) {
         lines.erase("52", first.saturating_mul(4096));
         return;
     }

@@ -206,7 +206,7 @@ fn fewest_erases(sectors: &[Sector], chip: &Chip) -> u64 {
     }
     let mut erases = 0_u64;
     for block in sectors.chunks(16) {
-        erases = erases.saturating_add(if chip.config.k64 && are_raised(block) {
+        erases = erases.saturating_add(if chip.config.kinds.k64 && are_raised(block) {
             1
         } else {
             erases_of_halves(block, chip)
@@ -218,7 +218,7 @@ fn fewest_erases(sectors: &[Sector], chip: &Chip) -> u64 {
 fn erases_of_halves(block: &[Sector], chip: &Chip) -> u64 {
     let mut erases = 0_u64;
     for half in block.chunks(8) {
-        erases = erases.saturating_add(if chip.config.k32 && are_raised(half) {
+        erases = erases.saturating_add(if chip.config.kinds.k32 && are_raised(half) {
             1
         } else {
             raised_in(half)

@@ -6,7 +6,7 @@ use crate::digits::{address_of, bytes_of, status_of};
 use crate::fault::Fault;
 use crate::setup::Way;
 use crate::step::Call;
-use nor_chip::Status;
+use nor_chip::{MOST_SECTORS, Status};
 use nor_driver::{Erase, EraseUnit, Halt, erase, program_page, wait, write_status};
 use std::alloc::{AllocError, Global};
 
@@ -60,7 +60,7 @@ fn erase_of(opcode: &str, sector: u32) -> Result<Erase, Fault>
         "c7" => EraseUnit::Chip,
         _ => return Err(Fault::Unread),
     };
-    if sector >= 4096 {
+    if sector >= MOST_SECTORS {
         return Err(Fault::Unread);
     }
     Ok(Erase {

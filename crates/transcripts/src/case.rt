@@ -7,7 +7,7 @@ use crate::setup::Setup;
 use crate::step::Step;
 use std::alloc::Global;
 
-/// A line of a case, and its number in the text.
+// A line of a case, and its number in the text.
 #[derive(Clone, Copy)]
 struct Line<'a> {
     number: usize,

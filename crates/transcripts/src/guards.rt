@@ -4,7 +4,7 @@ ghost use Rattle.std.specs.Prelude.{IsTrue};
 
 use crate::agree::agree;
 use crate::fault::Fault;
-use nor_chip::{Config, Status, code_for, protected, unit_protected};
+use nor_chip::{Config, SECTOR_LEN, Status, code_for, protected, unit_protected};
 use std::alloc::{AllocError, Global};
 
 /// The status guards exactly the places from the first one to the one before the second. The first and the last place
@@ -15,9 +15,9 @@ pub fn check(
     status: [u8; 2],
     (start, end): (u32, u32),
 ) -> Result<(), Fault> {
-    for sector in 0..config.size / 4096 {
-        let first = sector.saturating_mul(4096);
-        for at in [first, first.saturating_add(4095)] {
+    for sector in 0..config.size / SECTOR_LEN {
+        let first = sector.saturating_mul(SECTOR_LEN);
+        for at in [first, first.saturating_add(SECTOR_LEN - 1)] {
             let wanted = start <= at && at < end;
             let came = protected(status, config.size, at);
             if came != wanted {

@@ -9,7 +9,7 @@ use std::alloc::Global;
 /// The bus of a case: traced, and spoilt where the case asks for it.
 pub type Way<'a> = TraceBus<SpoiltBus<SimBus>, &'a mut Vec<u8>>;
 
-/// A spoilt bus that spoils nothing, since a byte has no bit 8.
+// A spoilt bus that spoils nothing, since a byte has no bit 8.
 const HONEST: Spoil = Spoil::Low(8);
 
 /// What a line `chip` says: the chip, and how it and the bus to it start.
