@@ -19,7 +19,7 @@ def of_readme(text):
 def of_manual(text):
     """Returns those of a manual page, without what only their form needs."""
     lines = "\n".join(re.findall(r"^\.EX\n(.*?)^\.EE$", text, re.M | re.S))
-    for form, plain in ((r"\\f[BIR]", ""), (r"\\-", "-"), (r"\\\(dq", '"'), (r"\\&", "")):
+    for form, plain in ((r"\\f[BIR]", ""), (r"\\-", "-"), (r"\\\(dq", '"'), (r"\\\(ha", "^"), (r"\\&", "")):
         lines = re.sub(form, plain, lines)
     return lines.split("\n")
 

@@ -8,9 +8,10 @@
      short            a write puts half of its bytes, and from then on each write fails for want of room
      part             a read or a write moves half of its bytes, and says so
      grown, there     somebody writes four bytes behind the file's last one before it is opened, or makes it with them
-   The file that CALLS names gets a line for each call, what it is and the file's name, and the line `cut` after the one
-   that is cut off. To open a file is `make` where that may make it, and else `open` for reading, `over` for writing and
-   `hold` for both. Standard input, output and error are no such files.
+   A run that has no end is ended after a minute. The file that CALLS names gets a line for each call, what it is and
+   the file's name, and the line `cut` after the one that is cut off. To open a file is `make` where that may make it,
+   and else `open` for reading, `over` for writing and `hold` for both. Standard input, output and error are no such
+   files.
 
    The file that RECORD names gets what happened to files, for lost.py: a line `WHAT AT SIZE NAME` for each file that
    was made (`make`), each write and length (`write`, `length`), each sync, and each print on standard output, and
@@ -53,6 +54,7 @@ __attribute__((constructor)) static void begin(void) {
     recorded = given("RECORD");
     fault = given("WRONG");
     faulty = strchr(fault, ' ') ? strchr(fault, ' ') + 1 : "";
+    if (*calls) alarm(60);
 }
 
 /* What this can't do. */

@@ -106,8 +106,7 @@ attempt() {
     : > calls
     ended=0
     {
-        timeout 60 env LD_PRELOAD="$work/cut.so" CALL="$number" HOW="$how" CALLS=calls \
-            "$program" "$@" > said 2> faults || ended=$?
+        LD_PRELOAD=$work/cut.so CALL=$number HOW=$how CALLS=calls "$program" "$@" > said 2> faults || ended=$?
     } 2> killed
 }
 
@@ -149,6 +148,15 @@ is_given_back() {
     fi && have "${before[@]}"
 }
 
+# The chip is given back, here or where another run of the job left the same files: a restore has nothing else to go by.
+is_rescued() {
+    local left
+    left="files: $(cksum image status journal 2> /dev/null || true)"
+    [[ -z ${rescued[$left]:-} ]] || return 0
+    is_given_back || return 1
+    rescued[$left]=yes
+}
+
 # Cuts off the call of this number so, and counts what comes of it.
 cut_off() {
     local number=$1 how=$2 call=${made[$1 - 1]:-none} problem=''
@@ -157,7 +165,7 @@ cut_off() {
     attempt "$number" "$how" "${words[@]}"
     ended_rightly "$number" "$call" "$how" ||
         problem="it ended with $ended, which isn't what it must do. $(cat said faults)"
-    is_given_back || problem=${problem:-"the chip is lost. --restore ended with $ended. $(cat said faults)"}
+    is_rescued || problem=${problem:-"the chip is lost. --restore ended with $ended. $(cat said faults)"}
     [[ -z $sealed ]] || cmp -s journal "$kept" || problem=${problem:-"its journal was changed"}
     if [[ -z $problem ]]; then
         passed=$((passed + 1))
@@ -195,6 +203,7 @@ lose_machines() {
 # chip's files.
 cut_each() {
     local number how runs=0 lost=0 made called
+    local -A rescued=()
     begin
     attempt 0 '' "${words[@]}"
     is_own || fail "$run, left alone, didn't come to its own end, but to $ended: $(cat said faults)"
