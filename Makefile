@@ -91,8 +91,10 @@ bench: toolchain ## measures the parts, each beside plain work of the same size;
 	@$(BENCH) session
 	@$(BENCH) read
 
-compare: $(BUILT) ## runs flashrom, where it is installed, and the program on the same chip images
+compare: $(BUILT) ## runs the program beside flashrom and beside a chip of QEMU, where these are installed
 	@scripts/compare.sh '$(PROGRAM)'
+	@scripts/compare/rows.sh '$(PROGRAM)'
+	@scripts/compare/qemu.py '$(PROGRAM)'
 
 install: $(BUILT) ## puts program, manual page and completion below PREFIX and DESTDIR
 	install -D -m 755 '$(PROGRAM)' '$(IN_BIN)'

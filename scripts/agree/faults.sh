@@ -1,24 +1,16 @@
 # shellcheck shell=bash disable=SC2154
 # Printed lines, and faults by their numbers, for agree.sh, which sets messages, printing, words and work.
 
-# The line of each refusal: its number is in one source, its words in another, where one of five forms prints them.
+# The line of each refusal: its number and its words, by which the source that has them tells it.
 refusal_lines() {
-    local fault at sizes written
-    sed -nE 's/^ *Refusal::([A-Za-z]+).* => ([0-9]+),$/\1 \2/p' crates/nor_save/src/refusal.rt | sort > "$work/numbers"
-    flat "$messages" > "$work/messages"
-    fault=$(form Fault) at=$(form At) sizes=$(form Sizes) written=$(form Written)
-    sed 's/Refusal::/\n/g' "$work/messages" |
-        sed -nE "s/^([A-Za-z]+)[^=]*=> Reason::Words\(\"([^\"]*)\"\).*/\1 \2/p
-            s/^([A-Za-z]+)[^=]*=> Reason::Fault\(\"([^\"]*)\".*/\1 ${fault/\{words\}/\\2}/p
-            s/^([A-Za-z]+)[^=]*=> Reason::At\(\"([^\"]*)\".*/\1 ${at/\{words\}/\\2}/p
-            s/^([A-Za-z]+)[^=]*=> Reason::Sizes.*/\1 $sizes/p; s/^([A-Za-z]+)[^=]*=> Reason::Written.*/\1 $written/p" |
+    local source=crates/nor_call/src/refusal.rt
+    sed -nE 's/^ *Refusal::([A-Za-z]+).* => ([0-9]+),$/\1 \2/p' "$source" | sort > "$work/numbers"
+    flat "$source" | sed 's/Refusal::/\n/g' |
+        sed -nE 's/^([A-Za-z]+)[^=]*=> (\{ )?(f\.write_str\(|write!\(f, )"([^"]*)".*/\1 \4/p' |
         sort > "$work/reasons"
     join -a1 -a2 "$work/numbers" "$work/reasons" | sed -E 's/^[A-Za-z]+ ([0-9]+) (.*)/Error \1: \2./
-        s/\{image\}/I/; s/\{chip\}/C/; s/\{address:06x\}/A/; s/\{bytes\}/W/; s/\{number\}/K/'
+        s/\{image\}/I/; s/\{chip\}/C/; s/\{address:06x\}/A/; s/\{written\}/W/; s/\{\}/K/'
 }
-
-# How a reason of this kind is printed.
-form() { sed -E "s/.*Reason::$1[^=]*=> \{? ?write!\(f, \"([^\"]*)\"\).*/\1/" "$work/messages"; }
 
 # The lines of the other faults.
 fault_lines() {

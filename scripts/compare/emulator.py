@@ -1,0 +1,66 @@
+"""QEMU's w25q64, behind the flash controller of its board ast2500-evb, driven over the protocol qtest.
+
+The processor of the board never runs. The controller is in its user mode: while the select is low each byte that is
+written into the window goes to the chip, and each one read there comes from it.
+"""
+import base64
+import subprocess
+
+import traces
+
+QEMU = "qemu-system-arm"
+CONFIGURATION, CONTROL, WINDOW = 0x1E620000, 0x1E620010, 0x20000000
+# Chip 0 is SPI flash and may be written; user mode, with the select low and high.
+WRITABLE, LOW, HIGH = 0x00010002, 0x3, 0x7
+CLEAR_LATCH = b"\x04"
+
+
+class Emulator:
+    """A running QEMU whose chip has the bytes of this file."""
+    # The bits of status 1 that this chip has: it lacks TB and SEC.
+    kept = 0x9F
+
+    def __init__(self, image):
+        self.process = subprocess.Popen(
+            [QEMU, "-M", "ast2500-evb,fmc-model=w25q64", "-S", "-qtest", "stdio", "-qtest-log", "/dev/null", "-display",
+             "none", "-monitor", "none", "-serial", "none", "-drive", f"file={image},format=raw,if=mtd"],
+            stdin=subprocess.PIPE, stdout=subprocess.PIPE, text=True)
+        self.ask(f"writel {CONFIGURATION} {WRITABLE}", f"writel {CONTROL} {HIGH}")
+
+    def __enter__(self):
+        return self
+
+    def __exit__(self, *_):
+        """Ends QEMU, which then has written its chip's file. Its pipes are closed behind it, or it would complain."""
+        self.process.terminate()
+        self.process.wait()
+        self.process.communicate()
+
+    def ask(self, *commands):
+        """Sends these commands of qtest at once, and returns their answers."""
+        self.process.stdin.write("".join(f"{it}\n" for it in commands))
+        self.process.stdin.flush()
+        answers = [self.process.stdout.readline() for _ in commands]
+        for command, answer in zip(commands, answers):
+            if answer.split()[:1] != ["OK"]:
+                raise OSError(f"QEMU answers {answer!r} to {command[:80]!r}")
+        return answers
+
+    def exchange(self, sent, count):
+        """Does a transaction: sends these bytes, and returns as many as are to come in.
+
+        A program or an erase clears the latch of a chip, and not of this one, so that is done behind it.
+        """
+        commands = [f"writel {CONTROL} {LOW}", f"write {WINDOW} {len(sent)} 0x{sent.hex()}"]
+        if count:
+            commands.append(f"b64read {WINDOW} {count}")
+        *_, last, _ = self.ask(*commands, f"writel {CONTROL} {HIGH}")
+        if traces.Transaction(sent).changes_bytes():
+            self.exchange(CLEAR_LATCH, 0)
+        return base64.b64decode(last.split()[1]) if count else b""
+
+
+def version():
+    """Returns the name and version of the installed QEMU."""
+    said = subprocess.run([QEMU, "--version"], capture_output=True, text=True, check=True).stdout
+    return " ".join(said.split()[0:4:3])

@@ -1,0 +1,73 @@
+"""The traces of flashnor, and what another chip does with them.
+
+A line of a trace is one transaction: the bytes sent, and where bytes came in ` > ` and their digits, or for more than
+three their number and ` bytes`.
+"""
+import re
+from typing import NamedTuple, Optional
+
+PAGE_PROGRAM, READ, READ_STATUS, SET_LATCH, READ_ID, WRITE_STATUS = 0x02, 0x03, 0x05, 0x06, 0x9F, 0x01
+ERASES = {0x20, 0x52, 0xD8, 0xC7}
+LINE = re.compile(r"((?:[0-9a-f]{2})+)(?: > (?:((?:[0-9a-f]{2}){1,3})|([4-9]|[1-9]\d+) bytes))?")
+
+
+class Transaction(NamedTuple):
+    """The bytes sent, how many came in, and which, where the line says it."""
+    sent: bytes
+    count: int = 0
+    reply: Optional[bytes] = None
+
+    def changes_bytes(self):
+        return self.sent[0] == PAGE_PROGRAM or self.sent[0] in ERASES
+
+    def changes(self):
+        return self.changes_bytes() or self.sent[0] == WRITE_STATUS
+
+
+def read_line(line):
+    """Returns the transaction of a line, which has no line feed."""
+    found = LINE.fullmatch(line)
+    if not found:
+        raise ValueError(f"no line of a trace: {line!r}")
+    sent, reply, count = found.groups()
+    if reply:
+        return Transaction(bytes.fromhex(sent), len(reply) // 2, bytes.fromhex(reply))
+    return Transaction(bytes.fromhex(sent), int(count or 0))
+
+
+def read_trace(text):
+    """Returns the transactions of a whole trace."""
+    if text and not text.endswith("\n"):
+        raise ValueError("the last line of a trace isn't ended")
+    return [read_line(line) for line in text.splitlines()]
+
+
+def wanted_of(transaction, image):
+    """Returns what has to come in, or nothing where neither the trace nor these bytes of the chip say it."""
+    if transaction.sent[0] == READ and image is not None:
+        start = int.from_bytes(transaction.sent[1:4], "big")
+        return image[start : start + transaction.count]
+    return transaction.reply if transaction.sent[0] in (READ_STATUS, READ_ID) else None
+
+
+def play(chip, transactions, before, after):
+    """Sends these to a chip. Returns how many replies were compared, and a text for each that is another.
+
+    `before` and `after` are the bytes that the chip has to have before the first change of them and after the last one;
+    what is read in between isn't known. `chip` has `exchange`, which takes the bytes to send and how many come in, and
+    `kept`, the bits of status 1 that it has.
+    """
+    changing = [number for number, it in enumerate(transactions) if it.changes_bytes()]
+    first, last = (changing[0], changing[-1]) if changing else (len(transactions), -1)
+    compared, differences = 0, []
+    for number, it in enumerate(transactions):
+        reply = chip.exchange(it.sent, it.count)
+        wanted = wanted_of(it, before if number < first else after if number > last else None)
+        if wanted is None:
+            continue
+        mask = chip.kept if it.sent[0] == READ_STATUS else 0xFF
+        compared += 1
+        if [byte & mask for byte in reply] != [byte & mask for byte in wanted]:
+            differences.append(f"line {number + 1} ({it.sent[:4].hex()}) brings in {reply[:8].hex()}, "
+                               f"not {wanted[:8].hex()}")
+    return compared, differences
