@@ -266,12 +266,12 @@ class Code(Source):
         return self.text[start:end].rstrip()
 
     def item(self, number):
-        """Returns the text of a type or a trait that begins in this line."""
+        """Returns the text of a type or a trait that begins in this line, without the attributes of its parts."""
         last = r"\}|\);|(pub )?struct .*[;}]$"
         end = next((at for at in range(number, len(self.lines)) if re.match(last, self.lines[at])), None)
         if end is None:
             fail(f"crates/{self.path}:{number + 1}: this type doesn't end")
-        return "\n".join(self.lines[number : end + 1])
+        return "\n".join(line for line in self.lines[number : end + 1] if not re.match(r" +#\[", line))
 
     def type_of(self, name):
         """Returns the type or trait that a name of Rust's is, or of a library the name."""
@@ -295,7 +295,8 @@ class Code(Source):
         found = [self.known(name, uses) for clause in clauses for name, _ in free_names(clause.term, bound)]
         if word.kind == "enum":
             rest = re.sub(r"(?m)^ +\w+", "", rest)
-        return found + [self.type_of(name) for name in sorted(set(re.findall(r"\b[A-Z]\w*", rest)) - bound)]
+        types = {name for name in re.findall(r"\b[A-Z]\w*", rest) if "_" not in name}  # and no constants
+        return found + [self.type_of(name) for name in sorted(types - bound)]
 
 
 Clause = collections.namedtuple("Clause", "kind name term")

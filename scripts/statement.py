@@ -26,27 +26,27 @@ CALLS = {
 # The subjects of the page in their order, and the files whose words each of them has. Where a word needs one of a later
 # subject the order gives way.
 SUBJECTS = {
-    "The chip": "nor_chip: specs/Size src/config src/running specs/Sfdp specs/Chip",
+    "The chip": "nor_chip: specs/Size src/config specs/Makers src/running specs/Sfdp specs/Chip",
     "Guarded places": "nor_chip: specs/Code specs/Guard specs/Offer",
     "What a transaction asks for": "nor_chip: src/command specs/Command specs/Aim",
     "The chip's step": "nor_chip: specs/Step",
     "A stop, and a loss of power": "nor_chip: specs/Power",
-    "The bus": "nor_chip: specs/Bus src/bus",
+    "The bus": "nor_chip: specs/Bus src/bus specs/Sent src/sent",
     "Looking, and counting transactions": "nor_driver: specs/Looks nor_apply: specs/Spending",
     "IDs, fixed bits and the code": "nor_chip: src/status nor_driver: specs/Reads specs/StatusWrites",
     "What a chip says by SFDP": "nor_probe: src/sfdp specs/Sfdp",
     "What a chip shows itself as": "nor_probe: src/table specs/Table src/probes specs/Known specs/Found",
     "The fewest erases": "nor_driver: src/units specs/Units nor_plan: specs/Erase specs/Planned",
     "The most transactions": "nor_driver: specs/Operations nor_save: specs/Opening nor_session: specs/Bounds",
-    "What a request includes": "nor_layout: src/ranges specs/Below specs/Ranges specs/Sectors nor_save: src/request",
-    "Touched and raised sectors": "nor_apply: specs/Content specs/Counts",
-    "What a request wants": "nor_save: specs/Request",
+    "What a request includes": "nor_count: specs/Below nor_layout: src/ranges specs/Ranges specs/Sectors nor_call: src/request",
+    "Touched and raised sectors": "nor_count: specs/Counts nor_plan: specs/Content",
+    "What a request wants": "nor_call: specs/Request nor_save: specs/Touched",
     "The vault": "nor_journal: src/vault specs/Vault src/mem_vault specs/MemVault",
     "The journal": "nor_journal: specs/Number specs/Text src/fault src/journal specs/Saved nor_save: specs/SavedScan",
-    "Refusals": "nor_save: src/refusal specs/Refusal",
+    "Refusals": "nor_call: src/refusal specs/Refusal",
     "What each refusal says, and the verdict": "nor_save: specs/Saving specs/Judging nor_session: specs/Verdict",
     "A chip that can be given back": "nor_apply: specs/Within specs/Change nor_session: specs/Changing",
-    "What a call makes of the chip": "nor_save: src/report nor_session: specs/Made",
+    "What a call makes of the chip": "nor_call: src/report nor_session: specs/Made",
     "Sessions": "nor_session: specs/Session",
     "Restores": "nor_session: specs/Restore",
     "Rehearsals": "nor_session: src/rehearsals specs/Rehearsal",
@@ -119,8 +119,8 @@ LEGEND = {
         "`map f xs`: f of each item; `flat_map f xs`: these lists, joined. `find t xs`: the first item that passes "
         "the test; `list_any t xs`: some item does. `All P xs`: P holds of each.",
     "range_with_len": "`range_with_len a n`: the n numbers from a on.",
-    "zero suc max is_power_of_two":
-        "`zero` is 0, `suc n` is n + 1, `max a b` the larger one; `is_power_of_two n` is a test.",
+    "zero suc max min is_power_of_two":
+        "`zero` is 0, `suc n` is n + 1, `max a b`, `min a b` the larger and the smaller; `is_power_of_two n` is a test.",
     "bit_and bit_or": "`bit_and a b`, `bit_or a b`: bit by bit.",
     "bytes_eq codes": '`bytes_eq xs ys` tests whether two lists are equal; `codes "ab"` are the bytes of a text.',
     "little_bytes little_from":
