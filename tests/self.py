@@ -71,10 +71,10 @@ TRIALS = [
 
 # A page, what is changed on it, and what is told: the step, with what it prints and what the page shows.
 PAGES = [
-    ("transactions in README", "README.md", r"(programs 1, transactions )30\.", r"\g<1>31.",
-     ["transactions 30.", "transactions 31."]),
-    ("a stop in README", "README.md", r"^(\$ .*)stop=20", r"\1stop=23",
-     ["at: flashnor", "Error 15: journal fault 1.", "transactions 8."]),
+    ("transactions in README", "README.md", r"(programs 1, transactions )13\.", r"\g<1>14.",
+     ["transactions 13.", "transactions 14."]),
+    ("a stop in README", "README.md", r"^(\$ .*)stop=25", r"\1stop=22",
+     ["at: flashnor", "Error 12: stopped.", "Error 15: journal fault 1."]),
     ("restores in README", "README.md", r"^Restores: 1\.$", "Restores: 2.", ["Restores: 1.", "Restores: 2."]),
     ("transactions in the manual page", "man/flashnor.8", r"^(Done: .*)15\.$", r"\g<1>16.",
      ["actions 15.", "actions 16."]),
