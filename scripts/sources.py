@@ -237,9 +237,14 @@ class Code(Source):
 
     def __init__(self, path):
         super().__init__(path)
+        owner = ""
         for number, line in enumerate(self.lines):
             if item := re.match(r"(?:pub )?(struct|enum|trait|fn) (\w+)", line):
                 self.take(item[1], item[2], number)
+            elif impl := re.match(r"impl(?:<[^>]*>)? (\w+)[^ ]* \{", line):
+                owner = impl[1]
+            elif method := re.match(r"    pub fn (\w+)", line):
+                self.take_method(f"{owner}::{method[1]}", number)
         self.take_parts()
 
     def take(self, kind, name, number):
@@ -258,6 +263,16 @@ class Code(Source):
             value = re.search(r".*ghost Value = .*", word.whole).group()
             fields = "{ .. }" if line.endswith("{") else "(..);"
             word.code = [f"{line[:-1]}{fields}", word.whole.splitlines()[0], value, "}"]
+
+    def take_method(self, name, number):
+        """Takes a method with its contract and the comment above it, as it would stand outside of its type."""
+        start = number
+        while re.match(r"    (//|#\[)", self.lines[start - 1]):
+            start -= 1
+        comment = [above[4:] for above in self.lines[start:number] if above[4:6] == "//"]
+        word = self.words[name] = Word(self, "fn", name, number + 1, comment)
+        word.whole = self.header(number)
+        word.code = [line[4:] for line in word.whole.splitlines()]
 
     def header(self, number):
         """Returns the text of a function that begins in this line, with its contract and without its body."""

@@ -1,8 +1,8 @@
 #!/usr/bin/env python3
 """scripts/statement.py [--check]: the page docs/STATEMENT.md, made from the sources.
 
-It prints all that three calls promise: each definition of specs/ and each type of src/ that their contracts need, in an
-order in which each word is explained before it is used, and then the contracts. A definition by one equation has its
+It prints all that three calls promise, and the laws that join them: each definition of specs/ and each type of src/ that
+their contracts need, in an order in which each word is explained before it is used, and then the contracts. A definition by one equation has its
 signature in it. With --check it compares the page with what it would print, tells each difference, and ends with status
 1 where there is one. It fails where a name is found nowhere, where SUBJECTS hasn't the file of a word, and where LEGEND
 doesn't explain a word of a library.
@@ -22,6 +22,19 @@ CALLS = {
     "restore": "nor_session/src/restores.rt",
     "rehearse": "nor_session/src/rehearsals.rt",
 }
+# What leads from a session to its restores, and what that comes to.
+LAWS = {
+    "Journal::read": "nor_journal/src/journal.rt",
+    "accepted_alone": "nor_session/src/sessions.rt",
+    "read_gives_back": "nor_session/src/laws.rt",
+    "session_written_over": "nor_session/src/laws.rt",
+    "restore_written_over": "nor_session/src/laws.rt",
+    "same_written_over": "nor_session/src/laws.rt",
+    "undone_in_turn": "nor_session/src/laws.rt",
+}
+END = """By `undo` a session that is stopped behind its seal `CanBeUndone`; its vault's bytes are read as that one journal
+(`kept`); so it `CanGiveBack` the first chip (`read_gives_back`), and so can it after each restore that is stopped
+(`within`); and the first restore that ends leaves that chip (`back`), refused by nothing but a stop (`only_stops`)."""
 
 # The subjects of the page in their order, and the files whose words each of them has. Where a word needs one of a later
 # subject the order gives way.
@@ -43,6 +56,7 @@ SUBJECTS = {
     "What a request wants": "nor_call: specs/Request nor_save: specs/Touched",
     "The vault": "nor_journal: src/vault specs/Vault src/mem_vault specs/MemVault",
     "The journal": "nor_journal: specs/Number specs/Text src/fault src/journal specs/Saved nor_save: specs/SavedScan",
+    "The faults of a journal": "nor_journal: specs/Fault",
     "Refusals": "nor_call: src/refusal specs/Refusal",
     "What each refusal says, and the verdict": "nor_save: specs/Saving specs/Judging nor_session: specs/Verdict",
     "A chip that can be given back": "nor_apply: specs/Within specs/Change nor_session: specs/Changing",
@@ -50,12 +64,14 @@ SUBJECTS = {
     "Sessions": "nor_session: specs/Session",
     "Restores": "nor_session: specs/Restore",
     "Rehearsals": "nor_session: src/rehearsals specs/Rehearsal",
+    "Sessions one after the other, and files that are written over": "nor_session: specs/WrittenOver specs/InTurn",
 }
 
 HEAD = """# The statement
 
-All that the calls `session`, `restore` and `rehearse` promise: their contracts stand at the end, and before them each
-definition and type that these need, as its source has it, so that each word is explained before it is used. (Only set
+All that the calls `session`, `restore` and `rehearse` promise, and what joins them: the contracts stand at the end, and
+before them each definition and type that these need, as its source has it, so that each word is explained before it is
+used. (Only set
 closer: a definition by one equation has its arguments' types beside them, and not in a line above; that a word is a
 statement, `: Type 0`, is left out where its type has no `→`; and fields without a comment stand side by side.)
 `make statement` makes this page from the sources (`scripts/statement.py`), `make agree` compares it with them, and it has
@@ -106,9 +122,9 @@ LEGEND = {
     "◌==◌ ◌&&◌ ◌||◌ not nat_lt nat_le IsTrue":
         "Tests: `a == b`, `p && q` (and), `p || q` (or), `not p`, `nat_lt a b` (a < b), `nat_le a b` (a ≤ b). "
         "`IsTrue t`: t is `true`.",
-    "IsSomeAnd IsOk is_some unwrap_or":
-        "`IsSomeAnd o P`: o is `Some x`, and P holds of x. `IsOk r`: r is an `Ok`. `is_some o` tests for a `Some`, "
-        "and `unwrap_or o d` is its x, or d.",
+    "IsSomeAnd IsOkAnd IsOk is_some unwrap_or":
+        "`IsSomeAnd o P`: o is `Some x`, and P holds of x; `IsOkAnd r P` likewise. `IsOk r`: r is an `Ok`. `is_some o` "
+        "tests for a `Some`, and `unwrap_or o d` is its x, or d.",
     "[] ◌∷◌ ◌++◌ length take drop":
         "`[]` is the empty list, `x ∷ xs` is x and then xs, `xs ++ ys` one behind the other, `length xs` how many "
         "there are. `take n xs` are the first n, and `drop n xs` the others.",
@@ -123,24 +139,25 @@ LEGEND = {
         "`zero` is 0, `suc n` is n + 1, `max a b`, `min a b` the larger and the smaller; `is_power_of_two n` is a test.",
     "bit_and bit_or": "`bit_and a b`, `bit_or a b`: bit by bit.",
     "bytes_eq codes": '`bytes_eq xs ys` tests whether two lists are equal; `codes "ab"` are the bytes of a text.',
-    "little_bytes little_from":
-        "`little_bytes n x`: x in n bytes, the lowest first; `little_from i n xs`: the number that the n bytes from "
-        "place i on are in this way.",
+    "little_bytes little_number little_from":
+        "`little_bytes n x`: x in n bytes, the lowest first; `little_number n xs`: the number that the first n bytes are "
+        "in this way, `little_from i n xs` the one that those from place i on are.",
     "sha256": "`sha256 xs`: the 32 bytes of their digest SHA-256.",
 }
 
 
 def needed():
-    """Returns the calls, each word that they need with those that it uses, and the names of libraries."""
-    calls = [source(path).words.get(name) or fail(f"{path} has no '{name}'") for name, path in CALLS.items()]
-    uses, names, todo = {}, set(), list(calls)
+    """Returns the contracts, each word that they need with those that it uses, and the names of libraries."""
+    contracts = [[source(path).words.get(name) or fail(f"{path} has no '{name}'") for name, path in part.items()]
+                 for part in (CALLS, LAWS)]
+    uses, names, todo = {}, set(), sum(contracts, [])
     while todo:
         word = todo.pop()
         found = word.source.used(word)
         names |= {use for use in found if isinstance(use, str)}
         uses[word] = {use for use in found if isinstance(use, Word) and use is not word}
         todo += [use for use in uses[word] if use not in uses]
-    return calls, uses, names
+    return contracts, uses, names
 
 
 @functools.cache
@@ -293,21 +310,23 @@ def told_of(words):
 
 def page():
     """Returns the lines of the page, and how much it has."""
-    calls, uses, names = needed()
+    contracts, uses, names = needed()
     explained = {name for line in LEGEND for name in line.split()}
     if missing := sorted(names - explained):
         fail(f"LEGEND of scripts/statement.py doesn't explain {' '.join(missing)}")
     if idle := sorted(explained - names):
         fail(f"LEGEND of scripts/statement.py explains {' '.join(idle)}, which the page doesn't have")
-    groups = sections({word: uses[word] for word in uses if word not in calls})
+    groups = sections({word: uses[word] for word in uses if word not in sum(contracts, [])})
     told = told_of(uses)
-    numbered = list(enumerate([*groups, ("The contracts", calls)], 1))
+    parts = zip(("The contracts", "From a session to its restores"), contracts)
+    numbered = list(enumerate([*groups, *parts], 1))
     lines = HEAD.format(told=told).splitlines()
     lines += [listed(number, *group) for number, group in numbered]
     lines += ["", "## How to read it", ""]
     lines += [f"- {text}" for text in LEGEND.values()]
     for number, (subject, words) in numbered:
         lines += ["", f"## {number}. {subject}", "", *show(words)]
+    lines += ["", *END.splitlines()]
     return lines, told
 
 
