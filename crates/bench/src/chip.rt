@@ -3,7 +3,7 @@ ghost use Rattle.std.specs.Prelude.{◌≡◌, IfOk, vec_len};
 
 use crate::fault::Fault;
 use crate::timing::{Aim, Work, compare, look_at};
-use nor_chip::{Config, Delays, MOST_SECTORS, Meter, SimBus};
+use nor_chip::{Config, Delays, MOST_SECTORS, Meter, SECTOR_LEN, SimBus};
 use nor_driver::{Erase, EraseUnit, erase, program_page, read_sector};
 use std::alloc::{AllocError, Global};
 use std::rt::Clock;
@@ -12,6 +12,8 @@ use std::rt::Clock;
 const CHIP: usize = 16777216;
 
 const PAGES: u32 = 65536;
+
+const SECTOR: usize = SECTOR_LEN as usize;
 
 const READS: Aim = Aim {
     what: "reads of a sector",
@@ -42,7 +44,7 @@ pub fn measure<R: Clock + Print + AllocGlobal>(rt: &R) -> Result<u64, Fault> {
     let mut sum = measure_reads(rt, &mut bus, &memory)?;
     let mut copies = CopiesIn {
         memory: &mut memory,
-        sector: [0x5A; 4096],
+        sector: [0x5A; SECTOR],
     };
     let mut erases = Erases { bus: &mut bus };
     sum ^= compare(rt, ERASES, &mut erases, &mut copies)?;
@@ -60,7 +62,7 @@ pub fn answer<R: Print + AllocGlobal>(rt: &R) -> Result<(), Fault> {
     let erased = count(bus.bytes(), 0xFF);
     let mut reads = Reads {
         bus: &mut bus,
-        sector: [0; 4096],
+        sector: [0; SECTOR],
     };
     let sum = reads.run()?;
     println!(rt;
@@ -77,11 +79,11 @@ fn count(bytes: &[u8], byte: u8) -> usize {
 fn measure_reads<R: Clock + Print>(rt: &R, bus: &mut SimBus, memory: &[u8]) -> Result<u64, Fault> {
     let mut copies = CopiesOut {
         memory,
-        sector: [0; 4096],
+        sector: [0; SECTOR],
     };
     let mut reads = Reads {
         bus,
-        sector: [0; 4096],
+        sector: [0; SECTOR],
     };
     compare(rt, READS, &mut reads, &mut copies)
 }
@@ -106,7 +108,7 @@ fn open_bus(alloc: Global) -> Result<SimBus, Fault> {
 #[derive(Drop)]
 struct Reads<'a> {
     bus: &'a mut SimBus,
-    sector: [u8; 4096],
+    sector: [u8; SECTOR],
 }
 
 impl Work for Reads<'_> {
@@ -154,13 +156,13 @@ impl Work for Programs<'_> {
 #[derive(Drop)]
 struct CopiesOut<'a> {
     memory: &'a [u8],
-    sector: [u8; 4096],
+    sector: [u8; SECTOR],
 }
 
 impl Work for CopiesOut<'_> {
     fn run(&mut self) -> Result<u64, Fault> {
         let mut sum = 0u64;
-        for sector in self.memory.as_chunks::<4096>().0 {
+        for sector in self.memory.as_chunks::<{ SECTOR }>().0 {
             self.sector.copy_from_slice(sector);
             sum = look_at(&self.sector, sum);
         }
@@ -172,12 +174,12 @@ impl Work for CopiesOut<'_> {
 #[derive(Drop)]
 struct CopiesIn<'a> {
     memory: &'a mut [u8],
-    sector: [u8; 4096],
+    sector: [u8; SECTOR],
 }
 
 impl Work for CopiesIn<'_> {
     fn run(&mut self) -> Result<u64, Fault> {
-        for sector in self.memory.as_chunks_mut::<4096>().0 {
+        for sector in self.memory.as_chunks_mut::<{ SECTOR }>().0 {
             sector.copy_from_slice(&self.sector);
         }
         Ok(self.memory.first().map_or(0, |byte| u64::from(*byte)))

@@ -5,7 +5,7 @@ ghost use Rattle.nor_journal.specs.Vault.{IsFresh};
 
 use crate::fault::Fault;
 use crate::timing::{Aim, Work, compare};
-use nor_chip::MOST_SECTORS;
+use nor_chip::{MOST_SECTORS, SECTOR_LEN};
 use nor_journal::{Journal, MemVault, Vault, VaultFault, Writer};
 use sha2::{Digest, Sha256};
 use std::alloc::Global;
@@ -55,7 +55,7 @@ fn write<V: Vault>(vault: &mut V) -> Result<(), VaultFault>
     requires { IsFresh (V.state vault.old) }
     ensures { OnOk result ((V.state vault.new).sealed ≡ true) }
 {
-    let sector = [0x5A; 4096];
+    let sector = [0x5A; SECTOR_LEN as usize];
     let mut writer = Writer::start(vault, [0xEF, 0x40, 0x18], [0; 8], [0, 0], CHIP)?;
     for number in 0..MOST_SECTORS {
         writer.add(number, &sector)?;

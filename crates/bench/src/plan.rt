@@ -2,6 +2,7 @@
 
 use crate::fault::Fault;
 use crate::timing::{Aim, Work, compare, look_at};
+use nor_chip::SECTOR_LEN;
 use nor_plan::{bounds, differs};
 use std::alloc::{AllocError, Global};
 use std::rt::Clock;
@@ -43,16 +44,16 @@ pub fn answer<R: Print + AllocGlobal>(rt: &R) -> Result<(), Fault> {
 // A sector, the same once more, and room for a copy, each in memory of its own as a program's buffers are.
 #[derive(Drop)]
 struct Sectors {
-    old: Box<[u8; 4096]>,
-    target: Box<[u8; 4096]>,
-    copy: Box<[u8; 4096]>,
+    old: Box<[u8; SECTOR_LEN as usize]>,
+    target: Box<[u8; SECTOR_LEN as usize]>,
+    copy: Box<[u8; SECTOR_LEN as usize]>,
 }
 
 impl Sectors {
     fn new(alloc: Global) -> Result<Sectors, AllocError> {
-        let old = Box::new(alloc, [0xA5; 4096])?;
-        let target = Box::new(alloc, [0xA5; 4096])?;
-        let copy = Box::new(alloc, [0; 4096])?;
+        let old = Box::new(alloc, [0xA5; SECTOR_LEN as usize])?;
+        let target = Box::new(alloc, [0xA5; SECTOR_LEN as usize])?;
+        let copy = Box::new(alloc, [0; SECTOR_LEN as usize])?;
         Ok(Sectors { old, target, copy })
     }
 

@@ -1,6 +1,7 @@
 //! Times of two pieces of work that are done in turn.
 
 use crate::fault::Fault;
+use nor_chip::SECTOR_LEN;
 use std::fmt;
 use std::rt::Clock;
 use std::time::{Duration, Instant};
@@ -13,8 +14,8 @@ pub trait Work {
 
 /// Adds the byte to a sum that lies at a place which the sum names. No compiler knows the place, so none leaves out
 /// what made the bytes.
-pub fn look_at(bytes: &[u8; 4096], sum: u64) -> u64 {
-    sum.wrapping_add(u64::from(bytes[(sum % 4096) as usize]))
+pub fn look_at(bytes: &[u8; SECTOR_LEN as usize], sum: u64) -> u64 {
+    sum.wrapping_add(u64::from(bytes[(sum % u64::from(SECTOR_LEN)) as usize]))
 }
 
 /// What is measured, beside what plain work, and at most how many times as long it shall take.

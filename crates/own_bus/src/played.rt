@@ -2,7 +2,7 @@
 
 use crate::own::Wires;
 use arrayvec::ArrayVec;
-use nor_chip::{Bus, SimBus, is_changing};
+use nor_chip::{Bus, SECTOR_LEN, SimBus, is_changing};
 use std::fmt;
 
 // A command has at most an opcode, three address bytes and a page.
@@ -27,7 +27,7 @@ pub struct Played {
     pub changing: u64,
     // the bytes of a command, and where they are all there what the chip replies, and how much of it went out
     sent: ArrayVec<u8, LONGEST>,
-    reply: [u8; 4096],
+    reply: [u8; SECTOR_LEN as usize],
     taken: usize,
 }
 
@@ -38,7 +38,7 @@ impl Played {
             left: u64::MAX,
             changing: 0,
             sent: ArrayVec::new(),
-            reply: [0xFF; 4096],
+            reply: [0xFF; SECTOR_LEN as usize],
             taken: 0,
         }
     }

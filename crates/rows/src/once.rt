@@ -5,7 +5,7 @@ use crate::held::assert_held;
 use crate::row::{Row, Start, erased};
 use crate::spoilt::most;
 use crate::stages::{Call, Job, Stage};
-use nor_chip::{Config, Delays, Status, Stopped};
+use nor_chip::{Config, Delays, SECTOR_LEN, Status, Stopped};
 use nor_driver::{
     Erase, EraseUnit, Halt, erase, poll, program_page, read_id, read_parameters, read_sector,
     read_status2, read_unique, wait, write_status,
@@ -40,7 +40,7 @@ impl Command {
             Command::Status2 => read_status2(bus) == Err(Stopped),
             Command::Unique => read_unique(bus) == Err(Stopped),
             Command::Sfdp => read_parameters(bus, 8, &mut [0; 8]) == Err(Stopped),
-            Command::Sector => read_sector(bus, 15, &mut [0; 4096]) == Err(Stopped),
+            Command::Sector => read_sector(bus, 15, &mut [0; SECTOR_LEN as usize]) == Err(Stopped),
             Command::Erase(unit) => erase(bus, Erase { unit, sector: 0 }) == Err(Halt::Stopped),
             Command::Program => program_page(bus, 0x1080, &[0xA5; 128]) == Err(Halt::Stopped),
             Command::WriteStatus => {

@@ -1,5 +1,5 @@
 //! The sessions that are stopped, spoilt and refused: each on its chip, with its image and its request.
-use nor_chip::{Config, Delays, SimBus, TINY64_SFDP};
+use nor_chip::{Config, Delays, SECTOR_LEN, SimBus, TINY64_SFDP};
 use nor_layout::{Layout, Ranges};
 use nor_session::{Request, What};
 use std::alloc::Global;
@@ -17,7 +17,7 @@ struct Bytes {
 
 impl Bytes {
     fn whole(self, rt: &impl Abort, alloc: Global, sectors: u32) -> Vec<u8> {
-        let size = sectors as usize * 4096;
+        let size = sectors as usize * SECTOR_LEN as usize;
         let mut whole = vec![in alloc; 0xFF; size].expect(rt, "memory");
         for place in 0..self.count {
             put(&mut whole, place, self.byte);

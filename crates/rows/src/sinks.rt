@@ -3,6 +3,7 @@ ghost use Rattle.std.specs.Prelude.{take, Some};
 ghost use Rattle.nor_journal.specs.Vault.{IsFresh};
 
 use crate::held::assert_held;
+use nor_chip::SECTOR_LEN;
 use nor_journal::{
     BrokenVault, FileVault, Journal, MemVault, Vault, VaultFault, VaultFile, Writer,
 };
@@ -32,7 +33,7 @@ fn save<V: Vault>(vault: &mut V, chip: &Journal<'_>) -> Result<(), VaultFault>
     requires { IsFresh (V.state vault.old) }
 {
     let writer = Writer::start(vault, chip.id(), [0; 8], chip.status(), chip.size())?;
-    let writer = writer.sector(0, &[0xFF; 4096])?;
+    let writer = writer.sector(0, &[0xFF; SECTOR_LEN as usize])?;
     writer.end()
 }
 

@@ -5,7 +5,7 @@ use crate::failing::{Fault, OnceBus};
 use crate::held::assert_held;
 use crate::row::{included, put, put_run};
 use crate::spoilt::most;
-use nor_chip::{Config, Delays, SimBus, TINY64_SFDP};
+use nor_chip::{Config, Delays, SECTOR_LEN, SimBus, TINY64_SFDP};
 use nor_journal::{Journal, MemVault, Vault};
 use nor_probe::probe;
 use nor_read::{read_out, verify, wp_status};
@@ -88,7 +88,7 @@ impl Job {
         let (mut place, count) = self.cleared();
         for _ in 0..count {
             put(&mut bytes, place, 0x00);
-            place = place.saturating_add(4096);
+            place = place.saturating_add(SECTOR_LEN as usize);
         }
         bytes
     }
@@ -171,7 +171,7 @@ impl Stage {
             rt,
             "as many bytes as the chip has",
         );
-        OnceBus::new(bus, most(self.job.size() / 4096), fault, behind)
+        OnceBus::new(bus, most(self.job.size() / SECTOR_LEN), fault, behind)
     }
 
     fn session(

@@ -4,6 +4,7 @@ use crate::chips::{self, Chip};
 use crate::dice::Dice;
 use crate::fault::Fault;
 use crate::{contents, guards, verdicts};
+use nor_chip::SECTOR_LEN;
 use nor_layout::{Layout, Ranges, Span};
 use nor_probe::ChipName;
 use nor_session::{Request, What};
@@ -42,7 +43,7 @@ impl Case {
 
     /// Some address of the sector is included by the request's ranges.
     pub fn includes_in(&self, sector: u32) -> bool {
-        let first = sector.saturating_mul(4096);
+        let first = sector.saturating_mul(SECTOR_LEN);
         self.reaches(first, first.saturating_add(4095))
     }
 
@@ -143,7 +144,7 @@ fn what_for(dice: &mut Dice, chip: &Chip) -> What {
     let ranges = if chip.config.scheme { 8 } else { 1 };
     if dice.hits(ranges, 20) {
         let (start, len) = guards::guarded_places(dice.byte() % 64, chip.config.size);
-        let start = start.saturating_add(dice.pick(0, &[0, 0, 0, 4096]));
+        let start = start.saturating_add(dice.pick(0, &[0, 0, 0, SECTOR_LEN]));
         let len = len.saturating_add(dice.pick(0, &[0, 0, 0, 0, 1]));
         return What::WpRange { start, len };
     }
@@ -177,10 +178,10 @@ fn spans_for(alloc: Global, dice: &mut Dice, chip: &Chip) -> Result<Vec<Span>, F
 
 // A span of a few bytes, a few sectors, or a part of the chip.
 fn span_for(dice: &mut Dice, size: u32) -> Span {
-    let sector = contents::sector(dice, size / 4096);
+    let sector = contents::sector(dice, size / SECTOR_LEN);
     let offset = dice.pick(0, &[0, 0x800, 0xFFF, 0x100]);
-    let first = sector.saturating_mul(4096).saturating_add(offset);
-    let most = dice.pick(300, &[4096, 4096, 40_000, size / 2]);
+    let first = sector.saturating_mul(SECTOR_LEN).saturating_add(offset);
+    let most = dice.pick(300, &[SECTOR_LEN, SECTOR_LEN, 40_000, size / 2]);
     let last = first.saturating_add(dice.below(most));
     let end = size.saturating_sub(1);
     if dice.hits(1, 40) {

@@ -5,7 +5,7 @@ use crate::dice::Dice;
 use crate::fault::Fault;
 use crate::guards::Status;
 use crate::parameters::{self, Told};
-use nor_chip::{Config, Delays, Meter, SimBus};
+use nor_chip::{Config, Delays, Meter, SECTOR_LEN, SimBus};
 use std::alloc::Global;
 
 /// A chip at a moment.
@@ -30,7 +30,7 @@ impl Chip {
 
     /// How many sectors of 4,096 bytes it has.
     pub fn sectors(&self) -> u32 {
-        self.config.size / 4096
+        self.config.size / SECTOR_LEN
     }
 
     /// The same chip in memory of its own.

@@ -1,6 +1,7 @@
 //! Bytes of chips and images by chance.
 
 use crate::dice::Dice;
+use nor_chip::SECTOR_LEN;
 
 /// How the bytes of some sectors come about.
 #[derive(Clone, Copy)]
@@ -42,8 +43,10 @@ pub fn sector(dice: &mut Dice, sectors: u32) -> u32 {
 
 /// The bytes of a sector.
 pub fn sector_at(bytes: &[u8], number: u32) -> &[u8] {
-    let start = number.saturating_mul(4096) as usize;
-    bytes.get(start..start.saturating_add(4096)).unwrap_or(&[])
+    let start = number.saturating_mul(SECTOR_LEN) as usize;
+    bytes
+        .get(start..start.saturating_add(SECTOR_LEN as usize))
+        .unwrap_or(&[])
 }
 
 /// The bytes of a whole chip.
@@ -88,9 +91,12 @@ pub fn alter(dice: &mut Dice, image: &mut [u8]) {
 
 // Gives some sectors in a row this style: up to three, or a unit of 32 or 64 KiB and a bit more.
 fn change_run(dice: &mut Dice, bytes: &mut [u8], style: Style) {
-    let sectors = u32::try_from(bytes.len() / 4096).unwrap_or(0);
+    let sectors = u32::try_from(bytes.len() / SECTOR_LEN as usize).unwrap_or(0);
     let (from, count) = run_for(dice, sectors);
-    let run = bytes.chunks_mut(4096).skip(from as usize).take(count);
+    let run = bytes
+        .chunks_mut(SECTOR_LEN as usize)
+        .skip(from as usize)
+        .take(count);
     for sector in run {
         change(dice, sector, style);
     }
@@ -123,7 +129,7 @@ fn change(dice: &mut Dice, sector: &mut [u8], style: Style) {
 // Changes the bytes at some places of a sector, where bits only fall, only rise, or both.
 fn change_some(dice: &mut Dice, sector: &mut [u8], places: u32, style: Style) {
     for _ in 0..places {
-        let at = dice.below(4096) as usize;
+        let at = dice.below(SECTOR_LEN) as usize;
         let byte = dice.byte();
         if let Some(place) = sector.get_mut(at) {
             *place = match style {

@@ -4,6 +4,7 @@ use crate::chips::Chip;
 use crate::fault::Fault;
 use crate::guards::{self, Status};
 use crate::pace::Pace;
+use nor_chip::SECTOR_LEN;
 use std::alloc::Global;
 use std::fmt::Write;
 
@@ -77,8 +78,8 @@ impl Lines {
 
     /// A sector.
     pub fn read_sector(&mut self, number: u32) {
-        let address = number.saturating_mul(4096);
-        self.lost |= writeln!(self.text, "03{address:06x} > 4096 bytes").is_err();
+        let address = number.saturating_mul(SECTOR_LEN);
+        self.lost |= writeln!(self.text, "03{address:06x} > {SECTOR_LEN} bytes").is_err();
     }
 
     /// An operation that erases the unit at an address, by its opcode.

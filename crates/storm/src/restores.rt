@@ -9,7 +9,7 @@ use crate::lines::{self, Lines};
 use crate::verdicts::{self, Saved};
 use crate::wanted::{Wanted, touched_in};
 use crate::{contents, guards, lengths, lies, traces, transactions};
-use nor_chip::{Meter, SimBus, TraceBus};
+use nor_chip::{Meter, SECTOR_LEN, SimBus, TraceBus};
 use nor_journal::Journal;
 use nor_session::{Refusal, Report, restore};
 use std::alloc::Global;
@@ -187,8 +187,11 @@ pub fn restored_of(alloc: Global, chip: &Chip, saved: Saved<'_>) -> Result<Wante
 }
 
 fn take_saved(bytes: &mut [u8], saved: Saved<'_>) {
-    let old = saved.sectors.iter().zip(saved.chip.bytes.chunks(4096));
-    for (now, (sector, old)) in bytes.chunks_mut(4096).zip(old) {
+    let old = saved
+        .sectors
+        .iter()
+        .zip(saved.chip.bytes.chunks(SECTOR_LEN as usize));
+    for (now, (sector, old)) in bytes.chunks_mut(SECTOR_LEN as usize).zip(old) {
         if sector.touched {
             take_over(now, old);
         }

@@ -11,7 +11,7 @@ use crate::readings::Reading;
 use crate::verdicts::{self, Saved};
 use crate::wanted::{Wanted, touches};
 use crate::{restores, transactions};
-use nor_chip::{Bus, Config, Delays, SimBus, SpoiltBus, Stopped, TraceBus};
+use nor_chip::{Bus, Config, Delays, SECTOR_LEN, SimBus, SpoiltBus, Stopped, TraceBus};
 use nor_probe::ChipName;
 use nor_session::{Refusal, Request, What};
 use std::alloc::{AllocError, AllocFailed, Global};
@@ -199,12 +199,15 @@ impl Caller<'_> {
 
     // Reads a sector into what is known of the chip.
     fn take_sector(&mut self, number: u32, chip: &mut Chip) -> Result<(), Halt> {
-        let sector = chip.bytes.chunks_mut(4096).nth(number as usize);
+        let sector = chip
+            .bytes
+            .chunks_mut(SECTOR_LEN as usize)
+            .nth(number as usize);
         self.read_sector(number, sector.unwrap_or(&mut []))
     }
 
     fn read_sector(&mut self, number: u32, sector: &mut [u8]) -> Result<(), Halt> {
-        let [_, high, middle, low] = number.saturating_mul(4096).to_be_bytes();
+        let [_, high, middle, low] = number.saturating_mul(SECTOR_LEN).to_be_bytes();
         self.send(&[0x03, high, middle, low], sector)
     }
 
@@ -282,9 +285,9 @@ impl Caller<'_> {
     }
 
     fn compare_sector(&mut self, number: u32, wanted: &[u8]) -> Result<(), Halt> {
-        let mut shown = [0; 4096];
+        let mut shown = [0; SECTOR_LEN as usize];
         self.read_sector(number, &mut shown)?;
-        refuse(difference(number.saturating_mul(4096), &shown, wanted))
+        refuse(difference(number.saturating_mul(SECTOR_LEN), &shown, wanted))
     }
 }
 

@@ -4,6 +4,7 @@ use crate::cases::Case;
 use crate::fault::{Fault, agree};
 use crate::lengths;
 use crate::wanted::Wanted;
+use nor_chip::SECTOR_LEN;
 use nor_session::Refusal;
 
 /// The opcodes after which a chip may be another, as a trace has them.
@@ -91,5 +92,5 @@ fn erased_by(line: &str, sectors: u32) -> Option<(u32, u32)> {
         _ => return None,
     };
     let address = u32::from_str_radix(line.get(2..)?, 16).ok()?;
-    Some((address / 4096 / count * count, count))
+    Some((address / SECTOR_LEN / count * count, count))
 }

@@ -4,7 +4,7 @@ use crate::cases::Case;
 use crate::chips::Chip;
 use crate::wanted::{Sector, Wanted};
 use crate::{guards, parameters};
-use nor_chip::Config;
+use nor_chip::{Config, SECTOR_LEN};
 use nor_probe::ChipName;
 use nor_session::{Refusal, What};
 
@@ -102,7 +102,7 @@ pub fn of_changes(case: &Case, wanted: &Wanted) -> Option<Refusal> {
     }
     match guarded {
         Some(sector) if !case.request.unlock => Some(Refusal::Protected {
-            address: sector.saturating_mul(4096),
+            address: sector.saturating_mul(SECTOR_LEN),
         }),
         _ => None,
     }

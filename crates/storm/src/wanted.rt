@@ -4,6 +4,7 @@ use crate::cases::Case;
 use crate::chips::Chip;
 use crate::fault::Fault;
 use crate::guards::{self, Status};
+use nor_chip::SECTOR_LEN;
 use nor_layout::Span;
 use nor_session::What;
 use std::alloc::Global;
@@ -158,7 +159,10 @@ fn wanted_status(case: &Case) -> Status {
 
 fn sectors_of(alloc: Global, old: &[u8], new: &[u8]) -> Result<Vec<Sector>, Fault> {
     let mut sectors = Vec::new(alloc);
-    for (old, new) in old.chunks(4096).zip(new.chunks(4096)) {
+    for (old, new) in old
+        .chunks(SECTOR_LEN as usize)
+        .zip(new.chunks(SECTOR_LEN as usize))
+    {
         sectors.push(sector_of(old, new))?;
     }
     Ok(sectors)
