@@ -1,0 +1,23 @@
+"""The changes of pages that tests/self.py tries on the built program: each changes its page, whose text is known before
+there is a program."""
+import importlib
+import pathlib
+import re
+import sys
+import unittest
+
+TESTS = pathlib.Path(__file__).resolve().parents[1]
+sys.path.insert(0, str(TESTS))
+trials = importlib.import_module("self")
+
+
+class Pages(unittest.TestCase):
+    def test_each_change_changes_its_page(self):
+        for what, page, old, new, _ in trials.PAGES:
+            text = (TESTS.parent / page).read_text(encoding="utf-8")
+            with self.subTest(what):
+                self.assertTrue(re.sub(old, new, text, flags=re.M) != text, f"{page} has nothing like {old}")
+
+
+if __name__ == "__main__":
+    unittest.main()
