@@ -1,6 +1,6 @@
 //! What a chip tells of itself and its bytes.
 
-ghost use Rattle.std.specs.Prelude.{◌≡◌, ◌<◌, ◌^◌, length, IfOk, OnOk, OnErr};
+ghost use Rattle.std.specs.Prelude.{◌≡◌, ◌<◌, ◌^◌, true, length, IfOk, OnOk, OnErr};
 ghost use Rattle.nor_driver.specs.Looks.{Looks, RanOutIfHonest};
 ghost use Rattle.nor_driver.specs.Reads.{IsReading, Replies, ReadsId, ReadsStatus2, ReadsUnique, ReadsSfdp, ReadsSector};
 
@@ -51,24 +51,27 @@ pub fn read_unique<B: Bus>(bus: &mut B) -> Result<[u8; 8], Stopped>
     Ok(unique)
 }
 
-/// SFDP bytes from an address on, as many as `bytes` takes (5Ah; JESD216).
+/// SFDP bytes from an address on, as many as `bytes` takes (5Ah; JESD216). On an honest bus a stop leaves `bytes` as
+/// they were.
 pub fn read_parameters<B: Bus>(bus: &mut B, address: u32, bytes: &mut [u8]) -> Result<(), Stopped>
     requires { address < 2 ^ 24 }
     ensures leaves { Looks 1 (B.state bus.old) (B.state bus.new) }
     ensures does { OnOk result (ReadsSfdp address (length bytes.old) (B.state bus.old) (B.state bus.new) bytes.new) }
     ensures halts { OnErr result (RanOutIfHonest 1 (B.state bus.old) (B.state bus.new)) }
+    ensures unread { (B.state bus.old).honest ≡ true → OnErr result (bytes.new ≡ bytes.old) }
 {
     let [high, middle, low] = address_bytes(address);
     read(bus, &[READ_SFDP, high, middle, low, 0], bytes)
 }
 
-/// The 4,096 bytes of a sector (03h).
+/// The 4,096 bytes of a sector (03h). On an honest bus a stop leaves `bytes` as they were.
 pub fn read_sector<B: Bus>(bus: &mut B, sector: u32, bytes: &mut [u8]) -> Result<(), Stopped>
     requires reachable { sector < 4096 }
     requires whole { length bytes.old ≡ 4096 }
     ensures leaves { Looks 1 (B.state bus.old) (B.state bus.new) }
     ensures does { OnOk result (ReadsSector sector (B.state bus.old) (B.state bus.new) bytes.new) }
     ensures halts { OnErr result (RanOutIfHonest 1 (B.state bus.old) (B.state bus.new)) }
+    ensures unread { (B.state bus.old).honest ≡ true → OnErr result (bytes.new ≡ bytes.old) }
 {
     let [high, middle, low] = address_bytes(SECTOR_LEN * sector);
     read(bus, &[READ_DATA, high, middle, low], bytes)
@@ -80,6 +83,7 @@ fn read<B: Bus>(bus: &mut B, out: &[u8], reply: &mut [u8]) -> Result<(), Stopped
     ensures leaves { Looks 1 (B.state bus.old) (B.state bus.new) }
     ensures does { OnOk result (Replies out.now (B.state bus.old) (B.state bus.new) reply.new) }
     ensures halts { OnErr result (RanOutIfHonest 1 (B.state bus.old) (B.state bus.new)) }
+    ensures unread { (B.state bus.old).honest ≡ true → OnErr result (reply.new ≡ reply.old) }
 {
     bus.transfer(out, reply)
 }

@@ -1,5 +1,5 @@
--- The emulated chips are known: the premise that a chip is genuine can be met.
-use Rattle.std.proofs.Common.{◌≡◌, ◌%◌, ◌∙◌, ℕ, Bool, true, false, List, [], ◌∷◌, ◌++◌, refl, ap, sym, subst}
+-- The emulated chips are known, also with another unique ID: the premise that a chip is genuine can be met.
+use Rattle.std.proofs.Common.{◌≡◌, ◌%◌, ◌∙◌, ℕ, Bool, true, false, List, [], ◌∷◌, ◌++◌, refl, ap, sym, subst, inl, inr}
 use Rattle.std.specs.Prelude.{Result, Ok, Err, Option, None, Some, not, map, replicate, slice_index_or, IsOk, if◌then◌else◌}
 use Rattle.std.specs.List.{range_with_len}
 use Rattle.nor_chip.specs.declared.config.Config.{Config}
@@ -14,7 +14,7 @@ use Rattle.nor_probe.specs.declared.probes.ProbeFault.{ProbeFault}
 use Rattle.nor_probe.specs.declared.probes.ProbeFault.TheVariants.{NoChip}
 use Rattle.nor_probe.specs.Table.{w25q64fv, w25q128fv, part_with_id}
 use Rattle.nor_driver.specs.Reads.{id_of, shown}
-use Rattle.nor_probe.specs.Known.{is_no_chip, pointer_in, chip_says, part_by_sfdp, listed_or, HasGeometry, IsKnown}
+use Rattle.nor_probe.specs.Known.{is_no_chip, pointer_in, chip_says, part_by_sfdp, listed_or, HasGeometry, IsGenuine, IsKnown, IsEmulated, shown_as}
 
 supported : is_chip_size_in_bits 524288 ≡ true
 unfolding is_chip_size_in_bits
@@ -100,3 +100,36 @@ pub w25q128fv_known : (config : Config) → IsW25q128fv config → IsKnown confi
 w25q128fv_known config made =
     let id = same_id config _ made.id in
     listed_known config w25q128fv (ap part_with_id id) (ap is_no_chip id) made.size made.kinds made.scheme
+
+pub emulated_known : (config : Config) → IsEmulated config → IsKnown config
+emulated_known config is = elim is [
+  | inl tiny ↦ tiny64_known config tiny
+  | inr winbond ↦ elim winbond [
+    | inl small ↦ w25q64fv_known config small
+    | inr large ↦ w25q128fv_known config large
+  ]
+]
+
+-- ---- the unique ID tells nothing of what a chip is
+
+says_renumbered : (config : Config) (unique : List ℕ) → chip_says (record config { unique = unique }) ≡ chip_says config
+unfolding chip_says shown
+says_renumbered config unique = refl
+
+genuine_renumbered : (config : Config) (unique : List ℕ) → IsGenuine config → IsGenuine (record config { unique = unique })
+genuine_renumbered config unique is = record {
+  listed = λ part row. let has = is.listed part row in (record { size = has.0.size; kinds = has.0.kinds }, has.1);
+  unlisted = is.unlisted;
+  described = λ none geometry says.
+      let has = is.described none geometry (sym (says_renumbered config unique) ∙ says) in
+      record { size = has.size; kinds = has.kinds };
+}
+
+pub renumbered_known : (config : Config) (unique : List ℕ) → IsKnown config → IsKnown (record config { unique = unique })
+renumbered_known config unique is =
+    let same : shown_as config ≡ shown_as (record config { unique = unique })
+    = ap (λ (says : Result Geometry SfdpFault). shown_from (id_of config) says) (sym (says_renumbered config unique)) in
+    record {
+      genuine = genuine_renumbered config unique is.genuine;
+      shown = subst (λ (r : Result Part ProbeFault). IsOk r) same is.shown;
+    }

@@ -1,6 +1,7 @@
 -- What a chip shows of itself, and which chips are genuine and known.
-use Rattle.std.specs.Prelude.{◌≡◌, ◌+◌, ◌*◌, ◌||◌, ℕ, Bool, true, false, Option, None, Some, Result, Ok, Err, List, [], ◌∷◌, bytes_eq, slice_index, IsOk, if◌then◌else◌}
+use Rattle.std.specs.Prelude.{◌≡◌, ◌+◌, ◌*◌, ◌||◌, ◌⊎◌, ℕ, Bool, true, false, Option, None, Some, Result, Ok, Err, List, [], ◌∷◌, bytes_eq, slice_index, IsOk, if◌then◌else◌}
 use Rattle.nor_chip.specs.declared.config.Config.{Config}
+use Rattle.nor_chip.specs.Makers.{IsTiny64, IsW25q64fv, IsW25q128fv}
 use Rattle.nor_chip.specs.Bus.{BusState}
 pub use Rattle.nor_driver.specs.Reads.{id_of, shown}
 use Rattle.nor_probe.specs.declared.sfdp.Geometry.{Geometry}
@@ -63,6 +64,10 @@ pub record IsGenuine (config : Config) : Type 0 where
 pub record IsKnown (config : Config) : Type 0 where
   pub genuine : IsGenuine config
   pub shown : IsOk (shown_as config)
+
+-- the configuration is that of one of the three emulated chips
+abbrev pub IsEmulated : Config → Type 0
+IsEmulated config = IsTiny64 config ⊎ IsW25q64fv config ⊎ IsW25q128fv config
 
 -- The bus is honest, and its chip genuine: what is promised of bytes is promised of these buses.
 pub record IsModelled (state : BusState) : Type 0 where

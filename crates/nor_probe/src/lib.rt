@@ -18,10 +18,12 @@
 //! What a probe tells stands in `specs/Found.antt`, over what a chip shows of itself, in `Known`.
 #![tactic(auto)]
 
+mod laws;
 mod probes;
 mod sfdp;
 mod table;
 
+pub use laws::emulated_are_known;
 pub use nor_chip::Kinds;
 pub use probes::{Found, ProbeFault, Probed, probe, probe_counted};
 pub use sfdp::{Geometry, SfdpFault, read_sfdp};

@@ -2,7 +2,7 @@
 use Rattle.std.proofs.Common.{◌≡◌, ◌∙◌, ℕ, ◌+◌, ◌*◌, ◌/◌, ◌%◌, Bool, true, false, List, [], ◌∷◌, Option, Some, None, Ok, Err, ap, sym, arith}
 use Rattle.std.specs.Prelude.{◌&&◌, ◌||◌, ◌==◌, MatchOption}
 use Rattle.std.proofs.lemmas.Bool.Decides.{nat_tests}
-use Rattle.nor_chip.specs.Chip.{Chip}
+use Rattle.nor_chip.specs.Chip.{Chip, IsSame, status1_of}
 use Rattle.nor_chip.specs.Guard.{guarded_by, code_of, is_guarded, is_undefined}
 use Rattle.nor_chip.specs.Code.{code_in, is_lock_set}
 use Rattle.nor_chip.specs.Offer.{IsRangeOf}
@@ -26,6 +26,10 @@ code_read one two k1 k2 low high = ap (λ (n : ℕ). 32 * (n / 64 % 2) + one / 4
 lock_read : (one two k1 k2 : ℕ) → one / 4 ≡ k1 → two ≡ k2
     → ((one / 128 % 2 == 1) || (two % 2 == 1)) ≡ (k1 / 32 % 2 == 1 || k2 % 2 == 1)
 lock_read one two k1 k2 low high = grind (arith, nat_tests)
+
+-- the kept bits of status 1 stand above BUSY, which an idle chip hasn't, and the latch
+kept1_read : (old mid : Chip) (one : ℕ) → one ≡ status1_of mid → IsSame old mid → mid.busy ≡ 0 → one / 4 ≡ old.kept1
+kept1_read old mid one is same idle = let kept = same.kept1 in grind (arith, nat_tests)
 
 -- a place of the chip is guarded as the status bytes say
 guard_read : (chip : Chip) (size code a : ℕ) → code ≡ code_of chip → size ≡ chip.config.size → chip.config.scheme ≡ true → is_guarded chip a ≡ guarded_by size code a
@@ -135,8 +139,9 @@ module _ (named : Option ChipName) (old mid new : BusState) (probed : Probed) (f
           → MatchOption range (is_undefined (code_in bytes) ≡ true) (λ places. IsRangeOf probed.found.size (code_in bytes) places.0 places.1) → locked ≡ is_lock_set bytes
           → IsModelled old → ProtectionModelled named old (Ok (record { range = range; locked = locked; size = probed.found.size }))
       told_modelled scheme are places lock known =
-          let one : probed.found.status1 / 4 ≡ old.chip.kept1 = found.is.status1 known.honest in
-          let two : status2 ≡ old.chip.kept2 = reads.told (looks.nature.honest ∙ known.honest) ∙ (found.rested known.honest).unchanged.same.kept2 in
+          let was = (found.rested known.honest).unchanged.same in
+          let one = kept1_read old.chip mid.chip probed.found.status1 (found.status1 known.honest) was (found.idle known.honest) in
+          let two : status2 ≡ old.chip.kept2 = reads.told (looks.nature.honest ∙ known.honest) ∙ was.kept2 in
           let protects : old.chip.config.scheme ≡ true = sym (found.is.config known).scheme ∙ scheme in
           let size = size_of named old mid probed found looks known in
           let code : code_in bytes ≡ code_of old.chip = ap code_in are ∙ code_read probed.found.status1 status2 old.chip.kept1 old.chip.kept2 one two in

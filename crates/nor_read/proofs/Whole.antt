@@ -1,7 +1,8 @@
 -- The probe, and what is read after it.
-use Rattle.std.proofs.Common.{◌≡◌, ◌≤◌, ◌+◌, ◌∙◌, ℕ, true, List, Option, Result, Ok, Err, ap, sym, subst, arith}
-use Rattle.std.specs.Prelude.{◌/◌, IsErrAnd}
+use Rattle.std.proofs.Common.{◌≡◌, ◌≤◌, ◌+◌, ◌*◌, ◌∙◌, ℕ, Bool, true, List, Option, Result, Ok, Err, ap, sym, subst, arith}
+use Rattle.std.specs.Prelude.{◌/◌, ◌==◌, IsErrAnd, if◌then◌else◌}
 use Rattle.nor_chip.specs.declared.config.Config.{Config}
+use Rattle.nor_chip.specs.Chip.{status1_of}
 use Rattle.nor_chip.specs.Bus.{BusState}
 use Rattle.nor_driver.specs.Looks.{Rested, Looks, RanOut, RanOutIfHonest, IsOpen}
 use Rattle.nor_layout.specs.declared.ranges.Span.{Span}
@@ -59,6 +60,15 @@ find_tells most named old new (Timeout address) fits tells honest = absurd (tell
 find_tells most named old new _ fits tells honest = absurd tells
 
 -- ---- where one is found
+
+-- A reading leaves an idle chip's status 1 as it is, each bit of it.
+status1_stays : (old new : BusState) → old.chip.busy ≡ 0 → Rested old new → status1_of new.chip ≡ status1_of old.chip
+status1_stays old new idle rested =
+    let less = rested.unchanged.busy in
+    let still : new.chip.busy ≡ old.chip.busy = omega arith in
+    ap (λ (n : ℕ). 4 * n + (if new.chip.latch then 2 else 0) + (if new.chip.busy == 0 then 0 else 1)) rested.unchanged.same.kept1
+    ∙ ap (λ (b : Bool). 4 * old.chip.kept1 + (if b then 2 else 0) + (if new.chip.busy == 0 then 0 else 1)) (rested.idle_latch idle)
+    ∙ ap (λ (n : ℕ). 4 * old.chip.kept1 + (if old.chip.latch then 2 else 0) + (if n == 0 then 0 else 1)) still
 
 module _ (named : Option ChipName) (old mid : BusState) (probed : Probed) (found : HasFound named old mid probed) (looks : Looks most_probe old mid) where
   -- what was found is of the chip's size
@@ -141,7 +151,8 @@ module _ (named : Option ChipName) (old mid : BusState) (probed : Probed) (found
       → HasReported probed reads report → old.honest ≡ true → ReportsReads reads old new report
   reports_reads reads new report rested fell is honest = record {
     shown = subst (λ (f : Found). shown_as old.chip.config ≡ Ok (part_in f)) (sym is.found) (found.is.shown honest);
-    status1 = subst (λ (f : Found). f.status1 / 4 ≡ old.chip.kept1) (sym is.found) (found.is.status1 honest);
+    status1 = ap (λ (f : Found). f.status1) is.found ∙ found.status1 honest
+        ∙ sym (status1_stays mid new (found.idle honest) (rested (looks.nature.honest ∙ honest)));
     rested = rested_after new rested honest;
     idle =
         let idle = found.idle honest in

@@ -2,6 +2,7 @@
 -- report or a refusal.
 use Rattle.std.specs.Prelude.{◌≡◌, ◌≤◌, ◌+◌, ◌/◌, ℕ, true, Option, Ok, List, ⊤}
 use Rattle.nor_chip.specs.declared.config.Config.{Config}
+use Rattle.nor_chip.specs.Chip.{status1_of}
 use Rattle.nor_chip.specs.Bus.{BusState}
 use Rattle.nor_driver.specs.Looks.{Rested, RanOut}
 use Rattle.nor_layout.specs.declared.ranges.Span.{Span}
@@ -23,21 +24,21 @@ abbrev pub most_status : ℕ
 most_status = 65541
 
 -- What was found: whatever the bus, a row of the table or a part by SFDP, with the name that is wanted. On an honest
--- bus it is what the chip shows itself as, with the kept bits of the chip's status; a genuine chip has its
--- configuration.
+-- bus it is what the chip shows itself as; a genuine chip has its configuration.
 pub record IsFound (named : Option ChipName) (old : BusState) (found : Found) : Type 0 where
   pub part : IsPart found
   pub has_name : IsWanted named found.name
   pub shown : old.honest ≡ true → shown_as old.chip.config ≡ Ok (part_in found)
-  pub status1 : old.honest ≡ true → found.status1 / 4 ≡ old.chip.kept1
   pub config : IsModelled old → IsConfigOf old.chip.config found
 
--- The probe found a chip. On an honest bus nothing changed, the chip is idle, and so many transactions were sent.
+-- The probe found a chip. On an honest bus nothing changed, the chip is idle, its status 1 was read, and so many
+-- transactions were sent.
 pub record HasFound (named : Option ChipName) (old new : BusState) (probed : Probed) : Type 0 where
   pub is : IsFound named old probed.found
   pub most : probed.transactions ≤ most_probe
   pub rested : old.honest ≡ true → Rested old new
   pub idle : old.honest ≡ true → new.chip.busy ≡ 0
+  pub status1 : old.honest ≡ true → probed.found.status1 ≡ status1_of new.chip
   pub count : old.honest ≡ true → probed.transactions ≡ needed old.chip
   pub fell : old.honest ≡ true → old.left ≡ new.left + probed.transactions
 
@@ -78,12 +79,12 @@ pub record ReportsPart (named : Option ChipName) (report : Report) : Type 0 wher
 pub record ReportsReads (reads : ℕ) (old new : BusState) (report : Report) : Type 0 where
   -- the part is what the chip shows itself as
   pub shown : shown_as old.chip.config ≡ Ok (part_in report.found)
-  -- the kept bits of status 1 are the chip's
-  pub status1 : report.found.status1 / 4 ≡ old.chip.kept1
   -- nothing changed
   pub rested : Rested old new
   -- the chip is idle
   pub idle : new.chip.busy ≡ 0
+  -- status 1 is what the chip replies now, each bit of it
+  pub status1 : report.found.status1 ≡ status1_of new.chip
   -- the transactions are those of the probe and of the reads
   pub count : report.transactions ≡ needed old.chip + reads
   -- so many were sent
