@@ -1,5 +1,5 @@
 -- Where the parts of a change aim, on every bus.
-use Rattle.std.proofs.Common.{◌≡◌, ◌<◌, ◌≤◌, ◌+◌, ◌*◌, ◌/◌, ◌∙◌, ℕ, Bool, true, false, true≢false, inl, inr, refl, ap, sym, arith}
+use Rattle.std.proofs.Common.{◌≡◌, ◌<◌, ◌≤◌, ◌+◌, ◌*◌, ◌/◌, ◌∙◌, ◌⊎◌, ℕ, Bool, true, false, true≢false, inl, inr, refl, ap, sym, arith}
 use Rattle.std.specs.Prelude.{◌&&◌, ◌||◌, nat_le, if◌then◌else◌}
 use Rattle.std.proofs.lemmas.Bool.{cases_Bool, cases_lt, and_parts, and_from, le-leb, leb-true, ltb-true, eqb-true}
 use Rattle.std.proofs.Math.Bool.{or-true}
@@ -32,7 +32,7 @@ use Rattle.nor_apply.proofs.ErasingSteps.{in_unit}
 
 -- ---- one of the sectors, or one behind the end
 
-pub aim_here : (sectors : ℕ → Bool) (size s : ℕ) → sectors s ≡ true → may_aim_at sectors size s ≡ true
+aim_here : (sectors : ℕ → Bool) (size s : ℕ) → sectors s ≡ true → may_aim_at sectors size s ≡ true
 aim_here sectors size s is = ap (λ (b : Bool). b || (nat_le (size / 4096) s && holds_run sectors 0 (size / 4096))) is
 
 aim_behind : (sectors : ℕ → Bool) (size s : ℕ) → size / 4096 ≤ s → ((k : ℕ) → k < size / 4096 → sectors k ≡ true) → may_aim_at sectors size s ≡ true
@@ -40,15 +40,22 @@ aim_behind sectors size s behind whole =
     ap (λ (b : Bool). sectors s || b) (and_from _ _ (le-leb (size / 4096) s behind) (holds_run-from sectors 0 (size / 4096) (λ k low high. whole k (omega arith))))
     ∙ or-true (sectors s)
 
--- a set that is wider
-pub aim_wider : (sectors more : ℕ → Bool) (size s : ℕ) → ((k : ℕ) → sectors k ≡ true → more k ≡ true) → may_aim_at sectors size s ≡ true → may_aim_at more size s ≡ true
-aim_wider sectors more size s wider may = elim (cases_Bool (sectors s)) [
-  | inl is ↦ aim_here more size s (wider s is)
+pub aim_split : (sectors : ℕ → Bool) (size s : ℕ) → may_aim_at sectors size s ≡ true
+    → (sectors s ≡ true) ⊎ ((size / 4096 ≤ s) × ((k : ℕ) → k < size / 4096 → sectors k ≡ true))
+aim_split sectors size s may = elim (cases_Bool (sectors s)) [
+  | inl is ↦ inl is
   | inr out ↦
       let behind : (nat_le (size / 4096) s && holds_run sectors 0 (size / 4096)) ≡ true =
       sym (ap (λ (b : Bool). b || (nat_le (size / 4096) s && holds_run sectors 0 (size / 4096))) out) ∙ may in
       let parts = and_parts _ _ behind in
-      aim_behind more size s (leb-true _ _ parts.0) (λ k below. wider k (holds_run-at sectors 0 (size / 4096) parts.1 k (omega arith) (omega arith)))
+      inr (leb-true _ _ parts.0, λ k below. holds_run-at sectors 0 (size / 4096) parts.1 k (omega arith) (omega arith))
+]
+
+-- a set that is wider
+aim_wider : (sectors more : ℕ → Bool) (size s : ℕ) → ((k : ℕ) → sectors k ≡ true → more k ≡ true) → may_aim_at sectors size s ≡ true → may_aim_at more size s ≡ true
+aim_wider sectors more size s wider may = elim (aim_split sectors size s may) [
+  | inl is ↦ aim_here more size s (wider s is)
+  | inr behind ↦ aim_behind more size s behind.0 (λ k below. wider k (behind.1 k below))
 ]
 
 -- ---- erases

@@ -68,7 +68,8 @@ pub record HasApplied (changes : Changes) (wanted : ℕ → ℕ) (old new : BusS
 abbrev pub most_applied : ℕ → ℕ
 most_applied touched = touched + most_operation * (17 * touched + 2)
 
--- At every exit.
+-- At every exit; whatever the bus, nothing is aimed beside the touched sectors, and the status is written no more often
+-- than is asked.
 pub record LeavesApply (changes : Changes) (wanted : ℕ → ℕ) (old new : BusState) : Type 0 where
   pub spends : Spends (most_applied (sector_count (touched_in changes))) old new
   pub aims : AimsWithin (may_aim_at (touched_in changes) changes.size) (status_writes changes) old new

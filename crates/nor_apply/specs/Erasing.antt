@@ -15,7 +15,7 @@ pub record CanEraseAll (sectors : ℕ → Bool) (kinds : Kinds) (size : ℕ) (ch
   pub can : CanChange sectors chip
   pub sized : IsSized size kinds chip
 
--- At every exit, on the way to sectors that are all FFh.
+-- At every exit, on the way to sectors that are all FFh; whatever the bus, no erase is aimed elsewhere.
 pub record LeavesErases (sectors : ℕ → Bool) (kinds : Kinds) (size : ℕ) (old new : BusState) : Type 0 where
   pub spends : Spends (most_operation * sector_count sectors) old new
   pub aims : AimsWithin (may_aim_at sectors size) 0 old new

@@ -92,7 +92,7 @@ pub record CanProgramAll (touched raised : ℕ → Bool) (wanted : ℕ → ℕ) 
   pub blank : (a : ℕ) → touched (a / 4096) ≡ true → raised (a / 4096) ≡ true → chip.bytes a ≡ 255
   pub falls : OnlyFalls touched wanted chip.bytes
 
--- At every exit, on the way to the wanted bytes.
+-- At every exit, on the way to the wanted bytes; whatever the bus, no program is aimed elsewhere.
 pub record LeavesPrograms (touched raised : ℕ → Bool) (wanted : ℕ → ℕ) (old new : BusState) : Type 0 where
   pub spends : Spends (most_sector * sector_count touched) old new
   pub aims : AimsWithin touched 0 old new

@@ -1,5 +1,5 @@
 -- Where a session or a restore aims, and how often it writes the status, on every bus.
-use Rattle.std.proofs.Common.{◌≡◌, ◌≤◌, ◌+◌, ◌/◌, ◌∙◌, ◌⊎◌, ℕ, Bool, true, List, inl, inr, ap, sym, arith}
+use Rattle.std.proofs.Common.{◌≡◌, ◌∙◌, ℕ, Bool, true, List, inl, inr, ap, sym, arith}
 use Rattle.std.specs.Prelude.{Err}
 use Rattle.nor_chip.specs.declared.sent.Sent.{Sent}
 use Rattle.nor_chip.specs.declared.status.Status.{Status}
