@@ -76,10 +76,11 @@ saved_aims touched size most journal old mid new sized saved still aims s = elim
 pub ready_aims : (request : Request) (opening : Opening) (status : Status) (code : ℕ) (kept : SavedScan) (old mid new : BusState) (wanted : ℕ → ℕ) (bytes : List ℕ)
     → Ready request opening status code kept old mid → LeavesChange (changes_of opening kept status code) wanted mid new
     → IsJournalOf opening.found.size (touched_in (changes_of opening kept status code)) bytes → (journal : IsJournal bytes) × AimsAtSaved journal.content old new
-ready_aims request opening status code kept old mid new wanted bytes is leaves journal =
-    (record { content = journal.content; is = journal.is; same = journal.same },
-    saved_aims (touched_in (changes_of opening kept status code)) opening.found.size (status_writes (changes_of opening kept status code)) journal.content old mid new journal.sized
-    (λ s touched. journal.saved s ∙ touched) is.looked.same_sent leaves.aims)
+ready_aims request opening status code kept old mid new wanted bytes is leaves journal = (
+  record { content = journal.content; is = journal.is; same = journal.same },
+  saved_aims (touched_in (changes_of opening kept status code)) opening.found.size (status_writes (changes_of opening kept status code)) journal.content old mid new journal.sized
+      (λ s touched. journal.saved s ∙ touched) is.looked.same_sent leaves.aims,
+)
 
 -- ---- a restore
 

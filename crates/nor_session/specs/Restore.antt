@@ -148,8 +148,9 @@ pub record CanGiveBack (journal : Content) (first : Chip) (state : BusState) : T
 pub record RestoreAlways (journal : Content) (old new : BusState) (result : Result Report Refusal) : Type 0 where
   -- at every exit no more was sent than a restore of so many sectors takes
   pub spends : Spends (most_of (length journal.saved)) old new
-  -- at every exit whatever was aimed at is saved, and the status was written twice at most
+  -- at every exit the journal saves the sectors that were aimed at
   pub aims : AimsAtSaved journal old new
+  -- at every exit the status was written at most twice
   pub writes : WritesStatusAtMost 2 old new
   -- a refusal is one that a restore gives
   pub answers : IfErr result IsRestoreRefusal

@@ -57,8 +57,8 @@ abbrev pub most_status_writes : What → (unlock : Bool) → ℕ
 most_status_writes (WpRange start len) unlock = 1
 most_status_writes _ unlock = if unlock then 2 else 0
 
--- the journal saves a whole chip, and the sector lies behind that one's end: the erase of a chip names no sector, so it
--- is aimed there too
+-- The journal saves a whole chip, and the sector lies behind that one's end: the erase of a chip names no sector, so it
+-- is aimed there too.
 pub record IsBehindWhole (journal : Content) (sector : ℕ) : Type 0 where
   pub whole : (s : ℕ) → s < journal.size / 4096 → is_saved journal s ≡ true
   pub behind : journal.size / 4096 ≤ sector
@@ -148,7 +148,7 @@ pub record SessionAlways (request : Request) (old new : BusState) (vault vault' 
   pub writes : WritesStatusAtMost (most_status_writes request.what request.unlock) old new
   -- the vault tells as before
   pub telling : vault'.telling ≡ vault.telling
-  -- once it is sealed, whatever was aimed at is saved by a telling vault's journal
+  -- once it is sealed a telling vault's journal saves the sectors that were aimed at, whatever the bus
   pub aims : vault'.sealed ≡ true → vault'.telling ≡ true
       → (journal : IsJournal vault'.bytes) × AimsAtSaved journal.content old new
   -- once it is sealed a telling vault holds a journal
