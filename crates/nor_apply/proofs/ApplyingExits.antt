@@ -5,7 +5,7 @@ use Rattle.nor_chip.specs.Bus.{BusState}
 use Rattle.nor_chip.proofs.Nature.{nature_then}
 use Rattle.nor_driver.specs.declared.waits.Halt.{Halt}
 use Rattle.nor_driver.specs.StatusWrites.{KeepsFixed}
-use Rattle.nor_driver.specs.Operations.{most_operation}
+use Rattle.nor_driver.specs.Operations.{AimsWithin, most_operation}
 use Rattle.nor_apply.specs.declared.changes.Changes.{Changes}
 use Rattle.nor_apply.specs.declared.changes.Work.{Work}
 use Rattle.nor_apply.specs.declared.tally.Tally.{Tally}
@@ -22,6 +22,7 @@ use Rattle.nor_apply.specs.Erasing.{LeavesErases, DoesErases}
 use Rattle.nor_apply.specs.Programming.{LeavesPrograms, DoesPrograms, most_sector}
 use Rattle.nor_apply.specs.Applying.{touched_in, raised_in, writes_code, most_applied, CanApply, LeavesApply, DoesApply}
 use Rattle.nor_apply.proofs.Kept.{fixed_refl, writable_same}
+use Rattle.nor_apply.proofs.Aiming.{aims_in, lift_writes, first_aims, second_aims, third_aims, fourth_aims, in_all}
 use Rattle.nor_count.proofs.Counting.{count_below-same, count_below-most, any_below-same}
 use Rattle.nor_apply.proofs.Changing.{idle_change, change_wider, change_then, erases_change, status_change}
 use Rattle.nor_apply.proofs.ApplyingSteps.{Lifted, Made, can_write, writable_lifted, writable_last, lifts, can_erase_all, bytes_erased, can_program_all, makes, applies}
@@ -130,6 +131,17 @@ third_spends changes wanted old free mid new sent erased second leaves =
     spends_then (most_operation + most_operation * sector_count (touched_in changes)) (most_sector * sector_count (touched_in changes)) old mid new
     (second_spends changes old free mid sent second.first second.leaves) leaves.spends
 
+-- ---- aims
+
+second_aimed : (changes : Changes) (old mid new : BusState) (sent : ℕ) → FirstDone changes old mid sent → LeavesErases (raised_in changes) changes.kinds changes.size mid new
+    → AimsWithin (aims_in changes) (lift_writes changes) old new
+second_aimed changes old mid new sent first leaves = second_aims changes old mid new first.inside (first_aims changes old mid first.leaves) leaves
+
+third_aimed : (changes : Changes) (wanted : ℕ → ℕ) (old free mid new : BusState) (sent : ℕ) (erased : Tally) → SecondDone changes old free mid sent erased
+    → LeavesPrograms (touched_in changes) (raised_in changes) wanted mid new → AimsWithin (aims_in changes) (lift_writes changes) old new
+third_aimed changes wanted old free mid new sent erased second leaves =
+    third_aims changes wanted old mid new (second_aimed changes old free mid sent second.first second.leaves) leaves
+
 -- ---- changes
 
 code_change : (changes : Changes) (wanted : ℕ → ℕ) (code : ℕ) (needed : Bool) (first old new : BusState) → CanApply changes wanted first.chip
@@ -207,6 +219,7 @@ fourth_change changes wanted needed old free mid made new sent erased programmed
 pub leaves_first : (changes : Changes) (wanted : ℕ → ℕ) (old new : BusState) → LeavesCode changes.status 0 changes.unlock old new → LeavesApply changes wanted old new
 leaves_first changes wanted old new leaves = record {
   spends = spends_more most_operation (most_applied (sector_count (touched_in changes))) old new (omega arith) (first_spends changes old new leaves);
+  aims = in_all changes old new (first_aims changes old new leaves);
   reached = first_change changes wanted old new leaves;
 }
 
@@ -215,6 +228,7 @@ pub leaves_second : (changes : Changes) (wanted : ℕ → ℕ) (old mid new : Bu
 leaves_second changes wanted old mid new sent first leaves = record {
   spends = spends_more (most_operation + most_operation * sector_count (touched_in changes)) (most_applied (sector_count (touched_in changes))) old new (omega arith)
       (second_spends changes old mid new sent first leaves);
+  aims = in_all changes old new (second_aimed changes old mid new sent first leaves);
   reached = second_change changes wanted old mid new sent first leaves;
 }
 
@@ -223,6 +237,7 @@ pub leaves_third : (changes : Changes) (wanted : ℕ → ℕ) (old free mid new 
 leaves_third changes wanted old free mid new sent erased second leaves = record {
   spends = spends_more (most_operation + most_operation * sector_count (touched_in changes) + most_sector * sector_count (touched_in changes)) (most_applied (sector_count (touched_in changes))) old new (omega arith)
       (third_spends changes wanted old free mid new sent erased second leaves);
+  aims = in_all changes old new (third_aimed changes wanted old free mid new sent erased second leaves);
   reached = third_change changes wanted old free mid new sent erased second leaves;
 }
 
@@ -233,6 +248,7 @@ leaves_fourth changes wanted needed old free mid made new sent erased programmed
       (spends_then (most_operation + most_operation * sector_count (touched_in changes) + most_sector * sector_count (touched_in changes)) most_operation old made new
       (third_spends changes wanted old free mid made sent erased third.second third.leaves)
       (spends_more (if needed then most_operation else 0) most_operation made new (write_most needed) leaves.spends));
+  aims = fourth_aims changes needed old made new is (third_aimed changes wanted old free mid made sent erased third.second third.leaves) leaves;
   reached = fourth_change changes wanted needed old free mid made new sent erased programmed is third leaves;
 }
 

@@ -9,22 +9,25 @@ use Rattle.nor_driver.specs.declared.units.Erase.{Erase}
 use Rattle.nor_driver.specs.declared.waits.Halt.{Halt}
 use Rattle.nor_driver.specs.Waits.{Halts}
 use Rattle.nor_driver.specs.Erases.{sectors_of, LeavesErase, Erases}
-use Rattle.nor_driver.specs.Operations.{most_operation}
+use Rattle.nor_driver.specs.Operations.{AimsWithin, most_operation}
+use Rattle.nor_driver.proofs.Aims.{aims_none, aims_then}
 use Rattle.nor_plan.specs.Erase.{Covers}
 use Rattle.nor_plan.specs.Planned.{planned}
 use Rattle.nor_apply.specs.declared.tally.Tally.{Tally}
 use Rattle.nor_count.specs.Counts.{sector_count}
 use Rattle.nor_apply.specs.Change.{MayChange, HasChanged, blank}
-use Rattle.nor_apply.specs.Spending.{Tallies}
+use Rattle.nor_apply.specs.Spending.{Tallies, may_aim_at}
 use Rattle.nor_apply.specs.Erasing.{CanEraseAll, LeavesErases, DoesErases}
 use Rattle.nor_apply.proofs.Changing.{has_may, change_then, change_wider}
 use Rattle.nor_count.proofs.Counting.{count_below-most}
 use Rattle.nor_apply.proofs.ErasingUnits.{union_of, IsOfPlan, union_more, planned_few, next_of_plan, union_of_plan, next_few}
+use Rattle.nor_apply.proofs.Aiming.{erase_aims}
 use Rattle.nor_apply.proofs.ErasingSteps.{can_erase, erase_change, erased_more, changed_same, changed_none}
 
 -- These erases of a plan have succeeded, one after the other.
 pub record ErasesSoFar (kinds : Kinds) (size : ℕ) (set : ℕ → Bool) (units : List Erase) (old new : BusState) (tally : Tally) : Type 0 where
   pub nature : KeepsNature old new
+  pub aims : AimsWithin (may_aim_at set size) 0 old new
   pub count : tally.count ≡ length units
   pub still : tally.count ≡ 0 → new.sent ≡ old.sent
   pub tallies : Tallies 0 old new tally
@@ -78,6 +81,7 @@ is_next kinds size set units left unit rest plan first =
 pub none_so_far : (kinds : Kinds) (size : ℕ) (set : ℕ → Bool) (state : BusState) (tally : Tally) → tally.count ≡ 0 → tally.transactions ≡ 0 → ErasesSoFar kinds size set [] state state tally
 none_so_far kinds size set state tally count transactions = record {
   nature = nature_refl state;
+  aims = aims_none (may_aim_at set size) 0 state state refl;
   count = count;
   still = λ none. refl;
   tallies = record { least = omega arith; few = omega arith; sent = λ honest. omega arith };
@@ -92,6 +96,7 @@ pub erases_more : (kinds : Kinds) (size : ℕ) (set : ℕ → Bool) (units : Lis
     → more.count ≡ tally.count + 1 → more.transactions ≡ tally.transactions + sent → ErasesSoFar kinds size set (units ++ unit ∷ []) old new more
 erases_more kinds size set units unit old mid new tally more sent next so leaves erases count transactions = record {
   nature = nature_then old mid new leaves.stirs.nature so.nature;
+  aims = aims_then (may_aim_at set size) 0 0 0 old mid new (omega arith) so.aims (erase_aims kinds size set unit mid new next.plan leaves);
   count = let same = so.count in let longer = length-append units (unit ∷ []) in omega (arith, count, same, longer);
   still = λ none. absurd (omega (arith, count, none));
   tallies = record {
@@ -128,6 +133,7 @@ leaves_halted kinds size set units unit old mid new tally next so leaves =
             let fell = step.fell in let bound = step.bound in
             record { fell = omega (arith, before, fell); bound = omega (arith, before, bound, few, count, most) };
       };
+      aims = aims_then (may_aim_at set size) 0 0 0 old mid new (omega arith) so.aims (erase_aims kinds size set unit mid new next.plan leaves);
       reached = λ honest can.
           let has = so.done honest can in
           let able = can_erase kinds size set (union_of (size / 4096) units) unit old mid next.plan can has in
@@ -169,6 +175,7 @@ leaves_ended kinds size set units left old new tally plan none so =
             let before = so.tallies.sent honest in
             record { fell = omega (arith, before); bound = omega (arith, before, few, count, most) };
       };
+      aims = so.aims;
       reached = so_far_may kinds size set units old new tally (λ s erased. sym (union_is kinds size set units left plan none s) ∙ erased) so;
     }
 

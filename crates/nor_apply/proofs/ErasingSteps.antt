@@ -48,7 +48,7 @@ free_unit chip sectors from n free first last some =
     let two = free (4096 * from + 4096 * n - 1) (ap sectors end ∙ last) in
     ap (λ b. b || is_guarded chip (4096 * from + 4096 * n - 1)) one ∙ two
 
-in_unit : (total s : ℕ) (unit : Erase) → unit.sector ≤ s → s < unit.sector + sectors_in total unit.unit → erases_sector total s unit ≡ true
+pub in_unit : (total s : ℕ) (unit : Erase) → unit.sector ≤ s → s < unit.sector + sectors_in total unit.unit → erases_sector total s unit ≡ true
 in_unit total s unit low high = and_from _ _ (le-leb unit.sector s low) (lt-ltb s (unit.sector + sectors_in total unit.unit) high)
 
 -- an erase of the plan can be carried out on the chip that the erases before it left

@@ -3,6 +3,7 @@ pub mod Changing
 pub mod Alone
 pub mod ErasingUnits
 pub mod ErasingSteps
+pub mod Aiming
 pub mod ErasingExits
 pub mod ProgrammingPages
 pub mod ProgrammingSpans

@@ -7,7 +7,8 @@ use Rattle.nor_chip.proofs.Nature.{nature_refl, nature_then}
 use Rattle.nor_driver.specs.declared.waits.Halt.{Halt}
 use Rattle.nor_driver.specs.Waits.{Halts}
 use Rattle.nor_driver.specs.Programs.{LeavesProgram, Programs}
-use Rattle.nor_driver.specs.Operations.{most_operation}
+use Rattle.nor_driver.specs.Operations.{AimsWithin, most_operation}
+use Rattle.nor_driver.proofs.Aims.{aims_none, aims_then}
 use Rattle.nor_plan.specs.declared.page.Span.{Span}
 use Rattle.nor_plan.specs.Span.{spans_of}
 use Rattle.nor_plan.specs.SpanFacts.{IsSpan, AreSpans}
@@ -15,13 +16,15 @@ use Rattle.nor_apply.specs.declared.tally.Tally.{Tally}
 use Rattle.nor_apply.specs.Change.{only, byte_of}
 use Rattle.nor_plan.specs.SectorSet.{none}
 use Rattle.nor_apply.specs.Programming.{CanProgramSpans, LeavesSpans, DoesSpans, most_pages}
+use Rattle.nor_apply.proofs.Aiming.{program_aims}
 use Rattle.nor_apply.proofs.Changing.{has_may}
 use Rattle.nor_apply.proofs.ProgrammingPages.{spans_pages, spans_most}
-use Rattle.nor_apply.proofs.ProgrammingSpans.{HasFilled, Spanned, part, can_span, span_filled, span_may, filled_none, filled_all}
+use Rattle.nor_apply.proofs.ProgrammingSpans.{HasFilled, Spanned, part, within_page, can_span, span_filled, span_may, filled_none, filled_all}
 
 -- These spans were programmed, and nothing else was sent.
 pub record SpansSoFar (sector : ℕ) (old wanted : List ℕ) (spans : List Span) (first now : BusState) (tally : Tally) : Type 0 where
   pub nature : KeepsNature first now
+  pub aims : AimsWithin (only sector) 0 first now
   pub counted : tally.count ≡ length spans
   pub least : 3 * tally.count ≤ tally.transactions
   pub few : tally.transactions ≤ most_operation * tally.count
@@ -58,6 +61,7 @@ next_span sector old wanted spans left left' span whole wanted_whole is each nex
 pub spans_none : (sector : ℕ) (old wanted : List ℕ) (state : BusState) → SpansSoFar sector old wanted [] state state (record { count = 0; transactions = 0 })
 spans_none sector old wanted state = record {
   nature = nature_refl state;
+  aims = aims_none (only sector) 0 state state refl;
   counted = refl;
   least = omega arith;
   few = omega arith;
@@ -65,12 +69,21 @@ spans_none sector old wanted state = record {
   done = λ honest can. filled_none sector wanted state can.can.idle;
 }
 
+-- one more of a sector aims at no other
+span_aims : (sector : ℕ) (old wanted : List ℕ) (spans : List Span) (span : Span) (first now new : BusState) → IsNext sector old wanted spans span
+    → AimsWithin (only sector) 0 first now → LeavesProgram (4096 * sector + span.first) (part wanted span) now new → AimsWithin (only sector) 0 first new
+span_aims sector old wanted spans span first now new next before leaves =
+    let room = within_page sector old wanted span next.spanned in
+    let order = room.0 in let last = room.1 in
+    aims_then (only sector) 0 0 0 first now new (omega arith) before (program_aims sector span.first (part wanted span) now new (omega (arith, order, last)) leaves)
+
 pub spans_more : (sector : ℕ) (old wanted : List ℕ) (spans : List Span) (span : Span) (first now new : BusState) (tally : Tally) (sent more : ℕ) → more ≡ sent
     → IsNext sector old wanted spans span → SpansSoFar sector old wanted spans first now tally
     → LeavesProgram (4096 * sector + span.first) (part wanted span) now new → Programs (4096 * sector + span.first) (part wanted span) now new sent
     → SpansSoFar sector old wanted (spans ++ span ∷ []) first new (record { count = tally.count + 1; transactions = tally.transactions + more })
 spans_more sector old wanted spans span first now new tally sent more same next before leaves programs = record {
   nature = nature_then first now new leaves.stirs.nature before.nature;
+  aims = span_aims sector old wanted spans span first now new next before.aims leaves;
   counted = ap (λ (n : ℕ). n + 1) before.counted ∙ sym (length_push spans span);
   least = let a = before.least in let b = programs.ends.least in omega arith;
   few = let a = before.few in let b = programs.ends.few in omega arith;
@@ -103,6 +116,7 @@ leaves_halted sector old wanted spans span first now new tally next before leave
             let fell = falls.fell in let bound = falls.bound in
             record { fell = omega arith; bound = omega arith };
       };
+      aims = span_aims sector old wanted spans span first now new next before.aims leaves;
       reached = λ honest can.
           let filled = before.done honest can in
           span_may sector old wanted spans span first now new next.spanned can filled before.nature.steady
@@ -161,5 +175,6 @@ leaves_ended sector old wanted spans first now tally whole are all before =
         nature = before.nature;
         falls = λ honest. let sent = before.sent honest in record { fell = omega arith; bound = omega arith };
       };
+      aims = before.aims;
       reached = λ honest can. has_may (only sector) none (byte_of sector wanted) first now (does.done honest can);
     }

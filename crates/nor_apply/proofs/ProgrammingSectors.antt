@@ -6,6 +6,7 @@ use Rattle.nor_chip.specs.Power.{KeptStay}
 use Rattle.nor_chip.specs.Bus.{BusState}
 use Rattle.nor_chip.proofs.Nature.{nature_then}
 use Rattle.nor_driver.specs.Reads.{IsSectorOf}
+use Rattle.nor_driver.proofs.Aims.{aims_none, aims_then}
 use Rattle.nor_apply.specs.declared.tally.Tally.{Tally}
 use Rattle.nor_plan.specs.Content.{is_other, is_page_other}
 use Rattle.nor_apply.specs.Change.{only, byte_of}
@@ -151,6 +152,7 @@ sector_leaves sector wanted erased bytes bytes' reads first mid new blank loads 
             let fell = looked.falls.fell in let bound = looked.falls.bound in let fell' = falls.fell in let bound' = falls.bound in
             record { fell = omega arith; bound = omega arith };
       };
+      aims = aims_then (only sector) 0 0 0 first mid new (omega arith) (aims_none (only sector) 0 first mid looks.sent) leaves.aims;
       reached = λ honest can.
           let loaded = has_loaded sector wanted erased bytes bytes' reads first mid blank loads.ends honest can in
           change_then (only sector) none (byte_of sector wanted) first mid new looks.nature.steady

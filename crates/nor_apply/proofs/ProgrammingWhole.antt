@@ -9,7 +9,8 @@ use Rattle.nor_chip.specs.Bus.{BusState, KeepsNature}
 use Rattle.nor_chip.proofs.Sizes.{sized_bounds}
 use Rattle.nor_chip.proofs.Nature.{nature_refl, nature_then}
 use Rattle.nor_driver.specs.declared.waits.Halt.{Halt}
-use Rattle.nor_driver.specs.Operations.{most_operation}
+use Rattle.nor_driver.specs.Operations.{AimsWithin, most_operation}
+use Rattle.nor_driver.proofs.Aims.{aims_none, aims_more, aims_then}
 use Rattle.nor_apply.specs.declared.tally.Tally.{Tally}
 use Rattle.nor_count.specs.Below.{count_below}
 use Rattle.nor_count.specs.Counts.{sector_count}
@@ -61,6 +62,7 @@ before_skip touched n s free =
 -- The touched sectors below a number were programmed, and nothing else was sent.
 pub record SectorsSoFar (touched raised : ℕ → Bool) (wanted : ℕ → ℕ) (n : ℕ) (first now : BusState) (tally : Tally) : Type 0 where
   pub nature : KeepsNature first now
+  pub aims : AimsWithin touched 0 first now
   pub fewer : tally.count ≤ 16 * count_below n touched
   pub still : count_below n touched ≡ 0 → now.sent ≡ first.sent
   pub least : 3 * tally.count ≤ tally.transactions
@@ -73,6 +75,7 @@ pub record SectorsSoFar (touched raised : ℕ → Bool) (wanted : ℕ → ℕ) (
 pub sectors_none : (touched raised : ℕ → Bool) (wanted : ℕ → ℕ) (state : BusState) → SectorsSoFar touched raised wanted 0 state state (record { count = 0; transactions = 0 })
 sectors_none touched raised wanted state = record {
   nature = nature_refl state;
+  aims = aims_none touched 0 state state refl;
   fewer = omega arith;
   still = λ none. refl;
   least = omega arith;
@@ -103,6 +106,7 @@ sectors_skip touched raised wanted n first now tally free so_far =
     let count = count_below-without n touched free in let fewer = so_far.fewer in let few = so_far.few in
     record {
       nature = so_far.nature;
+      aims = so_far.aims;
       fewer = omega arith;
       still = λ none. so_far.still (omega arith);
       least = so_far.least;
@@ -196,6 +200,12 @@ sector_joins touched wanted n bytes first now new is earlier later = record {
   latch = λ set. earlier.latch (later.latch set);
 }
 
+-- one more of the touched ones aims at no other
+sector_aims : (touched : ℕ → Bool) (wanted : ℕ → ℕ) (n : ℕ) (bytes : List ℕ) (first now new : BusState) → IsTouched touched wanted n bytes
+    → AimsWithin touched 0 first now → AimsWithin (only n) 0 now new → AimsWithin touched 0 first new
+sector_aims touched wanted n bytes first now new is before after =
+    aims_then touched 0 0 0 first now new (omega arith) before (aims_more (only n) touched 0 0 now new (λ s here. ap touched (only-is n s here) ∙ is.is) (omega arith) after)
+
 pub sectors_more : (touched raised : ℕ → Bool) (wanted : ℕ → ℕ) (n : ℕ) (bytes : List ℕ) (erased : Bool) (first now new : BusState) (tally more : Tally) → erased ≡ raised n
     → IsTouched touched wanted n bytes → SectorsSoFar touched raised wanted n first now tally
     → LeavesSector n bytes erased now new → DoesSector n bytes erased now new more
@@ -206,6 +216,7 @@ sectors_more touched raised wanted n bytes erased first now new tally more erase
     λ can done. subst (λ (b : Bool). CanProgramSector n bytes b now.chip) (sym erased_is) (can_sector touched raised wanted n bytes first now is can done) in
     record {
       nature = nature_then first now new leaves.spends.nature so_far.nature;
+      aims = sector_aims touched wanted n bytes first now new is so_far.aims leaves.aims;
       fewer = let fewer' = does.fewer in omega arith;
       still = λ none. absurd (omega arith);
       least = let least = so_far.least in let least' = does.tallies.least in omega arith;
@@ -272,6 +283,7 @@ leaves_halted touched raised wanted n bytes erased first now new tally erased_is
             let fell = falls.fell in let bound = falls.bound in
             record { fell = omega arith; bound = omega arith };
       };
+      aims = sector_aims touched wanted n bytes first now new is so_far.aims leaves.aims;
       reached = λ honest can.
           let done = so_far.done honest can in
           let can_now = subst (λ (b : Bool). CanProgramSector n bytes b now.chip) (sym erased_is) (can_sector touched raised wanted n bytes first now is can done) in
@@ -333,5 +345,6 @@ leaves_ended touched raised wanted n first now tally end so_far =
         nature = so_far.nature;
         falls = λ honest. let sent = so_far.sent honest in record { fell = omega arith; bound = omega arith };
       };
+      aims = so_far.aims;
       reached = λ honest can. has_may touched none wanted first now (does.done honest can);
     }

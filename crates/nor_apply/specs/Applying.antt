@@ -8,7 +8,7 @@ use Rattle.nor_chip.specs.Bus.{BusState}
 use Rattle.nor_driver.specs.declared.waits.Halt.{Halt}
 use Rattle.nor_driver.specs.declared.waits.Halt.TheVariants.{Stopped, Timeout}
 use Rattle.nor_driver.specs.StatusWrites.{KeepsFixed, HasCode, HasKeptBits}
-use Rattle.nor_driver.specs.Operations.{most_operation}
+use Rattle.nor_driver.specs.Operations.{AimsWithin, most_operation}
 use Rattle.nor_plan.specs.Planned.{planned}
 use Rattle.nor_plan.specs.SectorSet.{has}
 use Rattle.nor_apply.specs.declared.changes.Changes.{Changes}
@@ -18,7 +18,7 @@ use Rattle.nor_count.specs.Counts.{sector_count}
 use Rattle.nor_plan.specs.Content.{once_erased, is_programmed}
 use Rattle.nor_apply.specs.Within.{is_writable}
 use Rattle.nor_apply.specs.Change.{IsSized, MayChange}
-use Rattle.nor_apply.specs.Spending.{Spends}
+use Rattle.nor_apply.specs.Spending.{Spends, may_aim_at}
 
 -- the touched sectors, and the raised ones
 abbrev pub touched_in : Changes → ℕ → Bool
@@ -68,9 +68,11 @@ pub record HasApplied (changes : Changes) (wanted : ℕ → ℕ) (old new : BusS
 abbrev pub most_applied : ℕ → ℕ
 most_applied touched = touched + most_operation * (17 * touched + 2)
 
--- At every exit.
+-- At every exit; whatever the bus, nothing is aimed beside the touched sectors, and the status is written no more often
+-- than is asked.
 pub record LeavesApply (changes : Changes) (wanted : ℕ → ℕ) (old new : BusState) : Type 0 where
   pub spends : Spends (most_applied (sector_count (touched_in changes))) old new
+  pub aims : AimsWithin (may_aim_at (touched_in changes) changes.size) (status_writes changes) old new
   pub reached : old.honest ≡ true → CanApply changes wanted old.chip
       → MayChange (touched_in changes) (raised_in changes) wanted old new
 

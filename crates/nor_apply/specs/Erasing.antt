@@ -2,22 +2,23 @@
 use Rattle.std.specs.Prelude.{◌≡◌, ◌≤◌, ◌*◌, ◌/◌, ℕ, Bool, true, length}
 use Rattle.nor_chip.specs.Chip.{Chip}
 use Rattle.nor_chip.specs.Bus.{BusState}
-use Rattle.nor_driver.specs.Operations.{most_operation}
+use Rattle.nor_driver.specs.Operations.{AimsWithin, most_operation}
 use Rattle.nor_chip.specs.declared.config.Kinds.{Kinds}
 use Rattle.nor_plan.specs.Planned.{planned}
 use Rattle.nor_apply.specs.declared.tally.Tally.{Tally}
 use Rattle.nor_count.specs.Counts.{sector_count}
 use Rattle.nor_apply.specs.Change.{CanChange, IsSized, MayChange, HasChanged, blank}
-use Rattle.nor_apply.specs.Spending.{Spends, Tallies}
+use Rattle.nor_apply.specs.Spending.{Spends, Tallies, may_aim_at}
 
 -- The sectors can be changed, on a chip of this size and of these erase kinds.
 pub record CanEraseAll (sectors : ℕ → Bool) (kinds : Kinds) (size : ℕ) (chip : Chip) : Type 0 where
   pub can : CanChange sectors chip
   pub sized : IsSized size kinds chip
 
--- At every exit, on the way to sectors that are all FFh.
+-- At every exit, on the way to sectors that are all FFh; whatever the bus, no erase is aimed elsewhere.
 pub record LeavesErases (sectors : ℕ → Bool) (kinds : Kinds) (size : ℕ) (old new : BusState) : Type 0 where
   pub spends : Spends (most_operation * sector_count sectors) old new
+  pub aims : AimsWithin (may_aim_at sectors size) 0 old new
   pub reached : old.honest ≡ true → CanEraseAll sectors kinds size old.chip → MayChange sectors sectors blank old new
 
 -- At the end. There were as many erases as the planner's list has, which is the shortest that covers the set; where

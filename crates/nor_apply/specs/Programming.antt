@@ -5,6 +5,7 @@ use Rattle.nor_chip.specs.Chip.{Chip}
 use Rattle.nor_chip.specs.Bus.{BusState}
 use Rattle.nor_driver.specs.Looks.{Looks, RanOutIfHonest}
 use Rattle.nor_driver.specs.Reads.{IsSectorOf, HasRead}
+use Rattle.nor_driver.specs.Operations.{AimsWithin}
 use Rattle.nor_apply.specs.declared.tally.Tally.{Tally}
 use Rattle.nor_count.specs.Below.{count_below}
 use Rattle.nor_count.specs.Counts.{sector_count}
@@ -31,6 +32,7 @@ pub record CanProgramSpans (sector : ℕ) (old wanted : List ℕ) (chip : Chip) 
 
 pub record LeavesSpans (sector : ℕ) (bytes wanted : List ℕ) (old new : BusState) : Type 0 where
   pub spends : Spends most_pages old new
+  pub aims : AimsWithin (only sector) 0 old new
   pub reached : old.honest ≡ true → CanProgramSpans sector bytes wanted old.chip
       → MayChange (only sector) none (byte_of sector wanted) old new
 
@@ -70,6 +72,7 @@ pub record Loads (sector : ℕ) (erased : Bool) (bytes bytes' : List ℕ) (outco
 
 pub record LeavesSector (sector : ℕ) (wanted : List ℕ) (erased : Bool) (old new : BusState) : Type 0 where
   pub spends : Spends most_sector old new
+  pub aims : AimsWithin (only sector) 0 old new
   pub reached : old.honest ≡ true → CanProgramSector sector wanted erased old.chip
       → MayChange (only sector) none (byte_of sector wanted) old new
 
@@ -89,9 +92,10 @@ pub record CanProgramAll (touched raised : ℕ → Bool) (wanted : ℕ → ℕ) 
   pub blank : (a : ℕ) → touched (a / 4096) ≡ true → raised (a / 4096) ≡ true → chip.bytes a ≡ 255
   pub falls : OnlyFalls touched wanted chip.bytes
 
--- At every exit, on the way to the wanted bytes.
+-- At every exit, on the way to the wanted bytes; whatever the bus, no program is aimed elsewhere.
 pub record LeavesPrograms (touched raised : ℕ → Bool) (wanted : ℕ → ℕ) (old new : BusState) : Type 0 where
   pub spends : Spends (most_sector * sector_count touched) old new
+  pub aims : AimsWithin touched 0 old new
   pub reached : old.honest ≡ true → CanProgramAll touched raised wanted old.chip → MayChange touched none wanted old new
 
 -- At the end: a program for each page of the touched sectors that wasn't as wanted; nothing changing was sent where no

@@ -5,11 +5,13 @@ use Rattle.nor_chip.specs.Bus.{BusState}
 use Rattle.nor_driver.specs.declared.waits.Halt.{Halt}
 use Rattle.nor_driver.specs.Waits.{NamesTimeout}
 use Rattle.nor_driver.specs.StatusWrites.{CanWriteStatus, MayWriteStatus, HasWrittenStatus}
-use Rattle.nor_driver.specs.Operations.{most_operation}
+use Rattle.nor_driver.specs.Operations.{AimsWithin, most_operation}
+use Rattle.nor_plan.specs.SectorSet.{none}
 use Rattle.nor_apply.specs.Spending.{Spends}
 
 pub record LeavesCode (status : Status) (code : ℕ) (needed : Bool) (old new : BusState) : Type 0 where
   pub spends : Spends (if needed then most_operation else 0) old new
+  pub aims : AimsWithin none (if needed then 1 else 0) old new
   pub still : needed ≡ false → new ≡ old
   pub reached : needed ≡ true → old.honest ≡ true → CanWriteStatus status old.chip → MayWriteStatus code old new
 

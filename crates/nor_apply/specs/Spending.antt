@@ -1,16 +1,22 @@
--- How many transactions a part of a session or restore sends, and what a timeout of it names.
-use Rattle.std.specs.Prelude.{◌≡◌, ◌≤◌, ◌+◌, ◌*◌, ◌/◌, ℕ, Bool, true, ⊤}
+-- How many transactions a part of a session or restore sends, where it may aim, and what a timeout of it names.
+use Rattle.std.specs.Prelude.{◌≡◌, ◌≤◌, ◌+◌, ◌*◌, ◌/◌, ◌&&◌, ◌||◌, ℕ, Bool, true, nat_le, ⊤}
 use Rattle.nor_chip.specs.Bus.{BusState, KeepsNature}
 use Rattle.nor_driver.specs.declared.waits.Halt.{Halt}
 use Rattle.nor_driver.specs.declared.waits.Halt.TheVariants.{Stopped, Timeout}
 use Rattle.nor_driver.specs.Looks.{Falls}
 use Rattle.nor_driver.specs.Operations.{most_operation}
+use Rattle.nor_plan.specs.Planned.{holds_run}
 use Rattle.nor_apply.specs.declared.tally.Tally.{Tally}
 
 -- At every exit: the bus keeps its honesty and its steadiness; an honest one sent at most so many transactions.
 pub record Spends (most : ℕ) (old new : BusState) : Type 0 where
   pub nature : KeepsNature old new
   pub falls : old.honest ≡ true → Falls most old new
+
+-- where the erases and programs of some sectors of a chip of this size may aim: at one of them; and where they are the
+-- whole chip behind its end too, since the erase of a chip names no sector
+abbrev pub may_aim_at : (sectors : ℕ → Bool) → (size s : ℕ) → Bool
+may_aim_at sectors size s = sectors s || (nat_le (size / 4096) s && holds_run sectors 0 (size / 4096))
 
 -- whatever the bus, a timeout names an address in one of these sectors
 abbrev pub NamesTimeoutIn : (ℕ → Bool) → Halt → Type 0

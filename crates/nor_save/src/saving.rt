@@ -38,7 +38,7 @@ pub fn save<B: Bus, V: Vault>(
     ensures puts { SavePuts result (V.state vault.old) (V.state vault.new) }
     ensures holds { HoldsJournal (V.state vault.new) }
     ensures saves { IfOk result (λ saved. (V.state vault.new).telling ≡ true
-        → IsJournalOf (has saved.scanned.touched) (V.state vault.new).bytes) }
+        → IsJournalOf opening.now.found.size (has saved.scanned.touched) (V.state vault.new).bytes) }
     ensures keeps { IfOk result
         (HasSaved request.now opening.now code image.old image.new
         (B.state bus.old) (B.state bus.new) (V.state vault.new)) }

@@ -241,6 +241,7 @@ prepared_all journal opening scanned changes sent old mid new read are judged su
       inside = λ s hit. let b = read.scans.marks.below s (sym (touched s) ∙ hit) in omega arith;
       raised = λ s hit. touched s ∙ read.scans.marks.inside s (sym (raised s) ∙ hit);
       small = let found = read.opens.part.at_most in let same = are.size in omega arith;
+      sized = size;
       six_bits = are.six_bits;
       saved = λ s hit. read.scans.saved s (sym (touched s) ∙ hit);
       count = read.scans.marks.count ∙ ap (λ (t : SectorSet). sector_count (has t)) (sym are.touched);

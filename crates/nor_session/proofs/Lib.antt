@@ -13,6 +13,7 @@ pub mod RestoredBytes
 pub mod Changeable
 pub mod GivenBack
 pub mod Restoring
+pub mod Aiming
 pub mod SavedCounts
 pub mod GivesBack
 pub mod WrittenBack

@@ -39,11 +39,11 @@ judged_names (Mismatch address) is = absurd is
 judged_names _ is = tt
 
 -- a touched sector is one that the journal saves
-saves_touched : (changes : Changes) (bytes : List ℕ) (sector : ℕ) → IsJournalOf (touched_in changes) bytes → touched_in changes sector ≡ true → SavesSector sector bytes
+saves_touched : (changes : Changes) (bytes : List ℕ) (sector : ℕ) → IsJournalOf changes.size (touched_in changes) bytes → touched_in changes sector ≡ true → SavesSector sector bytes
 saves_touched changes bytes sector journal touched =
     (record { content = journal.content; is = journal.is; same = journal.same }, journal.saved sector ∙ touched)
 
-names_in : (changes : Changes) (bytes : List ℕ) (refusal : Refusal) → IsJournalOf (touched_in changes) bytes → NamesTouchedSector changes refusal → NamesSector (λ sector. SavesSector sector bytes) refusal
+names_in : (changes : Changes) (bytes : List ℕ) (refusal : Refusal) → IsJournalOf changes.size (touched_in changes) bytes → NamesTouchedSector changes refusal → NamesSector (λ sector. SavesSector sector bytes) refusal
 names_in changes bytes (Timeout address) journal (inl at) = inl at.1
 names_in changes bytes (Timeout address) journal (inr touched) = inr (saves_touched changes bytes (address / 4096) journal touched)
 names_in changes bytes (Mismatch address) journal touched = saves_touched changes bytes (address / 4096) journal touched
@@ -51,7 +51,7 @@ names_in changes bytes _ journal names = tt
 
 -- what is changed was saved, so a sealed vault has it
 pub work_names : (changes : Changes) (vault : VaultState) (refusal : Refusal) → vault.sealed ≡ true
-    → (vault.telling ≡ true → IsJournalOf (touched_in changes) vault.bytes) → NamesTouchedSector changes refusal → NamesAddress vault refusal
+    → (vault.telling ≡ true → IsJournalOf changes.size (touched_in changes) vault.bytes) → NamesTouchedSector changes refusal → NamesAddress vault refusal
 work_names changes vault refusal sealed saves names = record {
   early = λ unsealed. absurd (true≢false (sym sealed ∙ unsealed));
   late = λ is telling. names_in changes vault.bytes refusal (saves telling) names;

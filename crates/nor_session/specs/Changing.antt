@@ -2,7 +2,7 @@
 use Rattle.std.specs.Prelude.{◌≡◌, ◌≤◌, ◌+◌, ◌*◌, ◌/◌, ◌⊎◌, ℕ, Bool, true, if◌then◌else◌, ⊤}
 use Rattle.nor_chip.specs.Bus.{BusState}
 use Rattle.nor_driver.specs.Looks.{Rested, RanOut, RanOutIfHonest}
-use Rattle.nor_driver.specs.Operations.{most_operation}
+use Rattle.nor_driver.specs.Operations.{AimsWithin, most_operation}
 use Rattle.nor_count.specs.Below.{count_below}
 use Rattle.nor_plan.specs.Planned.{fewest_erases}
 use Rattle.nor_apply.specs.declared.changes.Changes.{Changes}
@@ -11,7 +11,7 @@ use Rattle.nor_count.specs.Counts.{sector_count}
 use Rattle.nor_plan.specs.Content.{once_erased, is_programmed}
 use Rattle.nor_apply.specs.Change.{MayChange}
 use Rattle.nor_apply.specs.Checking.{CanCheck, IsFirstMismatch}
-use Rattle.nor_apply.specs.Spending.{Spends}
+use Rattle.nor_apply.specs.Spending.{Spends, may_aim_at}
 use Rattle.nor_apply.specs.Applying.{touched_in, raised_in, status_writes, most_applied, CanApply, HasApplied}
 use Rattle.nor_call.specs.declared.refusal.Refusal.{Refusal}
 use Rattle.nor_call.specs.declared.refusal.Refusal.TheVariants.{Stopped, Timeout, Mismatch}
@@ -53,9 +53,11 @@ CheckRefuses changes wanted old new _ = ⊥
 
 -- ---- the changes and their check
 
--- At every exit.
+-- At every exit; whatever the bus, nothing is aimed beside the touched sectors, and the status is written no more often
+-- than is asked.
 pub record LeavesChange (changes : Changes) (wanted : ℕ → ℕ) (old new : BusState) : Type 0 where
   pub spends : Spends (most_changed changes) old new
+  pub aims : AimsWithin (may_aim_at (touched_in changes) changes.size) (status_writes changes) old new
   pub reached : old.honest ≡ true → CanApply changes wanted old.chip
       → MayChange (touched_in changes) (raised_in changes) wanted old new
 

@@ -153,6 +153,7 @@ pub record IsPrepared (journal : Content) (old new : BusState) (prepared : Prepa
   pub inside : LiesBelow prepared.changes.touched (prepared.changes.size / 4096)
   pub raised : (s : ℕ) → has prepared.changes.raised s ≡ true → has prepared.changes.touched s ≡ true
   pub small : prepared.changes.size ≤ 16777216
+  pub sized : prepared.changes.size ≡ journal.size
   pub six_bits : prepared.changes.code < 64
   pub saved : (s : ℕ) → has prepared.changes.touched s ≡ true → is_saved journal s ≡ true
   pub count : prepared.touched ≡ touched_count prepared.changes

@@ -24,7 +24,7 @@ use Rattle.nor_save.specs.Saving.{SomeHeld}
 use Rattle.nor_session.specs.Bounds.{most_looked, most_of}
 use Rattle.nor_session.specs.Made.{IsMade}
 use Rattle.nor_session.specs.Verdict.{IsNamed}
-use Rattle.nor_session.specs.Session.{NamesSector, IsWithinBound, HonestTells}
+use Rattle.nor_session.specs.Session.{NamesSector, IsWithinBound, AimsAtSaved, WritesStatusAtMost, HonestTells}
 
 -- ---- what is wanted
 
@@ -148,6 +148,10 @@ pub record CanGiveBack (journal : Content) (first : Chip) (state : BusState) : T
 pub record RestoreAlways (journal : Content) (old new : BusState) (result : Result Report Refusal) : Type 0 where
   -- at every exit no more was sent than a restore of so many sectors takes
   pub spends : Spends (most_of (length journal.saved)) old new
+  -- at every exit the journal saves the sectors that were aimed at
+  pub aims : AimsAtSaved journal old new
+  -- at every exit the status was written at most twice
+  pub writes : WritesStatusAtMost 2 old new
   -- a refusal is one that a restore gives
   pub answers : IfErr result IsRestoreRefusal
   -- and names an address that the restore was at, in a saved sector
@@ -172,6 +176,8 @@ pub record RestoreModelled (journal : Content) (old new : BusState) (result : Re
   pub leaves : LeavesRestore journal old new
   -- at the end the chip is what the journal wants
   pub done : IfOk result (IsRestored journal old new)
+  -- where no status write is needed, none was sent
+  pub unwritten : (¬ NeedsStatusFrom journal (is_touched_from journal old.chip) old.chip) → WritesStatusAtMost 0 old new
   -- where no status write is needed, the report has no room for one
   pub spares : (¬ NeedsStatusFrom journal (is_touched_from journal old.chip) old.chip)
       → IfOk result (IsWithinBound (length journal.saved) 0 true)

@@ -1,10 +1,12 @@
 -- What a session promises.
 use Rattle.std.specs.Prelude.{◌≡◌, ◌≢◌, ◌≤◌, ◌<◌, ◌+◌, ◌*◌, ◌/◌, ◌⊎◌, ℕ, Bool, true, false, List, [], Result, IfOk, IfErr, if◌then◌else◌, ⊤}
 use Rattle.nor_chip.specs.Chip.{Chip, IsSame}
+use Rattle.nor_chip.specs.Sent.{is_aimed_at, status_writes_of}
 use Rattle.nor_chip.specs.Bus.{BusState}
 use Rattle.nor_driver.specs.Looks.{Looks, Falls, RanOut}
 use Rattle.nor_driver.specs.StatusWrites.{HasCode}
 use Rattle.nor_driver.specs.Operations.{most_operation}
+use Rattle.nor_journal.specs.Text.{Content}
 use Rattle.nor_journal.specs.Vault.{VaultState, Rose}
 use Rattle.nor_journal.specs.Saved.{JournalSaves, is_saved}
 use Rattle.nor_apply.specs.Change.{MayChange}
@@ -54,6 +56,21 @@ pub record NamesAddress (vault : VaultState) (refusal : Refusal) : Type 0 where
 abbrev pub most_status_writes : What → (unlock : Bool) → ℕ
 most_status_writes (WpRange start len) unlock = 1
 most_status_writes _ unlock = if unlock then 2 else 0
+
+-- The journal saves a whole chip, and the sector lies behind that one's end: the erase of a chip names no sector, so it
+-- is aimed there too.
+pub record IsBehindWhole (journal : Content) (sector : ℕ) : Type 0 where
+  pub whole : (s : ℕ) → s < journal.size / 4096 → is_saved journal s ≡ true
+  pub behind : journal.size / 4096 ≤ sector
+
+-- each sector was aimed at as before, or is one that the journal saves, or lies behind a chip that it saves whole
+abbrev pub AimsAtSaved : Content → (old new : BusState) → Type 0
+AimsAtSaved journal old new = (s : ℕ) → (is_aimed_at new.sent s ≡ is_aimed_at old.sent s)
+    ⊎ ((is_saved journal s ≡ true) ⊎ IsBehindWhole journal s)
+
+-- at most so many more status writes were sent
+abbrev pub WritesStatusAtMost : ℕ → (old new : BusState) → Type 0
+WritesStatusAtMost most old new = status_writes_of new.sent ≤ status_writes_of old.sent + most
 
 -- What a report may count, where so many sectors are scanned and the status is written at most so often. The opening
 -- takes four transactions or more, an operation three or more (write enable, the command, a poll); and where it is
@@ -127,6 +144,13 @@ pub record SessionAlways (request : Request) (old new : BusState) (vault vault' 
   pub looks : vault'.sealed ≡ false → Looks (most_looked 4096) old new
   -- at every exit no more was sent than a session on the largest chip takes
   pub spends : Spends (most_of 4096) old new
+  -- at every exit the status was written at most so often as the request may need
+  pub writes : WritesStatusAtMost (most_status_writes request.what request.unlock) old new
+  -- the vault tells as before
+  pub telling : vault'.telling ≡ vault.telling
+  -- once it is sealed a telling vault's journal saves the sectors that were aimed at, whatever the bus
+  pub aims : vault'.sealed ≡ true → vault'.telling ≡ true
+      → (journal : IsJournal vault'.bytes) × AimsAtSaved journal.content old new
   -- once it is sealed a telling vault holds a journal
   pub holds : HoldsJournal vault'
   -- a refusal is one that a session gives
@@ -152,6 +176,8 @@ pub record SessionModelled (request : Request) (image : List ℕ) (old new : Bus
   pub tells : IfErr result (SessionTells request image old new vault vault')
   -- at the end the chip is the wanted one
   pub done : IfOk result (IsDone request image old new)
+  -- where the request needs no status write, none was sent
+  pub unwritten : NeedsNoStatus request image old.chip → WritesStatusAtMost 0 old new
   -- where the request needs no status write, the report has no room for one
   pub spares : NeedsNoStatus request image old.chip
       → IfOk result (IsWithinBound (scanned_sectors request old.chip.config.size) 0 request.verify)

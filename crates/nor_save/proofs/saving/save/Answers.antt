@@ -72,7 +72,7 @@ returns-clause-saves g c = λ telling.
     let begun = with_none g.V.Vault.state c.header.new.self c.args.opening.now.found.id _ c.bytes.result c.args.opening.now.found.size (c.in_ok-header.ensures.written c.on-writer.ensures.nothing) in
     let held = c.in_ok-scanned.ensures.saves begun in
     let done = c.in_ok-end.ensures.written held.begun.content held.begun.written in
-    record { content = held.begun.content; is = held.begun.written.is; same = search rules; saved = held.saved }
+    record { content = held.begun.content; is = held.begun.written.is; same = search rules; sized = held.begun.same; saved = held.saved }
 
 pub returns-in_err-scanned-clause-begins : goal.returns-in_err-scanned-clause-begins
 returns-in_err-scanned-clause-begins g c =

@@ -9,6 +9,7 @@ use Rattle.nor_session.specs.Restore.{IsJudgedFirst, IsRestoreRefusal, RestoreTe
 use Rattle.nor_session.proofs.Restoring.{AreChanged, looks_most, looks_spend, prepare_answers, prepare_gives_up, prepare_tells, looks_leave, looks_back, changed_spends, changed_leaves, changed_back, change_answers, change_not_judged, change_gives_up, change_tells, sum_fits, restored_bounded, restored_counted, restored_sparing, restored_done, restored_back}
 use Rattle.nor_session.proofs.GivenBack.{only_stopped}
 use Rattle.nor_session.proofs.Naming.{prepare_names, restore_names}
+use Rattle.nor_session.proofs.Aiming.{none_written, none_aimed, restore_aims, restore_writes, restore_unwritten}
 use Rattle.nor_session.proofs.restores.restore.Goals as goal
 
 -- ---- it was judged, or stopped before that
@@ -21,6 +22,8 @@ returns-in_err-prepared-clause-always g c =
     let room = c.prepare.ensures.room in
     record {
       spends = looks_spend most (most_of (length journal.saved)) old new (omega arith) c.prepare.ensures.leaves;
+      aims = none_aimed journal old new c.prepare.ensures.leaves.sent;
+      writes = none_written 2 old new c.prepare.ensures.leaves.sent;
       answers = err_same c.from_residual.result refusal IsRestoreRefusal c.from_residual.ensures.1
           (prepare_answers journal most old new refusal c.in_err-prepared.ensures.tells);
       names = err_same c.from_residual.result refusal (NamesSector (λ sector. is_saved journal sector ≡ true)) c.from_residual.ensures.1
@@ -52,6 +55,7 @@ returns-in_err-prepared-clause-modelled g c = λ modelled.
       tells = err_same c.from_residual.result refusal (RestoreTells journal old new) c.from_residual.ensures.1 told;
       leaves = looks_leave journal most old new (c.prepare.ensures.leaves.looked modelled.honest);
       done = search rules;
+      unwritten = λ none. none_written 0 old new c.prepare.ensures.leaves.sent;
       spares = search rules;
       within = λ first can. looks_back journal first most old new modelled.honest c.prepare.ensures.leaves can;
       back = search rules;
@@ -70,6 +74,8 @@ returns-in_err-work-clause-always g c =
     = record { room = c.prepare.ensures.room; looks = c.prepare.ensures.leaves; is = c.in_ok-prepared.ensures.prepares; leaves = c.finish.ensures.leaves } in
     record {
       spends = changed_spends journal prepared old mid new are;
+      aims = restore_aims journal prepared old mid new are;
+      writes = restore_writes journal prepared old mid new are;
       answers = err_same c.from_residual-in_err-work.result refusal IsRestoreRefusal c.from_residual-in_err-work.ensures.1
           (change_answers prepared.changes _ mid new refusal c.in_err-work.ensures.tells);
       names = err_same c.from_residual-in_err-work.result refusal (NamesSector (λ sector. is_saved journal sector ≡ true)) c.from_residual-in_err-work.ensures.1
@@ -105,6 +111,7 @@ returns-in_err-work-clause-modelled g c = λ modelled.
       tells = err_same c.from_residual-in_err-work.result refusal (RestoreTells journal old new) c.from_residual-in_err-work.ensures.1 told;
       leaves = changed_leaves journal prepared old mid new are modelled;
       done = search rules;
+      unwritten = λ none. restore_unwritten journal prepared old mid new are modelled none;
       spares = search rules;
       within = λ first can. changed_back journal first prepared old mid new are modelled can;
       back = search rules;
@@ -131,6 +138,8 @@ returns-clause-always g c =
     = record { room = c.prepare.ensures.room; looks = c.prepare.ensures.leaves; is = c.in_ok-prepared.ensures.prepares; leaves = c.finish.ensures.leaves } in
     record {
       spends = changed_spends journal prepared old mid new are;
+      aims = restore_aims journal prepared old mid new are;
+      writes = restore_writes journal prepared old mid new are;
       answers = search rules;
       names = search rules;
       looks = search rules;
@@ -159,6 +168,7 @@ returns-clause-modelled g c = λ modelled.
       tells = search rules;
       leaves = changed_leaves journal prepared old mid new are modelled;
       done = restored;
+      unwritten = λ none. restore_unwritten journal prepared old mid new are modelled none;
       spares = λ none. restored_sparing journal prepared old mid new work (prepared.transactions + work.transactions) are c.in_ok-work.ensures.does (omega arith) modelled none;
       within = λ first can. changed_back journal first prepared old mid new are modelled can;
       back = λ first can. restored_back journal first old new _ can restored;

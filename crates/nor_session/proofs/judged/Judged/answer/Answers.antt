@@ -1,20 +1,21 @@
-use Rattle.std.proofs.Common.{rules, arith, ◌≡◌, ◌≢◌, ◌⊎◌, ◌∙◌, [], inr, sym, true≢false, ◌+◌, ◌*◌, length}
+use Rattle.std.proofs.Common.{rules, arith, ◌≡◌, ◌≢◌, ◌⊎◌, ◌∙◌, [], inr, sym, true, true≢false, ◌+◌, ◌*◌, length}
 use Rattle.std.proofs.lemmas.Bool.{lt-ltb}
 use Rattle.nor_driver.specs.Looks.{Looks}
 use Rattle.nor_call.specs.Request.{scanned_sectors}
 use Rattle.nor_save.specs.Touched.{is_touched_by}
 use Rattle.nor_save.specs.Saving.{head_of}
-use Rattle.nor_save.specs.SavedScan.{BeginsJournal}
+use Rattle.nor_save.specs.SavedScan.{IsJournal, BeginsJournal}
 use Rattle.nor_call.specs.declared.refusal.Refusal.TheVariants.{Vault}
 use Rattle.nor_driver.proofs.RestsInTurn.{looks_after}
 use Rattle.nor_save.proofs.Begun.{err_same}
 use Rattle.nor_session.specs.Bounds.{most_looked, most_of}
-use Rattle.nor_session.specs.Session.{CanBeUndone, NamesAddress}
+use Rattle.nor_session.specs.Session.{most_status_writes, AimsAtSaved, CanBeUndone, NamesAddress}
 use Rattle.nor_session.proofs.Ready.{changes_of, has_opened, ready, scanned_few, spends_looks, spends_more, spends_ready, bounded, touched_data}
 use Rattle.nor_session.proofs.ReadyChip.{small_first, is_opening, shows, falls_sized, not_sealed, save_gives_up, save_tells}
 use Rattle.nor_session.proofs.SessionChanges.{change_gives_up, change_tells}
 use Rattle.nor_session.proofs.SessionEnds.{ready_chip, can_be_undone, done, spared}
 use Rattle.nor_session.proofs.Naming.{save_names, work_names}
+use Rattle.nor_session.proofs.Aiming.{none_written, refused_telling, ready_writes, ready_unwritten, ready_aims}
 use Rattle.nor_session.proofs.judged.Judged.answer.Goals as goal
 
 pub finish-requires-clause-sourced : goal.finish-requires-clause-sourced
@@ -45,6 +46,9 @@ returns-in_err-saved g c = λ first looks opens.
       always = record {
         looks = λ open_vault. looked_on;
         spends = spends_looks (most_looked 4096) (most_of 4096) first new (omega arith) looked_on;
+        writes = none_written (most_status_writes request.what request.unlock) first new looked_on.sent;
+        telling = refused_telling refusal vault vault' c.in_err-saved.ensures.puts;
+        aims = λ sealed. absurd {A = vault'.telling ≡ true → (journal : IsJournal vault'.bytes) × AimsAtSaved journal.content first new} (true≢false (sym sealed ∙ unsealed));
         holds = search rules;
         answers = search rules;
         names = err_same c.from_residual.result refusal (NamesAddress vault') c.from_residual.ensures.1 (record {
@@ -66,6 +70,7 @@ returns-in_err-saved g c = λ first looks opens.
                 (spends_looks (most_of (scanned_sectors request opening.found.size)) (most_of (scanned_sectors request opening.found.size)) first new (omega arith) looked_sized);
             tells = search rules;
             done = search rules;
+            unwritten = λ none. none_written 0 first new looked_on.sent;
             spares = search rules;
             early = search rules;
             begins = λ open_vault telling.
@@ -91,6 +96,9 @@ returns-in_err-work g c = λ first looks opens.
       always = record {
         looks = search rules;
         spends = spends_more (most_of (scanned_sectors request opening.found.size)) (most_of 4096) first new (omega arith) spends;
+        writes = ready_writes request opening c.status.result code saved first mid new _ is c.finish.ensures.leaves;
+        telling = search rules;
+        aims = λ sealed telling. ready_aims request opening c.status.result code saved first mid new _ vault'.bytes is c.finish.ensures.leaves (c.in_ok-saved.ensures.saves telling);
         holds = search rules;
         answers = search rules;
         names = err_same c.from_residual-in_err-work.result refusal (NamesAddress vault') c.from_residual-in_err-work.ensures.1
@@ -109,6 +117,7 @@ returns-in_err-work g c = λ first looks opens.
             falls = falls_sized request opening first new modelled.honest (opens.genuine modelled) spends;
             tells = search rules;
             done = search rules;
+            unwritten = λ none. ready_unwritten request image c.save.new.image opening c.status.result code saved first mid new _ is of none c.finish.ensures.leaves;
             spares = search rules;
             early = search rules;
             begins = search rules;
@@ -132,6 +141,9 @@ returns g c = λ first looks opens.
       always = record {
         looks = search rules;
         spends = spends_more (most_of (scanned_sectors request opening.found.size)) (most_of 4096) first new (omega arith) spends;
+        writes = ready_writes request opening c.status.result code saved first mid new _ is c.finish.ensures.leaves;
+        telling = search rules;
+        aims = λ sealed telling. ready_aims request opening c.status.result code saved first mid new _ vault'.bytes is c.finish.ensures.leaves (c.in_ok-saved.ensures.saves telling);
         holds = search rules;
         answers = search rules;
         names = search rules;
@@ -149,6 +161,7 @@ returns g c = λ first looks opens.
             falls = falls_sized request opening first new modelled.honest (opens.genuine modelled) spends;
             tells = search rules;
             done = done request image c.save.new.image opening c.status.result code saved first mid new request.verify work c.from.result is of c.in_ok-work.ensures.does;
+            unwritten = λ none. ready_unwritten request image c.save.new.image opening c.status.result code saved first mid new _ is of none c.finish.ensures.leaves;
             spares = λ none. spared request image c.save.new.image opening c.status.result code saved first mid new _ request.verify work
                 c.from.result c.from.ensures is of none c.in_ok-work.ensures.does;
             early = search rules;
