@@ -1,5 +1,6 @@
 //! A run of the program.
-ghost use Rattle.std.specs.Prelude.{◌≡◌, false, true, Err, IfOk, IfErr, OnErr, OnSome, map, string_bytes};
+ghost use Rattle.std.specs.Prelude.{◌≡◌, false, true, Err, IfOk, IfErr, OnErr, OnSome, Some, map, string_bytes};
+ghost use Rattle.nor_chip.specs.Trace.{has_lost};
 ghost use Rattle.flashnor.specs.Chips.{IsReady};
 ghost use Rattle.nor_files.specs.Disk.{unknown};
 ghost use Rattle.nor_files.specs.Files.{AreAtRest, Name, Stays, is_lawful};
@@ -225,6 +226,26 @@ struct Called<'a> {
     lost: Option<&'a str>,
 }
 
+impl<'a> Called<'a> {
+    // That of a bus which was traced into the file of this name. A line that is lost, then or as the log writes what it
+    // holds back, is told.
+    fn of_traced<L: Write + Drop>(
+        mut traced: TraceBus<SimBus, L>,
+        name: &'a str,
+        outcome: Outcome,
+    ) -> Called<'a>
+        ensures bus { ⟦<SimBus as Bus>⟧.state result.bus ≡ ⟦<TraceBus<SimBus, L> as Bus>⟧.state traced }
+        ensures came { result.outcome ≡ outcome }
+        ensures lost { has_lost traced ≡ true → result.lost ≡ Some name.entry }
+        ensures told { OnSome result.lost (result.lost ≡ Some name.entry) }
+    {
+        traced.flush();
+        let lost = if traced.lost() { Some(name) } else { None };
+        let bus = traced.into_inner();
+        Called { bus, outcome, lost }
+    }
+}
+
 // Does the job's task, with a trace where one is asked for. An error is a fault from before the call.
 fn call_on<'a, R: Store>(
     rt: &mut R,
@@ -252,13 +273,7 @@ fn call_on<'a, R: Store>(
     };
     let mut traced = TraceBus::new(bus, create_log(rt, name)?);
     let outcome = do_task(rt, &mut traced, job)?;
-    traced.flush();
-    let lost = if traced.lost() { Some(name) } else { None };
-    Ok(Called {
-        bus: traced.into_inner(),
-        outcome,
-        lost,
-    })
+    Ok(Called::of_traced(traced, name, outcome))
 }
 
 // Does the job's task on its chip. A fault is one from before the call.
