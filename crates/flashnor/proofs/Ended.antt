@@ -200,3 +200,10 @@ module _ (files after : FilesState) where
         answers = answers;
         prints = prints;
       }
+
+-- a run that got no memory for its words did nothing
+pub is_without_memory : (files : FilesState) (words : List Text) (out out' err err' : Option (List ℕ)) (ending : Ending)
+    → HasPrinted (Err (end.Usage usage.Memory)) all_written out out' err err' ending → IsStatus files files words out out' err err' ending
+is_without_memory files words out out' err err' ending prints =
+    is_status files files words (Err (end.Usage usage.Memory)) all_written out out' err err' ending
+    (answer_usage files words all_written usage.Memory (Err (end.Usage usage.Memory)) refl refl tt) prints

@@ -1,6 +1,7 @@
 pub mod Shown
 pub mod Ready
 pub mod Reading
+pub mod Included
 pub mod Changed
 pub mod Doing
 pub mod Stays

@@ -1,10 +1,13 @@
 -- What a job asks of the calls.
-use Rattle.std.specs.Prelude.{◌≡◌, ◌≤◌, ◌⊎◌, [], ℕ, List, Option, Some, None, length, replicate, ⊤}
+use Rattle.std.specs.Prelude.{◌≡◌, ◌≤◌, ◌⊎◌, [], ℕ, true, false, List, Option, Some, None, Err, length, replicate}
+use Rattle.nor_layout.specs.declared.fault.LayoutFault.{LayoutFault}
+use Rattle.nor_layout.specs.declared.fault.LayoutFault.TheVariants as layout
 use Rattle.nor_layout.specs.declared.ranges.Span.{Span}
 use Rattle.nor_layout.specs.declared.region.Region.{Region}
 use Rattle.nor_layout.specs.Grammar.{IsLayout}
-use Rattle.nor_layout.specs.Included.{is_included}
+use Rattle.nor_layout.specs.Included.{are_known, is_included}
 use Rattle.nor_layout.specs.Ranges.{contains}
+use Rattle.nor_layout.specs.Text.{AsksMemory, layout_says}
 use Rattle.nor_probe.specs.declared.table.ChipName.{ChipName}
 use Rattle.nor_call.specs.declared.request.Request.{Request}
 use Rattle.nor_call.specs.declared.request.What.{What}
@@ -37,10 +40,11 @@ request_for change named ranges = record {
   verify = change.verify;
 }
 
--- The ranges have the addresses of the regions that the names list, in the layout that the text is.
+-- The text is a layout, each of the names is that of a region of it, and the ranges have the addresses of all of these.
 pub record AreIncluded (text names : List ℕ) (ranges : List Span) : Type 0 where
   pub regions : List Region
   pub layout : IsLayout text regions
+  pub known : are_known regions names ≡ true
   pub union : (a : ℕ) → contains ranges a ≡ is_included regions names a
 
 -- The ranges are those of the regions in the layout's file, which has at most 16 MiB.
@@ -63,9 +67,34 @@ IsBufferOf view chip (wanted.Write image) bytes = IsRead view image.now 16777217
 IsBufferOf view chip wanted.Erase bytes = bytes ≡ replicate (emulated_part chip).size 255
 IsBufferOf view chip (wanted.Range start len) bytes = bytes ≡ []
 
+-- The text is no layout, whatever the regions, and this is the first fault of its lines.
+pub record IsNoLayout (text : List ℕ) (fault : LayoutFault) : Type 0 where
+  pub none : (regions : List Region) → ¬ IsLayout text regions
+  pub first : layout_says text ≡ Err fault
+
+-- The text is a layout, and one of the names is that of no region of it.
+pub record AreUnknown (text names : List ℕ) : Type 0 where
+  pub regions : List Region
+  pub layout : IsLayout text regions
+  pub unknown : are_known regions names ≡ false
+
+-- why the names include nothing of the text: it is no layout, not all of them are known, or memory was refused to a
+-- region of it
+abbrev pub IncludesNone : (text names : List ℕ) → LayoutFault → Type 0
+IncludesNone text names layout.Memory = AsksMemory text
+IncludesNone text names layout.NoRegion = AreUnknown text names
+IncludesNone text names fault = IsNoLayout text fault
+
+-- It is so of the text in the layout's file, which has at most 16 MiB, and of the names of the regions.
+pub record IsLayoutFault (view : View) (regions : Regions) (fault : LayoutFault) : Type 0 where
+  pub text : List ℕ
+  pub read : IsRead view regions.layout.now 16777217 text
+  pub whole : length text ≤ 16777216
+  pub why : IncludesNone text regions.names.now fault
+
 -- how the reading of a layout may end a run: by its text and the names, or by its file, which has at most 16 MiB
 abbrev pub FailsToInclude : View → Option Regions → Fault → Type 0
 FailsToInclude view None fault = ⊥
-FailsToInclude view (Some regions) (end.Layout fault) = ⊤
+FailsToInclude view (Some regions) (end.Layout fault) = IsLayoutFault view regions fault
 FailsToInclude view (Some regions) fault =
     IsReadingFault view regions.layout.now 16777217 fault ⊎ IsTooLong view regions.layout.now 16777216 fault

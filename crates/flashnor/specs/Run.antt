@@ -1,6 +1,10 @@
 -- What a run came to.
-use Rattle.std.specs.Prelude.{◌≡◌, ◌≤◌, ◌⊎◌, ℕ, Bool, true, false, List, Option, None, Result, Ok, Err, IsSomeAnd, OnSome}
+use Rattle.std.specs.Prelude.{◌≡◌, ◌≤◌, ◌⊎◌, ℕ, Bool, true, false, List, Option, None, Result, Ok, Err, IsSomeAnd, OnSome, drop, map, string_bytes}
 use Rattle.std.specs.Borrow.{Bor}
+use Rattle.std.specs.Global.{Global}
+use Rattle.std.specs.Vec.Iter.{into_iter_items}
+use Rattle.std.specs.declared.string.String.{String}
+use Rattle.std.specs.declared.vec.IntoIter.{IntoIter}
 use Rattle.nor_chip.specs.Bus.{BusState}
 use Rattle.nor_journal.specs.Fault.{HasFault}
 use Rattle.nor_journal.specs.Text.{Content as Journal, IsContent, text}
@@ -237,6 +241,10 @@ AnswersWords files after words outcome unwritten =
 abbrev pub Succeeds : (files after : FilesState) → List Text → (out out' : Option (List ℕ)) → Type 0
 Succeeds files after words out out' = IsAmong kind.DisplayHelp (refusals_of words)
     ⊎ ((found : Answer) × AnswersWords files after words (Ok found) all_written × Prints (AreLines found) out out')
+
+-- the words of a run: all that the system gives behind the first of them, the program's name
+abbrev pub words_of : IntoIter (String Global) Global → List Text
+words_of args = map string_bytes (drop 1 (into_iter_items args))
 
 -- How a run ended, by what standard output and standard error hold before and after, where that is known. The status is
 -- 0 or 1; 1 where the words ask for nothing, and 0 only where the run has no fault.

@@ -19,14 +19,14 @@ mod run;
 
 use run::run_words;
 use std::alloc::Global;
+use std::env;
 use std::io::{LineWriter, Write};
 use std::process::ExitCode;
-use std::{env, io};
 
 fn main(rt: HostRuntime) -> ExitCode {
     let mut output = by_line(rt.alloc(), rt.stdout());
     let mut errors = by_line(rt.alloc(), rt.stderr());
-    let status = run_words(&rt, words_of(&rt), &mut output, &mut errors);
+    let status = run_words(&rt, env::args(&rt), &mut output, &mut errors);
     ExitCode::from(status)
 }
 
@@ -40,9 +40,4 @@ fn by_line<W: Write + Copy + Drop>(alloc: Global, stream: W) -> LineWriter<W> {
         Ok(writer) => writer,
         Err(_) => LineWriter::with_capacity(alloc, 0, stream).unwrap(),
     }
-}
-
-// The words after the program's name.
-fn words_of(rt: &HostRuntime) -> io::Result<Vec<String>> {
-    Ok(env::args(rt)?.skip(1).collect(rt.alloc())?)
 }

@@ -1,6 +1,6 @@
 //! What is asked of a chip, in the words of the calls that work on it.
 ghost use Rattle.std.specs.Prelude.{◌≡◌, IfOk, IfErr, option_copied};
-ghost use Rattle.flashnor.specs.Requests.{AreIncluded, AreRangesOf, FailsToInclude, request_for, what_of};
+ghost use Rattle.flashnor.specs.Requests.{AreIncluded, AreRangesOf, FailsToInclude, IncludesNone, request_for, what_of};
 
 use crate::files::{MOST_LAYOUT_BYTES, read_file};
 use crate::messages::{Fault, FileFault};
@@ -32,8 +32,10 @@ pub fn read_included<'a, R: Store>(
 }
 
 // The addresses of the regions that are named, in the layout that the text is.
+#[tactic(auto, using(crate::proofs::Included::is_unread, crate::proofs::Included::is_unknown))]
 fn included_in(alloc: Global, text: &[u8], names: &str) -> Result<Ranges, LayoutFault>
-    ensures { IfOk result (AreIncluded text.now names.now) }
+    ensures ok { IfOk result (AreIncluded text.now names.now) }
+    ensures err { IfErr result (IncludesNone text.now names.now) }
 {
     Layout::read(alloc, text)?.include(names)
 }

@@ -1,13 +1,14 @@
 //! A run of the program.
-ghost use Rattle.std.specs.Prelude.{◌≡◌, false, true, IfOk, IfErr, OnErr, OnSome, map, string_bytes};
+ghost use Rattle.std.specs.Prelude.{◌≡◌, false, true, Err, IfOk, IfErr, OnErr, OnSome, Some, map, string_bytes};
+ghost use Rattle.nor_chip.specs.Trace.{has_lost};
 ghost use Rattle.flashnor.specs.Chips.{IsReady};
 ghost use Rattle.nor_files.specs.Disk.{unknown};
 ghost use Rattle.nor_files.specs.Files.{AreAtRest, Name, Stays, is_lawful};
 ghost use Rattle.flashnor.specs.Stored.{AreTwo, IsNot, MakesNothing};
-ghost use Rattle.flashnor.specs.Endings.{EndsWith, IsUnread, all_written};
+ghost use Rattle.flashnor.specs.Endings.{EndsWith, HasPrinted, IsUnread, all_written};
 ghost use Rattle.flashnor.specs.Run.{AnswersWords, DoesJob, DoesTraced, EndsJob, FailsBefore, FailsJob, FailsTraced, IsStatus};
 ghost use Rattle.flashnor.specs.Roles.{HaveOneRole};
-ghost use Rattle.flashnor.specs.Run.{IsToldAs, KeepsFiles, StayBut};
+ghost use Rattle.flashnor.specs.Run.{IsToldAs, KeepsFiles, StayBut, words_of};
 ghost use Rattle.flashnor.specs.Tasks.{journal_by, made_by, puts_back};
 
 use crate::answers::{Answer, Outcome};
@@ -22,37 +23,70 @@ use crate::readings::{find_chip, list_ranges, read_chip, tell_protection, tell_s
 use crate::roles::have_one_role;
 use nor_chip::{Bus, Meter, SimBus, TraceBus};
 use nor_files::{Disk, LockFile, Store};
-use nor_words::{Change, ChipJob, Job, JournalUse, Task, request_of};
+use nor_words::{Change, ChipJob, Job, JournalUse, Task, UsageFault, request_of};
+use std::alloc::{AllocError, Global};
+use std::env::Args;
 use std::io;
 use std::io::Write;
 use std::rt::Files;
 
-/// Does what the words ask for, which are those after the program's name, and prints results to `output` and faults to
-/// `errors`. Answers the exit status: 0, or 1 at any fault. That the words couldn't be collected is a fault as others are.
+/// Does what the words ask for that the system gives, the first of which is the program's name, and prints results to
+/// `output` and faults to `errors`. Answers the exit status: 0, or 1 at any fault. That the words can't be had is a fault
+/// as others are.
 pub fn run_words<R: Files + AllocGlobal, O: Write, E: Write>(
     rt: &R,
-    words: io::Result<Vec<String>>,
+    given: io::Result<Args>,
     output: &mut O,
     errors: &mut E,
 ) -> u8
 where
     R::File: LockFile,
-    ensures collected { IfOk words (λ given. EndsWith (IsStatus unknown unknown (map string_bytes given.items)
+    ensures words { IfOk given (λ args. EndsWith (IsStatus unknown unknown (words_of args)
         (O.contents output.old) (O.contents output.new) (E.contents errors.old) (E.contents errors.new)) result) }
-    ensures unread { IfErr words (λ error. EndsWith (IsUnread error
+    ensures unread { IfErr given (λ error. EndsWith (IsUnread error
         (O.contents output.old) (O.contents output.new) (E.contents errors.old) (E.contents errors.new)) result) }
 {
-    let ending = match words {
-        Ok(words) => run_over(&mut Disk::new(rt), words.as_slice(), output, errors),
-        Err(error) => {
-            let Work { answer, unwritten } = Work::before(Err(Fault::of_words(&error)));
-            print_end(output, errors, answer, unwritten)
-        }
+    let ending = match given {
+        Ok(args) => run_given(&mut Disk::new(rt), args, output, errors),
+        Err(error) => end_before(Fault::of_words(&error), output, errors),
     };
     ending.status
 }
 
-/// The same over any store of files.
+// The same over any store of files, once the words are there.
+#[tactic(auto, using(crate::proofs::Ended::is_without_memory))]
+fn run_given<R: Store, O: Write, E: Write>(
+    rt: &mut R,
+    args: Args,
+    output: &mut O,
+    errors: &mut E,
+) -> Ending
+    ensures { IsStatus (R.state rt.old) (R.state rt.new) (words_of args)
+        (O.contents output.old) (O.contents output.new) (E.contents errors.old) (E.contents errors.new) result }
+{
+    match words_behind_name(rt.alloc(), args) {
+        Ok(words) => run_over(rt, words.as_slice(), output, errors),
+        Err(_) => end_before(Fault::Usage(UsageFault::Memory), output, errors),
+    }
+}
+
+// The words behind the program's name, each of them.
+fn words_behind_name(alloc: Global, args: Args) -> Result<Vec<String>, AllocError>
+    ensures { IfOk result (λ words. map string_bytes words.items ≡ words_of args) }
+{
+    args.skip(1).collect(alloc)
+}
+
+// Ends a run without a call.
+fn end_before<O: Write, E: Write>(fault: Fault<'_>, output: &mut O, errors: &mut E) -> Ending
+    ensures { HasPrinted (Err fault.entry) all_written (O.contents output.old) (O.contents output.new)
+        (E.contents errors.old) (E.contents errors.new) result }
+{
+    let Work { answer, unwritten } = Work::before(Err(fault));
+    print_end(output, errors, answer, unwritten)
+}
+
+/// The same over any store of files and any words.
 #[tactic(auto, using(crate::proofs::Ended::is_status))]
 pub fn run_over<R: Store, O: Write, E: Write>(
     rt: &mut R,
@@ -192,6 +226,26 @@ struct Called<'a> {
     lost: Option<&'a str>,
 }
 
+impl<'a> Called<'a> {
+    // That of a bus which was traced into the file of this name. A line that is lost, then or as the log writes what it
+    // holds back, is told.
+    fn of_traced<L: Write + Drop>(
+        mut traced: TraceBus<SimBus, L>,
+        name: &'a str,
+        outcome: Outcome,
+    ) -> Called<'a>
+        ensures bus { ⟦<SimBus as Bus>⟧.state result.bus ≡ ⟦<TraceBus<SimBus, L> as Bus>⟧.state traced }
+        ensures came { result.outcome ≡ outcome }
+        ensures lost { has_lost traced ≡ true → result.lost ≡ Some name.entry }
+        ensures told { OnSome result.lost (result.lost ≡ Some name.entry) }
+    {
+        traced.flush();
+        let lost = if traced.lost() { Some(name) } else { None };
+        let bus = traced.into_inner();
+        Called { bus, outcome, lost }
+    }
+}
+
 // Does the job's task, with a trace where one is asked for. An error is a fault from before the call.
 fn call_on<'a, R: Store>(
     rt: &mut R,
@@ -219,13 +273,7 @@ fn call_on<'a, R: Store>(
     };
     let mut traced = TraceBus::new(bus, create_log(rt, name)?);
     let outcome = do_task(rt, &mut traced, job)?;
-    traced.flush();
-    let lost = if traced.lost() { Some(name) } else { None };
-    Ok(Called {
-        bus: traced.into_inner(),
-        outcome,
-        lost,
-    })
+    Ok(Called::of_traced(traced, name, outcome))
 }
 
 // Does the job's task on its chip. A fault is one from before the call.

@@ -1,4 +1,4 @@
-use Rattle.std.proofs.Common.{◌∙◌, inr}
+use Rattle.std.proofs.Common.{inr}
 use Rattle.std.proofs.lemmas.Result.{err_from_is_err_and}
 use Rattle.flashnor.specs.Tasks.{journal_by}
 use Rattle.flashnor.proofs.Stays.{lawful_after}
@@ -28,6 +28,6 @@ returns-in_err-outcome-2-clause-unmade g c = λ lawful two.
 
 pub returns-clause-ok : goal.returns-clause-ok
 returns-clause-ok g c =
-    traced_does (g.R.Store.state c.args.rt.now) (g.R.Store.state c.create_log.new.rt) (g.R.Store.state c.do_task-2.new.rt) c.args.job.now _ _ _ _ _
-    (view_but _ c.in-Some.name _ _ c.in-Some.is c.in_ok-create_log.ensures.nature c.in_ok-create_log.ensures.others)
-    c.new-traced.ensures.state (c.into_inner.ensures ∙ c.flush.ensures.state) c.in_ok-outcome-2.ensures.ok
+    rw c.of_traced.ensures.came (traced_does (g.R.Store.state c.args.rt.now) (g.R.Store.state c.create_log.new.rt) (g.R.Store.state c.do_task-2.new.rt)
+    c.args.job.now _ _ _ _ _ (view_but _ c.in-Some.name _ _ c.in-Some.is c.in_ok-create_log.ensures.nature c.in_ok-create_log.ensures.others)
+    c.new-traced.ensures.state c.of_traced.ensures.bus c.in_ok-outcome-2.ensures.ok)

@@ -1,0 +1,70 @@
+-- Why names include nothing of a layout's text.
+use Rattle.std.proofs.Common.{◌≡◌, ℕ, ◌+◌, false, ltb, eqb, List, [], ◌∷◌, length, Result, Ok, Err, inl, inr, refl}
+use Rattle.std.proofs.lemmas.Bool.{cases_Bool}
+use Rattle.nor_layout.specs.declared.fault.LayoutFault.{LayoutFault}
+use Rattle.nor_layout.specs.declared.fault.LayoutFault.TheVariants as layout
+use Rattle.nor_layout.specs.declared.fault.LineFault.{LineFault}
+use Rattle.nor_layout.specs.declared.region.Region.{Region}
+use Rattle.nor_layout.specs.Grammar.{IsLayout}
+use Rattle.nor_layout.specs.Included.{are_known}
+use Rattle.nor_layout.specs.Line.{line_says}
+use Rattle.nor_layout.specs.Text.{◌>>=◌, AsksMemory, ReadsLayout, is_region_named, joins, joins_or_fault, layout_says, lines_of, lines_say, with_line}
+use Rattle.flashnor.specs.Requests.{IncludesNone}
+
+-- ---- a text has no fault of names
+
+joins_named : (regions : List Region) (n : ℕ) (region : Region) → joins regions n region ≡ Err layout.NoRegion → ⊥
+joins_named regions n region e =
+    elim (cases_Bool (is_region_named regions region.name.items)) [
+      | inl twice ↦ let f = rw twice at e in cc
+      | inr once ↦ elim (cases_Bool (ltb (length regions) 64)) [
+        | inl room ↦ let f = rw (once, room) at e in cc
+        | inr full ↦ let f = rw (once, full) at e in cc
+      ]
+    ]
+
+said_named : (regions : List Region) (n : ℕ) (said : Result Region LineFault) → joins_or_fault regions n said ≡ Err layout.NoRegion → ⊥
+said_named regions n (Ok region) e = joins_named regions n region e
+said_named regions n (Err fault) e = cc
+
+line_named : (regions : List Region) (n : ℕ) (line : List ℕ) → with_line regions n line ≡ Err layout.NoRegion → ⊥
+unfolding with_line
+line_named regions n line e =
+    elim (cases_Bool (eqb (length line) 0)) [
+      | inl empty ↦ let f = rw empty at e in cc
+      | inr full ↦ said_named regions n (line_says line) (rw full at e)
+    ]
+
+step_named : (said : Result (List Region) LayoutFault) (next : List Region → Result (List Region) LayoutFault)
+    → (said ≡ Err layout.NoRegion → ⊥) → ((more : List Region) → next more ≡ Err layout.NoRegion → ⊥)
+    → (said >>= next) ≡ Err layout.NoRegion → ⊥
+step_named (Ok more) next now later e = later more e
+step_named (Err fault) next now later e = now e
+
+lines_named : (lines : List (List ℕ)) (regions : List Region) (n : ℕ) → lines_say regions n lines ≡ Err layout.NoRegion → ⊥
+unfolding lines_say
+lines_named [] regions n e = cc
+lines_named (line ∷ lines) regions n e =
+    step_named (with_line regions n line) (λ more. lines_say more (n + 1) lines) (line_named regions n line)
+    (λ more f. lines_named lines more (n + 1) f) e
+
+text_named : (text : List ℕ) → layout_says text ≡ Err layout.NoRegion → ⊥
+unfolding layout_says
+text_named text e = lines_named (lines_of text) [] 1 e
+
+-- ---- a text that can't be read, and names that aren't known
+
+module _ (text names : List ℕ) where
+  pub is_unread : (fault : LayoutFault) → ReadsLayout (Err fault) (layout_says text)
+      → (fault ≡ layout.Memory → AsksMemory text)
+      → ((regions : List Region) → IsLayout text regions → ReadsLayout (Err fault) (Ok regions)) → IncludesNone text names fault
+  is_unread layout.Memory reads asks taken = asks refl
+  is_unread layout.NoRegion reads asks taken = absurd (text_named text reads)
+  is_unread layout.TooMany reads asks taken = record { none = λ regions is. (let e = taken regions is in cc); first = reads }
+  is_unread (layout.InLine line fault) reads asks taken =
+      record { none = λ regions is. (let e = taken regions is in cc); first = reads }
+
+  pub is_unknown : (fault : LayoutFault) (regions : List Region) → fault ≡ layout.NoRegion → IsLayout text regions
+      → are_known regions names ≡ false → IncludesNone text names fault
+  is_unknown fault regions is layout unknown =
+      rw is (record { regions = regions; layout = layout; unknown = unknown })
