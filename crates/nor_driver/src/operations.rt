@@ -1,9 +1,10 @@
 //! Operations: write enable, a command that changes the chip, and a wait.
 
-ghost use Rattle.std.specs.Prelude.{◌<◌, ◌≤◌, ◌+◌, ◌*◌, ◌%◌, ◌^◌, length, IfOk, IfErr};
+ghost use Rattle.std.specs.Prelude.{◌≡◌, ◌<◌, ◌≤◌, ◌+◌, ◌*◌, ◌%◌, ◌^◌, true, length, IfOk, IfErr};
 ghost use Rattle.nor_driver.specs.Waits.{Halts, NamesTimeout};
 ghost use Rattle.nor_driver.specs.Operations.{BytesNameAddress, IsCommandAt, AsksForOperation, LeavesOperation, Operates, most_operation};
 ghost use Rattle.nor_driver.specs.Programs.{LeavesProgram, Programs};
+ghost use Rattle.nor_driver.specs.Units.{is_aligned};
 ghost use Rattle.nor_driver.specs.Erases.{LeavesErase, Erases};
 ghost use Rattle.nor_driver.specs.StatusWrites.{LeavesStatusWrite, WritesStatus};
 
@@ -32,9 +33,10 @@ pub fn program_page<B: Bus>(bus: &mut B, address: u32, bytes: &[u8]) -> Result<u
     operation(bus, &command, address)
 }
 
-/// Erases a unit (20h, 52h, D8h or C7h). Answers the number of transactions.
+/// Erases an aligned unit (20h, 52h, D8h or C7h). Answers the number of transactions.
 pub fn erase<B: Bus>(bus: &mut B, erase: Erase) -> Result<u32, Halt>
-    requires { erase.sector < 4096 }
+    requires reachable { erase.sector < 4096 }
+    requires aligned { is_aligned erase.unit erase.sector ≡ true }
     ensures leaves { LeavesErase erase (B.state bus.old) (B.state bus.new) }
     ensures does { IfOk result (Erases erase (B.state bus.old) (B.state bus.new)) }
     ensures halts { IfErr result (Halts most_operation (B.state bus.old) (B.state bus.new)) }

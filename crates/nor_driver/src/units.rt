@@ -1,7 +1,7 @@
 //! What an erase aims at.
 
 ghost use Rattle.std.specs.Prelude.{◌≡◌, ◌*◌};
-ghost use Rattle.nor_driver.specs.Units.{opcode_of};
+ghost use Rattle.nor_driver.specs.Units.{opcode_of, is_aligned};
 
 use nor_chip::SECTOR_LEN;
 
@@ -45,5 +45,17 @@ impl Erase {
         ensures { result ≡ 4096 * self.sector }
     {
         SECTOR_LEN * u32::from(self.sector)
+    }
+
+    /// Whether the unit may begin at its sector: a block at multiples of its size, the chip at 0.
+    pub fn is_aligned(self) -> bool
+        ensures { result ≡ is_aligned self.unit self.sector }
+    {
+        match self.unit {
+            EraseUnit::Sector => true,
+            EraseUnit::Block32 => self.sector % 8 == 0,
+            EraseUnit::Block64 => self.sector % 16 == 0,
+            EraseUnit::Chip => self.sector == 0,
+        }
     }
 }

@@ -1,5 +1,5 @@
 -- What sessions and restores that follow one another come to.
-use Rattle.std.proofs.Common.{◌≡◌, ◌+◌, ◌*◌, ◌/◌, ◌%◌, ◌∙◌, ℕ, Bool, false, List, [], ap, sym, subst, arith, true≢false, inl, inr}
+use Rattle.std.proofs.Common.{◌≡◌, ◌+◌, ◌*◌, ◌/◌, ◌%◌, ◌∙◌, ℕ, Bool, false, List, [], ap, sym, refl, subst, arith, true≢false, inl, inr}
 use Rattle.std.proofs.lemmas.Bool.{cases_Bool, and_left, and_parts}
 use Rattle.std.specs.Prelude.{slice_index, ◌++◌}
 use Rattle.nor_chip.specs.Code.{code_in}
@@ -12,7 +12,8 @@ use Rattle.nor_journal.proofs.OneForm.{one_text}
 use Rattle.nor_journal.proofs.Saves.{saved_byte-is}
 use Rattle.nor_plan.specs.Erase.{Covers}
 use Rattle.nor_plan.specs.Content.{once_erased, is_programmed}
-use Rattle.nor_apply.proofs.Changing.{within_then, same_within}
+use Rattle.nor_driver.specs.StatusWrites.{KeepsFixed}
+use Rattle.nor_driver.proofs.LooksInTurn.{same_then}
 use Rattle.nor_count.proofs.Counting.{count_below-none}
 use Rattle.nor_call.specs.declared.report.Report.{Report}
 use Rattle.nor_call.specs.declared.request.Request.{Request}
@@ -20,10 +21,12 @@ use Rattle.nor_save.specs.Touched.{is_touched_by}
 use Rattle.nor_save.specs.Saving.{head_of}
 use Rattle.nor_save.proofs.Planned.{untouched, unraised}
 use Rattle.nor_session.specs.Restore.{restored, is_touched_from, is_raised_from, NeedsStatusFrom, SavesChip, open_places, CanGiveBack, IsRestored}
-use Rattle.nor_session.specs.InTurn.{LeavesJournal, ChangesNothing}
+use Rattle.nor_session.specs.InTurn.{LeavesJournal, IsTakenUp, ChangesNothing}
+use Rattle.nor_session.specs.WrittenOver.{IsWrittenOver}
 use Rattle.nor_session.proofs.Rescanned.{restored_saved, restored_other}
 use Rattle.nor_session.proofs.GivesBack.{leads_back, can_give_back}
-use Rattle.nor_session.proofs.Restoring.{restored_back}
+use Rattle.nor_session.proofs.GivenBack.{given_back}
+use Rattle.nor_session.proofs.WrittenBack.{either}
 
 -- ---- a chip that is the saved one already
 
@@ -96,16 +99,58 @@ can_restore request image old new journal leaves =
     can_give_back (is_touched_by request image old.chip) old.chip leaves.vault.bytes new journal leads
     (kept_read (head_of old.chip) old.chip.bytes (is_touched_by request image old.chip) leaves.vault.bytes journal leads.journal leaves.whole leaves.same)
 
--- it still does where the same chip is there again
-back_again : (journal : Content) (first : Chip) (old new : BusState) → CanGiveBack journal first old → IsSame old.chip new.chip → new.chip.busy ≡ 0 → CanGiveBack journal first new
-back_again journal first old new can same idle = record {
-  known = can.known;
-  saves = can.saves;
-  within = within_then (open_places journal first) first old new can.within (same_within (open_places journal first) old.chip new same idle);
+-- The journal can make a chip the first one again, whatever runs on it: it saves that one, and all else agrees.
+record LeadsTo (journal : Content) (first chip : Chip) : Type 0 where
+  saves : SavesChip journal first
+  config : chip.config ≡ first.config
+  fixed : KeepsFixed first chip
+  bytes : (a : ℕ) → open_places journal first a ≡ false → chip.bytes a ≡ first.bytes a
+
+leads_to : (journal : Content) (first : Chip) (state : BusState) → CanGiveBack journal first state → LeadsTo journal first state.chip
+leads_to journal first state can = record { saves = can.saves; config = can.within.config; fixed = can.within.fixed; bytes = can.within.bytes }
+
+-- so it does from the same chip
+leads_same : (journal : Content) (first new taken : Chip) → LeadsTo journal first new → IsSame new taken → LeadsTo journal first taken
+leads_same journal first new taken leads same = record {
+  saves = leads.saves;
+  config = same.config ∙ leads.config;
+  fixed = record {
+    one = ap (λ (k : ℕ). k / 32) same.kept1 ∙ leads.fixed.one;
+    two = ap (λ (k : ℕ). k % 64) same.kept2 ∙ leads.fixed.two;
+  };
+  bytes = λ a out. same.bytes a ∙ leads.bytes a out;
 }
 
-pub both_undone : (request later : Request) (image aim : List ℕ) (old mid new back end : BusState) (journal other : Content) (report last : Report)
-    → LeavesJournal request image old mid journal → LeavesJournal later aim mid new other → IsRestored other new back report → IsRestored journal back end last → IsSame old.chip end.chip
-both_undone request later image aim old mid new back end journal other report last first second undone again =
-    let same = restored_back other mid.chip new back report (can_restore later aim mid new other second) undone in
-    restored_back journal old.chip back end last (back_again journal old.chip mid back (can_restore request image old mid journal first) same undone.made.idle) again
+-- and from the first one, while that is written over
+leads_over : (journal : Content) (first new taken : Chip) → LeadsTo journal first new → IsWrittenOver first new taken → LeadsTo journal first taken
+leads_over journal first new taken leads over = record {
+  saves = leads.saves;
+  config = over.config;
+  fixed = record {
+    one = either (λ k. k / 32 ≡ first.kept1 / 32) _ _ _ over.kept1 refl leads.fixed.one;
+    two = either (λ k. k % 64 ≡ first.kept2 % 64) _ _ _ over.kept2 refl leads.fixed.two;
+  };
+  bytes = λ a out. either (λ b. b ≡ first.bytes a) _ _ _ (over.bytes a) refl (leads.bytes a out);
+}
+
+leads_taken : (journal : Content) (first new taken : Chip) → LeadsTo journal first new → IsTakenUp first new taken → LeadsTo journal first taken
+leads_taken journal first new taken leads (inl same) = leads_same journal first new taken leads same
+leads_taken journal first new taken leads (inr over) = leads_over journal first new taken leads over
+
+-- and from what a session left, where another run takes it up
+left_taken : (request : Request) (image : List ℕ) (old new taken : BusState) (journal : Content) → LeavesJournal request image old new journal → IsTakenUp old.chip new.chip taken.chip
+    → LeadsTo journal old.chip taken.chip
+left_taken request image old new taken journal leaves is =
+    leads_taken journal old.chip new.chip taken.chip (leads_to journal old.chip new (can_restore request image old new journal leaves)) is
+
+-- a restore gets there
+led_back : (journal : Content) (first : Chip) (old new : BusState) (report : Report) → LeadsTo journal first old.chip → IsRestored journal old new report → IsSame first new.chip
+led_back journal first old new report leads done =
+    given_back journal first old.chip new.chip leads.saves leads.config leads.fixed leads.bytes done.made.config done.made.bytes done.made.fixed done.code
+
+pub both_undone : (request later : Request) (image aim : List ℕ) (old mid mid' new new' back back' end : BusState) (journal other : Content) (report last : Report)
+    → LeavesJournal request image old mid journal → IsTakenUp old.chip mid.chip mid'.chip → LeavesJournal later aim mid' new other → IsTakenUp mid'.chip new.chip new'.chip
+    → IsRestored other new' back report → IsSame back.chip back'.chip → IsRestored journal back' end last → IsSame old.chip end.chip
+both_undone request later image aim old mid mid' new new' back back' end journal other report last first passed second gone undone kept again =
+    let same = same_then _ _ _ (led_back other mid'.chip new' back report (left_taken later aim mid' new new' other second gone) undone) kept in
+    led_back journal old.chip back' end last (leads_same journal old.chip mid'.chip back'.chip (left_taken request image old mid mid' journal first passed) same) again

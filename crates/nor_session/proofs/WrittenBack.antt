@@ -20,7 +20,7 @@ use Rattle.nor_session.proofs.GivesBack.{can_give_back, leads_back}
 -- ---- one chip written over with another
 
 -- what is so of either of two numbers is so of one that is the one or the other
-either : (P : ℕ → Type 0) (x y z : ℕ) → (z ≡ x) ⊎ (z ≡ y) → P x → P y → P z
+pub either : (P : ℕ → Type 0) (x y z : ℕ) → (z ≡ x) ⊎ (z ≡ y) → P x → P y → P z
 either P x y z (inl is) one two = rw is one
 either P x y z (inr is) one two = rw is two
 

@@ -8,7 +8,7 @@ ghost use Rattle.nor_journal.specs.Vault.{VaultState};
 ghost use Rattle.nor_call.specs.declared.report.Report.{Report};
 ghost use Rattle.nor_call.specs.declared.request.Request.{Request};
 ghost use Rattle.nor_probe.specs.Known.{IsModelled};
-ghost use Rattle.nor_session.specs.InTurn.{LeavesJournal, ChangesNothing};
+ghost use Rattle.nor_session.specs.InTurn.{LeavesJournal, IsTakenUp, ChangesNothing};
 ghost use Rattle.nor_session.specs.Restore.{SavesChip, IsRestored, CanGiveBack};
 ghost use Rattle.nor_session.specs.Session.{CanBeUndone};
 ghost use Rattle.nor_session.specs.WrittenOver.{IsWrittenOver};
@@ -20,13 +20,16 @@ pub fn restored_stays()
         → ChangesNothing journal old new report }
 {}
 
-/// Two sessions, one after the other, are undone by restores from their journals in the reverse order.
+/// Two sessions, one after the other, are undone by restores from their journals in the reverse order. Each of the four
+/// runs has a bus of its own, with the chip that the run before it left; what a session left may also be in files that
+/// weren't written over to their end.
 pub fn undone_in_turn()
-    ensures { (request later : Request) (image aim : List ℕ) (old mid new back end : BusState)
+    ensures { (request later : Request) (image aim : List ℕ) (old mid mid' new new' back back' end : BusState)
         (journal other : Content) (report last : Report)
-        → LeavesJournal request image old mid journal → LeavesJournal later aim mid new other
-        → IsRestored other new back report → IsRestored journal back end last
-        → IsSame old.chip end.chip }
+        → LeavesJournal request image old mid journal → IsTakenUp old.chip mid.chip mid'.chip
+        → LeavesJournal later aim mid' new other → IsTakenUp mid'.chip new.chip new'.chip
+        → IsRestored other new' back report → IsSame back.chip back'.chip
+        → IsRestored journal back' end last → IsSame old.chip end.chip }
 {}
 
 /// What a session kept gives its chip back: from what it promises once its vault is sealed, and a journal that is read

@@ -1,6 +1,7 @@
 //! The functions of the driver that change a chip or wait for it.
 
-ghost use Rattle.std.specs.Prelude.{◌<◌, IfOk};
+ghost use Rattle.std.specs.Prelude.{◌≡◌, ◌<◌, true, IfOk};
+ghost use Rattle.nor_driver.specs.Units.{is_aligned};
 
 use crate::digits::{address_of, bytes_of, status_of};
 use crate::fault::Fault;
@@ -49,9 +50,10 @@ fn protect(alloc: Global, bus: &mut Way<'_>, status: [u8; 2], code: u32) -> Resu
     Ok(text_of(alloc, write_status(bus, Status::of(status), code))?)
 }
 
-// The erase of this opcode.
+// The erase of this opcode, of an aligned unit.
 fn erase_of(opcode: &str, sector: u32) -> Result<Erase, Fault>
-    ensures { IfOk result (λ erase. erase.sector < 4096) }
+    ensures reachable { IfOk result (λ erase. erase.sector < 4096) }
+    ensures aligned { IfOk result (λ erase. is_aligned erase.unit erase.sector ≡ true) }
 {
     let unit = match opcode {
         "20" => EraseUnit::Sector,
@@ -63,10 +65,14 @@ fn erase_of(opcode: &str, sector: u32) -> Result<Erase, Fault>
     if sector >= MOST_SECTORS {
         return Err(Fault::Unread);
     }
-    Ok(Erase {
+    let erased = Erase {
         unit,
         sector: sector as u16,
-    })
+    };
+    if !erased.is_aligned() {
+        return Err(Fault::Unread);
+    }
+    Ok(erased)
 }
 
 fn text_of(alloc: Global, outcome: Result<u32, Halt>) -> Result<String, AllocError> {
