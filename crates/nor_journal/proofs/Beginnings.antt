@@ -1,12 +1,14 @@
 -- What a vault has that refused a piece of a journal: a beginning of the text.
 use Rattle.std.proofs.Common.{◌≡◌, ℕ, ◌≤◌, List, [], ◌∷◌, ◌++◌, length, take, sym, ap, subst, ◌∙◌, arith}
-use Rattle.std.specs.Prelude.{true, Some, Result, Ok, Err, OnErr}
+use Rattle.std.specs.Prelude.{true, Some, Result, Ok, Err, IfErr, OnErr}
 use Rattle.std.specs.Io.{StartsWith}
 use Rattle.std.proofs.Math.Seq.{take-append-add}
 use Rattle.std.proofs.lemmas.List.{length-append, length-take, take_min, take-append-le, append-nil}
 use Rattle.sha2.specs.Sha256.{sha256}
 use Rattle.nor_journal.specs.Vault.{VaultState, Took, PutRefused, Seals, HoldsBeginning}
 use Rattle.nor_journal.specs.declared.vault.VaultFault.{VaultFault}
+use Rattle.nor_journal.specs.declared.writer.Writer.{Writer}
+use Rattle.nor_journal.specs.Writer.{vault_seen, HasPut}
 use Rattle.nor_journal.specs.Text.{Content, record_text, end_mark, front, text, head, empty_content, with_sector}
 use Rattle.nor_journal.proofs.Writes.{front-empty_content, front-with_sector, mark_is, text_is}
 
@@ -48,6 +50,12 @@ err_any (Ok value) holds = tt
 err_any (Err error) holds = holds
 
 -- ---- of a writer
+
+-- after a piece that its vault refused
+pub piece_refused : {V T : Type 0} (state : V → VaultState) (w : Writer V) (new : VaultState) (before piece : List ℕ) (r : Result T VaultFault) → HasPut state w before
+    → IfErr r (λ fault. PutRefused (vault_seen state w) piece fault.kept new) → OnErr r (HoldsBeginning new (before ++ piece))
+piece_refused state w new before piece (Ok value) put refused = tt
+piece_refused state w new before piece (Err fault) put refused = after_refused (vault_seen state w) new before piece fault.kept put.told refused
 
 -- the head is one of a content with no sector
 pub begins_head : (vault : VaultState) (id unique status piece : List ℕ) (size : ℕ) → piece ≡ head (empty_content id (Some unique) status size)

@@ -1,7 +1,7 @@
 //! Writes a journal into a vault, piece by piece.
 ghost use Rattle.std.specs.Prelude.{◌≡◌, ◌+◌, ◌/◌, ◌<◌, ◌≤◌, ◌++◌, List, ℕ, Bool, []};
-ghost use Rattle.std.specs.Prelude.{false, true, Some, OnOk, OnErr, IfOk};
-ghost use Rattle.nor_journal.specs.Vault.{Accepted, PutsOn, Completes, HoldsBeginning, IsFresh};
+ghost use Rattle.std.specs.Prelude.{false, true, Some, OnOk, OnErr, IfOk, IfErr};
+ghost use Rattle.nor_journal.specs.Vault.{PutRefused, Accepted, PutsOn, Completes, HoldsBeginning, IsFresh};
 ghost use Rattle.nor_journal.specs.Text.{Content, IsJournalSize, MayFollow, empty_content, with_sector, front, text};
 ghost use Rattle.nor_journal.specs.Saved.{IsWholeSector, HasOneMore, JournalSaves};
 ghost use Rattle.nor_journal.specs.Writer.{vault_of, vault_seen, HasPut, HasWritten, HasPutSectors};
@@ -81,8 +81,8 @@ impl<'a, V: Vault> Writer<'a, V> {
         ensures vault { PutsOn (vault_seen V.state self.old) result (vault_seen V.state self.new) }
         ensures put { (m : List ℕ) → HasPut V.state self.old m
             → OnOk result (HasPut V.state self.new (m ++ bytes.now)) }
-        ensures cut { (m : List ℕ) → HasPut V.state self.old m
-            → OnErr result (HoldsBeginning (vault_seen V.state self.new) (m ++ bytes.now)) }
+        ensures refused { IfErr result (λ fault. PutRefused (vault_seen V.state self.old) bytes.now fault.kept
+            (vault_seen V.state self.new)) }
     {
         self.vault.put(bytes)?;
         self.hasher.update(bytes);

@@ -2,7 +2,7 @@ use Rattle.std.proofs.Common.{arith}
 use Rattle.std.proofs.lemmas.Result.{on_ok_weaker, on_err_weaker}
 use Rattle.nor_journal.specs.Writer.{vault_seen}
 use Rattle.nor_journal.proofs.Writes.{adds}
-use Rattle.nor_journal.proofs.Beginnings.{begins_record}
+use Rattle.nor_journal.proofs.Beginnings.{piece_refused, begins_record}
 use Rattle.nor_journal.proofs.Saves.{may_follow, HasKept-more}
 use Rattle.nor_journal.proofs.writer.Writer.add.Goals as goal
 
@@ -17,4 +17,4 @@ returns-clause-kept g c = λ head chip saved more n kept above place sector one.
 
 pub returns-clause-cut : goal.returns-clause-cut
 returns-clause-cut g c = λ content written.
-    on_err_weaker c.piece.result (begins_record (vault_seen g.V.Vault.state c.piece.new.self) content c.args.number c.args.bytes.now _ c.record_bytes.ensures) (c.piece.ensures.cut _ written.put)
+    on_err_weaker c.piece.result (begins_record (vault_seen g.V.Vault.state c.piece.new.self) content c.args.number c.args.bytes.now _ c.record_bytes.ensures) (piece_refused g.V.Vault.state c.args.self.now _ _ _ c.piece.result written.put c.piece.ensures.refused)

@@ -2,7 +2,7 @@ use Rattle.std.proofs.Common.{arith, []}
 use Rattle.std.proofs.lemmas.Result.{on_ok_weaker, on_err_weaker}
 use Rattle.nor_journal.specs.Writer.{vault_seen}
 use Rattle.nor_journal.proofs.Writes.{opens}
-use Rattle.nor_journal.proofs.Beginnings.{begins_head}
+use Rattle.nor_journal.proofs.Beginnings.{piece_refused, begins_head}
 use Rattle.nor_journal.proofs.writer.Writer.header.Goals as goal
 
 pub returns-clause-written : goal.returns-clause-written
@@ -11,4 +11,4 @@ returns-clause-written g c = λ nothing.
 
 pub returns-clause-cut : goal.returns-clause-cut
 returns-clause-cut g c = λ nothing.
-    on_err_weaker c.piece.result (begins_head (vault_seen g.V.Vault.state c.piece.new.self) c.args.id c.args.unique c.args.status _ c.args.size c.head_bytes.ensures) (c.piece.ensures.cut [] nothing)
+    on_err_weaker c.piece.result (begins_head (vault_seen g.V.Vault.state c.piece.new.self) c.args.id c.args.unique c.args.status _ c.args.size c.head_bytes.ensures) (piece_refused g.V.Vault.state c.args.self.now _ [] _ c.piece.result nothing c.piece.ensures.refused)
