@@ -107,7 +107,7 @@ go_on chip set c n (suc more) saves next within =
 -- ---- the beginning of a journal
 
 -- what begins a part of the head and the records begins the text
-front_begins : (c : Content) (part rest bytes : List ℕ) → front c ≡ part ++ rest → StartsWith part bytes → StartsWith (text c) bytes
+pub front_begins : (c : Content) (part rest bytes : List ℕ) → front c ≡ part ++ rest → StartsWith part bytes → StartsWith (text c) bytes
 front_begins c part rest bytes is begins =
     let more : StartsWith (front c) bytes = subst (λ (whole : List ℕ). StartsWith whole bytes) (sym is) (begins_longer part rest bytes begins) in
     subst (λ (whole : List ℕ). StartsWith whole bytes) (text_is c)

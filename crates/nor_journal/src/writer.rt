@@ -2,7 +2,7 @@
 ghost use Rattle.std.specs.Prelude.{◌≡◌, ◌+◌, ◌/◌, ◌<◌, ◌≤◌, ◌++◌, List, ℕ, Bool, []};
 ghost use Rattle.std.specs.Prelude.{false, true, Some, OnOk, OnErr, IfOk, IfErr};
 ghost use Rattle.nor_journal.specs.Vault.{PutRefused, Accepted, PutsOn, Completes, HoldsBeginning, IsFresh};
-ghost use Rattle.nor_journal.specs.Text.{Content, IsJournalSize, MayFollow, empty_content, with_sector, front, text};
+ghost use Rattle.nor_journal.specs.Text.{Content, IsContent, IsJournalSize, MayFollow, empty_content, with_sector, front, text};
 ghost use Rattle.nor_journal.specs.Saved.{IsWholeSector, HasOneMore, JournalSaves};
 ghost use Rattle.nor_journal.specs.Writer.{vault_of, vault_seen, HasPut, HasWritten, HasPutSectors};
 
@@ -106,6 +106,7 @@ impl<'a, V: Vault> Writer<'a, V> {
         ensures cut { HasPut V.state self.old []
             → OnErr result (HoldsBeginning (vault_seen V.state self.new)
             (front (empty_content id (Some unique) status size))) }
+        ensures content { IsContent (empty_content id (Some unique) status size) }
     {
         self.piece(&head_bytes(id, unique, status, size))
     }

@@ -12,3 +12,6 @@ returns-clause-written g c = λ nothing.
 pub returns-clause-cut : goal.returns-clause-cut
 returns-clause-cut g c = λ nothing.
     on_err_weaker c.piece.result (begins_head (vault_seen g.V.Vault.state c.piece.new.self) c.args.id c.args.unique c.args.status _ c.args.size c.head_bytes.ensures) (piece_refused g.V.Vault.state c.args.self.now _ [] _ c.piece.result nothing c.piece.ensures.refused)
+
+pub returns-clause-content : goal.returns-clause-content
+returns-clause-content g c = record { id = omega arith; unique = omega arith; status = omega arith; size = c.requires.size; saved = tt }
