@@ -1,7 +1,6 @@
 -- What a vault has after a refusal: a beginning of the one journal.
 use Rattle.std.proofs.Common.{◌≡◌, ◌<◌, ◌≤◌, ◌+◌, ◌*◌, ◌/◌, ◌&&◌, ◌∙◌, ℕ, Bool, true, false, List, [], length, refl, sym, ap, subst, arith}
-use mathlib.Core.Path.{fun_ext}
-use Rattle.std.specs.Prelude.{nat_lt, slice_index, Some, Result, Ok, Err, OnErr}
+use Rattle.std.specs.Prelude.{nat_lt, slice_index}
 use Rattle.std.specs.Io.{StartsWith}
 use Rattle.std.proofs.lemmas.List.{take_all, append-nil}
 use Rattle.std.proofs.lemmas.Bool.{le-ltb}
@@ -9,9 +8,9 @@ use Rattle.nor_chip.specs.Chip.{Chip}
 use Rattle.nor_chip.specs.Bus.{BusState}
 use Rattle.nor_driver.specs.Looks.{IsOpen}
 use Rattle.nor_journal.specs.declared.writer.Writer.{Writer}
-use Rattle.nor_journal.specs.Text.{Content, IsContent, MayFollow, SameHead, next_number, end_mark, front, text, empty_content, with_sector}
+use Rattle.nor_journal.specs.Text.{Content, IsContent, SameHead, front, with_sector}
 use Rattle.nor_journal.specs.Vault.{VaultState, HoldsBeginning}
-use Rattle.nor_journal.specs.Saved.{IsWholeSector, Saves, HasOneMore, BeginsText}
+use Rattle.nor_journal.specs.Saved.{IsWholeSector, Saves, BeginsText}
 use Rattle.nor_journal.specs.Writer.{vault_seen, HasPutSectors}
 use Rattle.nor_journal.proofs.Saved.{saved_in-empty_content, next_number-empty_content, next_number-with_sector}
 use Rattle.nor_journal.proofs.Saves.{Saves-same, Saves-more, may_follow}

@@ -12,7 +12,6 @@ use Rattle.nor_save.specs.Saving.{head_of}
 use Rattle.nor_save.specs.SavedScan.{SaveTells, SaveBegins, SaveCuts}
 use Rattle.nor_save.proofs.KeptHeads.{same_bytes, is_open, touched_right, raised_right, merged_right, judged_tells, accepts_touched, kept_touched, head_same}
 use Rattle.nor_journal.proofs.Beginnings.{err_any}
-use Rattle.std.specs.Prelude.{Some}
 use Rattle.nor_save.proofs.Cuts.{cut_of_chip, cut_in_head, cut_at_end}
 use Rattle.nor_save.proofs.Begun.{begun_none, with_none, begins_of, begins_all, err_same, unless_refused_err}
 use Rattle.nor_save.proofs.saving.save.Goals as goal
