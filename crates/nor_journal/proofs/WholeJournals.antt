@@ -3,10 +3,11 @@ use Rattle.std.proofs.Common.{◌≡◌, ◌≢◌, ℕ, zero, suc, ◌+◌, ◌
 use Rattle.std.specs.Prelude.{◌&&◌, nat_lt}
 use Rattle.std.specs.Io.{StartsWith}
 use Rattle.std.specs.List.{range_with_len}
-use Rattle.std.proofs.lemmas.List.{append-nil, take-append-drop}
+use Rattle.std.proofs.lemmas.List.{append-nil, take-append-drop, length-append}
 use Rattle.std.proofs.lemmas.List.FromFn.{length-map-range_with_len, get_or-map-range_with_len}
 use Rattle.std.proofs.lemmas.Bool.{cases_Bool, cases_lt, lt-ltb, le-ltb, and_right}
 use Rattle.sha2.specs.Sha256.{sha256}
+use Rattle.sha2.proofs.Facts256.{length-sha256}
 use Rattle.nor_journal.specs.Text.{Content, IsContent, SameHead, next_number, record_text, end_mark, front, text, with_sector}
 use Rattle.nor_journal.specs.Saved.{IsWholeSector, Saves, HasOneMore, BeginsText}
 use Rattle.nor_journal.proofs.Saved.{next_number-with_sector}
@@ -136,3 +137,9 @@ begins_all_of_it head chip saved bytes journal begun is e =
     ∙ take-append-drop (length bytes) (text begun.content) ∙ sym (append-nil (text begun.content)) in
     let one : begun.content ≡ journal = sym (one_text journal begun.content (drop (length bytes) (text begun.content)) [] is begun.saves.is whole).0 in
     subst (λ (c : Content). SameHead head c × Saves chip saved c) one (begun.same, begun.saves)
+
+-- no journal is empty
+pub never_empty : (c : Content) → text c ≡ [] → ⊥
+never_empty c none =
+    let long = length-append (front c ++ end_mark) (sha256 (front c ++ end_mark)) in
+    omega (arith, ap length (text_is c ∙ none), long, length-sha256 (front c ++ end_mark))
