@@ -1,5 +1,5 @@
 -- What a vault has that isn't sealed gives its chip back, where it is a journal.
-use Rattle.std.proofs.Common.{◌≡◌, ◌∙◌, ◌⊎◌, ◌/◌, ◌%◌, ℕ, Bool, List, [], refl, sym, ap, subst, inl, inr}
+use Rattle.std.proofs.Common.{◌≡◌, ◌∙◌, ◌/◌, ◌%◌, ℕ, Bool, List, refl, sym, ap, subst, inl, inr}
 use Rattle.std.specs.Prelude.{Result, IsOk}
 use Rattle.nor_chip.specs.Bus.{BusState}
 use Rattle.nor_chip.specs.Chip.{Chip, IsChip, IsSame}
