@@ -37,8 +37,8 @@ pub fn read_gives_back()
         → IsContent journal → vault.bytes ≡ text journal → CanGiveBack journal old.chip new }
 {}
 
-/// A vault that isn't sealed may have the whole journal, as one that refused the seal alone. Where a journal is read from
-/// what it has, that gives the chip back, too, which is as it was: nothing that isn't the one journal can be read.
+/// A vault that was never sealed may have the whole journal, as where the seal alone was refused. Where what it has is
+/// read as a journal, that gives the chip back, to which nothing was done.
 pub fn begun_gives_back()
     ensures { (request : Request) (image : List ℕ) (old new : BusState) (bytes : List ℕ) (journal : Content)
         → IsModelled old → IsChip old.chip → HoldsBegun request image old.chip bytes
