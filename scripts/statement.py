@@ -128,6 +128,7 @@ LEGEND = {
     "[] ◌∷◌ ◌++◌ length take drop":
         "`[]` is the empty list, `x ∷ xs` is x and then xs, `xs ++ ys` one behind the other, `length xs` how many "
         "there are. `take n xs` are the first n, and `drop n xs` the others.",
+    "StartsWith": "`StartsWith xs ys`: the first items of xs are ys.",
     "slice_index slice_index_or":
         "`slice_index xs i` is the item at i, counted from 0 on, and 0 past the end; `slice_index_or xs i d` is d "
         "there.",

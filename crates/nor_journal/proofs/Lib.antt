@@ -5,10 +5,12 @@ pub mod Places
 pub mod Fronts
 pub mod OneForm
 pub mod Writes
+pub mod Beginnings
 pub mod Saved
 pub mod Sought
 pub mod KnownBytes
 pub mod OneFault
 pub mod Saves
+pub mod WholeJournals
 pub mod Sizes
 pub mod Refusals

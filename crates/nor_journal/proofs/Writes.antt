@@ -10,7 +10,7 @@ use Rattle.nor_journal.specs.Text.{SavedSector, Content, IsContent, IsJournalSiz
 use Rattle.nor_journal.specs.Writer.{HasPut, HasWritten}
 use Rattle.nor_journal.proofs.SectorRecords.{AreRising-push, records_text-push, records_text-nil}
 
-front-empty_content : (id unique status : List ℕ) (size : ℕ) → front (empty_content id (Some unique) status size) ≡ head (empty_content id (Some unique) status size)
+pub front-empty_content : (id unique status : List ℕ) (size : ℕ) → front (empty_content id (Some unique) status size) ≡ head (empty_content id (Some unique) status size)
 unfolding front
 front-empty_content id unique status size =
     let whole : List ℕ = head (empty_content id (Some unique) status size) in
@@ -28,7 +28,7 @@ same_head : (c : Content) (number : ℕ) (bytes : List ℕ) → head (with_secto
 unfolding head
 same_head c number bytes = refl
 
-front-with_sector : (c : Content) (number : ℕ) (bytes : List ℕ) → front (with_sector c number bytes) ≡ front c ++ record_text (record { number = number; bytes = bytes })
+pub front-with_sector : (c : Content) (number : ℕ) (bytes : List ℕ) → front (with_sector c number bytes) ≡ front c ++ record_text (record { number = number; bytes = bytes })
 unfolding front
 front-with_sector c number bytes =
     let added : SavedSector = record { number = number; bytes = bytes } in
@@ -55,11 +55,11 @@ adds state w c number bytes piece is follows whole e put = record {
   put = rw (front-with_sector c number bytes, ← e) put;
 }
 
-mark_is : 255 ∷ 255 ∷ 255 ∷ 255 ∷ [] ≡ end_mark
+pub mark_is : 255 ∷ 255 ∷ 255 ∷ 255 ∷ [] ≡ end_mark
 unfolding end_mark
 mark_is = refl
 
-text_is : (c : Content) → (front c ++ end_mark) ++ sha256 (front c ++ end_mark) ≡ text c
+pub text_is : (c : Content) → (front c ++ end_mark) ++ sha256 (front c ++ end_mark) ≡ text c
 unfolding text body
 text_is c = refl
 

@@ -1,5 +1,6 @@
 -- Which sectors a content saves, and with which bytes.
 use Rattle.std.specs.Prelude.{◌≡◌, ◌≢◌, ℕ, ◌+◌, ◌*◌, ◌/◌, ◌%◌, ◌<◌, Bool, true, false, List, [], ◌∷◌, length, slice_index, slice_get, Option, Some, None, IsSomeAnd, ◌==◌, if◌then◌else◌}
+use Rattle.std.specs.Io.{StartsWith}
 use Rattle.std.specs.Option.{is_some, unwrap_or}
 use Rattle.nor_journal.specs.Text.{SavedSector, Content, IsContent, SameHead, text}
 
@@ -36,6 +37,13 @@ pub record Saves (chip : ℕ → ℕ) (saved : ℕ → Bool) (content : Content)
 pub record HasOneMore (saved : ℕ → Bool) (sector : ℕ) (more : ℕ → Bool) : Type 0 where
   pub here : more sector ≡ true
   pub others : (s : ℕ) → s ≢ sector → more s ≡ saved s
+
+-- The bytes are a beginning of a journal with this head, which saves just these sectors.
+pub record BeginsText (head : Content) (chip : ℕ → ℕ) (saved : ℕ → Bool) (bytes : List ℕ) : Type 0 where
+  pub content : Content
+  pub same : SameHead head content
+  pub saves : Saves chip saved content
+  pub begins : StartsWith (text content) bytes
 
 -- The bytes are a journal with this head, and it saves just these sectors.
 pub record JournalSaves (head : Content) (chip : ℕ → ℕ) (saved : ℕ → Bool) (bytes : List ℕ) : Type 0 where

@@ -1,5 +1,6 @@
 -- What contracts see of a vault, and what its two calls do to it.
 use Rattle.std.specs.Prelude.{◌≡◌, ◌≢◌, ℕ, ◌+◌, ◌%◌, ◌^◌, ◌≤◌, Bool, true, false, List, [], ◌++◌, length, take, Result, Ok, Err}
+use Rattle.std.specs.Io.{StartsWith}
 use Rattle.nor_journal.specs.declared.vault.VaultFault.{VaultFault}
 
 -- A vault as contracts see it.
@@ -63,6 +64,10 @@ Seals old (Ok _) new = Sealed old new
 Seals old (Err fault) new = PutRefused old [] fault.kept new
 
 -- ---- over several calls
+
+-- a telling vault has a beginning of these bytes
+abbrev pub HoldsBeginning : VaultState → (whole : List ℕ) → Type 0
+HoldsBeginning vault whole = vault.telling ≡ true → StartsWith whole vault.bytes
 
 -- a vault that a journal may be put into
 pub record IsFresh (vault : VaultState) : Type 0 where

@@ -1,8 +1,8 @@
 //! Writes a journal into a vault, piece by piece.
 ghost use Rattle.std.specs.Prelude.{◌≡◌, ◌+◌, ◌/◌, ◌<◌, ◌≤◌, ◌++◌, List, ℕ, Bool, []};
-ghost use Rattle.std.specs.Prelude.{false, true, Some, OnOk, IfOk};
-ghost use Rattle.nor_journal.specs.Vault.{Accepted, PutsOn, Completes, IsFresh};
-ghost use Rattle.nor_journal.specs.Text.{Content, IsJournalSize, MayFollow, empty_content, with_sector, text};
+ghost use Rattle.std.specs.Prelude.{false, true, Some, OnOk, OnErr, IfOk, IfErr};
+ghost use Rattle.nor_journal.specs.Vault.{PutRefused, Accepted, PutsOn, Completes, HoldsBeginning, IsFresh};
+ghost use Rattle.nor_journal.specs.Text.{Content, IsContent, IsJournalSize, MayFollow, empty_content, with_sector, front, text};
 ghost use Rattle.nor_journal.specs.Saved.{IsWholeSector, HasOneMore, JournalSaves};
 ghost use Rattle.nor_journal.specs.Writer.{vault_of, vault_seen, HasPut, HasWritten, HasPutSectors};
 
@@ -14,8 +14,9 @@ use sha2::{Digest, Sha256};
 /// Writes a journal of format 2 into a vault, which it holds until the end: the head, the sectors in rising order, the
 /// end. It takes no memory: the digest is fed as the pieces go out.
 ///
-/// An error of a call is the vault's refusal of one of the pieces or of the seal, and the vault is then unsealed.
-/// Contracts leave the error's `kept` open, which counts from the beginning of that piece.
+/// An error of a call is the vault's refusal of one of the pieces or of the seal. The vault is then unsealed, and has
+/// what went in before and a beginning of that piece. Contracts leave the error's `kept` open, which counts from the
+/// beginning of the piece.
 #[derive(Drop)]
 pub struct Writer<'a, V: Vault> {
     vault: &'a mut V,
@@ -80,6 +81,8 @@ impl<'a, V: Vault> Writer<'a, V> {
         ensures vault { PutsOn (vault_seen V.state self.old) result (vault_seen V.state self.new) }
         ensures put { (m : List ℕ) → HasPut V.state self.old m
             → OnOk result (HasPut V.state self.new (m ++ bytes.now)) }
+        ensures refused { IfErr result (λ fault. PutRefused (vault_seen V.state self.old) bytes.now fault.kept
+            (vault_seen V.state self.new)) }
     {
         self.vault.put(bytes)?;
         self.hasher.update(bytes);
@@ -100,6 +103,10 @@ impl<'a, V: Vault> Writer<'a, V> {
         ensures vault { PutsOn (vault_seen V.state self.old) result (vault_seen V.state self.new) }
         ensures written { HasPut V.state self.old []
             → OnOk result (HasWritten V.state self.new (empty_content id (Some unique) status size)) }
+        ensures cut { HasPut V.state self.old []
+            → OnErr result (HoldsBeginning (vault_seen V.state self.new)
+            (front (empty_content id (Some unique) status size))) }
+        ensures content { IsContent (empty_content id (Some unique) status size) }
     {
         self.piece(&head_bytes(id, unique, status, size))
     }
@@ -115,6 +122,8 @@ impl<'a, V: Vault> Writer<'a, V> {
             → HasPutSectors V.state self.old head chip saved n → n ≤ number → number < head.size / 4096
             → IsWholeSector chip number bytes.now → HasOneMore saved number more
             → OnOk result (HasPutSectors V.state self.new head chip more (number + 1)) }
+        ensures cut { (c : Content) → HasWritten V.state self.old c
+            → OnErr result (HoldsBeginning (vault_seen V.state self.new) (front (with_sector c number bytes.now))) }
     {
         self.piece(&record_bytes(number, bytes))
     }
@@ -130,6 +139,8 @@ impl<'a, V: Vault> Writer<'a, V> {
             → HasPutSectors V.state self.entry head chip saved n
             → OnOk result ((V.state self.exit.0.now).telling ≡ true
             → JournalSaves head chip saved (V.state self.exit.0.now).bytes) }
+        ensures cut { (c : Content) → HasWritten V.state self.entry c
+            → OnErr result (HoldsBeginning (V.state self.exit.0.now) (text c)) }
     {
         let Writer { vault, mut hasher } = self;
         vault.put(&END_MARK)?;

@@ -4,7 +4,7 @@ use Rattle.nor_journal.specs.Text.{Content, IsContent, SameHead, front, text}
 use Rattle.nor_chip.specs.Chip.{Chip}
 use Rattle.nor_chip.specs.Bus.{BusState}
 use Rattle.nor_driver.specs.Looks.{RanOutIfHonest}
-use Rattle.nor_journal.specs.Saved.{Saves, JournalSaves, is_saved}
+use Rattle.nor_journal.specs.Saved.{Saves, JournalSaves, BeginsText, is_saved}
 use Rattle.nor_journal.specs.Vault.{VaultState, Refused, Completed, Accepted}
 use Rattle.nor_plan.specs.SectorSet.{has}
 use Rattle.nor_save.specs.declared.opening.Opening.{Opening}
@@ -87,6 +87,12 @@ pub record BeginsJournal (head : Content) (chip : ℕ → ℕ) (touched : ℕ �
   pub same : SameHead head content
   pub saves : Saves chip (λ s. nat_lt s bound && touched s) content
   pub is : bytes ≡ front content
+
+-- what a telling vault has after any refusal, its own too: a beginning of the one journal of a chip with this opening
+abbrev pub SaveCuts : Request → Opening → List ℕ → BusState → VaultState → Type 0
+SaveCuts request opening image old vault = vault.telling ≡ true
+    → (chip : Chip) → IsOpening chip opening → Shows chip old
+    → BeginsText (head_of chip) chip.bytes (is_touched_by request image chip) vault.bytes
 
 -- what a telling vault has after a refusal that isn't its own
 abbrev pub SaveBegins : Request → Opening → List ℕ → BusState → VaultState → Refusal → Type 0

@@ -4,7 +4,7 @@ use Rattle.nor_chip.specs.Bus.{BusState}
 use Rattle.nor_driver.specs.Looks.{Rested, RanOutIfHonest, IsOpen}
 use Rattle.nor_journal.specs.declared.writer.Writer.{Writer}
 use Rattle.nor_journal.specs.Text.{Content, next_number}
-use Rattle.nor_journal.specs.Saved.{is_saved}
+use Rattle.nor_journal.specs.Saved.{is_saved, BeginsText}
 use Rattle.nor_journal.specs.Vault.{VaultState, Refused, Accepted}
 use Rattle.nor_journal.specs.Writer.{HasWritten, HasPutSectors}
 use Rattle.nor_driver.specs.Reads.{HasRead, IsSectorOf}
@@ -104,6 +104,11 @@ pub record HasBegunWith {V : Type 0} (state : V → VaultState) (writer : Writer
 abbrev pub UnlessVault : {T : Type 0} → Result T Refusal → Type 0 → Type 0
 UnlessVault (Ok _) promise = promise
 UnlessVault (Err refusal) promise = refusal ≢ Vault → promise
+
+-- a telling vault has a beginning of the journal with this head that saves the chip's touched sectors, of so many
+abbrev pub HoldsCut : VaultState → (head : Content) → (chip : ℕ → ℕ) → (touched : ℕ → Bool) → (total : ℕ) → Type 0
+HoldsCut vault head chip touched total = vault.telling ≡ true
+    → BeginsText head chip (λ s. nat_lt s total && touched s) vault.bytes
 
 -- The head went in, and of the chip's touched sectors those below some bound, of so many sectors.
 pub record HasKeptBelow {V : Type 0} (state : V → VaultState) (writer : Writer V) (head : Content) (chip : ℕ → ℕ)

@@ -1,11 +1,11 @@
 //! What a session saves before it changes anything: the sealed journal of the chip.
-ghost use Rattle.std.specs.Prelude.{◌≡◌, ◌/◌, true, length, IfOk, IfErr, IsTrue};
+ghost use Rattle.std.specs.Prelude.{◌≡◌, ◌/◌, true, length, IfOk, IfErr, OnErr, IsTrue};
 ghost use Rattle.nor_chip.specs.Size.{is_chip_size};
 ghost use Rattle.nor_driver.specs.Looks.{Looks};
 ghost use Rattle.nor_journal.specs.Vault.{IsFresh};
 ghost use Rattle.nor_plan.specs.SectorSet.{has};
 ghost use Rattle.nor_call.specs.Request.{scanned_sectors, is_data};
-ghost use Rattle.nor_save.specs.SavedScan.{HasSaved, SaveTells, SavePuts, HoldsJournal, IsJournalOf, SaveBegins};
+ghost use Rattle.nor_save.specs.SavedScan.{HasSaved, SaveTells, SavePuts, HoldsJournal, IsJournalOf, SaveBegins, SaveCuts};
 
 use crate::judging::judge_scan;
 use crate::opening::Opening;
@@ -43,6 +43,7 @@ pub fn save<B: Bus, V: Vault>(
         (HasSaved request.now opening.now code image.old image.new
         (B.state bus.old) (B.state bus.new) (V.state vault.new)) }
     ensures begins { IfErr result (SaveBegins request.now opening.now image.old (B.state bus.old) (V.state vault.new)) }
+    ensures cut { OnErr result (SaveCuts request.now opening.now image.old (B.state bus.old) (V.state vault.new)) }
     ensures tells { IfErr result
         (SaveTells request.now opening.now code image.old (B.state bus.old) (B.state bus.new)) }
 {

@@ -8,7 +8,7 @@ ghost use Rattle.nor_plan.specs.SectorSet.{has, none};
 ghost use Rattle.nor_call.specs.Request.{scanned_sectors, is_data};
 ghost use Rattle.nor_plan.specs.Content.{is_touched};
 ghost use Rattle.nor_save.specs.Scanning.{HasMarked, IsBlank, ScansSector, Scans, ScanTells, ScanPuts};
-ghost use Rattle.nor_save.specs.Scanning.{HasBegun, HasBegunWith, UnlessVault, HasKeptBelow, wanted_at};
+ghost use Rattle.nor_save.specs.Scanning.{HasBegun, HasBegunWith, UnlessVault, HoldsCut, HasKeptBelow, wanted_at};
 ghost use Rattle.nor_call.specs.declared.refusal.Refusal.TheVariants as Refusals;
 
 use crate::{Refusal, Request, What};
@@ -110,6 +110,11 @@ pub fn scan_all<B: Bus, V: Vault>(
         → HasPutSectors V.state writer.old head (B.state bus.old).chip.bytes none 0
         → IfErr result (λ refusal. refusal ≢ Refusals.Vault
         → HasKeptBelow V.state writer.new head (B.state bus.old).chip.bytes (is_touched (B.state bus.old).chip.bytes
+        (wanted_at request.now image.old size (B.state bus.old).chip.bytes)) (size / 4096)) }
+    ensures cut { IsOpen size (B.state bus.old) → (head : Content) → head.size ≡ size
+        → HasPutSectors V.state writer.old head (B.state bus.old).chip.bytes none 0
+        → OnErr result (HoldsCut (vault_seen V.state writer.new) head (B.state bus.old).chip.bytes
+        (is_touched (B.state bus.old).chip.bytes
         (wanted_at request.now image.old size (B.state bus.old).chip.bytes)) (size / 4096)) }
     ensures writes { HasBegun V.state writer.old size 0
         → UnlessVault result (HasBegun V.state writer.new size (size / 4096)) }

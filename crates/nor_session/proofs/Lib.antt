@@ -16,6 +16,7 @@ pub mod Restoring
 pub mod Aiming
 pub mod SavedCounts
 pub mod GivesBack
+pub mod BegunBack
 pub mod WrittenBack
 pub mod InTurn
 pub mod RehearsedRestores

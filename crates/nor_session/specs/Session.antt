@@ -1,5 +1,5 @@
 -- What a session promises.
-use Rattle.std.specs.Prelude.{◌≡◌, ◌≢◌, ◌≤◌, ◌<◌, ◌+◌, ◌*◌, ◌/◌, ◌⊎◌, ℕ, Bool, true, false, List, [], Result, IfOk, IfErr, if◌then◌else◌, ⊤}
+use Rattle.std.specs.Prelude.{◌≡◌, ◌≢◌, ◌≤◌, ◌<◌, ◌+◌, ◌*◌, ◌/◌, ◌⊎◌, ℕ, Bool, true, false, List, [], Result, IfOk, IfErr, OnErr, if◌then◌else◌, ⊤}
 use Rattle.nor_chip.specs.Chip.{Chip, IsSame}
 use Rattle.nor_chip.specs.Sent.{is_aimed_at, status_writes_of}
 use Rattle.nor_chip.specs.Bus.{BusState}
@@ -8,7 +8,7 @@ use Rattle.nor_driver.specs.StatusWrites.{HasCode}
 use Rattle.nor_driver.specs.Operations.{most_operation}
 use Rattle.nor_journal.specs.Text.{Content}
 use Rattle.nor_journal.specs.Vault.{VaultState, Rose}
-use Rattle.nor_journal.specs.Saved.{JournalSaves, is_saved}
+use Rattle.nor_journal.specs.Saved.{JournalSaves, BeginsText, is_saved}
 use Rattle.nor_apply.specs.Change.{MayChange}
 use Rattle.nor_apply.specs.Spending.{Spends}
 use Rattle.nor_call.specs.declared.request.Request.{Request}
@@ -24,7 +24,7 @@ use Rattle.nor_save.specs.Saving.{head_of, NeedsStatus}
 use Rattle.nor_save.specs.SavedScan.{IsJournal, BeginsJournal, HoldsJournal}
 use Rattle.nor_session.specs.Bounds.{most_looked, most_of}
 use Rattle.nor_session.specs.Made.{IsMade}
-use Rattle.nor_session.specs.Verdict.{IsVerdict, IsAccepted}
+use Rattle.nor_session.specs.Verdict.{IsNamed, IsVerdict, IsAccepted}
 
 -- ---- on every bus
 
@@ -135,6 +135,13 @@ pub record CanBeUndone (request : Request) (image : List ℕ) (old new : BusStat
       (wanted request image old.chip) old new
   pub spent : new.left + (4 + scanned_sectors request old.chip.config.size) ≤ old.left
 
+-- There are no bytes; or the chip shows itself as a part that is wanted, and they are a beginning of the one journal that
+-- it would have had.
+abbrev pub HoldsBegun : Request → (image : List ℕ) → Chip → (bytes : List ℕ) → Type 0
+HoldsBegun request image chip bytes = (bytes ≡ [])
+    ⊎ (IsNamed request.named chip.config
+    × BeginsText (head_of chip) chip.bytes (is_touched_by request image chip) bytes)
+
 -- ---- the promises of a session
 
 -- On every bus and every vault.
@@ -189,5 +196,9 @@ pub record SessionModelled (request : Request) (image : List ℕ) (old new : Bus
   pub begins : vault'.sealed ≡ false → vault'.telling ≡ true → IfErr result (λ refusal. refusal ≢ Vault
       → (vault'.bytes ≡ [])
       ⊎ BeginsJournal (head_of old.chip) old.chip.bytes (is_touched_by request image old.chip) vault'.bytes)
+  -- after any refusal, the vault's own too, a telling vault that isn't sealed is empty, or has a beginning of that
+  -- journal: so many bytes of its text
+  pub cut : vault'.sealed ≡ false → vault'.telling ≡ true
+      → OnErr result (HoldsBegun request image old.chip vault'.bytes)
   -- once the vault is sealed its journal leads back, at every exit
   pub undo : vault'.sealed ≡ true → CanBeUndone request image old new vault'

@@ -10,7 +10,7 @@ ghost use Rattle.nor_call.specs.declared.request.Request.{Request};
 ghost use Rattle.nor_probe.specs.Known.{IsModelled};
 ghost use Rattle.nor_session.specs.InTurn.{LeavesJournal, IsTakenUp, ChangesNothing};
 ghost use Rattle.nor_session.specs.Restore.{SavesChip, IsRestored, CanGiveBack};
-ghost use Rattle.nor_session.specs.Session.{CanBeUndone};
+ghost use Rattle.nor_session.specs.Session.{CanBeUndone, HoldsBegun};
 ghost use Rattle.nor_session.specs.WrittenOver.{IsWrittenOver};
 
 /// A restore of a chip that is the saved one already, since it was just given back, changes nothing.
@@ -38,6 +38,15 @@ pub fn read_gives_back()
     ensures { (request : Request) (image : List ℕ) (old new : BusState) (vault : VaultState) (journal : Content)
         → IsModelled old → IsChip old.chip → vault.telling ≡ true → CanBeUndone request image old new vault
         → IsContent journal → vault.bytes ≡ text journal → CanGiveBack journal old.chip new }
+{}
+
+/// A vault that was never sealed may have the whole journal, as where the seal alone was refused. Where what it has is
+/// read as a journal, that gives the chip back, to which nothing was done.
+pub fn begun_gives_back()
+    ensures { (request : Request) (image : List ℕ) (old new : BusState) (bytes : List ℕ) (journal : Content)
+        → IsModelled old → IsChip old.chip → HoldsBegun request image old.chip bytes
+        → IsContent journal → bytes ≡ text journal → IsSame old.chip new.chip → new.chip.busy ≡ 0
+        → CanGiveBack journal old.chip new }
 {}
 
 /// So it does while files that had the chip of before the session are written over with the one after it, and wherever

@@ -2,15 +2,17 @@ use Rattle.std.specs.Prelude.{IfErr}
 use Rattle.std.proofs.Common.{◌≡◌, ◌<◌, ◌/◌, ◌*◌, ◌%◌, ◌∷◌, [], refl, sym, subst, rules, arith}
 use Rattle.std.proofs.lemmas.Grind.{common_steps}
 use Rattle.nor_chip.proofs.Sizes.{is_chip_size-power_of_two, is_chip_size-in_blocks}
-use Rattle.nor_journal.specs.Text.{Content, empty_content}
-use Rattle.nor_journal.specs.Vault.{VaultState}
+use Rattle.nor_journal.specs.Text.{Content, IsContent, empty_content, front}
+use Rattle.nor_journal.specs.Vault.{VaultState, HoldsBeginning}
 use Rattle.nor_journal.specs.Writer.{vault_seen, HasPutSectors}
 use Rattle.nor_journal.proofs.Saves.{HasKept-none}
 use Rattle.nor_plan.specs.SectorSet.{has, none}
 use Rattle.nor_save.specs.Touched.{is_touched_by}
 use Rattle.nor_save.specs.Saving.{head_of}
-use Rattle.nor_save.specs.SavedScan.{SaveTells, SaveBegins}
+use Rattle.nor_save.specs.SavedScan.{SaveTells, SaveBegins, SaveCuts}
 use Rattle.nor_save.proofs.KeptHeads.{same_bytes, is_open, touched_right, raised_right, merged_right, judged_tells, accepts_touched, kept_touched, head_same}
+use Rattle.nor_journal.proofs.Beginnings.{err_any}
+use Rattle.nor_save.proofs.Cuts.{cut_of_chip, cut_in_head, cut_at_end}
 use Rattle.nor_save.proofs.Begun.{begun_none, with_none, begins_of, begins_all, err_same, unless_refused_err}
 use Rattle.nor_save.proofs.saving.save.Goals as goal
 
@@ -113,3 +115,65 @@ returns-in_err-unlock-clause-begins g c =
 
 pub returns-in_err-end-clause-begins : goal.returns-in_err-end-clause-begins
 returns-in_err-end-clause-begins g c = unless_refused_err c.from_residual-in_err-end.result _ c.from_residual-in_err-end.ensures.1
+
+pub returns-in_err-header-clause-cut : goal.returns-in_err-header-clause-cut
+returns-in_err-header-clause-cut g c =
+    let old = g.B.Bus.state c.args.bus.now in
+    let opening = c.args.opening.now in
+    let vault = vault_seen g.V.Vault.state c.header.new.self in
+    let cut : SaveCuts c.args.request.now opening c.args.image.now old vault = λ tells chip is shows.
+    let head = head_same chip opening c.bytes.result is (let small = (g.met.B.Bus.reaches c.args.bus.now shows.honest).kept2 in let same = shows.same.kept2 in omega arith) (grind (arith, common_steps)) in
+    cut_in_head vault c.args.request.now c.args.image.now chip (subst IsContent head c.in_err-header.ensures.content)
+    (subst (λ (h : Content). HoldsBeginning vault (front h)) head (c.in_err-header.ensures.cut c.on-writer.ensures.nothing)) tells in
+    let same : vault ≡ g.V.Vault.state c.in_err-header.vault-1-own.given.0 = search rules in
+    err_any c.from_residual.result (subst (SaveCuts c.args.request.now opening c.args.image.now old) same cut)
+
+pub returns-in_err-scanned-clause-cut : goal.returns-in_err-scanned-clause-cut
+returns-in_err-scanned-clause-cut g c =
+    let old = g.B.Bus.state c.args.bus.now in
+    let opening = c.args.opening.now in
+    let vault = vault_seen g.V.Vault.state c.scan_all.new.writer in
+    let cut : SaveCuts c.args.request.now opening c.args.image.now old vault = λ tells chip is shows.
+    let head = head_same chip opening c.bytes.result is (let small = (g.met.B.Bus.reaches c.args.bus.now shows.honest).kept2 in let same = shows.same.kept2 in omega arith) (grind (arith, common_steps)) in
+    let begun = HasKept-none g.V.Vault.state c.header.new.self opening.found.id _ c.bytes.result opening.found.size old.chip.bytes none 0 (c.in_ok-header.ensures.written c.on-writer.ensures.nothing) (λ s. refl) in
+    let kept : HasPutSectors g.V.Vault.state c.header.new.self (head_of chip) old.chip.bytes none 0 = subst (λ (h : Content). HasPutSectors g.V.Vault.state c.header.new.self h old.chip.bytes none 0) head begun in
+    cut_of_chip vault c.args.request.now c.args.image.now opening.found.size chip old.chip.bytes (same_bytes chip old shows) is.config.size tells
+    (c.in_err-scanned.ensures.cut (is_open chip opening old is shows) (head_of chip) (sym is.config.size) kept) in
+    let same : vault ≡ g.V.Vault.state c.in_err-scanned.vault-in-Break-branch-2-1-own.given.0 = search rules in
+    err_any c.from_residual-in_err-scanned.result (subst (SaveCuts c.args.request.now opening c.args.image.now old) same cut)
+
+pub returns-in_err-unlock-clause-cut : goal.returns-in_err-unlock-clause-cut
+returns-in_err-unlock-clause-cut g c =
+    let old = g.B.Bus.state c.args.bus.now in
+    let opening = c.args.opening.now in
+    let scans = c.in_ok-scanned.ensures.scans in
+    let vault = vault_seen g.V.Vault.state c.scan_all.new.writer in
+    let cut : SaveCuts c.args.request.now opening c.args.image.now old vault = λ tells chip is shows.
+    let open_now = is_open chip opening old is shows in
+    let touched = touched_right c.args.request.now c.args.image.now opening chip old c.in_ok-scanned.scanned is shows (scans.right open_now) in
+    let head = head_same chip opening c.bytes.result is (let small = (g.met.B.Bus.reaches c.args.bus.now shows.honest).kept2 in let same = shows.same.kept2 in omega arith) (grind (arith, common_steps)) in
+    let begun = HasKept-none g.V.Vault.state c.header.new.self opening.found.id _ c.bytes.result opening.found.size old.chip.bytes none 0 (c.in_ok-header.ensures.written c.on-writer.ensures.nothing) (λ s. refl) in
+    let kept : HasPutSectors g.V.Vault.state c.header.new.self (head_of chip) old.chip.bytes none 0 = subst (λ (h : Content). HasPutSectors g.V.Vault.state c.header.new.self h old.chip.bytes none 0) head begun in
+    let scanned = c.in_ok-scanned.ensures.keeps open_now (head_of chip) (sym is.config.size) kept in
+    let marked = kept_touched g.V.Vault.state c.scan_all.new.writer (head_of chip) old.chip.bytes chip.bytes (has c.in_ok-scanned.scanned.touched) (is_touched_by c.args.request.now c.args.image.now chip) (opening.found.size / 4096)
+    (same_bytes chip old shows) touched scanned in
+    cut_at_end g.V.Vault.state c.scan_all.new.writer c.args.request.now c.args.image.now chip (opening.found.size / 4096) marked tells in
+    let same : vault ≡ g.V.Vault.state c.in_err-unlock.vault-in-Break-branch-3-1-own.given.0 = search rules in
+    err_any c.from_residual-in_err-unlock.result (subst (SaveCuts c.args.request.now opening c.args.image.now old) same cut)
+
+pub returns-in_err-end-clause-cut : goal.returns-in_err-end-clause-cut
+returns-in_err-end-clause-cut g c =
+    let old = g.B.Bus.state c.args.bus.now in
+    let opening = c.args.opening.now in
+    let scans = c.in_ok-scanned.ensures.scans in
+    err_any c.from_residual-in_err-end.result (λ tells chip is shows.
+    let open_now = is_open chip opening old is shows in
+    let touched = touched_right c.args.request.now c.args.image.now opening chip old c.in_ok-scanned.scanned is shows (scans.right open_now) in
+    let head = head_same chip opening c.bytes.result is (let small = (g.met.B.Bus.reaches c.args.bus.now shows.honest).kept2 in let same = shows.same.kept2 in omega arith) (grind (arith, common_steps)) in
+    let begun = HasKept-none g.V.Vault.state c.header.new.self opening.found.id _ c.bytes.result opening.found.size old.chip.bytes none 0 (c.in_ok-header.ensures.written c.on-writer.ensures.nothing) (λ s. refl) in
+    let kept : HasPutSectors g.V.Vault.state c.header.new.self (head_of chip) old.chip.bytes none 0 = subst (λ (h : Content). HasPutSectors g.V.Vault.state c.header.new.self h old.chip.bytes none 0) head begun in
+    let scanned = c.in_ok-scanned.ensures.keeps open_now (head_of chip) (sym is.config.size) kept in
+    let marked = kept_touched g.V.Vault.state c.scan_all.new.writer (head_of chip) old.chip.bytes chip.bytes (has c.in_ok-scanned.scanned.touched) (is_touched_by c.args.request.now c.args.image.now chip) (opening.found.size / 4096)
+    (same_bytes chip old shows) touched scanned in
+    let holds = c.in_err-end.ensures.cut marked.content marked.written in
+    record { content = marked.content; same = marked.same; saves = marked.saves; begins = search rules })

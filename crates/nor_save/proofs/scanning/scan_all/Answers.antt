@@ -6,6 +6,9 @@ use Rattle.nor_count.proofs.Counting.{at_most_one}
 use Rattle.nor_save.proofs.Scans.{tells_stop}
 use Rattle.nor_save.proofs.Scans.{nothing_scanned, skipped, scanned_more, IsAt, is_at, looks_on, runs_out_at, all_scanned, HasScanned, none_to_scan}
 use Rattle.nor_save.proofs.Begun.{begun_later, begun_more, with_later, with_more, kept_below, unless_any, unless_refused, unless_any_err, unless_refused_err}
+use Rattle.nor_journal.proofs.Beginnings.{err_any}
+use Rattle.nor_journal.specs.Writer.{vault_seen}
+use Rattle.nor_save.proofs.Cuts.{cut_between, cut_in_record, planned_touched}
 use Rattle.nor_plan.proofs.Parts.{cut_out, part_long, put_back}
 use Rattle.nor_save.proofs.Parts.{kept_later, kept_same, marked_more, marked_none, read_before}
 use Rattle.nor_save.proofs.scanning.scan_all.Goals as goal
@@ -199,3 +202,35 @@ returns-in_err-plan-clause-begins g c = λ is_open head size kept.
 
 pub returns-in_err-add-clause-begins : goal.returns-in_err-add-clause-begins
 returns-in_err-add-clause-begins g c = λ is_open head size kept. unless_refused_err c.from_residual-in_err-add.result _ c.from_residual-in_err-add.ensures.1
+
+pub returns-in_err-plan-clause-cut : goal.returns-in_err-plan-clause-cut
+returns-in_err-plan-clause-cut g c = λ is_open head size kept.
+    let here = c.loop-sector.invariant in
+    let this = is_at c.args.request.now c.args.size c.loop-sector.sector c.if-is_data.sectors (option_copied c.as_ref.result) c.includes_in_sector.result true
+    c.requires.sized (here.aims (omega arith)) c.loop-sector-test.true c.as_ref.ensures.value c.includes_in_sector.ensures.test c.if-includes_in_sector.true in
+    let below = this.below in
+    err_any c.from_residual.result
+    (cut_between g.V.Vault.state c.loop-sector.writer head (g.B.Bus.state c.args.bus.now).chip.bytes _ c.args.size c.loop-sector.sector c.loop-sector.scanned size (omega arith)
+    (here.scanned.right is_open) (here.kept is_open head size kept))
+
+pub returns-in_err-add-clause-cut : goal.returns-in_err-add-clause-cut
+returns-in_err-add-clause-cut g c = λ is_open head size kept.
+    let here = c.loop-sector.invariant in
+    let old = g.B.Bus.state c.args.bus.now in let mid = g.B.Bus.state c.loop-sector.bus in let new = g.B.Bus.state c.scan_sector.new.bus in
+    let sector = c.loop-sector.sector in
+    let width = 4096 * c.loop-sector.sector + 4096 - 4096 * c.loop-sector.sector in
+    let exact : width ≡ 4096 = omega arith in
+    let scans = c.in_ok-plan.ensures.scans in
+    let plan = c.in_ok-plan.plan in
+    let this = is_at c.args.request.now c.args.size c.loop-sector.sector c.if-is_data.sectors (option_copied c.as_ref.result) c.includes_in_sector.result true
+    c.requires.sized (here.aims (omega arith)) c.loop-sector-test.true c.as_ref.ensures.value c.includes_in_sector.ensures.test c.if-includes_in_sector.true in
+    let held = here.kept is_open head size kept in
+    let whole : length c.loop-sector.image ≡ c.args.size = c.loop-sector.auto.image ∙ c.requires.whole (here.aims (omega arith)).0 in
+    let bytes : length c.scan_sector.new.bytes ≡ 4096 = omega arith in
+    err_any c.from_residual-in_err-add.result
+    (cut_in_record g.V.Vault.state c.loop-sector.writer (vault_seen g.V.Vault.state c.add.new.self) head old.chip.bytes _ c.args.size sector c.scan_sector.new.bytes c.loop-sector.scanned held size this.below
+    (here.scanned.right is_open)
+    (planned_touched c.args.request.now c.args.size sector c.args.image.now c.loop-sector.image _ c.scan_sector.new.part c.scan_sector.new.bytes plan old mid new c.loop-sector.scanned this here.scanned scans
+    (λ i lower. cut_out c.loop-sector.image (4096 * sector) width i exact lower) is_open c.if-plan.true)
+    (read_before c.args.request.now c.args.size sector c.loop-sector.scanned.reads _ c.scan_sector.new.part c.scan_sector.new.bytes plan old mid new is_open here.scanned.looked scans bytes)
+    (c.in_err-add.ensures.cut held.content held.written))

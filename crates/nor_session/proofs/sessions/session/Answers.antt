@@ -30,5 +30,6 @@ returns-in_err-code-clause-modelled g c = λ modelled. record {
   spares = search rules;
   early = search rules;
   begins = search rules;
+  cut = search rules;
   undo = search rules;
 }

@@ -7,6 +7,7 @@ use Rattle.nor_save.specs.Saving.{head_of}
 use Rattle.nor_save.specs.SavedScan.{IsJournal, BeginsJournal}
 use Rattle.nor_call.specs.declared.refusal.Refusal.TheVariants.{Vault}
 use Rattle.nor_driver.proofs.RestsInTurn.{looks_after}
+use Rattle.nor_journal.proofs.Beginnings.{err_any}
 use Rattle.nor_save.proofs.Begun.{err_same}
 use Rattle.nor_session.specs.Bounds.{most_looked, most_of}
 use Rattle.nor_session.specs.Session.{most_status_writes, AimsAtSaved, CanBeUndone, NamesAddress}
@@ -77,6 +78,9 @@ returns-in_err-saved g c = λ first looks opens.
                 err_same c.from_residual.result refusal
                 (λ refusal. refusal ≢ Vault → (vault'.bytes ≡ []) ⊎ BeginsJournal (head_of first.chip) first.chip.bytes (is_touched_by request image first.chip) vault'.bytes)
                 c.from_residual.ensures.1 (λ other. inr (c.in_err-saved.ensures.begins other telling first.chip opened shown));
+            cut = λ open_vault telling.
+                err_any c.from_residual.result
+                (inr ((record { part = _; shown = opens.shown modelled.honest; wanted = opens.wanted }), c.in_err-saved.ensures.cut telling first.chip opened shown));
             undo = λ sealed. absurd {A = CanBeUndone request image first new vault'} (true≢false (sym sealed ∙ unsealed));
           };
     }
@@ -121,6 +125,7 @@ returns-in_err-work g c = λ first looks opens.
             spares = search rules;
             early = search rules;
             begins = search rules;
+            cut = search rules;
             undo = λ sealed. can_be_undone request image c.save.new.image opening c.status.result code saved first start mid new vault' modelled looks
                 opens c.in_ok-saved.ensures.keeps is of c.finish.ensures.leaves;
           };
@@ -166,6 +171,7 @@ returns g c = λ first looks opens.
                 c.from.result c.from.ensures is of none c.in_ok-work.ensures.does;
             early = search rules;
             begins = search rules;
+            cut = search rules;
             undo = λ sealed. can_be_undone request image c.save.new.image opening c.status.result code saved first start mid new vault' modelled looks
                 opens c.in_ok-saved.ensures.keeps is of c.finish.ensures.leaves;
           };
