@@ -44,7 +44,7 @@ pub fn session<B: Bus, V: Vault>(
     judged.answer()
 }
 
-/// A request has one verdict: where it is accepted, no refusal from 1 to 10 is.
+/// An accepted request has no refusal from 1 to 10.
 #[tactic(auto, using(crate::proofs::OneVerdict::accepted_only))]
 pub fn accepted_alone()
     ensures { (request : Request) (image : List ℕ) (chip : Chip) (refusal : Refusal)
