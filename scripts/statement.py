@@ -27,6 +27,7 @@ LAWS = {
     "Journal::read": "nor_journal/src/journal.rt",
     "accepted_alone": "nor_session/src/sessions.rt",
     "read_gives_back": "nor_session/src/laws.rt",
+    "begun_gives_back": "nor_session/src/laws.rt",
     "session_written_over": "nor_session/src/laws.rt",
     "restore_written_over": "nor_session/src/laws.rt",
     "same_written_over": "nor_session/src/laws.rt",
