@@ -19,6 +19,7 @@ returns-in_err-code-clause-always g c = record {
     late = λ sealed. absurd (true≢false (sym sealed ∙ c.requires.unsealed));
   });
   ends = search rules;
+  heard = search rules;
 }
 
 pub returns-in_err-code-clause-modelled : goal.returns-in_err-code-clause-modelled
