@@ -45,7 +45,7 @@ SUBJECTS = {
     "What a transaction asks for": "nor_chip: src/command specs/Command specs/Aim",
     "The chip's step": "nor_chip: specs/Step",
     "A stop, and a loss of power": "nor_chip: specs/Power",
-    "The bus": "nor_chip: specs/Bus src/bus specs/Sent src/sent",
+    "The bus": "nor_chip: specs/Bus src/bus specs/Sent src/sent specs/Heard",
     "Looking, and counting transactions": "nor_driver: specs/Looks nor_apply: specs/Spending",
     "IDs, fixed bits and the code": "nor_chip: src/status nor_driver: specs/Reads specs/StatusWrites",
     "What a chip says by SFDP": "nor_probe: src/sfdp specs/Sfdp",
@@ -108,9 +108,10 @@ LEGEND = {
     "◌+◌ ◌-◌ ◌*◌ ◌/◌ ◌%◌ ◌^◌ ◌<◌ ◌≤◌":
         "`/` rounds down, `%` is what is left over, `-` stops at 0, `2 ^ k` is a power; `0x2A` is hexadecimal, "
         "`0b101` binary. A byte is a number below 256. How large the fields of a chip can be stands in `IsChip`.",
-    "Option Some None Result Ok Err IfOk IfErr OnOk OnErr IfSome":
-        "An `Option` is `None` or `Some x`, a `Result` is `Ok x` or `Err e`. `IfOk r P`: where r is `Ok x`, P holds "
-        "of x. `OnOk r A`: where r is an `Ok`, A holds. `IfErr`, `OnErr` and `IfSome` likewise.",
+    "Option Some None Result Ok Err Unit IfOk IfErr OnOk OnErr IfSome":
+        "An `Option` is `None` or `Some x`, a `Result` is `Ok x` or `Err e`; x tells nothing where it is a `Unit`. "
+        "`IfOk r P`: where r is `Ok x`, P holds of x. `OnOk r A`: where r is an `Ok`, A holds. `IfErr`, `OnErr` and "
+        "`IfSome` likewise.",
     "":
         "In a contract `bus.old` is what a call is given and `bus.new` what it leaves, at every exit and whatever "
         "it answers; `request.now` stays as it is. `B.state bus.old` is the state of a bus of type B, and `result` "

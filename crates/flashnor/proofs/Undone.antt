@@ -10,6 +10,7 @@ use Rattle.std.proofs.lemmas.List.{append-nil, get_or_past, length-replicate, le
 use Rattle.nor_chip.specs.Bus.{BusState}
 use Rattle.nor_chip.specs.Chip.{Chip, IsSame}
 use Rattle.nor_chip.specs.Makers.{HasParts}
+use Rattle.nor_chip.specs.Sim.{state_of}
 use Rattle.nor_chip.specs.Size.{is_chip_size}
 use Rattle.nor_chip.specs.Start.{status_of}
 use Rattle.nor_chip.specs.declared.config.Config.{Config}
@@ -380,9 +381,9 @@ module _ (programmer : Programmer) (file : Text) (start : FilesState) (first : O
       let does = is.does amid new on_chip.programmer on_chip.named _ _ _ job in
       let reads = reads_before on_chip.programmer.trace file 16793662 _ mid.view amid (is.apart called.roles.trace_journal) but does.read in
       let found : Opened on_chip.programmer mid =
-      record { content = called.content; read = called.read; bus = called.old; opens = called.opened } in
+      record { content = called.content; read = called.read; bus = state_of called.bus; opens = called.started.opens } in
       let one = one_journal programmer file start first on_chip.programmer ran.same mid ran.follows.rest still leads does.journal does.sound reads in
       let can = can_back programmer file start first on_chip.programmer ran.same mid ran.follows.rest still found leads in
-      let back = does.restored.back first.bus.chip (subst (λ (j : Journal). CanGiveBack j first.bus.chip called.old) (sym one) can) in
+      let back = does.restored.back first.bus.chip (subst (λ (j : Journal). CanGiveBack j first.bus.chip (state_of called.bus)) (sym one) can) in
       leaves_first programmer file start first on_chip.programmer ran.same mid ran.follows.rest still called.new.chip new
       (ap (λ (n : Nature). n.lawful) called.nature ∙ ran.follows.rest.lawful) back (called.left ran.follows.rest is.puts)

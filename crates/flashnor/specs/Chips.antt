@@ -1,12 +1,14 @@
 -- What a run opens: the emulated chip, and the bus to it.
-use Rattle.std.specs.Prelude.{◌≡◌, ◌⊎◌, ◌/◌, ◌%◌, ◌==◌, ◌∷◌, [], ℕ, List, false, true, Option, Some, None, IsSomeAnd}
+use Rattle.std.specs.Prelude.{◌≡◌, ◌⊎◌, ◌/◌, ◌%◌, ◌==◌, ◌∷◌, [], ℕ, List, true, Option, Some, None, IsSomeAnd}
 use Rattle.std.specs.Prelude.{is_none, replicate, slice_index, unwrap_or}
 use Rattle.std.specs.Borrow.{Bor}
 use Rattle.nor_chip.specs.Bus.{BusState}
 use Rattle.nor_chip.specs.Sent.{IsNothing}
 use Rattle.nor_chip.specs.Chip.{Chip}
+use Rattle.nor_chip.specs.Sim.{fill_of, pace_of, state_of}
 use Rattle.nor_chip.specs.Start.{AreChipBytes, status_of}
 use Rattle.nor_chip.specs.declared.config.Config.{Config}
+use Rattle.nor_chip.specs.declared.sim.SimBus.{SimBus}
 use Rattle.nor_call.specs.declared.refusal.Refusal.TheVariants.{Memory}
 use Rattle.nor_words.specs.Programmer.{IsConfigOfEmulated}
 use Rattle.nor_words.specs.declared.programmer.Emulated.{Emulated}
@@ -68,6 +70,13 @@ pub record HoldsFiles (programmer : Programmer) (content : Content) (bus : BusSt
   pub kept1 : bus.chip.kept1 ≡ slice_index content.status 0 / 4
   pub kept2 : bus.chip.kept2 ≡ slice_index content.status 1 % 128
   pub latch : bus.chip.latch ≡ (slice_index content.status 0 / 2 % 2 == 1)
+
+-- A simulated bus that opens the chip: after each operation as many polls answer BUSY as `busy=` says, or none where it
+-- isn't given, and a loss of power leaves the fill of `power=`.
+pub record StartsBus (programmer : Programmer) (content : Content) (bus : SimBus) : Type 0 where
+  pub opens : OpensChip programmer content (state_of bus)
+  pub pace : pace_of bus ≡ unwrap_or programmer.busy 0
+  pub fill : fill_of bus ≡ programmer.power
 
 -- how the opening of a chip may end a run: by one of its files, or for want of memory
 abbrev pub FailsToOpen : View → Programmer → Fault → Type 0

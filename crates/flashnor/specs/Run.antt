@@ -6,6 +6,8 @@ use Rattle.std.specs.Vec.Iter.{into_iter_items}
 use Rattle.std.specs.declared.string.String.{String}
 use Rattle.std.specs.declared.vec.IntoIter.{IntoIter}
 use Rattle.nor_chip.specs.Bus.{BusState}
+use Rattle.nor_chip.specs.Sim.{state_of}
+use Rattle.nor_chip.specs.declared.sim.SimBus.{SimBus}
 use Rattle.nor_journal.specs.Fault.{HasFault}
 use Rattle.nor_journal.specs.Text.{Content as Journal, IsContent, text}
 use Rattle.nor_layout.specs.declared.ranges.Span.{Span}
@@ -31,7 +33,7 @@ use Rattle.nor_words.specs.declared.programmer.Emulated.{Emulated}
 use Rattle.nor_words.specs.declared.programmer.Programmer.{Programmer}
 use Rattle.flashnor.specs.AnswerLines.{AreLines}
 use Rattle.flashnor.specs.Changes.{HasMadeChange, HasRestored}
-use Rattle.flashnor.specs.Chips.{ArePutBack, FailsToHold, FailsToOpen, IsContentOf, OpensChip}
+use Rattle.flashnor.specs.Chips.{ArePutBack, FailsToHold, FailsToOpen, IsContentOf, StartsBus}
 use Rattle.flashnor.specs.Endings.{HasPrinted, Prints, all_written}
 use Rattle.flashnor.specs.Stored.{IsNot, IsRead, IsToldOf, StaysOf}
 use Rattle.flashnor.specs.Left.{KeepsFirst, KeepsRestorable}
@@ -122,18 +124,19 @@ abbrev pub DoesTraced : (files after : FilesState) → ChipJob → (old new : Bu
 DoesTraced files after job old new outcome = (amid : View) × IsViewBut job.programmer.trace files.view amid
     × DoesJob amid after job.programmer job.named job.task old new outcome
 
--- The job's call was made, each file of which has one role: on a bus to the programmer's chip, as its files tell it,
--- into which it was put back; and a trace that lost a line is the programmer's.
+-- The job's call was made, each file of which has one role: on a bus to the programmer's chip that was started as the
+-- programmer says, with the chip as its files tell it, into which it was put back; and a trace that lost a line is the
+-- programmer's.
 pub record IsCalled (files after : FilesState) (job : ChipJob) (unwritten : Unwritten)
     (outcome : Result Answer Refusal) : Type 0 where
   pub roles : HaveOneRole job
   pub nature : after.view.nature ≡ files.view.nature
   pub content : Content
   pub read : IsContentOf files.view job.programmer content
-  pub old : BusState
+  pub bus : SimBus
+  pub started : StartsBus job.programmer content bus
   pub new : BusState
-  pub opened : OpensChip job.programmer content old
-  pub does : DoesTraced files after job old new outcome
+  pub does : DoesTraced files after job (state_of bus) new outcome
   pub told_of : AreTold (puts_back job.task) job.programmer unwritten files.view
   pub left : AreAtRest files → puts_back job.task ≡ true
       → ArePutBack job.programmer new.chip unwritten.image unwritten.status after

@@ -1,8 +1,8 @@
 //! The emulated chip: what its files tell of it, and the bus to it.
 ghost use Rattle.std.specs.Prelude.{◌≡◌, ◌∷◌, [], IfOk, IfErr, IfSome, IsSomeAnd, option_map, replicate};
 ghost use Rattle.std.specs.Prelude.{unwrap_or, vec_len};
-ghost use Rattle.nor_chip.specs.Sim.{fill_of, pace_of};
-ghost use Rattle.flashnor.specs.Chips.{FailsToOpen, HoldsFiles, IsConfigWith, IsContentOf, OpensChip};
+ghost use Rattle.nor_chip.specs.Sim.{pace_of};
+ghost use Rattle.flashnor.specs.Chips.{FailsToOpen, HoldsFiles, IsConfigWith, IsContentOf, StartsBus};
 ghost use Rattle.flashnor.specs.Stored.{IsFileFound};
 ghost use Rattle.flashnor.specs.Files.{IsOpeningFault};
 ghost use Rattle.flashnor.specs.Found.{emulated_part};
@@ -103,9 +103,7 @@ pub fn erased(alloc: Global, size: u32) -> Result<Vec<u8>, AllocError>
 /// leaves.
 pub fn start(programmer: &Programmer<'_>, content: Content) -> SimBus
     requires { vec_len content.bytes ≡ (emulated_part programmer.now.chip).size }
-    ensures opens { OpensChip programmer.now content (⟦<SimBus as Bus>⟧.state result) }
-    ensures pace { pace_of result ≡ unwrap_or programmer.now.busy 0 }
-    ensures fill { fill_of result ≡ programmer.now.power }
+    ensures { StartsBus programmer.now content result }
 {
     let mut bus = hold(programmer, content);
     bus.lose(programmer.power);

@@ -336,6 +336,7 @@ does_applied changes wanted needed old free mid made new sent erased programmed 
           least_of (if changes.unlock then 1 else 0) work.erases work.programs (if writes_code changes then 1 else 0) work.transactions sent erased.transactions programmed.transactions last
           least_first (omega (arith, erases, least_erased)) (omega (arith, programs, least_programmed))
           (subst Less (sym is) (least_cost needed last does.least)) sum;
+      heard = λ ready. does.heard (third.does.tallies.heard (second.does.tallies.heard (first.does.heard ready)));
       sent = λ honest.
           let one = first.does.count honest in
           let two = second.does.tallies.sent (first.leaves.spends.nature.honest ∙ honest) in

@@ -5,6 +5,7 @@ use Rattle.nor_chip.specs.declared.config.Config.{Config}
 use Rattle.nor_chip.specs.Bus.{BusState, KeepsNature}
 use Rattle.nor_chip.proofs.Nature.{nature_refl, nature_then}
 use Rattle.nor_driver.specs.Looks.{Rested, Looks, RanOut, RanOutIfHonest}
+use Rattle.nor_driver.specs.Ready.{StaysReady}
 use Rattle.nor_driver.specs.Reads.{IsSectorOf, ReadsSector}
 use Rattle.nor_plan.specs.Bytes.{AllAgree, IsFirstDifference}
 use Rattle.nor_count.specs.Below.{count_below}
@@ -37,8 +38,9 @@ read_at sector content bytes a is in_sector =
     ap content (sym at.0) ∙ sym (is.byte (a - 4096 * sector) at.1)
 
 pub agrees : (sector : ℕ) (wanted bytes : List ℕ) (old new : BusState) → sector < 4096 → length bytes ≡ 4096 → ReadsSector sector old new bytes
-    → AllAgree bytes wanted → DoesChecks (only sector) (byte_of sector wanted) old new 1
-agrees sector wanted bytes old new below long reads agree = record {
+    → StaysReady old new → AllAgree bytes wanted → DoesChecks (only sector) (byte_of sector wanted) old new 1
+agrees sector wanted bytes old new below long reads heard agree = record {
+  heard = heard;
   reads = sym (sector_count-only sector below);
   count = λ honest. (reads.read honest).count;
   rested = λ honest. (reads.read honest).rested;
@@ -74,6 +76,7 @@ stops sector wanted old new below out = λ honest. subst (λ (n : ℕ). RanOut n
 pub record HasChecked (sectors : ℕ → Bool) (wanted : ℕ → ℕ) (n : ℕ) (old new : BusState) (sent : ℕ) : Type 0 where
   pub nature : KeepsNature old new
   pub same_sent : new.sent ≡ old.sent
+  pub heard : StaysReady old new
   pub few : sent ≤ n
   pub counted : sent ≡ count_below n sectors
   pub count : old.honest ≡ true → old.left ≡ new.left + sent
@@ -88,6 +91,7 @@ pub checked_none : (t : ℕ → Bool) (w : ℕ → ℕ) (state : BusState) → H
 checked_none t w state = record {
   nature = nature_refl state;
   same_sent = refl;
+  heard = λ ready. ready;
   few = omega arith;
   counted = sym (count_below-zero t);
   count = λ honest. omega arith;
@@ -106,6 +110,7 @@ pub checked_without : (t : ℕ → Bool) (w : ℕ → ℕ) (n sent : ℕ) (old n
 checked_without t w n sent old new not has = record {
   nature = has.nature;
   same_sent = has.same_sent;
+  heard = has.heard;
   few = let few = has.few in omega arith;
   counted = has.counted ∙ sym (count_below-without n t not);
   count = has.count;
@@ -133,6 +138,7 @@ pub checked_with : (t : ℕ → Bool) (w : ℕ → ℕ) (n sent : ℕ) (bytes : 
 checked_with t w n sent bytes old mid new is are has looks does = record {
   nature = nature_then old mid new looks.nature has.nature;
   same_sent = looks.sent ∙ has.same_sent;
+  heard = λ ready. does.heard (has.heard ready);
   few = let few = has.few in omega arith;
   counted = let counted = has.counted in let more = count_below-with n t is in omega arith;
   count = λ honest. let before = has.count honest in let after = does.count (has.nature.honest ∙ honest) in omega arith;

@@ -84,7 +84,7 @@ none_so_far kinds size set state tally count transactions = record {
   aims = aims_none (may_aim_at set size) 0 state state refl;
   count = count;
   still = λ none. refl;
-  tallies = record { least = omega arith; few = omega arith; sent = λ honest. omega arith };
+  tallies = record { least = omega arith; few = omega arith; heard = λ ready. ready; sent = λ honest. omega arith };
   done = λ honest can. changed_none (union_of (size / 4096) []) state (λ s. refl) can.can.idle;
 }
 
@@ -102,6 +102,7 @@ erases_more kinds size set units unit old mid new tally more sent next so leaves
   tallies = record {
     least = let before = so.tallies.least in let step = erases.ends.least in omega (arith, before, step, count, transactions);
     few = let before = so.tallies.few in let step = erases.ends.few in omega (arith, before, step, count, transactions);
+    heard = λ _. erases.ends.heard;
     sent = λ honest. let before = so.tallies.sent honest in let step = erases.ends.count (so.nature.honest ∙ honest) in omega (arith, before, step, transactions);
   };
   done = λ honest can.

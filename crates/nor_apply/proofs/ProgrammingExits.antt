@@ -12,6 +12,7 @@ use Rattle.nor_driver.proofs.Aims.{aims_none, aims_then}
 use Rattle.nor_plan.specs.declared.page.Span.{Span}
 use Rattle.nor_plan.specs.Span.{spans_of}
 use Rattle.nor_plan.specs.SpanFacts.{IsSpan, AreSpans}
+use Rattle.nor_driver.specs.Ready.{StaysReady}
 use Rattle.nor_apply.specs.declared.tally.Tally.{Tally}
 use Rattle.nor_apply.specs.Change.{only, byte_of}
 use Rattle.nor_plan.specs.SectorSet.{none}
@@ -28,6 +29,7 @@ pub record SpansSoFar (sector : ℕ) (old wanted : List ℕ) (spans : List Span)
   pub counted : tally.count ≡ length spans
   pub least : 3 * tally.count ≤ tally.transactions
   pub few : tally.transactions ≤ most_operation * tally.count
+  pub heard : StaysReady first now
   pub sent : first.honest ≡ true → first.left ≡ now.left + tally.transactions
   pub done : first.honest ≡ true → CanProgramSpans sector old wanted first.chip → HasFilled sector wanted spans first now
 
@@ -65,6 +67,7 @@ spans_none sector old wanted state = record {
   counted = refl;
   least = omega arith;
   few = omega arith;
+  heard = λ ready. ready;
   sent = λ honest. omega arith;
   done = λ honest can. filled_none sector wanted state can.can.idle;
 }
@@ -87,6 +90,7 @@ spans_more sector old wanted spans span first now new tally sent more same next 
   counted = ap (λ (n : ℕ). n + 1) before.counted ∙ sym (length_push spans span);
   least = let a = before.least in let b = programs.ends.least in omega arith;
   few = let a = before.few in let b = programs.ends.few in omega arith;
+  heard = λ _. programs.ends.heard;
   sent = λ honest.
       let a = before.sent honest in let b = programs.ends.count (before.nature.honest ∙ honest) in omega arith;
   done = λ honest can.
@@ -156,6 +160,7 @@ does_ended sector old wanted spans first now tally whole are all before =
       tallies = record {
         least = before.least;
         few = let few = before.few in omega arith;
+        heard = before.heard;
         sent = before.sent;
       };
       done = λ honest can.

@@ -119,6 +119,7 @@ sector_does sector wanted erased bytes bytes' reads first mid new tally blank ho
       tallies = record {
         least = let least = does.tallies.least in omega arith;
         few = let few = does.tallies.few in omega arith;
+        heard = λ ready. does.tallies.heard (loads.heard ∙ ready);
         sent = λ honest. let before = sent.1 honest in let after = does.tallies.sent (honestly ∙ honest) in omega arith;
       };
       done = λ honest can.

@@ -11,6 +11,7 @@ use Rattle.nor_chip.proofs.Nature.{nature_refl, nature_then}
 use Rattle.nor_driver.specs.declared.waits.Halt.{Halt}
 use Rattle.nor_driver.specs.Operations.{AimsWithin, most_operation}
 use Rattle.nor_driver.proofs.Aims.{aims_none, aims_more, aims_then}
+use Rattle.nor_driver.specs.Ready.{StaysReady}
 use Rattle.nor_apply.specs.declared.tally.Tally.{Tally}
 use Rattle.nor_count.specs.Below.{count_below}
 use Rattle.nor_count.specs.Counts.{sector_count}
@@ -67,6 +68,7 @@ pub record SectorsSoFar (touched raised : ℕ → Bool) (wanted : ℕ → ℕ) (
   pub still : count_below n touched ≡ 0 → now.sent ≡ first.sent
   pub least : 3 * tally.count ≤ tally.transactions
   pub few : tally.transactions ≤ count_below n touched + most_operation * tally.count
+  pub heard : StaysReady first now
   pub sent : first.honest ≡ true → first.left ≡ now.left + tally.transactions
   pub done : first.honest ≡ true → CanProgramAll touched raised wanted first.chip → HasChanged (before touched n) wanted none first now
   pub counted : first.honest ≡ true → CanProgramAll touched raised wanted first.chip
@@ -80,6 +82,7 @@ sectors_none touched raised wanted state = record {
   still = λ none. refl;
   least = omega arith;
   few = omega arith;
+  heard = λ ready. ready;
   sent = λ honest. omega arith;
   done = λ honest can. record {
     config = refl;
@@ -111,6 +114,7 @@ sectors_skip touched raised wanted n first now tally free so_far =
       still = λ none. so_far.still (omega arith);
       least = so_far.least;
       few = omega arith;
+      heard = so_far.heard;
       sent = so_far.sent;
       done = λ honest can.
           let done = so_far.done honest can in
@@ -221,6 +225,7 @@ sectors_more touched raised wanted n bytes erased first now new tally more erase
       still = λ none. absurd (omega arith);
       least = let least = so_far.least in let least' = does.tallies.least in omega arith;
       few = let few' = does.tallies.few in omega arith;
+      heard = λ ready. does.tallies.heard (so_far.heard ready);
       sent = λ honest.
           let a = so_far.sent honest in let b = does.tallies.sent (so_far.nature.honest ∙ honest) in omega arith;
       done = λ honest can.
@@ -321,7 +326,7 @@ does_ended touched raised wanted n first now tally end so_far' =
     record {
       fewer = so_far.fewer;
       still = so_far.still;
-      tallies = record { least = so_far.least; few = so_far.few; sent = so_far.sent };
+      tallies = record { least = so_far.least; few = so_far.few; heard = so_far.heard; sent = so_far.sent };
       done = λ honest can.
           let done = so_far.done honest can in
           record {

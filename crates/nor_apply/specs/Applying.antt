@@ -8,6 +8,7 @@ use Rattle.nor_chip.specs.Bus.{BusState}
 use Rattle.nor_driver.specs.declared.waits.Halt.{Halt}
 use Rattle.nor_driver.specs.declared.waits.Halt.TheVariants.{Stopped, Timeout}
 use Rattle.nor_driver.specs.StatusWrites.{KeepsFixed, HasCode, HasKeptBits}
+use Rattle.nor_driver.specs.Ready.{StaysReady}
 use Rattle.nor_driver.specs.Operations.{AimsWithin, most_operation}
 use Rattle.nor_plan.specs.Planned.{planned}
 use Rattle.nor_plan.specs.SectorSet.{has}
@@ -84,6 +85,7 @@ pub record DoesApply (changes : Changes) (wanted : ℕ → ℕ) (old new : BusSt
   pub few : work.transactions
       ≤ sector_count (touched_in changes) + most_operation * (work.erases + work.programs + status_writes changes)
   pub least : 3 * (work.erases + work.programs + status_writes changes) ≤ work.transactions
+  pub heard : StaysReady old new
   pub sent : old.honest ≡ true → old.left ≡ new.left + work.transactions
   pub still : sector_count (touched_in changes) + status_writes changes ≡ 0 → new.sent ≡ old.sent
   pub done : old.honest ≡ true → CanApply changes wanted old.chip → HasApplied changes wanted old new

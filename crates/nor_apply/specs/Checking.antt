@@ -3,6 +3,7 @@ use Rattle.std.specs.Prelude.{◌≡◌, ◌≢◌, ◌≤◌, ◌<◌, ◌+◌,
 use Rattle.nor_chip.specs.Chip.{Chip}
 use Rattle.nor_chip.specs.Bus.{BusState}
 use Rattle.nor_driver.specs.Looks.{Rested, RanOutIfHonest}
+use Rattle.nor_driver.specs.Ready.{StaysReady}
 use Rattle.nor_call.specs.declared.refusal.Refusal.{Refusal}
 use Rattle.nor_call.specs.declared.refusal.Refusal.TheVariants as Refusals
 use Rattle.nor_apply.specs.declared.checks.CheckFault.{CheckFault}
@@ -23,6 +24,7 @@ pub record IsFirstMismatch (sectors : ℕ → Bool) (wanted content : ℕ → �
 -- A check was passed: each sector was read once, nothing changed, and each byte is the wanted one.
 pub record DoesChecks (sectors : ℕ → Bool) (wanted : ℕ → ℕ) (old new : BusState) (sent : ℕ) : Type 0 where
   pub reads : sent ≡ sector_count sectors
+  pub heard : StaysReady old new
   pub count : old.honest ≡ true → old.left ≡ new.left + sent
   pub rested : old.honest ≡ true → Rested old new
   pub same : old.honest ≡ true → CanCheck sectors old.chip

@@ -56,6 +56,7 @@ pub record CanProgramSector (sector : ℕ) (wanted : List ℕ) (erased : Bool) (
 -- its bytes are read, or where it was erased known
 pub record LoadsOk (sector : ℕ) (erased : Bool) (bytes bytes' : List ℕ) (reads : ℕ) (old new : BusState) : Type 0 where
   pub reads_once : reads ≡ (if erased then 0 else 1)
+  pub heard : new.heard ≡ old.heard
   pub kept : erased ≡ true → (bytes' ≡ bytes) × (new ≡ old)
   pub read : erased ≡ false → old.honest ≡ true → HasRead old new
   pub told : erased ≡ false → old.honest ≡ true → old.chip.busy ≡ 0 → 4096 * (sector + 1) ≤ old.chip.config.size

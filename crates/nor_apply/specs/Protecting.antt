@@ -4,6 +4,7 @@ use Rattle.nor_chip.specs.declared.status.Status.{Status}
 use Rattle.nor_chip.specs.Bus.{BusState}
 use Rattle.nor_driver.specs.declared.waits.Halt.{Halt}
 use Rattle.nor_driver.specs.Waits.{NamesTimeout}
+use Rattle.nor_driver.specs.Ready.{StaysReady}
 use Rattle.nor_driver.specs.StatusWrites.{CanWriteStatus, MayWriteStatus, HasWrittenStatus}
 use Rattle.nor_driver.specs.Operations.{AimsWithin, most_operation}
 use Rattle.nor_plan.specs.SectorSet.{none}
@@ -18,6 +19,7 @@ pub record LeavesCode (status : Status) (code : ℕ) (needed : Bool) (old new : 
 pub record DoesCode (status : Status) (code : ℕ) (needed : Bool) (old new : BusState) (sent : ℕ) : Type 0 where
   pub few : sent ≤ (if needed then most_operation else 0)
   pub least : (if needed then 3 else 0) ≤ sent
+  pub heard : StaysReady old new
   pub count : old.honest ≡ true → old.left ≡ new.left + sent
   pub idle : needed ≡ true → old.honest ≡ true → new.chip.busy ≡ 0
   pub done : needed ≡ true → old.honest ≡ true → CanWriteStatus status old.chip → HasWrittenStatus code old new

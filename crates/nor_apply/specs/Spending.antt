@@ -4,6 +4,7 @@ use Rattle.nor_chip.specs.Bus.{BusState, KeepsNature}
 use Rattle.nor_driver.specs.declared.waits.Halt.{Halt}
 use Rattle.nor_driver.specs.declared.waits.Halt.TheVariants.{Stopped, Timeout}
 use Rattle.nor_driver.specs.Looks.{Falls}
+use Rattle.nor_driver.specs.Ready.{StaysReady}
 use Rattle.nor_driver.specs.Operations.{most_operation}
 use Rattle.nor_plan.specs.Planned.{holds_run}
 use Rattle.nor_apply.specs.declared.tally.Tally.{Tally}
@@ -23,9 +24,10 @@ abbrev pub NamesTimeoutIn : (ℕ → Bool) → Halt → Type 0
 NamesTimeoutIn sectors Stopped = ⊤
 NamesTimeoutIn sectors (Timeout address) = sectors (address / 4096) ≡ true
 
--- A part succeeded, after so many operations and beside at most so many readings. On an honest bus so many
--- transactions fewer are left.
+-- A part succeeded, after so many operations and beside at most so many readings: the chip is as ready as before. On an
+-- honest bus so many transactions fewer are left.
 pub record Tallies (readings : ℕ) (old new : BusState) (tally : Tally) : Type 0 where
   pub least : 3 * tally.count ≤ tally.transactions
   pub few : tally.transactions ≤ readings + most_operation * tally.count
+  pub heard : StaysReady old new
   pub sent : old.honest ≡ true → old.left ≡ new.left + tally.transactions

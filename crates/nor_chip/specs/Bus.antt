@@ -1,11 +1,13 @@
 -- What a bus keeps. Contracts see a bus as one state.
-use Rattle.std.specs.Prelude.{◌≡◌, ◌+◌, ◌||◌, ℕ, Bool, true, false, List, [], length}
+use Rattle.std.specs.Prelude.{◌≡◌, ◌+◌, ◌||◌, ℕ, Bool, true, false, List, [], length, Result, OnOk, OnErr}
 use Rattle.std.proofs.Common.{refl}
 use Rattle.nor_chip.specs.declared.running.Running.TheVariants.{Unknown}
 use Rattle.nor_chip.specs.Chip.{Chip}
 use Rattle.nor_chip.specs.Power.{AtStop}
 use Rattle.nor_chip.specs.declared.sent.Sent.{Sent}
 use Rattle.nor_chip.specs.Sent.{Notes}
+use Rattle.nor_chip.specs.Heard.{heard_after}
+use Rattle.nor_chip.specs.declared.bus.Stopped.{Stopped}
 use Rattle.nor_chip.specs.Step.{Step, done_of, wears}
 
 -- A bus, as contracts see it.
@@ -21,6 +23,8 @@ pub record BusState : Type 0 where
   pub worn : ℕ → Bool
   -- a stop leaves the chip as it was, and no power is lost
   pub steady : Bool
+  -- the last poll that was replied to showed that the chip is ready
+  pub heard : Bool
 
 -- Whether a bus is honest and whether it is steady never changes.
 pub record KeepsNature (old new : BusState) : Type 0 where
@@ -31,6 +35,11 @@ pub record KeepsNature (old new : BusState) : Type 0 where
 pub record Sends (out : List ℕ) (old new : BusState) : Type 0 where
   pub nature : KeepsNature old new
   pub sent : Notes out old.sent new.sent
+
+-- On every bus, what was heard by a transaction: after a stop it is as before.
+pub record Hears (out answer : List ℕ) (outcome : Result Unit Stopped) (old new : BusState) : Type 0 where
+  pub told : OnOk outcome (new.heard ≡ heard_after out answer old.heard)
+  pub stopped : OnErr outcome (new.heard ≡ old.heard)
 
 -- Stopped: there was no transaction left, and nothing moved, or on a bus that isn't steady the power was lost.
 pub record Stops (old new : BusState) : Type 0 where
@@ -51,12 +60,13 @@ pub record Allows (n : ℕ) (old new : BusState) : Type 0 where
   pub left : old.honest ≡ true → new.left ≡ n
   pub nature : KeepsNature old new
   pub sent : new.sent ≡ old.sent
+  pub heard : new.heard ≡ old.heard
   pub worn : (s : ℕ) → new.worn s ≡ old.worn s
 
--- A bus of which nothing is known but what was sent over it, as one to a chip that isn't modelled: it isn't honest, so
+-- A bus of which nothing is known but what was sent over it and heard, as one to a chip that isn't modelled: it isn't honest, so
 -- nothing is promised of its chip, and any stands for it.
-abbrev pub unknown_bus : Sent → BusState
-unknown_bus sent = record {
+abbrev pub unknown_bus : Sent → Bool → BusState
+unknown_bus sent heard = record {
   chip = record {
     config = record {
       id = [];
@@ -79,4 +89,5 @@ unknown_bus sent = record {
   sent = sent;
   worn = λ s. false;
   steady = false;
+  heard = heard;
 }

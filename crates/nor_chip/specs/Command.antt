@@ -1,5 +1,5 @@
 -- What the bytes of a transaction ask for. (W25Q64FV datasheet, instruction set table.)
-use Rattle.std.specs.Prelude.{◌+◌, ◌*◌, ◌/◌, ◌%◌, ◌==◌, ◌&&◌, ◌||◌, ℕ, Bool, false, List, [], ◌∷◌, if◌then◌else◌}
+use Rattle.std.specs.Prelude.{◌+◌, ◌*◌, ◌/◌, ◌%◌, ◌==◌, ◌&&◌, ◌||◌, not, ℕ, Bool, false, List, [], ◌∷◌, if◌then◌else◌}
 use Rattle.nor_chip.specs.declared.config.Config.{Config}
 use Rattle.nor_chip.specs.declared.command.Command.{Command}
 use Rattle.nor_chip.specs.declared.command.Command.TheVariants.{WriteEnable, WriteDisable, Poll, ReadStatus2, WriteStatus, Program, Erase, ReadData, ReadId, ReadSfdp, ReadUnique, Ignored}
@@ -48,11 +48,16 @@ command_of config (opcode ∷ x ∷ y ∷ z ∷ fifth ∷ []) replies =
 command_of config (opcode ∷ x ∷ y ∷ z ∷ fifth ∷ sixth ∷ rest) replies =
     if opcode == 0x02 && replies == 0 then Program (address_of config x y z) else Ignored
 
--- the opcodes that may change a chip or ready it for a change: write enable, write status, program and erases
+-- the opcodes that change nothing: those of readings, and write disable
+abbrev pub is_quiet_opcode : (opcode : ℕ) → Bool
+is_quiet_opcode opcode =
+    opcode == 0x03 || opcode == 0x04 || opcode == 0x05 || opcode == 0x35
+    || opcode == 0x4B || opcode == 0x5A || opcode == 0x9F
+
+-- Any other may change a chip or ready it for a change: write enable, write status, program and erases, and what a real
+-- chip may take that a modelled one ignores (60h erases it).
 abbrev pub is_changing_opcode : (opcode : ℕ) → Bool
-is_changing_opcode opcode =
-    opcode == 0x06 || opcode == 0x01 || opcode == 0x02
-    || opcode == 0x20 || opcode == 0x52 || opcode == 0xD8 || opcode == 0xC7
+is_changing_opcode opcode = not (is_quiet_opcode opcode)
 
 -- a transaction that sends `out` begins with such an opcode
 abbrev pub begins_change : (out : List ℕ) → Bool

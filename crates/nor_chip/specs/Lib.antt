@@ -6,6 +6,7 @@ pub mod Guard
 pub mod Command
 pub mod Step
 pub mod Sent
+pub mod Heard
 pub mod Bus
 pub mod Cells
 pub mod Aim

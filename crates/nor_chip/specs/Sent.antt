@@ -2,7 +2,7 @@
 use Rattle.std.specs.Prelude.{◌≡◌, ◌+◌, ◌*◌, ◌/◌, ◌-◌, ◌^◌, ◌==◌, ◌&&◌, ◌||◌, ℕ, Bool, true, false, List, [], ◌∷◌, min, nat_le, nat_lt, slice_index_or, if◌then◌else◌}
 use Rattle.nor_chip.specs.declared.sent.Aim.{Aim}
 use Rattle.nor_chip.specs.declared.sent.Sent.{Sent}
-use Rattle.nor_chip.specs.Command.{begins_change}
+use Rattle.nor_chip.specs.Command.{begins_change, is_quiet_opcode}
 
 -- every sector that 24 bits can name, and none
 abbrev pub aim_all : Aim
@@ -15,10 +15,10 @@ aim_none = record { first = 0; count = 0 }
 abbrev pub aim_unit : (count sector : ℕ) → Aim
 aim_unit count sector = record { first = sector / count * count; count = count }
 
--- where an opcode without an address is aimed: an erase or a program may then be at any sector
+-- where an opcode without an address is aimed, or one of which no more is known: write enable and a status write at no
+-- sector, and what else may change a chip at any
 abbrev pub bare_aim : (opcode : ℕ) → Aim
-bare_aim opcode =
-    if opcode == 0x02 || opcode == 0x20 || opcode == 0x52 || opcode == 0xD8 || opcode == 0xC7 then aim_all else aim_none
+bare_aim opcode = if opcode == 0x06 || opcode == 0x01 || is_quiet_opcode opcode then aim_none else aim_all
 
 -- where an opcode and an address in this sector are aimed
 abbrev pub addressed_aim : (opcode sector : ℕ) → Aim

@@ -17,6 +17,7 @@ state_of bus = record {
   sent = bus.sent;
   worn = λ s. slice_index_or bus.worn s false;
   steady = is_none bus.fill;
+  heard = bus.heard;
 }
 
 -- the fill that a loss of power leaves, where the bus isn't steady

@@ -1,10 +1,11 @@
 -- The bus that lies, as contracts see it.
-use Rattle.std.specs.Prelude.{◌≡◌, ◌<◌, ◌+◌, ◌-◌, ◌^◌, ◌==◌, ◌&&◌, ℕ, Bool, true, false, List, [], ◌∷◌, length, Option, None, Some, Result, Ok, Err, OnOk, OnErr, IsOk, IfSome, IfNone, replicate, min, nat_lt, nat_le, bit_and, bit_or, slice_index, if◌then◌else◌}
+use Rattle.std.specs.Prelude.{◌≡◌, ◌<◌, ◌+◌, ◌-◌, ◌^◌, ◌==◌, ◌&&◌, ℕ, true, false, List, length, Option, None, Some, Result, Ok, Err, OnOk, OnErr, IsOk, IfSome, IfNone, replicate, min, nat_lt, nat_le, bit_and, bit_or, slice_index, if◌then◌else◌}
 use Rattle.nor_chip.specs.declared.spoilt.SpoiltBus.{SpoiltBus}
 use Rattle.nor_chip.specs.declared.spoilt.Spoil.{Spoil}
 use Rattle.nor_chip.specs.declared.spoilt.Spoil.TheVariants.{Fill, BusyFrom, Drop, Low}
 use Rattle.nor_chip.specs.declared.bus.Stopped.{Stopped}
 use Rattle.nor_chip.specs.declared.sent.Sent.{Sent}
+use Rattle.nor_chip.specs.Heard.{is_poll}
 use Rattle.nor_chip.specs.Bus.{BusState, Stops, Carries}
 
 -- the bus inside, how it is spoilt, and how many transactions were carried out or answered
@@ -21,11 +22,13 @@ noted_of bus = bus.noted
 abbrev pub sent_of : {B : Type 0} → SpoiltBus B → ℕ
 sent_of bus = bus.sent
 
--- it isn't honest, and what is sent over it is noted also where it doesn't get there; all else is as the bus inside
+-- it isn't honest, what is sent over it is noted also where it doesn't get there, and what is heard is what it replies;
+-- all else is as the bus inside
 abbrev pub spoilt_state : {B : Type 0} → (B → BusState) → SpoiltBus B → BusState
 spoilt_state state bus = record (state bus.bus) {
   honest = false;
   sent = bus.noted;
+  heard = bus.heard;
 }
 
 -- the one byte that a transaction replies which isn't carried out: every transaction, or the one behind so many
@@ -37,12 +40,6 @@ withheld (Low bit) sent = None
 
 abbrev pub withheld_of : {B : Type 0} → SpoiltBus B → Option ℕ
 withheld_of bus = withheld (spoil_of bus) (sent_of bus)
-
--- a poll goes out
-abbrev pub is_poll : List ℕ → Bool
-is_poll [] = false
-is_poll (opcode ∷ []) = opcode == 0x05
-is_poll (opcode ∷ next ∷ rest) = false
 
 -- the byte that is replied for one of the bus inside, by the transaction behind so many
 abbrev pub spoilt_byte : Spoil → ℕ → List ℕ → ℕ → ℕ

@@ -9,7 +9,7 @@ use Rattle.nor_chip.specs.Bus.{BusState}
 
 -- A new bus: its chip has this configuration, these bytes, the kept bits and the latch of these two status
 -- bytes, and answers BUSY to so many polls, though nothing is known of what runs. No transaction is let through yet,
--- none was sent, and no sector was erased.
+-- none was sent, no poll was replied to, and no sector was erased.
 pub record Starts (setup : Config) (image flags : List ℕ) (delays : Delays) (state : BusState) : Type 0 where
   pub config : state.chip.config ≡ setup
   pub bytes : (a : ℕ) → state.chip.bytes a ≡ slice_index image a
@@ -23,6 +23,7 @@ pub record Starts (setup : Config) (image flags : List ℕ) (delays : Delays) (s
   pub sent : IsNothing state.sent
   pub worn : (s : ℕ) → state.worn s ≡ false
   pub steady : state.steady ≡ true
+  pub heard : state.heard ≡ false
 
 -- the bytes of a chip as a list
 pub record AreChipBytes (chip : Chip) (bytes : List ℕ) : Type 0 where

@@ -1,7 +1,7 @@
 //! The bus to a chip.
 ghost use Rattle.std.specs.Prelude.{◌≡◌, true, length, OnOk, OnErr};
 ghost use Rattle.nor_chip.specs.Chip.{IsChip};
-ghost use Rattle.nor_chip.specs.Bus.{BusState, Sends, Stops, Carries, Allows};
+ghost use Rattle.nor_chip.specs.Bus.{BusState, Sends, Stops, Carries, Hears, Allows};
 
 use std::fmt;
 
@@ -21,7 +21,7 @@ impl std::error::Error for Stopped {}
 ///
 /// Contracts see a bus as a `BusState`. Where that is honest, the bus keeps the law: it stops exactly where no
 /// transaction is left, and then nothing moves; else the chip makes one step. A bus that lies may do anything
-/// but change its honesty or hide what was sent that may change a chip.
+/// but change its honesty, or hide what was sent that may change a chip and what its polls replied of BUSY.
 pub trait Bus {
     ghost state: { Self → BusState };
 
@@ -31,7 +31,8 @@ pub trait Bus {
         ensures stops { (state self.old).honest ≡ true → OnErr result (Stops (state self.old) (state self.new)) }
         ensures unread { (state self.old).honest ≡ true → OnErr result (reply.new ≡ reply.old) }
         ensures carries { (state self.old).honest ≡ true
-            → OnOk result (Carries out.now reply.new (state self.old) (state self.new)) };
+            → OnOk result (Carries out.now reply.new (state self.old) (state self.new)) }
+        ensures hears { Hears out.now reply.new result (state self.old) (state self.new) };
 
     /// What an honest bus reaches is a chip.
     ghost reaches: { (bus : Self) → (state bus).honest ≡ true → IsChip (state bus).chip };

@@ -96,10 +96,13 @@ fn address(config: &Config, x: u8, y: u8, z: u8) -> u32
     u32::from_be_bytes([0, x, y, z]) % config.size
 }
 
-/// The transaction begins with an opcode that may change a chip or ready it for a change: 06h, 01h, 02h, 20h,
-/// 52h, D8h or C7h.
+/// The transaction begins with an opcode that may change a chip or ready it for a change: any but 03h, 05h, 35h, 4Bh,
+/// 5Ah and 9Fh, which read, and 04h, which clears the latch.
 pub fn is_changing(out: &[u8]) -> bool
     ensures { result ≡ begins_change out.now }
 {
-    matches!(out, [0x06 | 0x01 | 0x02 | 0x20 | 0x52 | 0xD8 | 0xC7, ..])
+    !matches!(
+        out,
+        [] | [0x03 | 0x04 | 0x05 | 0x35 | 0x4B | 0x5A | 0x9F, ..]
+    )
 }

@@ -59,7 +59,7 @@ impl Aim {
                 Self::addressed(*opcode, (address / SECTOR_LEN) as usize)
             }
             [opcode, ..] => Self::bare(*opcode),
-            [] => Self::bare(0x00),
+            [] => Aim { first: 0, count: 0 },
         }
     }
 
@@ -68,8 +68,9 @@ impl Aim {
         ensures within { result.first + result.count ≤ 4096 }
     {
         let count = match opcode {
-            0x02 | 0x20 | 0x52 | 0xD8 | 0xC7 => MOST_SECTORS as usize,
-            _ => 0,
+            0x06 | 0x01 => 0,
+            _ if !is_changing(&[opcode]) => 0,
+            _ => MOST_SECTORS as usize,
         };
         Aim { first: 0, count }
     }

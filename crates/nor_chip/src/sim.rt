@@ -6,6 +6,7 @@ ghost use Rattle.nor_chip.specs.Step.{wears};
 
 use crate::{
     Bus, Command, Config, MOST_SECTORS, Meter, Running, SECTOR_LEN, Sent, Status, Status1, Stopped,
+    heard_after,
 };
 use bitflags::Flags;
 use flash::Flash;
@@ -42,6 +43,7 @@ pub struct SimBus {
     fill: Option<u8>,
     sent: Sent,
     worn: [bool; MOST_SECTORS as usize],
+    heard: bool,
 }
 
 impl SimBus {
@@ -83,6 +85,7 @@ impl SimBus {
             fill: None,
             sent,
             worn: [false; MOST_SECTORS as usize],
+            heard: false,
         })
     }
 
@@ -115,7 +118,7 @@ impl SimBus {
 }
 
 impl Bus for SimBus {
-    ghost use Rattle.nor_chip.specs.Bus.{Sends, Stops, Carries};
+    ghost use Rattle.nor_chip.specs.Bus.{Sends, Stops, Carries, Hears};
     ghost use Rattle.nor_chip.specs.Sim.{state_of, Simulates};
 
     ghost state = { state_of };
@@ -134,6 +137,7 @@ impl Bus for SimBus {
         ensures unread { (state_of self.old).honest ≡ true → OnErr result (reply.new ≡ reply.old) }
         ensures carries { (state_of self.old).honest ≡ true
             → OnOk result (Carries out.now reply.new (state_of self.old) (state_of self.new)) }
+        ensures hears { Hears out.now reply.new result (state_of self.old) (state_of self.new) }
         ensures simulates { Simulates out.now reply.new result self.old self.new }
     {
         self.sent.note(out);
@@ -146,6 +150,7 @@ impl Bus for SimBus {
         self.left -= 1;
         let command = self.flash.step(out, reply);
         wear(&mut self.worn, command);
+        self.heard = heard_after(out, reply, self.heard);
         Ok(())
     }
 }

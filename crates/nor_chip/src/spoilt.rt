@@ -3,10 +3,10 @@ ghost use Rattle.std.specs.Prelude.{◌≡◌, Bool, true, false, OnOk, OnErr, M
 ghost use Rattle.std.proofs.Common.{subst};
 ghost use Rattle.nor_chip.specs.Chip.{IsChip};
 ghost use Rattle.nor_chip.specs.Sent.{IsNothing};
-ghost use Rattle.nor_chip.specs.Bus.{Sends, Stops, Carries, Allows};
+ghost use Rattle.nor_chip.specs.Bus.{Sends, Stops, Carries, Hears, Allows};
 ghost use Rattle.nor_chip.specs.Spoilt.{inner_of, spoil_of, sent_of, noted_of, spoilt_state, withheld, spoilt_byte, Spoils};
 
-use crate::{Bus, Meter, Sent, Stopped};
+use crate::{Bus, Meter, Sent, Stopped, heard_after};
 
 /// How a spoilt bus lies. Its transactions are counted from 1.
 #[derive(Clone, Copy, Debug, PartialEq, Eq)]
@@ -28,6 +28,7 @@ pub struct SpoiltBus<B> {
     spoil: Spoil,
     sent: u64,
     noted: Sent,
+    heard: bool,
 }
 
 impl<B: Bus> SpoiltBus<B> {
@@ -36,7 +37,11 @@ impl<B: Bus> SpoiltBus<B> {
         ensures inner { inner_of result ≡ inner }
         ensures spoil { spoil_of result ≡ spoil }
         ensures sent { sent_of result ≡ 0 }
-        ensures state { ⟦<SpoiltBus<B> as Bus>⟧.state result ≡ record (B.state inner) { honest = false; sent = noted_of result } }
+        ensures state { ⟦<SpoiltBus<B> as Bus>⟧.state result ≡ record (B.state inner) {
+          honest = false;
+          sent = noted_of result;
+          heard = false;
+        } }
         ensures nothing { IsNothing (noted_of result) }
     {
         SpoiltBus {
@@ -44,6 +49,7 @@ impl<B: Bus> SpoiltBus<B> {
             spoil,
             sent: 0,
             noted: Sent::new(),
+            heard: false,
         }
     }
 
@@ -64,6 +70,7 @@ impl<B: Bus> SpoiltBus<B> {
             spoil: _,
             sent: _,
             noted: _,
+            heard: _,
         } = self;
         bus
     }
@@ -82,6 +89,7 @@ impl<B: Bus> Bus for SpoiltBus<B> {
         ensures unread { (spoilt_state B.state self.old).honest ≡ true → OnErr result (reply.new ≡ reply.old) }
         ensures carries { (spoilt_state B.state self.old).honest ≡ true
             → OnOk result (Carries out.now reply.new (spoilt_state B.state self.old) (spoilt_state B.state self.new)) }
+        ensures hears { Hears out.now reply.new result (spoilt_state B.state self.old) (spoilt_state B.state self.new) }
         ensures spoils { Spoils B.state out.now reply.old reply.new result self.old self.new }
     {
         self.noted.note(out);
@@ -93,6 +101,7 @@ impl<B: Bus> Bus for SpoiltBus<B> {
             }
         }
         self.sent = self.sent.saturating_add(1);
+        self.heard = heard_after(out, reply, self.heard);
         Ok(())
     }
 }

@@ -2,7 +2,7 @@
 ghost use Rattle.std.specs.Prelude.{◌≡◌, true, false, OnOk, OnErr};
 ghost use Rattle.std.specs.Io.KnownBytes.{Appends, Keeps};
 ghost use Rattle.hex.specs.Hex.{encode_lower};
-ghost use Rattle.nor_chip.specs.Bus.{Sends, Stops, Carries, Allows};
+ghost use Rattle.nor_chip.specs.Bus.{Sends, Stops, Carries, Hears, Allows};
 ghost use Rattle.nor_chip.specs.Trace.{traced_by, log_of, has_lost, traced_line, Traces};
 
 use crate::{Bus, Meter, Stopped};
@@ -81,6 +81,7 @@ impl<B: Bus, L: Write> Bus for TraceBus<B, L> {
         ensures unread { (B.state (traced_by self.old)).honest ≡ true → OnErr result (reply.new ≡ reply.old) }
         ensures carries { (B.state (traced_by self.old)).honest ≡ true
             → OnOk result (Carries out.now reply.new (B.state (traced_by self.old)) (B.state (traced_by self.new))) }
+        ensures hears { Hears out.now reply.new result (B.state (traced_by self.old)) (B.state (traced_by self.new)) }
         ensures traces { Traces L.contents out.now reply.new result self.old self.new }
     {
         self.bus.transfer(out, reply)?;

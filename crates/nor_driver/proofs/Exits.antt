@@ -96,6 +96,7 @@ module _ (out : List ℕ) (asks : AsksForOperation out) (old ready : BusState) (
           ends = record {
             least = omega arith;
             few = omega arith;
+            heard = waits.heard;
             count = λ honest. let count = (enabling honest).count in let count' = (carries' (sends.nature.honest ∙ honest)).left in let count'' = (waiting honest).count in omega arith;
             idle = λ honest. (waiting honest).idle;
           };

@@ -1,16 +1,20 @@
 -- What one transaction that reads leaves, and what it tells.
 use Rattle.std.proofs.Common.{◌≡◌, ◌≤◌, ◌<◌, ◌+◌, ◌∙◌, ◌||◌, ℕ, Bool, true, false, cond, List, [], ◌∷◌, length, slice_index, ap, sym, refl, arith, inl, inr}
-use Rattle.std.specs.Prelude.{◌==◌, Result, Ok, Err, OnOk, OnErr, if◌then◌else◌}
+use Rattle.std.specs.Prelude.{◌==◌, Result, Ok, Err, nat_lt, ◌&&◌, OnOk, OnErr, if◌then◌else◌}
 use Rattle.std.proofs.Math.Bool.{or-false}
+use Rattle.nor_chip.specs.declared.config.Config.{Config}
 use Rattle.nor_chip.specs.declared.command.Command.{Command}
 use Rattle.nor_chip.specs.declared.command.Command.TheVariants.{WriteEnable, WriteDisable, Poll, ReadStatus2, WriteStatus, Program, Erase, ReadData, ReadId, ReadSfdp, ReadUnique, Ignored}
 use Rattle.nor_chip.specs.Chip.{Chip}
 use Rattle.nor_chip.specs.Command.{command_of, begins_change}
 use Rattle.nor_chip.specs.Step.{Does, is_carried_out, done_of, wears}
-use Rattle.nor_chip.specs.Bus.{BusState, Sends, Stops, Carries}
+use Rattle.nor_chip.specs.Bus.{BusState, Sends, Stops, Carries, Hears}
+use Rattle.nor_chip.specs.Heard.{is_poll, shows_ready}
+use Rattle.nor_chip.specs.declared.bus.Stopped.{Stopped}
 use Rattle.nor_driver.specs.Looks.{Rested, LooksHonest, Looks, RanOut}
 use Rattle.nor_driver.specs.Waits.{HasPolled}
 use Rattle.nor_driver.specs.Reads.{changes_nothing, IsReading, HasRead, Replies}
+use Rattle.nor_driver.proofs.Bools.{tested}
 use Rattle.nor_driver.proofs.Cuts.{stays_at_stop, stays_after, unchanged_none, unchanged_then, unchanged_stays}
 
 -- What nothing but a reading leaves of a chip.
@@ -187,3 +191,18 @@ read_does (Ok value) out answer old new is carries = record {
   told = λ honest i below. (carries honest).step.replies i below;
 }
 read_does (Err fault) out answer old new is carries = tt
+
+-- what reads is no poll
+no_poll : (config : Config) (out : List ℕ) → IsReading out → is_poll out ≡ false
+no_poll config [] is = refl
+no_poll config (opcode ∷ []) is = elim (opcode == 5) as (λ b. opcode == 5 ≡ b → is_poll (opcode ∷ []) ≡ false) [
+  | true ↦ λ polls. absurd (let five = tested opcode 5 polls in let off = is.reading config 0 in cc)
+  | false ↦ λ other. other
+] refl
+no_poll config (opcode ∷ next ∷ rest) is = refl
+
+-- so what was heard before is what is heard
+pub read_heard : (outcome : Result Unit Stopped) (out answer : List ℕ) (old new : BusState) → IsReading out → Hears out answer outcome old new → new.heard ≡ old.heard
+read_heard (Ok done) out answer old new is hears =
+    hears.told ∙ ap (λ (polls : Bool). if polls && nat_lt 0 (length answer) then shows_ready answer else old.heard) (no_poll old.chip.config out is)
+read_heard (Err stopped) out answer old new is hears = hears.stopped

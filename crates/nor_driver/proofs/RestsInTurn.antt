@@ -3,6 +3,7 @@ use Rattle.std.proofs.Common.{◌≡◌, ◌<◌, ◌≤◌, ◌+◌, ◌∙◌,
 use Rattle.nor_chip.specs.Bus.{BusState, KeepsNature}
 use Rattle.nor_chip.proofs.Nature.{nature_refl, nature_then}
 use Rattle.nor_driver.specs.Looks.{Rested, Looks, RanOutIfHonest}
+use Rattle.nor_driver.specs.Ready.{StaysReady}
 use Rattle.nor_driver.specs.Reads.{HasRead}
 use Rattle.nor_driver.proofs.Cuts.{unchanged_stays}
 use Rattle.nor_driver.proofs.LooksInTurn.{looks_then, looks_more}
@@ -12,6 +13,7 @@ pub use Rattle.nor_driver.proofs.Readings.{rested_none, rested_then}
 pub record HasLooked (reads : ℕ) (old new : BusState) : Type 0 where
   pub nature : KeepsNature old new
   pub same_sent : new.sent ≡ old.sent
+  pub heard : StaysReady old new
   pub rested : old.honest ≡ true → Rested old new
   pub sent : old.honest ≡ true → old.left ≡ new.left + reads
 
@@ -19,6 +21,7 @@ pub has_looked-none : (state : BusState) → HasLooked 0 state state
 has_looked-none state = record {
   nature = nature_refl state;
   same_sent = refl;
+  heard = λ ready. ready;
   rested = λ honest. rested_none state;
   sent = λ honest. omega arith;
 }
@@ -51,10 +54,11 @@ runs_out reads most old mid new few has out honest =
     record { none_left = none.none_left; below = omega arith }
 
 -- the next one succeeded too
-pub has_looked-more : (reads : ℕ) (old mid new : BusState) → HasLooked reads old mid → Looks 1 mid new → (mid.honest ≡ true → HasRead mid new) → HasLooked (reads + 1) old new
-has_looked-more reads old mid new has looks read = record {
+pub has_looked-more : (reads : ℕ) (old mid new : BusState) → HasLooked reads old mid → Looks 1 mid new → (mid.honest ≡ true → HasRead mid new) → StaysReady mid new → HasLooked (reads + 1) old new
+has_looked-more reads old mid new has looks read heard = record {
   nature = nature_then old mid new looks.nature has.nature;
   same_sent = looks.sent ∙ has.same_sent;
+  heard = λ ready. heard (has.heard ready);
   rested = λ honest. rested_then old mid new (has.rested honest) (read (has.nature.honest ∙ honest)).rested;
   sent = λ honest. let sent = has.sent honest in let count = (read (has.nature.honest ∙ honest)).count in omega arith;
 }

@@ -1,4 +1,5 @@
 pub mod Looks
+pub mod Ready
 pub mod Waits
 pub mod Reads
 pub mod Units

@@ -60,11 +60,12 @@ pub record HasIgnored (old new : BusState) : Type 0 where
   pub worn : (s : ℕ) → new.worn s ≡ old.worn s
   pub latch : new.chip.latch ≡ is_idle old.chip
 
--- An operation succeeded, with so many transactions: whatever the bus, from 3 to 65,538; on an honest one so many
--- fewer are left, and the chip is idle.
+-- An operation succeeded, with so many transactions: whatever the bus, from 3 to 65,538, and its last poll showed that
+-- the chip is ready; on an honest one so many fewer are left, and the chip is idle.
 pub record EndsWaiting (old new : BusState) (sent : ℕ) : Type 0 where
   pub least : 3 ≤ sent
   pub few : sent ≤ most_operation
+  pub heard : new.heard ≡ true
   pub count : old.honest ≡ true → old.left ≡ new.left + sent
   pub idle : old.honest ≡ true → new.chip.busy ≡ 0
 

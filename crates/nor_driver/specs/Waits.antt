@@ -37,6 +37,7 @@ pub record Waits (old new : BusState) (waited : Waited) : Type 0 where
   pub some : 1 ≤ waited.polls
   pub few : waited.polls ≤ 65536
   pub clear : waited.status1 % 2 ≡ 0
+  pub heard : new.heard ≡ true
   pub done : old.honest ≡ true → HasWaited old new waited
 
 -- whatever the bus, a timeout names this address

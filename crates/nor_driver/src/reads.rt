@@ -23,6 +23,7 @@ pub fn read_id<B: Bus>(bus: &mut B) -> Result<[u8; 3], Stopped>
     ensures leaves { Looks 1 (B.state bus.old) (B.state bus.new) }
     ensures does { IfOk result (ReadsId (B.state bus.old) (B.state bus.new)) }
     ensures halts { OnErr result (RanOutIfHonest 1 (B.state bus.old) (B.state bus.new)) }
+    ensures heard { (B.state bus.new).heard ≡ (B.state bus.old).heard }
 {
     let mut id = [0; 3];
     read(bus, &[READ_ID], &mut id)?;
@@ -34,6 +35,7 @@ pub fn read_status2<B: Bus>(bus: &mut B) -> Result<u8, Stopped>
     ensures leaves { Looks 1 (B.state bus.old) (B.state bus.new) }
     ensures does { IfOk result (ReadsStatus2 (B.state bus.old) (B.state bus.new)) }
     ensures halts { OnErr result (RanOutIfHonest 1 (B.state bus.old) (B.state bus.new)) }
+    ensures heard { (B.state bus.new).heard ≡ (B.state bus.old).heard }
 {
     let mut reply = [0];
     read(bus, &[READ_STATUS2], &mut reply)?;
@@ -45,6 +47,7 @@ pub fn read_unique<B: Bus>(bus: &mut B) -> Result<[u8; 8], Stopped>
     ensures leaves { Looks 1 (B.state bus.old) (B.state bus.new) }
     ensures does { IfOk result (ReadsUnique (B.state bus.old) (B.state bus.new)) }
     ensures halts { OnErr result (RanOutIfHonest 1 (B.state bus.old) (B.state bus.new)) }
+    ensures heard { (B.state bus.new).heard ≡ (B.state bus.old).heard }
 {
     let mut unique = [0; 8];
     read(bus, &[READ_UNIQUE, 0, 0, 0, 0], &mut unique)?;
@@ -58,6 +61,7 @@ pub fn read_parameters<B: Bus>(bus: &mut B, address: u32, bytes: &mut [u8]) -> R
     ensures leaves { Looks 1 (B.state bus.old) (B.state bus.new) }
     ensures does { OnOk result (ReadsSfdp address (length bytes.old) (B.state bus.old) (B.state bus.new) bytes.new) }
     ensures halts { OnErr result (RanOutIfHonest 1 (B.state bus.old) (B.state bus.new)) }
+    ensures heard { (B.state bus.new).heard ≡ (B.state bus.old).heard }
     ensures unread { (B.state bus.old).honest ≡ true → OnErr result (bytes.new ≡ bytes.old) }
 {
     let [high, middle, low] = address_bytes(address);
@@ -71,6 +75,7 @@ pub fn read_sector<B: Bus>(bus: &mut B, sector: u32, bytes: &mut [u8]) -> Result
     ensures leaves { Looks 1 (B.state bus.old) (B.state bus.new) }
     ensures does { OnOk result (ReadsSector sector (B.state bus.old) (B.state bus.new) bytes.new) }
     ensures halts { OnErr result (RanOutIfHonest 1 (B.state bus.old) (B.state bus.new)) }
+    ensures heard { (B.state bus.new).heard ≡ (B.state bus.old).heard }
     ensures unread { (B.state bus.old).honest ≡ true → OnErr result (bytes.new ≡ bytes.old) }
 {
     let [high, middle, low] = address_bytes(SECTOR_LEN * sector);
@@ -83,6 +88,7 @@ fn read<B: Bus>(bus: &mut B, out: &[u8], reply: &mut [u8]) -> Result<(), Stopped
     ensures leaves { Looks 1 (B.state bus.old) (B.state bus.new) }
     ensures does { OnOk result (Replies out.now (B.state bus.old) (B.state bus.new) reply.new) }
     ensures halts { OnErr result (RanOutIfHonest 1 (B.state bus.old) (B.state bus.new)) }
+    ensures heard { (B.state bus.new).heard ≡ (B.state bus.old).heard }
     ensures unread { (B.state bus.old).honest ≡ true → OnErr result (reply.new ≡ reply.old) }
 {
     bus.transfer(out, reply)

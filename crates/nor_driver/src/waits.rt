@@ -1,6 +1,6 @@
 //! Polls, and waits for a chip to be idle.
 
-ghost use Rattle.std.specs.Prelude.{◌≡◌, IfOk, IfErr, OnErr};
+ghost use Rattle.std.specs.Prelude.{◌≡◌, ◌%◌, ◌==◌, IfOk, IfErr, OnErr};
 ghost use Rattle.nor_driver.specs.declared.waits.Halt.TheVariants as Halts;
 ghost use Rattle.nor_driver.specs.Looks.{Looks, RanOutIfHonest};
 ghost use Rattle.nor_driver.specs.Waits.{Polls, Waits, WaitHalts};
@@ -19,6 +19,7 @@ const MOST_POLLS: u32 = 65536;
 pub fn poll<B: Bus>(bus: &mut B) -> Result<u8, Stopped>
     ensures leaves { Looks 1 (B.state bus.old) (B.state bus.new) }
     ensures does { IfOk result (Polls (B.state bus.old) (B.state bus.new)) }
+    ensures heard { IfOk result (λ status. (B.state bus.new).heard ≡ (status % 2 == 0)) }
     ensures halts { OnErr result (RanOutIfHonest 1 (B.state bus.old) (B.state bus.new)) }
 {
     let mut reply = [0];

@@ -1,6 +1,6 @@
 -- What a probe tells of the chip.
 use Rattle.std.specs.Prelude.{◌≡◌, ◌+◌, ◌%◌, ◌≤◌, ◌<◌, ◌⊎◌, ℕ, true, false, List, if◌then◌else◌, ⊤}
-use Rattle.std.specs.Prelude.{Option, None, Some, Result, Ok, Err, IfOk, IfErr}
+use Rattle.std.specs.Prelude.{Option, None, Some, Result, Ok, Err, IfOk, IfErr, OnOk}
 use Rattle.nor_chip.specs.declared.config.Config.{Config}
 use Rattle.nor_chip.specs.Chip.{Chip, status1_of}
 use Rattle.nor_chip.specs.Size.{is_chip_size}
@@ -123,6 +123,8 @@ pub record ProbeAlways (named : Option ChipName) (old new : BusState) (result : 
   pub wanted : IfOk result (λ found. IsWanted named found.name)
   -- another name is told only where a name is wanted
   pub blames : IfErr result (BlamesName named)
+  -- what was found comes only where the last poll showed that the chip is ready
+  pub heard : OnOk result (new.heard ≡ true)
 
 -- On an honest bus.
 pub record ProbeHonest (named : Option ChipName) (old new : BusState) (result : Result Found ProbeFault) : Type 0 where

@@ -120,6 +120,7 @@ impl Part {
 // The part that an idle chip with this ID is.
 fn identify<B: Bus>(bus: &mut B, id: [u8; 3]) -> Result<Part, ProbeFault>
     ensures leaves { Looks 3 (B.state bus.old) (B.state bus.new) }
+    ensures heard { (B.state bus.new).heard ≡ (B.state bus.old).heard }
     ensures part { IfOk result (IsIdentified id) }
     ensures faults { IfErr result IsIdentityFault }
 
@@ -156,6 +157,7 @@ fn is_no_chip(id: [u8; 3]) -> bool
 // What an idle chip says of itself.
 fn read_geometry<B: Bus>(bus: &mut B) -> Result<Geometry, ProbeFault>
     ensures leaves { Looks 3 (B.state bus.old) (B.state bus.new) }
+    ensures heard { (B.state bus.new).heard ≡ (B.state bus.old).heard }
     ensures sized { IfOk result (λ geometry. is_chip_size geometry.size ≡ true) }
     ensures faults { IfErr result IsIdentityFault }
 
@@ -180,6 +182,7 @@ struct Parameters {
 // The header, the first parameter header and the table that it points to, of an idle chip.
 fn read_parts<B: Bus>(bus: &mut B) -> Result<Parameters, Stopped>
     ensures leaves { Looks 3 (B.state bus.old) (B.state bus.new) }
+    ensures heard { (B.state bus.new).heard ≡ (B.state bus.old).heard }
     ensures reads { (B.state bus.old).honest ≡ true
         → IfOk result (ReadsParameters (B.state bus.old) (B.state bus.new)) }
     ensures halts { OnErr result (RanOutIfHonest 3 (B.state bus.old) (B.state bus.new)) }

@@ -50,6 +50,7 @@ module _ (named : Option ChipName) (included : Option (List Span)) (image : List
     fits = tt;
     whole = tt;
     refuses = unfound_refuses named old new refusal tells;
+    heard = tt;
   }
 
   pub unfound_honest : old.honest ≡ true → VerifyHonest named included old new (Err refusal)
@@ -77,6 +78,7 @@ module _ (named : Option ChipName) (included : Option (List Span)) (image : List
     fits = tt;
     whole = tt;
     refuses = is;
+    heard = tt;
   }
 
   pub early_honest : (refusal : Refusal) → (Rested old mid → ReadingTells (most_read 16777216) named old mid refusal) → old.honest ≡ true
@@ -115,6 +117,7 @@ module _ (named : Option ChipName) (included : Option (List Span)) (image : List
       fits = tt;
       whole = tt;
       refuses = tt;
+      heard = tt;
     }
 
     pub stopped_honest : RanOutIfHonest (probed.found.size / 4096) mid new → old.honest ≡ true → VerifyHonest named included old new (Err Stopped)
@@ -145,6 +148,7 @@ module _ (named : Option ChipName) (included : Option (List Span)) (image : List
         fits = tt;
         whole = tt;
         refuses = tt;
+        heard = tt;
       }
 
       pub mismatch_honest : (address : ℕ) → old.honest ≡ true → VerifyHonest named included old new (Err (Mismatch address))
@@ -175,6 +179,7 @@ module _ (named : Option ChipName) (included : Option (List Span)) (image : List
           fits = subst (λ (n : ℕ). FitsInto included n) (sym same_size) fits;
           whole = whole ∙ sym same_size;
           refuses = tt;
+          heard = all.heard found.heard;
         }
 
         pub equal_honest : old.honest ≡ true → VerifyHonest named included old new (Ok report)

@@ -87,7 +87,7 @@ copied_more included size n reads more bytes old mid new vault now later below l
       let same : count_below (16 * (n + 1)) (has_in_sector (includes included)) ≡ count_below (16 * n + 16) (has_in_sector (includes included))
       = ap (λ (k : ℕ). count_below k (has_in_sector (includes included))) e in
       omega arith;
-  looked = looked_on 16 reads more old mid new has.looked looks piece.rested piece.fell;
+  looked = looked_on 16 reads more old mid new has.looked looks piece.rested piece.fell piece.heard;
   accepted = record {
     telling = took.telling ∙ has.accepted.telling;
     sealed = took.sealed ∙ has.accepted.sealed;
@@ -109,6 +109,7 @@ copied_all included size n reads old new vault vault' whole has counted =
     λ telling. subst (λ (k : ℕ). CopiesIf (IsOpen size old) included old.chip.bytes k vault vault') whole (has.copy telling) in
     record {
       counted = counted;
+      heard = has.looked.heard;
       rested = has.looked.rested;
       fell = has.looked.sent;
       took = record {

@@ -26,7 +26,7 @@ copy_breaks included size n reads more kept written bytes old mid new vault now 
     (length-take-le kept bytes within) (put.bytes (has.accepted.telling ∙ telling))
     (λ is_open i small. get_or-take kept bytes i 0 small ∙ piece_right included size n reads more bytes old mid new below has.looked part is_open i (omega arith))) in
     record {
-      rested = (looked_on 16 reads more old mid new has.looked looks part.rested part.fell).rested;
+      rested = (looked_on 16 reads more old mid new has.looked looks part.rested part.fell part.heard).rested;
       within = omega arith;
       took = record {
         refused = record {

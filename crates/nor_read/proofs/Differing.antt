@@ -81,6 +81,7 @@ pub part_skipped : (included : Option (List Span)) (image : List ℕ) (sector : 
     → NoneInSector (includes included) sector → ComparesPart included image sector state state (record { first = None; reads = 0 })
 part_skipped included image sector told state test out none = record {
   counted = sym (ap (λ (b : Bool). if b then 1 else 0) (sym test ∙ out));
+  heard = λ ready. ready;
   rested = λ honest. rested_none state;
   fell = λ honest. omega arith;
   tells = λ honest idle inside. none_agree included image state.chip.bytes sector none;
@@ -150,7 +151,7 @@ pub compared_more : (included : Option (List Span)) (image : List ℕ) (size n r
 compared_more included image size n reads old mid new first part below has looks compares = record {
   few = let few = has.few in let one = at_most part.reads (has_in_sector (includes included) n) compares.counted in omega arith;
   counted = counted_on n reads part.reads (has_in_sector (includes included)) has.counted compares.counted;
-  looked = looked_on 1 reads part.reads old mid new has.looked looks compares.rested compares.fell;
+  looked = looked_on 1 reads part.reads old mid new has.looked looks compares.rested compares.fell compares.heard;
   tells = λ is_open.
       let now = open_on size reads old mid is_open has.looked in
       tells_more included image old.chip.bytes 0 (4096 * n) (4096 * (n + 1)) first part.first (omega arith) (omega arith) (has.tells is_open)

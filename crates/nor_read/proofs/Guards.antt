@@ -75,6 +75,7 @@ module _ (named : Option ChipName) (old new : BusState) (refusal : Refusal) (loo
     looks = looks_more most_probe most_status old new (omega arith) looks;
     sized = tt;
     refuses = unfound_refuses named old new refusal tells;
+    heard = tt;
   }
 
   pub unfound_honest : old.honest ≡ true → ProtectionHonest named old new (Err refusal)
@@ -88,7 +89,7 @@ module _ (named : Option ChipName) (old new : BusState) (refusal : Refusal) (loo
 module _ (named : Option ChipName) (old mid new : BusState) (probed : Probed) (found : HasFound named old mid probed) (looks : Looks most_probe old mid) (after : Looks 1 mid new) where
   -- status 2 isn't read
   pub stopped_always : ProtectionAlways old new (Err Stopped)
-  stopped_always = record { looks = whole_looks 1 most_status old mid new (omega arith) looks after; sized = tt; refuses = tt }
+  stopped_always = record { looks = whole_looks 1 most_status old mid new (omega arith) looks after; sized = tt; refuses = tt; heard = tt }
 
   pub stopped_honest : RanOutIfHonest 1 mid new → old.honest ≡ true → ProtectionHonest named old new (Err Stopped)
   stopped_honest out honest = record {
@@ -104,7 +105,7 @@ module _ (named : Option ChipName) (old mid new : BusState) (probed : Probed) (f
   -- it has no block protection
   module _ (status2 : ℕ) (reads : ReadsStatus2 mid new status2) where
     pub plain_always : ProtectionAlways old new (Err NoProtection)
-    plain_always = record { looks = whole_looks 1 most_status old mid new (omega arith) looks after; sized = tt; refuses = tt }
+    plain_always = record { looks = whole_looks 1 most_status old mid new (omega arith) looks after; sized = tt; refuses = tt; heard = tt }
 
     pub plain_honest : old.honest ≡ true → ProtectionHonest named old new (Err NoProtection)
     plain_honest honest = record {
@@ -122,8 +123,13 @@ module _ (named : Option ChipName) (old mid new : BusState) (probed : Probed) (f
 
     -- it has
     module _ (bytes : List ℕ) (range : Option (ℕ × ℕ)) (locked : Bool) where
-      pub told_always : ProtectionAlways old new (Ok (record { range = range; locked = locked; size = probed.found.size }))
-      told_always = record { looks = whole_looks 1 most_status old mid new (omega arith) looks after; sized = found.is.part.sized; refuses = tt }
+      pub told_always : new.heard ≡ mid.heard → ProtectionAlways old new (Ok (record { range = range; locked = locked; size = probed.found.size }))
+      told_always same = record {
+        looks = whole_looks 1 most_status old mid new (omega arith) looks after;
+        sized = found.is.part.sized;
+        refuses = tt;
+        heard = same ∙ found.heard;
+      }
 
       pub told_honest : old.honest ≡ true → ProtectionHonest named old new (Ok (record { range = range; locked = locked; size = probed.found.size }))
       told_honest honest = record {

@@ -4,6 +4,7 @@ use Rattle.std.specs.Prelude.{if◌then◌else◌}
 use Rattle.nor_chip.specs.declared.config.Config.{Config}
 use Rattle.nor_chip.specs.Bus.{BusState}
 use Rattle.nor_chip.proofs.Nature.{nature_then}
+use Rattle.nor_driver.specs.Ready.{StaysReady}
 use Rattle.nor_driver.specs.Looks.{Rested, Looks, IsOpen}
 use Rattle.nor_count.specs.Below.{count_below}
 use Rattle.nor_count.proofs.Below.{count_below-more}
@@ -11,10 +12,11 @@ use Rattle.nor_driver.proofs.RestsInTurn.{HasLooked, rested_then}
 
 -- a step more, which succeeded
 pub looked_on : (most reads more : ℕ) (old mid new : BusState) → HasLooked reads old mid → Looks most mid new → (mid.honest ≡ true → Rested mid new) → (mid.honest ≡ true → mid.left ≡ new.left + more)
-    → HasLooked (reads + more) old new
-looked_on most reads more old mid new has looks rested fell = record {
+    → StaysReady mid new → HasLooked (reads + more) old new
+looked_on most reads more old mid new has looks rested fell heard = record {
   nature = nature_then old mid new looks.nature has.nature;
   same_sent = looks.sent ∙ has.same_sent;
+  heard = λ ready. heard (has.heard ready);
   rested = λ honest. rested_then old mid new (has.rested honest) (rested (has.nature.honest ∙ honest));
   sent = λ honest. let sent = has.sent honest in let last = fell (has.nature.honest ∙ honest) in omega arith;
 }

@@ -54,7 +54,7 @@ pieced_more included piece k width reads more bytes part old mid new below exact
       let before = has.counted in let last = reading.counted in
       let e : 16 * piece + (k + 1) ≡ 16 * piece + k + 1 = omega arith in
       ap (λ (n : ℕ). count_below n (has_in_sector (includes included))) e ∙ omega arith;
-  looked = looked_on 1 reads more old mid new has.looked looks reading.rested reading.fell;
+  looked = looked_on 1 reads more old mid new has.looked looks reading.rested reading.fell reading.heard;
   right = λ honest idle fits i small.
       let put = put_back k width bytes part exact long (omega arith) in
       elim (cases_lt i (4096 * k)) [
@@ -73,6 +73,7 @@ pub pieced_all : (included : Option (List Span)) (piece k reads : ℕ) (bytes : 
 pieced_all included piece k reads bytes old new all has = record {
   counted = ap (λ (n : ℕ). count_below (16 * piece + n) (has_in_sector (includes included))) (sym all) ∙ has.counted;
   most = let few = has.few in omega arith;
+  heard = has.looked.heard;
   rested = has.looked.rested;
   fell = has.looked.sent;
   right = λ honest idle fits i small. has.right honest idle fits i (omega arith);

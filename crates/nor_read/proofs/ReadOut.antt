@@ -54,6 +54,7 @@ module _ (named : Option ChipName) (included : Option (List Span)) (old new : Bu
     fits = tt;
     whole = tt;
     refuses = unfound_refuses named old new vault refusal tells;
+    heard = tt;
   }
 
   pub unfound_honest : old.honest ≡ true → ReadOutHonest named included old new (Err refusal)
@@ -81,6 +82,7 @@ module _ (named : Option ChipName) (included : Option (List Span)) (old mid : Bu
     fits = tt;
     whole = tt;
     refuses = accepted_none vault;
+    heard = tt;
   }
 
   pub past_honest : old.honest ≡ true → ReadOutHonest named included old mid (Err RegionOutside)
@@ -132,6 +134,7 @@ module _ (named : Option ChipName) (included : Option (List Span)) (old mid : Bu
       fits = tt;
       whole = tt;
       refuses = fails_refuses refusal tells;
+      heard = tt;
     }
 
     pub broken_honest : (refusal : Refusal) → CopyTells included probed.found.size mid new vault vault' refusal → old.honest ≡ true → ReadOutHonest named included old new (Err refusal)
@@ -159,6 +162,7 @@ module _ (named : Option ChipName) (included : Option (List Span)) (old mid : Bu
         fits = subst (λ (n : ℕ). FitsInto included n) (sym same_size) fits;
         whole = subst (λ (n : ℕ). TakesWhole n vault vault') (sym same_size) all.took;
         refuses = tt;
+        heard = all.heard found.heard;
       }
 
       pub whole_honest : old.honest ≡ true → ReadOutHonest named included old new (Ok report)

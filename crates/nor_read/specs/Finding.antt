@@ -31,11 +31,12 @@ pub record IsFound (named : Option ChipName) (old : BusState) (found : Found) : 
   pub shown : old.honest ≡ true → shown_as old.chip.config ≡ Ok (part_in found)
   pub config : IsModelled old → IsConfigOf old.chip.config found
 
--- The probe found a chip. On an honest bus nothing changed, the chip is idle, its status 1 was read, and so many
+-- The probe found a chip, and its last poll showed that this is ready. On an honest bus nothing changed, the chip is idle, its status 1 was read, and so many
 -- transactions were sent.
 pub record HasFound (named : Option ChipName) (old new : BusState) (probed : Probed) : Type 0 where
   pub is : IsFound named old probed.found
   pub most : probed.transactions ≤ most_probe
+  pub heard : new.heard ≡ true
   pub rested : old.honest ≡ true → Rested old new
   pub idle : old.honest ≡ true → new.chip.busy ≡ 0
   pub status1 : old.honest ≡ true → probed.found.status1 ≡ status1_of new.chip

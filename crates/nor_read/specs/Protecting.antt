@@ -42,6 +42,8 @@ pub record ProtectionAlways (old new : BusState) (result : Result Protection Ref
   pub sized : IfOk result (λ protection. is_chip_size protection.size ≡ true)
   -- a refusal is one that telling the protection gives
   pub refuses : IfErr result IsProtectionRefusal
+  -- protection is told only where the last poll showed that the chip is ready
+  pub heard : OnOk result (new.heard ≡ true)
 
 -- On an honest bus.
 pub record ProtectionHonest (named : Option ChipName) (old new : BusState)

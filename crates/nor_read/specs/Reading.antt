@@ -1,9 +1,10 @@
 -- What reading a chip out leaves in a vault.
 use Rattle.std.specs.Prelude.{◌≡◌, ◌≤◌, ◌<◌, ◌+◌, ◌*◌, ◌/◌, ◌++◌, ℕ, true, if◌then◌else◌, ⊤}
-use Rattle.std.specs.Prelude.{Option, Result, IfOk, IfErr, List, length, slice_index}
+use Rattle.std.specs.Prelude.{Option, Result, IfOk, IfErr, OnOk, List, length, slice_index}
 use Rattle.nor_chip.specs.Bus.{BusState}
 use Rattle.nor_driver.specs.Looks.{Looks, Rested, RanOut, RanOutIfHonest, IsOpen}
 use Rattle.nor_journal.specs.Vault.{VaultState, PutRefused, Refused, Accepted}
+use Rattle.nor_driver.specs.Ready.{StaysReady}
 use Rattle.nor_layout.specs.declared.ranges.Span.{Span}
 use Rattle.nor_count.specs.Below.{count_below}
 use Rattle.nor_layout.specs.Sectors.{includes, has_in_sector, sectors_included, AreOfSector, FitsInto}
@@ -67,6 +68,8 @@ pub record ReadOutAlways (named : Option ChipName) (included : Option (List Span
   pub whole : IfOk result (λ report. TakesWhole report.found.size vault vault')
   -- a refusal is one that reading out gives, and 19 tells how many bytes the vault took
   pub refuses : IfErr result (IsReadRefusal vault vault')
+  -- a report comes only where the last poll showed that the chip is ready
+  pub heard : OnOk result (new.heard ≡ true)
 
 -- On an honest bus.
 pub record ReadOutHonest (named : Option ChipName) (included : Option (List Span)) (old new : BusState)
@@ -111,6 +114,7 @@ pub record ReadOutModelled (named : Option ChipName) (included : Option (List Sp
 pub record ReadsPart (included : Option (List Span)) (sector : ℕ) (bytes : List ℕ) (old new : BusState)
     (reads : ℕ) : Type 0 where
   pub counted : reads ≡ (if has_in_sector (includes included) sector then 1 else 0)
+  pub heard : StaysReady old new
   pub rested : old.honest ≡ true → Rested old new
   pub fell : old.honest ≡ true → old.left ≡ new.left + reads
   pub right : old.honest ≡ true → old.chip.busy ≡ 0 → 4096 * (sector + 1) ≤ old.chip.config.size
@@ -122,6 +126,7 @@ pub record ReadsPiece (included : Option (List Span)) (piece : ℕ) (bytes : Lis
   pub counted : count_below (16 * piece + 16) (has_in_sector (includes included))
       ≡ count_below (16 * piece) (has_in_sector (includes included)) + reads
   pub most : reads ≤ 16
+  pub heard : StaysReady old new
   pub rested : old.honest ≡ true → Rested old new
   pub fell : old.honest ≡ true → old.left ≡ new.left + reads
   pub right : old.honest ≡ true → old.chip.busy ≡ 0 → 65536 * (piece + 1) ≤ old.chip.config.size
@@ -131,6 +136,7 @@ pub record ReadsPiece (included : Option (List Span)) (piece : ℕ) (bytes : Lis
 pub record ReadsAll (included : Option (List Span)) (size : ℕ) (old new : BusState) (vault vault' : VaultState)
     (reads : ℕ) : Type 0 where
   pub counted : reads ≡ sectors_included included size
+  pub heard : StaysReady old new
   pub rested : old.honest ≡ true → Rested old new
   pub fell : old.honest ≡ true → old.left ≡ new.left + reads
   pub took : TakesWhole size vault vault'

@@ -1,10 +1,11 @@
 -- What a comparison of a chip with an image tells.
 use Rattle.std.specs.Prelude.{◌≡◌, ◌≢◌, ◌≤◌, ◌<◌, ◌+◌, ◌*◌, ℕ, true, if◌then◌else◌, ⊤}
-use Rattle.std.specs.Prelude.{Option, Result, IfOk, IfErr, List, length, slice_index, MatchOption}
+use Rattle.std.specs.Prelude.{Option, Result, IfOk, IfErr, OnOk, List, length, slice_index, MatchOption}
 use Rattle.nor_chip.specs.declared.config.Config.{Config}
 use Rattle.nor_chip.specs.Chip.{Chip}
 use Rattle.nor_chip.specs.Bus.{BusState}
 use Rattle.nor_driver.specs.Looks.{Looks, Rested, RanOut, IsOpen}
+use Rattle.nor_driver.specs.Ready.{StaysReady}
 use Rattle.nor_layout.specs.declared.ranges.Span.{Span}
 use Rattle.nor_layout.specs.Sectors.{includes, has_in_sector, sectors_included, FitsInto}
 use Rattle.nor_probe.specs.declared.table.ChipName.{ChipName}
@@ -67,6 +68,8 @@ pub record VerifyAlways (named : Option ChipName) (included : Option (List Span)
   pub whole : IfOk result (λ report. length image ≡ report.found.size)
   -- a refusal is one that verifying gives
   pub refuses : IfErr result IsVerifyRefusal
+  -- a report comes only where the last poll showed that the chip is ready
+  pub heard : OnOk result (new.heard ≡ true)
 
 -- On an honest bus.
 pub record VerifyHonest (named : Option ChipName) (included : Option (List Span)) (old new : BusState)
@@ -109,6 +112,7 @@ TellsFirst included image content from to first =
 pub record ComparesPart (included : Option (List Span)) (image : List ℕ) (sector : ℕ) (old new : BusState)
     (compared : Compared) : Type 0 where
   pub counted : compared.reads ≡ (if has_in_sector (includes included) sector then 1 else 0)
+  pub heard : StaysReady old new
   pub rested : old.honest ≡ true → Rested old new
   pub fell : old.honest ≡ true → old.left ≡ new.left + compared.reads
   pub tells : old.honest ≡ true → old.chip.busy ≡ 0 → 4096 * (sector + 1) ≤ old.chip.config.size
@@ -118,6 +122,7 @@ pub record ComparesPart (included : Option (List Span)) (image : List ℕ) (sect
 pub record ComparesAll (included : Option (List Span)) (image : List ℕ) (size : ℕ) (old new : BusState)
     (compared : Compared) : Type 0 where
   pub counted : compared.reads ≡ sectors_included included size
+  pub heard : StaysReady old new
   pub rested : old.honest ≡ true → Rested old new
   pub fell : old.honest ≡ true → old.left ≡ new.left + compared.reads
   pub tells : IsOpen size old → TellsFirst included image old.chip.bytes 0 size compared.first

@@ -4,6 +4,7 @@ use Rattle.std.specs.Int.Bits.{and_self}
 use Rattle.std.specs.Prelude.{if◌then◌else◌, ◌==◌, nat_lt}
 use Rattle.std.proofs.lemmas.Bool.{ne_eqb, eq-eqb, lt-ltb, not_from_false, not_from_true}
 use Rattle.nor_chip.specs.Bus.{BusState}
+use Rattle.nor_driver.specs.Ready.{StaysReady}
 use Rattle.nor_driver.specs.Reads.{ReadsSector}
 use Rattle.nor_layout.specs.declared.ranges.Span.{Span}
 use Rattle.nor_layout.specs.Sectors.{includes}
@@ -101,10 +102,10 @@ pub scans_sector : (request : Request) (size sector : ℕ) (included : Option (L
     → is_data request.what ≡ true → 4096 * sector + 4096 ≤ size → included ≡ request.included → length bytes ≡ 4096 → length part' ≡ 4096
     → ((image : List ℕ) (a i : ℕ) → i < 4096 → slice_index part i ≡ slice_index image a → slice_index filled i ≡ target request.what image a)
     → ((i : ℕ) → i < 4096 → slice_index part' i ≡ (if includes included (4096 * sector + i) then slice_index filled i else slice_index bytes i))
-    → ReadsSector sector old new bytes → (plan.raised ≡ true → plan.touched ≡ true)
+    → ReadsSector sector old new bytes → StaysReady old new → (plan.raised ≡ true → plan.touched ≡ true)
     → ((content aim : ℕ → ℕ) → AreBytesOf content bytes → AreBytesOf aim part' → IsPlan content aim (length bytes) plan)
     → ScansSector request size sector part part' bytes old new plan
-scans_sector request size sector included part filled part' bytes old new plan about_bytes fits is_included long long' aims fills reads needed plans =
+scans_sector request size sector included part filled part' bytes old new plan about_bytes fits is_included long long' aims fills reads heard needed plans =
     let shown = λ (is_open : IsOpen size old). reads.told is_open.honest is_open.idle (let s = is_open.same in omega arith) in
     let merged : IsOpen size old → (image : List ℕ) → ((i : ℕ) → i < 4096 → slice_index part i ≡ slice_index image (4096 * sector + i))
     → (i : ℕ) → i < 4096 → slice_index part' i ≡ wanted_at request image size old.chip.bytes (4096 * sector + i) =
@@ -117,6 +118,7 @@ scans_sector request size sector included part filled part' bytes old new plan a
     ∙ ap (λ (b : Bool). if b then target request.what image a else old.chip.bytes a) (sym (may_change-included request size a about_bytes (omega arith))) in
     record {
       needed = needed;
+      heard = heard;
       read = reads.read;
       shown = shown;
       merged = merged;

@@ -230,7 +230,7 @@ scanned_more request size n image image' image'' part part' bytes plan old mid n
           let more : count_below (n + 1) test ≡ count_below n test + 1 = count_below-more n test ∙ ap (λ (b : Bool). count_below n test + (if b then 1 else 0)) at.included in
           let before = was.reads in let after = marked.reads in
           omega arith;
-      looked = subst (λ (k : ℕ). HasLooked k old new) (sym marked.reads) (has_looked-more scanned.reads old mid new was.looked looks scans.read);
+      looked = subst (λ (k : ℕ). HasLooked k old new) (sym marked.reads) (has_looked-more scanned.reads old mid new was.looked looks scans.read scans.heard);
       right = λ is_open.
           let plans = scans.planned (later is_open) image of_image in
           record {
@@ -284,6 +284,7 @@ all_scanned request size n image image' old new scanned about_bytes end few was 
       marks = all.marks;
       reads = all.reads ∙ sym (ap (λ (b : Bool). if b then count_below (size / 4096) (has_in_sector (includes request.included)) else 0) about_bytes);
       few = few;
+      heard = all.looked.heard;
       rested = all.looked.rested;
       sent = all.looked.sent;
       right = all.right;
@@ -313,6 +314,7 @@ none_to_scan request size image image' old new scanned other few was =
           was.reads ∙ count_below-zero (has_in_sector (includes request.included))
           ∙ sym (ap (λ (b : Bool). if b then count_below (size / 4096) (has_in_sector (includes request.included)) else 0) other);
       few = few;
+      heard = was.looked.heard;
       rested = was.looked.rested;
       sent = was.looked.sent;
       right = λ is_open. record {

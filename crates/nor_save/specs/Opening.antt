@@ -3,6 +3,7 @@ use Rattle.std.specs.Prelude.{◌≡◌, ◌≤◌, ◌+◌, ℕ, true, Option, 
 use Rattle.nor_chip.specs.Chip.{status1_of}
 use Rattle.nor_chip.specs.Bus.{BusState}
 use Rattle.nor_driver.specs.Looks.{Rested}
+use Rattle.nor_driver.specs.Ready.{StaysReady}
 use Rattle.nor_driver.specs.Reads.{unique_of}
 use Rattle.nor_probe.specs.declared.table.ChipName.{ChipName}
 use Rattle.nor_probe.specs.declared.probes.Probed.{Probed}
@@ -22,18 +23,20 @@ status_read opening = opening.found.status1 ∷ opening.status2 ∷ []
 pub record ReadsRest (probed : Probed) (old new : BusState) (opening : Opening) : Type 0 where
   pub found : opening.found ≡ probed.found
   pub transactions : opening.transactions ≡ probed.transactions + 2
+  pub heard : StaysReady old new
   pub rested : old.honest ≡ true → Rested old new
   pub count : old.honest ≡ true → old.left ≡ new.left + 2
   pub status2 : old.honest ≡ true → opening.status2 ≡ old.chip.kept2
   pub unique : old.honest ≡ true → old.chip.busy ≡ 0 → opening.unique ≡ unique_of old.chip.config
 
--- The opening succeeded. Whatever the bus, the part is a row of the table or one by SFDP, with the name that is wanted.
--- On an honest bus: nothing changed, the chip is idle, and what was read is its own.
+-- The opening succeeded. Whatever the bus, the part is a row of the table or one by SFDP, with the name that is wanted,
+-- and the last poll showed that it is ready. On an honest bus: nothing changed, the chip is idle, and what was read is its own.
 pub record Opens (named : Option ChipName) (old new : BusState) (opening : Opening) : Type 0 where
   pub part : IsPart opening.found
   pub wanted : IsWanted named opening.found.name
   pub least : 4 ≤ opening.transactions
   pub most : opening.transactions ≤ most_opening
+  pub heard : new.heard ≡ true
   pub rested : old.honest ≡ true → Rested old new
   pub idle : old.honest ≡ true → new.chip.busy ≡ 0
   pub shown : old.honest ≡ true → shown_as old.chip.config ≡ Ok (part_in opening.found)

@@ -7,6 +7,7 @@ use Rattle.nor_journal.specs.Text.{Content, next_number}
 use Rattle.nor_journal.specs.Saved.{is_saved, BeginsText}
 use Rattle.nor_journal.specs.Vault.{VaultState, Refused, Accepted}
 use Rattle.nor_journal.specs.Writer.{HasWritten, HasPutSectors}
+use Rattle.nor_driver.specs.Ready.{StaysReady}
 use Rattle.nor_driver.specs.Reads.{HasRead, IsSectorOf}
 use Rattle.nor_plan.specs.declared.plan.SectorPlan.{SectorPlan}
 use Rattle.nor_plan.specs.SectorSet.{has}
@@ -52,6 +53,7 @@ pub record AreRight (wanted content : ℕ → ℕ) (n : ℕ) (scanned : Scanned)
 pub record ScansSector (request : Request) (size sector : ℕ) (part part' bytes : List ℕ)
     (old new : BusState) (plan : SectorPlan) : Type 0 where
   pub needed : plan.raised ≡ true → plan.touched ≡ true
+  pub heard : StaysReady old new
   pub read : old.honest ≡ true → HasRead old new
   pub shown : IsOpen size old → IsSectorOf old.chip.bytes sector bytes
   pub merged : IsOpen size old → (image : List ℕ)
@@ -69,6 +71,7 @@ pub record Scans (request : Request) (size : ℕ) (image image' : List ℕ) (old
   pub marks : AreMarks (size / 4096) scanned
   pub reads : scanned.reads ≡ scanned_sectors request size
   pub few : scanned.count ≤ scanned.reads
+  pub heard : StaysReady old new
   pub rested : old.honest ≡ true → Rested old new
   pub sent : old.honest ≡ true → old.left ≡ new.left + scanned.reads
   pub right : IsOpen size old

@@ -249,6 +249,7 @@ prepared_all journal opening scanned changes sent old mid new read are judged su
       room = read.scans.room;
       least = omega arith;
       most = omega arith;
+      heard = read.scans.heard read.opens.heard;
       rested = rested_all journal opening scanned old mid new read;
       sent = λ honest. let opened = read.opens.count honest in let scanned_left = read.scans.sent (read.looks.nature.honest ∙ honest) in omega arith;
       modelled = prepared_for journal opening scanned changes sent old mid new read are judged;

@@ -90,6 +90,7 @@ checked changes wanted verify old mid new written work inside leaves does checki
       fewer_programs = let fewer = does.fewer_programs in omega arith;
       few = let few = does.few in omega arith;
       least = let least = does.least in omega arith;
+      heard = λ ready. checking.heard (does.heard ready);
       sent = λ honest.
           let sent = does.sent honest in
           let again = checking.sent (leaves.spends.nature.honest ∙ honest) in

@@ -26,6 +26,7 @@ use Rattle.nor_save.specs.Saving.{head_of}
 use Rattle.nor_session.specs.Restore.{SavesChip, open_places, CanGiveBack}
 use Rattle.nor_session.specs.Session.{CanBeUndone}
 use Rattle.nor_session.specs.Rehearsing.{LeadsBack}
+use Rattle.nor_session.proofs.JudgedAgain.{accepted_named, accepted_free}
 
 -- the status bytes of the head tell the kept bits
 bits_told : (first : Chip) (journal : Content) → first.kept2 < 128 → SameHead (head_of first) journal → HasKeptBits journal.status first
@@ -87,13 +88,10 @@ leads_back request image old new vault is genuine telling undone = record {
   is = is;
   known = record {
     genuine = genuine;
-    shown = subst (λ (shown : Result Part ProbeFault). IsOk shown) (sym undone.accepted.named.shown) refl;
+    shown = subst (λ (shown : Result Part ProbeFault). IsOk shown) (sym (accepted_named request image old.chip undone.accepted).shown) refl;
   };
   journal = undone.journal telling;
   inside = touched_inside request image old.chip;
-  free = λ locked. elim undone.accepted.free [
-    | inl none ↦ none
-    | inr lifts ↦ absurd (true≢false (sym locked ∙ lifts.1))
-  ];
+  free = accepted_free request image old.chip undone.accepted;
   within = undone.changes.within;
 }

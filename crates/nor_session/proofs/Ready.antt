@@ -64,6 +64,7 @@ pub has_opened : (request : Request) (opening : Opening) (old mid : BusState) �
 has_opened request opening old mid looks opens = record {
   nature = looks.nature;
   same_sent = looks.sent;
+  heard = λ _. opens.heard;
   rested = opens.rested;
   sent = opens.count;
 }
@@ -76,6 +77,7 @@ ready request opening status code most image image' vault kept old mid new looks
   looked = record {
     nature = nature_then old mid new more.nature looks.nature;
     same_sent = more.sent ∙ looks.sent;
+    heard = λ _. keeps.scans.heard opens.heard;
     rested = λ honest.
         rested_then old mid new (opens.rested honest) (keeps.scans.rested (looks.nature.honest ∙ honest));
     sent = λ honest. let sent = opens.count honest in let again = keeps.scans.sent (looks.nature.honest ∙ honest) in omega arith;

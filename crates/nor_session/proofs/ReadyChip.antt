@@ -12,17 +12,19 @@ use Rattle.nor_apply.specs.Spending.{Spends}
 use Rattle.nor_save.specs.declared.opening.Opening.{Opening}
 use Rattle.nor_call.specs.declared.request.Request.{Request}
 use Rattle.nor_call.specs.declared.refusal.Refusal.{Refusal}
-use Rattle.nor_call.specs.declared.refusal.Refusal.TheVariants.{Vault, Stopped, Timeout, StatusLocked, Protected}
+use Rattle.nor_call.specs.declared.refusal.Refusal.TheVariants.{NoChip, UnknownChip, OtherName, ImageSize, RegionOutside, NoProtection, UndefinedProtection, RangeNotOffered, StatusLocked, Protected, Vault, Stopped, Timeout}
 use Rattle.nor_call.specs.Refusal.{number_of}
 use Rattle.nor_call.specs.Request.{scanned_sectors}
 use Rattle.nor_save.specs.Opening.{Opens, most_opening}
 use Rattle.nor_call.specs.Tells.{OpeningTells}
-use Rattle.nor_save.specs.Saving.{IsOpening, Shows, OpeningAccepts}
+use Rattle.nor_save.specs.Saving.{IsOpening, Shows, OpeningJudges, OpeningAccepts}
+use Rattle.nor_save.specs.Judging.{IsOpeningRefusal}
 use Rattle.nor_save.specs.SavedScan.{SavePuts, SaveTells}
 use Rattle.nor_probe.specs.Known.{IsModelled}
 use Rattle.nor_session.specs.Bounds.{most_of}
 use Rattle.nor_session.specs.Verdict.{IsNamed}
 use Rattle.nor_session.specs.Session.{SessionTells, HonestTells}
+use Rattle.nor_session.proofs.OneVerdict.{no_chip, unknown_chip, another_name, opening_judged, scan_judged}
 use Rattle.nor_session.proofs.Ready.{scanned_most, scanned_few}
 
 -- ---- the opening tells the starting chip
@@ -134,16 +136,32 @@ save_tells request image opening code old mid new vault vault' Stopped is looks 
     let below = ran.below in let count = opens.count is.honest in let few = opens.most in
     let most = scanned_most request opening.found.size in let size = (opens.genuine is).size in
     record { none_left = ran.none_left; below = omega arith }
-save_tells request image opening code old mid new vault vault' StatusLocked is looks opens accepts rose tells = record {
-  named = named request opening old mid is opens;
-  code = code;
-  opening = accepts;
-  judges = tells old.chip (is_opening request opening old mid is opens) (shows request opening old mid is looks opens);
-}
-save_tells request image opening code old mid new vault vault' (Protected address) is looks opens accepts rose tells = record {
-  named = named request opening old mid is opens;
-  code = code;
-  opening = accepts;
-  judges = tells old.chip (is_opening request opening old mid is opens) (shows request opening old mid is looks opens);
-}
+save_tells request image opening code old mid new vault vault' StatusLocked is looks opens accepts rose tells =
+    scan_judged request image old.chip code StatusLocked (named request opening old mid is opens) accepts
+    (tells old.chip (is_opening request opening old mid is opens) (shows request opening old mid is looks opens))
+save_tells request image opening code old mid new vault vault' (Protected address) is looks opens accepts rose tells =
+    scan_judged request image old.chip code (Protected address) (named request opening old mid is opens) accepts
+    (tells old.chip (is_opening request opening old mid is opens) (shows request opening old mid is looks opens))
 save_tells request image opening code old mid new vault vault' _ is looks opens accepts rose tells = absurd tells
+
+-- ---- where the opening refuses
+
+pub open_tells : (request : Request) (image : List ℕ) (old new : BusState) (vault vault' : VaultState) (refusal : Refusal) → IsModelled old
+    → OpeningTells most_opening request.named old new refusal → SessionTells request image old new vault vault' refusal
+open_tells request image old new vault vault' NoChip is tells = no_chip request image old.chip (tells is.honest).0
+open_tells request image old new vault vault' (UnknownChip fault) is tells = unknown_chip request image old.chip fault (tells is.honest).0
+open_tells request image old new vault vault' OtherName is tells = another_name request image old.chip (tells is.honest).0
+open_tells request image old new vault vault' Stopped is tells =
+    let ran = tells is.honest in let below = ran.below in record { none_left = ran.none_left; below = omega arith }
+open_tells request image old new vault vault' (Timeout address) is tells = absurd (tells.1 is.honest)
+open_tells request image old new vault vault' _ is tells = absurd tells
+
+-- and where its judgement does
+pub judge_tells : (request : Request) (image : List ℕ) (old new : BusState) (vault vault' : VaultState) (refusal : Refusal) → IsNamed request.named old.chip.config → IsOpeningRefusal refusal
+    → OpeningJudges request (length image) old.chip refusal → SessionTells request image old new vault vault' refusal
+judge_tells request image old new vault vault' (ImageSize size len) is fault judges = opening_judged request image old.chip (ImageSize size len) is judges
+judge_tells request image old new vault vault' RegionOutside is fault judges = opening_judged request image old.chip RegionOutside is judges
+judge_tells request image old new vault vault' NoProtection is fault judges = opening_judged request image old.chip NoProtection is judges
+judge_tells request image old new vault vault' UndefinedProtection is fault judges = opening_judged request image old.chip UndefinedProtection is judges
+judge_tells request image old new vault vault' RangeNotOffered is fault judges = opening_judged request image old.chip RangeNotOffered is judges
+judge_tells request image old new vault vault' _ is fault judges = absurd fault

@@ -205,15 +205,15 @@ early request image old new before after RangeNotOffered tells = (omega arith, �
 early request image old new before after StatusLocked tells = (omega arith, λ same. same (omega arith))
 early request image old new before after (Protected address) tells = (omega arith, λ same. same (omega arith))
 early request image old new before after Vault tells = (omega arith, λ same. same (omega arith))
-early request image old new before after Stopped tells = absurd tells.1
-early request image old new before after (Timeout address) tells = absurd tells.1
-early request image old new before after (Mismatch address) tells = absurd tells.1
-early request image old new before after (BadJournal fault) tells = absurd tells.1
-early request image old new before after OtherChip tells = absurd tells.1
-early request image old new before after StatusDiffers tells = absurd tells.1
-early request image old new before after Memory tells = absurd tells.1
-early request image old new before after (Output written) tells = absurd tells.1
-early request image old new before after OtherUnit tells = absurd tells.1
+early request image old new before after Stopped tells = absurd tells.holds
+early request image old new before after (Timeout address) tells = absurd tells.holds
+early request image old new before after (Mismatch address) tells = absurd tells.holds
+early request image old new before after (BadJournal fault) tells = absurd tells.holds
+early request image old new before after OtherChip tells = absurd tells.holds
+early request image old new before after StatusDiffers tells = absurd tells.holds
+early request image old new before after Memory tells = absurd tells.holds
+early request image old new before after (Output written) tells = absurd tells.holds
+early request image old new before after OtherUnit tells = absurd tells.holds
 
 -- it was refused, and not by a stop, unless as many transactions were allowed as any call needs
 pub session_refuses : (n few : ℕ) (request : Request) (image : List ℕ) (old mid new : BusState) (before after : VaultState) (refusal : Refusal) → Allows n old mid → AnswersSession before after refusal → NamesAddress after refusal

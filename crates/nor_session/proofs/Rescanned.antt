@@ -150,7 +150,7 @@ rescanned_more journal i s saved bytes old mid new plan scanned next is at whole
           (marks_more s plan scanned next (omega arith) plans.needed (later_marks (least_after 0 (take i journal.saved)) s scanned next_least.0 was.marks) marked);
       reads = marked.reads ∙ ap (λ (n : ℕ). n + 1) was.reads;
       few = let one = at_most_one plan.touched in let count = marked.count in let few = was.few in omega arith;
-      looked = has_looked-more i old mid new was.looked looks plans.read.read;
+      looked = has_looked-more i old mid new was.looked looks plans.read.read plans.heard;
       saved = λ t hit.
           more_before journal i s saved t is at
           ∙ elim (or_cases (plan.touched && (t == s)) (has scanned.touched t) (sym (marked.touched t) ∙ hit)) [
@@ -211,6 +211,7 @@ all_rescanned journal n old new scanned is end was =
       reads = was.reads ∙ end;
       few = let reads = was.reads in let count = was.few in omega arith;
       room = omega arith;
+      heard = was.looked.heard;
       rested = was.looked.rested;
       sent = λ honest. let sent = was.looked.sent honest in omega arith;
       touched = λ is_open s.

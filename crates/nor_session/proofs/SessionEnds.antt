@@ -18,7 +18,7 @@ use Rattle.nor_count.specs.Counts.{sector_count}
 use Rattle.nor_plan.specs.Content.{is_other, is_touched, is_raised, is_page_other, is_programmed, once_erased}
 use Rattle.nor_apply.specs.Within.{IsWithin, places_of}
 use Rattle.nor_apply.specs.Change.{MayChange}
-use Rattle.nor_apply.specs.Applying.{HasApplied, writes_code}
+use Rattle.nor_apply.specs.Applying.{HasApplied}
 use Rattle.nor_apply.proofs.Changing.{within_then, same_within}
 use Rattle.nor_count.proofs.Counting.{any_below-false, any_below-same, count_below-same}
 use Rattle.nor_apply.proofs.Kept.{fixed_then, kept_fixed}
@@ -38,7 +38,7 @@ use Rattle.nor_session.proofs.Changed.{no_write, fewest_at}
 use Rattle.nor_session.proofs.Ready.{Ready, changes_of, bounded_by}
 use Rattle.nor_session.proofs.ReadyChip.{is_opening, told_idle, shows, named}
 use Rattle.nor_session.proofs.SessionChanges.{ReadyChip, can_apply, needs}
-use Rattle.nor_session.proofs.OneVerdict.{free_or_lifts, locked_code}
+use Rattle.nor_session.proofs.OneVerdict.{scan_accepted}
 
 pub ready_chip : (request : Request) (image image' : List ℕ) (opening : Opening) (status : Status) (code : ℕ) (kept : SavedScan) (old mid new : BusState) (vault : VaultState) → IsModelled old
     → Looks most_opening old mid → Opens request.named old mid opening → Ready request opening status code kept old new
@@ -99,14 +99,7 @@ can_be_undone request image image' opening status code kept old mid ready new va
     let opened = is_opening request opening old mid modelled opens in
     let chip = keeps.chip old.chip opened (shows request opening old mid modelled looks opens) in
     record {
-      accepted = record {
-        named = named request opening old mid modelled opens;
-        code = code;
-        opening = of.accepts;
-        free = free_or_lifts request code (is_touched_by request image old.chip) old.chip kept.unlock of.scan
-            (λ lifted. needs request image image' opening status code kept old ready is of (ap (λ (b : Bool). b || writes_code (changes_of opening kept status code)) lifted));
-        same_code = locked_code request.what request.unlock code (is_touched_by request image old.chip) old.chip of.accepts.is_wanted of.scan.not_locked;
-      };
+      accepted = scan_accepted request image old.chip code kept.unlock (named request opening old mid modelled opens) of.accepts of.scan;
       journal = chip.journal;
       changes = may_change_wanted request image image' opening status code kept old ready new is of
           (leaves.reached (is.looked.nature.honest ∙ modelled.honest) (can_apply request image image' opening status code kept old ready is of));

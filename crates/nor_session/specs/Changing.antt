@@ -1,6 +1,7 @@
 -- What the changes of a session or restore leave, with the check of what they came to.
 use Rattle.std.specs.Prelude.{◌≡◌, ◌≤◌, ◌+◌, ◌*◌, ◌/◌, ◌⊎◌, ℕ, Bool, true, if◌then◌else◌, ⊤}
 use Rattle.nor_chip.specs.Bus.{BusState}
+use Rattle.nor_driver.specs.Ready.{StaysReady}
 use Rattle.nor_driver.specs.Looks.{Rested, RanOut, RanOutIfHonest}
 use Rattle.nor_driver.specs.Operations.{AimsWithin, most_operation}
 use Rattle.nor_count.specs.Below.{count_below}
@@ -38,6 +39,7 @@ pub record DoesCheck (changes : Changes) (wanted : ℕ → ℕ) (verify : Bool) 
   pub programs : work.programs ≡ written.programs
   pub transactions : work.transactions ≡ written.transactions + read_back changes verify
   pub still : new.sent ≡ old.sent
+  pub heard : StaysReady old new
   pub sent : old.honest ≡ true → old.left ≡ new.left + read_back changes verify
   pub rested : old.honest ≡ true → Rested old new
   pub same : verify ≡ true → old.honest ≡ true → CanCheck (touched_in changes) old.chip
@@ -71,6 +73,7 @@ pub record DoesChange (changes : Changes) (wanted : ℕ → ℕ) (verify : Bool)
       ≤ touched_count changes + read_back changes verify
       + most_operation * (work.erases + work.programs + status_writes changes)
   pub least : 3 * (work.erases + work.programs + status_writes changes) + read_back changes verify ≤ work.transactions
+  pub heard : StaysReady old new
   pub sent : old.honest ≡ true → old.left ≡ new.left + work.transactions
   pub still : touched_count changes + status_writes changes ≡ 0 → new.sent ≡ old.sent
   pub done : old.honest ≡ true → CanApply changes wanted old.chip → HasApplied changes wanted old new

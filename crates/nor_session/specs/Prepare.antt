@@ -4,6 +4,7 @@ use Rattle.nor_chip.specs.Code.{code_in}
 use Rattle.nor_chip.specs.Chip.{Chip, IsSame, is_locked, status1_of}
 use Rattle.nor_chip.specs.Bus.{BusState}
 use Rattle.nor_driver.specs.Looks.{Rested, RanOutIfHonest, IsOpen}
+use Rattle.nor_driver.specs.Ready.{StaysReady}
 use Rattle.nor_driver.specs.Reads.{ReadsSector}
 use Rattle.nor_journal.specs.Text.{Content}
 use Rattle.nor_journal.specs.Saved.{is_saved, saved_byte}
@@ -78,6 +79,7 @@ pub record PlansSaved (sector : ℕ) (saved bytes : List ℕ) (old new : BusStat
   pub small : (k : ℕ) → slice_index saved k < 256
   pub read : ReadsSector sector old new bytes
   pub whole : length bytes ≡ 4096
+  pub heard : StaysReady old new
   pub needed : plan.raised ≡ true → plan.touched ≡ true
   pub planned : (content wanted : ℕ → ℕ) → AreBytesOf content bytes → AreBytesOf wanted saved
       → IsPlan content wanted 4096 plan
@@ -91,6 +93,7 @@ pub record ScansSaved (journal : Content) (old new : BusState) (scanned : Scanne
   pub reads : scanned.reads ≡ length journal.saved
   pub few : scanned.count ≤ scanned.reads
   pub room : length journal.saved ≤ 4096
+  pub heard : StaysReady old new
   pub rested : old.honest ≡ true → Rested old new
   pub sent : old.honest ≡ true → old.left ≡ new.left + length journal.saved
   pub touched : IsOpen journal.size old → (s : ℕ) → has scanned.touched s ≡ is_touched_from journal old.chip s
@@ -161,6 +164,7 @@ pub record IsPrepared (journal : Content) (old new : BusState) (prepared : Prepa
   pub room : length journal.saved ≤ 4096
   pub least : 4 + length journal.saved ≤ prepared.transactions
   pub most : prepared.transactions ≤ most_looked (length journal.saved)
+  pub heard : new.heard ≡ true
   pub rested : old.honest ≡ true → Rested old new
   pub sent : old.honest ≡ true → old.left ≡ new.left + prepared.transactions
   pub modelled : IsModelled old → IsPreparedFor journal old.chip new.chip prepared

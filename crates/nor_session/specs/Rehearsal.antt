@@ -101,6 +101,8 @@ pub record RehearsalAlways (stops : List ℕ) (old new : BusState) (vault vault'
   pub answers : IfErr result (IsRehearsalRefusal vault vault')
   -- and names an address that session or restore was at
   pub names : IfErr result (NamesAddress vault')
+  -- where it restored it ends only where the last poll showed that the chip is ready
+  pub heard : IfOk result (λ rehearsal. rehearsal.sealed ≡ true → new.heard ≡ true)
 
 -- On an honest bus whose chip is what it shows itself to be.
 pub record RehearsalModelled (request : Request) (image stops : List ℕ) (old new : BusState) (vault vault' : VaultState)

@@ -160,6 +160,8 @@ pub record RestoreAlways (journal : Content) (old new : BusState) (result : Resu
   pub looks : IfErr result (λ refusal. IsJudgedFirst refusal → Looks (most_looked 4096) old new)
   -- at the end the report is within its bound
   pub bounded : IfOk result (IsWithinBound (length journal.saved) 2 true)
+  -- a report comes only where the last poll showed that the chip is ready
+  pub heard : OnOk result (new.heard ≡ true)
 
 -- On an honest bus.
 pub record RestoreHonest (journal : Content) (old new : BusState) (result : Result Report Refusal) : Type 0 where

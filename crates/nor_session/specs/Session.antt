@@ -1,5 +1,5 @@
 -- What a session promises.
-use Rattle.std.specs.Prelude.{◌≡◌, ◌≢◌, ◌≤◌, ◌<◌, ◌+◌, ◌*◌, ◌/◌, ◌⊎◌, ℕ, Bool, true, false, List, [], Result, IfOk, IfErr, OnErr, if◌then◌else◌, ⊤}
+use Rattle.std.specs.Prelude.{◌≡◌, ◌≢◌, ◌≤◌, ◌<◌, ◌+◌, ◌*◌, ◌/◌, ◌⊎◌, ℕ, Bool, true, false, List, [], Result, IfOk, IfErr, OnOk, OnErr, if◌then◌else◌, ⊤}
 use Rattle.nor_chip.specs.Chip.{Chip, IsSame}
 use Rattle.nor_chip.specs.Sent.{is_aimed_at, status_writes_of}
 use Rattle.nor_chip.specs.Bus.{BusState}
@@ -166,6 +166,8 @@ pub record SessionAlways (request : Request) (old new : BusState) (vault vault' 
   pub names : IfErr result (NamesAddress vault')
   -- at the end the vault is sealed, and the report within its bound
   pub ends : IfOk result (EndsSealed request vault')
+  -- a report comes only where the last poll showed that the chip is ready
+  pub heard : OnOk result (new.heard ≡ true)
 
 -- On an honest bus.
 pub record SessionHonest (old new : BusState) (result : Result Report Refusal) : Type 0 where

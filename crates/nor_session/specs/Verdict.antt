@@ -1,43 +1,49 @@
--- The verdict on a request: the first of the refusals from 1 to 10 that holds of a chip, or that it is accepted.
-use Rattle.std.specs.Prelude.{◌≡◌, ◌⊎◌, ℕ, true, false, List, length, Err}
+-- The verdict on a request: of the refusals from 1 to 10 that hold of a chip the one with the least number, or that it
+-- is accepted.
+use Rattle.std.specs.Prelude.{◌≡◌, ◌≢◌, ◌<◌, ◌*◌, ℕ, true, false, List, length, Err}
 use Rattle.nor_chip.specs.Chip.{Chip, is_locked}
-use Rattle.nor_chip.specs.Guard.{code_of}
+use Rattle.nor_chip.specs.Guard.{code_of, is_undefined}
+use Rattle.nor_layout.specs.Sectors.{ReachesPast}
 use Rattle.nor_probe.specs.declared.probes.ProbeFault.TheVariants as Probes
 use Rattle.nor_probe.specs.Known.{shown_as}
 pub use Rattle.nor_probe.specs.Found.{IsNamed}
 use Rattle.nor_probe.specs.Found.{HasOtherName}
 use Rattle.nor_call.specs.declared.request.Request.{Request}
 use Rattle.nor_call.specs.declared.refusal.Refusal.{Refusal}
-use Rattle.nor_call.specs.declared.refusal.Refusal.TheVariants.{NoChip, UnknownChip, OtherName, StatusLocked, Protected}
+use Rattle.nor_call.specs.declared.refusal.Refusal.TheVariants.{NoChip, UnknownChip, OtherName, ImageSize, RegionOutside, NoProtection, UndefinedProtection, RangeNotOffered, StatusLocked, Protected}
+use Rattle.nor_call.specs.Refusal.{number_of}
+use Rattle.nor_call.specs.Request.{is_data, IsWantedCode}
 use Rattle.nor_save.specs.Touched.{is_touched_by}
-use Rattle.nor_save.specs.Saving.{OpeningAccepts, OpeningJudges, NoneHeld, ScanJudges}
+use Rattle.nor_save.specs.Saving.{AsksForNone, NeedsStatus, IsLeastHeld}
 
--- The opening refuses nothing, and the touched sectors are refused for this.
-pub record IsScanVerdict (request : Request) (image : List ℕ) (chip : Chip) (refusal : Refusal) : Type 0 where
-  pub named : IsNamed request.named chip.config
-  pub code : ℕ
-  pub opening : OpeningAccepts request (length image) chip code
-  pub judges : ScanJudges request code (is_touched_by request image chip) chip refusal
+-- the request needs a status write on the chip
+abbrev pub NeedsStatusWrite : Request → (image : List ℕ) → Chip → Type 0
+NeedsStatusWrite request image chip = (code : ℕ) × IsWantedCode request.what chip code
+    × NeedsStatus request.what request.unlock code (is_touched_by request image chip) chip
 
--- The refusal is the verdict: that of the probe, of the scan, or of the opening, which judges no other one.
-abbrev pub IsVerdict : Request → (image : List ℕ) → Chip → Refusal → Type 0
-IsVerdict request image chip NoChip = shown_as chip.config ≡ Err Probes.NoChip
-IsVerdict request image chip (UnknownChip fault) = shown_as chip.config ≡ Err (Probes.UnknownChip fault)
-IsVerdict request image chip OtherName = HasOtherName request.named chip.config
-IsVerdict request image chip StatusLocked = IsScanVerdict request image chip StatusLocked
-IsVerdict request image chip (Protected address) = IsScanVerdict request image chip (Protected address)
-IsVerdict request image chip refusal =
-    IsNamed request.named chip.config × OpeningJudges request (length image) chip refusal
+-- A refusal holds of a request and a chip, whatever others do.
+abbrev pub RefusalHolds : Request → (image : List ℕ) → Chip → Refusal → Type 0
+RefusalHolds request image chip NoChip = shown_as chip.config ≡ Err Probes.NoChip
+RefusalHolds request image chip (UnknownChip fault) = shown_as chip.config ≡ Err (Probes.UnknownChip fault)
+RefusalHolds request image chip OtherName = HasOtherName request.named chip.config
+RefusalHolds request image chip (ImageSize size len) =
+    (is_data request.what ≡ true) × (size ≡ chip.config.size) × (len ≡ length image) × (len ≢ size)
+RefusalHolds request image chip RegionOutside =
+    (is_data request.what ≡ true) × ReachesPast request.included chip.config.size
+RefusalHolds request image chip NoProtection = (is_data request.what ≡ false) × (chip.config.scheme ≡ false)
+RefusalHolds request image chip UndefinedProtection =
+    (chip.config.scheme ≡ true) × (is_undefined (code_of chip) ≡ true)
+RefusalHolds request image chip RangeNotOffered = AsksForNone request.what chip
+RefusalHolds request image chip StatusLocked = (is_locked chip ≡ true) × NeedsStatusWrite request image chip
+RefusalHolds request image chip (Protected address) = (request.unlock ≡ false)
+    × (sector : ℕ) × (address ≡ 4096 * sector) × IsLeastHeld (is_touched_by request image chip) chip sector
+RefusalHolds request image chip _ = ⊥
 
--- protection may be lifted: the request says so, and no SRP bit is set
-abbrev pub MayLift : Request → Chip → Type 0
-MayLift request chip = (request.unlock ≡ true) × (is_locked chip ≡ false)
+-- The refusal is the verdict: it holds, and none with a lower number does.
+pub record IsVerdict (request : Request) (image : List ℕ) (chip : Chip) (refusal : Refusal) : Type 0 where
+  pub holds : RefusalHolds request image chip refusal
+  pub first : (other : Refusal) → number_of other < number_of refusal → ¬ RefusalHolds request image chip other
 
--- The verdict is "accepted": the opening refuses nothing, no touched sector is guarded or protection may be lifted, and
--- where an SRP bit is set the code is to stay as it is.
-pub record IsAccepted (request : Request) (image : List ℕ) (chip : Chip) : Type 0 where
-  pub named : IsNamed request.named chip.config
-  pub code : ℕ
-  pub opening : OpeningAccepts request (length image) chip code
-  pub free : NoneHeld (is_touched_by request image chip) chip ⊎ MayLift request chip
-  pub same_code : is_locked chip ≡ true → code ≡ code_of chip
+-- the verdict is "accepted": no refusal holds
+abbrev pub IsAccepted : Request → (image : List ℕ) → Chip → Type 0
+IsAccepted request image chip = (refusal : Refusal) → ¬ RefusalHolds request image chip refusal

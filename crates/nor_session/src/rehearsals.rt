@@ -1,5 +1,5 @@
 //! A rehearsal: a session that is stopped on purpose, and the restores from its journal.
-ghost use Rattle.std.specs.Prelude.{◌≡◌, ◌≤◌, true, length, drop, IfOk, IfErr};
+ghost use Rattle.std.specs.Prelude.{◌≡◌, ◌≤◌, true, length, drop, IfOk, IfErr, OnOk};
 ghost use Rattle.nor_chip.specs.Bus.{KeepsNature};
 ghost use Rattle.nor_journal.specs.Vault.{IsFresh};
 ghost use Rattle.nor_journal.specs.MemVault.{held_by};
@@ -127,6 +127,7 @@ fn undo<B: Meter>(bus: &mut B, text: &[u8], stops: &[u64]) -> Result<u32, Refusa
     ensures nature { KeepsNature (B.state bus.old) (B.state bus.new) }
     ensures wears { WearsSaved text.now (B.state bus.old) (B.state bus.new) }
     ensures undoes { IfOk result (Undoes text.now stops.now (B.state bus.old) (B.state bus.new)) }
+    ensures heard { OnOk result ((B.state bus.new).heard ≡ true) }
     ensures refuses { IfErr result (RefusesUndo text.now (B.state bus.old)) }
 {
     match Journal::read(text) {
@@ -144,6 +145,7 @@ fn restore_in_turn<B: Meter>(
     requires few { length stops.now ≤ 64 }
     ensures leaves { LeavesRestores journal.now (B.state bus.old) (B.state bus.new) }
     ensures shows { IfOk result (ShowsRestores journal.now stops.now (B.state bus.old) (B.state bus.new)) }
+    ensures heard { OnOk result ((B.state bus.new).heard ≡ true) }
     ensures refuses { IfErr result (StopsRestores journal.now (B.state bus.old)) }
 {
     let mut restores = 0;
@@ -163,6 +165,7 @@ fn restore_in_turn<B: Meter>(
 fn ends_under<B: Meter>(bus: &mut B, journal: &Journal<'_>, allowance: u64) -> Result<bool, Refusal>
     ensures leaves { LeavesRestores journal.now (B.state bus.old) (B.state bus.new) }
     ensures shows { IfOk result (ShowsRestore journal.now allowance (B.state bus.old) (B.state bus.new)) }
+    ensures heard { IfOk result (λ ended. ended ≡ true → (B.state bus.new).heard ≡ true) }
     ensures refuses { IfErr result (StopsRestores journal.now (B.state bus.old)) }
 {
     bus.allow(allowance);

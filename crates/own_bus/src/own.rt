@@ -2,7 +2,7 @@
 ghost use Rattle.std.proofs.lemmas.Bool.{false≢true};
 ghost use Rattle.nor_chip.specs.Bus.{unknown_bus};
 
-use nor_chip::{Bus, Sent, Stopped};
+use nor_chip::{Bus, Sent, Stopped, heard_after};
 
 /// The wires to a chip. This is what you write for hardware of your own.
 pub trait Wires {
@@ -23,6 +23,7 @@ pub struct OwnBus<W: Wires + Drop> {
     pub wires: W,
     pub cause: Option<W::Cause>,
     sent: Sent,
+    heard: bool,
 }
 
 impl<W: Wires + Drop> OwnBus<W> {
@@ -31,19 +32,23 @@ impl<W: Wires + Drop> OwnBus<W> {
             wires,
             cause: None,
             sent: Sent::new(),
+            heard: false,
         }
     }
 }
 
 impl<W: Wires + Drop> Bus for OwnBus<W> {
-    ghost state = { λ own. unknown_bus own.sent };
+    ghost state = { λ own. unknown_bus own.sent own.heard };
 
     ghost reaches = { λ own honest. absurd (false≢true honest) };
 
     fn transfer(&mut self, out: &[u8], reply: &mut [u8]) -> Result<(), Stopped> {
         self.sent.note(out);
         match carry(&mut self.wires, out, reply) {
-            Ok(()) => Ok(()),
+            Ok(()) => {
+                self.heard = heard_after(out, reply, self.heard);
+                Ok(())
+            }
             Err(cause) => {
                 self.cause = Some(cause);
                 Err(Stopped)

@@ -1,6 +1,11 @@
+use Rattle.std.proofs.Common.{◌∙◌}
 use Rattle.flashnor.proofs.Ready.{opens_held}
 use Rattle.flashnor.proofs.chips.start.Goals as goal
 
-pub returns-clause-opens : goal.returns-clause-opens
-returns-clause-opens c = opens_held c.args.programmer.now c.args.content _ _ _ _ c.hold-bus.ensures.held c.lose.ensures.state
-    c.unwrap_or.ensures c.allow.ensures.allows
+pub returns : goal.returns
+returns c = record {
+  opens = opens_held c.args.programmer.now c.args.content _ _ _ _ c.hold-bus.ensures.held c.lose.ensures.state
+      c.unwrap_or.ensures c.allow.ensures.allows;
+  pace = c.allow.ensures.pace ∙ c.lose.ensures.pace ∙ c.hold-bus.ensures.pace;
+  fill = c.allow.ensures.fill ∙ c.lose.ensures.fill;
+}

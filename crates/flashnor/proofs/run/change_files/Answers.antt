@@ -50,9 +50,9 @@ returns-clause-ok g c =
       nature = c.write_back.ensures.nature ∙ called.nature ∙ held.nature;
       content = c.in_ok-held.held.content;
       read = held.ok;
-      old = _;
+      bus = c.start-bus.result;
+      started = c.start-bus.ensures;
       new = _;
-      opened = opens;
       does = (
         d.0,
         view_before job.programmer.trace s0 s1 d.0 held.nature held.stay d.1,

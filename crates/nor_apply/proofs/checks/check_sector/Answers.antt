@@ -1,4 +1,4 @@
-use Rattle.std.proofs.Common.{arith}
+use Rattle.std.proofs.Common.{◌∙◌, arith}
 use Rattle.std.proofs.lemmas.Result.{err_from_is_err_and}
 use Rattle.nor_apply.proofs.CheckingSteps.{agrees, differs, stops}
 use Rattle.nor_apply.proofs.Naming.{differs_at}
@@ -11,7 +11,7 @@ returns-in_err-read_sector-clause-tells g c =
 
 pub returns-in-None-clause-does : goal.returns-in-None-clause-does
 returns-in-None-clause-does g c =
-    agrees c.args.sector c.args.wanted.now c.read_sector.new.bytes _ _ c.requires.reachable (omega (arith, c.read_sector.auto.bytes)) c.in_ok-read_sector.ensures.does c.in-None.ensures.none
+    agrees c.args.sector c.args.wanted.now c.read_sector.new.bytes _ _ c.requires.reachable (omega (arith, c.read_sector.auto.bytes)) c.in_ok-read_sector.ensures.does (λ ready. c.read_sector.ensures.heard ∙ ready) c.in-None.ensures.none
 
 pub returns-in-Some-clause-tells : goal.returns-in-Some-clause-tells
 returns-in-Some-clause-tells g c =

@@ -53,7 +53,7 @@ returns g c =
     let bytes = bytes_of c.of-status.result in let range = c.guarded_range.result in let locked = c.is_locked.result in
     let scheme : probed.found.scheme ≡ true = search rules in
     record {
-      always = told_always c.args.named old mid new probed found looks after status2 reads bytes range locked;
+      always = told_always c.args.named old mid new probed found looks after status2 reads bytes range locked c.read_status2.ensures.heard;
       honest = told_honest c.args.named old mid new probed found looks after status2 reads bytes range locked;
       modelled = told_modelled c.args.named old mid new probed found looks after status2 reads bytes range locked scheme
           c.of-status.ensures c.guarded_range.ensures c.is_locked.ensures;

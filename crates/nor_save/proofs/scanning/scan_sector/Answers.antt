@@ -18,4 +18,4 @@ returns-clause-scans g c =
     ] in
     scans_sector c.args.request.now c.args.size c.args.sector (option_copied c.as_ref.result) c.args.part.now c.match-request.part c.fill_excluded.new.bytes c.read_sector.new.bytes
     (g.B.Bus.state c.args.bus.now) (g.B.Bus.state c.read_sector.new.bus) c.of.result
-    c.requires.«data» c.requires.inside c.as_ref.ensures.value (omega arith) (omega arith) aims c.fill_excluded.ensures.bytes c.in_ok-read_sector.ensures.does c.of.ensures.needed c.of.ensures.anywhere
+    c.requires.«data» c.requires.inside c.as_ref.ensures.value (omega arith) (omega arith) aims c.fill_excluded.ensures.bytes c.in_ok-read_sector.ensures.does (λ ready. c.read_sector.ensures.heard ∙ ready) c.of.ensures.needed c.of.ensures.anywhere

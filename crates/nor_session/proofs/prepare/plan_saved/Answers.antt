@@ -1,4 +1,4 @@
-use Rattle.std.proofs.Common.{◌≡◌, ℕ, length, subst, arith}
+use Rattle.std.proofs.Common.{◌≡◌, ◌∙◌, ℕ, length, subst, arith}
 use Rattle.nor_plan.specs.Plan.{IsPlan}
 use Rattle.nor_session.proofs.prepare.plan_saved.Goals as goal
 
@@ -9,6 +9,7 @@ returns-clause-plans g c =
       small = λ k. omega (arith, c.type_inv.saved k);
       read = c.in_ok-read_sector.ensures.does;
       whole = long;
+      heard = λ ready. c.read_sector.ensures.heard ∙ ready;
       needed = c.of.ensures.needed;
       planned = λ content wanted shown aims. subst (λ (n : ℕ). IsPlan content wanted n c.of.result) long (c.of.ensures.anywhere content wanted shown aims);
     }

@@ -22,6 +22,7 @@ returns-in_err-restores-clause-always g c =
           (refused_undo c.bytes.result.now before after mid refusal c.bytes.ensures refl sealed leaves.holds refuses);
       names = err_same c.from_residual-in_err-restores.result refusal (NamesAddress after) c.from_residual-in_err-restores.ensures.1
           (undo_names c.bytes.result.now after mid refusal c.bytes.ensures sealed refuses);
+      heard = search rules;
     }
 
 pub returns-in_err-restores-clause-honest : goal.returns-in_err-restores-clause-honest

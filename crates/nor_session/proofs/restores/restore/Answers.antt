@@ -32,6 +32,7 @@ returns-in_err-prepared-clause-always g c =
           let looks = looks_most most (most_looked 4096) old new (omega arith) c.prepare.ensures.leaves in
           search rules;
       bounded = search rules;
+      heard = search rules;
     }
 
 pub returns-in_err-prepared-clause-honest : goal.returns-in_err-prepared-clause-honest
@@ -84,6 +85,7 @@ returns-in_err-work-clause-always g c =
           let told = change_not_judged prepared.changes _ mid new refusal c.in_err-work.ensures.tells in
           search rules;
       bounded = search rules;
+      heard = search rules;
     }
 
 pub returns-in_err-work-clause-honest : goal.returns-in_err-work-clause-honest
@@ -144,6 +146,7 @@ returns-clause-always g c =
       names = search rules;
       looks = search rules;
       bounded = restored_bounded journal prepared old mid new work (prepared.transactions + work.transactions) are c.in_ok-work.ensures.does (omega arith);
+      heard = c.in_ok-work.ensures.does.heard are.is.heard;
     }
 
 pub returns-clause-honest : goal.returns-clause-honest

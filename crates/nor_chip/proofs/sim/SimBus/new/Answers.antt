@@ -19,4 +19,5 @@ returns-clause-starts c = record {
   sent = c.new-sent.ensures;
   worn = λ s. get_or-replicate_all 4096 s false;
   steady = grind (arith, common_steps);
+  heard = grind (arith, common_steps);
 }

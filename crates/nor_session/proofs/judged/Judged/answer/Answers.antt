@@ -57,6 +57,7 @@ returns-in_err-saved g c = λ first looks opens.
           late = λ sealed. absurd (true≢false (sym sealed ∙ unsealed));
         });
         ends = search rules;
+        heard = search rules;
       };
       honest = λ honest.
           let tells = save_gives_up request image opening code _ first mid new refusal honest looks opens c.save.ensures.leaves c.in_err-saved.ensures.tells in
@@ -108,6 +109,7 @@ returns-in_err-work g c = λ first looks opens.
         names = err_same c.from_residual-in_err-work.result refusal (NamesAddress vault') c.from_residual-in_err-work.ensures.1
             (work_names (changes_of opening saved c.status.result code) vault' refusal (search rules) c.in_ok-saved.ensures.saves c.in_err-work.ensures.names);
         ends = search rules;
+        heard = search rules;
       };
       honest = λ honest.
           let tells = change_gives_up request opening c.status.result code saved _ first mid new refusal honest is c.in_err-work.ensures.tells in
@@ -156,6 +158,7 @@ returns g c = λ first looks opens.
           sealed = search rules;
           bounded = bounded request opening c.status.result code saved first mid new _ request.verify work c.from.result c.from.ensures is c.in_ok-work.ensures.does;
         };
+        heard = c.in_ok-work.ensures.does.heard (c.in_ok-saved.ensures.keeps.scans.heard opens.heard);
       };
       honest = λ honest. record { gives_up = search rules; counted = search rules };
       modelled = λ modelled.
