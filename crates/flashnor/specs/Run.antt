@@ -124,9 +124,8 @@ abbrev pub DoesTraced : (files after : FilesState) → ChipJob → (old new : Bu
 DoesTraced files after job old new outcome = (amid : View) × IsViewBut job.programmer.trace files.view amid
     × DoesJob amid after job.programmer job.named job.task old new outcome
 
--- The job's call was made, each file of which has one role: on a bus to the programmer's chip that was started as the
--- programmer says, with the chip as its files tell it, into which it was put back; and a trace that lost a line is the
--- programmer's.
+-- The job's call was made, each file of which has one role: in the state of a bus that is started as the programmer
+-- says, to the chip as its files tell it, into which it was put back; and a trace that lost a line is the programmer's.
 pub record IsCalled (files after : FilesState) (job : ChipJob) (unwritten : Unwritten)
     (outcome : Result Answer Refusal) : Type 0 where
   pub roles : HaveOneRole job

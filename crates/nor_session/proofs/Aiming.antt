@@ -21,7 +21,8 @@ use Rattle.nor_save.specs.SavedScan.{SavePuts, IsJournal, IsJournalOf}
 use Rattle.nor_probe.specs.Known.{IsModelled}
 use Rattle.nor_session.specs.declared.prepare.Prepared.{Prepared}
 use Rattle.nor_session.specs.Changing.{LeavesChange}
-use Rattle.nor_session.specs.Session.{most_status_writes, AimsAtSaved, WritesStatusAtMost, NeedsNoStatus}
+use Rattle.nor_session.specs.Session.{most_status_writes, AimsAtSaved, WritesStatusAtMost}
+use Rattle.nor_session.specs.Verdict.{NeedsStatusWrite}
 use Rattle.nor_session.specs.Restore.{is_touched_from, NeedsStatusFrom}
 use Rattle.nor_session.proofs.Changed.{two_writes, no_write}
 use Rattle.nor_session.proofs.Ready.{Ready, changes_of, writes_few}
@@ -51,10 +52,10 @@ ready_writes request opening status code kept old mid new wanted is leaves =
     omega (arith, same, few, most)
 
 pub ready_unwritten : (request : Request) (image image' : List ℕ) (opening : Opening) (status : Status) (code : ℕ) (kept : SavedScan) (old mid new : BusState) (wanted : ℕ → ℕ)
-    → Ready request opening status code kept old mid → ReadyChip request image image' opening code kept old mid → NeedsNoStatus request image old.chip
+    → Ready request opening status code kept old mid → ReadyChip request image image' opening code kept old mid → ¬ NeedsStatusWrite request image old.chip
     → LeavesChange (changes_of opening kept status code) wanted mid new → WritesStatusAtMost 0 old new
 ready_unwritten request image image' opening status code kept old mid new wanted is of none leaves =
-    let never = no_write (changes_of opening kept status code) (λ writes. none code of.accepts.is_wanted (needs request image image' opening status code kept old mid is of writes)) in
+    let never = no_write (changes_of opening kept status code) (λ writes. none (code, of.accepts.is_wanted, needs request image image' opening status code kept old mid is of writes)) in
     let same = ap status_writes_of is.looked.same_sent in
     let most = leaves.aims.writes in
     omega (arith, same, never, most)

@@ -33,7 +33,8 @@ use Rattle.nor_save.specs.SavedScan.{HasSaved}
 use Rattle.nor_save.proofs.Planned.{wanted-kept}
 use Rattle.nor_probe.specs.Known.{IsModelled}
 use Rattle.nor_session.specs.Changing.{LeavesChange, DoesChange}
-use Rattle.nor_session.specs.Session.{IsWithinBound, IsDone, NeedsNoStatus, CanBeUndone}
+use Rattle.nor_session.specs.Session.{IsWithinBound, IsDone, CanBeUndone}
+use Rattle.nor_session.specs.Verdict.{NeedsStatusWrite}
 use Rattle.nor_session.proofs.Changed.{no_write, fewest_at}
 use Rattle.nor_session.proofs.Ready.{Ready, changes_of, bounded_by}
 use Rattle.nor_session.proofs.ReadyChip.{is_opening, told_idle, shows, named}
@@ -219,18 +220,18 @@ done request image image' opening status code kept old mid new verify work sent 
       is_wanted = of.accepts.is_wanted;
       has_code = applied.has_code;
       still = λ none never.
-          let writes = no_write (changes_of opening kept status code) (λ needed. never code of.accepts.is_wanted (needs request image image' opening status code kept old mid is of needed)) in
+          let writes = no_write (changes_of opening kept status code) (λ needed. never (code, of.accepts.is_wanted, needs request image image' opening status code kept old mid is of needed)) in
           let count = is.marks.count in
           does.still (omega arith) ∙ is.looked.same_sent;
     }
 
 -- where the request needs no status write, there is none
 pub spared : (request : Request) (image image' : List ℕ) (opening : Opening) (status : Status) (code : ℕ) (kept : SavedScan) (old mid new : BusState) (wanted : ℕ → ℕ) (verify : Bool) (work : Work) (sent : ℕ)
-    → sent ≡ kept.scanned.reads → Ready request opening status code kept old mid → ReadyChip request image image' opening code kept old mid → NeedsNoStatus request image old.chip
+    → sent ≡ kept.scanned.reads → Ready request opening status code kept old mid → ReadyChip request image image' opening code kept old mid → ¬ NeedsStatusWrite request image old.chip
     → DoesChange (changes_of opening kept status code) wanted verify mid new work
     → IsWithinBound (scanned_sectors request old.chip.config.size) 0 verify
     (record { found = opening.found; touched = kept.scanned.count; erases = work.erases; programs = work.programs; transactions = opening.transactions + sent + work.transactions })
 spared request image image' opening status code kept old mid new wanted verify work sent is_sent is of none does =
-    let never = no_write (changes_of opening kept status code) (λ writes. none code of.accepts.is_wanted (needs request image image' opening status code kept old mid is of writes)) in
+    let never = no_write (changes_of opening kept status code) (λ writes. none (code, of.accepts.is_wanted, needs request image image' opening status code kept old mid is of writes)) in
     subst (λ (n : ℕ). IsWithinBound (scanned_sectors request n) 0 verify (record { found = opening.found; touched = kept.scanned.count; erases = work.erases; programs = work.programs; transactions = opening.transactions + sent + work.transactions }))
     of.is.config.size (bounded_by request opening status code kept old mid new wanted verify work sent 0 is_sent is never does)

@@ -20,11 +20,11 @@ use Rattle.nor_call.specs.declared.refusal.Refusal.TheVariants.{Vault, Stopped, 
 use Rattle.nor_call.specs.Refusal.{number_of}
 use Rattle.nor_call.specs.Request.{wanted, scanned_sectors, IsWantedCode}
 use Rattle.nor_save.specs.Touched.{is_touched_by, is_raised_by}
-use Rattle.nor_save.specs.Saving.{head_of, NeedsStatus}
+use Rattle.nor_save.specs.Saving.{head_of}
 use Rattle.nor_save.specs.SavedScan.{IsJournal, BeginsJournal, HoldsJournal}
 use Rattle.nor_session.specs.Bounds.{most_looked, most_of}
 use Rattle.nor_session.specs.Made.{IsMade}
-use Rattle.nor_session.specs.Verdict.{IsNamed, IsVerdict, IsAccepted}
+use Rattle.nor_session.specs.Verdict.{IsNamed, NeedsStatusWrite, IsVerdict, IsAccepted}
 
 -- ---- on every bus
 
@@ -108,11 +108,6 @@ SessionTells request image old new vault vault' Vault = Rose vault vault'
 SessionTells request image old new vault vault' Stopped = RanOut (most_of (old.chip.config.size / 4096)) old new
 SessionTells request image old new vault vault' refusal = IsVerdict request image old.chip refusal
 
--- the request needs no status write on the chip
-abbrev pub NeedsNoStatus : Request → (image : List ℕ) → Chip → Type 0
-NeedsNoStatus request image chip = (code : ℕ) → IsWantedCode request.what chip code
-    → ¬ NeedsStatus request.what request.unlock code (is_touched_by request image chip) chip
-
 -- At the end the chip is made the wanted one, with the wanted code; and where nothing is to be changed, nothing
 -- changing was sent.
 pub record IsDone (request : Request) (image : List ℕ) (old new : BusState) (report : Report) : Type 0 where
@@ -121,7 +116,7 @@ pub record IsDone (request : Request) (image : List ℕ) (old new : BusState) (r
   pub code : ℕ
   pub is_wanted : IsWantedCode request.what old.chip code
   pub has_code : HasCode code new.chip
-  pub still : report.touched ≡ 0 → NeedsNoStatus request image old.chip → new.sent ≡ old.sent
+  pub still : report.touched ≡ 0 → ¬ NeedsStatusWrite request image old.chip → new.sent ≡ old.sent
 
 -- Once the vault is sealed the request is accepted, so where the status is locked no touched sector is guarded; a
 -- telling vault has the journal of the starting chip, which saves just the touched sectors; and the chip is on the way
@@ -186,9 +181,9 @@ pub record SessionModelled (request : Request) (image : List ℕ) (old new : Bus
   -- at the end the chip is the wanted one
   pub done : IfOk result (IsDone request image old new)
   -- where the request needs no status write, none was sent
-  pub unwritten : NeedsNoStatus request image old.chip → WritesStatusAtMost 0 old new
+  pub unwritten : ¬ NeedsStatusWrite request image old.chip → WritesStatusAtMost 0 old new
   -- where the request needs no status write, the report has no room for one
-  pub spares : NeedsNoStatus request image old.chip
+  pub spares : ¬ NeedsStatusWrite request image old.chip
       → IfOk result (IsWithinBound (scanned_sectors request old.chip.config.size) 0 request.verify)
   -- a stop before the vault was sealed came in the opening or the scan
   pub early : vault'.sealed ≡ false → IfErr result (λ refusal. refusal ≡ Stopped

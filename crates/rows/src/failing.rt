@@ -2,7 +2,7 @@
 ghost use Rattle.std.specs.Prelude.{false};
 ghost use Rattle.std.proofs.lemmas.Bool.{false≢true};
 
-use nor_chip::{Bus, Meter, SimBus, Stopped};
+use nor_chip::{Bus, Meter, SimBus, Stopped, heard_after};
 
 /// What goes wrong once.
 #[derive(Clone, Copy)]
@@ -25,6 +25,7 @@ pub struct OnceBus {
     pub asked: u64,
     /// How that one began.
     pub met: [u8; 4],
+    heard: bool,
 }
 
 impl OnceBus {
@@ -38,12 +39,13 @@ impl OnceBus {
             allowed,
             asked: 0,
             met: [0; 4],
+            heard: false,
         }
     }
 }
 
 impl Bus for OnceBus {
-    ghost state = { λ once. record (⟦<SimBus as Bus>⟧.state once.bus) { honest = false } };
+    ghost state = { λ once. record (⟦<SimBus as Bus>⟧.state once.bus) { honest = false; heard = once.heard } };
 
     ghost reaches = { λ once honest. absurd (false≢true honest) };
 
@@ -51,7 +53,9 @@ impl Bus for OnceBus {
         let goes_wrong = self.behind == Some(self.asked);
         self.asked = self.asked.saturating_add(1);
         if !goes_wrong {
-            return self.bus.transfer(out, reply);
+            self.bus.transfer(out, reply)?;
+            self.heard = heard_after(out, reply, self.heard);
+            return Ok(());
         }
         self.met = beginning(out);
         match self.fault {
@@ -67,6 +71,9 @@ impl Bus for OnceBus {
                     *byte = !*byte;
                 }
             }
+        }
+        if answer.is_ok() {
+            self.heard = heard_after(out, reply, self.heard);
         }
         answer
     }
