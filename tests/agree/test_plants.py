@@ -27,7 +27,7 @@ PLANTS = {
     "a clause of a call's neighbour": (
         ROWS, "README.md", r"`session`, `done`", "`session`, `back`", "`session` has no clause `back`"),
     "a premise for a clause": (
-        ROWS, "README.md", r"`session`, `done`", "`session`, `telling`", "`session` has no clause `telling`"),
+        ROWS, "README.md", r"`session`, `done`", "`session`, `steady`", "`session` has no clause `steady`"),
     "what a caller owes for a clause": (
         ROWS, "docs/PROMISES.md", r"`rehearse`, `gives_back`", "`rehearse`, `fresh`",
         "`rehearse` has no clause `fresh`"),
@@ -57,8 +57,8 @@ PLANTS = {
         ROWS, "docs/PROMISES.md", r"`write_code`, `names` \|", "`write_code`, `named` |",
         "`write_code` has no clause `named`"),
     "two promises as one": (
-        ROWS, "docs/PROMISES.md", r"`session`, `spares`; `restore`, `spares`",
-        "`session`: `spares`, `restore`: `spares`", "two colons between names"),
+        ROWS, "docs/PROMISES.md", r"`session`, `restore`: `unwritten`, `spares`",
+        "`session`: `unwritten`, `restore`: `spares`", "two colons between names"),
     "a parenthesis that is open": (
         ROWS, "docs/PROMISES.md", r"`done` \(`latch`\) \|", "`done` (`latch` |", "a parenthesis isn't closed"),
     "a test that isn't there": (
