@@ -63,8 +63,8 @@ pub record Allows (n : ℕ) (old new : BusState) : Type 0 where
   pub heard : new.heard ≡ old.heard
   pub worn : (s : ℕ) → new.worn s ≡ old.worn s
 
--- A bus of which nothing is known but what was sent over it and heard, as one to a chip that isn't modelled: it isn't honest, so
--- nothing is promised of its chip, and any stands for it.
+-- A bus of which nothing is known but what was sent over it and heard, as one to a chip that isn't modelled: it isn't
+-- honest, so nothing is promised of its chip, and any stands for it.
 abbrev pub unknown_bus : Sent → Bool → BusState
 unknown_bus sent heard = record {
   chip = record {

@@ -31,8 +31,8 @@ pub record IsFound (named : Option ChipName) (old : BusState) (found : Found) : 
   pub shown : old.honest ≡ true → shown_as old.chip.config ≡ Ok (part_in found)
   pub config : IsModelled old → IsConfigOf old.chip.config found
 
--- The probe found a chip, and its last poll showed that this is ready. On an honest bus nothing changed, the chip is idle, its status 1 was read, and so many
--- transactions were sent.
+-- The probe found a chip, and its last poll showed that this is ready. On an honest bus nothing changed, the chip is
+-- idle, its status 1 was read, and so many transactions were sent.
 pub record HasFound (named : Option ChipName) (old new : BusState) (probed : Probed) : Type 0 where
   pub is : IsFound named old probed.found
   pub most : probed.transactions ≤ most_probe
