@@ -1,11 +1,11 @@
 #!/usr/bin/env python3
 """scripts/statement.py [--check]: the page docs/STATEMENT.md, made from the sources.
 
-It prints all that three calls promise, and the laws that join them: each definition of specs/ and each type of src/ that
-their contracts need, in an order in which each word is explained before it is used, and then the contracts. A definition by one equation has its
-signature in it. With --check it compares the page with what it would print, tells each difference, and ends with status
-1 where there is one. It fails where a name is found nowhere, where SUBJECTS hasn't the file of a word, and where LEGEND
-doesn't explain a word of a library.
+It prints all that three calls promise, and the laws that join them: each definition of specs/ and each type of src/
+that their contracts need, in an order in which each word is explained before it is used, and then the contracts. A
+definition by one equation has its signature in it. With --check it compares the page with what it would print, tells
+each difference, and ends with status 1 where there is one. It fails where a name is found nowhere, where SUBJECTS
+hasn't the file of a word, and where LEGEND doesn't explain a word of a library.
 """
 import difflib
 import functools
