@@ -5,6 +5,7 @@
      last             it is killed when a write has put the last half of its bytes and not the first, as a machine may
                       that is lost
      EIO and others   the call fails with this error, and nothing was done
+     EIO+ and others  so do all later ones on that file
      short            a write puts half of its bytes, and from then on each write fails for want of room
      part             a read or a write moves half of its bytes, and says so
      grown, there     somebody writes four bytes behind the file's last one before it is opened, or makes it with them
@@ -40,6 +41,8 @@ static const char *calls, *how, *recorded;
 static const char *fault, *faulty;
 static unsigned long called, nth;
 static int is_cut, is_full;
+/* The file on which all calls fail. */
+static char broken[LENGTH];
 static char names[FILES][LENGTH];
 
 static const char *given(const char *name) {
@@ -129,9 +132,12 @@ static int error(void) {
         {"EACCES", EACCES}, {"EDQUOT", EDQUOT}, {"EFBIG", EFBIG},   {"EINTR", EINTR},   {"EINVAL", EINVAL},
         {"EIO", EIO},       {"EMFILE", EMFILE}, {"ENFILE", ENFILE}, {"ENOLCK", ENOLCK}, {"ENOMEM", ENOMEM},
         {"ENOSPC", ENOSPC}, {"EROFS", EROFS},   {"ESTALE", ESTALE}, {"EAGAIN", EAGAIN}, {"EOPNOTSUPP", EOPNOTSUPP},
+        {"ETIMEDOUT", ETIMEDOUT},
     };
+    size_t length = strcspn(how, "+");
     for (size_t each = 0; each < sizeof errors / sizeof *errors; each++)
-        if (is(errors[each].name)) return errors[each].number;
+        if (strlen(errors[each].name) == length && strncmp(how, errors[each].name, length) == 0)
+            return errors[each].number;
     return 0;
 }
 
@@ -141,8 +147,10 @@ static int fails(const char *what, const char *name) {
     is_cut = ++called == nth;
     if (is_cut) list("cut", how);
     if (is_cut && is("before")) end();
-    errno = is_cut && error() ? error() : ENOSPC;
-    return (is_cut && error()) || (is_full && strcmp(what, "write") == 0);
+    if (is_cut && strchr(how, '+')) strncpy(broken, name, LENGTH - 1);
+    int failure = is_cut || (*broken && strcmp(broken, name) == 0) ? error() : 0;
+    errno = failure ? failure : ENOSPC;
+    return failure || (is_full && strcmp(what, "write") == 0);
 }
 
 /* What a call that was made answered, unless the process is killed after it. */

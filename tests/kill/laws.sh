@@ -17,10 +17,13 @@ ways() {
             echo before one half most after ENOSPC EDQUOT EFBIG EIO short part
             ! was_there "${call#* }" || echo last
             ;;
-        'fsync .') echo before after ENOSPC EIO EDQUOT EINVAL EOPNOTSUPP ;;
+        'fsync .') echo before after ENOSPC EIO EDQUOT ESTALE ETIMEDOUT EINVAL EOPNOTSUPP ;;
         fsync*) echo before after ENOSPC EIO EDQUOT ;;
         'open .') echo before after EACCES EIO EMFILE ;;
-        open* | hold*) echo before after EACCES EIO EMFILE ENFILE ESTALE ENOMEM EINTR ;;
+        open* | hold*)
+            echo before after EACCES EIO EMFILE ENFILE ESTALE ENOMEM EINTR
+            [[ $call != hold* ]] || echo EMFILE+ ESTALE+
+            ;;
         flock*) echo before after EAGAIN ENOLCK EOPNOTSUPP ;;
         over* | make*)
             echo before after EACCES EROFS ENOSPC EIO EMFILE EINTR
@@ -56,7 +59,7 @@ lines_of() {
         there,*journal) echo "File fault 4: $name." ;;
         EAGAIN,flock*) echo "File fault 5: $name." ;;
         ENOMEM,open* | ENOMEM,read*) echo 'Error 18: out of memory.' ;;
-        *,open* | *,read*) echo "File fault 1: $name." ;;
+        *,open* | *,read* | *+,hold*) echo "File fault 1: $name." ;;
         short,'write out') echo 'Error 19: output failed after 32768 bytes.' ;;
         *,'write out') echo 'Error 19: output failed after 0 bytes.' ;;
         *,'make journal' | *' .') echo "File fault 2: $name." ;;

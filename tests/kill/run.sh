@@ -321,6 +321,15 @@ check_folders() {
             tell "$name was made, and its folder not synced"
         fi
     done
+    # For an image right below the root that isn't there the root is, and the run ends before anything is made.
+    begin
+    : > journal
+    attempt 0 '' -p dummy:emulate=TINY64,image=/flashnor.$$ -w ../byte_01 --journal journal
+    if [[ $(< faults) == 'File fault 4: journal.' && $(< calls) == $'open /\nfsync /\n'* ]]; then
+        passed=$((passed + 1))
+    else
+        tell "/flashnor.$$ isn't there, and its folder not synced. $(cat said faults)"
+    fi
 }
 
 # Where another run holds one of the chip's files no session and no restore begins.
