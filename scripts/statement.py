@@ -87,7 +87,8 @@ LEGEND = {
         "A word with a capital is a statement, a kind of values (`ℕ`: the numbers from 0 on; `Bool`: `true` and "
         "`false`; `List ℕ`) or a case of an `enum` or `data`. One in lower case is a value: a number, a test, a "
         "list. `f x y` is f of x and y, and `vault'` is just a name. Of equations the first that fits is meant; `_` "
-        "fits anything.",
+        "fits anything. A case of which several kinds have one of that name is told by a word before it: "
+        "`Probes.NoChip` is that of a `ProbeFault`, `Runs.StatusWrite` that of a `Running`.",
     "record":
         "A `record` of statements holds where all its named fields hold. A field that is a value (`code : ℕ`) "
         "says that there is one, of which the fields behind it speak. A record of values (`Chip`) has these as its "
@@ -106,8 +107,9 @@ LEGEND = {
         "`λ a. e` is the function that gives e of a; `let x = a in e` is e where x is a; `elim x [ p ↦ a | q ↦ b ]` "
         "is a where x is as p, and b where it is as q; `if t then a else b` goes by a test.",
     "◌+◌ ◌-◌ ◌*◌ ◌/◌ ◌%◌ ◌^◌ ◌<◌ ◌≤◌":
-        "`/` rounds down, `%` is what is left over, `-` stops at 0, `2 ^ k` is a power; `0x2A` is hexadecimal, "
-        "`0b101` binary. A byte is a number below 256. How large the fields of a chip can be stands in `IsChip`.",
+        "`a < b` and `a ≤ b` are statements on numbers. `/` rounds down, `%` is what is left over, `-` stops at 0, "
+        "`2 ^ k` is a power; `0x2A` is hexadecimal, `0b101` binary. A byte is a number below 256. How large the fields "
+        "of a chip can be stands in `IsChip`.",
     "Option Some None Result Ok Err Unit IfOk IfErr OnOk OnErr IfSome":
         "An `Option` is `None` or `Some x`, a `Result` is `Ok x` or `Err e`; x tells nothing where it is a `Unit`. "
         "`IfOk r P`: where r is `Ok x`, P holds of x. `OnOk r A`: where r is an `Ok`, A holds. `IfErr`, `OnErr` and "
@@ -115,8 +117,9 @@ LEGEND = {
     "":
         "In a contract `bus.old` is what a call is given and `bus.new` what it leaves, at every exit and whatever "
         "it answers; `request.now` stays as it is. `B.state bus.old` is the state of a bus of type B, and `result` "
-        "the answer. `requires` is what the caller owes, `ensures` what holds then. `pub` and `ghost` tell a reader "
-        "nothing.",
+        "the answer. `requires { A }` is what the caller owes, `ensures name { A }` what holds then, under a name. "
+        "`ghost` marks what only the prover sees: in a type it holds of each of its values (`sized`), and in a trait "
+        "whoever implements that owes it (`reaches`). `pub` tells a reader nothing.",
     "Vec Model":
         "In types of `src/`, `u8` to `u64` and `usize` are numbers of so many bits; `[u8; 3]`, `&[u8]` and "
         "`Vec<u8>` are lists, which of a `Vec` are its `items`. Of a type with an `impl Model` contracts see its "
