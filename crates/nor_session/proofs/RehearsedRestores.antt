@@ -1,5 +1,6 @@
 -- What one restore under a stop comes to, restores in turn, and restores from a text.
 use Rattle.std.proofs.Common.{◌≡◌, ◌<◌, ◌≤◌, ◌+◌, ◌-◌, ◌∙◌, ℕ, Bool, List, length, slice_index, true, false, refl, ap, sym, subst, arith, inl, inr}
+use Rattle.std.specs.Prelude.{Ok}
 use Rattle.std.proofs.lemmas.Bool.{true≢false, cases_eq}
 use Rattle.nor_chip.specs.Chip.{Chip, IsSame}
 use Rattle.nor_chip.specs.Bus.{BusState, Allows}
@@ -8,6 +9,7 @@ use Rattle.nor_journal.specs.Text.{Content, IsContent, SameHead, text}
 use Rattle.nor_journal.specs.declared.fault.JournalFault.{JournalFault}
 use Rattle.nor_journal.specs.Saved.{Saves, JournalSaves, is_saved}
 use Rattle.nor_journal.proofs.Saves.{Saves-set}
+use Rattle.nor_journal.proofs.OneForm.{is_read}
 use Rattle.nor_probe.specs.Known.{IsGenuine, IsModelled}
 use Rattle.nor_apply.specs.Spending.{Spends}
 use Rattle.nor_call.specs.declared.report.Report.{Report}
@@ -16,10 +18,11 @@ use Rattle.nor_call.specs.declared.refusal.Refusal.TheVariants.{Stopped, Timeout
 use Rattle.nor_save.specs.Saving.{head_of}
 use Rattle.nor_session.specs.Bounds.{most_of}
 use Rattle.nor_session.specs.Restore.{CanGiveBack, LeavesRestore, IsJudgedFirst, IsRestoreRefusal}
-use Rattle.nor_session.specs.Session.{HonestTells, NamesSector, IsWithinBound}
+use Rattle.nor_session.specs.Session.{HonestTells, NamesSector, IsWithinBound, AimsAtSaved}
 use Rattle.nor_session.specs.Rehearsal.{AreRestores, FitsLastStop, IsNoHalt}
-use Rattle.nor_session.specs.Rehearsing.{LeavesRestores, ShowsRestore, ShowsRestores, StopsRestores, Undoes, WearsSaved, RefusesUndo}
+use Rattle.nor_session.specs.Rehearsing.{LeavesRestores, ShowsRestore, ShowsRestores, StopsRestores, Undoes, WearsSaved, AimsAtText, RefusesUndo}
 use Rattle.nor_session.proofs.Rescanned.{unraised_other}
+use Rattle.nor_session.proofs.Aiming.{none_aimed, aims_then}
 use Rattle.nor_session.proofs.GivesBack.{can_give_back}
 use Rattle.nor_session.proofs.Naming.{saved_names}
 use Rattle.nor_session.proofs.SavedBytes.{saved_room}
@@ -51,6 +54,7 @@ allow_leaves n journal old new allows = record {
     });
   };
   worn = λ modelled s other. allows.worn s;
+  aims = none_aimed journal old new allows.sent;
 }
 
 pub restores_then : (journal : Content) (old mid new : BusState) → LeavesRestores journal old mid → LeavesRestores journal mid new → LeavesRestores journal old new
@@ -59,17 +63,19 @@ restores_then journal old mid new before after = record {
   modelled = λ modelled. after.modelled (before.modelled modelled);
   can = λ modelled first can. after.can (before.modelled modelled) first (before.can modelled first can);
   worn = λ modelled s other. after.worn (before.modelled modelled) s other ∙ before.worn modelled s other;
+  aims = aims_then journal old mid new before.aims after.aims;
 }
 
 -- what one restore leaves that is allowed so many transactions
-pub under_leaves : (n most : ℕ) (journal : Content) (old mid new : BusState) → Allows n old mid → Spends most mid new → (IsModelled mid → LeavesRestore journal mid new)
+pub under_leaves : (n most : ℕ) (journal : Content) (old mid new : BusState) → Allows n old mid → Spends most mid new → AimsAtSaved journal mid new → (IsModelled mid → LeavesRestore journal mid new)
     → (IsModelled mid → (first : Chip) → CanGiveBack journal first mid → CanGiveBack journal first new) → LeavesRestores journal old new
-under_leaves n most journal old mid new allows spends leaves within =
+under_leaves n most journal old mid new allows spends aims leaves within =
     restores_then journal old mid new (allow_leaves n journal old mid allows) record {
       nature = spends.nature;
       modelled = λ modelled. modelled_at mid new spends.nature.honest (leaves modelled).config modelled;
       can = within;
       worn = λ modelled s other. (leaves modelled).worn s (unraised_other journal mid.chip.bytes s other);
+      aims = aims;
     }
 
 -- it ended
@@ -135,6 +141,7 @@ none_stopped journal stops state = record {
     modelled = λ modelled. modelled;
     can = λ modelled first can. can;
     worn = λ modelled s other. refl;
+    aims = none_aimed journal state state refl;
   };
   stopped = λ modelled i below. absurd (omega arith);
 }
@@ -229,6 +236,11 @@ pub undo_wears : (bytes : List ℕ) (old new : BusState) (journal : Content)
 undo_wears bytes old new journal reads leaves modelled saved first leads s other =
     leaves.worn modelled s (sym (Saves-set first.bytes saved journal s (reads (head_of first) first.bytes saved leads.journal).1) ∙ other)
 
+-- a journal that the text is is the one that was read of it
+pub undo_aims : (bytes : List ℕ) (old new : BusState) (journal : Content) → IsContent journal → bytes ≡ text journal → LeavesRestores journal old new → AimsAtText bytes old new
+undo_aims bytes old new journal is same leaves other =
+    subst (λ (content : Content). AimsAtSaved content old new) (is_read bytes (Ok journal) other.content (is, same) tt other.is other.same) leaves.aims
+
 pub undo_refuses : (bytes : List ℕ) (old : BusState) (journal : Content) (refusal : Refusal) → IsContent journal → bytes ≡ text journal
     → ((head : Content) (chip : ℕ → ℕ) (saved : ℕ → Bool) → JournalSaves head chip saved bytes → SameHead head journal × Saves chip saved journal)
     → StopsRestores journal old refusal → RefusesUndo bytes old refusal
@@ -240,7 +252,11 @@ undo_refuses bytes old journal refusal is same reads refuses = record {
       refuses.never modelled first (can_give_back saved first bytes old journal leads (reads (head_of first) first.bytes saved leads.journal));
 }
 
--- a text that leads back is a journal, and a journal is read
+-- a journal is read
+pub unread_aims : (bytes : List ℕ) (old new : BusState) → ((content : Content) → IsContent content → bytes ≡ text content → ⊥) → AimsAtText bytes old new
+unread_aims bytes old new never whole = absurd (never whole.content whole.is whole.same)
+
+-- so is a text that leads back
 pub unread : (bytes : List ℕ) (old : BusState) (fault : JournalFault) → ((content : Content) → IsContent content → bytes ≡ text content → ⊥)
     → RefusesUndo bytes old (BadJournal fault)
 unread bytes old fault never = record {

@@ -17,18 +17,19 @@ use Rattle.nor_call.specs.declared.refusal.Refusal.TheVariants.{NoChip, UnknownC
 use Rattle.nor_call.specs.Refusal.{number_of}
 use Rattle.nor_call.specs.Request.{wanted, scanned_sectors}
 use Rattle.nor_save.specs.Touched.{is_touched_by, is_raised_by}
-use Rattle.nor_save.specs.SavedScan.{IsJournal, HoldsJournal}
+use Rattle.nor_save.specs.SavedScan.{IsJournal}
 use Rattle.nor_probe.specs.Known.{IsGenuine, IsModelled}
 use Rattle.nor_probe.proofs.Configs.{shown_config}
 use Rattle.nor_save.specs.Opening.{most_opening}
 use Rattle.nor_session.specs.Bounds.{most_looked, most_of}
 use Rattle.nor_session.specs.Made.{AreFewestErases}
 use Rattle.nor_session.specs.Verdict.{IsAccepted}
-use Rattle.nor_session.specs.Session.{SessionTells, CanBeUndone, HonestTells, AnswersSession, EndsSealed, IsDone, NamesAddress, SavesSector, NamesSector}
+use Rattle.nor_session.specs.Session.{SessionTells, CanBeUndone, HonestTells, AnswersSession, EndsSealed, IsDone, NamesAddress, SavesSector, NamesSector, AimsAtSaved}
 use Rattle.nor_session.specs.Rehearsal.{IsRehearsalRefusal, IsNoHalt, RehearsalTells, first_allowance, least_needed, AreRestores, FitsLastStop}
-use Rattle.nor_session.specs.Rehearsing.{HasWantedBits, LeadsBack, LeavesSession, ShowsSession, RefusesSession, Undoes, WearsSaved, RefusesUndo}
+use Rattle.nor_session.specs.Rehearsing.{HasWantedBits, LeadsBack, LeavesSession, ShowsSession, RefusesSession, Undoes, WearsSaved, AimsAtText, RefusesUndo}
 use Rattle.nor_session.proofs.RestoredBytes.{untouched_unraised}
 use Rattle.nor_session.proofs.GivesBack.{leads_back}
+use Rattle.nor_session.proofs.Aiming.{none_aimed, aims_then}
 use Rattle.nor_session.proofs.RehearsedRestores.{modelled_at}
 
 -- ---- the session
@@ -57,8 +58,9 @@ untouched_unraised_by request image chip s =
 -- what a session leaves that is allowed so many transactions
 pub session_leaves : (n most few : ℕ) (request : Request) (image : List ℕ) (old mid new : BusState) (vault : VaultState) → Allows n old mid → vault.telling ≡ true
     → (mid.honest ≡ true → IsChip mid.chip) → Spends most mid new → (vault.sealed ≡ false → Looks few mid new)
-    → (IsModelled mid → vault.sealed ≡ true → CanBeUndone request image mid new vault) → HoldsJournal vault → LeavesSession request image old new vault
-session_leaves n most few request image old mid new vault allows telling reaches spends looks undo holds = record {
+    → (IsModelled mid → vault.sealed ≡ true → CanBeUndone request image mid new vault)
+    → (vault.sealed ≡ true → vault.telling ≡ true → (journal : IsJournal vault.bytes) × AimsAtSaved journal.content mid new) → LeavesSession request image old new vault
+session_leaves n most few request image old mid new vault allows telling reaches spends looks undo aims = record {
   nature = nature_then old mid new spends.nature allows.nature;
   same = λ modelled calm unsealed.
       same_at old.chip mid.chip new.chip allows.chip (((looks unsealed).looked (allows.nature.honest ∙ modelled.honest)).stays.calm (calm_at n old mid allows calm));
@@ -74,7 +76,10 @@ session_leaves n most few request image old mid new vault allows telling reaches
         ∙ allows.worn s
     | inr unsealed ↦ ((looks unsealed).looked (allows.nature.honest ∙ modelled.honest)).stays.worn s ∙ allows.worn s
   ];
-  holds = holds;
+  still = λ unsealed. (looks unsealed).sent ∙ allows.sent;
+  aims = λ sealed.
+      let aimed = aims sealed telling in
+      (aimed.0, aims_then aimed.0.content old mid new (none_aimed aimed.0.content old mid allows.sent) aimed.1);
 }
 
 -- it took what it counts
@@ -261,10 +266,17 @@ never_refused saved bytes text old mid refusal nature back is refuses modelled =
     (subst (λ (t : List ℕ). LeadsBack saved old.chip t mid) (sym is) (back modelled))
 
 -- whatever the bus, they are refused as restores are
-pub refused_undo : (bytes : List ℕ) (vault vault' : VaultState) (mid : BusState) (refusal : Refusal) → bytes ≡ vault'.bytes → vault'.telling ≡ true → vault'.sealed ≡ true → HoldsJournal vault'
+pub refused_undo : (bytes : List ℕ) (vault vault' : VaultState) (mid : BusState) (refusal : Refusal) → bytes ≡ vault'.bytes → vault'.sealed ≡ true → IsJournal vault'.bytes
     → RefusesUndo bytes mid refusal → IsRehearsalRefusal vault vault' refusal
-refused_undo bytes vault vault' mid refusal is telling sealed holds refuses =
-    inr (sealed, refuses.answers (subst IsJournal (sym is) (holds sealed telling)))
+refused_undo bytes vault vault' mid refusal is sealed journal refuses =
+    inr (sealed, refuses.answers (subst IsJournal (sym is) journal))
+
+-- and aim where the session did
+pub both_aim : (bytes : List ℕ) (vault : VaultState) (old mid new : BusState) → bytes ≡ vault.bytes → ((journal : IsJournal vault.bytes) × AimsAtSaved journal.content old mid)
+    → AimsAtText bytes mid new → (journal : IsJournal vault.bytes) × AimsAtSaved journal.content old new
+both_aim bytes vault old mid new is before after =
+    let again = subst (λ (text : List ℕ). AimsAtText text mid new) is after in
+    (before.0, aims_then before.0.content old mid new before.1 (again before.0))
 
 -- and name what the sealed journal saves
 pub undo_names : (bytes : List ℕ) (vault : VaultState) (mid : BusState) (refusal : Refusal) → bytes ≡ vault.bytes → vault.sealed ≡ true → RefusesUndo bytes mid refusal → NamesAddress vault refusal

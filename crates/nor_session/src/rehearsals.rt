@@ -6,7 +6,7 @@ ghost use Rattle.nor_journal.specs.MemVault.{held_by};
 ghost use Rattle.nor_probe.specs.Known.{IsModelled};
 ghost use Rattle.nor_session.specs.Bounds.{most_of};
 ghost use Rattle.nor_session.specs.Rehearsing.{LeavesSession, ShowsSession, RefusesSession, LeavesRestores, ShowsRestore, ShowsRestores};
-ghost use Rattle.nor_session.specs.Rehearsing.{Undoes, WearsSaved, StopsRestores, RefusesUndo};
+ghost use Rattle.nor_session.specs.Rehearsing.{Undoes, WearsSaved, AimsAtText, StopsRestores, RefusesUndo};
 ghost use Rattle.nor_session.specs.Rehearsal.{RehearsalAlways, RehearsalModelled, IsNoHalt, first_allowance};
 
 use crate::restores::restore;
@@ -126,6 +126,7 @@ fn undo<B: Meter>(bus: &mut B, text: &[u8], stops: &[u64]) -> Result<u32, Refusa
     requires few { length stops.now ≤ 64 }
     ensures nature { KeepsNature (B.state bus.old) (B.state bus.new) }
     ensures wears { WearsSaved text.now (B.state bus.old) (B.state bus.new) }
+    ensures aims { AimsAtText text.now (B.state bus.old) (B.state bus.new) }
     ensures undoes { IfOk result (Undoes text.now stops.now (B.state bus.old) (B.state bus.new)) }
     ensures heard { OnOk result ((B.state bus.new).heard ≡ true) }
     ensures refuses { IfErr result (RefusesUndo text.now (B.state bus.old)) }
