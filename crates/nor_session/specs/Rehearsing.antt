@@ -1,5 +1,5 @@
 -- What the parts of a rehearsal come to: its session, and the restores in turn.
-use Rattle.std.specs.Prelude.{◌≡◌, ◌≤◌, ◌<◌, ◌+◌, ◌/◌, ℕ, Bool, true, false, List, length}
+use Rattle.std.specs.Prelude.{◌≡◌, ◌≤◌, ◌<◌, ◌+◌, ◌*◌, ◌/◌, ℕ, Bool, true, false, List, length}
 use Rattle.nor_chip.specs.Chip.{Chip, IsChip, IsSame, is_locked}
 use Rattle.nor_chip.specs.Bus.{BusState, KeepsNature}
 use Rattle.nor_driver.specs.Looks.{IsCalm}
@@ -19,7 +19,7 @@ use Rattle.nor_save.specs.Saving.{head_of, NoneHeld}
 use Rattle.nor_save.specs.SavedScan.{IsJournal}
 use Rattle.nor_session.specs.Bounds.{most_of}
 use Rattle.nor_session.specs.Verdict.{IsAccepted}
-use Rattle.nor_session.specs.Session.{AnswersSession, SavesSector, NamesSector, NamesAddress, AimsAtSaved}
+use Rattle.nor_session.specs.Session.{AnswersSession, SavesSector, NamesSector, NamesAddress, most_status_writes, AimsAtSaved, WritesStatusAtMost}
 use Rattle.nor_session.specs.Restore.{IsRestoreRefusal, CanGiveBack}
 use Rattle.nor_session.specs.Rehearsal.{CanEnd, SealFits, AreRestores, FitsLastStop, LeavesRefused, IsNoHalt, RehearsalTells}
 
@@ -48,6 +48,7 @@ pub record LeavesSession (request : Request) (image : List ℕ) (old new : BusSt
   pub wears : IsModelled old → (s : ℕ) → is_touched_by request image old.chip s ≡ false → new.worn s ≡ old.worn s
   pub still : vault.sealed ≡ false → new.sent ≡ old.sent
   pub aims : vault.sealed ≡ true → (journal : IsJournal vault.bytes) × AimsAtSaved journal.content old new
+  pub writes : WritesStatusAtMost (most_status_writes request.what request.unlock) old new
 
 -- The wanted kept bits: the fixed ones are as they were, and the code is the wanted one.
 pub record HasWantedBits (what : What) (old new : Chip) : Type 0 where
@@ -79,14 +80,16 @@ pub record RefusesSession (request : Request) (image : List ℕ) (old new : BusS
 
 -- ---- the restores
 
--- At every exit of some restores: the bus is modelled as before, each chip that the journal could give back it still
--- can, and only saved sectors are worn; whatever the bus, no others were aimed at.
-pub record LeavesRestores (journal : Content) (old new : BusState) : Type 0 where
+-- At every exit of so many restores: the bus is modelled as before, each chip that the journal could give back it still
+-- can, and only saved sectors are worn; whatever the bus, no others were aimed at, and each wrote the status at most
+-- twice.
+pub record LeavesRestores (journal : Content) (restores : ℕ) (old new : BusState) : Type 0 where
   pub nature : KeepsNature old new
   pub modelled : IsModelled old → IsModelled new
   pub can : IsModelled old → (first : Chip) → CanGiveBack journal first old → CanGiveBack journal first new
   pub worn : IsModelled old → (s : ℕ) → is_saved journal s ≡ false → new.worn s ≡ old.worn s
   pub aims : AimsAtSaved journal old new
+  pub writes : WritesStatusAtMost (2 * restores) old new
 
 -- One restore was allowed so many transactions, and ended, and gave each such chip back; or it was stopped, where none
 -- is left, since they were too few.

@@ -4,7 +4,7 @@ use Rattle.nor_save.proofs.Begun.{err_same}
 use Rattle.nor_journal.specs.MemVault.{held_by}
 use Rattle.nor_session.specs.Rehearsal.{IsRehearsalRefusal, IsNoHalt}
 use Rattle.nor_session.specs.Session.{NamesAddress}
-use Rattle.nor_session.proofs.RehearsedSessions.{never_refused, refused_undo, undo_names, both_aim, same_again, worn_all, are_restores, last_stop}
+use Rattle.nor_session.proofs.RehearsedSessions.{never_refused, refused_undo, undo_names, both_aim, both_write, same_again, worn_all, are_restores, last_stop}
 use Rattle.nor_session.proofs.rehearsals.rehearse.Goals as goal
 
 -- ---- a restore was refused
@@ -26,6 +26,8 @@ returns-in_err-restores-clause-always g c =
       heard = search rules;
       still = λ unsealed. absurd (true≢false (sym sealed ∙ unsealed));
       aims = λ sealed'. both_aim _ after (g.B.Bus.state c.args.bus.now) mid (g.B.Bus.state c.undo.new.bus) c.bytes.ensures (leaves.aims sealed) c.undo.ensures.aims;
+      writes = both_write c.args.request.now c.args.stops.now _ (g.B.Bus.state c.args.bus.now) (g.B.Bus.state c.stopped_session.new.bus) (g.B.Bus.state c.undo.new.bus)
+          c.later.ensures leaves.writes c.undo.ensures.writes;
     }
 
 pub returns-in_err-restores-clause-honest : goal.returns-in_err-restores-clause-honest
@@ -61,6 +63,8 @@ returns-clause-always g c =
       still = λ unsealed. absurd (true≢false (sym sealed ∙ unsealed));
       aims = λ sealed'. both_aim _ (held_by c.stopped_session.new.vault) (g.B.Bus.state c.args.bus.now) (g.B.Bus.state c.stopped_session.new.bus) (g.B.Bus.state c.undo.new.bus)
           c.bytes.ensures (leaves.aims sealed) c.undo.ensures.aims;
+      writes = both_write c.args.request.now c.args.stops.now _ (g.B.Bus.state c.args.bus.now) (g.B.Bus.state c.stopped_session.new.bus) (g.B.Bus.state c.undo.new.bus)
+          c.later.ensures leaves.writes c.undo.ensures.writes;
     }
 
 pub returns-clause-modelled : goal.returns-clause-modelled

@@ -3,10 +3,10 @@ use Rattle.nor_session.proofs.RehearsedRestores.{undoes, undo_wears, undo_aims, 
 use Rattle.nor_session.proofs.rehearsals.undo.Goals as goal
 
 pub returns-in-Ok-clause-wears : goal.returns-in-Ok-clause-wears
-returns-in-Ok-clause-wears g c = undo_wears _ _ _ c.in-Ok.journal c.in-Ok.ensures.kept c.restore_in_turn.ensures.leaves
+returns-in-Ok-clause-wears g c = undo_wears _ _ _ _ c.in-Ok.journal c.in-Ok.ensures.kept c.restore_in_turn.ensures.leaves
 
 pub returns-in-Ok-clause-aims : goal.returns-in-Ok-clause-aims
-returns-in-Ok-clause-aims g c = undo_aims _ _ _ c.in-Ok.journal c.in-Ok.ensures.found.0 c.in-Ok.ensures.found.1 c.restore_in_turn.ensures.leaves
+returns-in-Ok-clause-aims g c = undo_aims _ _ _ _ c.in-Ok.journal c.in-Ok.ensures.found.0 c.in-Ok.ensures.found.1 c.restore_in_turn.ensures.leaves
 
 pub returns-in-Ok-clause-undoes : goal.returns-in-Ok-clause-undoes
 returns-in-Ok-clause-undoes g c =
