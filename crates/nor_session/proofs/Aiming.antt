@@ -36,6 +36,16 @@ none_written most old new same = let count = ap status_writes_of same in omega (
 pub none_aimed : (journal : Content) (old new : BusState) → new.sent ≡ old.sent → AimsAtSaved journal old new
 none_aimed journal old new same s = inl (ap (λ (sent : Sent). is_aimed_at sent s) same)
 
+-- aimed at saved sectors alone, and then again
+pub aims_then : (journal : Content) (old mid new : BusState) → AimsAtSaved journal old mid → AimsAtSaved journal mid new → AimsAtSaved journal old new
+aims_then journal old mid new before after s = elim (after s) [
+  | inl same ↦ elim (before s) [
+    | inl here ↦ inl (same ∙ here)
+    | inr aimed ↦ inr aimed
+  ]
+  | inr aimed ↦ inr aimed
+]
+
 -- ---- a session
 
 -- a refusal before the seal leaves the vault telling as it did

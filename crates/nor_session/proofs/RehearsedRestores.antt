@@ -1,5 +1,6 @@
 -- What one restore under a stop comes to, restores in turn, and restores from a text.
 use Rattle.std.proofs.Common.{◌≡◌, ◌<◌, ◌≤◌, ◌+◌, ◌-◌, ◌∙◌, ℕ, Bool, List, length, slice_index, true, false, refl, ap, sym, subst, arith, inl, inr}
+use Rattle.std.specs.Prelude.{Ok}
 use Rattle.std.proofs.lemmas.Bool.{true≢false, cases_eq}
 use Rattle.nor_chip.specs.Chip.{Chip, IsSame}
 use Rattle.nor_chip.specs.Bus.{BusState, Allows}
@@ -8,6 +9,7 @@ use Rattle.nor_journal.specs.Text.{Content, IsContent, SameHead, text}
 use Rattle.nor_journal.specs.declared.fault.JournalFault.{JournalFault}
 use Rattle.nor_journal.specs.Saved.{Saves, JournalSaves, is_saved}
 use Rattle.nor_journal.proofs.Saves.{Saves-set}
+use Rattle.nor_journal.proofs.OneForm.{is_read}
 use Rattle.nor_probe.specs.Known.{IsGenuine, IsModelled}
 use Rattle.nor_apply.specs.Spending.{Spends}
 use Rattle.nor_call.specs.declared.report.Report.{Report}
@@ -16,10 +18,11 @@ use Rattle.nor_call.specs.declared.refusal.Refusal.TheVariants.{Stopped, Timeout
 use Rattle.nor_save.specs.Saving.{head_of}
 use Rattle.nor_session.specs.Bounds.{most_of}
 use Rattle.nor_session.specs.Restore.{CanGiveBack, LeavesRestore, IsJudgedFirst, IsRestoreRefusal}
-use Rattle.nor_session.specs.Session.{HonestTells, NamesSector, IsWithinBound}
+use Rattle.nor_session.specs.Session.{HonestTells, NamesSector, IsWithinBound, AimsAtSaved, WritesStatusAtMost}
 use Rattle.nor_session.specs.Rehearsal.{AreRestores, FitsLastStop, IsNoHalt}
-use Rattle.nor_session.specs.Rehearsing.{LeavesRestores, ShowsRestore, ShowsRestores, StopsRestores, Undoes, WearsSaved, RefusesUndo}
+use Rattle.nor_session.specs.Rehearsing.{LeavesRestores, ShowsRestore, ShowsRestores, StopsRestores, Undoes, WearsSaved, AimsAtText, RefusesUndo}
 use Rattle.nor_session.proofs.Rescanned.{unraised_other}
+use Rattle.nor_session.proofs.Aiming.{none_aimed, aims_then, none_written}
 use Rattle.nor_session.proofs.GivesBack.{can_give_back}
 use Rattle.nor_session.proofs.Naming.{saved_names}
 use Rattle.nor_session.proofs.SavedBytes.{saved_room}
@@ -35,7 +38,7 @@ modelled_at old new honest config modelled = record {
 }
 
 -- an allowance leaves what can be given back
-pub allow_leaves : (n : ℕ) (journal : Content) (old new : BusState) → Allows n old new → LeavesRestores journal old new
+pub allow_leaves : (n : ℕ) (journal : Content) (old new : BusState) → Allows n old new → LeavesRestores journal 0 old new
 allow_leaves n journal old new allows = record {
   nature = allows.nature;
   modelled = modelled_at old new allows.nature.honest (ap (λ (chip : Chip). chip.config) allows.chip);
@@ -51,25 +54,31 @@ allow_leaves n journal old new allows = record {
     });
   };
   worn = λ modelled s other. allows.worn s;
+  aims = none_aimed journal old new allows.sent;
+  writes = none_written 0 old new allows.sent;
 }
 
-pub restores_then : (journal : Content) (old mid new : BusState) → LeavesRestores journal old mid → LeavesRestores journal mid new → LeavesRestores journal old new
-restores_then journal old mid new before after = record {
+pub restores_then : (journal : Content) (m n most : ℕ) (old mid new : BusState) → m + n ≤ most → LeavesRestores journal m old mid → LeavesRestores journal n mid new → LeavesRestores journal most old new
+restores_then journal m n most old mid new fits before after = record {
   nature = nature_then old mid new after.nature before.nature;
   modelled = λ modelled. after.modelled (before.modelled modelled);
   can = λ modelled first can. after.can (before.modelled modelled) first (before.can modelled first can);
   worn = λ modelled s other. after.worn (before.modelled modelled) s other ∙ before.worn modelled s other;
+  aims = aims_then journal old mid new before.aims after.aims;
+  writes = (let first = before.writes in let second = after.writes in omega (arith, first, second, fits));
 }
 
 -- what one restore leaves that is allowed so many transactions
-pub under_leaves : (n most : ℕ) (journal : Content) (old mid new : BusState) → Allows n old mid → Spends most mid new → (IsModelled mid → LeavesRestore journal mid new)
-    → (IsModelled mid → (first : Chip) → CanGiveBack journal first mid → CanGiveBack journal first new) → LeavesRestores journal old new
-under_leaves n most journal old mid new allows spends leaves within =
-    restores_then journal old mid new (allow_leaves n journal old mid allows) record {
+pub under_leaves : (n most : ℕ) (journal : Content) (old mid new : BusState) → Allows n old mid → Spends most mid new → AimsAtSaved journal mid new → WritesStatusAtMost 2 mid new → (IsModelled mid → LeavesRestore journal mid new)
+    → (IsModelled mid → (first : Chip) → CanGiveBack journal first mid → CanGiveBack journal first new) → LeavesRestores journal 1 old new
+under_leaves n most journal old mid new allows spends aims writes leaves within =
+    restores_then journal 0 1 1 old mid new (omega arith) (allow_leaves n journal old mid allows) record {
       nature = spends.nature;
       modelled = λ modelled. modelled_at mid new spends.nature.honest (leaves modelled).config modelled;
       can = within;
       worn = λ modelled s other. (leaves modelled).worn s (unraised_other journal mid.chip.bytes s other);
+      aims = aims;
+      writes = writes;
     }
 
 -- it ended
@@ -125,7 +134,7 @@ under_refuses n journal old mid new refusal allows answers names never gives_up 
 
 -- So many restores were stopped.
 pub record AreStopped (journal : Content) (stops : List ℕ) (old now : BusState) (n : ℕ) : Type 0 where
-  pub leaves : LeavesRestores journal old now
+  pub leaves : LeavesRestores journal n old now
   pub stopped : IsModelled old → (i : ℕ) → i < n → slice_index stops i < most_of (length journal.saved)
 
 pub none_stopped : (journal : Content) (stops : List ℕ) (state : BusState) → AreStopped journal stops state state 0
@@ -135,15 +144,17 @@ none_stopped journal stops state = record {
     modelled = λ modelled. modelled;
     can = λ modelled first can. can;
     worn = λ modelled s other. refl;
+    aims = none_aimed journal state state refl;
+    writes = none_written 0 state state refl;
   };
   stopped = λ modelled i below. absurd (omega arith);
 }
 
 -- one more
 pub stopped_more : (journal : Content) (stops : List ℕ) (old now new : BusState) (n : ℕ) → AreStopped journal stops old now n
-    → LeavesRestores journal now new → ShowsRestore journal (slice_index stops n) now new false → AreStopped journal stops old new (n + 1)
+    → LeavesRestores journal 1 now new → ShowsRestore journal (slice_index stops n) now new false → AreStopped journal stops old new (n + 1)
 stopped_more journal stops old now new n before leaves shows = record {
-  leaves = restores_then journal old now new before.leaves leaves;
+  leaves = restores_then journal n 1 (n + 1) old now new (omega arith) before.leaves leaves;
   stopped = λ modelled i below. elim (cases_eq i n) [
     | inl here ↦ subst (λ (k : ℕ). slice_index stops k < most_of (length journal.saved)) (sym here) (shows.below (before.leaves.modelled modelled).honest refl)
     | inr other ↦ before.stopped modelled i (omega arith)
@@ -184,8 +195,8 @@ ended_last journal stops old now new n restores most before is past shows = reco
 }
 
 -- what is never refused later on isn't refused
-pub refuses_before : (journal : Content) (old mid : BusState) (refusal : Refusal) → LeavesRestores journal old mid → StopsRestores journal mid refusal → StopsRestores journal old refusal
-refuses_before journal old mid refusal leaves refuses = record {
+pub refuses_before : (journal : Content) (n : ℕ) (old mid : BusState) (refusal : Refusal) → LeavesRestores journal n old mid → StopsRestores journal mid refusal → StopsRestores journal old refusal
+refuses_before journal n old mid refusal leaves refuses = record {
   answers = refuses.answers;
   names = refuses.names;
   halts = λ room honest. refuses.halts room (leaves.nature.honest ∙ honest);
@@ -223,11 +234,16 @@ undoes bytes stops old new journal restores reads shows = record {
       (saved_count first.bytes saved journal (reads (head_of first) first.bytes saved leads.journal).1) (shows.last modelled);
 }
 
-pub undo_wears : (bytes : List ℕ) (old new : BusState) (journal : Content)
+pub undo_wears : (bytes : List ℕ) (n : ℕ) (old new : BusState) (journal : Content)
     → ((head : Content) (chip : ℕ → ℕ) (saved : ℕ → Bool) → JournalSaves head chip saved bytes → SameHead head journal × Saves chip saved journal)
-    → LeavesRestores journal old new → WearsSaved bytes old new
-undo_wears bytes old new journal reads leaves modelled saved first leads s other =
+    → LeavesRestores journal n old new → WearsSaved bytes old new
+undo_wears bytes n old new journal reads leaves modelled saved first leads s other =
     leaves.worn modelled s (sym (Saves-set first.bytes saved journal s (reads (head_of first) first.bytes saved leads.journal).1) ∙ other)
+
+-- a journal that the text is is the one that was read of it
+pub undo_aims : (bytes : List ℕ) (n : ℕ) (old new : BusState) (journal : Content) → IsContent journal → bytes ≡ text journal → LeavesRestores journal n old new → AimsAtText bytes old new
+undo_aims bytes n old new journal is same leaves other =
+    subst (λ (content : Content). AimsAtSaved content old new) (is_read bytes (Ok journal) other.content (is, same) tt other.is other.same) leaves.aims
 
 pub undo_refuses : (bytes : List ℕ) (old : BusState) (journal : Content) (refusal : Refusal) → IsContent journal → bytes ≡ text journal
     → ((head : Content) (chip : ℕ → ℕ) (saved : ℕ → Bool) → JournalSaves head chip saved bytes → SameHead head journal × Saves chip saved journal)
@@ -240,7 +256,11 @@ undo_refuses bytes old journal refusal is same reads refuses = record {
       refuses.never modelled first (can_give_back saved first bytes old journal leads (reads (head_of first) first.bytes saved leads.journal));
 }
 
--- a text that leads back is a journal, and a journal is read
+-- a journal is read
+pub unread_aims : (bytes : List ℕ) (old new : BusState) → ((content : Content) → IsContent content → bytes ≡ text content → ⊥) → AimsAtText bytes old new
+unread_aims bytes old new never whole = absurd (never whole.content whole.is whole.same)
+
+-- so is a text that leads back
 pub unread : (bytes : List ℕ) (old : BusState) (fault : JournalFault) → ((content : Content) → IsContent content → bytes ≡ text content → ⊥)
     → RefusesUndo bytes old (BadJournal fault)
 unread bytes old fault never = record {

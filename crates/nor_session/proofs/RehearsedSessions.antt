@@ -1,9 +1,10 @@
 -- What a session under a stop comes to, and the restores after it.
-use Rattle.std.proofs.Common.{◌≡◌, ◌<◌, ◌≤◌, ◌+◌, ◌/◌, ◌&&◌, ◌∙◌, ℕ, Bool, List, [], ◌∷◌, length, drop, true, false, refl, ap, sym, subst, arith, inl, inr}
-use Rattle.std.specs.Prelude.{nat_lt}
+use Rattle.std.proofs.Common.{◌≡◌, ◌<◌, ◌≤◌, ◌+◌, ◌*◌, ◌/◌, ◌&&◌, ◌∙◌, ℕ, Bool, List, [], ◌∷◌, length, drop, true, false, refl, ap, sym, subst, arith, inl, inr}
+use Rattle.std.specs.Prelude.{nat_lt, max}
 use Rattle.std.proofs.lemmas.Bool.{true≢false, cases_Bool}
 use Rattle.nor_chip.specs.Chip.{Chip, IsChip, IsSame}
 use Rattle.nor_chip.specs.Bus.{BusState, KeepsNature, Allows}
+use Rattle.nor_chip.specs.Sent.{status_writes_of}
 use Rattle.nor_chip.proofs.Nature.{nature_then}
 use Rattle.nor_driver.specs.Looks.{Looks, IsCalm}
 use Rattle.nor_journal.specs.Vault.{VaultState}
@@ -17,18 +18,19 @@ use Rattle.nor_call.specs.declared.refusal.Refusal.TheVariants.{NoChip, UnknownC
 use Rattle.nor_call.specs.Refusal.{number_of}
 use Rattle.nor_call.specs.Request.{wanted, scanned_sectors}
 use Rattle.nor_save.specs.Touched.{is_touched_by, is_raised_by}
-use Rattle.nor_save.specs.SavedScan.{IsJournal, HoldsJournal}
+use Rattle.nor_save.specs.SavedScan.{IsJournal}
 use Rattle.nor_probe.specs.Known.{IsGenuine, IsModelled}
 use Rattle.nor_probe.proofs.Configs.{shown_config}
 use Rattle.nor_save.specs.Opening.{most_opening}
 use Rattle.nor_session.specs.Bounds.{most_looked, most_of}
 use Rattle.nor_session.specs.Made.{AreFewestErases}
 use Rattle.nor_session.specs.Verdict.{IsAccepted}
-use Rattle.nor_session.specs.Session.{SessionTells, CanBeUndone, HonestTells, AnswersSession, EndsSealed, IsDone, NamesAddress, SavesSector, NamesSector}
+use Rattle.nor_session.specs.Session.{SessionTells, CanBeUndone, HonestTells, AnswersSession, EndsSealed, IsDone, NamesAddress, SavesSector, NamesSector, most_status_writes, AimsAtSaved, WritesStatusAtMost}
 use Rattle.nor_session.specs.Rehearsal.{IsRehearsalRefusal, IsNoHalt, RehearsalTells, first_allowance, least_needed, AreRestores, FitsLastStop}
-use Rattle.nor_session.specs.Rehearsing.{HasWantedBits, LeadsBack, LeavesSession, ShowsSession, RefusesSession, Undoes, WearsSaved, RefusesUndo}
+use Rattle.nor_session.specs.Rehearsing.{HasWantedBits, LeadsBack, LeavesSession, ShowsSession, RefusesSession, Undoes, WearsSaved, AimsAtText, RefusesUndo}
 use Rattle.nor_session.proofs.RestoredBytes.{untouched_unraised}
 use Rattle.nor_session.proofs.GivesBack.{leads_back}
+use Rattle.nor_session.proofs.Aiming.{none_aimed, aims_then}
 use Rattle.nor_session.proofs.RehearsedRestores.{modelled_at}
 
 -- ---- the session
@@ -57,8 +59,10 @@ untouched_unraised_by request image chip s =
 -- what a session leaves that is allowed so many transactions
 pub session_leaves : (n most few : ℕ) (request : Request) (image : List ℕ) (old mid new : BusState) (vault : VaultState) → Allows n old mid → vault.telling ≡ true
     → (mid.honest ≡ true → IsChip mid.chip) → Spends most mid new → (vault.sealed ≡ false → Looks few mid new)
-    → (IsModelled mid → vault.sealed ≡ true → CanBeUndone request image mid new vault) → HoldsJournal vault → LeavesSession request image old new vault
-session_leaves n most few request image old mid new vault allows telling reaches spends looks undo holds = record {
+    → (IsModelled mid → vault.sealed ≡ true → CanBeUndone request image mid new vault)
+    → (vault.sealed ≡ true → vault.telling ≡ true → (journal : IsJournal vault.bytes) × AimsAtSaved journal.content mid new)
+    → WritesStatusAtMost (most_status_writes request.what request.unlock) mid new → LeavesSession request image old new vault
+session_leaves n most few request image old mid new vault allows telling reaches spends looks undo aims writes = record {
   nature = nature_then old mid new spends.nature allows.nature;
   same = λ modelled calm unsealed.
       same_at old.chip mid.chip new.chip allows.chip (((looks unsealed).looked (allows.nature.honest ∙ modelled.honest)).stays.calm (calm_at n old mid allows calm));
@@ -74,7 +78,11 @@ session_leaves n most few request image old mid new vault allows telling reaches
         ∙ allows.worn s
     | inr unsealed ↦ ((looks unsealed).looked (allows.nature.honest ∙ modelled.honest)).stays.worn s ∙ allows.worn s
   ];
-  holds = holds;
+  still = λ unsealed. (looks unsealed).sent ∙ allows.sent;
+  aims = λ sealed.
+      let aimed = aims sealed telling in
+      (aimed.0, aims_then aimed.0.content old mid new (none_aimed aimed.0.content old mid allows.sent) aimed.1);
+  writes = (let same = ap status_writes_of allows.sent in omega (arith, same, writes));
 }
 
 -- it took what it counts
@@ -261,10 +269,17 @@ never_refused saved bytes text old mid refusal nature back is refuses modelled =
     (subst (λ (t : List ℕ). LeadsBack saved old.chip t mid) (sym is) (back modelled))
 
 -- whatever the bus, they are refused as restores are
-pub refused_undo : (bytes : List ℕ) (vault vault' : VaultState) (mid : BusState) (refusal : Refusal) → bytes ≡ vault'.bytes → vault'.telling ≡ true → vault'.sealed ≡ true → HoldsJournal vault'
+pub refused_undo : (bytes : List ℕ) (vault vault' : VaultState) (mid : BusState) (refusal : Refusal) → bytes ≡ vault'.bytes → vault'.sealed ≡ true → IsJournal vault'.bytes
     → RefusesUndo bytes mid refusal → IsRehearsalRefusal vault vault' refusal
-refused_undo bytes vault vault' mid refusal is telling sealed holds refuses =
-    inr (sealed, refuses.answers (subst IsJournal (sym is) (holds sealed telling)))
+refused_undo bytes vault vault' mid refusal is sealed journal refuses =
+    inr (sealed, refuses.answers (subst IsJournal (sym is) journal))
+
+-- and aim where the session did
+pub both_aim : (bytes : List ℕ) (vault : VaultState) (old mid new : BusState) → bytes ≡ vault.bytes → ((journal : IsJournal vault.bytes) × AimsAtSaved journal.content old mid)
+    → AimsAtText bytes mid new → (journal : IsJournal vault.bytes) × AimsAtSaved journal.content old new
+both_aim bytes vault old mid new is before after =
+    let again = subst (λ (text : List ℕ). AimsAtText text mid new) is after in
+    (before.0, aims_then before.0.content old mid new before.1 (again before.0))
 
 -- and name what the sealed journal saves
 pub undo_names : (bytes : List ℕ) (vault : VaultState) (mid : BusState) (refusal : Refusal) → bytes ≡ vault.bytes → vault.sealed ≡ true → RefusesUndo bytes mid refusal → NamesAddress vault refusal
@@ -301,3 +316,16 @@ last_stop saved bytes text stops later old mid new restores nature back is behin
     subst (λ (l : List ℕ). FitsLastStop (sector_count saved) l new.left restores) behind
     (undoes.last (still_modelled saved bytes old mid nature (back modelled) modelled) saved old.chip
     (subst (λ (t : List ℕ). LeadsBack saved old.chip t mid) (sym is) (back modelled)))
+
+-- the stops behind the first are one fewer
+behind_first : (stops : List ℕ) → length (drop 1 stops) + 1 ≡ max 1 (length stops)
+behind_first [] = refl
+behind_first (first ∷ later) = omega arith
+
+-- and each restore writes the status at most twice
+pub both_write : (request : Request) (stops later : List ℕ) (old mid new : BusState) → later ≡ drop 1 stops → WritesStatusAtMost (most_status_writes request.what request.unlock) old mid
+    → WritesStatusAtMost (2 * (length later + 1)) mid new → WritesStatusAtMost (most_status_writes request.what request.unlock + 2 * max 1 (length stops)) old new
+both_write request stops later old mid new behind before after =
+    let count = ap (λ (l : List ℕ). length l) behind in
+    let one = behind_first stops in
+    omega (arith, count, one, before, after)

@@ -14,11 +14,12 @@ use Rattle.nor_call.specs.Refusal.{number_of}
 use Rattle.nor_call.specs.Request.{wanted, scanned_sectors}
 use Rattle.nor_save.specs.Touched.{is_touched_by, is_raised_by}
 use Rattle.nor_save.specs.Saving.{head_of}
+use Rattle.nor_save.specs.SavedScan.{IsJournal}
 use Rattle.nor_session.specs.declared.rehearsals.Rehearsal.{Rehearsal}
 use Rattle.nor_session.specs.Bounds.{most_looked, most_of}
 use Rattle.nor_session.specs.Made.{AreFewestErases, pages_of}
 use Rattle.nor_session.specs.Verdict.{IsVerdict, IsAccepted}
-use Rattle.nor_session.specs.Session.{AnswersSession, NamesAddress}
+use Rattle.nor_session.specs.Session.{AnswersSession, NamesAddress, most_status_writes, AimsAtSaved, WritesStatusAtMost}
 use Rattle.nor_session.specs.Restore.{IsRestoreRefusal}
 
 -- the transactions that the session is allowed: without a stop the most that a session takes on a chip of 16 MiB
@@ -91,7 +92,7 @@ RehearsalTells request image chip old new refusal = IsVerdict request image chip
 -- ---- the promises of a rehearsal
 
 -- On every bus.
-pub record RehearsalAlways (stops : List ℕ) (old new : BusState) (vault vault' : VaultState)
+pub record RehearsalAlways (request : Request) (stops : List ℕ) (old new : BusState) (vault vault' : VaultState)
     (result : Result Rehearsal Refusal) : Type 0 where
   -- the bus stays as honest and as steady as it was
   pub nature : KeepsNature old new
@@ -103,6 +104,13 @@ pub record RehearsalAlways (stops : List ℕ) (old new : BusState) (vault vault'
   pub names : IfErr result (NamesAddress vault')
   -- where it restored it ends only where the last poll showed that the chip is ready
   pub heard : IfOk result (λ rehearsal. rehearsal.sealed ≡ true → new.heard ≡ true)
+  -- where the vault isn't sealed nothing changing was sent
+  pub still : vault'.sealed ≡ false → new.sent ≡ old.sent
+  -- once it is sealed its journal saves the sectors that session and restores aimed at
+  pub aims : vault'.sealed ≡ true → (journal : IsJournal vault'.bytes) × AimsAtSaved journal.content old new
+  -- at every exit the status was written at most so often as the request may need, and twice by each restore, of which
+  -- there are no more than stops, or one
+  pub writes : WritesStatusAtMost (most_status_writes request.what request.unlock + 2 * max 1 (length stops)) old new
 
 -- On an honest bus whose chip is what it shows itself to be.
 pub record RehearsalModelled (request : Request) (image stops : List ℕ) (old new : BusState) (vault vault' : VaultState)

@@ -1,5 +1,5 @@
 -- What the parts of a rehearsal come to: its session, and the restores in turn.
-use Rattle.std.specs.Prelude.{◌≡◌, ◌≤◌, ◌<◌, ◌+◌, ◌/◌, ℕ, Bool, true, false, List, length}
+use Rattle.std.specs.Prelude.{◌≡◌, ◌≤◌, ◌<◌, ◌+◌, ◌*◌, ◌/◌, ℕ, Bool, true, false, List, length}
 use Rattle.nor_chip.specs.Chip.{Chip, IsChip, IsSame, is_locked}
 use Rattle.nor_chip.specs.Bus.{BusState, KeepsNature}
 use Rattle.nor_driver.specs.Looks.{IsCalm}
@@ -16,10 +16,10 @@ use Rattle.nor_call.specs.declared.refusal.Refusal.{Refusal}
 use Rattle.nor_call.specs.Request.{wanted, IsWantedCode}
 use Rattle.nor_save.specs.Touched.{is_touched_by}
 use Rattle.nor_save.specs.Saving.{head_of, NoneHeld}
-use Rattle.nor_save.specs.SavedScan.{IsJournal, HoldsJournal}
+use Rattle.nor_save.specs.SavedScan.{IsJournal}
 use Rattle.nor_session.specs.Bounds.{most_of}
 use Rattle.nor_session.specs.Verdict.{IsAccepted}
-use Rattle.nor_session.specs.Session.{AnswersSession, SavesSector, NamesSector, NamesAddress}
+use Rattle.nor_session.specs.Session.{AnswersSession, SavesSector, NamesSector, NamesAddress, most_status_writes, AimsAtSaved, WritesStatusAtMost}
 use Rattle.nor_session.specs.Restore.{IsRestoreRefusal, CanGiveBack}
 use Rattle.nor_session.specs.Rehearsal.{CanEnd, SealFits, AreRestores, FitsLastStop, LeavesRefused, IsNoHalt, RehearsalTells}
 
@@ -37,7 +37,8 @@ pub record LeadsBack (saved : ℕ → Bool) (first : Chip) (text : List ℕ) (st
   pub within : IsWithin (places_of saved) first state
 
 -- At every exit of the session: where its vault isn't sealed the chip is as it was, and else that leads back, and the
--- request is accepted; only touched sectors are worn. Whatever the bus, a sealed vault has a journal.
+-- request is accepted; only touched sectors are worn. Whatever the bus, nothing changing was sent before the seal, and
+-- a sealed vault has a journal, which saves the sectors that were aimed at.
 pub record LeavesSession (request : Request) (image : List ℕ) (old new : BusState) (vault : VaultState) : Type 0 where
   pub nature : KeepsNature old new
   pub same : IsModelled old → IsCalm old → vault.sealed ≡ false → IsSame old.chip new.chip
@@ -45,7 +46,9 @@ pub record LeavesSession (request : Request) (image : List ℕ) (old new : BusSt
       → LeadsBack (is_touched_by request image old.chip) old.chip vault.bytes new
   pub accepted : IsModelled old → vault.sealed ≡ true → IsAccepted request image old.chip
   pub wears : IsModelled old → (s : ℕ) → is_touched_by request image old.chip s ≡ false → new.worn s ≡ old.worn s
-  pub holds : HoldsJournal vault
+  pub still : vault.sealed ≡ false → new.sent ≡ old.sent
+  pub aims : vault.sealed ≡ true → (journal : IsJournal vault.bytes) × AimsAtSaved journal.content old new
+  pub writes : WritesStatusAtMost (most_status_writes request.what request.unlock) old new
 
 -- The wanted kept bits: the fixed ones are as they were, and the code is the wanted one.
 pub record HasWantedBits (what : What) (old new : Chip) : Type 0 where
@@ -77,13 +80,16 @@ pub record RefusesSession (request : Request) (image : List ℕ) (old new : BusS
 
 -- ---- the restores
 
--- At every exit of some restores: the bus is modelled as before, each chip that the journal could give back it still
--- can, and only saved sectors are worn.
-pub record LeavesRestores (journal : Content) (old new : BusState) : Type 0 where
+-- At every exit of so many restores: the bus is modelled as before, each chip that the journal could give back it still
+-- can, and only saved sectors are worn; whatever the bus, no others were aimed at, and each wrote the status at most
+-- twice.
+pub record LeavesRestores (journal : Content) (restores : ℕ) (old new : BusState) : Type 0 where
   pub nature : KeepsNature old new
   pub modelled : IsModelled old → IsModelled new
   pub can : IsModelled old → (first : Chip) → CanGiveBack journal first old → CanGiveBack journal first new
   pub worn : IsModelled old → (s : ℕ) → is_saved journal s ≡ false → new.worn s ≡ old.worn s
+  pub aims : AimsAtSaved journal old new
+  pub writes : WritesStatusAtMost (2 * restores) old new
 
 -- One restore was allowed so many transactions, and ended, and gave each such chip back; or it was stopped, where none
 -- is left, since they were too few.
@@ -125,6 +131,10 @@ pub record Undoes (text : List ℕ) (stops : List ℕ) (old new : BusState) (res
 abbrev pub WearsSaved : List ℕ → (old new : BusState) → Type 0
 WearsSaved text old new = IsModelled old → (saved : ℕ → Bool) (first : Chip) → LeadsBack saved first text old
     → (s : ℕ) → saved s ≡ false → new.worn s ≡ old.worn s
+
+-- whatever the bus, a journal that the text is saves the sectors that were aimed at
+abbrev pub AimsAtText : List ℕ → (old new : BusState) → Type 0
+AimsAtText text old new = (journal : IsJournal text) → AimsAtSaved journal.content old new
 
 -- They were refused: where the text is a journal as restores are, on an honest bus not by a stop, and never where the
 -- text leads back.

@@ -1,12 +1,13 @@
 //! A rehearsal: a session that is stopped on purpose, and the restores from its journal.
-ghost use Rattle.std.specs.Prelude.{◌≡◌, ◌≤◌, true, length, drop, IfOk, IfErr, OnOk};
+ghost use Rattle.std.specs.Prelude.{◌≡◌, ◌≤◌, ◌+◌, ◌*◌, true, length, drop, IfOk, IfErr, OnOk};
 ghost use Rattle.nor_chip.specs.Bus.{KeepsNature};
 ghost use Rattle.nor_journal.specs.Vault.{IsFresh};
 ghost use Rattle.nor_journal.specs.MemVault.{held_by};
 ghost use Rattle.nor_probe.specs.Known.{IsModelled};
 ghost use Rattle.nor_session.specs.Bounds.{most_of};
+ghost use Rattle.nor_session.specs.Session.{WritesStatusAtMost};
 ghost use Rattle.nor_session.specs.Rehearsing.{LeavesSession, ShowsSession, RefusesSession, LeavesRestores, ShowsRestore, ShowsRestores};
-ghost use Rattle.nor_session.specs.Rehearsing.{Undoes, WearsSaved, StopsRestores, RefusesUndo};
+ghost use Rattle.nor_session.specs.Rehearsing.{Undoes, WearsSaved, AimsAtText, StopsRestores, RefusesUndo};
 ghost use Rattle.nor_session.specs.Rehearsal.{RehearsalAlways, RehearsalModelled, IsNoHalt, first_allowance};
 
 use crate::restores::restore;
@@ -38,7 +39,7 @@ pub fn rehearse<B: Meter>(
 ) -> Result<Rehearsal, Refusal>
     requires few { length stops.now ≤ 64 }
     requires fresh { IsFresh (held_by vault.old) }
-    ensures always { RehearsalAlways stops.now (B.state bus.old) (B.state bus.new) (held_by vault.old)
+    ensures always { RehearsalAlways request.now stops.now (B.state bus.old) (B.state bus.new) (held_by vault.old)
         (held_by vault.new) result }
     ensures honest { (B.state bus.old).honest ≡ true → IfErr result IsNoHalt }
     ensures modelled { IsModelled (B.state bus.old) → RehearsalModelled request.now image.old stops.now
@@ -126,6 +127,8 @@ fn undo<B: Meter>(bus: &mut B, text: &[u8], stops: &[u64]) -> Result<u32, Refusa
     requires few { length stops.now ≤ 64 }
     ensures nature { KeepsNature (B.state bus.old) (B.state bus.new) }
     ensures wears { WearsSaved text.now (B.state bus.old) (B.state bus.new) }
+    ensures aims { AimsAtText text.now (B.state bus.old) (B.state bus.new) }
+    ensures writes { WritesStatusAtMost (2 * (length stops.now + 1)) (B.state bus.old) (B.state bus.new) }
     ensures undoes { IfOk result (Undoes text.now stops.now (B.state bus.old) (B.state bus.new)) }
     ensures heard { OnOk result ((B.state bus.new).heard ≡ true) }
     ensures refuses { IfErr result (RefusesUndo text.now (B.state bus.old)) }
@@ -143,7 +146,7 @@ fn restore_in_turn<B: Meter>(
     stops: &[u64],
 ) -> Result<u32, Refusal>
     requires few { length stops.now ≤ 64 }
-    ensures leaves { LeavesRestores journal.now (B.state bus.old) (B.state bus.new) }
+    ensures leaves { LeavesRestores journal.now (length stops.now + 1) (B.state bus.old) (B.state bus.new) }
     ensures shows { IfOk result (ShowsRestores journal.now stops.now (B.state bus.old) (B.state bus.new)) }
     ensures heard { OnOk result ((B.state bus.new).heard ≡ true) }
     ensures refuses { IfErr result (StopsRestores journal.now (B.state bus.old)) }
@@ -163,7 +166,7 @@ fn restore_in_turn<B: Meter>(
 
 // Restores with so many transactions allowed, and tells whether that ended, or the bus stopped.
 fn ends_under<B: Meter>(bus: &mut B, journal: &Journal<'_>, allowance: u64) -> Result<bool, Refusal>
-    ensures leaves { LeavesRestores journal.now (B.state bus.old) (B.state bus.new) }
+    ensures leaves { LeavesRestores journal.now 1 (B.state bus.old) (B.state bus.new) }
     ensures shows { IfOk result (ShowsRestore journal.now allowance (B.state bus.old) (B.state bus.new)) }
     ensures heard { IfOk result (λ ended. ended ≡ true → (B.state bus.new).heard ≡ true) }
     ensures refuses { IfErr result (StopsRestores journal.now (B.state bus.old)) }

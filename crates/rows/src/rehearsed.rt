@@ -100,12 +100,20 @@ fn a_third_stop_is_the_second_restores(rt: HostRuntime) {
     }
 }
 
-// What a rehearsal tells, whether its vault is sealed, and whether the chip is as before.
-type Told = (Result<Rehearsal, Refusal>, bool, bool);
+// What a rehearsal tells on a bus that lies, and what it leaves.
+#[derive(Clone, Copy, PartialEq, Eq)]
+struct Told {
+    result: Result<Rehearsal, Refusal>,
+    // the vault is sealed
+    sealed: bool,
+    // the chip has the bytes that it had
+    as_before: bool,
+    // how many transactions were sent
+    sent: u64,
+}
 
 // Rehearses under so many stops, of which none comes, on a bus that lies so.
-fn rehearsed_lied(rt: &impl Abort, alloc: Global, spoil: Spoil, stops: usize) -> Told {
-    let row = Row::ABitRises;
+fn rehearsed_lied(rt: &impl Abort, alloc: Global, row: Row, spoil: Spoil, stops: usize) -> Told {
     let bus = row.bus(rt, alloc, Start::IDLE);
     let mut bus = SpoiltBus::new(bus, spoil);
     let mut vault = MemVault::new(alloc);
@@ -113,40 +121,89 @@ fn rehearsed_lied(rt: &impl Abort, alloc: Global, spoil: Spoil, stops: usize) ->
     let request = row.request(rt, alloc);
     let all = [most(16); 2];
     let stops = all.get(..stops).unwrap_or(&all);
-    let told = rehearse(&mut bus, &mut vault, &mut image, &request, stops);
+    let result = rehearse(&mut bus, &mut vault, &mut image, &request, stops);
     let before = row.before(rt, alloc);
+    let sent = bus.sent();
     let bus = bus.into_inner();
-    (told, vault.is_sealed(), bus.bytes() == before.as_slice())
+    Told {
+        result,
+        sealed: vault.is_sealed(),
+        as_before: bus.bytes() == before.as_slice(),
+        sent,
+    }
 }
 
-const ENDED: Rehearsal = Rehearsal {
-    ended: true,
+const ENDED: Told = Told {
+    result: Ok(Rehearsal {
+        ended: true,
+        sealed: true,
+        restores: 1,
+    }),
     sealed: true,
-    restores: 1,
+    as_before: true,
+    sent: 30 + 13,
 };
 
 const TIMEOUT: Refusal = Refusal::Timeout { address: 0 };
 
 const MISMATCH: Refusal = Refusal::Mismatch { address: 0 };
 
-// The session ends with its 30th transaction, and a restore of thirteen gives the chip back. 24 enables the erase: where
-// it is dropped that is ignored, and a program gives no bit back. 26 is the poll behind the erase, 31 the restore's
-// first, and 40 enables its program.
-const TOLD: [(Spoil, Result<Rehearsal, Refusal>, bool); 5] = [
-    (Spoil::BusyFrom(u64::MAX), Ok(ENDED), true),
-    (Spoil::Drop(24), Err(MISMATCH), true),
-    (Spoil::BusyFrom(26), Err(TIMEOUT), false),
-    (Spoil::BusyFrom(31), Err(TIMEOUT), false),
-    (Spoil::Drop(40), Err(MISMATCH), false),
-];
+// It was refused so, after so many transactions. The vault is unsealed, and the chip as before.
+fn early(refusal: Refusal, sent: u64) -> Told {
+    Told {
+        result: Err(refusal),
+        sealed: false,
+        as_before: true,
+        sent,
+    }
+}
 
-// A refusal is told also where stops are given.
+// It was refused so, after so many transactions. The vault is sealed, and the chip isn't as before.
+fn changed(refusal: Refusal, sent: u64) -> Told {
+    Told {
+        result: Err(refusal),
+        sealed: true,
+        as_before: false,
+        sent,
+    }
+}
+
+// Where a bit rises, the session ends with its 30th transaction, and a restore of thirteen gives the chip back. 1 is a
+// poll. 24 enables the erase: where it is dropped that is ignored, and a program gives no bit back; 30 reads the sector
+// again. 26 is the poll behind the erase. 31, the restore's first, is a poll too; 40 enables its program, and 43 reads
+// the sector again. A wait gives up behind 65,536 polls.
+//
+// Where a byte of the second page is programmed, 27 is the poll behind that, and the session ends with 28. Of the
+// restore's twelve 29 to 35 are the opening, 36 reads the sector, 37 enables the erase, 38 is the erase, 39 its poll,
+// and 40 reads the sector again.
+fn lies() -> [(Row, Spoil, Told); 8] {
+    let unmoved = Told {
+        result: Err(MISMATCH),
+        sent: 30,
+        ..ENDED
+    };
+    let late = Refusal::Timeout { address: 0x100 };
+    let unlike = Refusal::Mismatch { address: 0x100 };
+    let (rises, programmed) = (Row::ABitRises, Row::AByteIsProgrammed);
+    [
+        (rises, Spoil::BusyFrom(u64::MAX), ENDED),
+        (rises, Spoil::BusyFrom(1), early(TIMEOUT, 65_536)),
+        (rises, Spoil::Drop(24), unmoved),
+        (rises, Spoil::BusyFrom(26), changed(TIMEOUT, 25 + 65_536)),
+        (rises, Spoil::BusyFrom(31), changed(TIMEOUT, 30 + 65_536)),
+        (rises, Spoil::Drop(40), changed(MISMATCH, 43)),
+        (programmed, Spoil::BusyFrom(27), changed(late, 26 + 65_536)),
+        (programmed, Spoil::Drop(38), changed(unlike, 40)),
+    ]
+}
+
+// A refusal is told also where stops are given, and nothing more is sent.
 #[test]
 fn a_refusal_in_a_rehearsal_is_told(rt: HostRuntime) {
-    for (spoil, told, as_before) in TOLD {
+    for (row, spoil, told) in lies() {
         for stops in 0..3 {
-            let came = rehearsed_lied(&rt, rt.alloc(), spoil, stops);
-            assert!(rt; came == (told, true, as_before));
+            let came = rehearsed_lied(&rt, rt.alloc(), row, spoil, stops);
+            assert!(rt; came == told);
         }
     }
 }

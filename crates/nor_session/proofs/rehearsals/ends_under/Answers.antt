@@ -4,7 +4,7 @@ use Rattle.nor_session.proofs.RehearsedRestores.{under_leaves, under_ends, under
 use Rattle.nor_session.proofs.rehearsals.ends_under.Goals as goal
 
 pub returns-in-Ok-clause-leaves : goal.returns-in-Ok-clause-leaves
-returns-in-Ok-clause-leaves g c = under_leaves _ _ _ _ _ _ c.allow.ensures c.restore.ensures.always.spends
+returns-in-Ok-clause-leaves g c = under_leaves _ _ _ _ _ _ c.allow.ensures c.restore.ensures.always.spends c.restore.ensures.always.aims c.restore.ensures.always.writes
     (λ modelled. (c.restore.ensures.modelled modelled).leaves) (λ modelled. (c.restore.ensures.modelled modelled).within)
 
 pub returns-in-Ok-clause-shows : goal.returns-in-Ok-clause-shows
@@ -12,11 +12,11 @@ returns-in-Ok-clause-shows g c = under_ends _ _ _ _ _ c.in-Ok.field-0 c.allow.en
     (λ honest. (c.in-Ok.ensures.honest honest).counted) (λ modelled. (c.in-Ok.ensures.modelled modelled).back)
 
 pub returns-in-Err-clause-leaves : goal.returns-in-Err-clause-leaves
-returns-in-Err-clause-leaves g c = under_leaves _ _ _ _ _ _ c.allow.ensures c.restore.ensures.always.spends
+returns-in-Err-clause-leaves g c = under_leaves _ _ _ _ _ _ c.allow.ensures c.restore.ensures.always.spends c.restore.ensures.always.aims c.restore.ensures.always.writes
     (λ modelled. (c.restore.ensures.modelled modelled).leaves) (λ modelled. (c.restore.ensures.modelled modelled).within)
 
 pub returns-in-Err-2-clause-leaves : goal.returns-in-Err-2-clause-leaves
-returns-in-Err-2-clause-leaves g c = under_leaves _ _ _ _ _ _ c.allow.ensures c.restore.ensures.always.spends
+returns-in-Err-2-clause-leaves g c = under_leaves _ _ _ _ _ _ c.allow.ensures c.restore.ensures.always.spends c.restore.ensures.always.aims c.restore.ensures.always.writes
     (λ modelled. (c.restore.ensures.modelled modelled).leaves) (λ modelled. (c.restore.ensures.modelled modelled).within)
 
 pub returns-in-Err-2-clause-refuses : goal.returns-in-Err-2-clause-refuses

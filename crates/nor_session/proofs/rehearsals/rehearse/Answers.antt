@@ -1,9 +1,10 @@
 use Rattle.std.proofs.Common.{rules, ◌∙◌, refl, sym}
+use Rattle.std.proofs.lemmas.Bool.{true≢false}
 use Rattle.nor_save.proofs.Begun.{err_same}
 use Rattle.nor_journal.specs.MemVault.{held_by}
 use Rattle.nor_session.specs.Rehearsal.{IsRehearsalRefusal, IsNoHalt}
 use Rattle.nor_session.specs.Session.{NamesAddress}
-use Rattle.nor_session.proofs.RehearsedSessions.{never_refused, refused_undo, undo_names, same_again, worn_all, are_restores, last_stop}
+use Rattle.nor_session.proofs.RehearsedSessions.{never_refused, refused_undo, undo_names, both_aim, both_write, same_again, worn_all, are_restores, last_stop}
 use Rattle.nor_session.proofs.rehearsals.rehearse.Goals as goal
 
 -- ---- a restore was refused
@@ -19,10 +20,14 @@ returns-in_err-restores-clause-always g c =
       nature = search rules;
       counts = search rules;
       answers = err_same c.from_residual-in_err-restores.result refusal (IsRehearsalRefusal before after) c.from_residual-in_err-restores.ensures.1
-          (refused_undo c.bytes.result.now before after mid refusal c.bytes.ensures refl sealed leaves.holds refuses);
+          (refused_undo c.bytes.result.now before after mid refusal c.bytes.ensures sealed (leaves.aims sealed).0 refuses);
       names = err_same c.from_residual-in_err-restores.result refusal (NamesAddress after) c.from_residual-in_err-restores.ensures.1
           (undo_names c.bytes.result.now after mid refusal c.bytes.ensures sealed refuses);
       heard = search rules;
+      still = λ unsealed. absurd (true≢false (sym sealed ∙ unsealed));
+      aims = λ sealed'. both_aim _ after (g.B.Bus.state c.args.bus.now) mid (g.B.Bus.state c.undo.new.bus) c.bytes.ensures (leaves.aims sealed) c.undo.ensures.aims;
+      writes = both_write c.args.request.now c.args.stops.now _ (g.B.Bus.state c.args.bus.now) (g.B.Bus.state c.stopped_session.new.bus) (g.B.Bus.state c.undo.new.bus)
+          c.later.ensures leaves.writes c.undo.ensures.writes;
     }
 
 pub returns-in_err-restores-clause-honest : goal.returns-in_err-restores-clause-honest
@@ -37,6 +42,30 @@ returns-in_err-restores-clause-modelled g c = λ modelled.
     absurd (never_refused _ _ _ _ _ _ leaves.nature (λ modelled. leaves.back modelled sealed) c.bytes.ensures c.in_err-restores.ensures.refuses modelled)
 
 -- ---- one ended
+
+pub returns-clause-always : goal.returns-clause-always
+returns-clause-always g c =
+    let leaves = c.stopped_session.ensures.leaves in
+    let sealed = sym c.is_sealed.ensures ∙ c.if-not-is_sealed.false in
+    record {
+      nature = search rules;
+      counts = record {
+        seal = sym sealed;
+        ended = λ ended. refl;
+        some = λ sealed'. c.in_ok-restores.ensures.undoes.some;
+        most = (let most = c.in_ok-restores.ensures.undoes.most in let behind = c.later.ensures in search rules);
+        none = λ unsealed. absurd (true≢false unsealed);
+        whole = search rules;
+      };
+      answers = search rules;
+      names = search rules;
+      heard = search rules;
+      still = λ unsealed. absurd (true≢false (sym sealed ∙ unsealed));
+      aims = λ sealed'. both_aim _ (held_by c.stopped_session.new.vault) (g.B.Bus.state c.args.bus.now) (g.B.Bus.state c.stopped_session.new.bus) (g.B.Bus.state c.undo.new.bus)
+          c.bytes.ensures (leaves.aims sealed) c.undo.ensures.aims;
+      writes = both_write c.args.request.now c.args.stops.now _ (g.B.Bus.state c.args.bus.now) (g.B.Bus.state c.stopped_session.new.bus) (g.B.Bus.state c.undo.new.bus)
+          c.later.ensures leaves.writes c.undo.ensures.writes;
+    }
 
 pub returns-clause-modelled : goal.returns-clause-modelled
 returns-clause-modelled g c = λ modelled.

@@ -14,16 +14,16 @@ loop-stop-preserved g c =
 
 pub returns-clause-refuses : goal.returns-clause-refuses
 returns-clause-refuses g c =
-    refuses_before _ _ _ _ c.loop-stop.invariant.stopped.leaves
+    refuses_before _ _ _ _ _ c.loop-stop.invariant.stopped.leaves
     (last_ends _ _ _ _ c.most_needed.ensures (subst (ShowsRestore c.args.journal.now _ _ _) c.if-branch-2.false c.in_ok-ends_under-2.ensures.shows))
 
 pub returns-in_err-ends_under-clause-refuses : goal.returns-in_err-ends_under-clause-refuses
 returns-in_err-ends_under-clause-refuses g c =
-    let told = refuses_before _ _ _ c.in_err-ends_under.field-0.0 c.loop-stop.invariant.stopped.leaves c.in_err-ends_under.ensures.refuses in
+    let told = refuses_before _ _ _ _ c.in_err-ends_under.field-0.0 c.loop-stop.invariant.stopped.leaves c.in_err-ends_under.ensures.refuses in
     search rules
 
 pub returns-then-branch-clause-leaves : goal.returns-then-branch-clause-leaves
-returns-then-branch-clause-leaves g c = restores_then _ _ _ _ c.loop-stop.invariant.stopped.leaves c.in_ok-ends_under.ensures.leaves
+returns-then-branch-clause-leaves g c = restores_then _ c.loop-stop.stop-index 1 _ _ _ _ (omega arith) c.loop-stop.invariant.stopped.leaves c.in_ok-ends_under.ensures.leaves
 
 pub returns-then-branch-clause-shows : goal.returns-then-branch-clause-shows
 returns-then-branch-clause-shows g c =
@@ -33,17 +33,17 @@ returns-then-branch-clause-shows g c =
 
 pub returns-in_err-ends_under-2-clause-refuses : goal.returns-in_err-ends_under-2-clause-refuses
 returns-in_err-ends_under-2-clause-refuses g c =
-    let told = refuses_before _ _ _ c.in_err-ends_under-2.field-0.0 c.loop-stop.invariant.stopped.leaves c.in_err-ends_under-2.ensures.refuses in
+    let told = refuses_before _ _ _ _ c.in_err-ends_under-2.field-0.0 c.loop-stop.invariant.stopped.leaves c.in_err-ends_under-2.ensures.refuses in
     search rules
 
 pub returns-clause-leaves : goal.returns-clause-leaves
-returns-clause-leaves g c = restores_then _ _ _ _ c.loop-stop.invariant.stopped.leaves c.in_ok-ends_under-2.ensures.leaves
+returns-clause-leaves g c = restores_then _ c.loop-stop.stop-index 1 _ _ _ _ (omega arith) c.loop-stop.invariant.stopped.leaves c.in_ok-ends_under-2.ensures.leaves
 
 pub returns-in_err-ends_under-clause-leaves : goal.returns-in_err-ends_under-clause-leaves
-returns-in_err-ends_under-clause-leaves g c = restores_then _ _ _ _ c.loop-stop.invariant.stopped.leaves c.in_err-ends_under.ensures.leaves
+returns-in_err-ends_under-clause-leaves g c = restores_then _ c.loop-stop.stop-index 1 _ _ _ _ (omega arith) c.loop-stop.invariant.stopped.leaves c.in_err-ends_under.ensures.leaves
 
 pub returns-in_err-ends_under-2-clause-leaves : goal.returns-in_err-ends_under-2-clause-leaves
-returns-in_err-ends_under-2-clause-leaves g c = restores_then _ _ _ _ c.loop-stop.invariant.stopped.leaves c.in_err-ends_under-2.ensures.leaves
+returns-in_err-ends_under-2-clause-leaves g c = restores_then _ c.loop-stop.stop-index 1 _ _ _ _ (omega arith) c.loop-stop.invariant.stopped.leaves c.in_err-ends_under-2.ensures.leaves
 
 pub returns-then-branch-2-clause-leaves : goal.returns-then-branch-2-clause-leaves
-returns-then-branch-2-clause-leaves g c = restores_then _ _ _ _ c.loop-stop.invariant.stopped.leaves c.in_ok-ends_under-2.ensures.leaves
+returns-then-branch-2-clause-leaves g c = restores_then _ c.loop-stop.stop-index 1 _ _ _ _ (omega arith) c.loop-stop.invariant.stopped.leaves c.in_ok-ends_under-2.ensures.leaves

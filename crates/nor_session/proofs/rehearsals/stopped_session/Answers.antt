@@ -9,7 +9,7 @@ use Rattle.nor_session.proofs.rehearsals.stopped_session.Goals.{then-is_stopped+
 pub returns-in-Ok-clause-leaves : goal.returns-in-Ok-clause-leaves
 returns-in-Ok-clause-leaves g c =
     session_leaves _ _ _ _ _ _ _ _ _ c.allow.ensures refl (g.met.B.Bus.reaches c.allow.new.self) c.session.ensures.always.spends c.session.ensures.always.looks
-    (λ modelled. (c.session.ensures.modelled modelled).undo) c.session.ensures.always.holds
+    (λ modelled. (c.session.ensures.modelled modelled).undo) c.session.ensures.always.aims c.session.ensures.always.writes
 
 pub returns-in-Ok-clause-shows : goal.returns-in-Ok-clause-shows
 returns-in-Ok-clause-shows g c =
@@ -22,12 +22,12 @@ returns-in-Ok-clause-shows g c =
 pub returns-in-Err-clause-leaves : goal.returns-in-Err-clause-leaves
 returns-in-Err-clause-leaves g c =
     session_leaves _ _ _ _ _ _ _ _ _ c.allow.ensures refl (g.met.B.Bus.reaches c.allow.new.self) c.session.ensures.always.spends c.session.ensures.always.looks
-    (λ modelled. (c.session.ensures.modelled modelled).undo) c.session.ensures.always.holds
+    (λ modelled. (c.session.ensures.modelled modelled).undo) c.session.ensures.always.aims c.session.ensures.always.writes
 
 pub returns-in-Err-2-clause-leaves : goal.returns-in-Err-2-clause-leaves
 returns-in-Err-2-clause-leaves g c =
     session_leaves _ _ _ _ _ _ _ _ _ c.allow.ensures refl (g.met.B.Bus.reaches c.allow.new.self) c.session.ensures.always.spends c.session.ensures.always.looks
-    (λ modelled. (c.session.ensures.modelled modelled).undo) c.session.ensures.always.holds
+    (λ modelled. (c.session.ensures.modelled modelled).undo) c.session.ensures.always.aims c.session.ensures.always.writes
 
 pub returns-in-Err-2-clause-refuses : goal.returns-in-Err-2-clause-refuses
 returns-in-Err-2-clause-refuses g c =
