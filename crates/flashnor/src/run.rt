@@ -31,8 +31,8 @@ use std::io::Write;
 use std::rt::Files;
 
 /// Does what the words ask for that the system gives, the first of which is the program's name, and prints results to
-/// `output` and faults to `errors`. Answers the exit status: 0, or 1 at any fault. That the words can't be had is a fault
-/// as others are.
+/// `output` and faults to `errors`. Answers the exit status: 0, or 1 at any fault. That the words can't be had is a
+/// fault as others are.
 pub fn run_words<R: Files + AllocGlobal, O: Write, E: Write>(
     rt: &R,
     given: io::Result<Args>,

@@ -30,7 +30,8 @@ pub record ReadsRest (probed : Probed) (old new : BusState) (opening : Opening) 
   pub unique : old.honest ≡ true → old.chip.busy ≡ 0 → opening.unique ≡ unique_of old.chip.config
 
 -- The opening succeeded. Whatever the bus, the part is a row of the table or one by SFDP, with the name that is wanted,
--- and the last poll showed that it is ready. On an honest bus: nothing changed, the chip is idle, and what was read is its own.
+-- and the last poll showed that it is ready. On an honest bus: nothing changed, the chip is idle, and what was read is
+-- its own.
 pub record Opens (named : Option ChipName) (old new : BusState) (opening : Opening) : Type 0 where
   pub part : IsPart opening.found
   pub wanted : IsWanted named opening.found.name

@@ -130,8 +130,8 @@ pub record CanBeUndone (request : Request) (image : List ℕ) (old new : BusStat
       (wanted request image old.chip) old new
   pub spent : new.left + (4 + scanned_sectors request old.chip.config.size) ≤ old.left
 
--- There are no bytes; or the chip shows itself as a part that is wanted, and they are a beginning of the one journal that
--- it would have had.
+-- There are no bytes; or the chip shows itself as a part that is wanted, and they are a beginning of the one journal
+-- that it would have had.
 abbrev pub HoldsBegun : Request → (image : List ℕ) → Chip → (bytes : List ℕ) → Type 0
 HoldsBegun request image chip bytes = (bytes ≡ [])
     ⊎ (IsNamed request.named chip.config
