@@ -1,2 +1,3 @@
 pub mod Below
 pub mod Counts
+pub mod Size
