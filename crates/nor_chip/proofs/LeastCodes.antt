@@ -1,53 +1,57 @@
 -- Which codes guard exactly the same places.
-use Rattle.std.proofs.Common.{◌≡◌, ℕ, ◌-◌, ◌<◌, inl, inr, arith, refl, ap}
-use Rattle.std.specs.Prelude.{Option, None, Some, IfSome, IfNone, Bool, true, false, not, ◌||◌, ◌==◌, if◌then◌else◌}
-use Rattle.std.proofs.lemmas.Bool.{cases_order, ne_eqb}
+use Rattle.std.proofs.Common.{◌≡◌, ℕ, ◌+◌, ◌-◌, ◌<◌, ◌≤◌, ◌⊎◌, inl, inr, arith, ap}
+use Rattle.std.specs.Prelude.{Option, None, Some, IfSome, IfNone, Bool, not, ◌||◌, ◌==◌, if◌then◌else◌}
+use Rattle.std.proofs.lemmas.Bool.{cases_lt, cases_order}
+use Rattle.std.proofs.lemmas.Bool.Decides.{nat_tests}
 use mathlib.Core.Bool.{beq}
 use Rattle.nor_chip.specs.Offer.{GuardsExactly, IsLeastCode, IsNotOffered}
-use Rattle.nor_chip.proofs.Stretches.{AreAlike, alike-hold, hold-alike}
+
+-- two stretches are as long and, unless empty, start alike
+pub record AreAlike (start len start' len' : ℕ) : Type 0 where
+  pub as_long : len ≡ len'
+  pub alike : (len' ≡ 0) ⊎ (start ≡ start')
 
 -- a code that guards one stretch guards another exactly where the two are alike
-pub guards-alike : (size code start len start' len' : ℕ) → GuardsExactly size code start len → AreAlike start len start' len' → GuardsExactly size code start' len'
+pub guards-alike : (size code start len start' len' : ℕ) → GuardsExactly size code start len
+    → AreAlike start len start' len' → GuardsExactly size code start' len'
 guards-alike size code start len start' len' guards alike a =
-    let same = (alike-hold start len start' len' alike).same a in
-    ((λ guarded. same.0 ((guards a).0 guarded)), (λ within. (guards a).1 (same.1 within)))
+    (λ guarded. let here = (guards a).0 guarded in omega arith, λ within. (guards a).1 (omega arith))
 
-pub alike-guards : (size code start len start' len' : ℕ) → GuardsExactly size code start len → GuardsExactly size code start' len' → AreAlike start len start' len'
+pub alike-guards : (size code start len start' len' : ℕ) → GuardsExactly size code start len
+    → GuardsExactly size code start' len' → AreAlike start len start' len'
 alike-guards size code start len start' len' guards guards' =
-    hold-alike start len start' len' record {
-      same = λ a. (
-        (λ within. (guards' a).0 ((guards a).1 within)),
-        (λ within. (guards a).0 ((guards' a).1 within)),
-      );
-    }
-
--- two codes that guard one stretch both guard another, if one does
-guards-too : (size code other start len start' len' : ℕ) → GuardsExactly size code start len → GuardsExactly size code start' len' → GuardsExactly size other start' len' → GuardsExactly size other start len
-guards-too size code other start len start' len' here there other_there a = (
-  (λ guarded. (here a).0 ((there a).1 ((other_there a).0 guarded))),
-  (λ within. (other_there a).1 ((there a).0 ((here a).1 within))),
-)
-
--- a set has one least code
-pub least_unique : (size code other start len start' len' : ℕ) → IsLeastCode size start len code → GuardsExactly size code start' len' → IsLeastCode size start' len' other → other ≡ code
-least_unique size code other start len start' len' least there other_least =
-    elim (cases_order other code) [
-      | inl same ↦ same
-      | inr apart ↦ elim apart [
-        | inl lower ↦ absurd (least.least other lower other_least.defined (guards-too size code other start len start' len' least.guards there other_least.guards))
-        | inr above ↦ absurd (other_least.least code above least.defined there)
+    let to : (a : ℕ) → (start ≤ a) × (a < start + len) → (start' ≤ a) × (a < start' + len') =
+    λ a within. (guards' a).0 ((guards a).1 within) in
+    let back : (a : ℕ) → (start' ≤ a) × (a < start' + len') → (start ≤ a) × (a < start + len) =
+    λ a within. (guards a).0 ((guards' a).1 within) in
+    elim (cases_lt 0 len) [
+      | inl some ↦
+          let first = to start (omega arith) in let last = to (start + len - 1) (omega arith) in
+          let first' = back start' (omega arith) in let last' = back (start' + len' - 1) (omega arith) in
+          record { as_long = omega arith; alike = inr (omega arith) }
+      | inr none ↦ elim (cases_lt 0 len') [
+        | inl some ↦ absurd (omega (arith, back start' (omega arith)))
+        | inr none' ↦ record { as_long = omega arith; alike = inl (omega arith) }
       ]
     ]
 
--- the least code of the places of a code that is a least one is that very code
-pub least_found : (size code start len start' len' : ℕ) (found : Option ℕ) → IfSome found (IsLeastCode size start' len') → IfNone found (IsNotOffered size start' len') → GuardsExactly size code start' len' → IsLeastCode size start len code → found ≡ Some code
+-- a set has one least code: that of the places of a code that is a least one is that very code
+pub least_found : (size code start len start' len' : ℕ) (found : Option ℕ) → IfSome found (IsLeastCode size start' len')
+    → IfNone found (IsNotOffered size start' len') → GuardsExactly size code start' len'
+    → IsLeastCode size start len code
+    → found ≡ Some code
 least_found size code start len start' len' None least none there is_least = absurd (none code is_least.defined there)
 least_found size code start len start' len' (Some other) least none there is_least =
-    ap Some (least_unique size code other start len start' len' is_least there least)
+    elim (cases_order other code) [
+      | inl same ↦ ap Some same
+      | inr (inl lower) ↦ absurd (is_least.least other lower least.defined
+          (guards-alike size other start' len' start len least.guards
+          (alike-guards size code start' len' start len there is_least.guards)))
+      | inr (inr above) ↦ absurd (least.least code above is_least.defined there)
+    ]
 
 -- where the places of a code start
-pub starts : (size len : ℕ) (complement bottom : Bool) → 0 < len → (if not (beq bottom complement) || len == 0 then 0 else size - len) ≡ (if complement then (if bottom then size - len else 0) else (if bottom then 0 else size - len))
-starts size len true true some = rw (ne_eqb len 0 (λ none. omega arith)) refl
-starts size len true false some = refl
-starts size len false true some = refl
-starts size len false false some = rw (ne_eqb len 0 (λ none. omega arith)) refl
+pub starts : (size len : ℕ) (complement bottom : Bool) → 0 < len
+    → (if not (beq bottom complement) || len == 0 then 0 else size - len)
+    ≡ (if complement then (if bottom then size - len else 0) else (if bottom then 0 else size - len))
+starts size len complement bottom some = grind (arith, nat_tests)

@@ -1,4 +1,3 @@
-pub mod Aim
 pub mod Guarded
 pub mod GuardedPlaces
 pub mod LeastCodes
@@ -8,5 +7,4 @@ pub mod Page
 pub mod Round
 pub mod Sizes
 pub mod StatusBits
-pub mod Stretches
 pub mod Steps

@@ -1,38 +1,35 @@
 -- Places that run round at a size.
-use Rattle.std.proofs.Common.{◌≡◌, ℕ, List, ◌++◌, length, take, get_or, replicate, inl, inr, ◌+◌, ◌-◌, ◌*◌, ◌/◌, ◌%◌, ◌<◌, ◌≤◌, arith, ◌∙◌, ap}
+use Rattle.std.proofs.Common.{◌≡◌, ℕ, List, ◌++◌, length, take, get_or, replicate, inl, inr, ◌+◌, ◌-◌, ◌*◌, ◌/◌, ◌%◌, ◌<◌, ◌≤◌, arith, ◌∙◌}
 use Rattle.std.proofs.Math.Nat.{mod-add-div, add-mul-mod_self_left, mod-eq_of_lt}
 use Rattle.std.proofs.lemmas.List.{length-take-le, get_or-append_right, get_or_append_left, get_or-take, get_or-replicate, length-replicate}
 use Rattle.std.proofs.Math.ListN.{get_or-eq_default}
 use Rattle.std.proofs.lemmas.Bool.{cases_lt}
 use Rattle.std.specs.Prelude.{slice_index}
 
--- so many places behind `at`, as far as the end isn't reached
-pub mod-add : (at j n : ℕ) → at % n + j < n → (at + j) % n ≡ at % n + j
-mod-add at j n small =
-    let split : at + j ≡ (at % n + j) + n * (at / n) = omega (arith, mod-add-div at n) in
-    ap (λ k. k % n) split ∙ (add-mul-mod_self_left (at % n + j) n (at / n) ∙ mod-eq_of_lt small)
-
--- so many places behind the one that was reached
-pub run_on : (at done i from n : ℕ) → (at + done) % n ≡ from → done ≤ i → from + (i - done) < n → (at + i) % n ≡ from + (i - done)
+-- so many places behind the one that was reached, as far as the end isn't reached
+pub run_on : (at done i from n : ℕ) → (at + done) % n ≡ from → done ≤ i → from + (i - done) < n
+    → (at + i) % n ≡ from + (i - done)
 run_on at done i from n place behind small =
-    let apart : at + i ≡ (at + done) + (i - done) = omega arith in
-    let within : (at + done) % n + (i - done) < n = omega arith in
-    ap (λ k. k % n) apart ∙ (mod-add (at + done) (i - done) n within ∙ ap (λ k. k + (i - done)) place)
+    let split : at + i ≡ (from + (i - done)) + n * ((at + done) / n) = omega (arith, mod-add-div (at + done) n) in
+    rw (split, add-mul-mod_self_left) (mod-eq_of_lt small)
 
 -- at the end it goes on from the first place
 pub run_round : (at done from n : ℕ) → (at + done) % n ≡ from → from < n → (at + (done + (n - from))) % n ≡ 0
 run_round at done from n place within =
     let split : at + (done + (n - from)) ≡ 0 + n * ((at + done) / n + 1) = omega (arith, mod-add-div (at + done) n) in
-    ap (λ k. k % n) split ∙ (add-mul-mod_self_left 0 n ((at + done) / n + 1) ∙ mod-eq_of_lt (omega arith))
+    rw (split, add-mul-mod_self_left) (mod-eq_of_lt (omega arith))
 
 -- what was written to a part of a list is found in that part, and all before it as it was
-pub written_before : (a : ℕ) (xs ys zs : List ℕ) (i : ℕ) → a ≤ length xs → i < a → slice_index (take a xs ++ (ys ++ zs)) i ≡ slice_index xs i
+pub written_before : (a : ℕ) (xs ys zs : List ℕ) (i : ℕ) → a ≤ length xs → i < a
+    → slice_index (take a xs ++ (ys ++ zs)) i ≡ slice_index xs i
 written_before a xs ys zs i fits before =
     get_or_append_left (take a xs) (ys ++ zs) 0 i (omega (arith, length-take-le a xs fits)) ∙ get_or-take a xs i 0 before
 
-pub written_within : (a : ℕ) (xs ys zs : List ℕ) (i : ℕ) → a ≤ length xs → a ≤ i → i < a + length ys → slice_index (take a xs ++ (ys ++ zs)) i ≡ slice_index ys (i - a)
+pub written_within : (a : ℕ) (xs ys zs : List ℕ) (i : ℕ) → a ≤ length xs → a ≤ i → i < a + length ys
+    → slice_index (take a xs ++ (ys ++ zs)) i ≡ slice_index ys (i - a)
 written_within a xs ys zs i fits behind within =
-    get_or-append_right (take a xs) (ys ++ zs) a i 0 (length-take-le a xs fits) behind ∙ get_or_append_left ys zs 0 (i - a) (omega arith)
+    get_or-append_right (take a xs) (ys ++ zs) a i 0 (length-take-le a xs fits) behind
+    ∙ get_or_append_left ys zs 0 (i - a) (omega arith)
 
 -- a list of copies read with that very default
 pub get_or-replicate_all : {A : Type 0} (n i : ℕ) (x : A) → get_or (replicate n x) i x ≡ x

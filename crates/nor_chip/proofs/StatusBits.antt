@@ -1,10 +1,9 @@
 -- Bits of the status registers as numbers.
-use Rattle.std.proofs.Common.{◌≡◌, ℕ, ◌+◌, ◌*◌, ◌/◌, ◌%◌, ◌^◌, ◌<◌, arith, ◌∙◌, sym, inl, inr}
+use Rattle.std.proofs.Common.{◌≡◌, ℕ, ◌+◌, ◌*◌, ◌/◌, ◌%◌, ◌<◌, arith, ◌∙◌}
 use Rattle.std.specs.Prelude.{bit_and, bit_or, ◌==◌}
-use Rattle.std.proofs.lemmas.Bool.{eq-eqb, ne_eqb}
-use Rattle.std.proofs.lemmas.Bool.Decides.{eqb_tells}
+use Rattle.std.proofs.lemmas.Bool.Decides.{nat_tests}
 use Rattle.std.proofs.lemmas.Nat.{and_le_r, and_mask, or_comm, or_disjoint, or_lt, or_shifted}
-use Rattle.std.proofs.lemmas.Nat.Bits.{and_high, and_high_mask, and_pow}
+use Rattle.std.proofs.lemmas.Nat.Bits.{and_high, and_pow}
 
 -- to set WEL and BUSY where they are clear adds them
 pub or_latch : (n : ℕ) → n % 4 ≡ 0 → bit_or n 2 ≡ n + 2
@@ -13,24 +12,15 @@ or_latch n clear = or_disjoint n 2 (omega (arith, and_pow n 1))
 pub or_busy : (n : ℕ) → n % 2 ≡ 0 → bit_or n 1 ≡ n + 1
 or_busy n clear = or_disjoint n 1 (omega (arith, and_pow n 0))
 
--- the kept bits of status 1 are those above the low two
-pub and-kept : (n : ℕ) → n < 256 → bit_and n 252 ≡ n / 4 * 4
-and-kept n small = and_high_mask 8 2 (omega arith) n small
-
--- those of status 2 are the low seven
+-- the kept bits of status 2 are the low seven
 pub written_lt : (old sent : ℕ) → bit_or (bit_and sent 67) (bit_or (bit_and old 60) (bit_and sent 56)) < 128
 written_lt old sent =
-    let written : bit_and sent 67 < 2 ^ 7 = omega (arith, and_le_r sent 67) in
-    let held : bit_and old 60 < 2 ^ 7 = omega (arith, and_le_r old 60) in
-    let set : bit_and sent 56 < 2 ^ 7 = omega (arith, and_le_r sent 56) in
-    or_lt 7 (bit_and sent 67) (bit_or (bit_and old 60) (bit_and sent 56)) written (or_lt 7 (bit_and old 60) (bit_and sent 56) held set)
+    or_lt 7 (bit_and sent 67) _ (omega (arith, and_le_r sent 67))
+    (or_lt 7 (bit_and old 60) _ (omega (arith, and_le_r old 60)) (omega (arith, and_le_r sent 56)))
 
 -- the test of WEL
 pub wel_set : (n : ℕ) → (bit_and n 2 == 2) ≡ (n / 2 % 2 == 1)
-wel_set n = elim (eqb_tells (n / 2 % 2) 1) [
-  | inl set ↦ let bit = and_pow n 1 in let is = set.1 in eq-eqb (bit_and n 2) 2 (omega arith) ∙ sym set.0
-  | inr clear ↦ let bit = and_pow n 1 in let is = clear.1 in ne_eqb (bit_and n 2) 2 (λ all. is (omega arith)) ∙ sym clear.0
-]
+wel_set n = let bit = and_pow n 1 in grind (arith, nat_tests)
 
 -- the protection code: bit 6 of status 2 above bits 6 to 2 of status 1
 pub code_bits : (one two : ℕ) → bit_or (bit_and two 64 / 2) (bit_and one 124 / 4) ≡ 32 * (two / 64 % 2) + one / 4 % 32
@@ -47,13 +37,15 @@ pub fixed_two : (n : ℕ) → bit_and n 63 ≡ n % 64
 fixed_two n = and_mask n 6
 
 -- those with another code
-pub coded_one : (fixed code : ℕ) → code < 64 → bit_or (128 * fixed) (bit_and (code * 4 % 256) 124) ≡ 128 * fixed + 4 * (code % 32)
+pub coded_one : (fixed code : ℕ) → code < 64
+    → bit_or (128 * fixed) (bit_and (code * 4 % 256) 124) ≡ 128 * fixed + 4 * (code % 32)
 coded_one fixed code small =
     let low : bit_and (code * 4 % 256) 124 ≡ 4 * (code % 32) = omega (arith, and_high (code * 4 % 256) 5 2) in
     let place : 128 * fixed ≡ fixed * 128 = omega arith in
     rw (low, place) (or_shifted fixed 7 (4 * (code % 32)) (omega arith))
 
-pub coded_two : (fixed code : ℕ) → fixed < 64 → code < 64 → bit_or fixed (bit_and (code * 2 % 256) 64) ≡ fixed + 64 * (code / 32)
+pub coded_two : (fixed code : ℕ) → fixed < 64 → code < 64
+    → bit_or fixed (bit_and (code * 2 % 256) 64) ≡ fixed + 64 * (code / 32)
 coded_two fixed code low small =
     let high : bit_and (code * 2 % 256) 64 ≡ code / 32 * 64 = omega (arith, and_pow (code * 2 % 256) 6) in
     rw high (or_comm fixed (code / 32 * 64) ∙ or_shifted (code / 32) 6 fixed low ∙ omega arith)

@@ -8,7 +8,7 @@ use Rattle.nor_chip.proofs.guard.places_of.Goals as goal
 pub returns-clause-guards : goal.returns-clause-guards
 returns-clause-guards c =
     let len = c.guarded_length-len.result in
-    guards_places c.args.size c.args.code c.start_of-start.result len (is_chip_size-in_blocks c.args.size c.requires.sized) c.requires.defined
+    guards_places _ _ c.start_of-start.result len (is_chip_size-in_blocks _ c.requires.sized) c.requires.defined
     record {
       len_is = c.guarded_length-len.ensures;
       start_is = λ some. (cc) ∙ starts c.args.size len (is_complement c.args.code) (is_bottom c.args.code) some;

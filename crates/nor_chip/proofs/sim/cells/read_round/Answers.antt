@@ -1,4 +1,4 @@
-use Rattle.std.proofs.Common.{◌≡◌, ◌+◌, ◌%◌, inl, inr, length, arith}
+use Rattle.std.proofs.Common.{inl, inr, arith}
 use Rattle.std.proofs.lemmas.Grind.{common_steps}
 use Rattle.std.proofs.lemmas.Bool.{cases_lt}
 use Rattle.nor_chip.proofs.Round.{run_on, run_round, written_before, written_within}
@@ -7,13 +7,13 @@ use Rattle.nor_chip.proofs.sim.cells.read_round.Goals as goal
 pub loop-done-preserved : goal.loop-done-preserved
 loop-done-preserved c =
     let was = c.loop-done.invariant in
-    let place : (c.args.at + c.loop-done.done) % length c.args.bytes.now ≡ c.loop-done.from = was.place c.loop-done-test.true in
+    let place = was.place c.loop-done-test.true in
     record {
       read = λ i small. elim (cases_lt i c.loop-done.done) [
         | inl before ↦ grind (arith, common_steps, written_before, was.read i before)
-        | inr behind ↦ grind (arith, common_steps, written_within, run_on c.args.at c.loop-done.done i c.loop-done.from (length c.args.bytes.now) place behind)
+        | inr behind ↦ grind (arith, common_steps, written_within, run_on _ _ i _ _ place behind)
       ];
       within = grind (arith, common_steps);
       from_in = grind (arith, common_steps);
-      place = λ more. grind (arith, common_steps, run_round c.args.at c.loop-done.done c.loop-done.from (length c.args.bytes.now) place was.from_in);
+      place = λ more. grind (arith, common_steps, run_round _ _ _ _ place was.from_in);
     }

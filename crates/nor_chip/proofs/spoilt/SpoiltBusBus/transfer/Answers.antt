@@ -1,6 +1,4 @@
-use Rattle.std.proofs.Common.{rules, refl, ◌≡◌, ◌∙◌, sym}
-use Rattle.std.specs.Prelude.{None, Some}
-use Rattle.nor_chip.specs.Spoilt.{withheld}
+use Rattle.std.proofs.Common.{rules, refl, ◌∙◌, sym}
 use Rattle.nor_chip.proofs.spoilt.SpoiltBusBus.transfer.Goals as goal
 use Rattle.nor_chip.proofs.spoilt.SpoiltBusBus.transfer.Goals.{in-Some, in-None+in_ok-transfer-in-None}
 
@@ -8,8 +6,7 @@ pub returns-clause-spoils : goal.returns-clause-spoils
 returns-clause-spoils g c =
     elim c.match-withheld.branch [
       | in-Some w ↦
-          let kept : withheld c.args.self.now.spoil c.args.self.now.sent ≡ Some w.in-Some.byte = sym c.withheld.ensures ∙ w.in-Some.is in
-          let fill = w.fill.ensures.after (λ byte same. same) in
+          let kept = sym c.withheld.ensures ∙ w.in-Some.is in
           record {
             spoil = rw w.self-is refl;
             counted = rw (c.saturating_add-self.ensures, w.self-is) refl;
@@ -17,12 +14,12 @@ returns-clause-spoils g c =
             withheld = rw kept record {
               answered = refl;
               inner = rw w.self-is refl;
-              replies = w.reply-is ∙ fill;
+              replies = w.reply-is ∙ w.fill.ensures.after (λ byte same. same);
             };
             passed_on = rw kept tt;
           }
       | in-None+in_ok-transfer-in-None w ↦
-          let passed : withheld c.args.self.now.spoil c.args.self.now.sent ≡ None = sym c.withheld.ensures ∙ w.in-None.is in
+          let passed = sym c.withheld.ensures ∙ w.in-None.is in
           record {
             spoil = rw w.self-is refl;
             counted = rw (c.saturating_add-self.ensures, w.self-is) refl;

@@ -10,17 +10,15 @@ loop-code-preserved c = record {
     | inl before ↦ c.loop-code.invariant.none other start len from before least
     | inr behind ↦
         let here : other ≡ c.loop-code.code = omega arith in
-        let size : c.args.self.now.size ≡ c.loop-code.self.size = sym (ap (λ (walk : Offered). walk.size) c.loop-code.invariant.same) in
-        let moved = rw (size, here) at least in
-        c.in_default.ensures.none start len moved
+        let size = sym (ap (λ (walk : Offered). walk.size) c.loop-code.invariant.same) in
+        c.in_default.ensures.none start len (rw (size, here) at least)
   ];
 }
 
 pub returns-clause-steps : goal.returns-clause-steps
 returns-clause-steps c = record {
-  none = λ code start len from least.
-      let six_bits = least.defined.six_bits in
-      c.loop-code.invariant.none code start len from (omega arith) least;
+  none = λ code start len from least. c.loop-code.invariant.none code start len from
+      (omega (arith, least.defined.six_bits)) least;
   ended = search rules;
   size = search rules;
 }
