@@ -3,32 +3,19 @@ use Rattle.std.proofs.Common.{◌≡◌, ◌≤◌, ◌+◌, ◌-◌, ◌^◌, �
 use Rattle.std.specs.Prelude.{min}
 use Rattle.std.proofs.lemmas.Bool.Decides.{nat_tests}
 use Rattle.std.proofs.Math.Bool.{or-false}
-use Rattle.nor_chip.specs.declared.sent.Sent.{Sent}
 use Rattle.nor_chip.specs.Command.{begins_change}
 use Rattle.nor_chip.specs.Sent.{aims, aim_none, is_in_aim, begins_status_write, is_aimed_at, is_stirred, status_writes_of}
 use Rattle.nor_chip.specs.Bus.{BusState, Sends}
 use Rattle.nor_driver.specs.Operations.{AimsWithin, Stirs, writes_in}
 
 pub aims_none : (t : ℕ → Bool) (n : ℕ) (old new : BusState) → new.sent ≡ old.sent → AimsWithin t n old new
-aims_none t n old new same = record {
-  aimed = λ s. inl (ap (λ (sent : Sent). is_aimed_at sent s) same);
-  writes = let count = ap status_writes_of same in omega arith;
-}
+aims_none t n old new same = grind arith
 
 pub aims_more : (t t' : ℕ → Bool) (n n' : ℕ) (old new : BusState) → ((s : ℕ) → t s ≡ true → t' s ≡ true) → n ≤ n' → AimsWithin t n old new → AimsWithin t' n' old new
-aims_more t t' n n' old new within fits aims = record {
-  aimed = λ s. elim (aims.aimed s) [ inl same ↦ inl same | inr is ↦ inr (within s is) ];
-  writes = let most = aims.writes in omega arith;
-}
+aims_more t t' n n' old new within fits aims = grind (arith, aims.aimed, within)
 
 pub aims_then : (t : ℕ → Bool) (n m most : ℕ) (old mid new : BusState) → n + m ≤ most → AimsWithin t n old mid → AimsWithin t m mid new → AimsWithin t most old new
-aims_then t n m most old mid new fits first second = record {
-  aimed = λ s. elim (second.aimed s) [
-    | inr is ↦ inr is
-    | inl same ↦ elim (first.aimed s) [ inl before ↦ inl (same ∙ before) | inr is ↦ inr is ]
-  ];
-  writes = let one = first.writes in let two = second.writes in omega arith;
-}
+aims_then t n m most old mid new fits first second = grind (arith, first.aimed, second.aimed)
 
 writes_most : (b : Bool) (n w : ℕ) → n ≡ cond b (min (w + 1) (2 ^ 64 - 1)) w → n ≤ w + cond b 1 0
 writes_most true n w is = grind (arith)
@@ -61,14 +48,7 @@ command_aims out old ready new enables sends =
 
 -- what is stirred stays so
 pub still_stirred : (out : List ℕ) (old new : BusState) → is_stirred old.sent ≡ true → Sends out old new → is_stirred new.sent ≡ true
-still_stirred out old new is sends = elim (begins_change out) as (λ b. begins_change out ≡ b → is_stirred new.sent ≡ true) [
-  | true ↦ λ changes. sends.sent.stirred changes
-  | false ↦ λ quiet. ap is_stirred (sends.sent.quiet quiet) ∙ is
-] refl
+still_stirred out old new is sends = grind (arith, sends.sent.stirred, sends.sent.quiet)
 
 pub stirs_more : (t t' : ℕ → Bool) (n n' : ℕ) (old new : BusState) → ((s : ℕ) → t s ≡ true → t' s ≡ true) → n ≤ n' → Stirs t n old new → Stirs t' n' old new
-stirs_more t t' n n' old new within fits stirs = record {
-  nature = stirs.nature;
-  stirred = stirs.stirred;
-  aims = aims_more t t' n n' old new within fits stirs.aims;
-}
+stirs_more t t' n n' old new within fits stirs = search (aims_more t t' n n' old new within fits)

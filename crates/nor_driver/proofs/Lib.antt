@@ -1,5 +1,4 @@
 pub mod Aims
-pub mod Bools
 pub mod Cuts
 pub mod LooksInTurn
 pub mod Readings
@@ -7,6 +6,7 @@ pub mod RestsInTurn
 pub mod Told
 pub mod Begun
 pub mod Exits
+pub mod Taken
 pub mod Programming
 pub mod Erasing
 pub mod StatusBytes

@@ -1,12 +1,12 @@
 -- Readings that follow one another and succeed, and the one that stops behind them.
-use Rattle.std.proofs.Common.{◌≡◌, ◌<◌, ◌≤◌, ◌+◌, ◌∙◌, ℕ, true, refl, arith}
+use Rattle.std.proofs.Common.{◌≡◌, ◌<◌, ◌≤◌, ◌+◌, ◌∙◌, ℕ, true, arith}
 use Rattle.nor_chip.specs.Bus.{BusState, KeepsNature}
 use Rattle.nor_chip.proofs.Nature.{nature_refl, nature_then}
 use Rattle.nor_driver.specs.Looks.{Rested, Looks, RanOutIfHonest}
 use Rattle.nor_driver.specs.Ready.{StaysReady}
 use Rattle.nor_driver.specs.Reads.{HasRead}
-use Rattle.nor_driver.proofs.Cuts.{unchanged_stays}
 use Rattle.nor_driver.proofs.LooksInTurn.{looks_then, looks_more}
+use Rattle.nor_driver.proofs.Readings.{looked_by}
 pub use Rattle.nor_driver.proofs.Readings.{rested_none, rested_then}
 
 -- Readings succeeded, so many; whatever the bus, what nothing changes is as it was.
@@ -18,29 +18,11 @@ pub record HasLooked (reads : ℕ) (old new : BusState) : Type 0 where
   pub sent : old.honest ≡ true → old.left ≡ new.left + reads
 
 pub has_looked-none : (state : BusState) → HasLooked 0 state state
-has_looked-none state = record {
-  nature = nature_refl state;
-  same_sent = refl;
-  heard = λ ready. ready;
-  rested = λ honest. rested_none state;
-  sent = λ honest. omega arith;
-}
+has_looked-none state = search (arith, nature_refl state, rested_none state)
 
 -- what succeeded is bounded by what it took
-pub has_looked-looks : (reads : ℕ) (old new : BusState) → HasLooked reads old new → Looks reads old new
-has_looked-looks reads old new has = record {
-  nature = has.nature;
-  sent = has.same_sent;
-  looked = λ honest.
-      let rested = has.rested honest in
-      let sent = has.sent honest in
-      record {
-        stays = unchanged_stays old new rested.unchanged;
-        latch = rested.latch;
-        idle_latch = λ on. rested.idle_latch;
-        falls = record { fell = omega arith; bound = omega arith };
-      };
-}
+has_looked-looks : (reads : ℕ) (old new : BusState) → HasLooked reads old new → Looks reads old new
+has_looked-looks reads old new has = search (looked_by old new reads, has.rested, has.sent)
 
 -- a reading more, which may stop
 pub looks_after : (reads more most : ℕ) (old mid new : BusState) → reads + more ≤ most → HasLooked reads old mid → Looks more mid new → Looks most old new
@@ -50,15 +32,9 @@ looks_after reads more most old mid new few has looks =
 -- the next one stopped
 pub runs_out : (reads most : ℕ) (old mid new : BusState) → reads < most → HasLooked reads old mid → RanOutIfHonest 1 mid new → RanOutIfHonest most old new
 runs_out reads most old mid new few has out honest =
-    let sent = has.sent honest in let none = out (has.nature.honest ∙ honest) in let below = none.below in
-    record { none_left = none.none_left; below = omega arith }
+    let sent = has.sent honest in let none = out (has.nature.honest ∙ honest) in omega arith
 
 -- the next one succeeded too
 pub has_looked-more : (reads : ℕ) (old mid new : BusState) → HasLooked reads old mid → Looks 1 mid new → (mid.honest ≡ true → HasRead mid new) → StaysReady mid new → HasLooked (reads + 1) old new
-has_looked-more reads old mid new has looks read heard = record {
-  nature = nature_then old mid new looks.nature has.nature;
-  same_sent = looks.sent ∙ has.same_sent;
-  heard = λ ready. heard (has.heard ready);
-  rested = λ honest. rested_then old mid new (has.rested honest) (read (has.nature.honest ∙ honest)).rested;
-  sent = λ honest. let sent = has.sent honest in let count = (read (has.nature.honest ∙ honest)).count in omega arith;
-}
+has_looked-more reads old mid new has looks read heard =
+    grind (arith, nature_then old mid new looks.nature has.nature, rested_then old mid new)

@@ -6,21 +6,23 @@ use Rattle.nor_driver.proofs.operations.erase.Goals as goal
 pub returns-in-Chip-clause-leaves : goal.returns-in-Chip-clause-leaves
 returns-in-Chip-clause-leaves g c =
     leaves_erase c.args.erase _ _ _ (c.address_bytes.ensures ∙ c.address-address.ensures) c.requires.reachable _ _ _
-    (chip_bytes c.args.erase.unit c.opcode-opcode.result _ _ _ c.opcode-opcode.ensures c.in-Chip.is) c.operation.ensures.leaves
+    (chip_bytes c.args.erase.unit _ _ _ _ c.opcode-opcode.ensures c.in-Chip.is) c.operation.ensures.leaves
 
 pub returns-in-Chip-clause-does : goal.returns-in-Chip-clause-does
 returns-in-Chip-clause-does g c =
     IfOk-weaker c.operation.result _ _
-    (λ count. does_erase c.args.erase _ _ _ (c.address_bytes.ensures ∙ c.address-address.ensures) c.requires.reachable _ _ _
-    (chip_bytes c.args.erase.unit c.opcode-opcode.result _ _ _ c.opcode-opcode.ensures c.in-Chip.is) count) c.operation.ensures.does
+    (does_erase c.args.erase _ _ _ (c.address_bytes.ensures ∙ c.address-address.ensures) c.requires.reachable _ _ _
+    (chip_bytes c.args.erase.unit _ _ _ _ c.opcode-opcode.ensures c.in-Chip.is)) c.operation.ensures.does
 
 pub returns-in_default-clause-leaves : goal.returns-in_default-clause-leaves
 returns-in_default-clause-leaves g c =
     leaves_erase c.args.erase _ _ _ (c.address_bytes.ensures ∙ c.address-address.ensures) c.requires.reachable _ _ _
-    (other_bytes c.args.erase.unit c.opcode-opcode.result _ _ _ c.opcode-opcode.ensures c.in_default.not-Chip) c.operation-in_default.ensures.leaves
+    (other_bytes c.args.erase.unit _ _ _ _ c.opcode-opcode.ensures c.in_default.not-Chip)
+    c.operation-in_default.ensures.leaves
 
 pub returns-in_default-clause-does : goal.returns-in_default-clause-does
 returns-in_default-clause-does g c =
     IfOk-weaker c.operation-in_default.result _ _
-    (λ count. does_erase c.args.erase _ _ _ (c.address_bytes.ensures ∙ c.address-address.ensures) c.requires.reachable _ _ _
-    (other_bytes c.args.erase.unit c.opcode-opcode.result _ _ _ c.opcode-opcode.ensures c.in_default.not-Chip) count) c.operation-in_default.ensures.does
+    (does_erase c.args.erase _ _ _ (c.address_bytes.ensures ∙ c.address-address.ensures) c.requires.reachable _ _ _
+    (other_bytes c.args.erase.unit _ _ _ _ c.opcode-opcode.ensures c.in_default.not-Chip))
+    c.operation-in_default.ensures.does

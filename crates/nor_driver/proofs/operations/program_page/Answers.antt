@@ -1,4 +1,3 @@
-use Rattle.std.proofs.Common.{List, ℕ, sym, subst}
 use Rattle.std.proofs.lemmas.Result.{IfOk-weaker}
 use Rattle.nor_driver.specs.Operations.{IsCommandAt}
 use Rattle.nor_driver.proofs.Programming.{leaves_program, does_program}
@@ -7,13 +6,13 @@ use Rattle.nor_driver.proofs.operations.program_page.Goals.{After-operation}
 
 -- the bytes that were sent
 sent : (g : _) (c : After-operation g) → IsCommandAt 0x02 c.args.address c.args.bytes.now c.deref.result.now
-sent g c = subst (λ (command : List ℕ). IsCommandAt 0x02 c.args.address c.args.bytes.now command) (sym c.deref.ensures.0) c.program_command-command.ensures
+sent g c = rw c.deref.ensures.0 c.program_command-command.ensures
 
 pub returns-clause-leaves : goal.returns-clause-leaves
 returns-clause-leaves g c =
-    leaves_program c.args.address c.args.bytes.now c.deref.result.now (sent g c) c.requires.some c.requires.in_page _ _ c.operation.ensures.leaves
+    leaves_program _ _ _ (sent g c) c.requires.some c.requires.in_page _ _ c.operation.ensures.leaves
 
 pub returns-clause-does : goal.returns-clause-does
 returns-clause-does g c =
     IfOk-weaker c.operation.result _ _
-    (λ count. does_program c.args.address c.args.bytes.now c.deref.result.now (sent g c) c.requires.some c.requires.in_page _ _ count) c.operation.ensures.does
+    (does_program _ _ _ (sent g c) c.requires.some c.requires.in_page _ _) c.operation.ensures.does
