@@ -1,16 +1,17 @@
 -- The head of the bytes is the head's text.
-use Rattle.std.proofs.Common.{◌≡◌, ◌≢◌, ◌∙◌, ℕ, ◌+◌, ◌-◌, ◌≤◌, List, [], ◌∷◌, ◌++◌, length, get_or, take, drop, refl, sym, ap, arith, inl, inr, Option, Some, None, Result, Ok, Err}
+use Rattle.std.proofs.Common.{◌≡◌, ◌≢◌, ◌∙◌, ℕ, ◌+◌, ◌-◌, ◌≤◌, List, [], ◌∷◌, ◌++◌, length, get_or, take, drop, refl}
+use Rattle.std.proofs.Common.{sym, ap, arith, Option, Some, None, Result, Ok, Err}
 use Rattle.std.specs.Prelude.{IfSome, MatchResult}
 use Rattle.std.specs.Array.{IsWholeChunk}
 use Rattle.std.specs.Option.{MatchOption}
 use Rattle.std.specs.Result.{result_ok}
-use Rattle.std.proofs.lemmas.List.{length-append, take-append-drop, take_all, take_at, length-drop, length-take, get_or-drop}
+use Rattle.std.proofs.lemmas.List.{length-append, take-append-drop, take_all, take_at, length-drop, length-take}
+use Rattle.std.proofs.lemmas.List.{get_or-drop}
 use Rattle.std.proofs.lemmas.Slice.{take-put_mid}
 use borrow.Rule.Slice.PartMut.{put_mid, same_len_mid}
 use Rattle.nor_journal.specs.Number.{number_text, number_at}
-use Rattle.nor_journal.specs.Text.{Format, First, Second, magic, head}
-use Rattle.nor_journal.specs.Fault.{HasWrongSize, HeadFault, head_length}
-use Rattle.nor_journal.specs.declared.fault.JournalFault.TheVariants.{Size}
+use Rattle.nor_journal.specs.Text.{magic, head}
+use Rattle.nor_journal.specs.Fault.{head_length}
 use Rattle.nor_journal.proofs.Numbers.{IsBytes, IsBytes-drop, number_text-number_at}
 use Rattle.nor_journal.proofs.SectorRecords.{take_two}
 
@@ -27,24 +28,22 @@ three_first (a ∷ b ∷ []) long = absurd (omega arith)
 three_first (a ∷ b ∷ c ∷ rest) long = refl
 
 -- the parts of a head that has k bytes behind the ID, and what stands behind it
-parts : (k : ℕ) (bytes : List ℕ)
-    → bytes ≡ ((((take 8 bytes ++ take 3 (drop 8 bytes)) ++ take k (drop 11 bytes)) ++ take 2 (drop (11 + k) bytes)) ++ take 4 (drop (11 + k + 2) bytes)) ++ drop (11 + k + 2 + 4) bytes
-parts k bytes =
-    sym (rw (take_two 8 3 bytes, take_two 11 k bytes, take_two (11 + k) 2 bytes, take_two (11 + k + 2) 4 bytes) (take-append-drop (11 + k + 2 + 4) bytes))
-
--- each part by another name
-renamed : (bytes a b u c d a' b' u' c' d' rest : List ℕ) → bytes ≡ ((((a ++ b) ++ u) ++ c) ++ d) ++ rest → a ≡ a' → b ≡ b' → u ≡ u' → c ≡ c' → d ≡ d' → bytes ≡ ((((a' ++ b') ++ u') ++ c') ++ d') ++ rest
-renamed bytes a b u c d a' b' u' c' d' rest whole one two three four five = cc
-
-number_part : (n : ℕ) (bytes : List ℕ) → IsBytes bytes → n + 4 ≤ length bytes → take 4 (drop n bytes) ≡ number_text (number_at (drop n bytes))
-number_part n bytes fits long = sym (number_text-number_at (drop n bytes) (IsBytes-drop n bytes fits) (omega (arith, length-drop n bytes)))
+parts : (k : ℕ) (bytes : List ℕ) → bytes ≡ ((((take 8 bytes ++ take 3 (drop 8 bytes)) ++ take k (drop 11 bytes))
+    ++ take 2 (drop (11 + k) bytes)) ++ take 4 (drop (11 + k + 2) bytes)) ++ drop (11 + k + 2 + 4) bytes
+parts k bytes = sym (rw (take_two 8 3, take_two 11 k, take_two (11 + k) 2, take_two (11 + k + 2) 4)
+    (take-append-drop (11 + k + 2 + 4) bytes))
 
 -- the parts by what a head says
-said : (k : ℕ) (bytes magic unique status : List ℕ) → IsBytes bytes → 17 + k ≤ length bytes → take 8 bytes ≡ magic → take k (drop 11 bytes) ≡ unique → take 2 (drop (11 + k) bytes) ≡ status
-    → bytes ≡ ((((magic ++ get_or bytes 8 0 ∷ get_or bytes 9 0 ∷ get_or bytes 10 0 ∷ []) ++ unique) ++ status) ++ number_text (number_at (drop (11 + k + 2) bytes))) ++ drop (11 + k + 2 + 4) bytes
+said : (k : ℕ) (bytes magic unique status : List ℕ) → IsBytes bytes → 17 + k ≤ length bytes → take 8 bytes ≡ magic
+    → take k (drop 11 bytes) ≡ unique → take 2 (drop (11 + k) bytes) ≡ status
+    → bytes ≡ ((((magic ++ get_or bytes 8 0 ∷ get_or bytes 9 0 ∷ get_or bytes 10 0 ∷ []) ++ unique) ++ status)
+    ++ number_text (number_at (drop (11 + k + 2) bytes))) ++ drop (11 + k + 2 + 4) bytes
 said k bytes magic unique status fits long begins is two =
-    renamed bytes (take 8 bytes) (take 3 (drop 8 bytes)) (take k (drop 11 bytes)) (take 2 (drop (11 + k) bytes)) (take 4 (drop (11 + k + 2) bytes)) magic (get_or bytes 8 0 ∷ get_or bytes 9 0 ∷ get_or bytes 10 0 ∷ []) unique status (number_text (number_at (drop (11 + k + 2) bytes))) (drop (11 + k + 2 + 4) bytes) (parts k bytes) begins
-    (simp get_or-drop at (three_first (drop 8 bytes) (omega (arith, length-drop 8 bytes)))) is two (number_part (11 + k + 2) bytes fits (omega arith))
+    let id = simp get_or-drop at (three_first (drop 8 bytes) (omega (arith, length-drop 8 bytes))) in
+    let rest = drop (11 + k + 2) bytes in
+    let number = number_text-number_at rest (IsBytes-drop (11 + k + 2) bytes fits)
+    (omega (arith, length-drop (11 + k + 2) bytes)) in
+    rw (← begins, ← is, ← two, ← id, number) (parts k bytes)
 
 -- Eight bytes are a unique ID, and any other number is none.
 abbrev IsUnique : (part : List ℕ) → Option (List ℕ) → Type 0
@@ -55,7 +54,8 @@ unique_read part (Ok u) whole = (sym whole.same, ap length whole.same ∙ whole.
 unique_read part (Err e) other = other
 
 -- a head of this format is what it says, with the rest behind it
-pub splits : (format : Format) (len : ℕ) (bytes : List ℕ) (unique : Option (List ℕ)) → IsBytes bytes → take 8 bytes ≡ magic format → len ≡ head_length format → len ≤ length bytes
+pub splits : (told : Option (List ℕ)) (len : ℕ) (bytes : List ℕ) (unique : Option (List ℕ)) → IsBytes bytes
+    → take 8 bytes ≡ magic told → len ≡ head_length told → len ≤ length bytes
     → IsUnique (take (len - 6 - 11) (drop 11 bytes)) unique
     → IfSome unique (λ u. length u ≡ 8)
     × (bytes
@@ -69,21 +69,16 @@ pub splits : (format : Format) (len : ℕ) (bytes : List ℕ) (unique : Option (
     })
     ++ drop len bytes)
 unfolding head
-splits First len bytes None fits begins is long read =
-    let whole : 17 ≤ length bytes = omega arith in
-    (tt, rw is (said 0 bytes (magic First) [] _ fits whole begins refl (simp get_or-drop at (two_first (drop 11 bytes) (omega (arith, length-drop 11 bytes))))))
-splits First len bytes (Some u) fits begins is long read =
+splits None len bytes None fits begins is long read =
+    let two = simp get_or-drop at (two_first (drop 11 bytes) (omega (arith, length-drop 11 bytes))) in
+    (tt, rw is (said 0 bytes (magic None) [] _ fits (omega arith) begins refl two))
+splits None len bytes (Some u) fits begins is long read =
     absurd (omega (arith, is, read.1, ap length read.0, length-take (len - 6 - 11) (drop 11 bytes)))
-splits Second len bytes None fits begins is long read =
+splits (Some v) len bytes None fits begins is long read =
     absurd (read (omega (arith, is, long, length-take (len - 6 - 11) (drop 11 bytes), length-drop 11 bytes)))
-splits Second len bytes (Some u) fits begins is long read =
-    let whole : 25 ≤ length bytes = omega arith in
-    (read.1, rw is (said 8 bytes (magic Second) u _ fits whole begins (rw is at read.0) (simp get_or-drop at (two_first (drop 19 bytes) (omega (arith, length-drop 19 bytes))))))
-
--- a wrong size is one of either format
-pub wrong_size : (format : Format) (bytes : List ℕ) → HasWrongSize format bytes → HeadFault bytes Size
-wrong_size First bytes wrong = inl wrong
-wrong_size Second bytes wrong = inr wrong
+splits (Some v) len bytes (Some u) fits begins is long read =
+    let two = simp get_or-drop at (two_first (drop 19 bytes) (omega (arith, length-drop 19 bytes))) in
+    (read.1, rw is (said 8 bytes (magic (Some v)) u _ fits (omega arith) begins (rw is at read.0) two))
 
 -- ---- a head that is written
 

@@ -1,12 +1,7 @@
 -- The bytes of a file over several writes.
-use Rattle.std.proofs.Common.{◌≡◌, ℕ, ◌+◌, List, [], ◌++◌, take, drop, sym, ap, subst, ◌∙◌, append_assoc, Option, Some, None}
-use Rattle.std.specs.Io.KnownBytes.{Appends, Keeps}
-use Rattle.std.proofs.lemmas.List.{append-nil}
+use Rattle.std.proofs.Common.{◌≡◌, ℕ, ◌+◌, List, ◌++◌, take, drop, ap, subst, ◌∙◌, append_assoc, Option, Some, None}
+use Rattle.std.specs.Io.KnownBytes.{Appends}
 use Rattle.nor_journal.proofs.SectorRecords.{take_two}
-
-pub Appends-nothing : (known : Option (List ℕ)) → Appends known known []
-Appends-nothing None = tt
-Appends-nothing (Some xs) = sym (append-nil xs)
 
 pub Appends-then : (old mid new : Option (List ℕ)) (a b : List ℕ) → Appends old mid a → Appends mid new b → Appends old new (a ++ b)
 Appends-then None mid new a b first second = tt
@@ -19,9 +14,3 @@ pub Appends-more : (old mid new : Option (List ℕ)) (piece rest : List ℕ) (ke
 Appends-more old mid new piece rest kept n is first second =
     let both = Appends-then old mid new (take kept piece) (take n rest) first second in
     subst (λ (t : List ℕ). Appends old new t) (ap (λ (t : List ℕ). take kept piece ++ take n t) is ∙ take_two kept n piece) both
-
-pub Appends-kept : (old mid new : Option (List ℕ)) (a : List ℕ) → Appends old mid a → Keeps mid new → Appends old new a
-Appends-kept None mid new a first kept = tt
-Appends-kept (Some xs) None new a first kept = absurd first
-Appends-kept (Some xs) (Some ys) None a first kept = kept
-Appends-kept (Some xs) (Some ys) (Some zs) a first kept = kept ∙ first

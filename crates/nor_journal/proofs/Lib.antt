@@ -3,14 +3,11 @@ pub mod Heads
 pub mod SectorRecords
 pub mod Places
 pub mod Fronts
-pub mod OneForm
 pub mod Writes
 pub mod Beginnings
 pub mod Saved
 pub mod Sought
 pub mod KnownBytes
-pub mod OneFault
 pub mod Saves
 pub mod WholeJournals
-pub mod Sizes
-pub mod Refusals
+pub mod OneForm

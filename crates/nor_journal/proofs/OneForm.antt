@@ -1,220 +1,238 @@
--- No body of a journal begins another, and a journal has no fault.
-use Rattle.std.proofs.Common.{◌≡◌, ◌≢◌, ℕ, ◌+◌, ◌-◌, ◌/◌, ◌<◌, ◌≤◌, ◌⊎◌, List, [], ◌∷◌, ◌++◌, length, take, drop, refl, sym, ap, subst, ◌∙◌, append_assoc, arith, inl, inr}
+-- Which fault bytes have, as a function of them: so they have one at most, and a journal has none. And a journal says
+-- one thing.
+use Rattle.std.proofs.Common.{◌≡◌, ◌≢◌, ℕ, ◌-◌, ◌/◌, ◌<◌, ◌≤◌, true, List, [], ◌++◌, length, take, drop}
+use Rattle.std.proofs.Common.{Option, Some, None, sym, ap, ◌∙◌, append_assoc, arith, inl, inr}
+use Rattle.std.specs.Prelude.{if◌then◌else◌, nat_lt, false}
+use Rattle.std.specs.Str.{bytes_eq}
+use Rattle.std.proofs.lemmas.Bool.{cases_lt, lt-ltb, le-ltb, false_from_ne_true}
 use Rattle.std.specs.Prelude.{Result, Ok, Err, IfOk, IfErr, OnOk, IsOkAnd}
 use Rattle.std.specs.Option.{unwrap_or}
-use Rattle.std.proofs.lemmas.List.{length-append, length-drop, take_at, drop_at, append-nil, append_cancel_left, take-append-drop}
+use Rattle.std.proofs.lemmas.Option.{same_Some}
+use Rattle.std.proofs.lemmas.List.{length-append, length-take, length-drop, take_at, drop_at, append-nil}
+use Rattle.std.proofs.lemmas.List.{append_cancel_left, take-append-drop}
+use Rattle.std.proofs.lemmas.Slice.Eq.{bytes_eq-Decides}
 use Rattle.sha2.specs.Sha256.{sha256}
 use Rattle.sha2.proofs.Facts256.{length-sha256}
+use Rattle.nor_count.specs.Size.{is_chip_size}
 use Rattle.nor_journal.specs.declared.fault.JournalFault.{JournalFault}
 use Rattle.nor_journal.specs.declared.fault.JournalFault.TheVariants.{Short, Magic, Size, Place, Order, Long, Digest}
 use Rattle.nor_journal.specs.Number.{number_text, number_at}
-use Rattle.nor_journal.specs.Text.{SavedSector, Content, IsContent, IsSectorBelow, AreRising, Format, First, Second, format_of, magic, SameHead, least_after, next_number, head, record_text, records_text, front, body, text, end_mark}
-use Rattle.nor_journal.specs.Fault.{HasFault, HeadFault, IsHeadCut, HasWrongSize, head_length, NextFault, RecordFault, EndFault}
+use Rattle.nor_journal.specs.Text.{Content, IsContent, magic, head, next_number, records_text, front, body, text}
+use Rattle.nor_journal.specs.Text.{end_mark}
+use Rattle.nor_journal.specs.Fault.{HasFault, HeadFault, head_length, NextFault, FaultBehindFront}
+use Rattle.nor_journal.specs.Reading.{BeginsRecord}
 use Rattle.nor_journal.proofs.Numbers.{length-number_text, number_at-number_text}
-use Rattle.nor_journal.proofs.Fronts.{IsSector, same_parts, number_at-end_mark, length-end_mark, number_at-marked, number_at-record, length-record_text, records_text-cons, records_text-nil, few_sectors, length-magic, same_format, head_opened, length-head, front_opened, text_opened, same_fronts, same_content}
+use Rattle.nor_journal.proofs.Fronts.{length-magic, same_format, head_opened, length-head, few_sectors}
+use Rattle.nor_journal.proofs.Fronts.{number_at-marked, number_at-end_mark, length-end_mark, front_opened, text_opened}
+use Rattle.nor_journal.proofs.Fronts.{same_fronts}
 
--- ---- what follows is without fault
+equal : (xs ys : List ℕ) → xs ≡ ys → bytes_eq xs ys ≡ true
+equal xs ys e = (bytes_eq-Decides xs ys).1 e
 
--- at the end mark with its digest
-marked_faultless : (sectors least : ℕ) (before rest : List ℕ) (fault : JournalFault) → sectors ≤ 4096 → take 4 rest ≡ end_mark → length rest ≡ 36 → drop 4 rest ≡ sha256 (before ++ end_mark)
-    → RecordFault sectors least rest fault ⊎ EndFault before rest fault → ⊥
-marked_faultless sectors least before rest Short few mark len digest (inl (inl short)) = omega arith
-marked_faultless sectors least before rest Short few mark len digest (inl (inr good)) = omega (arith, number_at-marked rest mark, good.1)
-marked_faultless sectors least before rest Short few mark len digest (inr short) = omega (arith, short.1)
-marked_faultless sectors least before rest Magic few mark len digest (inl never) = never
-marked_faultless sectors least before rest Magic few mark len digest (inr never) = never
-marked_faultless sectors least before rest Size few mark len digest (inl never) = never
-marked_faultless sectors least before rest Size few mark len digest (inr never) = never
-marked_faultless sectors least before rest Place few mark len digest (inl place) = place.1 mark
-marked_faultless sectors least before rest Place few mark len digest (inr never) = never
-marked_faultless sectors least before rest Order few mark len digest (inl order) = omega (arith, number_at-marked rest mark, order.1)
-marked_faultless sectors least before rest Order few mark len digest (inr never) = never
-marked_faultless sectors least before rest Long few mark len digest (inl never) = never
-marked_faultless sectors least before rest Long few mark len digest (inr long) = omega (arith, long.1)
-marked_faultless sectors least before rest Digest few mark len digest (inl never) = never
-marked_faultless sectors least before rest Digest few mark len digest (inr other) = other.2 digest
+unequal : (xs ys : List ℕ) → xs ≢ ys → bytes_eq xs ys ≡ false
+unequal xs ys ne = false_from_ne_true _ (λ e. ne ((bytes_eq-Decides xs ys).0 e))
 
--- at a record whose number rises
-record_faultless : (sectors least : ℕ) (before rest : List ℕ) (fault : JournalFault) → sectors ≤ 4096 → number_at rest < sectors → least ≤ number_at rest → 4100 ≤ length rest
-    → RecordFault sectors least rest fault ⊎ EndFault before rest fault → ⊥
-record_faultless sectors least before rest Short few place rises whole (inl (inl short)) = omega arith
-record_faultless sectors least before rest Short few place rises whole (inl (inr good)) = omega (arith, good.2)
-record_faultless sectors least before rest Short few place rises whole (inr short) = omega (arith, number_at-marked rest short.0)
-record_faultless sectors least before rest Magic few place rises whole (inl never) = never
-record_faultless sectors least before rest Magic few place rises whole (inr never) = never
-record_faultless sectors least before rest Size few place rises whole (inl never) = never
-record_faultless sectors least before rest Size few place rises whole (inr never) = never
-record_faultless sectors least before rest Place few place rises whole (inl wrong) = omega (arith, wrong.2)
-record_faultless sectors least before rest Place few place rises whole (inr never) = never
-record_faultless sectors least before rest Order few place rises whole (inl wrong) = omega (arith, wrong.2)
-record_faultless sectors least before rest Order few place rises whole (inr never) = never
-record_faultless sectors least before rest Long few place rises whole (inl never) = never
-record_faultless sectors least before rest Long few place rises whole (inr long) = omega (arith, number_at-marked rest long.0)
-record_faultless sectors least before rest Digest few place rises whole (inl never) = never
-record_faultless sectors least before rest Digest few place rises whole (inr other) = omega (arith, number_at-marked rest other.0)
+-- ---- in the head
 
--- the next number is above what stands behind a beginning of the list
-least_after-append : (least : ℕ) (ss ts : List SavedSector) → least_after least (ss ++ ts) ≡ least_after (least_after least ss) ts
-least_after-append least [] ts = refl
-least_after-append least (s ∷ ss) ts = least_after-append (s.number + 1) ss ts
+-- of a head of this length
+abbrev size_fault : (len : ℕ) → List ℕ → Option JournalFault
+size_fault len bytes =
+    if nat_lt (length bytes) len then Some Short
+    else if is_chip_size (number_at (drop (len - 4) bytes)) then None
+    else Some Size
 
-pub AreRising-behind : (sectors least : ℕ) (ss ts : List SavedSector) → AreRising sectors least (ss ++ ts) → AreRising sectors (least_after least ss) ts
-AreRising-behind sectors least [] ts rising = rising
-AreRising-behind sectors least (s ∷ ss) ts rising = AreRising-behind sectors (s.number + 1) ss ts rising.2
+abbrev head_fault : List ℕ → Option JournalFault
+head_fault bytes =
+    if nat_lt (length bytes) 8 then Some Short
+    else if bytes_eq (take 8 bytes) (magic None) then size_fault 17 bytes
+    else if bytes_eq (take 8 bytes) (magic (Some [])) then size_fault 25 bytes
+    else Some Magic
 
--- behind the same records stands the end
-at_end : (c d : Content) (rest : List ℕ) (fault : JournalFault) → IsContent d → c ≡ d → rest ≡ end_mark ++ sha256 (body c) → NextFault d rest fault → ⊥
+behind_magic : (u : Option (List ℕ)) (bytes : List ℕ) → 8 ≤ length bytes → take 8 bytes ≡ magic u
+    → head_fault bytes ≡ size_fault (head_length u) bytes
+behind_magic None bytes long begins = rw (le-ltb _ _ long, equal (take 8 bytes) _ begins)
+behind_magic (Some u) bytes long begins =
+    let other : take 8 bytes ≢ magic None = λ e. absurd (omega (arith, same_format None (Some u) (sym e ∙ begins))) in
+    rw (le-ltb _ _ long, unequal (take 8 bytes) _ other, equal (take 8 bytes) _ begins)
+
+least_head : (u : Option (List ℕ)) → 17 ≤ head_length u
+least_head None = omega arith
+least_head (Some u) = omega arith
+
+-- its last four bytes are the size
+head_number : (c : Content) (x : List ℕ) → IsContent c
+    → number_at (drop (head_length c.unique - 4) (head c ++ x)) ≡ c.size
+unfolding head
+head_number c x is =
+    let before : List ℕ = ((magic c.unique ++ c.id) ++ unwrap_or c.unique []) ++ c.status in
+    let len : length before ≡ head_length c.unique - 4 =
+    omega (arith, length-head c is, length-append before (number_text c.size), length-number_text c.size) in
+    ap (λ (t : List ℕ). number_at (drop (head_length c.unique - 4) t)) (append_assoc before (number_text c.size) x)
+    ∙ ap number_at (drop_at before (number_text c.size ++ x) (head_length c.unique - 4) len)
+    ∙ number_at-number_text c.size x (omega (arith, few_sectors c.size is.size))
+
+head_fault-is : (bytes : List ℕ) (f : JournalFault) → HeadFault bytes f → head_fault bytes ≡ Some f
+head_fault-is bytes Short (inl short) = rw (lt-ltb _ _ short)
+head_fault-is bytes Short (inr (u, begins, cut)) = elim (cases_lt (length bytes) 8) [
+  | inl below ↦ rw (lt-ltb _ _ below)
+  | inr long ↦ behind_magic u bytes long begins ∙ rw (lt-ltb _ _ cut)
+]
+head_fault-is bytes Magic (long, other) =
+    rw (le-ltb _ _ long, unequal (take 8 bytes) _ (other None), unequal (take 8 bytes) _ (other (Some [])))
+head_fault-is bytes Size (u, begins, whole, wrong) =
+    behind_magic u bytes (omega (arith, least_head u)) begins ∙ rw (le-ltb _ _ whole, wrong)
+head_fault-is bytes _ never = absurd never
+
+-- the head of a content has none
+pub head_fault-none : (c : Content) (x : List ℕ) → IsContent c → head_fault (head c ++ x) ≡ None
+head_fault-none c x is =
+    let begins = ap (take 8) (head_opened c x) ∙ take_at _ _ _ (length-magic c.unique) in
+    let whole : head_length c.unique ≤ length (head c ++ x) =
+    omega (arith, length-append (head c) x, length-head c is) in
+    behind_magic c.unique (head c ++ x) (omega (arith, least_head c.unique)) begins
+    ∙ rw (le-ltb _ _ whole, head_number c x is, is.size)
+
+-- ---- behind the front of a content
+
+abbrev end_fault : Content → List ℕ → Option JournalFault
+end_fault c rest =
+    if nat_lt (length rest) 36 then Some Short
+    else if nat_lt 36 (length rest) then Some Long
+    else if bytes_eq (drop 4 rest) (sha256 (front c ++ end_mark)) then None
+    else Some Digest
+
+abbrev sector_fault : Content → List ℕ → Option JournalFault
+sector_fault c rest =
+    if nat_lt (number_at rest) (next_number c) then Some Order
+    else if nat_lt (length rest) 4100 then Some Short
+    else None
+
+abbrev next_fault : Content → List ℕ → Option JournalFault
+next_fault c rest =
+    if nat_lt (length rest) 4 then Some Short
+    else if bytes_eq (take 4 rest) end_mark then end_fault c rest
+    else if nat_lt (number_at rest) (c.size / 4096) then sector_fault c rest
+    else Some Place
+
+at_mark : (c : Content) (rest : List ℕ) → take 4 rest ≡ end_mark → next_fault c rest ≡ end_fault c rest
+at_mark c rest mark =
+    let long : 4 ≤ length rest = omega (arith, ap length mark, length-end_mark, length-take 4 rest) in
+    rw (le-ltb _ _ long, equal _ _ mark)
+
+-- the number of a sector isn't the end mark
+at_sector : (c : Content) (rest : List ℕ) → IsContent c → 4 ≤ length rest → number_at rest < c.size / 4096
+    → next_fault c rest ≡ sector_fault c rest
+at_sector c rest is long place =
+    let other : take 4 rest ≢ end_mark = λ mark.
+    omega (arith, number_at-marked rest mark, few_sectors c.size is.size) in
+    rw (le-ltb _ _ long, unequal _ _ other, lt-ltb _ _ place)
+
+next_fault-is : (c : Content) (rest : List ℕ) (f : JournalFault) → IsContent c → NextFault c rest f
+    → next_fault c rest ≡ Some f
+next_fault-is c rest Short is (inl (inl short)) = rw (lt-ltb _ _ short)
+next_fault-is c rest Short is (inl (inr (rises, place, short))) = elim (cases_lt (length rest) 4) [
+  | inl below ↦ rw (lt-ltb _ _ below)
+  | inr long ↦ at_sector c rest is long place ∙ rw (le-ltb _ _ rises, lt-ltb _ _ short)
+]
+next_fault-is c rest Place is (inl (long, other, place)) =
+    rw (le-ltb _ _ long, unequal _ _ other, le-ltb _ _ place)
+next_fault-is c rest Order is (inl (long, place, falls)) =
+    at_sector c rest is long place ∙ rw (lt-ltb _ _ falls)
+next_fault-is c rest Short is (inr (mark, short)) = at_mark c rest mark ∙ rw (lt-ltb _ _ short)
+next_fault-is c rest Long is (inr (mark, long)) =
+    at_mark c rest mark ∙ rw (le-ltb (length rest) 36 (omega arith), lt-ltb _ _ long)
+next_fault-is c rest Digest is (inr (mark, whole, other)) =
+    at_mark c rest mark
+    ∙ rw (le-ltb (length rest) 36 (omega arith), le-ltb 36 (length rest) (omega arith), unequal _ _ other)
+next_fault-is c rest _ is (inl never) = absurd never
+next_fault-is c rest _ is (inr never) = absurd never
+
+-- the end has none
+next_fault-end : (c : Content) → next_fault c (end_mark ++ sha256 (body c)) ≡ None
 unfolding body
-at_end c d rest fault is same ends =
-    let few = few_sectors d.size is.size in
-    let digest : sha256 (body c) ≡ sha256 (front d ++ end_mark) = ap (λ (e : Content). sha256 (front e ++ end_mark)) same in
-    let mark : take 4 rest ≡ end_mark = ap (take 4) ends ∙ take_at end_mark (sha256 (body c)) 4 length-end_mark in
-    let len : length rest ≡ 36 = omega (arith, ap length ends, length-append end_mark (sha256 (body c)), length-end_mark, length-sha256 (body c)) in
-    marked_faultless (d.size / 4096) (next_number d) (front d) rest fault few mark len (ap (drop 4) ends ∙ drop_at end_mark (sha256 (body c)) 4 length-end_mark ∙ digest)
+next_fault-end c =
+    let len : length (end_mark ++ sha256 (body c)) ≡ 36 =
+    simp (length-append, length-end_mark, length-sha256) in
+    at_mark c _ (take_at end_mark _ 4 length-end_mark)
+    ∙ rw (len, equal _ _ (drop_at end_mark (sha256 (body c)) 4 length-end_mark))
 
--- behind a part of the records stands the next record
-pub at_record : (d : Content) (s : SavedSector) (more : List SavedSector) (rest after : List ℕ) (fault : JournalFault) → IsContent d → IsSectorBelow (d.size / 4096) s → next_number d ≤ s.number → rest ≡ records_text (s ∷ more) ++ after
-    → NextFault d rest fault → ⊥
-at_record d s more rest after fault is s-is rises begins =
-    let few = few_sectors d.size is.size in
-    let sector : IsSector s = record { number = omega (arith, s-is.place); whole = s-is.whole } in
-    let opened : rest ≡ record_text s ++ (records_text more ++ after) = begins ∙ ap (λ (t : List ℕ). t ++ after) (records_text-cons s more) ∙ append_assoc (record_text s) (records_text more) after in
-    let number : number_at rest ≡ s.number = ap number_at opened ∙ number_at-record s (records_text more ++ after) (omega (arith, s-is.place)) in
-    let whole : 4100 ≤ length rest = omega (arith, ap length opened, length-append (record_text s) (records_text more ++ after), length-record_text s sector) in
-    record_faultless (d.size / 4096) (next_number d) (front d) rest fault few (rw number s-is.place) (rw number rises) whole
+-- nor has a record that may be next
+next_fault-record : (c : Content) (rest : List ℕ) → IsContent c
+    → BeginsRecord (c.size / 4096) (next_number c) rest (number_at rest) → next_fault c rest ≡ None
+next_fault-record c rest is begins =
+    at_sector c rest is (omega (arith, begins.whole)) begins.place
+    ∙ rw (le-ltb _ _ begins.rises, le-ltb _ _ begins.whole)
 
-pub next_is : (d : Content) (s : SavedSector) → least_after 0 d.saved ≤ s.number → next_number d ≤ s.number
-unfolding next_number
-next_is d s le = le
+-- ---- of the bytes
 
--- the end mark begins no record
-no_record : (behind : List ℕ) (s : SavedSector) (more : List SavedSector) (rest : List ℕ) (sectors : ℕ) → s.number < sectors → sectors ≤ 4096 → end_mark ++ behind ≡ records_text (s ∷ more) ++ rest → ⊥
-no_record behind s more rest sectors place few e =
-    let opened : end_mark ++ behind ≡ record_text s ++ (records_text more ++ rest) = e ∙ ap (λ (t : List ℕ). t ++ rest) (records_text-cons s more) ∙ append_assoc (record_text s) (records_text more) rest in
-    let number : 4294967295 ≡ s.number = sym (number_at-end_mark behind) ∙ ap number_at opened ∙ number_at-record s (records_text more ++ rest) (omega arith) in
-    omega arith
+-- no fault is in the head where the bytes begin with the front of a content
+not_in_head : (bytes : List ℕ) (f : JournalFault) (c : Content) (rest : List ℕ) → IsContent c
+    → bytes ≡ front c ++ rest → HeadFault bytes f → ⊥
+not_in_head bytes f c rest is split found =
+    let none = head_fault-none c (records_text c.saved ++ rest) is in
+    let some = head_fault-is bytes f found in
+    cc (none, some, split, front_opened c rest)
 
--- the sector behind a part of the records
-place_behind : (sectors least : ℕ) (ss : List SavedSector) (s : SavedSector) (more : List SavedSector) → AreRising sectors least (ss ++ s ∷ more) → s.number < sectors
-place_behind sectors least ss s more rising = (AreRising-behind sectors least ss (s ∷ more) rising).0.place
+-- a record begins no end
+no_record : (c : Content) (least : ℕ) (behind : List ℕ) → IsContent c
+    → BeginsRecord (c.size / 4096) least (end_mark ++ behind) (number_at (end_mark ++ behind)) → ⊥
+no_record c least behind is begins =
+    omega (arith, begins.place, number_at-end_mark behind, few_sectors c.size is.size)
 
--- the first content's records go on behind those of the second
-behind_part : (c d : Content) (rest : List ℕ) (fault : JournalFault) (more : List SavedSector) → IsContent c → IsContent d → SameHead d c → c.saved ≡ d.saved ++ more → rest ≡ records_text more ++ (end_mark ++ sha256 (body c)) → NextFault d rest fault → ⊥
-behind_part c d rest fault [] c-is d-is same list begins found =
-    at_end c d rest fault d-is (sym (same_content d c same (sym (list ∙ append-nil d.saved)))) (begins ∙ ap (λ (t : List ℕ). t ++ (end_mark ++ sha256 (body c))) records_text-nil) found
-behind_part c d rest fault (s ∷ more) c-is d-is same list begins found =
-    let rising : AreRising (d.size / 4096) 0 (d.saved ++ s ∷ more) = rw (same.size, ← list) c-is.saved in
-    let here = AreRising-behind (d.size / 4096) 0 d.saved (s ∷ more) rising in
-    at_record d s more rest (end_mark ++ sha256 (body c)) fault d-is here.0 (next_is d s here.1) begins found
-
--- the second content's records go on behind those of the first, whose end mark is no record
-behind_all : (c d : Content) (rest : List ℕ) (fault : JournalFault) (more : List SavedSector) → IsContent c → IsContent d → SameHead d c → d.saved ≡ c.saved ++ more → end_mark ++ sha256 (body c) ≡ records_text more ++ rest → NextFault d rest fault → ⊥
-behind_all c d rest fault [] c-is d-is same list begins found =
-    at_end c d rest fault d-is (sym (same_content d c same (list ∙ append-nil c.saved))) (sym (begins ∙ ap (λ (t : List ℕ). t ++ rest) records_text-nil)) found
-behind_all c d rest fault (s ∷ more) c-is d-is same list begins found = no_record (sha256 (body c)) s more rest (d.size / 4096) (place_behind (d.size / 4096) 0 c.saved s more (rw (← list) d-is.saved)) (few_sectors d.size d-is.size) begins
-
--- what stands behind the front of one content isn't at fault where the bytes are the text of another
-next_faultless : (c d : Content) (rest : List ℕ) (fault : JournalFault) → IsContent c → IsContent d → text c ≡ front d ++ rest → NextFault d rest fault → ⊥
-next_faultless c d rest fault c-is d-is e found =
-    let both = same_fronts d c rest (end_mark ++ sha256 (body c)) d-is c-is (sym e ∙ text_opened c) in
-    elim both.1 [
-      | inl on ↦ behind_part c d rest fault on.more c-is d-is both.0 on.list on.text found
-      | inr on ↦ behind_all c d rest fault on.more c-is d-is both.0 on.list on.text found
+-- behind the front of a content there is one fault at most
+front_fault : (bytes : List ℕ) (f g : JournalFault) → FaultBehindFront bytes f → FaultBehindFront bytes g → f ≡ g
+front_fault bytes f g p q =
+    let first = next_fault-is p.content p.rest f p.is_content p.next in
+    let second = next_fault-is q.content q.rest g q.is_content q.next in
+    elim (same_fronts p.content q.content p.rest q.rest p.is_content q.is_content (sym p.split ∙ q.split)) [
+      | inl same ↦ same_Some f g (sym first ∙ rw (same.0, same.1) second)
+      | inr (inl record_there) ↦ absurd (cc (next_fault-record p.content p.rest p.is_content record_there, first))
+      | inr (inr record_there) ↦ absurd (cc (next_fault-record q.content q.rest q.is_content record_there, second))
     ]
 
--- ---- the head of a text is without fault
-
-head_number : (f : Format) (c : Content) (x : List ℕ) → IsContent c → format_of c.unique ≡ f → number_at (drop (head_length f - 4) (head c ++ x)) ≡ c.size
-unfolding head
-head_number f c x is e =
-    let before : List ℕ = ((magic (format_of c.unique) ++ c.id) ++ unwrap_or c.unique []) ++ c.status in
-    let len : length before ≡ head_length f - 4 = omega (arith, length-head c is, ap head_length e, length-append before (number_text c.size), length-number_text c.size) in
-    ap (λ (t : List ℕ). number_at (drop (head_length f - 4) t)) (append_assoc before (number_text c.size) x)
-    ∙ ap number_at (drop_at before (number_text c.size ++ x) (head_length f - 4) len)
-    ∙ number_at-number_text c.size x (omega (arith, is.size.most))
-
-head_magic : (c : Content) (x : List ℕ) → take 8 (head c ++ x) ≡ magic (format_of c.unique)
-head_magic c x = ap (take 8) (head_opened c x) ∙ take_at _ _ _ (length-magic (format_of c.unique))
-
--- the format of the bytes is that of the content
-head_format : (f : Format) (c : Content) (x : List ℕ) → take 8 (head c ++ x) ≡ magic f → format_of c.unique ≡ f
-head_format f c x begins = same_format _ _ (sym (head_magic c x) ∙ begins)
-
-not_cut : (f : Format) (c : Content) (x : List ℕ) → IsContent c → IsHeadCut f (head c ++ x) → ⊥
-not_cut f c x is cut = omega (arith, cut.cut, length-append (head c) x, length-head c is, ap head_length (head_format f c x cut.begins))
-
-size_is_right : (f : Format) (c : Content) (x : List ℕ) → IsContent c → HasWrongSize f (head c ++ x) → ⊥
-size_is_right f c x is found = found.wrong (rw (head_number f c x is (head_format f c x found.begins)) is.size)
-
-some_format : (f : Format) (bytes : List ℕ) → bytes ≡ magic f → bytes ≢ magic First → bytes ≢ magic Second → ⊥
-some_format First bytes e one two = one e
-some_format Second bytes e one two = two e
-
-pub least_head : (f : Format) → 17 ≤ head_length f
-least_head First = omega arith
-least_head Second = omega arith
-
-pub head_faultless : (c : Content) (x : List ℕ) (fault : JournalFault) → IsContent c → HeadFault (head c ++ x) fault → ⊥
-head_faultless c x Short is (inl short) = omega (arith, length-append (head c) x, length-head c is, least_head (format_of c.unique))
-head_faultless c x Short is (inr (inl cut)) = not_cut First c x is cut
-head_faultless c x Short is (inr (inr cut)) = not_cut Second c x is cut
-head_faultless c x Magic is other = some_format (format_of c.unique) (take 8 (head c ++ x)) (head_magic c x) other.1 other.2
-head_faultless c x Size is (inl wrong) = size_is_right First c x is wrong
-head_faultless c x Size is (inr wrong) = size_is_right Second c x is wrong
-head_faultless c x Place is never = never
-head_faultless c x Order is never = never
-head_faultless c x Long is never = never
-head_faultless c x Digest is never = never
+pub one_fault : (bytes : List ℕ) (f g : JournalFault) → HasFault bytes f → HasFault bytes g → f ≡ g
+one_fault bytes f g (inl p) (inl q) = same_Some f g (sym (head_fault-is bytes f p) ∙ head_fault-is bytes g q)
+one_fault bytes f g (inl p) (inr q) = absurd (not_in_head bytes f q.content q.rest q.is_content q.split p)
+one_fault bytes f g (inr p) (inl q) = absurd (not_in_head bytes g p.content p.rest p.is_content p.split q)
+one_fault bytes f g (inr p) (inr q) = front_fault bytes f g p q
 
 -- a journal has no fault
 pub faultless : (c : Content) (bytes : List ℕ) (fault : JournalFault) → IsContent c → bytes ≡ text c → HasFault bytes fault → ⊥
 faultless c bytes fault is e (inl found) =
-    head_faultless c (records_text c.saved ++ (end_mark ++ sha256 (body c))) fault is (subst (λ (b : List ℕ). HeadFault b fault) (e ∙ text_opened c ∙ front_opened c (end_mark ++ sha256 (body c))) found)
-faultless c bytes fault is e (inr found) = next_faultless c found.content found.rest fault is found.is_content (sym e ∙ found.split) found.next
+    not_in_head bytes fault c (end_mark ++ sha256 (body c)) is (e ∙ text_opened c) found
+faultless c bytes fault is e (inr found) =
+    let some = next_fault-is found.content found.rest fault found.is_content found.next in
+    elim (same_fronts c found.content _ found.rest is found.is_content (sym (text_opened c) ∙ sym e ∙ found.split)) [
+      | inl same ↦ cc (next_fault-end c, same.0, same.1, some)
+      | inr (inl begins) ↦ no_record c _ _ is begins
+      | inr (inr begins) ↦ cc (next_fault-record found.content found.rest found.is_content begins, some)
+    ]
 
 -- ---- each journal says one thing, and none begins another
 
 text_then : (c : Content) (x : List ℕ) → text c ++ x ≡ front c ++ (end_mark ++ (sha256 (body c) ++ x))
-text_then c x =
-    ap (λ (t : List ℕ). t ++ x) (text_opened c)
-    ∙ append_assoc (front c) (end_mark ++ sha256 (body c)) x
-    ∙ ap (λ (t : List ℕ). front c ++ t) (append_assoc end_mark (sha256 (body c)) x)
-
-same_end : (c d : Content) (x y : List ℕ) (more : List SavedSector) → IsContent d → SameHead c d → d.saved ≡ c.saved ++ more → end_mark ++ (sha256 (body c) ++ x) ≡ records_text more ++ (end_mark ++ (sha256 (body d) ++ y)) → (c ≡ d) × (x ≡ y)
-same_end c d x y [] is same list e =
-    let one : c ≡ d = same_content c d same (sym (list ∙ append-nil c.saved)) in
-    let behind : end_mark ++ (sha256 (body c) ++ x) ≡ end_mark ++ (sha256 (body d) ++ y) = e ∙ ap (λ (t : List ℕ). t ++ (end_mark ++ (sha256 (body d) ++ y))) records_text-nil in
-    let digests : sha256 (body c) ++ x ≡ sha256 (body d) ++ y = append_cancel_left end_mark (sha256 (body c) ++ x) (sha256 (body d) ++ y) behind in
-    (one, (same_parts (sha256 (body c)) (sha256 (body d)) x y (length-sha256 (body c) ∙ sym (length-sha256 (body d))) digests).1)
-same_end c d x y (s ∷ more) is same list e =
-    absurd (no_record (sha256 (body c) ++ x) s more (end_mark ++ (sha256 (body d) ++ y)) (d.size / 4096) (place_behind (d.size / 4096) 0 c.saved s more (rw (← list) is.saved)) (few_sectors d.size is.size) e)
-
-pub swapped : (c d : Content) → SameHead c d → SameHead d c
-swapped c d same = record { id = sym same.id; unique = sym same.unique; status = sym same.status; size = sym same.size }
+text_then c x = rw text_opened (simp append_assoc)
 
 pub one_text : (c d : Content) (x y : List ℕ) → IsContent c → IsContent d → text c ++ x ≡ text d ++ y → (c ≡ d) × (x ≡ y)
 one_text c d x y c-is d-is e =
-    let both = same_fronts c d (end_mark ++ (sha256 (body c) ++ x)) (end_mark ++ (sha256 (body d) ++ y)) c-is d-is (sym (text_then c x) ∙ e ∙ text_then d y) in
-    elim both.1 [
-      | inl on ↦ same_end c d x y on.more d-is both.0 on.list on.text
-      | inr on ↦ turned c d x y (same_end d c y x on.more c-is (swapped c d both.0) on.list on.text)
+    elim (same_fronts c d _ _ c-is d-is (sym (text_then c x) ∙ e ∙ text_then d y)) [
+      | inl same ↦ (same.0, append_cancel_left (text c) x y (e ∙ ap (λ (b : Content). text b ++ y) (sym same.0)))
+      | inr (inl begins) ↦ absurd (no_record c _ _ c-is begins)
+      | inr (inr begins) ↦ absurd (no_record d _ _ d-is begins)
     ]
-  where
-    turned : (c d : Content) (x y : List ℕ) → (d ≡ c) × (y ≡ x) → (c ≡ d) × (x ≡ y)
-    turned c d x y both = (sym both.0, sym both.1)
 
 -- what reading finds of a journal
-pub is_read : (bytes : List ℕ) (r : Result Content JournalFault) (c : Content) → IfOk r (λ j. IsContent j × (bytes ≡ text j)) → IfErr r (HasFault bytes) → IsContent c → bytes ≡ text c → IsOkAnd r (λ j. j ≡ c)
+pub is_read : (bytes : List ℕ) (r : Result Content JournalFault) (c : Content)
+    → IfOk r (λ j. IsContent j × (bytes ≡ text j)) → IfErr r (HasFault bytes) → IsContent c → bytes ≡ text c
+    → IsOkAnd r (λ j. j ≡ c)
 is_read bytes (Ok j) c found fault is e =
-    (one_text j c [] [] found.0 is (append-nil (text j) ∙ sym found.1 ∙ e ∙ sym (append-nil (text c)))).0
+    (one_text j c [] [] found.0 is (ap (λ (t : List ℕ). t ++ []) (sym found.1 ∙ e))).0
 is_read bytes (Err f) c found fault is e = faultless c bytes f is e fault
 
 -- no proper beginning of a journal is a journal
-no_beginning : (bytes : List ℕ) (j c : Content) (n : ℕ) → IsContent j → bytes ≡ text j → IsContent c → take n bytes ≡ text c → length bytes ≤ n
-no_beginning bytes j c n j-is whole c-is begins =
-    let e : text c ++ drop n bytes ≡ text j ++ [] = ap (λ (t : List ℕ). t ++ drop n bytes) (sym begins) ∙ take-append-drop n bytes ∙ whole ∙ sym (append-nil (text j)) in
-    omega (arith, ap length (one_text c j (drop n bytes) [] c-is j-is e).1, length-drop n bytes)
-
-pub ends_whole : (bytes : List ℕ) (r : Result Content JournalFault) → IfOk r (λ j. IsContent j × (bytes ≡ text j)) → OnOk r ((c : Content) (n : ℕ) → IsContent c → take n bytes ≡ text c → length bytes ≤ n)
-ends_whole bytes (Ok j) found = λ c n is begins. no_beginning bytes j c n found.0 found.1 is begins
+pub ends_whole : (bytes : List ℕ) (r : Result Content JournalFault) → IfOk r (λ j. IsContent j × (bytes ≡ text j))
+    → OnOk r ((c : Content) (n : ℕ) → IsContent c → take n bytes ≡ text c → length bytes ≤ n)
+ends_whole bytes (Ok j) found = λ c n is begins.
+    let e : text c ++ drop n bytes ≡ text j ++ [] = rw (← begins, take-append-drop n bytes, append-nil) found.1 in
+    omega (arith, ap length (one_text c j (drop n bytes) [] is found.0 e).1, length-drop n bytes)
 ends_whole bytes (Err f) found = tt

@@ -1,16 +1,18 @@
 -- Which sectors a journal saves, as it is written and as it is read.
-use Rattle.std.proofs.Common.{◌≡◌, ℕ, ◌+◌, ◌*◌, ◌/◌, ◌%◌, ◌<◌, ◌≤◌, cond, eqb, Bool, true, false, List, [], refl, sym, ap, subst, ◌∙◌, arith, Option, Some, None, inl, inr}
+use Rattle.std.proofs.Common.{◌≡◌, ℕ, ◌+◌, ◌/◌, ◌%◌, ◌<◌, ◌≤◌, cond, eqb, Bool, true, false, List, [], refl, sym, ap}
+use Rattle.std.proofs.Common.{subst, ◌∙◌, arith, Option, Some, None, inl, inr}
 use Rattle.std.specs.Prelude.{slice_index, IsSomeAnd, Result, Ok, Err, IsOkAnd}
 use Rattle.std.specs.Option.{is_some, unwrap_or}
 use Rattle.std.proofs.lemmas.Bool.{eq-eqb, ne_eqb}
 use Rattle.std.proofs.lemmas.Bool.Decides.{eqb_tells}
 use Rattle.nor_journal.specs.declared.writer.Writer.{Writer}
 use Rattle.nor_journal.specs.Vault.{VaultState}
-use Rattle.nor_journal.specs.Text.{Content, IsContent, SameHead, MayFollow, empty_content, with_sector, text}
+use Rattle.nor_journal.specs.Text.{Content, SameHead, MayFollow, empty_content, with_sector, text}
 use Rattle.nor_journal.specs.Saved.{IsWholeSector, Saves, HasOneMore, JournalSaves, saved_in, is_saved, saved_byte}
 use Rattle.nor_journal.specs.declared.fault.JournalFault.{JournalFault}
 use Rattle.nor_journal.specs.Writer.{HasWritten, HasPutSectors}
-use Rattle.nor_journal.proofs.Saved.{saved_in-whole, saved_in-with_sector, saved_in-empty_content, next_number-empty_content, next_number-with_sector}
+use Rattle.nor_journal.proofs.Saved.{saved_in-with_sector, saved_in-empty_content, next_number-empty_content}
+use Rattle.nor_journal.proofs.Saved.{next_number-with_sector}
 use Rattle.nor_journal.proofs.Writes.{IsContent-with_sector}
 
 -- ---- of a content
@@ -45,14 +47,6 @@ Saves-more chip saved more c number bytes saves follows sector one = record {
           | inr miss ↦ rw (ne_eqb number s miss.1) (saves.others s (sym (one.others s (λ e. miss.1 (sym e))) ∙ is))
         ]
 
--- a sector that is saved is one of the set, and has the chip's bytes
-pub Saves-sector : (chip : ℕ → ℕ) (saved : ℕ → Bool) (c : Content) (s : ℕ) (bytes : List ℕ) → Saves chip saved c → saved_in c.saved s ≡ Some bytes → (saved s ≡ true) × IsWholeSector chip s bytes
-Saves-sector chip saved c s bytes saves e = by_cases (saved s) refl
-  where
-    by_cases : (b : Bool) → saved s ≡ b → (saved s ≡ true) × IsWholeSector chip s bytes
-    by_cases true is = (is, subst (λ (o : Option (List ℕ)). IsSomeAnd o (IsWholeSector chip s)) e (saves.sectors s is))
-    by_cases false is = (let none : Some bytes ≡ None = sym e ∙ saves.others s is in absurd cc)
-
 -- the set is that of the saved sectors
 pub Saves-set : (chip : ℕ → ℕ) (saved : ℕ → Bool) (c : Content) (s : ℕ) → Saves chip saved c → saved s ≡ is_saved c s
 Saves-set chip saved c s saves = by_cases (saved_in c.saved s) refl (saved s) refl
@@ -71,24 +65,6 @@ saved_byte-is chip saved c a saves is = of_sector (saved_in c.saved (a / 4096)) 
     of_sector None never = absurd never
     of_sector (Some bytes) sector = sector.same (a % 4096) (omega arith) ∙ ap chip (omega arith)
 
--- each content saves its own sectors, with its own bytes
-pub Saves-itself : (c : Content) → IsContent c → Saves (saved_byte c) (is_saved c) c
-Saves-itself c is = record { is = is; sectors = λ s e. of_sector s (saved_in c.saved s) refl e; others = λ s e. of_other (saved_in c.saved s) e }
-  where
-    of_other : (o : Option (List ℕ)) → is_some o ≡ false → o ≡ None
-    of_other None e = refl
-    of_other (Some bytes) e = absurd cc
-
-    of_sector : (s : ℕ) (o : Option (List ℕ)) → saved_in c.saved s ≡ o → is_some o ≡ true → IsSomeAnd o (IsWholeSector (saved_byte c) s)
-    of_sector s None e some = absurd cc
-    of_sector s (Some bytes) e some = record {
-      whole = (saved_in-whole (c.size / 4096) 0 c.saved s bytes is.saved e).1;
-      same = λ i below.
-          (let sector : (4096 * s + i) / 4096 ≡ s = omega arith in
-          let place : (4096 * s + i) % 4096 ≡ i = omega arith in
-          rw (sector, place, e) refl);
-    }
-
 -- ---- of the bytes of a journal
 
 -- what was kept is read
@@ -105,7 +81,7 @@ pub HasKept-none : {V : Type 0} (state : V → VaultState) (w : Writer V) (id : 
 HasKept-none state w id unique status size chip saved n written none = record {
   content = empty_content id unique status size;
   written = written;
-  same = record { id = refl; unique = refl; status = refl; size = refl };
+  same = refl;
   saves = record {
     is = written.is;
     sectors = λ s is. (let both : true ≡ false = sym is ∙ none s in absurd cc);
@@ -114,21 +90,11 @@ HasKept-none state w id unique status size chip saved n written none = record {
   next = omega (arith, next_number-empty_content id unique status size);
 }
 
--- the same set by another test, or a bound that is higher
-pub HasKept-same : {V : Type 0} (state : V → VaultState) (w : Writer V) (head : Content) (chip : ℕ → ℕ) (saved other : ℕ → Bool) (n m : ℕ) → ((s : ℕ) → other s ≡ saved s) → n ≤ m → HasPutSectors state w head chip saved n → HasPutSectors state w head chip other m
-HasKept-same state w head chip saved other n m same above kept = record {
-  content = kept.content;
-  written = kept.written;
-  same = kept.same;
-  saves = Saves-same chip saved other kept.content same kept.saves;
-  next = omega (arith, kept.next);
-}
-
 -- a sector that isn't below the bound may follow
 pub may_follow : {V : Type 0} (state : V → VaultState) (w : Writer V) (head : Content) (chip : ℕ → ℕ) (saved : ℕ → Bool) (n number : ℕ) (kept : HasPutSectors state w head chip saved n) → n ≤ number → number < head.size / 4096 → MayFollow kept.content number
 may_follow state w head chip saved n number kept above place = record {
   rises = omega (arith, kept.next);
-  place = subst (λ (size : ℕ). number < size / 4096) kept.same.size place;
+  place = subst (λ (c : Content). number < c.size / 4096) kept.same place;
 }
 
 -- one sector more
@@ -137,7 +103,7 @@ pub HasKept-more : {V : Type 0} (state : V → VaultState) (old new : Writer V) 
 HasKept-more state old new head chip saved more n number bytes kept follows sector one written = record {
   content = with_sector kept.content number bytes;
   written = written;
-  same = record { id = kept.same.id; unique = kept.same.unique; status = kept.same.status; size = kept.same.size };
+  same = kept.same;
   saves = Saves-more chip saved more kept.content number bytes kept.saves follows sector one;
   next = omega (arith, next_number-with_sector kept.content number bytes);
 }

@@ -1,12 +1,17 @@
 -- Records one after the other: in the bytes, and as a list of sectors that rises.
-use Rattle.std.proofs.Common.{◌≡◌, ℕ, zero, suc, ◌+◌, ◌*◌, ◌/◌, ◌<◌, ◌≤◌, List, [], ◌∷◌, ◌++◌, length, take, drop, refl, sym, ap, ◌∙◌, add-one, arith, Some, inl, inr}
+use Rattle.std.proofs.Common.{◌≡◌, ℕ, zero, suc, ◌+◌, ◌*◌, ◌/◌, ◌<◌, ◌≤◌, List, [], ◌∷◌, ◌++◌, length, get_or, take}
+use Rattle.std.proofs.Common.{drop, refl, sym, ap, ◌∙◌, add-one, arith, Some, inl, inr}
 use Rattle.std.specs.Prelude.{slice_get}
 use Rattle.std.specs.List.{flat_map}
 use Rattle.std.proofs.lemmas.Bool.{cases_lt}
-use Rattle.std.proofs.lemmas.List.{length-take, length-drop, drop-drop, append-nil, length_push}
+use Rattle.std.proofs.Math.Seq.{take-add}
+use Rattle.std.proofs.lemmas.List.{get_or_append_left, get_or_at, length-take, length-drop, drop-drop, append-nil}
+use Rattle.std.proofs.lemmas.List.{length_push}
+use Rattle.std.proofs.lemmas.Option.{slice_get-get_or}
 use Rattle.std.proofs.lemmas.Grind.{flat_map-append}
 use Rattle.nor_journal.specs.Number.{number_text, number_at}
-use Rattle.nor_journal.specs.Text.{SavedSector, IsSectorBelow, AreRising, least_after, record_text, records_text, next_number, end_mark}
+use Rattle.nor_journal.specs.Text.{SavedSector, IsSectorBelow, AreRising, least_after, record_text, records_text}
+use Rattle.nor_journal.specs.Text.{next_number, end_mark}
 use Rattle.nor_journal.specs.declared.head.Head.{Head}
 use Rattle.nor_journal.specs.Reading.{sector_at, saved_records, content_at, HasRecords, BeginsRecord}
 use Rattle.nor_journal.proofs.Numbers.{IsBytes, IsBytes-drop, number_text-number_at}
@@ -35,35 +40,30 @@ unfolding saved_records
 length-sectors_in zero bytes = refl
 length-sectors_in (suc k) bytes = omega (arith, length_push (saved_records k bytes) (sector_at bytes k), length-sectors_in k bytes)
 
-slice_get-push_last : (ss : List SavedSector) (s : SavedSector) (n : ℕ) → length ss ≡ n → slice_get (ss ++ s ∷ []) n ≡ Some s
-slice_get-push_last [] s zero e = refl
-slice_get-push_last [] s (suc n) e = absurd (omega arith)
-slice_get-push_last (x ∷ ss) s zero e = absurd (omega arith)
-slice_get-push_last (x ∷ ss) s (suc n) e = slice_get-push_last ss s n (omega arith)
-
-slice_get-push_before : (ss : List SavedSector) (s : SavedSector) (n : ℕ) → n < length ss → slice_get (ss ++ s ∷ []) n ≡ slice_get ss n
-slice_get-push_before [] s n lt = absurd (omega arith)
-slice_get-push_before (x ∷ ss) s zero lt = refl
-slice_get-push_before (x ∷ ss) s (suc n) lt = slice_get-push_before ss s n (omega arith)
-
-pub slice_get-sectors_in : (k : ℕ) (bytes : List ℕ) (i : ℕ) → i < k → slice_get (saved_records k bytes) i ≡ Some (sector_at bytes i)
+sector_in : (k : ℕ) (bytes : List ℕ) (i : ℕ) (d : SavedSector) → i < k
+    → get_or (saved_records k bytes) i d ≡ sector_at bytes i
 unfolding saved_records
-slice_get-sectors_in zero bytes i lt = absurd (omega arith)
-slice_get-sectors_in (suc k) bytes i lt =
+sector_in zero bytes i d lt = absurd (omega arith)
+sector_in (suc k) bytes i d lt =
     elim (cases_lt i k) [
-      | inl below ↦ slice_get-push_before (saved_records k bytes) (sector_at bytes k) i (omega (arith, length-sectors_in k bytes)) ∙ slice_get-sectors_in k bytes i below
-      | inr at ↦ (let e : k ≡ i = omega arith in rw (← e) (slice_get-push_last (saved_records k bytes) (sector_at bytes k) k (length-sectors_in k bytes)))
+      | inl below ↦
+          get_or_append_left (saved_records k bytes) (sector_at bytes k ∷ []) d i
+          (omega (arith, length-sectors_in k bytes))
+          ∙ sector_in k bytes i d below
+      | inr at ↦
+          let e : k ≡ i = omega arith in
+          rw (← e) (get_or_at (saved_records k bytes) (sector_at bytes k) [] d k (length-sectors_in k bytes))
     ]
 
-take-nil : (n : ℕ) → take {A = ℕ} n [] ≡ []
-take-nil zero = refl
-take-nil (suc n) = refl
+pub slice_get-sectors_in : (k : ℕ) (bytes : List ℕ) (i : ℕ) → i < k
+    → slice_get (saved_records k bytes) i ≡ Some (sector_at bytes i)
+slice_get-sectors_in k bytes i lt =
+    slice_get-get_or (saved_records k bytes) i (sector_at bytes i) (omega (arith, length-sectors_in k bytes))
+    ∙ ap Some (sector_in k bytes i _ lt)
 
 -- two parts from the front
 pub take_two : (m n : ℕ) (bytes : List ℕ) → take m bytes ++ take n (drop m bytes) ≡ take (m + n) bytes
-take_two zero n bytes = ap (λ (k : ℕ). take k bytes) (omega arith)
-take_two (suc m) n [] = take-nil n ∙ sym (take-nil (suc m + n))
-take_two (suc m) n (b ∷ bytes) = let e : suc m + n ≡ suc (m + n) = omega arith in rw e (ap (λ (t : List ℕ). b ∷ t) (take_two m n bytes))
+take_two m n bytes = sym (take-add m n bytes)
 
 -- one record is the text of its sector
 pub record_text-sector_at : (k : ℕ) (bytes : List ℕ) → IsBytes bytes → 4100 * k + 4100 ≤ length bytes → record_text (sector_at bytes k) ≡ take 4100 (drop (4100 * k) bytes)

@@ -1,5 +1,6 @@
 -- A sector that is sought among records that rise.
-use Rattle.std.proofs.Common.{◌≡◌, ℕ, zero, suc, ◌+◌, ◌<◌, ◌≤◌, List, [], ◌∷◌, length, refl, arith, Option, Some, None, inl, inr}
+use Rattle.std.proofs.Common.{◌≡◌, ℕ, zero, suc, ◌+◌, ◌<◌, ◌≤◌, List, [], ◌∷◌, length, refl, sym, ap, ◌∙◌, arith}
+use Rattle.std.proofs.Common.{Option, Some, None, inl, inr}
 use Rattle.std.specs.Prelude.{slice_get}
 use Rattle.std.proofs.lemmas.Bool.{cases_lt}
 use Rattle.std.proofs.lemmas.Option.{same_Some}
@@ -14,63 +15,37 @@ pub record IsSought (saved : List SavedSector) (number low high : ℕ) : Type 0 
   pub before : (i : ℕ) (s : SavedSector) → slice_get saved i ≡ Some s → i < low → s.number < number
   pub behind : (i : ℕ) (s : SavedSector) → slice_get saved i ≡ Some s → high ≤ i → number < s.number
 
--- a record stands inside the list
-at_inside : (ss : List SavedSector) (i : ℕ) (s : SavedSector) → slice_get ss i ≡ Some s → i < length ss
-at_inside [] i s e = absurd cc
-at_inside (t ∷ ss) zero s e = omega arith
-at_inside (t ∷ ss) (suc i) s e = let later = at_inside ss i s e in omega arith
-
 -- numbers rise
-risen : (sectors least : ℕ) (ss : List SavedSector) (i j : ℕ) (s t : SavedSector) → AreRising sectors least ss → slice_get ss i ≡ Some s → slice_get ss j ≡ Some t → i < j → s.number < t.number
-risen sectors least [] i j s t rising e f less = absurd cc
-risen sectors least (u ∷ ss) i zero s t rising e f less = absurd (omega arith)
-risen sectors least (u ∷ ss) zero (suc j) s t rising e f less =
-    let first : u ≡ s = same_Some u s e in
+risen : (sectors least : ℕ) (ss : List SavedSector) (i j : ℕ) (s t : SavedSector) → AreRising sectors least ss
+    → slice_get ss i ≡ Some s → slice_get ss j ≡ Some t → i ≤ j → s.number ≤ t.number
+risen sectors least [] i j s t rising e f upto = absurd cc
+risen sectors least (u ∷ ss) zero zero s t rising e f upto =
+    omega (arith, ap (λ (v : SavedSector). v.number) (same_Some s t (sym e ∙ f)))
+risen sectors least (u ∷ ss) zero (suc j) s t rising e f upto =
     let later = (rising_at sectors (u.number + 1) ss j t rising.2 f).1 in
-    let number : u.number ≡ s.number = cc in
-    omega arith
-risen sectors least (u ∷ ss) (suc i) (suc j) s t rising e f less = risen sectors (u.number + 1) ss i j s t rising.2 e f (omega arith)
+    omega (arith, ap (λ (v : SavedSector). v.number) (same_Some u s e))
+risen sectors least (u ∷ ss) (suc i) zero s t rising e f upto = absurd (omega arith)
+risen sectors least (u ∷ ss) (suc i) (suc j) s t rising e f upto =
+    risen sectors (u.number + 1) ss i j s t rising.2 e f (omega arith)
 
-pub sought_all : (ss : List SavedSector) (n : ℕ) → IsSought ss n 0 (length ss)
-sought_all ss n = record {
-  order = omega arith;
-  within = omega arith;
-  before = λ i s at less. absurd (omega arith);
-  behind = λ i s at past. absurd (let inside = at_inside ss i s at in omega arith);
-}
-
-pub sought_above : (sectors : ℕ) (ss : List SavedSector) (n low high middle : ℕ) (t : SavedSector) → AreRising sectors 0 ss → IsSought ss n low high
-    → slice_get ss middle ≡ Some t → middle < high → t.number < n → IsSought ss n (middle + 1) high
+pub sought_above : (sectors : ℕ) (ss : List SavedSector) (n low high middle : ℕ) (t : SavedSector)
+    → AreRising sectors 0 ss → IsSought ss n low high → slice_get ss middle ≡ Some t → middle < high → t.number < n
+    → IsSought ss n (middle + 1) high
 sought_above sectors ss n low high middle t rising sought at below less = record {
   order = omega arith;
   within = sought.within;
-  before = λ i s is lower.
-      elim (cases_lt i middle) [
-        | inl under ↦ let more = risen sectors 0 ss i middle s t rising is at under in omega arith
-        | inr here ↦
-            let same : i ≡ middle = omega arith in
-            let one : s ≡ t = same_Some s t (cc) in
-            let number : s.number ≡ t.number = cc in
-            omega arith
-      ];
+  before = λ i s is lower. let upto = risen sectors 0 ss i middle s t rising is at (omega arith) in omega arith;
   behind = sought.behind;
 }
 
-pub sought_below : (sectors : ℕ) (ss : List SavedSector) (n low high middle : ℕ) (t : SavedSector) → AreRising sectors 0 ss → IsSought ss n low high
-    → slice_get ss middle ≡ Some t → low ≤ middle → middle < high → n < t.number → IsSought ss n low middle
+pub sought_below : (sectors : ℕ) (ss : List SavedSector) (n low high middle : ℕ) (t : SavedSector)
+    → AreRising sectors 0 ss → IsSought ss n low high → slice_get ss middle ≡ Some t → low ≤ middle → middle < high
+    → n < t.number → IsSought ss n low middle
 sought_below sectors ss n low high middle t rising sought at from below more = record {
   order = from;
   within = let within = sought.within in omega arith;
   before = sought.before;
-  behind = λ i s is upper.
-      elim (cases_lt middle i) [
-        | inl over ↦ let less = risen sectors 0 ss middle i t s rising at is over in omega arith
-        | inr here ↦
-            let same : i ≡ middle = omega arith in
-            let one : s ≡ t = same_Some s t (cc) in
-            let number : s.number ≡ t.number = cc in
-            omega arith
-      ];
+  behind = λ i s is upper. let upto = risen sectors 0 ss middle i t s rising at is upper in omega arith;
 }
 
 -- no record is left that may have the number

@@ -1,14 +1,17 @@
 -- The one journal that a content goes on to: of a chip in which some sectors are to be saved, those below a bound are.
-use Rattle.std.proofs.Common.{◌≡◌, ◌≢◌, ℕ, zero, suc, ◌+◌, ◌*◌, ◌/◌, ◌<◌, ◌≤◌, Bool, true, false, List, [], ◌++◌, length, map, drop, ◌-◌, refl, sym, ap, subst, ◌∙◌, append_assoc, arith, inl, inr}
+use Rattle.std.proofs.Common.{◌≡◌, ◌≢◌, ℕ, zero, suc, ◌+◌, ◌*◌, ◌/◌, ◌<◌, ◌≤◌, Bool, true, false, List, [], ◌++◌}
+use Rattle.std.proofs.Common.{length, map, drop, ◌-◌, refl, sym, ap, subst, ◌∙◌, append_assoc, arith, inl, inr}
 use Rattle.std.specs.Prelude.{◌&&◌, nat_lt}
 use Rattle.std.specs.Io.{StartsWith}
 use Rattle.std.specs.List.{range_with_len}
 use Rattle.std.proofs.lemmas.List.{append-nil, take-append-drop, length-append}
 use Rattle.std.proofs.lemmas.List.FromFn.{length-map-range_with_len, get_or-map-range_with_len}
+use Rattle.std.proofs.lemmas.Bool.Decides.{eqb_tells}
 use Rattle.std.proofs.lemmas.Bool.{cases_Bool, cases_lt, lt-ltb, le-ltb, and_right}
 use Rattle.sha2.specs.Sha256.{sha256}
 use Rattle.sha2.proofs.Facts256.{length-sha256}
-use Rattle.nor_journal.specs.Text.{Content, IsContent, SameHead, next_number, record_text, end_mark, front, text, with_sector}
+use Rattle.nor_journal.specs.Text.{Content, IsContent, SameHead, next_number, record_text, end_mark, front, text}
+use Rattle.nor_journal.specs.Text.{with_sector}
 use Rattle.nor_journal.specs.Saved.{IsWholeSector, Saves, HasOneMore, BeginsText}
 use Rattle.nor_journal.proofs.Saved.{next_number-with_sector}
 use Rattle.nor_journal.proofs.Saves.{Saves-same, Saves-more}
@@ -30,29 +33,29 @@ sector_whole chip sector = record {
 
 -- ---- a set, below a bound
 
--- a bound that is one higher, at a sector of the set
-pub one_more_below : (set : ℕ → Bool) (n : ℕ) → set n ≡ true → HasOneMore (λ s. nat_lt s n && set s) n (λ s. nat_lt s (n + 1) && set s)
+-- a bound that is one higher, anywhere else
+same_below : (s n : ℕ) → s ≢ n → nat_lt s (n + 1) ≡ nat_lt s n
+same_below s n other = elim (cases_lt s n) [
+  | inl below ↦ lt-ltb s (n + 1) (omega arith) ∙ sym (lt-ltb s n below)
+  | inr above ↦ le-ltb s (n + 1) (let apart : s ≡ n → ⊥ = other in omega (arith, apart)) ∙ sym (le-ltb s n above)
+]
+
+-- at a sector of the set
+pub one_more_below : (set : ℕ → Bool) (n : ℕ) → set n ≡ true
+    → HasOneMore (λ s. nat_lt s n && set s) n (λ s. nat_lt s (n + 1) && set s)
 one_more_below set n is = record {
   here = ap (λ (b : Bool). b && set n) (lt-ltb n (n + 1) (omega arith)) ∙ is;
-  others = λ s other. ap (λ (b : Bool). b && set s) (same_test s other);
+  others = λ s other. ap (λ (b : Bool). b && set s) (same_below s n other);
 }
-  where
-    same_test : (s : ℕ) → s ≢ n → nat_lt s (n + 1) ≡ nat_lt s n
-    same_test s other = elim (cases_lt s n) [
-      | inl below ↦ lt-ltb s (n + 1) (omega arith) ∙ sym (lt-ltb s n below)
-      | inr above ↦ le-ltb s (n + 1) (let apart : s ≡ n → ⊥ = other in omega (arith, apart)) ∙ sym (le-ltb s n above)
-    ]
 
 -- and at another
-none_more_below : (set : ℕ → Bool) (n : ℕ) → set n ≡ false → (s : ℕ) → (nat_lt s (n + 1) && set s) ≡ (nat_lt s n && set s)
-none_more_below set n is s = elim (cases_lt s n) [
-  | inl below ↦ ap (λ (b : Bool). b && set s) (lt-ltb s (n + 1) (omega arith) ∙ sym (lt-ltb s n below))
-  | inr above ↦ elim (cases_lt s (n + 1)) [
-    | inl here ↦ (let e : n ≡ s = omega arith in
-        let out : set s ≡ false = ap set (sym e) ∙ is in
-        and_right (nat_lt s (n + 1)) (set s) out ∙ sym (and_right (nat_lt s n) (set s) out))
-    | inr higher ↦ ap (λ (b : Bool). b && set s) (le-ltb s (n + 1) higher ∙ sym (le-ltb s n above))
-  ]
+none_more_below : (set : ℕ → Bool) (n : ℕ) → set n ≡ false
+    → (s : ℕ) → (nat_lt s (n + 1) && set s) ≡ (nat_lt s n && set s)
+none_more_below set n is s = elim (eqb_tells s n) [
+  | inl here ↦
+      let out : set s ≡ false = ap set here.1 ∙ is in
+      and_right (nat_lt s (n + 1)) (set s) out ∙ sym (and_right (nat_lt s n) (set s) out)
+  | inr other ↦ ap (λ (b : Bool). b && set s) (same_below s n other.1)
 ]
 
 -- ---- a content that goes on
@@ -66,77 +69,82 @@ pub record GoesOn (chip : ℕ → ℕ) (set : ℕ → Bool) (c : Content) (n : �
   pub rest : List ℕ
   pub is : front content ≡ front c ++ rest
 
-go_on_here : (chip : ℕ → ℕ) (set : ℕ → Bool) (c : Content) (n : ℕ) → n < c.size / 4096 → GoesOn chip set c n → GoesOn chip set c (n + 1)
+go_on_here : (chip : ℕ → ℕ) (set : ℕ → Bool) (c : Content) (n : ℕ) → n < c.size / 4096 → GoesOn chip set c n
+    → GoesOn chip set c (n + 1)
 go_on_here chip set c n below on = elim (cases_Bool (set n)) [
-  | inl is ↦ record {
-    content = with_sector on.content n (sector_bytes chip n);
-    same = record { id = on.same.id; unique = on.same.unique; status = on.same.status; size = on.same.size };
-    saves = Saves-more chip (λ s. nat_lt s n && set s) (λ s. nat_lt s (n + 1) && set s) on.content n (sector_bytes chip n) on.saves
-        (record { rises = on.next; place = subst (λ (size : ℕ). n < size / 4096) on.same.size below }) (sector_whole chip n) (one_more_below set n is);
-    next = omega (arith, next_number-with_sector on.content n (sector_bytes chip n));
-    rest = on.rest ++ record_text (record { number = n; bytes = sector_bytes chip n });
-    is =
-        front-with_sector on.content n (sector_bytes chip n)
-        ∙ ap (λ (t : List ℕ). t ++ record_text (record { number = n; bytes = sector_bytes chip n })) on.is
-        ∙ append_assoc (front c) on.rest (record_text (record { number = n; bytes = sector_bytes chip n }));
-  }
-  | inr is ↦ record {
-    content = on.content;
-    same = on.same;
-    saves = Saves-same chip (λ s. nat_lt s n && set s) (λ s. nat_lt s (n + 1) && set s) on.content (none_more_below set n is) on.saves;
-    next = let next = on.next in omega arith;
-    rest = on.rest;
-    is = on.is;
-  }
+  | inl is ↦
+      let bytes = sector_bytes chip n in
+      let place : n < on.content.size / 4096 = subst (λ (d : Content). n < d.size / 4096) on.same below in
+      record {
+        content = with_sector on.content n bytes;
+        same = on.same;
+        saves = Saves-more chip _ _ on.content n bytes on.saves (record { rises = on.next; place = place })
+            (sector_whole chip n) (one_more_below set n is);
+        next = omega (arith, next_number-with_sector on.content n bytes);
+        rest = on.rest ++ record_text (record { number = n; bytes = bytes });
+        is = front-with_sector on.content n bytes ∙ rw on.is (append_assoc (front c) on.rest _);
+      }
+  | inr is ↦
+      let next = on.next in
+      record {
+        content = on.content;
+        same = on.same;
+        saves = Saves-same chip _ _ on.content (none_more_below set n is) on.saves;
+        next = omega arith;
+        rest = on.rest;
+        is = on.is;
+      }
 ]
 
-go_on : (chip : ℕ → ℕ) (set : ℕ → Bool) (c : Content) (n more : ℕ) → Saves chip (λ s. nat_lt s n && set s) c → next_number c ≤ n → n + more ≤ c.size / 4096 → GoesOn chip set c (n + more)
+go_on : (chip : ℕ → ℕ) (set : ℕ → Bool) (c : Content) (n more : ℕ) → Saves chip (λ s. nat_lt s n && set s) c
+    → next_number c ≤ n → n + more ≤ c.size / 4096 → GoesOn chip set c (n + more)
 go_on chip set c n zero saves next within =
     let e : n ≡ n + 0 = omega arith in
-    subst (GoesOn chip set c) e (record {
-      content = c;
-      same = record { id = refl; unique = refl; status = refl; size = refl };
-      saves = saves;
-      next = next;
-      rest = [];
-      is = sym (append-nil (front c));
-    })
+    subst (GoesOn chip set c) e
+    (record { content = c; same = refl; saves = saves; next = next; rest = []; is = sym (append-nil (front c)) })
 go_on chip set c n (suc more) saves next within =
     let e : n + more + 1 ≡ n + suc more = omega arith in
-    subst (GoesOn chip set c) e (go_on_here chip set c (n + more) (omega arith) (go_on chip set c n more saves next (omega arith)))
+    subst (GoesOn chip set c) e
+    (go_on_here chip set c (n + more) (omega arith) (go_on chip set c n more saves next (omega arith)))
 
 -- ---- the beginning of a journal
 
 -- what begins a part of the head and the records begins the text
-pub front_begins : (c : Content) (part rest bytes : List ℕ) → front c ≡ part ++ rest → StartsWith part bytes → StartsWith (text c) bytes
+pub front_begins : (c : Content) (part rest bytes : List ℕ) → front c ≡ part ++ rest → StartsWith part bytes
+    → StartsWith (text c) bytes
 front_begins c part rest bytes is begins =
-    let more : StartsWith (front c) bytes = subst (λ (whole : List ℕ). StartsWith whole bytes) (sym is) (begins_longer part rest bytes begins) in
     subst (λ (whole : List ℕ). StartsWith whole bytes) (text_is c)
-    (begins_longer (front c ++ end_mark) (sha256 (front c ++ end_mark)) bytes (begins_longer (front c) end_mark bytes more))
+    (begins_longer (front c ++ end_mark) (sha256 (front c ++ end_mark)) bytes (begins_longer (front c) end_mark bytes
+    (rw is (begins_longer part rest bytes begins))))
 
 -- what begins the head and the records of the sectors below a bound begins the journal of all of them
-pub begins_whole : (head : Content) (chip : ℕ → ℕ) (set : ℕ → Bool) (c : Content) (n : ℕ) (bytes : List ℕ) → SameHead head c → Saves chip (λ s. nat_lt s n && set s) c
-    → next_number c ≤ n → n ≤ head.size / 4096 → StartsWith (front c) bytes → BeginsText head chip (λ s. nat_lt s (head.size / 4096) && set s) bytes
+pub begins_whole : (head : Content) (chip : ℕ → ℕ) (set : ℕ → Bool) (c : Content) (n : ℕ) (bytes : List ℕ)
+    → SameHead head c → Saves chip (λ s. nat_lt s n && set s) c → next_number c ≤ n → n ≤ head.size / 4096
+    → StartsWith (front c) bytes → BeginsText head chip (λ s. nat_lt s (head.size / 4096) && set s) bytes
 begins_whole head chip set c n bytes same saves next within begins =
     let total = head.size / 4096 in
-    let more : n + (total - n) ≡ total = omega arith in
-    let on : GoesOn chip set c total = subst (GoesOn chip set c) more (go_on chip set c n (total - n) saves next (subst (λ (size : ℕ). n + (total - n) ≤ size / 4096) same.size (omega arith))) in
+    let size : head.size ≡ c.size = ap (λ (d : Content). d.size) same in
+    let on : GoesOn chip set c (n + (total - n)) =
+    go_on chip set c n (total - n) saves next (rw (← size) (omega arith)) in
+    let whole : n + (total - n) ≡ total = omega arith in
     record {
       content = on.content;
-      same = record { id = same.id ∙ on.same.id; unique = same.unique ∙ on.same.unique; status = same.status ∙ on.same.status; size = same.size ∙ on.same.size };
-      saves = on.saves;
+      same = same ∙ on.same;
+      saves = subst (λ (m : ℕ). Saves chip (λ s. nat_lt s m && set s) on.content) whole on.saves;
       begins = front_begins on.content (front c) on.rest bytes on.is begins;
     }
 
 -- what begins a journal and is one is that journal
-pub begins_all_of_it : (head : Content) (chip : ℕ → ℕ) (saved : ℕ → Bool) (bytes : List ℕ) (journal : Content) → BeginsText head chip saved bytes
-    → IsContent journal → bytes ≡ text journal → SameHead head journal × Saves chip saved journal
+pub begins_all_of_it : (head : Content) (chip : ℕ → ℕ) (saved : ℕ → Bool) (bytes : List ℕ) (journal : Content)
+    → BeginsText head chip saved bytes → IsContent journal → bytes ≡ text journal
+    → SameHead head journal × Saves chip saved journal
 begins_all_of_it head chip saved bytes journal begun is e =
-    let whole : text journal ++ drop (length bytes) (text begun.content) ≡ text begun.content ++ [] =
-    ap (λ (t : List ℕ). t ++ drop (length bytes) (text begun.content)) (sym e ∙ sym begun.begins)
+    let rest = drop (length bytes) (text begun.content) in
+    let whole : text journal ++ rest ≡ text begun.content ++ [] =
+    ap (λ (t : List ℕ). t ++ rest) (sym e ∙ sym begun.begins)
     ∙ take-append-drop (length bytes) (text begun.content) ∙ sym (append-nil (text begun.content)) in
-    let one : begun.content ≡ journal = sym (one_text journal begun.content (drop (length bytes) (text begun.content)) [] is begun.saves.is whole).0 in
-    subst (λ (c : Content). SameHead head c × Saves chip saved c) one (begun.same, begun.saves)
+    subst (λ (c : Content). SameHead head c × Saves chip saved c)
+    (sym (one_text journal begun.content rest [] is begun.saves.is whole).0) (begun.same, begun.saves)
 
 -- no journal is empty
 pub never_empty : (c : Content) → text c ≡ [] → ⊥

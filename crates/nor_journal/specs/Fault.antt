@@ -1,8 +1,10 @@
 -- What is wrong with bytes that are no journal: the first fault that is met from the front, part by part.
-use Rattle.std.specs.Prelude.{◌≡◌, ◌≢◌, ℕ, ◌-◌, ◌/◌, ◌<◌, ◌≤◌, List, ◌++◌, length, take, drop, ◌⊎◌}
+use Rattle.std.specs.Prelude.{◌≡◌, ◌≢◌, ℕ, ◌-◌, ◌/◌, ◌<◌, ◌≤◌, ◌⊎◌, false, List, ◌++◌, length, take, drop, Option, Some}
+use Rattle.std.specs.Prelude.{None}
 use Rattle.sha2.specs.Sha256.{sha256}
+use Rattle.nor_count.specs.Size.{is_chip_size}
 use Rattle.nor_journal.specs.Number.{number_at}
-use Rattle.nor_journal.specs.Text.{Content, IsContent, IsJournalSize, Format, First, Second, magic, front, end_mark, next_number}
+use Rattle.nor_journal.specs.Text.{Content, IsContent, magic, front, end_mark, next_number}
 use Rattle.nor_journal.specs.declared.fault.JournalFault.{JournalFault}
 use Rattle.nor_journal.specs.declared.fault.JournalFault.TheVariants.{Short, Magic, Size, Place, Order, Long, Digest}
 
@@ -17,31 +19,22 @@ number_of_fault Long = 6
 number_of_fault Digest = 7
 
 -- the length of a head, whose last four bytes are the size
-abbrev pub head_length : Format → ℕ
-head_length First = 17
-head_length Second = 25
-
--- The magic is this format's, and the head isn't wholly there.
-pub record IsHeadCut (format : Format) (bytes : List ℕ) : Type 0 where
-  pub begins : take 8 bytes ≡ magic format
-  pub cut : length bytes < head_length format
-
--- The head of this format is there, and its size is none that a chip may have.
-pub record HasWrongSize (format : Format) (bytes : List ℕ) : Type 0 where
-  pub begins : take 8 bytes ≡ magic format
-  pub whole : head_length format ≤ length bytes
-  pub wrong : ¬ IsJournalSize (number_at (drop (head_length format - 4) bytes))
+abbrev pub head_length : (unique : Option (List ℕ)) → ℕ
+head_length None = 17
+head_length (Some _) = 25
 
 -- The head has this fault.
 abbrev pub HeadFault : List ℕ → JournalFault → Type 0
 -- the magic isn't wholly there, or the magic is and another part of the head isn't
-HeadFault bytes Short = (length bytes < 8) ⊎ (IsHeadCut First bytes ⊎ IsHeadCut Second bytes)
-HeadFault bytes Magic = (8 ≤ length bytes) × (take 8 bytes ≢ magic First) × (take 8 bytes ≢ magic Second)
-HeadFault bytes Size = HasWrongSize First bytes ⊎ HasWrongSize Second bytes
-HeadFault bytes Place = ⊥
-HeadFault bytes Order = ⊥
-HeadFault bytes Long = ⊥
-HeadFault bytes Digest = ⊥
+HeadFault bytes Short = (length bytes < 8)
+    ⊎ ((unique : Option (List ℕ)) × (take 8 bytes ≡ magic unique) × (length bytes < head_length unique))
+-- the magic is of no format
+HeadFault bytes Magic = (8 ≤ length bytes) × ((unique : Option (List ℕ)) → take 8 bytes ≢ magic unique)
+-- the head is wholly there, and its size is none that a chip may have
+HeadFault bytes Size = (unique : Option (List ℕ)) × (take 8 bytes ≡ magic unique)
+    × (head_length unique ≤ length bytes)
+    × (is_chip_size (number_at (drop (head_length unique - 4) bytes)) ≡ false)
+HeadFault bytes _ = ⊥
 
 -- The next record has this fault, on a chip of so many sectors, where the numbers before it leave those from `least`
 -- on.
@@ -49,26 +42,20 @@ abbrev pub RecordFault : (sectors least : ℕ) → (rest : List ℕ) → Journal
 -- the number isn't wholly there, or the number is good and the bytes of the sector aren't wholly there
 RecordFault sectors least rest Short =
     (length rest < 4) ⊎ ((least ≤ number_at rest) × (number_at rest < sectors) × (length rest < 4100))
-RecordFault sectors least rest Magic = ⊥
-RecordFault sectors least rest Size = ⊥
 -- the number isn't the end mark, and no sector of the chip has it
 RecordFault sectors least rest Place = (4 ≤ length rest) × (take 4 rest ≢ end_mark) × (sectors ≤ number_at rest)
 -- a sector of the chip has the number, and it isn't above the one before it
 RecordFault sectors least rest Order = (4 ≤ length rest) × (number_at rest < sectors) × (number_at rest < least)
-RecordFault sectors least rest Long = ⊥
-RecordFault sectors least rest Digest = ⊥
+RecordFault sectors least rest _ = ⊥
 
 -- The end has this fault: the end mark is there, behind the front of a content, and the digest behind it isn't
 -- wholly there, isn't the last, or is another.
 abbrev pub EndFault : (before rest : List ℕ) → JournalFault → Type 0
 EndFault before rest Short = (take 4 rest ≡ end_mark) × (length rest < 36)
-EndFault before rest Magic = ⊥
-EndFault before rest Size = ⊥
-EndFault before rest Place = ⊥
-EndFault before rest Order = ⊥
 EndFault before rest Long = (take 4 rest ≡ end_mark) × (36 < length rest)
 EndFault before rest Digest =
     (take 4 rest ≡ end_mark) × (length rest ≡ 36) × (drop 4 rest ≢ sha256 (before ++ end_mark))
+EndFault before rest _ = ⊥
 
 -- What stands behind the front of a content has this fault.
 abbrev pub NextFault : Content → List ℕ → JournalFault → Type 0

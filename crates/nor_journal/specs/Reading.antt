@@ -1,7 +1,9 @@
 -- The content that bytes have at their places.
-use Rattle.std.specs.Prelude.{◌≡◌, ℕ, zero, suc, ◌+◌, ◌*◌, ◌/◌, ◌<◌, ◌≤◌, List, [], ◌∷◌, ◌++◌, length, take, drop, IfSome}
+use Rattle.std.specs.Prelude.{◌≡◌, ℕ, zero, suc, ◌+◌, ◌*◌, ◌/◌, ◌<◌, ◌≤◌, List, [], ◌∷◌, ◌++◌, length, take, drop, true}
+use Rattle.std.specs.Prelude.{IfSome}
+use Rattle.nor_count.specs.Size.{is_chip_size}
 use Rattle.nor_journal.specs.Number.{number_at}
-use Rattle.nor_journal.specs.Text.{SavedSector, Content, IsJournalSize, AreRising, next_number, end_mark}
+use Rattle.nor_journal.specs.Text.{SavedSector, Content, AreRising, next_number, end_mark}
 use Rattle.nor_journal.specs.Fault.{RecordFault}
 use Rattle.nor_journal.specs.declared.fault.JournalFault.{JournalFault}
 use Rattle.nor_journal.specs.declared.head.Head.{Head}
@@ -29,7 +31,7 @@ pub record IsHead (h : Head) : Type 0 where
   pub id : length h.id ≡ 3
   pub unique : IfSome h.unique (λ unique. length unique ≡ 8)
   pub status : length h.status ≡ 2
-  pub size : IsJournalSize h.size
+  pub size : is_chip_size h.size ≡ true
 
 -- The bytes behind the head begin with k records in order.
 pub record HasRecords (h : Head) (bytes : List ℕ) (k : ℕ) : Type 0 where

@@ -1,9 +1,9 @@
 -- What a journal says, and its one text, in two formats.
 use Rattle.std.specs.Prelude.{◌≡◌, ℕ, ◌+◌, ◌/◌, ◌<◌, ◌≤◌, true, ⊤, List, [], ◌∷◌, ◌++◌, length, codes, Option, Some, None, IfSome}
-use Rattle.std.specs.Int.{is_power_of_two}
 use Rattle.std.specs.List.{flat_map}
 use Rattle.std.specs.Option.{unwrap_or}
 use Rattle.sha2.specs.Sha256.{sha256}
+use Rattle.nor_count.specs.Size.{is_chip_size}
 use Rattle.nor_journal.specs.Number.{number_text}
 
 -- A sector, by its number, and the bytes that it had.
@@ -26,13 +26,6 @@ pub record Content : Type 0 where
 
 -- ---- which contents there are
 
--- a size that a chip may have, as the format has it, since this crate knows of no chip: a power of two from 64 KiB to
--- 16 MiB
-pub record IsJournalSize (size : ℕ) : Type 0 where
-  pub power : is_power_of_two size ≡ true
-  pub least : 65536 ≤ size
-  pub most : size ≤ 16777216
-
 -- a whole sector of a chip that has so many
 pub record IsSectorBelow (sectors : ℕ) (s : SavedSector) : Type 0 where
   pub place : s.number < sectors
@@ -49,29 +42,19 @@ pub record IsContent (c : Content) : Type 0 where
   pub id : length c.id ≡ 3
   pub unique : IfSome c.unique (λ unique. length unique ≡ 8)
   pub status : length c.status ≡ 2
-  pub size : IsJournalSize c.size
+  pub size : is_chip_size c.size ≡ true
   pub saved : AreRising (c.size / 4096) 0 c.saved
 
 -- ---- the text
 
--- The two formats: only format 2 tells the chip's unique ID.
-pub data Format : Type 0 where
-  First : Format
-  Second : Format
-
--- the format of a content with this unique ID
-abbrev pub format_of : (unique : Option (List ℕ)) → Format
-format_of None = First
-format_of (Some _) = Second
-
--- the first eight bytes of a journal
-abbrev pub magic : Format → List ℕ
-magic First = codes "NORUNDO1"
-magic Second = codes "NORUNDO2"
+-- the first eight bytes of a journal: of format 1, which doesn't tell the unique ID, and of format 2, which does
+abbrev pub magic : (unique : Option (List ℕ)) → List ℕ
+magic None = codes "NORUNDO1"
+magic (Some _) = codes "NORUNDO2"
 
 -- The head: the magic, the ID, the unique ID where it is told, the status bytes and the size.
 unfoldable pub head : Content → List ℕ
-head c = magic (format_of c.unique) ++ c.id ++ unwrap_or c.unique [] ++ c.status ++ number_text c.size
+head c = magic c.unique ++ c.id ++ unwrap_or c.unique [] ++ c.status ++ number_text c.size
 
 -- a record: the sector's number and its bytes
 unfoldable pub record_text : SavedSector → List ℕ
@@ -109,11 +92,8 @@ abbrev pub with_sector : Content → ℕ → List ℕ → Content
 with_sector c number bytes = record c { saved = c.saved ++ record { number = number; bytes = bytes } ∷ [] }
 
 -- two contents that say the same but for the sectors that they save
-pub record SameHead (c d : Content) : Type 0 where
-  pub id : c.id ≡ d.id
-  pub unique : c.unique ≡ d.unique
-  pub status : c.status ≡ d.status
-  pub size : c.size ≡ d.size
+abbrev pub SameHead : (c d : Content) → Type 0
+SameHead c d = record c { saved = [] } ≡ record d { saved = [] }
 
 -- the least number that a sector may have which follows these
 abbrev pub least_after : ℕ → List SavedSector → ℕ

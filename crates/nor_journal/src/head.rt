@@ -1,6 +1,7 @@
 //! The head of a journal: what stands before its records. It differs by the format.
-ghost use Rattle.std.specs.Prelude.{◌≡◌, ◌↔◌, ◌++◌, Some, take, IsTrue, IfOk, IfErr};
-ghost use Rattle.nor_journal.specs.Text.{IsJournalSize, Format, empty_content, head, magic};
+ghost use Rattle.std.specs.Prelude.{◌≡◌, ◌++◌, ℕ, List, take, Option, Some, IfOk, IfErr};
+ghost use Rattle.nor_count.specs.Size.{is_chip_size};
+ghost use Rattle.nor_journal.specs.Text.{empty_content, head, magic};
 ghost use Rattle.nor_journal.specs.Fault.{HeadFault, head_length};
 ghost use Rattle.nor_journal.specs.Reading.{IsHead, headed};
 
@@ -30,7 +31,7 @@ pub struct Head {
 
 /// Whether it is a power of two from 64 KiB to 16 MiB.
 fn is_chip_size(size: u32) -> bool
-    ensures { IsTrue result ↔ IsJournalSize size }
+    ensures { result ≡ is_chip_size size }
 {
     size.is_power_of_two() && (0x1_0000..=0x100_0000).contains(&size)
 }
@@ -68,7 +69,8 @@ pub fn read_head(bytes: &[u8]) -> Result<(Head, &[u8]), JournalFault>
 // Reads a head of the format that has heads of this length. Between the ID and the status bytes stands the unique ID,
 // or nothing.
 fn read_form(bytes: &[u8], len: usize) -> Result<(Head, &[u8]), JournalFault>
-    requires { (format : Format) × (take 8 bytes.now ≡ magic format) × (len ≡ head_length format) }
+    requires { (unique : Option (List ℕ)) × (take 8 bytes.now ≡ magic unique)
+        × (len ≡ head_length unique) }
     ensures fault { IfErr result (HeadFault bytes.now) }
     ensures found { IfOk result (λ x. IsHead x.0 × (bytes.now ≡ head (headed x.0) ++ x.1.now)) }
 {

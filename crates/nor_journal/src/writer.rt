@@ -1,8 +1,9 @@
 //! Writes a journal into a vault, piece by piece.
 ghost use Rattle.std.specs.Prelude.{◌≡◌, ◌+◌, ◌/◌, ◌<◌, ◌≤◌, ◌++◌, List, ℕ, Bool, []};
-ghost use Rattle.std.specs.Prelude.{false, true, Some, OnOk, OnErr, IfOk, IfErr};
+ghost use Rattle.std.specs.Prelude.{IsTrue, false, true, Some, OnOk, OnErr, IfOk, IfErr};
 ghost use Rattle.nor_journal.specs.Vault.{PutRefused, Accepted, PutsOn, Completes, HoldsBeginning, IsFresh};
-ghost use Rattle.nor_journal.specs.Text.{Content, IsContent, IsJournalSize, MayFollow, empty_content, with_sector, front, text};
+ghost use Rattle.nor_count.specs.Size.{is_chip_size};
+ghost use Rattle.nor_journal.specs.Text.{Content, IsContent, MayFollow, empty_content, with_sector, front, text};
 ghost use Rattle.nor_journal.specs.Saved.{IsWholeSector, HasOneMore, JournalSaves};
 ghost use Rattle.nor_journal.specs.Writer.{vault_of, vault_seen, HasPut, HasWritten, HasPutSectors};
 
@@ -49,7 +50,7 @@ impl<'a, V: Vault> Writer<'a, V> {
         size: u32,
     ) -> Result<Writer<'a, V>, VaultFault>
         requires fresh { IsFresh (V.state vault.old) }
-        requires size { IsJournalSize size }
+        requires size { IsTrue (is_chip_size size) }
         ensures same_vault { IfOk result (λ writer. (vault_of writer).ghost_name ≡ vault.entry.ghost_name) }
         ensures vault { IfOk result (λ writer. Accepted (V.state vault.old) (vault_seen V.state writer)) }
         ensures written { IfOk result (λ writer. HasWritten V.state writer
@@ -98,7 +99,7 @@ impl<'a, V: Vault> Writer<'a, V> {
         size: u32,
     ) -> Result<(), VaultFault>
         requires unsealed { (vault_seen V.state self.old).sealed ≡ false }
-        requires size { IsJournalSize size }
+        requires size { IsTrue (is_chip_size size) }
         ensures same_vault { (vault_of self.new).ghost_name ≡ (vault_of self.old).ghost_name }
         ensures vault { PutsOn (vault_seen V.state self.old) result (vault_seen V.state self.new) }
         ensures written { HasPut V.state self.old []

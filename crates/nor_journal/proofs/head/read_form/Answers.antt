@@ -1,9 +1,8 @@
-use Rattle.std.specs.Prelude.{IsTrue}
-use Rattle.nor_journal.specs.Number.{number_at}
-use Rattle.nor_journal.specs.Fault.{head_length}
-use Rattle.std.proofs.Common.{◌≡◌, ◌∙◌, ◌≤◌, ◌-◌, ℕ, ap, drop, length, refl, subst, rules, arith}
+use Rattle.std.proofs.Common.{◌≡◌, ◌∙◌, ◌-◌, ◌≤◌, ℕ, ap, drop, length, refl, subst, sym, rules, arith, false}
 use Rattle.std.proofs.lemmas.List.{take_rest}
-use Rattle.nor_journal.proofs.Heads.{splits, unique_read, wrong_size}
+use Rattle.nor_count.specs.Size.{is_chip_size}
+use Rattle.nor_journal.specs.Number.{number_at}
+use Rattle.nor_journal.proofs.Heads.{splits, unique_read}
 use Rattle.nor_journal.proofs.head.read_form.Goals as goal
 
 pub returns-clause-found : goal.returns-clause-found
@@ -15,12 +14,9 @@ returns-clause-found c =
 
 pub returns-then-not-is_chip_size-clause-fault : goal.returns-then-not-is_chip_size-clause-fault
 returns-then-not-is_chip_size-clause-fault c =
-    let number : c.number_of-size.result ≡ number_at (drop (head_length c.requires.0 - 4) c.args.bytes.now) =
-    c.number_of-size.ensures ∙ ap number_at (take_rest c.args.bytes.now (c.args.len - 4)) ∙ ap (λ (n : ℕ). number_at (drop (n - 4) c.args.bytes.now)) c.requires.2 in
-    wrong_size c.requires.0 c.args.bytes.now (record {
-      begins = c.requires.1;
-      whole = subst (λ (n : ℕ). n ≤ length c.args.bytes.now) c.requires.2 c.if-bytes-len.false;
-      wrong = λ is.
-          (let allowed : IsTrue c.is_chip_size.result = c.is_chip_size.ensures.1 (rw number is) in
-          cc (allowed, c.if-not-is_chip_size.true));
-    })
+    let number : c.number_of-size.result ≡ number_at (drop (c.args.len - 4) c.args.bytes.now) =
+    c.number_of-size.ensures ∙ ap number_at (take_rest c.args.bytes.now (c.args.len - 4)) in
+    let wrong : is_chip_size c.number_of-size.result ≡ false =
+    sym c.is_chip_size.ensures ∙ c.if-not-is_chip_size.true in
+    let whole = subst (λ (n : ℕ). n ≤ length c.args.bytes.now) c.requires.2 c.if-bytes-len.false in
+    (c.requires.0, c.requires.1, whole, rw (← c.requires.2, ← number) wrong)
