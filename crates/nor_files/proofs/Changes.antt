@@ -1,10 +1,13 @@
 -- What a change may leave of a file.
-use Rattle.std.proofs.Common.{◌≡◌, ◌∙◌, ◌+◌, ◌-◌, ◌≤◌, ◌⊎◌, ℕ, Bool, true, false, List, ◌∷◌, Option, Some, Result, Ok, refl, sym, ap, subst, inl, inr, arith, length, length-append, length-drop, length-take-le, take, drop, slice_index, option_map}
+use Rattle.std.proofs.Common.{◌≡◌, ◌∙◌, ◌+◌, ◌-◌, ◌≤◌, ◌⊎◌, ℕ, Bool, true, false, List, ◌∷◌, Option, Some, Result, Ok}
+use Rattle.std.proofs.Common.{refl, sym, ap, subst, inl, inr, arith, length, length-append, length-drop, length-take-le}
+use Rattle.std.proofs.Common.{take, drop, slice_index, option_map}
 use Rattle.std.proofs.lemmas.Bool.{cases_lt}
 use Rattle.std.proofs.lemmas.List.{get_or_append_left, get_or-append_right, get_or-take, get_or-drop, take_all}
 use Rattle.nor_files.specs.Files.{Found}
 use Rattle.nor_files.specs.Calls.{IsMixed, with_length, written_over}
-use Rattle.nor_files.specs.Stored.{Becomes, FileSets, FileWrites, IsChanged, IsMixOf, MayBe, MayLeave, OrMissing, bytes_in, file_in, found_in, seen_may_be}
+use Rattle.nor_files.specs.Stored.{Becomes, FileSets, FileWrites, IsChanged, IsMixOf, MayBe, MayLeave, OrMissing}
+use Rattle.nor_files.specs.Stored.{bytes_in, file_in, found_in, seen_may_be}
 use Rattle.nor_files.specs.declared.stored.Change.{Change}
 use Rattle.nor_files.specs.declared.stored.Change.TheVariants.{Cut, Lent, Written}
 use Rattle.nor_files.specs.declared.stored.Content.{Content}
@@ -78,28 +81,27 @@ file_leaves content change had old new is was becomes left may =
     changed old.unplaced old.steps.items old.content change had (bytes_in content) left was becomes
     (subst (λ file. MayLeave file left) is.file may)
 
-pub file_writes : {T E : Type 0} (bytes : List ℕ) (most : ℕ) (result : Result T E) (content : Content) (change : Change)
-    (had : List ℕ) (old new : Stored)
+pub file_writes : {T E : Type 0} (bytes : List ℕ) (most : ℕ) (result : Result T E) (content : Content)
+    (change : Change) (had : List ℕ) (old new : Stored)
     → IsChanged content change old new → Some had ≡ found_in old.content → most ≤ length bytes
-    → ((May : Found → Type 0) (left : Found) → Becomes change May left → IsMixOf bytes May left)
-    → ((May : Found → Type 0) (left : Found) → IsMixOf bytes May left → Becomes change May left)
-    → bytes_in content ≡ written_over (take most bytes) had
+    → Becomes change ≡ IsMixOf bytes → bytes_in content ≡ written_over (take most bytes) had
     → ((any : T) → result ≡ Ok any → length bytes ≤ most)
     → FileWrites bytes result old new
-file_writes bytes most result content change had old new is was within out into has whole = record {
+file_writes bytes most result content change had old new is was within mixes has whole = record {
   name = is.name;
   out = ap (λ file. file.out) is.file;
   seen = λ any ok.
-      ap (λ file. file.seen) is.file ∙ ap Some (has ∙ ap (λ taken. written_over taken had) (take_all most bytes (whole any ok)))
+      ap (λ file. file.seen) is.file
+      ∙ ap Some (has ∙ ap (λ taken. written_over taken had) (take_all most bytes (whole any ok)))
       ∙ ap (option_map (written_over bytes)) was;
   leaves = λ left may.
       let mixed : IsMixed had bytes (bytes_in content) = rw has (mixed_over had bytes most within) in
-      let before : MayBe old.steps.items (found_in old.content) (Some had) = rw was (seen_may_be old.steps.items (found_in old.content)) in
-      elim (file_leaves content change had old new is (sym was)
-      (into (MayBe old.steps.items (found_in old.content)) (Some (bytes_in content)) (had, before, (bytes_in content, refl, mixed))) left may) [
-        | inl stays ↦ inl stays
-        | inr mix ↦ inr (out (MayLeave (file_in old)) left mix)
-      ];
+      let before : MayBe old.steps.items (found_in old.content) (Some had) =
+      rw was (seen_may_be old.steps.items (found_in old.content)) in
+      let becomes = subst (λ (Of : (Found → Type 0) → Found → Type 0). Of (MayBe old.steps.items (found_in old.content))
+      (Some (bytes_in content))) (sym mixes) (had, before, (bytes_in content, refl, mixed)) in
+      subst (λ (Of : (Found → Type 0) → Found → Type 0). MayLeave (file_in old) left ⊎ Of (MayLeave (file_in old)) left)
+      mixes (file_leaves content change had old new is (sym was) becomes left may);
 }
 
 pub file_sets : {T E : Type 0} (len : ℕ) (result : Result T E) (content : Content) (had : List ℕ) (old new : Stored)

@@ -1,4 +1,4 @@
-use Rattle.std.proofs.Common.{sym}
+use Rattle.std.proofs.Common.{rules, sym}
 use Rattle.nor_files.proofs.Places.{lent_updated, updated, updated_since}
 use Rattle.nor_files.proofs.Works.{others_stay, settles}
 use Rattle.nor_files.proofs.memory.Memory.put.Goals as goal
@@ -9,17 +9,12 @@ invariant_of-self c = record {
       c.index_mut.ensures.value c.settle.ensures.name c.keep_place.new.self.lent_is_there;
 }
 
-pub returns-clause-puts : goal.returns-clause-puts
-returns-clause-puts c =
-    settles c.args.bytes.now c.keep_place.new.self.left _
-    (updated_since c.in_ok-at.ensures.same
-    (updated c.args.name.now c.keep_place.new.self.files.items c.in_ok-at.at c.index_mut.result.now c.settle.new.self
-    c.in_ok-at.ensures.at c.index_mut.ensures.value c.settle.ensures.name))
-    (rw (sym c.in_ok-copied.ensures) c.settle.ensures)
-
-pub returns-clause-others : goal.returns-clause-others
-returns-clause-others c =
-    others_stay c.args.self.now.left c.keep_place.new.self.left _ _
-    (updated_since c.in_ok-at.ensures.same
-    (updated c.args.name.now c.keep_place.new.self.files.items c.in_ok-at.at c.index_mut.result.now c.settle.new.self
-    c.in_ok-at.ensures.at c.index_mut.ensures.value c.settle.ensures.name))
+pub returns : goal.returns
+returns c =
+    let is = updated c.args.name.now c.keep_place.new.self.files.items c.in_ok-at.at c.index_mut.result.now
+    c.settle.new.self c.in_ok-at.ensures.at c.index_mut.ensures.value c.settle.ensures.name in
+    record {
+      left = search rules;
+      puts = settles is (rw (sym c.in_ok-copied.ensures) c.settle.ensures);
+      others = others_stay (updated_since c.in_ok-at.ensures.same is);
+    }

@@ -1,4 +1,4 @@
-use Rattle.std.proofs.Common.{◌≡◌, ◌∙◌, None, Some, ap, false, option_map, position, refl, rules, sym, true}
+use Rattle.std.proofs.Common.{◌≡◌, ◌∙◌, None, Some, ap, option_map, position, refl, rules, sym, true}
 use Rattle.nor_journal.specs.MemVault.{held_by}
 use Rattle.nor_files.specs.Named.{is_named, is_there}
 use Rattle.nor_files.proofs.Places.{not_there, updated}
@@ -10,16 +10,16 @@ returns-in-Some-place-clause-takes c lawful name lent =
     let was : c.args.self.now.lent ≡ Some c.in-Some.name = sym c.replace.ensures.value ∙ c.in-Some.is in
     let named : c.in-Some.name.items ≡ name = search (rules, was, lent) in
     let at : position (is_named name) c.args.self.now.files.items ≡ Some c.in-Some-place.at = search (rules, named) in
-    takes_back (held_by c.args.vault) c.args.self.now.left c.args.self.now.left _ _ refl
-    (ap (option_map (λ text. text.items)) c.replace.ensures.after)
+    takes_back
     (updated name c.args.self.now.files.items c.in-Some-place.at c.index_mut.result.now c.take_back.new.self at
     c.index_mut.ensures.value c.take_back.ensures.name)
-    c.take_back.ensures
+    (held_by c.args.vault) refl
+    (ap (option_map (λ text. text.items)) c.replace.ensures.after) c.take_back.ensures
 
 pub returns-in-None-clause-takes : goal.returns-in-None-clause-takes
 returns-in-None-clause-takes c lawful name lent =
     let was : c.args.self.now.lent ≡ Some c.in-Some.name = sym c.replace.ensures.value ∙ c.in-Some.is in
     let there : is_there c.args.self.now.files.items c.in-Some.name.items ≡ true = rw was at c.args.self.now.lent_is_there in
     let none : position (is_named c.in-Some.name.items) c.args.self.now.files.items ≡ None = search rules in
-    let gone : is_there c.args.self.now.files.items c.in-Some.name.items ≡ false = not_there c.in-Some.name.items c.args.self.now.files.items none in
+    let gone = not_there c.in-Some.name.items c.args.self.now.files.items none in
     absurd cc

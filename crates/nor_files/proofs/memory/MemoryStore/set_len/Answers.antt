@@ -1,4 +1,4 @@
-use Rattle.std.proofs.Common.{refl}
+use Rattle.std.proofs.Common.{refl, rules}
 use Rattle.nor_files.proofs.Places.{lent_updated, updated}
 use Rattle.nor_files.proofs.Works.{sets_length, works_on}
 use Rattle.nor_files.proofs.memory.MemoryStore.set_len.Goals as goal
@@ -9,16 +9,13 @@ invariant_of-self-2 c = record {
       c.index_mut.ensures.value c.set_len.ensures.name c.args.self.now.lent_is_there;
 }
 
-pub returns-clause-alone : goal.returns-clause-alone
-returns-clause-alone c lawful =
-    works_on _ c.args.self.now.left c.spend.new.left _ _
-    (updated c.args.name.now c.args.self.now.files.items c.in_ok-at.at c.index_mut.result.now c.set_len.new.self
-    c.in_ok-at.ensures c.index_mut.ensures.value c.set_len.ensures.name)
-    c.in_ok-spend.ensures.ok refl (c.set_len.ensures.out)
-
-pub returns-clause-sets : goal.returns-clause-sets
-returns-clause-sets c known =
-    sets_length c.args.name.now c.args.len _ c.args.self.now.left c.spend.new.left _ _
-    (updated c.args.name.now c.args.self.now.files.items c.in_ok-at.at c.index_mut.result.now c.set_len.new.self
-    c.in_ok-at.ensures c.index_mut.ensures.value c.set_len.ensures.name)
-    c.set_len.ensures
+pub returns : goal.returns
+returns c =
+    let is = updated c.args.name.now c.args.self.now.files.items c.in_ok-at.at c.index_mut.result.now c.set_len.new.self
+    c.in_ok-at.ensures c.index_mut.ensures.value c.set_len.ensures.name in
+    record {
+      nature = refl;
+      alone = λ lawful. works_on is _ c.in_ok-spend.ensures.ok refl c.set_len.ensures.out;
+      sets = λ known. sets_length is c.set_len.ensures;
+      fails = search rules;
+    }

@@ -10,23 +10,19 @@ invariant_of-self-in-Some c = record {
       c.index_mut.ensures.value c.place-in-Some.ensures.name c.args.self.now.lent_is_there;
 }
 
-pub returns-in-Some-clause-alone : goal.returns-in-Some-clause-alone
-returns-in-Some-clause-alone c lawful =
+pub returns-in-Some : goal.returns-in-Some
+returns-in-Some c =
     let at : position (is_named c.args.name.now) c.args.self.now.files.items ≡ Some c.in-Some.at = search rules in
-    works_on _ c.args.self.now.left c.spend.new.left _ _
-    (updated c.args.name.now c.args.self.now.files.items c.in-Some.at c.index_mut.result.now c.place-in-Some.new.self at
-    c.index_mut.ensures.value c.place-in-Some.ensures.name)
-    c.in_ok-spend.ensures.ok refl (ap (λ its. its.out) c.place-in-Some.ensures.file)
-
-pub returns-in-Some-clause-places : goal.returns-in-Some-clause-places
-returns-in-Some-clause-places c known =
-    let at : position (is_named c.args.name.now) c.args.self.now.files.items ≡ Some c.in-Some.at = search rules in
-    places c.args.name.now c.args.self.now.left c.spend.new.left _ _
-    (updated c.args.name.now c.args.self.now.files.items c.in-Some.at c.index_mut.result.now c.place-in-Some.new.self at
-    c.index_mut.ensures.value c.place-in-Some.ensures.name)
-    c.place-in-Some.ensures
+    let is = updated c.args.name.now c.args.self.now.files.items c.in-Some.at c.index_mut.result.now
+    c.place-in-Some.new.self at c.index_mut.ensures.value c.place-in-Some.ensures.name in
+    record {
+      nature = refl;
+      alone = λ lawful.
+          works_on is _ c.in_ok-spend.ensures.ok refl (ap (λ its. its.out) c.place-in-Some.ensures.file);
+      places = λ known. places is c.place-in-Some.ensures;
+      fails = tt;
+    }
 
 pub returns-in-None-clause-places : goal.returns-in-None-clause-places
 returns-in-None-clause-places c known =
-    places_none c.args.name.now c.args.self.now.files.items c.args.self.now.left c.spend.new.left _ _
-    (not_found c.args.name.now c.args.self.now.files.items (search rules))
+    places_none c.args.self.now.files.items (not_found c.args.name.now c.args.self.now.files.items (search rules))

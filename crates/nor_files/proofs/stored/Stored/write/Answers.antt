@@ -1,4 +1,4 @@
-use Rattle.std.proofs.Common.{arith, sym, subst}
+use Rattle.std.proofs.Common.{ap, arith}
 use Rattle.nor_files.specs.Stored.{IsMixOf}
 use Rattle.nor_files.specs.declared.stored.Change.TheVariants.{Written}
 use Rattle.nor_files.specs.declared.stored.Content.TheVariants.{Plain}
@@ -9,18 +9,11 @@ pub returns-then-most-bytes : goal.returns-then-most-bytes
 returns-then-most-bytes c =
     file_writes c.args.bytes.now c.min-most.result _ (Plain c.in_ok-has-in-Some.has) (Written c.in_ok-copy.field-0)
     c.in-Some.had.now c.args.self.now c.change.new.self c.in_ok-change.ensures c.in-Some.ensures
-    (omega (arith, c.min-most.ensures))
-    (λ May left. subst (λ bytes. IsMixOf bytes May left) c.in_ok-copy.ensures)
-    (λ May left. subst (λ bytes. IsMixOf bytes May left) (sym c.in_ok-copy.ensures))
-    c.in_ok-has-in-Some.ensures
-    (λ any fails. cc)
+    (omega (arith, c.min-most.ensures)) (ap IsMixOf c.in_ok-copy.ensures) c.in_ok-has-in-Some.ensures (λ any fails. cc)
 
 pub returns : goal.returns
 returns c =
     file_writes c.args.bytes.now c.min-most.result _ (Plain c.in_ok-has-in-Some.has) (Written c.in_ok-copy.field-0)
     c.in-Some.had.now c.args.self.now c.change.new.self c.in_ok-change.ensures c.in-Some.ensures
-    (omega (arith, c.min-most.ensures))
-    (λ May left. subst (λ bytes. IsMixOf bytes May left) c.in_ok-copy.ensures)
-    (λ May left. subst (λ bytes. IsMixOf bytes May left) (sym c.in_ok-copy.ensures))
-    c.in_ok-has-in-Some.ensures
+    (omega (arith, c.min-most.ensures)) (ap IsMixOf c.in_ok-copy.ensures) c.in_ok-has-in-Some.ensures
     (λ any is_ok. c.if-most-bytes.false)
