@@ -2,7 +2,6 @@ pub mod Digits
 pub mod Cuts
 pub mod LineLaws
 pub mod Texts
-pub mod TextLaws
 pub mod Unions
 pub mod Spans
 pub mod Sweeps

@@ -1,13 +1,14 @@
 -- The parts of spans in a sector.
-use Rattle.std.proofs.Common.{◌≡◌, ℕ, ◌+◌, ◌-◌, ◌*◌, ◌/◌, ◌%◌, ◌<◌, ◌≤◌, ◌⊎◌, false, ◌||◌, cond, ltb, leb, List, [], ◌∷◌, Option, Some, None, MatchOption, refl, ap, ◌∙◌, inl, inr, arith}
+use Rattle.std.proofs.Common.{◌≡◌, ℕ, ◌+◌, ◌-◌, ◌*◌, ◌/◌, ◌%◌, ◌<◌, ◌≤◌, ◌⊎◌, false, ◌||◌, cond, ltb, List, [], ◌∷◌}
+use Rattle.std.proofs.Common.{Option, Some, None, MatchOption, refl, ap, ◌∙◌, inl, inr, arith}
 use Rattle.std.specs.List.{cons_option}
 use Rattle.std.specs.Prelude.{min, max}
-use Rattle.std.proofs.lemmas.Bool.{cases_Bool, ltb-true, ltb-false, leb-true, le-leb, lt-leb, lt-ltb, and_from, and_parts, and_left, and_right, or_parts, or_cases}
+use Rattle.std.proofs.lemmas.Bool.{cases_Bool, ltb-true, ltb-false, or_parts, or_cases}
+use Rattle.std.proofs.lemmas.Bool.Decides.{nat_tests}
 use Rattle.nor_layout.specs.declared.ranges.Span.{Span}
 use Rattle.nor_layout.specs.declared.places.Places.{Places}
 use Rattle.nor_layout.specs.Ranges.{is_in_span, contains, IsApartFrom, AreApart}
 use Rattle.nor_layout.specs.Places.{is_in_places, is_covered, part_in_sector, parts_in_sector, AreRisingFrom, AreIncludedIn}
-use Rattle.nor_count.proofs.Below.{same_tests}
 
 -- these are the places of a span in a sector
 record IsPart (sector : ℕ) (span : Span) (part : Places) : Type 0 where
@@ -23,19 +24,14 @@ IsOutside sector span = (4096 * sector + 4096 ≤ span.first) ⊎ (span.last < 4
 abbrev IsAnswer : ℕ → Span → Option Places → Type 0
 IsAnswer sector span part = MatchOption part (IsOutside sector span) (IsPart sector span)
 
-start_of : (sector : ℕ) (span : Span) → span.first / 4096 ≤ sector → cond (ltb (span.first / 4096) sector) 0 (span.first % 4096) + 4096 * sector ≡ max span.first (4096 * sector)
-start_of sector span le =
-    elim (cases_Bool (ltb (span.first / 4096) sector)) [
-      | inl below ↦ rw below (omega (arith, ltb-true _ _ below))
-      | inr inside ↦ rw inside (omega (arith, ltb-false _ _ inside, le))
-    ]
+start_of : (sector : ℕ) (span : Span) → span.first / 4096 ≤ sector
+    → cond (ltb (span.first / 4096) sector) 0 (span.first % 4096) + 4096 * sector ≡ max span.first (4096 * sector)
+start_of sector span le = grind (arith, nat_tests)
 
-end_of : (sector : ℕ) (span : Span) → sector ≤ span.last / 4096 → cond (ltb sector (span.last / 4096)) 4096 (span.last % 4096 + 1) + 4096 * sector ≡ min (span.last + 1) (4096 * sector + 4096)
-end_of sector span le =
-    elim (cases_Bool (ltb sector (span.last / 4096))) [
-      | inl above ↦ rw above (omega (arith, ltb-true _ _ above))
-      | inr inside ↦ rw inside (omega (arith, ltb-false _ _ inside, le))
-    ]
+end_of : (sector : ℕ) (span : Span) → sector ≤ span.last / 4096
+    → cond (ltb sector (span.last / 4096)) 4096 (span.last % 4096 + 1) + 4096 * sector
+    ≡ min (span.last + 1) (4096 * sector + 4096)
+end_of sector span le = grind (arith, nat_tests)
 
 part_of-is : (sector : ℕ) (span : Span) → IsAnswer sector span (part_in_sector sector span)
 part_of-is sector span =
@@ -53,20 +49,16 @@ part_of-is sector span =
 
 -- ---- each place is in a part where its address is in a span
 
-covers-part : (sector : ℕ) (span : Span) (part : Places) (at : ℕ) → at < 4096 → IsPart sector span part → is_in_places part at ≡ is_in_span span (4096 * sector + at)
+covers-part : (sector : ℕ) (span : Span) (part : Places) (at : ℕ) → at < 4096 → IsPart sector span part
+    → is_in_places part at ≡ is_in_span span (4096 * sector + at)
 covers-part sector span part at lt is =
-    same_tests (is_in_places part at) (is_in_span span (4096 * sector + at))
-    (λ yes. let p = and_parts (leb part.start at) (ltb at part.end) yes in
-    and_from _ _ (le-leb span.first (4096 * sector + at) (omega (arith, leb-true _ _ p.0, is.start))) (le-leb (4096 * sector + at) span.last (omega (arith, ltb-true _ _ p.1, is.end))))
-    (λ yes. let p = and_parts (leb span.first (4096 * sector + at)) (leb (4096 * sector + at) span.last) yes in
-    and_from _ _ (le-leb part.start at (omega (arith, leb-true _ _ p.0, is.start))) (lt-ltb at part.end (omega (arith, leb-true _ _ p.1, is.end, lt))))
+    let start = is.start in
+    let end = is.end in
+    grind (arith, nat_tests)
 
-holds-outside : (sector : ℕ) (span : Span) (at : ℕ) → at < 4096 → IsOutside sector span → is_in_span span (4096 * sector + at) ≡ false
-holds-outside sector span at lt outside =
-    elim outside [
-      | inl below ↦ and_left _ _ (lt-leb span.first (4096 * sector + at) (omega (arith, below, lt)))
-      | inr above ↦ and_right (leb span.first (4096 * sector + at)) _ (lt-leb (4096 * sector + at) span.last (omega (arith, above, lt)))
-    ]
+holds-outside : (sector : ℕ) (span : Span) (at : ℕ) → at < 4096 → IsOutside sector span
+    → is_in_span span (4096 * sector + at) ≡ false
+holds-outside sector span at lt outside = grind (arith, nat_tests, outside)
 
 is_covered-cons : (sector : ℕ) (span : Span) (part : Option Places) (rest : List Places) (at : ℕ) → at < 4096 → IsAnswer sector span part → is_covered (cons_option part rest) at ≡ (is_in_span span (4096 * sector + at) || is_covered rest at)
 is_covered-cons sector span None rest at lt is = rw (holds-outside sector span at lt is) refl

@@ -1,7 +1,7 @@
 -- What options are that have no fault.
 use Rattle.std.proofs.Common.{◌≡◌, ◌∙◌, ◌&&◌, ◌||◌, ℕ, Bool, true, false, cond, List, [], ◌∷◌, Option, Some, None, is_some, nat_eq, nat_lt, not, ap, ap₂, option_map, refl, sym}
 use Rattle.std.specs.Prelude.{option_and_then}
-use Rattle.std.proofs.lemmas.Bool.{or_right}
+use Rattle.std.proofs.lemmas.Bool.{or_parts, or_right}
 use Rattle.nor_words.specs.Text.{Text, reads}
 use Rattle.nor_words.specs.Given.{Texts, how_many, asks_change, is_new_content, operations}
 use Rattle.nor_words.specs.Faults.{first_fault, has_wrong_journal, has_wrong_regions, is_no, is_there, usage_faults}
@@ -39,14 +39,6 @@ sound-none given none =
     let i = front _ _ _ h.1 in
     record { needed = a.0; programmer = b.0; single = d.0; range = e.0; journal = f.0; regions = g.0; stops = i.0 }
 
-pub first_false : (a b : Bool) → (a || b) ≡ false → a ≡ false
-first_false true b h = cc
-first_false false b h = refl
-
-pub second_false : (a b : Bool) → (a || b) ≡ false → b ≡ false
-second_false true b h = cc
-second_false false b h = h
-
 -- a text in which nothing is found, and which is no fault, isn't there
 pub not-there : {T : Type 0} (f : Text → Option T) (text : Option Text) → is_no (reads f) text ≡ false → option_and_then f text ≡ None → text ≡ None
 not-there f None sound none = refl
@@ -63,7 +55,7 @@ no_change-wanted given sound same none =
 -- and without a journal and stops neither
 pub no_change-kept : (given : Texts) → Sound given → given.journal ≡ None → option_and_then stops_of given.rehearse ≡ None → asks_change given ≡ false
 no_change-kept given sound journal none =
-    let rehearse : given.rehearse ≡ None = not-there stops_of given.rehearse (first_false _ _ sound.stops) none in
+    let rehearse : given.rehearse ≡ None = not-there stops_of given.rehearse (or_parts _ _ sound.stops).0 none in
     go (asks_change given) refl (sym (ap₂ (λ (a b : Option Text). not (nat_eq (how_many (is_some a ∷ is_some b ∷ [])) (cond (asks_change given) 1 0))) journal rehearse) ∙ sound.journal)
   where
     go : (b : Bool) → asks_change given ≡ b → not (nat_eq 0 (cond (asks_change given) 1 0)) ≡ false → asks_change given ≡ false
@@ -90,28 +82,12 @@ stops-kept view given wanted None sound is same journal =
     let bad : true ≡ false = sym (change-wanted given wanted is) ∙ no_change-kept given sound journal same in
     cc
 
--- where there is no list of chips, there is a programmer
-pub list-lone : (given : Texts) → Sound given → is_there is_programmer_text given.programmer ≡ false → given.list ≡ true
-list-lone given sound none = go given.programmer sound.needed sound.programmer none
-  where
-    listed : (b : Bool) → (true && not b) ≡ false → b ≡ true
-    listed true h = refl
-    listed false h = cc
-
-    apart : (b : Bool) → b ≡ false → not b ≡ false → ⊥
-    apart true h k = cc
-    apart false h k = cc
-
-    go : (text : Option Text) → (not (is_some text) && not given.list) ≡ false → is_no is_programmer_text text ≡ false → is_there is_programmer_text text ≡ false → given.list ≡ true
-    go None needed known none = listed given.list needed
-    go (Some x) needed known none = absurd (apart (is_programmer_text x) none known)
-
 -- no operation at all
 pub probe : (given : Texts) → given.list ≡ false → asks_change given ≡ false → given.flash_size ≡ false → given.wp_status ≡ false → given.wp_list ≡ false
     → given.read ≡ None → given.verify ≡ None → given.restore ≡ None → operations given ≡ 0
 probe given list same size status ranges read verify restore =
-    let content : is_new_content given ≡ false = first_false _ _ same in
-    let write : is_some given.write ≡ false = first_false _ _ content in
-    let erase : given.erase ≡ false = second_false _ _ content in
-    let range : is_some given.wp_range ≡ false = second_false _ _ same in
+    let content : is_new_content given ≡ false = (or_parts _ _ same).0 in
+    let write : is_some given.write ≡ false = (or_parts _ _ content).0 in
+    let erase : given.erase ≡ false = (or_parts _ _ content).1 in
+    let range : is_some given.wp_range ≡ false = (or_parts _ _ same).1 in
     rw (list, size, status, ranges, read, verify, write, erase, range, restore) refl

@@ -1,5 +1,7 @@
 -- Which texts of options mean nothing, by what was read from them.
-use Rattle.std.proofs.Common.{◌≡◌, ◌∙◌, ◌&&◌, ◌||◌, ℕ, Bool, true, false, List, Option, Some, None, is_some, not, ap, ap₂, codes, option_map, refl, sym}
+use Rattle.std.proofs.Common.{arith, ◌≡◌, ◌∙◌, ◌&&◌, ◌||◌, ℕ, Bool, true, false, List, Option, Some, None, is_some}
+use Rattle.std.proofs.Common.{not, ap, ap₂, codes, option_map, refl, sym}
+use Rattle.std.proofs.lemmas.Bool.Decides.{nat_tests}
 use Rattle.std.specs.Prelude.{option_and_then}
 use Rattle.std.specs.Borrow.{Bor}
 use Rattle.std.specs.Option.{IsSomeAnd, MatchOption, option_map_or}
@@ -60,10 +62,7 @@ abbrev text_at : Option (Bor Text) → Option Text
 text_at = option_map (λ t. t.now)
 
 flipped : (a b : Bool) → a ≡ not b → b ≡ not a
-flipped true true h = cc
-flipped true false h = refl
-flipped false true h = refl
-flipped false false h = cc
+flipped a b h = grind (arith, nat_tests)
 
 pub absent : (f : Text → Bool) (text : Option (Bor Text)) → is_some text ≡ false → false ≡ is_no f (text_at text)
 absent f None none = refl
