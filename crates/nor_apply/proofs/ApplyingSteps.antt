@@ -1,237 +1,181 @@
 -- The steps of applying changes: lifting protection, erases, programs, and the status write at the end.
-use Rattle.std.proofs.Common.{ℕ, ◌≡◌, ◌<◌, ◌≤◌, ◌+◌, ◌*◌, ◌/◌, ◌%◌, Bool, true, false, refl, sym, ap, subst, ◌∙◌, arith, true≢false}
-use Rattle.std.specs.Prelude.{◌&&◌, ◌||◌, ◌==◌, not, bit_and, if◌then◌else◌}
+use Rattle.std.proofs.Common.{ℕ, ◌≡◌, ◌<◌, ◌/◌, ◌%◌, Bool, true, false, inl, inr, refl, sym, ap, ◌∙◌, arith, true≢false}
+use Rattle.std.specs.Prelude.{◌||◌, ◌==◌, not, bit_and, if◌then◌else◌}
 use Rattle.std.proofs.lemmas.Nat.{and_mask}
-use Rattle.std.proofs.lemmas.Bool.{or_right}
+use Rattle.std.proofs.lemmas.Bool.{cases_Bool, and_parts}
 use Rattle.std.proofs.lemmas.Bool.Decides.{nat_tests}
 use Rattle.std.proofs.Math.Bool.{or-false}
 use Rattle.nor_chip.specs.Code.{code_in}
 use Rattle.nor_chip.specs.Status.{bytes_of}
-use Rattle.nor_chip.specs.declared.config.Config.{Config}
 use Rattle.nor_chip.specs.Chip.{Chip, is_locked}
-use Rattle.nor_chip.specs.Guard.{is_guarded, code_of}
+use Rattle.nor_chip.specs.Guard.{is_guarded}
 use Rattle.nor_chip.specs.Bus.{BusState}
 use Rattle.nor_chip.proofs.Guarded.{is_guarded-zero, is_guarded-same}
-use Rattle.nor_driver.specs.StatusWrites.{KeepsFixed, HasCode, CanWriteStatus, HasWrittenStatus}
+use Rattle.nor_driver.specs.StatusWrites.{KeepsFixed, HasCode, CanWriteStatus}
 use Rattle.nor_apply.specs.declared.changes.Changes.{Changes}
 use Rattle.nor_plan.specs.Content.{once_erased}
 use Rattle.nor_apply.specs.Within.{is_writable}
-use Rattle.nor_apply.specs.Change.{HasChanged, blank}
+use Rattle.nor_apply.specs.Change.{CanChange, MayChange, HasChanged}
 use Rattle.nor_plan.specs.SectorSet.{none}
 use Rattle.nor_apply.specs.Protecting.{LeavesCode, DoesCode}
 use Rattle.nor_apply.specs.Erasing.{CanEraseAll}
 use Rattle.nor_apply.specs.Programming.{CanProgramAll}
 use Rattle.nor_apply.specs.Applying.{touched_in, raised_in, writes_code, CanApply, HasApplied}
-use Rattle.nor_apply.proofs.Kept.{fixed_refl, fixed_then, kept_fixed, locked_same}
+use Rattle.nor_apply.proofs.Kept.{fixed_refl, fixed_then, kept_fixed, locked_same, writable_same}
+use Rattle.nor_apply.proofs.Changing.{can_after, same_change, status_change}
 
--- the code once protection is lifted, where that is asked
-abbrev pub code_once : Changes → Bool → ℕ
-code_once changes lifted = if lifted then 0 else code_in (bytes_of changes.status)
+-- the code that was read, and the one once protection is lifted where that is asked
+abbrev pub code_read : Changes → ℕ
+code_read changes = code_in (bytes_of changes.status)
 
--- Protection was lifted where that was asked: nothing but the code changed, and no touched place is guarded.
-pub record Lifted (changes : Changes) (lifted : Bool) (old new : BusState) : Type 0 where
+abbrev pub code_once : Changes → ℕ
+code_once changes = if changes.unlock then 0 else code_read changes
+
+-- On the way: the bytes, the worn sectors and the code are these; all else is as it was, and the chip is idle.
+pub record Stands (bytes : ℕ → ℕ) (worn : ℕ → Bool) (code : ℕ) (old new : BusState) : Type 0 where
   pub config : new.chip.config ≡ old.chip.config
-  pub bytes : (a : ℕ) → new.chip.bytes a ≡ old.chip.bytes a
+  pub byte : (a : ℕ) → new.chip.bytes a ≡ bytes a
   pub fixed : KeepsFixed old.chip new.chip
-  pub worn : (s : ℕ) → new.worn s ≡ old.worn s
+  pub has_code : HasCode code new.chip
+  pub wear : (s : ℕ) → new.worn s ≡ worn s
   pub idle : new.chip.busy ≡ 0
   pub latch : new.chip.latch ≡ true → old.chip.latch ≡ true
-  pub free : (a : ℕ) → touched_in changes (a / 4096) ≡ true → is_guarded new.chip a ≡ false
-  pub code : HasCode (code_once changes lifted) new.chip
 
--- The touched sectors have the wanted bytes, and the code isn't written yet.
-pub record Made (changes : Changes) (wanted : ℕ → ℕ) (lifted : Bool) (old new : BusState) : Type 0 where
-  pub config : new.chip.config ≡ old.chip.config
-  pub bytes : (a : ℕ) → new.chip.bytes a ≡ (if touched_in changes (a / 4096) then wanted a else old.chip.bytes a)
-  pub fixed : KeepsFixed old.chip new.chip
-  pub worn : (s : ℕ) → new.worn s ≡ (old.worn s || raised_in changes s)
-  pub idle : new.chip.busy ≡ 0
-  pub latch : new.chip.latch ≡ true → old.chip.latch ≡ true
-  pub code : HasCode (code_once changes lifted) new.chip
-
--- ---- the status
-
-open_of : (scheme locked : Bool) → (scheme && not locked) ≡ true → locked ≡ false
-open_of true true is = absurd (true≢false (sym is))
-open_of true false is = refl
-open_of false locked is = absurd (true≢false (sym is))
-
--- a chip that can be written, of these fixed bits, takes a status write
-pub can_write : (changes : Changes) (wanted : ℕ → ℕ) (old new : BusState) → CanApply changes wanted old.chip → KeepsFixed old.chip new.chip → new.chip.busy ≡ 0
-    → is_writable old.chip ≡ true → CanWriteStatus changes.status new.chip
-can_write changes wanted old new can fixed idle writable =
-    let one : changes.status.one.0 / 4 ≡ old.chip.kept1 = can.kept.one in
-    let two : changes.status.two.0 % 128 ≡ old.chip.kept2 = can.kept.two in
-    let same_one = fixed.one in
-    let same_two = fixed.two in
-    record {
-      idle = idle;
-      open_to = locked_same old.chip new.chip fixed ∙ open_of old.chip.config.scheme (is_locked old.chip) writable;
-      fixed = record {
-        one = omega (arith, one, same_one);
-        two = omega (arith, two, same_two);
-      };
-    }
-
-pub writable_lifted : (changes : Changes) (wanted : ℕ → ℕ) (chip : Chip) → CanApply changes wanted chip → changes.unlock ≡ true → is_writable chip ≡ true
-writable_lifted changes wanted chip can lifts = can.writable (ap (λ (b : Bool). b || writes_code changes) lifts)
-
-pub writable_last : (changes : Changes) (wanted : ℕ → ℕ) (chip : Chip) → CanApply changes wanted chip → writes_code changes ≡ true → is_writable chip ≡ true
-writable_last changes wanted chip can writes = can.writable (or_right changes.unlock (writes_code changes) writes)
-
--- by the code 0 nothing is guarded
-zero_code : (chip : Chip) → HasCode 0 chip → code_of chip ≡ 0
-zero_code chip has = let low = has.low in let high = has.high in omega (arith, low, high)
-
--- the code that was read is the chip's
-has_read : (changes : Changes) (wanted : ℕ → ℕ) (chip : Chip) → CanApply changes wanted chip → HasCode (code_in (bytes_of changes.status)) chip
-has_read changes wanted chip can =
-    let one : changes.status.one.0 / 4 ≡ chip.kept1 = can.kept.one in
-    let two : changes.status.two.0 % 128 ≡ chip.kept2 = can.kept.two in
-    record { low = omega (arith, one); high = omega (arith, two) }
-
-still_lifted : (changes : Changes) (wanted : ℕ → ℕ) (old : BusState) → changes.unlock ≡ false → CanApply changes wanted old.chip → Lifted changes false old old
-still_lifted changes wanted old shut can = record {
-  config = refl;
-  bytes = λ a. refl;
-  fixed = fixed_refl old.chip;
-  worn = λ s. refl;
-  idle = can.idle;
-  latch = λ set. set;
-  free = λ a is. can.free shut a is;
-  code = has_read changes wanted old.chip can;
+-- erases or programs after others
+pub stands_changed : {t e worn : ℕ → Bool} {w bytes : ℕ → ℕ} {code : ℕ} {old mid new : BusState}
+    → Stands bytes worn code old mid → HasChanged t w e mid new
+    → Stands (λ a. if t (a / 4096) then w a else bytes a) (λ s. worn s || e s) code old new
+stands_changed {t} {e} {w = w} {old = old} {mid = mid} {new = new} is has = record {
+  config = has.config ∙ is.config;
+  byte = λ a. has.bytes a ∙ ap (λ (n : ℕ). if t (a / 4096) then w a else n) (is.byte a);
+  fixed = fixed_then old.chip mid.chip new.chip is.fixed (kept_fixed mid.chip new.chip has.kept);
+  has_code = record { low = rw has.kept.0 is.has_code.low; high = rw has.kept.1 is.has_code.high };
+  wear = λ s. has.worn s ∙ ap (λ (b : Bool). b || e s) (is.wear s);
+  idle = has.idle;
+  latch = λ set. is.latch (has.latch set);
 }
-
-written_lifted : (changes : Changes) (old new : BusState) → HasWrittenStatus 0 old new → new.chip.busy ≡ 0 → Lifted changes true old new
-written_lifted changes old new has idle = record {
-  config = has.config;
-  bytes = has.bytes;
-  fixed = has.fixed;
-  worn = has.worn;
-  idle = idle;
-  latch = λ set. absurd (true≢false (sym set ∙ has.latch));
-  free = λ a is. is_guarded-zero new.chip a (zero_code new.chip has.written);
-  code = has.written;
-}
-
-lifts_by : (changes : Changes) (wanted : ℕ → ℕ) (lifted : Bool) (old new : BusState) (sent : ℕ) → changes.unlock ≡ lifted → old.honest ≡ true → CanApply changes wanted old.chip
-    → LeavesCode changes.status 0 lifted old new → DoesCode changes.status 0 lifted old new sent → Lifted changes lifted old new
-lifts_by changes wanted true old new sent is honest can leaves does =
-    written_lifted changes old new
-    (does.done refl honest (can_write changes wanted old old can (fixed_refl old.chip) can.idle (writable_lifted changes wanted old.chip can is)))
-    (does.idle refl honest)
-lifts_by changes wanted false old new sent is honest can leaves does =
-    let Goal : BusState → Type 0 = λ state. Lifted changes false old state in
-    subst Goal (sym (leaves.still refl)) (still_lifted changes wanted old is can)
-
-pub lifts : (changes : Changes) (wanted : ℕ → ℕ) (old new : BusState) (sent : ℕ) → old.honest ≡ true → CanApply changes wanted old.chip
-    → LeavesCode changes.status 0 changes.unlock old new → DoesCode changes.status 0 changes.unlock old new sent → Lifted changes changes.unlock old new
-lifts changes wanted old new sent = lifts_by changes wanted changes.unlock old new sent refl
-
--- ---- the erases
-
-pub can_erase_all : (changes : Changes) (wanted : ℕ → ℕ) (lifted : Bool) (old new : BusState) → CanApply changes wanted old.chip → Lifted changes lifted old new
-    → CanEraseAll (raised_in changes) changes.kinds changes.size new.chip
-can_erase_all changes wanted lifted old new can free = record {
-  can = record {
-    idle = free.idle;
-    inside = λ s is. subst (λ (c : Config). 4096 * s + 4096 ≤ c.size) (sym free.config) (can.inside s (can.raised s is));
-    free = λ a is. free.free a (can.raised (a / 4096) is);
-  };
-  sized = record {
-    same = ap (λ (c : Config). c.size) free.config ∙ can.sized.same;
-    same_kinds = ap (λ (c : Config). c.kinds) free.config ∙ can.sized.same_kinds;
-  };
-}
-
-pub bytes_erased : (changes : Changes) (lifted : Bool) (old mid new : BusState) → Lifted changes lifted old mid → HasChanged (raised_in changes) blank (raised_in changes) mid new
-    → (a : ℕ) → new.chip.bytes a ≡ once_erased (raised_in changes) old.chip.bytes a
-bytes_erased changes lifted old mid new free erased a =
-    erased.bytes a ∙ ap (λ (n : ℕ). if raised_in changes (a / 4096) then 255 else n) (free.bytes a)
-
--- ---- the programs
 
 and_byte : (w : ℕ) → w < 256 → bit_and w 255 ≡ w
-and_byte w small = let mask = and_mask w 8 in omega (arith, mask)
+and_byte w small = omega (arith, and_mask w 8)
 
-falls_by : (raised : Bool) (w x y : ℕ) → y ≡ (if raised then 255 else x) → w < 256 → (raised ≡ false → bit_and w x ≡ w) → bit_and w y ≡ w
-falls_by true w x y is small falls = ap (λ (n : ℕ). bit_and w n) is ∙ and_byte w small
-falls_by false w x y is small falls = ap (λ (n : ℕ). bit_and w n) is ∙ falls refl
+made_byte : (t r : Bool) (w x : ℕ) → (r ≡ true → t ≡ true)
+    → ◌≡◌ {A = ℕ} (if t then w else if r then 255 else x) (if t then w else x)
+made_byte t r w x inside = grind arith
 
-pub can_program_all : (changes : Changes) (wanted : ℕ → ℕ) (lifted : Bool) (old mid new : BusState) → CanApply changes wanted old.chip → Lifted changes lifted old mid
-    → HasChanged (raised_in changes) blank (raised_in changes) mid new → CanProgramAll (touched_in changes) (raised_in changes) wanted new.chip
-can_program_all changes wanted lifted old mid new can free erased = record {
-  can = record {
-    idle = erased.idle;
-    inside = λ s is. subst (λ (c : Config). 4096 * s + 4096 ≤ c.size) (sym (erased.config ∙ free.config)) (can.inside s is);
-    free = λ a is. is_guarded-same mid.chip new.chip erased.config erased.kept.0 erased.kept.1 a ∙ free.free a is;
-  };
-  blank = λ a touched raised. bytes_erased changes lifted old mid new free erased a ∙ ap (λ (b : Bool). if b then 255 else old.chip.bytes a) raised;
-  falls = λ a touched.
-      falls_by (raised_in changes (a / 4096)) (wanted a) (old.chip.bytes a) (new.chip.bytes a) (bytes_erased changes lifted old mid new free erased a)
-      (can.bytes a touched) (can.falls a touched);
-}
+code_at_end : (changes : Changes) (chip : Chip) (writes : Bool) → writes_code changes ≡ writes
+    → HasCode (if writes then changes.code else code_once changes) chip → HasCode changes.code chip
+code_at_end changes chip true is has = has
+code_at_end changes chip false is has =
+    let same : code_once changes ≡ changes.code = not_other _ _ is in rw (← same) has
+  where
+    not_other : (n m : ℕ) → not (n == m) ≡ false → n ≡ m
+    not_other n m is = grind (arith, nat_tests)
 
-made_byte : (t r : Bool) (w x y z : ℕ) → (r ≡ true → t ≡ true) → y ≡ (if r then 255 else x) → z ≡ (if t then w else y) → z ≡ (if t then w else x)
-made_byte true r w x y z inside before after = after
-made_byte false true w x y z inside before after = absurd (true≢false (sym (inside refl)))
-made_byte false false w x y z inside before after = after ∙ before
+has_read : {changes : Changes} {wanted : ℕ → ℕ} {chip : Chip} → CanApply changes wanted chip
+    → HasCode (code_read changes) chip
+has_read {changes} {chip = chip} can =
+    let one : changes.status.one.0 / 4 ≡ chip.kept1 = can.kept.one in
+    let two : changes.status.two.0 % 128 ≡ chip.kept2 = can.kept.two in
+    record { low = omega arith; high = omega arith }
 
-pub makes : (changes : Changes) (wanted : ℕ → ℕ) (lifted : Bool) (old free erased new : BusState) → CanApply changes wanted old.chip → Lifted changes lifted old free
-    → HasChanged (raised_in changes) blank (raised_in changes) free erased → HasChanged (touched_in changes) wanted none erased new → Made changes wanted lifted old new
-makes changes wanted lifted old free erased new can lifts erases programs = record {
-  config = programs.config ∙ erases.config ∙ lifts.config;
-  bytes = λ a.
-      made_byte (touched_in changes (a / 4096)) (raised_in changes (a / 4096)) (wanted a) (old.chip.bytes a) (erased.chip.bytes a) (new.chip.bytes a)
-      (can.raised (a / 4096)) (bytes_erased changes lifted old free erased lifts erases a) (programs.bytes a);
-  fixed = fixed_then old.chip free.chip new.chip lifts.fixed
-      (fixed_then free.chip erased.chip new.chip (kept_fixed free.chip erased.chip erases.kept) (kept_fixed erased.chip new.chip programs.kept));
-  worn = λ s. programs.worn s ∙ or-false (erased.worn s) ∙ erases.worn s ∙ ap (λ (b : Bool). b || raised_in changes s) (lifts.worn s);
-  idle = programs.idle;
-  latch = λ set. lifts.latch (erases.latch (programs.latch set));
-  code = record {
-    low = ap (λ (n : ℕ). n % 32) (programs.kept.0 ∙ erases.kept.0) ∙ lifts.code.low;
-    high = ap (λ (n : ℕ). n / 64) (programs.kept.1 ∙ erases.kept.1) ∙ lifts.code.high;
-  };
-}
+module _ {changes : Changes} {wanted : ℕ → ℕ} {old : BusState} (can : CanApply changes wanted old.chip) where
+  pub stands_first : Stands old.chip.bytes old.worn (code_read changes) old old
+  stands_first = search (fixed_refl old.chip, has_read can)
 
--- ---- the end
+  -- ---- a status write, at the start or at the end
 
-same_of : (n m : ℕ) → not (n == m) ≡ false → n ≡ m
-same_of n m is = grind (arith, nat_tests)
+  module _ {code new_code : ℕ} {needed : Bool} {bytes : ℕ → ℕ} {worn : ℕ → Bool} {mid new : BusState}
+      (writable : needed ≡ true → is_writable old.chip ≡ true) (is : Stands bytes worn code old mid)
+      (honest : mid.honest ≡ true) (leaves : LeavesCode changes.status new_code needed mid new) where
+    -- a chip that can be written, of these fixed bits, takes a status write
+    can_write : needed ≡ true → CanWriteStatus changes.status mid.chip
+    can_write writes =
+        let one : changes.status.one.0 / 4 ≡ old.chip.kept1 = can.kept.one in
+        let two : changes.status.two.0 % 128 ≡ old.chip.kept2 = can.kept.two in
+        let open_to : not (is_locked old.chip) ≡ true =
+        (and_parts old.chip.config.scheme (not (is_locked old.chip)) (writable writes)).1 in
+        record {
+          idle = is.idle;
+          open_to = locked_same old.chip mid.chip is.fixed ∙ grind (arith, open_to);
+          fixed = record { one = omega (arith, one, is.fixed.one); two = omega (arith, two, is.fixed.two) };
+        }
 
-made_applied : (changes : Changes) (wanted : ℕ → ℕ) (old new : BusState) → writes_code changes ≡ false → Made changes wanted changes.unlock old new → HasApplied changes wanted old new
-made_applied changes wanted old new is made = record {
-  config = made.config;
-  bytes = made.bytes;
-  fixed = made.fixed;
-  has_code =
-      let Goal : ℕ → Type 0 = λ code. HasCode code new.chip in
-      subst Goal (same_of (code_once changes changes.unlock) changes.code is) made.code;
-  worn = made.worn;
-  idle = made.idle;
-  latch = made.latch;
-}
+    pub code_change : MayChange (touched_in changes) (raised_in changes) wanted mid new
+    code_change = elim (cases_Bool needed) [
+      | inl writes ↦
+          status_change (writable_same old.chip mid.chip is.config is.fixed ∙ writable writes)
+          (leaves.reached writes honest (can_write writes))
+      | inr spared ↦
+          rw (leaves.still spared) (same_change (search) is.idle (λ s. refl))
+    ]
 
-written_applied : (changes : Changes) (wanted : ℕ → ℕ) (old mid new : BusState) → Made changes wanted changes.unlock old mid → HasWrittenStatus changes.code mid new
-    → new.chip.busy ≡ 0 → HasApplied changes wanted old new
-written_applied changes wanted old mid new made has idle = record {
-  config = has.config ∙ made.config;
-  bytes = λ a. has.bytes a ∙ made.bytes a;
-  fixed = fixed_then old.chip mid.chip new.chip made.fixed has.fixed;
-  has_code = has.written;
-  worn = λ s. has.worn s ∙ made.worn s;
-  idle = idle;
-  latch = λ set. absurd (true≢false (sym set ∙ has.latch));
-}
+    pub stands_code : {sent : ℕ} → DoesCode changes.status new_code needed mid new sent
+        → Stands bytes worn (if needed then new_code else code) old new
+    stands_code does = elim (cases_Bool needed) [
+      | inr spared ↦ rw (leaves.still spared, spared) is
+      | inl writes ↦
+          let has = does.done writes honest (can_write writes) in
+          rw writes (record {
+            config = has.config ∙ is.config;
+            byte = λ a. has.bytes a ∙ is.byte a;
+            fixed = fixed_then old.chip mid.chip new.chip is.fixed has.fixed;
+            has_code = has.written;
+            wear = λ s. has.worn s ∙ is.wear s;
+            idle = does.idle writes honest;
+            latch = λ set. absurd (true≢false (sym set ∙ has.latch));
+          })
+    ]
 
-pub applies : (changes : Changes) (wanted : ℕ → ℕ) (needed : Bool) (old mid new : BusState) (sent : ℕ) → writes_code changes ≡ needed → mid.honest ≡ true → CanApply changes wanted old.chip
-    → Made changes wanted changes.unlock old mid → LeavesCode changes.status changes.code needed mid new → DoesCode changes.status changes.code needed mid new sent
-    → HasApplied changes wanted old new
-applies changes wanted true old mid new sent is honest can made leaves does =
-    written_applied changes wanted old mid new made
-    (does.done refl honest (can_write changes wanted old mid can made.fixed made.idle (writable_last changes wanted old.chip can is)))
-    (does.idle refl honest)
-applies changes wanted false old mid new sent is honest can made leaves does =
-    let Goal : BusState → Type 0 = λ state. HasApplied changes wanted old state in
-    subst Goal (sym (leaves.still refl)) (made_applied changes wanted old mid is made)
+  -- ---- what erases and programs need
+
+  module _ {bytes : ℕ → ℕ} {worn : ℕ → Bool} {mid : BusState} (is : Stands bytes worn (code_once changes) old mid) where
+    -- once protection is lifted where that is asked, no touched place is guarded
+    free : (a : ℕ) → touched_in changes (a / 4096) ≡ true → is_guarded mid.chip a ≡ false
+    free a touched = elim (cases_Bool changes.unlock) [
+      | inl lifts ↦
+          let none = rw lifts at is.has_code in
+          is_guarded-zero mid.chip a (omega (arith, none))
+      | inr shut ↦
+          let now : HasCode (code_read changes) mid.chip = rw shut at is.has_code in
+          let before = has_read can in
+          is_guarded-same old.chip mid.chip is.config (omega (arith, now.low, before.low, is.fixed.one))
+          (omega (arith, now.high, before.high, is.fixed.two)) a ∙ can.free shut a touched
+    ]
+
+    can_touched : CanChange (touched_in changes) mid.chip
+    can_touched = record { idle = is.idle; inside = λ s touched. rw is.config (can.inside s touched); free = free }
+
+    pub can_erase_all : CanEraseAll (raised_in changes) changes.kinds changes.size mid.chip
+    can_erase_all = record {
+      can = can_after mid.chip can.raised can_touched refl (refl, refl) is.idle;
+      sized = record { same = rw is.config can.sized.same; same_kinds = rw is.config can.sized.same_kinds };
+    }
+
+  pub can_program_all : {worn : ℕ → Bool} {mid : BusState}
+      → Stands (once_erased (raised_in changes) old.chip.bytes) worn (code_once changes) old mid
+      → CanProgramAll (touched_in changes) (raised_in changes) wanted mid.chip
+  can_program_all is = record {
+    can = can_touched is;
+    blank = λ a touched raised. is.byte a ∙ rw raised refl;
+    falls = λ a touched. rw (is.byte a) (elim (cases_Bool (raised_in changes (a / 4096))) [
+      | inl raised ↦ rw raised (and_byte (wanted a) (can.bytes a touched))
+      | inr spared ↦ rw spared (can.falls a touched spared)
+    ]);
+  }
+
+  -- ---- the end
+
+  pub applied : {writes : Bool} {new : BusState} → writes_code changes ≡ writes
+      → Stands
+      (λ a. if touched_in changes (a / 4096) then wanted a else once_erased (raised_in changes) old.chip.bytes a)
+      (λ s. (old.worn s || raised_in changes s) || none s) (if writes then changes.code else code_once changes) old new
+      → HasApplied changes wanted old new
+  applied {writes} {new} same is = record {
+    config = is.config;
+    bytes = λ a. is.byte a ∙ made_byte _ _ (wanted a) (old.chip.bytes a) (can.raised (a / 4096));
+    fixed = is.fixed;
+    has_code = code_at_end changes new.chip writes same is.has_code;
+    worn = λ s. is.wear s ∙ or-false (old.worn s || raised_in changes s);
+    idle = is.idle;
+    latch = is.latch;
+  }

@@ -1,187 +1,212 @@
 -- How the parts of a change follow one another: the relations of every exit and of the end compose.
-use Rattle.std.proofs.Common.{◌≡◌, ℕ, ◌/◌, ◌%◌, ◌⊎◌, inl, inr, true, false, true≢false, arith, refl, ◌∙◌, sym, ap}
+use Rattle.std.proofs.Common.{◌≡◌, ◌≢◌, ℕ, ◌/◌, ◌⊎◌, inl, inr, true, false, true≢false, arith, refl, ◌∙◌, sym, ap}
 use Rattle.std.specs.Prelude.{Bool, ◌||◌, if◌then◌else◌}
-use Rattle.nor_chip.specs.declared.running.Running.{Running}
-use Rattle.nor_chip.specs.declared.running.Running.TheVariants.{StatusWrite}
+use Rattle.std.proofs.lemmas.Bool.{cases_Bool, false_from_ne_true}
+use Rattle.std.proofs.Math.Bool.{or-false, or_assoc}
 use Rattle.nor_chip.specs.Chip.{Chip, IsSame}
-use Rattle.nor_chip.specs.Power.{is_known_running, is_in_work}
+use Rattle.nor_chip.specs.Power.{KeptStay}
 use Rattle.nor_chip.specs.Bus.{BusState}
-use Rattle.nor_driver.specs.Looks.{LooksHonest}
-use Rattle.nor_driver.specs.StatusWrites.{KeepsFixed, MayWriteStatus}
+use Rattle.nor_chip.proofs.Guarded.{is_guarded-same}
+use Rattle.nor_driver.specs.Operations.{ChangesOnly}
+use Rattle.nor_driver.specs.StatusWrites.{MayWriteStatus}
 use Rattle.nor_apply.specs.Within.{is_writable, WorksIn, IsWithin, places_of}
-use Rattle.nor_apply.specs.Change.{MayChange, HasChanged}
-use Rattle.nor_apply.proofs.Kept.{fixed_refl, fixed_then, kept_fixed, kept_then, writable_same}
-
--- a status write's old kept bits
-abbrev old_one : Running → ℕ
-old_one (StatusWrite one two) = one
-old_one _ = 0
-
-abbrev old_two : Running → ℕ
-old_two (StatusWrite one two) = two
-old_two _ = 0
+use Rattle.nor_apply.specs.Change.{CanChange, MayChange, HasChanged}
+use Rattle.nor_apply.proofs.Kept.{fixed_then, kept_fixed, kept_then, writable_same}
 
 -- ---- within
 
-pub works_then : (p : ℕ → Bool) (x y : Chip) (running : Running) → y.config ≡ x.config → KeepsFixed x y → WorksIn p y running → WorksIn p x running
-works_then p x y running config fixed works = record {
-  known = works.known;
-  inside = works.inside;
-  status = λ one two is.
-      let told = works.status one two is in
-      (sym (writable_same x y config fixed) ∙ told.0, told.1 ∙ fixed.one, told.2 ∙ fixed.two);
-}
-
-pub within_then : (p : ℕ → Bool) (first : Chip) (mid new : BusState) → IsWithin p first mid → IsWithin p mid.chip new → IsWithin p first new
-within_then p first mid new before after = record {
-  config = after.config ∙ before.config;
-  bytes = λ a out. after.bytes a out ∙ before.bytes a out;
-  fixed = fixed_then _ _ _ before.fixed after.fixed;
-  kept = λ shut. kept_then first mid.chip new.chip (before.kept shut) (after.kept (writable_same first mid.chip before.config before.fixed ∙ shut));
-  runs = λ loses works. works_then p first mid.chip new.chip.running before.config before.fixed (after.runs loses works);
-}
-
-works_wider : (p q : ℕ → Bool) (first : Chip) (running : Running) → ((a : ℕ) → p a ≡ true → q a ≡ true) → WorksIn p first running → WorksIn q first running
-works_wider p q first running wider works = record {
-  known = works.known;
-  inside = λ a is. wider a (works.inside a is);
-  status = works.status;
-}
-
--- what holds in a wider set's terms fails in a narrower one's
-pub narrower : (b c : Bool) → (b ≡ true → c ≡ true) → c ≡ false → b ≡ false
-narrower true c wider out = sym (wider refl) ∙ out
-narrower false c wider out = refl
-
-false_wider : (p q : ℕ → Bool) → ((a : ℕ) → p a ≡ true → q a ≡ true) → (a : ℕ) → q a ≡ false → p a ≡ false
-false_wider p q wider a out = narrower (p a) (q a) (wider a) out
-
-pub within_wider : (p q : ℕ → Bool) (first : Chip) (state : BusState) → ((a : ℕ) → p a ≡ true → q a ≡ true) → IsWithin p first state → IsWithin q first state
-within_wider p q first state wider within = record {
-  config = within.config;
-  bytes = λ a out. within.bytes a (false_wider p q wider a out);
-  fixed = within.fixed;
-  kept = within.kept;
-  runs = λ loses works. works_wider p q first state.chip.running wider (within.runs loses works);
-}
-
--- an idle chip is within itself
-pub within_idle : (p : ℕ → Bool) (state : BusState) → state.chip.busy ≡ 0 → IsWithin p state.chip state
-within_idle p state idle = record {
-  config = refl;
-  bytes = λ a out. refl;
-  fixed = fixed_refl state.chip;
-  kept = λ shut. (refl, refl);
-  runs = λ loses works. absurd (works idle);
-}
-
--- so is the same chip, idle
-pub same_within : (p : ℕ → Bool) (first : Chip) (state : BusState) → IsSame first state.chip → state.chip.busy ≡ 0 → IsWithin p first state
-same_within p first state same idle = record {
-  config = same.config;
-  bytes = λ a out. same.bytes a;
-  fixed = kept_fixed first state.chip (same.kept1, same.kept2);
-  kept = λ shut. (same.kept1, same.kept2);
-  runs = λ loses works. absurd (works idle);
-}
-
--- ---- changes
-
--- readings of an idle chip are no change, wherever they end
-pub looks_change : (t r : ℕ → Bool) (w : ℕ → ℕ) (most : ℕ) (old new : BusState) → old.chip.busy ≡ 0 → LooksHonest most old new → MayChange t r w old new
-looks_change t r w most old new idle looked =
-    let same = looked.stays.calm (inr idle) in
-    let still : new.chip.busy ≡ 0 = let less = looked.stays.busy in omega (arith, less, idle) in
+pub within_then : (p : ℕ → Bool) (first : Chip) (mid new : BusState) → IsWithin p first mid → IsWithin p mid.chip new
+    → IsWithin p first new
+within_then p first mid new before after =
+    let writable = writable_same first mid.chip before.config before.fixed in
     record {
-      within = same_within (places_of t) old.chip new same still;
-      gentle = λ steady a plain. inl (same.bytes a);
-      worn = λ s spared. looked.stays.worn s;
+      config = after.config ∙ before.config;
+      bytes = λ a out. after.bytes a out ∙ before.bytes a out;
+      fixed = fixed_then _ _ _ before.fixed after.fixed;
+      kept = λ shut. kept_then first mid.chip new.chip (before.kept shut) (after.kept (writable ∙ shut));
+      runs = λ loses works.
+          let runs = after.runs loses works in
+          record {
+            known = runs.known;
+            inside = runs.inside;
+            status = λ one two is.
+                let told = runs.status one two is in
+                (sym writable ∙ told.0, told.1 ∙ before.fixed.one, told.2 ∙ before.fixed.two);
+          };
     }
 
-pub idle_change : (t r : ℕ → Bool) (w : ℕ → ℕ) (state : BusState) → state.chip.busy ≡ 0 → MayChange t r w state state
-idle_change t r w state idle = record {
-  within = within_idle (places_of t) state idle;
-  gentle = λ steady a plain. inl refl;
-  worn = λ s spared. refl;
+-- what holds in a wider set's terms fails in a narrower one's
+pub narrower : {b c : Bool} → (b ≡ true → c ≡ true) → c ≡ false → b ≡ false
+narrower {b} wider out = false_from_ne_true b (λ is. true≢false (sym (wider is) ∙ out))
+
+pub within_wider : (p q : ℕ → Bool) (first : Chip) (state : BusState) → ((a : ℕ) → p a ≡ true → q a ≡ true)
+    → IsWithin p first state → IsWithin q first state
+within_wider p q first state wider within = record {
+  config = within.config;
+  bytes = λ a out. within.bytes a (narrower (wider a) out);
+  fixed = within.fixed;
+  kept = within.kept;
+  runs = λ loses works.
+      let runs = within.runs loses works in search (runs.inside, runs.status);
 }
+
+-- an idle chip, and so the same one, is within another
+pub idle_within : {p : ℕ → Bool} {first : Chip} {state : BusState} → state.chip.config ≡ first.config
+    → ((a : ℕ) → p a ≡ false → state.chip.bytes a ≡ first.bytes a) → KeptStay first state.chip → state.chip.busy ≡ 0
+    → IsWithin p first state
+idle_within {first} {state} config bytes kept idle = record {
+  config = config;
+  bytes = bytes;
+  fixed = kept_fixed first state.chip kept;
+  kept = λ shut. kept;
+  runs = λ loses works. absurd (works idle);
+}
+
+pub same_within : (p : ℕ → Bool) (first : Chip) (state : BusState) → IsSame first state.chip → state.chip.busy ≡ 0
+    → IsWithin p first state
+same_within p first state same idle = idle_within same.config (λ a out. same.bytes a) (same.kept1, same.kept2) idle
+
+-- ---- what can be changed
+
+-- a part of the sectors can be changed where all of them can, as long as all but bytes stays
+pub can_after : {t t' : ℕ → Bool} {old : Chip} (new : Chip) → ((s : ℕ) → t' s ≡ true → t s ≡ true) → CanChange t old
+    → new.config ≡ old.config → KeptStay old new → new.busy ≡ 0 → CanChange t' new
+can_after {old} new within can config kept idle = record {
+  idle = idle;
+  inside = λ s is. rw config (can.inside s (within s is));
+  free = λ a is. is_guarded-same old new config kept.0 kept.1 a ∙ can.free a (within (a / 4096) is);
+}
+
+-- ---- every exit
+
+-- where the chip is as it was, idle, nothing is changed
+pub same_change : {t r : ℕ → Bool} {w : ℕ → ℕ} {old new : BusState} → IsSame old.chip new.chip → new.chip.busy ≡ 0
+    → ((s : ℕ) → new.worn s ≡ old.worn s) → MayChange t r w old new
+same_change {t} {old} {new} same idle worn =
+    search (same_within (places_of t) old.chip new same idle, same.bytes, inl)
 
 -- what has ended may stand at an exit too
-either_byte : (b : Bool) (x old wanted : ℕ) → x ≡ (if b then wanted else old) → (x ≡ old) ⊎ (x ≡ wanted)
-either_byte true x old wanted is = inr is
-either_byte false x old wanted is = inl is
+either_byte : (b : Bool) {x old wanted : ℕ} → x ≡ (if b then wanted else old) → (x ≡ old) ⊎ (x ≡ wanted)
+either_byte b is = grind arith
 
-spared_worn : (b c d : Bool) → b ≡ (c || d) → d ≡ false → b ≡ c
-spared_worn b true d is spared = is
-spared_worn b false d is spared = is ∙ spared
-
-kept_else : (b : Bool) (x old wanted : ℕ) → x ≡ (if b then wanted else old) → b ≡ false → x ≡ old
-kept_else true x old wanted is out = absurd (true≢false out)
-kept_else false x old wanted is out = is
-
-pub has_may : (t e : ℕ → Bool) (w : ℕ → ℕ) (old new : BusState) → HasChanged t w e old new → MayChange t e w old new
-has_may t e w old new has = record {
-  within = record {
-    config = has.config;
-    bytes = λ a out. kept_else (t (a / 4096)) _ _ _ (has.bytes a) out;
-    fixed = kept_fixed old.chip new.chip has.kept;
-    kept = λ shut. has.kept;
-    runs = λ loses works. absurd (works has.idle);
-  };
-  gentle = λ steady a plain. either_byte (t (a / 4096)) _ _ _ (has.bytes a);
-  worn = λ s spared. spared_worn _ _ _ (has.worn s) spared;
+pub has_may : {t e : ℕ → Bool} {w : ℕ → ℕ} {old new : BusState} → HasChanged t w e old new → MayChange t e w old new
+has_may {t} {w} {old} {new} has = record {
+  within =
+      let outside = λ (a : ℕ) (out : t (a / 4096) ≡ false).
+      has.bytes a ∙ ap (λ (b : Bool). if b then w a else old.chip.bytes a) out in
+      idle_within has.config outside has.kept has.idle;
+  gentle = λ steady a plain. either_byte (t (a / 4096)) (has.bytes a);
+  worn = λ s spared. has.worn s ∙ rw spared (or-false (old.worn s));
 }
 
-gentle_then : (x y z w : ℕ) → (y ≡ x) ⊎ (y ≡ w) → (z ≡ y) ⊎ (z ≡ w) → (z ≡ x) ⊎ (z ≡ w)
-gentle_then x y z w (inl same) (inl again) = inl (again ∙ same)
-gentle_then x y z w (inr done) (inl again) = inr (again ∙ done)
-gentle_then x y z w before (inr done) = inr done
+pub gentle_then : {x y z w : ℕ} → (y ≡ x) ⊎ (y ≡ w) → (z ≡ y) ⊎ (z ≡ w) → (z ≡ x) ⊎ (z ≡ w)
+gentle_then before after = grind arith
 
 -- one part after another
-pub change_then : (t r : ℕ → Bool) (w : ℕ → ℕ) (old mid new : BusState) → mid.steady ≡ old.steady
+pub change_then : {t r : ℕ → Bool} {w : ℕ → ℕ} {old mid new : BusState} → mid.steady ≡ old.steady
     → MayChange t r w old mid → MayChange t r w mid new → MayChange t r w old new
-change_then t r w old mid new steadily before after = record {
+change_then {t} {old} {mid} {new} steadily before after = record {
   within = within_then (places_of t) old.chip mid new before.within after.within;
-  gentle = λ steady a plain. gentle_then _ _ _ (w a) (before.gentle steady a plain) (after.gentle (steadily ∙ steady) a plain);
+  gentle = λ steady a plain. gentle_then (before.gentle steady a plain) (after.gentle (steadily ∙ steady) a plain);
   worn = λ s spared. after.worn s spared ∙ before.worn s spared;
 }
 
--- a part of the sectors may change where all of them may, to the same bytes
-pub change_wider : (t r t' r' : ℕ → Bool) (w : ℕ → ℕ) (old new : BusState)
-    → ((s : ℕ) → t s ≡ true → t' s ≡ true) → ((s : ℕ) → r s ≡ true → r' s ≡ true) → MayChange t r w old new → MayChange t' r' w old new
-change_wider t r t' r' w old new more more_raised change = record {
+-- a part of the sectors may change where all of them may, to bytes that are the same where they can be told
+pub change_as : {t r t' r' : ℕ → Bool} {w w' : ℕ → ℕ} {old new : BusState} → ((s : ℕ) → t s ≡ true → t' s ≡ true)
+    → ((s : ℕ) → r s ≡ true → r' s ≡ true) → ((a : ℕ) → r' (a / 4096) ≡ false → t (a / 4096) ≡ true → w a ≡ w' a)
+    → MayChange t r w old new → MayChange t' r' w' old new
+change_as {t} {t' = t'} {old} {new} more raised wanted change = record {
   within = within_wider (places_of t) (places_of t') old.chip new (λ a. more (a / 4096)) change.within;
-  gentle = λ steady a plain. change.gentle steady a (narrower (r (a / 4096)) (r' (a / 4096)) (more_raised (a / 4096)) plain);
-  worn = λ s spared. change.worn s (narrower (r s) (r' s) (more_raised s) spared);
+  gentle = λ steady a plain. elim (cases_Bool (t (a / 4096))) [
+    | inr out ↦ inl (change.within.bytes a out)
+    | inl is ↦ elim (change.gentle steady a (narrower (raised (a / 4096)) plain)) [
+      | inl same ↦ inl same
+      | inr made ↦ inr (made ∙ wanted a plain is)
+    ]
+  ];
+  worn = λ s spared. change.worn s (narrower (raised s) spared);
 }
 
--- where only raised sectors change, it doesn't matter what is wanted
-pub erases_change : (t r : ℕ → Bool) (w w' : ℕ → ℕ) (old new : BusState) → ((s : ℕ) → r s ≡ true → t s ≡ true) → MayChange r r w old new → MayChange t r w' old new
-erases_change t r w w' old new inside change = record {
-  within = within_wider (places_of r) (places_of t) old.chip new (λ a. inside (a / 4096)) change.within;
-  gentle = λ steady a plain. inl (change.within.bytes a plain);
-  worn = λ s spared. change.worn s spared;
+-- an operation that works on some places of the sectors
+pub operation_change : {t r : ℕ → Bool} {w : ℕ → ℕ} {old new : BusState} (places : ℕ → Bool) (v : ℕ → ℕ)
+    → new.chip.config ≡ old.chip.config → ChangesOnly old.steady places v old.chip.bytes new.chip.bytes
+    → ((a : ℕ) → places a ≡ true → t (a / 4096) ≡ true)
+    → ((a : ℕ) → r (a / 4096) ≡ false → places a ≡ true → (v a ≡ old.chip.bytes a) ⊎ (v a ≡ w a))
+    → KeptStay old.chip new.chip → (new.chip.busy ≢ 0 → WorksIn (places_of t) old.chip new.chip.running)
+    → ((s : ℕ) → r s ≡ false → new.worn s ≡ old.worn s) → MayChange t r w old new
+operation_change {old} {new} places v config bytes inside gentle kept runs worn = record {
+  within = record {
+    config = config;
+    bytes = λ a out. elim (bytes a) [ inl same ↦ same | inr work ↦ absurd (true≢false (sym (inside a work.0) ∙ out)) ];
+    fixed = kept_fixed old.chip new.chip kept;
+    kept = λ shut. kept;
+    runs = λ loses works. runs works;
+  };
+  gentle = λ steady a plain. elim (bytes a) [
+    | inl same ↦ inl same
+    | inr work ↦ elim (gentle a plain work.0) [
+      | inl same ↦ inl (work.1 steady ∙ same)
+      | inr made ↦ inr (work.1 steady ∙ made)
+    ]
+  ];
+  worn = worn;
 }
-
--- ---- status writes
 
 -- a status write of a chip whose status may be written
-pub status_change : (t r : ℕ → Bool) (w : ℕ → ℕ) (code : ℕ) (old new : BusState) → is_writable old.chip ≡ true → MayWriteStatus code old new → MayChange t r w old new
-status_change t r w code old new writable wrote = record {
+pub status_change : {t r : ℕ → Bool} {w : ℕ → ℕ} {code : ℕ} {old new : BusState} → is_writable old.chip ≡ true
+    → MayWriteStatus code old new → MayChange t r w old new
+status_change writable wrote = record {
   within = record {
     config = wrote.config;
     bytes = λ a out. wrote.bytes a;
     fixed = wrote.fixed;
     kept = λ shut. absurd (true≢false (sym writable ∙ shut));
-    runs = λ loses works.
-        let is = wrote.runs works in
-        record {
-          known = ap is_known_running is;
-          inside = λ a in_work. absurd (true≢false (sym in_work ∙ ap (λ (r : Running). is_in_work r a) is));
-          status = λ one two runs.
-              let same = sym is ∙ runs in
-              (writable, ap (λ (r : Running). old_one r / 32) (sym same), ap (λ (r : Running). old_two r % 64) (sym same));
-        };
+    runs = λ loses works. rw (wrote.runs works) (record {
+      known = refl;
+      inside = λ a in_work. absurd (true≢false (sym in_work));
+      status = λ one two runs. (writable, cc, cc);
+    });
   };
   gentle = λ steady a plain. inl (wrote.bytes a);
   worn = λ s spared. wrote.worn s;
+}
+
+-- ---- the end
+
+pub changed_none : {t e : ℕ → Bool} {w : ℕ → ℕ} (state : BusState) → ((s : ℕ) → t s ≡ false) → ((s : ℕ) → e s ≡ false)
+    → state.chip.busy ≡ 0 → HasChanged t w e state state
+changed_none {w} state none spared idle = record {
+  config = refl;
+  bytes = λ a. sym (ap (λ (b : Bool). if b then w a else state.chip.bytes a) (none (a / 4096)));
+  kept = (refl, refl);
+  worn = λ s. rw (spared s) (sym (or-false (state.worn s)));
+  idle = idle;
+  latch = λ set. set;
+}
+
+-- tests that agree
+pub changed_same : {t t' e e' : ℕ → Bool} {w : ℕ → ℕ} {old new : BusState} → ((s : ℕ) → t s ≡ t' s)
+    → ((s : ℕ) → e s ≡ e' s) → HasChanged t w e old new → HasChanged t' w e' old new
+changed_same {w} {old} same spared has =
+    let bytes = λ (a : ℕ). has.bytes a ∙ ap (λ (b : Bool). if b then w a else old.chip.bytes a) (same (a / 4096)) in
+    let worn = λ (s : ℕ). has.worn s ∙ ap (λ (b : Bool). old.worn s || b) (spared s) in
+    assumption
+
+-- one part after another, where the later one's bytes are the wanted ones
+both_bytes : (b c : Bool) {d : Bool} (x v w : ℕ) {y z : ℕ} → d ≡ (b || c) → y ≡ (if b then w else x)
+    → z ≡ (if c then v else y)
+    → (c ≡ true → v ≡ w) → z ≡ (if d then w else x)
+both_bytes b c x v w both before after wanted = grind arith
+
+pub changed_then : {p q t e f g : ℕ → Bool} {v w : ℕ → ℕ} {old mid new : BusState} → ((s : ℕ) → t s ≡ (p s || q s))
+    → ((s : ℕ) → g s ≡ (e s || f s)) → ((a : ℕ) → q (a / 4096) ≡ true → v a ≡ w a)
+    → HasChanged p w e old mid → HasChanged q v f mid new → HasChanged t w g old new
+changed_then {p} {q} {e} {f} {old} {mid} {new} both spared wanted before after = record {
+  config = after.config ∙ before.config;
+  bytes = λ a.
+      both_bytes (p (a / 4096)) (q (a / 4096)) _ _ _ (both (a / 4096)) (before.bytes a) (after.bytes a) (wanted a);
+  kept = kept_then old.chip mid.chip new.chip before.kept after.kept;
+  worn = λ s. after.worn s ∙ rw (before.worn s, spared s) (or_assoc (old.worn s) (e s) (f s));
+  idle = after.idle;
+  latch = λ set. before.latch (after.latch set);
 }

@@ -1,14 +1,11 @@
 pub mod Kept
 pub mod Changing
+pub mod InTurn
 pub mod Alone
-pub mod ErasingUnits
-pub mod ErasingSteps
 pub mod Aiming
 pub mod ErasingExits
-pub mod ProgrammingPages
 pub mod ProgrammingSpans
 pub mod ProgrammingExits
-pub mod ProgrammingSectors
 pub mod ProgrammingWhole
 pub mod CheckingSteps
 pub mod Naming

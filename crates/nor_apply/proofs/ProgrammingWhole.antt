@@ -1,142 +1,201 @@
--- The loop over all sectors: what holds after those below a number, and what follows at each exit.
-use Rattle.std.proofs.Common.{◌≡◌, ◌≢◌, ◌<◌, ◌≤◌, ◌+◌, ◌-◌, ◌*◌, ◌/◌, ◌⊎◌, inl, ◌∙◌, ℕ, Bool, true, false, List, slice_index, refl, ap, sym, subst, arith}
-use Rattle.std.specs.Prelude.{◌&&◌, nat_lt, bit_and, if◌then◌else◌}
-use Rattle.std.proofs.lemmas.Bool.{and_parts}
-use Rattle.std.proofs.lemmas.Bool.Decides.{nat_tests}
-use Rattle.std.proofs.Math.Bool.{and-false, or-false}
-use Rattle.nor_chip.specs.declared.config.Config.{Config}
-use Rattle.nor_chip.specs.Bus.{BusState, KeepsNature}
-use Rattle.nor_chip.proofs.Sizes.{sized_bounds}
-use Rattle.nor_chip.proofs.Nature.{nature_refl, nature_then}
-use Rattle.nor_driver.specs.declared.waits.Halt.{Halt}
-use Rattle.nor_driver.specs.Operations.{AimsWithin, most_operation}
-use Rattle.nor_driver.proofs.Aims.{aims_none, aims_more, aims_then}
-use Rattle.nor_driver.specs.Ready.{StaysReady}
+-- A sector that is read, unless it was erased, and programmed; and the loop over all sectors: what holds after those
+-- below a number, and what follows at each exit.
+use Rattle.std.proofs.Common.{◌≡◌, ◌<◌, ◌+◌, ◌-◌, ◌*◌, ◌/◌, ◌∙◌, ℕ, Bool, true, List, slice_index, refl, ap, sym, subst, arith, inl, inr, Ok, ◌≤◌, false}
+use Rattle.std.proofs.lemmas.Bool.{cases_Bool, and_parts, lt-ltb, le-ltb}
+use Rattle.nor_chip.specs.Chip.{IsSame}
+use Rattle.nor_chip.specs.Bus.{BusState}
+use Rattle.nor_driver.specs.Reads.{IsSectorOf}
+use Rattle.nor_driver.proofs.Aims.{aims_none}
 use Rattle.nor_apply.specs.declared.tally.Tally.{Tally}
+use Rattle.nor_plan.specs.Content.{is_other, is_page_other, is_programmed}
+use Rattle.nor_apply.specs.Change.{HasChanged, only, byte_of}
+use Rattle.nor_plan.specs.SectorSet.{none}
+use Rattle.nor_apply.specs.Programming.{CanProgramSpans, LeavesSpans, DoesSpans, CanProgramSector, Loads, LeavesSector, DoesSector, CanProgramAll, LeavesPrograms, DoesPrograms, most_sector}
+use Rattle.nor_apply.proofs.InTurn.{Ran, aims_after, ran_after, spends_after, ran_none, spends_ended, halts_after}
+use Rattle.nor_apply.proofs.Alone.{only-here, count_below-next, only-is}
+use Rattle.nor_apply.proofs.Changing.{can_after, same_change, change_then, changed_then, has_may, change_as, changed_none, changed_same}
+use Rattle.nor_count.proofs.Counting.{any_below-same, count_below-same, count_below-zero, count_below-with, count_below-without, count_below-add, count_below-none, count_below-most}
+use Rattle.nor_apply.proofs.ProgrammingSpans.{KeepsRest, rest_none, rest_changed, shown_byte}
+use Rattle.std.specs.Prelude.{◌&&◌, ◌||◌, nat_lt}
+use Rattle.std.proofs.lemmas.Bool.Decides.{nat_tests}
+use Rattle.std.proofs.Math.Bool.{and-false}
+use Rattle.nor_chip.proofs.Sizes.{sized_bounds}
+use Rattle.nor_driver.specs.declared.waits.Halt.{Halt}
+use Rattle.nor_driver.specs.Waits.{Halts}
 use Rattle.nor_count.specs.Below.{count_below}
 use Rattle.nor_count.specs.Counts.{sector_count}
-use Rattle.nor_plan.specs.Content.{is_page_other, is_programmed}
-use Rattle.nor_apply.specs.Within.{places_of}
-use Rattle.nor_apply.specs.Change.{MayChange, HasChanged, only, byte_of}
-use Rattle.nor_plan.specs.SectorSet.{none}
-use Rattle.nor_driver.specs.Waits.{Halts}
-use Rattle.nor_apply.specs.Programming.{CanProgramSector, LeavesSector, DoesSector, CanProgramAll, LeavesPrograms, DoesPrograms, most_sector}
-use Rattle.nor_apply.proofs.Kept.{kept_then}
-use Rattle.nor_apply.proofs.Alone.{only-is}
-use Rattle.nor_apply.proofs.Changing.{change_then, change_wider, within_wider, has_may}
-use Rattle.nor_count.proofs.Counting.{count_below-zero, count_below-with, count_below-without, count_below-add, count_below-same, count_below-none, count_below-most}
-use Rattle.nor_apply.proofs.ProgrammingSpans.{guarded_same, only_other}
-use Rattle.nor_apply.proofs.ProgrammingSectors.{pages_same}
+
+-- the pages that differ are the same where the bytes are
+pub page_same : (page : ℕ) {now before wanted wanted' : ℕ → ℕ} → ((a : ℕ) → a / 256 ≡ page → now a ≡ before a)
+    → ((a : ℕ) → a / 256 ≡ page → wanted a ≡ wanted' a)
+    → is_page_other now wanted page ≡ is_page_other before wanted' page
+unfolding is_page_other
+page_same page {now} {before} {wanted} {wanted'} same same_wanted =
+    let at : ℕ → ℕ = λ i. 256 * page + i in
+    any_below-same 256 (λ i. is_other (now (at i)) (wanted (at i))) (λ i. is_other (before (at i)) (wanted' (at i)))
+    (λ i below. rw (same (at i) (omega arith), same_wanted (at i) (omega arith)) refl)
+
+-- A sector's bytes are known, and the chip is as it was.
+record HasLoaded (sector : ℕ) (bytes : List ℕ) (first mid : BusState) : Type 0 where
+  pub rest : KeepsRest first mid
+  pub same : (a : ℕ) → mid.chip.bytes a ≡ first.chip.bytes a
+  pub shown : IsSectorOf mid.chip.bytes sector bytes
+
+module _ {sector : ℕ} {erased : Bool} {bytes bytes' : List ℕ} {reads : ℕ} {first mid : BusState}
+    (loads : Loads sector erased bytes bytes' (Ok reads) first mid) where
+  -- at most one transaction was sent
+  loads_ran : Ran (only sector) 0 1 first mid (record { count = 0; transactions = reads })
+  loads_ran =
+      let ends = loads.ends in
+      let heard = λ (ready : first.heard ≡ true). ends.heard ∙ ready in
+      record {
+        nature = loads.looks.nature;
+        aims = aims_none _ _ _ _ loads.looks.sent;
+        tallies = elim (cases_Bool erased) [
+          | inl is ↦
+              let left : mid.left ≡ first.left = ap (λ (m : BusState). m.left) (ends.kept is).1 in
+              let none : reads ≡ 0 = ends.reads_once ∙ rw is refl in
+              record { least = omega arith; few = omega arith; heard = heard; sent = λ honest. omega arith }
+          | inr is ↦
+              let one : reads ≡ 1 = ends.reads_once ∙ rw is refl in
+              let read = ends.read is in
+              let sent = λ (honest : first.honest ≡ true). (read honest).count in
+              record {
+                least = omega arith;
+                few = omega arith;
+                heard = heard;
+                sent = λ honest. omega (arith, sent honest);
+              }
+        ];
+      }
+
+  module _ {wanted : List ℕ} (blank : (i : ℕ) → i < 4096 → slice_index bytes i ≡ 255) (honest : first.honest ≡ true)
+      (can : CanProgramSector sector wanted erased first.chip) where
+    has_loaded : HasLoaded sector bytes' first mid
+    has_loaded =
+        let ends = loads.ends in
+        let inside = can.can.inside sector (only-here refl) in
+        elim (cases_Bool erased) [
+          | inl is ↦
+              let kept = ends.kept is in
+              let here : HasLoaded sector bytes' first first = record {
+                rest = rest_none first can.can.idle;
+                same = λ a. refl;
+                shown = record {
+                  byte = λ i small. rw kept.0
+                      (blank i small ∙ sym (can.blank is (4096 * sector + i) (omega arith)));
+                };
+              } in
+              subst (λ (m : BusState). HasLoaded sector bytes' first m) (sym kept.1) here
+          | inr is ↦
+              let read = ends.read is honest in
+              let same = read.rested.unchanged.same in
+              let of = ends.told is honest can.can.idle (omega arith) in
+              let idle : mid.chip.busy ≡ 0 = read.busy ∙ can.can.idle in
+              record {
+                rest = search;
+                same = same.bytes;
+                shown = record { byte = λ i small. of.byte i small ∙ sym (same.bytes (4096 * sector + i)) };
+              }
+        ]
+
+    can_spans : CanProgramSpans sector bytes' wanted mid.chip
+    can_spans =
+        let loaded = has_loaded in
+        record {
+          can = can_after mid.chip (λ s is. is) can.can loaded.rest.config loaded.rest.kept loaded.rest.idle;
+          shown = loaded.shown;
+          falls = λ i small.
+              let offset : 4096 * sector + i - 4096 * sector ≡ i = omega arith in
+              let fall = rw offset at (can.falls (4096 * sector + i) (only-here (omega arith))) in
+              rw (loaded.shown.byte i small, loaded.same (4096 * sector + i)) fall;
+        }
+
+  module _ {wanted : List ℕ} {new : BusState} (blank : (i : ℕ) → i < 4096 → slice_index bytes i ≡ 255)
+      (leaves : LeavesSpans sector bytes' wanted mid new) where
+    pub sector_leaves : LeavesSector sector wanted erased first new
+    sector_leaves = record {
+      spends = spends_after loads_ran leaves.spends (omega (arith, loads_ran.tallies.few));
+      aims = aims_after (λ s is. is) loads_ran leaves.aims (omega arith);
+      reached = λ honest can.
+          let loaded = has_loaded blank honest can in
+          let same : IsSame first.chip mid.chip = search in
+          change_then loads.looks.nature.steady (same_change same loaded.rest.idle loaded.rest.worn)
+          (leaves.reached (loads.looks.nature.honest ∙ honest) (can_spans blank honest can));
+    }
+
+    pub sector_does : {tally all : Tally} → DoesSpans sector bytes' wanted mid new tally → all.count ≡ tally.count
+        → all.transactions ≡ tally.transactions + reads → DoesSector sector wanted erased first new all
+    sector_does {tally} {all} does count transactions =
+        let spans : Ran (only sector) 0 0 mid new tally =
+        record { nature = leaves.spends.nature; aims = leaves.aims; tallies = does.tallies } in
+        let ran : Ran (only sector) 0 1 first new all =
+        ran_after (λ s is. is) loads_ran spans (omega arith) (omega arith) (omega arith) (omega arith) in
+        record {
+          fewer = omega (arith, does.fewer);
+          tallies = ran.tallies;
+          done = λ honest can.
+              let loaded = has_loaded blank honest can in
+              let before : HasChanged none (byte_of sector wanted) none first mid =
+              rest_changed loaded.rest loaded.same in
+              changed_then (λ s. refl) (λ s. refl) (λ a is. refl) before
+              (does.done (loads.looks.nature.honest ∙ honest) (can_spans blank honest can));
+          counted = λ honest can.
+              let loaded = has_loaded blank honest can in
+              count ∙ does.counted (loads.looks.nature.honest ∙ honest) (can_spans blank honest can)
+              ∙ count_below-same 16 (λ page. is_page_other mid.chip.bytes (byte_of sector wanted) (16 * sector + page))
+              (λ page. is_page_other first.chip.bytes (byte_of sector wanted) (16 * sector + page))
+              (λ page small. page_same (16 * sector + page) (λ a in_page. loaded.same a) (λ a in_page. refl));
+        }
 
 -- the touched sectors below a number
 abbrev pub before : (ℕ → Bool) → ℕ → ℕ → Bool
 before touched n s = touched s && nat_lt s n
 
-lt_true : (s n : ℕ) → s < n → nat_lt s n ≡ true
-lt_true s n less = grind (arith, nat_tests)
+lt_next : (s n : ℕ) → nat_lt s (n + 1) ≡ (nat_lt s n || only n s)
+lt_next s n = grind (arith, nat_tests)
 
-lt_false : (s n : ℕ) → n ≤ s → nat_lt s n ≡ false
-lt_false s n past = grind (arith, nat_tests)
+before_more : (touched : ℕ → Bool) (n : ℕ) → touched n ≡ true → (s : ℕ)
+    → before touched (n + 1) s ≡ (before touched n s || only n s)
+before_more touched n is s = grind (arith, nat_tests)
 
-lt_next : (s n : ℕ) → s ≢ n → nat_lt s (n + 1) ≡ nat_lt s n
-lt_next s n other = grind (arith, nat_tests)
-
--- a sector isn't before itself, and the others are as before
-before_self : (touched : ℕ → Bool) (n s : ℕ) → n ≤ s → before touched n s ≡ false
-before_self touched n s past = ap (λ (b : Bool). touched s && b) (lt_false s n past) ∙ and-false (touched s)
-
-before_here : (touched : ℕ → Bool) (n : ℕ) → touched n ≡ true → before touched (n + 1) n ≡ true
-before_here touched n is = ap (λ (b : Bool). b && nat_lt n (n + 1)) is ∙ lt_true n (n + 1) (omega arith)
-
-before_other : (touched : ℕ → Bool) (n s : ℕ) → s ≢ n → before touched (n + 1) s ≡ before touched n s
-before_other touched n s other = ap (λ (b : Bool). touched s && b) (lt_next s n other)
-
-before_skip : (touched : ℕ → Bool) (n s : ℕ) → touched n ≡ false → before touched (n + 1) s ≡ before touched n s
-before_skip touched n s free =
-    elim (only n s) as (λ b. only n s ≡ b → before touched (n + 1) s ≡ before touched n s) [
-      | true ↦ λ is.
-          let here : touched s ≡ false = ap touched (only-is n s is) ∙ free in
-          ap (λ (b : Bool). b && nat_lt s (n + 1)) here ∙ sym (ap (λ (b : Bool). b && nat_lt s n) here)
-      | false ↦ λ out. before_other touched n s (only_other n s out)
-    ] refl
+before_skip : (touched : ℕ → Bool) (n : ℕ) → touched n ≡ false → (s : ℕ) → before touched (n + 1) s ≡ before touched n s
+before_skip touched n free s = grind (arith, nat_tests)
 
 -- The touched sectors below a number were programmed, and nothing else was sent.
-pub record SectorsSoFar (touched raised : ℕ → Bool) (wanted : ℕ → ℕ) (n : ℕ) (first now : BusState) (tally : Tally) : Type 0 where
-  pub nature : KeepsNature first now
-  pub aims : AimsWithin touched 0 first now
+pub record SectorsSoFar (touched raised : ℕ → Bool) (wanted : ℕ → ℕ) (n : ℕ) (first now : BusState)
+    (tally : Tally) : Type 0 where
+  pub ran : Ran touched 0 (count_below n touched) first now tally
   pub fewer : tally.count ≤ 16 * count_below n touched
   pub still : count_below n touched ≡ 0 → now.sent ≡ first.sent
-  pub least : 3 * tally.count ≤ tally.transactions
-  pub few : tally.transactions ≤ count_below n touched + most_operation * tally.count
-  pub heard : StaysReady first now
-  pub sent : first.honest ≡ true → first.left ≡ now.left + tally.transactions
-  pub done : first.honest ≡ true → CanProgramAll touched raised wanted first.chip → HasChanged (before touched n) wanted none first now
+  pub done : first.honest ≡ true → CanProgramAll touched raised wanted first.chip
+      → HasChanged (before touched n) wanted none first now
   pub counted : first.honest ≡ true → CanProgramAll touched raised wanted first.chip
       → tally.count ≡ count_below (16 * n) (is_programmed touched first.chip.bytes wanted)
 
-pub sectors_none : (touched raised : ℕ → Bool) (wanted : ℕ → ℕ) (state : BusState) → SectorsSoFar touched raised wanted 0 state state (record { count = 0; transactions = 0 })
-sectors_none touched raised wanted state = record {
-  nature = nature_refl state;
-  aims = aims_none touched 0 state state refl;
+pub sectors_none : {touched raised : ℕ → Bool} {wanted : ℕ → ℕ} (state : BusState)
+    → SectorsSoFar touched raised wanted 0 state state (record { count = 0; transactions = 0 })
+sectors_none {touched} {wanted} state = record {
+  ran = ran_none state;
   fewer = omega arith;
   still = λ none. refl;
-  least = omega arith;
-  few = omega arith;
-  heard = λ ready. ready;
-  sent = λ honest. omega arith;
-  done = λ honest can. record {
-    config = refl;
-    bytes = λ a. sym (ap (λ (b : Bool). if b then wanted a else state.chip.bytes a) (before_self touched 0 (a / 4096) (omega arith)));
-    kept = (refl, refl);
-    worn = λ s. sym (or-false (state.worn s));
-    idle = can.can.idle;
-    latch = λ set. set;
-  };
+  done = λ honest can. changed_none {t = before touched 0} state
+      (λ s. rw (le-ltb s 0 (omega arith)) (and-false (touched s))) (λ s. refl) can.can.idle;
   counted = λ honest can. sym (count_below-zero (is_programmed touched state.chip.bytes wanted));
 }
 
-page_of : (n page : ℕ) → page < 16 → (16 * n + page) / 16 ≡ n
-page_of n page small = omega arith
-
--- the pages of one sector more
-pages_more : (n : ℕ) (test : ℕ → Bool) → count_below (16 * (n + 1)) test ≡ count_below (16 * n) test + count_below 16 (λ page. test (16 * n + page))
-pages_more n test = ap (λ (m : ℕ). count_below m test) (let e : 16 * (n + 1) ≡ 16 * n + 16 = omega arith in e) ∙ count_below-add (16 * n) 16 test
-
--- a sector that isn't touched
-pub sectors_skip : (touched raised : ℕ → Bool) (wanted : ℕ → ℕ) (n : ℕ) (first now : BusState) (tally : Tally) → touched n ≡ false
-    → SectorsSoFar touched raised wanted n first now tally → SectorsSoFar touched raised wanted (n + 1) first now tally
-sectors_skip touched raised wanted n first now tally free so_far =
-    let count = count_below-without n touched free in let fewer = so_far.fewer in let few = so_far.few in
-    record {
-      nature = so_far.nature;
-      aims = so_far.aims;
-      fewer = omega arith;
-      still = λ none. so_far.still (omega arith);
-      least = so_far.least;
-      few = omega arith;
-      heard = so_far.heard;
-      sent = so_far.sent;
-      done = λ honest can.
-          let done = so_far.done honest can in
-          record {
-            config = done.config;
-            bytes = λ a. done.bytes a ∙ ap (λ (b : Bool). if b then wanted a else first.chip.bytes a) (sym (before_skip touched n (a / 4096) free));
-            kept = done.kept;
-            worn = done.worn;
-            idle = done.idle;
-            latch = done.latch;
-          };
-      counted = λ honest can.
-          let test = is_programmed touched first.chip.bytes wanted in
-          let none_here : count_below 16 (λ page. is_programmed touched first.chip.bytes wanted (16 * n + page)) ≡ 0 =
-          count_below-none 16 (λ page. is_programmed touched first.chip.bytes wanted (16 * n + page)) (λ page small.
-          ap (λ (s : ℕ). touched s && is_page_other first.chip.bytes wanted (16 * n + page)) (page_of n page small)
-          ∙ ap (λ (b : Bool). b && is_page_other first.chip.bytes wanted (16 * n + page)) free) in
-          let more = pages_more n (is_programmed touched first.chip.bytes wanted) in
-          let counted = so_far.counted honest can in
-          counted ∙ (let e : count_below (16 * n) (is_programmed touched first.chip.bytes wanted) ≡ count_below (16 * n) (is_programmed touched first.chip.bytes wanted) + 0 = omega arith in e)
-          ∙ ap (λ (m : ℕ). count_below (16 * n) (is_programmed touched first.chip.bytes wanted) + m) (sym none_here) ∙ sym more;
-    }
+-- the pages of one sector more, which is touched or isn't
+pages_more : (touched : ℕ → Bool) (content wanted : ℕ → ℕ) (n : ℕ) (is : Bool) → touched n ≡ is
+    → count_below (16 * (n + 1)) (is_programmed touched content wanted)
+    ≡ count_below (16 * n) (is_programmed touched content wanted)
+    + count_below 16 (λ page. is && is_page_other content wanted (16 * n + page))
+pages_more touched content wanted n is same =
+    let test = is_programmed touched content wanted in
+    let length : 16 * (n + 1) ≡ 16 * n + 16 = omega arith in
+    ap (λ (m : ℕ). count_below m test) length ∙ count_below-add (16 * n) 16 test
+    ∙ ap (λ (m : ℕ). count_below (16 * n) test + m) (count_below-same 16 (λ page. test (16 * n + page))
+    (λ page. is && is_page_other content wanted (16 * n + page))
+    (λ page small. let sector : (16 * n + page) / 16 ≡ n = omega arith in rw (sector, same) refl))
 
 -- ---- a touched sector, whose wanted bytes are these
 
@@ -145,211 +204,126 @@ pub record IsTouched (touched : ℕ → Bool) (wanted : ℕ → ℕ) (n : ℕ) (
   pub below : n < 4096
   pub shows : (i : ℕ) → i < 4096 → slice_index bytes i ≡ wanted (4096 * n + i)
 
-wanted_byte : (touched : ℕ → Bool) (wanted : ℕ → ℕ) (n : ℕ) (bytes : List ℕ) (a : ℕ) → IsTouched touched wanted n bytes → a / 4096 ≡ n → byte_of n bytes a ≡ wanted a
-wanted_byte touched wanted n bytes a is here =
-    is.shows (a - 4096 * n) (omega arith) ∙ ap wanted (let e : 4096 * n + (a - 4096 * n) ≡ a = omega arith in e)
-
--- its bytes are still the old ones
-still_old : (touched raised : ℕ → Bool) (wanted : ℕ → ℕ) (n a : ℕ) (first now : BusState) → HasChanged (before touched n) wanted none first now → a / 4096 ≡ n
-    → now.chip.bytes a ≡ first.chip.bytes a
-still_old touched raised wanted n a first now done here =
-    done.bytes a ∙ ap (λ (b : Bool). if b then wanted a else first.chip.bytes a) (before_self touched n (a / 4096) (omega arith))
-
-pub can_sector : (touched raised : ℕ → Bool) (wanted : ℕ → ℕ) (n : ℕ) (bytes : List ℕ) (first now : BusState) → IsTouched touched wanted n bytes
-    → CanProgramAll touched raised wanted first.chip → HasChanged (before touched n) wanted none first now → CanProgramSector n bytes (raised n) now.chip
-can_sector touched raised wanted n bytes first now is can done =
-    let touched_at : (s : ℕ) → s ≡ n → touched s ≡ true = λ s same. ap touched same ∙ is.is in
-    record {
-      can = record {
-        idle = done.idle;
-        inside = λ s here.
-            let inside = can.can.inside s (touched_at s (only-is n s here)) in
-            let size : now.chip.config.size ≡ first.chip.config.size = ap (λ (c : Config). c.size) done.config in
-            omega arith;
-        free = λ a here. guarded_same first.chip now.chip a done.config done.kept ∙ can.can.free a (touched_at (a / 4096) (only-is n (a / 4096) here));
-      };
-      blank = λ was a here.
-          still_old touched raised wanted n a first now done here
-          ∙ can.blank a (touched_at (a / 4096) here) (ap raised here ∙ was);
-      falls = λ a here.
-          let in_sector = only-is n (a / 4096) here in
-          let byte = wanted_byte touched wanted n bytes a is in_sector in
-          ap (λ (b : ℕ). bit_and b (now.chip.bytes a)) byte
-          ∙ ap (λ (b : ℕ). bit_and (wanted a) b) (still_old touched raised wanted n a first now done in_sector)
-          ∙ can.falls a (touched_at (a / 4096) in_sector) ∙ sym byte;
-    }
-
-join_byte : (touched : ℕ → Bool) (wanted : ℕ → ℕ) (n a : ℕ) (bytes : List ℕ) (new now old : ℕ) → IsTouched touched wanted n bytes
-    → new ≡ (if only n (a / 4096) then byte_of n bytes a else now) → now ≡ (if before touched n (a / 4096) then wanted a else old)
-    → new ≡ (if before touched (n + 1) (a / 4096) then wanted a else old)
-join_byte touched wanted n a bytes new now old is made was =
-    elim (only n (a / 4096)) as (λ b. only n (a / 4096) ≡ b → new ≡ (if before touched (n + 1) (a / 4096) then wanted a else old)) [
-      | true ↦ λ here.
-          let in_sector = only-is n (a / 4096) here in
-          made ∙ ap (λ (b : Bool). if b then byte_of n bytes a else now) here ∙ wanted_byte touched wanted n bytes a is in_sector
-          ∙ sym (ap (λ (b : Bool). if b then wanted a else old) (ap (before touched (n + 1)) in_sector ∙ before_here touched n is.is))
-      | false ↦ λ out.
-          made ∙ ap (λ (b : Bool). if b then byte_of n bytes a else now) out ∙ was
-          ∙ sym (ap (λ (b : Bool). if b then wanted a else old) (before_other touched n (a / 4096) (only_other n (a / 4096) out)))
-    ] refl
-
-sector_joins : (touched : ℕ → Bool) (wanted : ℕ → ℕ) (n : ℕ) (bytes : List ℕ) (first now new : BusState) → IsTouched touched wanted n bytes
-    → HasChanged (before touched n) wanted none first now → HasChanged (only n) (byte_of n bytes) none now new → HasChanged (before touched (n + 1)) wanted none first new
-sector_joins touched wanted n bytes first now new is earlier later = record {
-  config = later.config ∙ earlier.config;
-  bytes = λ a. join_byte touched wanted n a bytes _ _ _ is (later.bytes a) (earlier.bytes a);
-  kept = kept_then first.chip now.chip new.chip earlier.kept later.kept;
-  worn = λ s. later.worn s ∙ or-false (now.worn s) ∙ earlier.worn s;
-  idle = later.idle;
-  latch = λ set. earlier.latch (later.latch set);
-}
-
--- one more of the touched ones aims at no other
-sector_aims : (touched : ℕ → Bool) (wanted : ℕ → ℕ) (n : ℕ) (bytes : List ℕ) (first now new : BusState) → IsTouched touched wanted n bytes
-    → AimsWithin touched 0 first now → AimsWithin (only n) 0 now new → AimsWithin touched 0 first new
-sector_aims touched wanted n bytes first now new is before after =
-    aims_then touched 0 0 0 first now new (omega arith) before (aims_more (only n) touched 0 0 now new (λ s here. ap touched (only-is n s here) ∙ is.is) (omega arith) after)
-
-pub sectors_more : (touched raised : ℕ → Bool) (wanted : ℕ → ℕ) (n : ℕ) (bytes : List ℕ) (erased : Bool) (first now new : BusState) (tally more : Tally) → erased ≡ raised n
-    → IsTouched touched wanted n bytes → SectorsSoFar touched raised wanted n first now tally
-    → LeavesSector n bytes erased now new → DoesSector n bytes erased now new more
-    → SectorsSoFar touched raised wanted (n + 1) first new (record { count = tally.count + more.count; transactions = tally.transactions + more.transactions })
-sectors_more touched raised wanted n bytes erased first now new tally more erased_is is so_far leaves does =
-    let count = count_below-with n touched is.is in let fewer = so_far.fewer in let few = so_far.few in
-    let can_now : CanProgramAll touched raised wanted first.chip → HasChanged (before touched n) wanted none first now → CanProgramSector n bytes erased now.chip =
-    λ can done. subst (λ (b : Bool). CanProgramSector n bytes b now.chip) (sym erased_is) (can_sector touched raised wanted n bytes first now is can done) in
-    record {
-      nature = nature_then first now new leaves.spends.nature so_far.nature;
-      aims = sector_aims touched wanted n bytes first now new is so_far.aims leaves.aims;
-      fewer = let fewer' = does.fewer in omega arith;
-      still = λ none. absurd (omega arith);
-      least = let least = so_far.least in let least' = does.tallies.least in omega arith;
-      few = let few' = does.tallies.few in omega arith;
-      heard = λ ready. does.tallies.heard (so_far.heard ready);
-      sent = λ honest.
-          let a = so_far.sent honest in let b = does.tallies.sent (so_far.nature.honest ∙ honest) in omega arith;
-      done = λ honest can.
-          let done = so_far.done honest can in
-          sector_joins touched wanted n bytes first now new is done (does.done (so_far.nature.honest ∙ honest) (can_now can done));
-      counted = λ honest can.
-          let done = so_far.done honest can in
-          let here : count_below 16 (λ page. is_page_other now.chip.bytes (byte_of n bytes) (16 * n + page)) ≡ count_below 16 (λ page. is_programmed touched first.chip.bytes wanted (16 * n + page)) =
-          count_below-same 16 (λ page. is_page_other now.chip.bytes (byte_of n bytes) (16 * n + page)) (λ page. is_programmed touched first.chip.bytes wanted (16 * n + page)) (λ page small.
-          pages_same now.chip.bytes first.chip.bytes (byte_of n bytes) wanted n (λ a in_sector. still_old touched raised wanted n a first now done in_sector) (λ a in_sector. wanted_byte touched wanted n bytes a is in_sector) page small
-          ∙ sym (ap (λ (s : ℕ). touched s && is_page_other first.chip.bytes wanted (16 * n + page)) (page_of n page small)
-          ∙ ap (λ (b : Bool). b && is_page_other first.chip.bytes wanted (16 * n + page)) is.is)) in
-          ap (λ (m : ℕ). m + more.count) (so_far.counted honest can)
-          ∙ ap (λ (m : ℕ). count_below (16 * n) (is_programmed touched first.chip.bytes wanted) + m) (does.counted (so_far.nature.honest ∙ honest) (can_now can done) ∙ here)
-          ∙ sym (pages_more n (is_programmed touched first.chip.bytes wanted));
-    }
-
--- ---- exits
-
-count_within : (n k : ℕ) (test : ℕ → Bool) → count_below n test ≤ count_below (n + k) test
-count_within n k test = let add = count_below-add n k test in omega (arith, add)
-
 -- a sector that is touched and comes next counts among all
 pub room : (touched : ℕ → Bool) (n : ℕ) → n < 4096 → touched n ≡ true → count_below n touched + 1 ≤ sector_count touched
-room touched n below is =
-    let one = count_below-with n touched is in
-    let within : count_below (n + 1) touched ≤ count_below (n + 1 + (4095 - n)) touched = count_within (n + 1) (4095 - n) touched in
-    let all : count_below (n + 1 + (4095 - n)) touched ≡ count_below 4096 touched = ap (λ (m : ℕ). count_below m touched) (let e : n + 1 + (4095 - n) ≡ 4096 = omega arith in e) in
-    omega (arith, one, within, all)
+room touched n below is = count_below-next 4096 n touched below is
 
-pub few_sectors : (touched raised : ℕ → Bool) (wanted : ℕ → ℕ) (n : ℕ) (first now : BusState) (tally : Tally) → n < 4096 → SectorsSoFar touched raised wanted n first now tally
-    → (tally.count ≤ 65520) × (tally.transactions ≤ 4294053855)
-few_sectors touched raised wanted n first now tally below so_far =
-    let most = count_below-most n touched in let fewer = so_far.fewer in let few = so_far.few in
-    (omega arith, omega arith)
+module _ {touched raised : ℕ → Bool} {wanted : ℕ → ℕ} {n : ℕ} {first now : BusState} {tally : Tally}
+    (so : SectorsSoFar touched raised wanted n first now tally) where
+  pub few_sectors : n < 4096 → (tally.count ≤ 65520) × (tally.transactions ≤ 4294053855)
+  few_sectors below = omega (arith, count_below-most n touched)
 
--- a part of the sectors may change, to what is wanted of them
-sector_may : (touched : ℕ → Bool) (wanted : ℕ → ℕ) (n : ℕ) (bytes : List ℕ) (now new : BusState) → IsTouched touched wanted n bytes
-    → MayChange (only n) none (byte_of n bytes) now new → MayChange touched none wanted now new
-sector_may touched wanted n bytes now new is may = record {
-  within = within_wider (places_of (only n)) (places_of touched) now.chip new (λ a here. ap touched (only-is n (a / 4096) here) ∙ is.is) may.within;
-  gentle = λ steady a plain.
-      elim (only n (a / 4096)) as (λ b. only n (a / 4096) ≡ b → (new.chip.bytes a ≡ now.chip.bytes a) ⊎ (new.chip.bytes a ≡ wanted a)) [
-        | true ↦ λ here. subst (λ (b : ℕ). (new.chip.bytes a ≡ now.chip.bytes a) ⊎ (new.chip.bytes a ≡ b)) (wanted_byte touched wanted n bytes a is (only-is n (a / 4096) here)) (may.gentle steady a plain)
-        | false ↦ λ out. inl (may.within.bytes a out)
-      ] refl;
-  worn = λ s spared. may.worn s spared;
-}
+  -- one that isn't touched is passed over
+  pub sectors_skip : touched n ≡ false → SectorsSoFar touched raised wanted (n + 1) first now tally
+  sectors_skip free =
+      let count = count_below-without n touched free in
+      record {
+        ran = rw count so.ran;
+        fewer = rw count so.fewer;
+        still = rw count so.still;
+        done = λ honest can. changed_same (λ s. sym (before_skip touched n free s)) (λ s. refl) (so.done honest can);
+        counted = λ honest can.
+            let none = count_below-none 16 (λ page. false) (λ page small. refl) in
+            omega (arith, so.counted honest can, pages_more touched first.chip.bytes wanted n false free, none);
+      }
 
-pub leaves_halted : (touched raised : ℕ → Bool) (wanted : ℕ → ℕ) (n : ℕ) (bytes : List ℕ) (erased : Bool) (first now new : BusState) (tally : Tally) → erased ≡ raised n
-    → IsTouched touched wanted n bytes → SectorsSoFar touched raised wanted n first now tally
-    → LeavesSector n bytes erased now new → LeavesPrograms touched raised wanted first new
-leaves_halted touched raised wanted n bytes erased first now new tally erased_is is so_far leaves =
-    let fewer = so_far.fewer in let few = so_far.few in let more = room touched n is.below is.is in
-    record {
-      spends = record {
-        nature = nature_then first now new leaves.spends.nature so_far.nature;
-        falls = λ honest.
-            let sent = so_far.sent honest in let falls = leaves.spends.falls (so_far.nature.honest ∙ honest) in
-            let fell = falls.fell in let bound = falls.bound in
-            record { fell = omega arith; bound = omega arith };
-      };
-      aims = sector_aims touched wanted n bytes first now new is so_far.aims leaves.aims;
-      reached = λ honest can.
-          let done = so_far.done honest can in
-          let can_now = subst (λ (b : Bool). CanProgramSector n bytes b now.chip) (sym erased_is) (can_sector touched raised wanted n bytes first now is can done) in
-          change_then touched none wanted first now new so_far.nature.steady
-          (change_wider (before touched n) none touched none wanted first now (λ s here. (and_parts (touched s) (nat_lt s n) here).0) (λ s no_sector. no_sector)
-          (has_may (before touched n) none wanted first now done))
-          (sector_may touched wanted n bytes now new is (leaves.reached (so_far.nature.honest ∙ honest) can_now));
-    }
+  module _ {bytes : List ℕ} (is : IsTouched touched wanted n bytes) where
+    only_touched : (s : ℕ) → only n s ≡ true → touched s ≡ true
+    only_touched s here = ap touched (only-is here) ∙ is.is
 
-pub halts_below : (touched raised : ℕ → Bool) (wanted : ℕ → ℕ) (n : ℕ) (bytes : List ℕ) (first now new : BusState) (tally : Tally) (halt : Halt)
-    → IsTouched touched wanted n bytes → SectorsSoFar touched raised wanted n first now tally
-    → Halts most_sector now new halt → Halts (most_sector * sector_count touched) first new halt
-halts_below touched raised wanted n bytes first now new tally halt is so_far halts =
-    let fewer = so_far.fewer in let few = so_far.few in let more = room touched n is.below is.is in
-    record {
-      stopped = λ honest. halts.stopped (so_far.nature.honest ∙ honest);
-      ran_out = λ honest.
-          let ran = halts.ran_out (so_far.nature.honest ∙ honest) in let sent = so_far.sent honest in
-          let below = ran.below in
-          record { none_left = ran.none_left; below = omega arith };
-    }
+    wanted_byte : (a : ℕ) → only n (a / 4096) ≡ true → byte_of n bytes a ≡ wanted a
+    wanted_byte a here = shown_byte n a bytes wanted (only-is here) is.shows
 
--- at the end all touched sectors are below the number
-all_touched : (touched : ℕ → Bool) (size s : ℕ) → size ≤ 16777216 → ((s : ℕ) → touched s ≡ true → 4096 * s + 4096 ≤ size) → before touched 4096 s ≡ touched s
-all_touched touched size s most inside =
-    elim (touched s) as (λ b. touched s ≡ b → (b && nat_lt s 4096) ≡ b) [
-      | true ↦ λ is. lt_true s 4096 (let room = inside s is in omega arith)
-      | false ↦ λ free. refl
-    ] refl
+    pub halts_below : {new : BusState} {halt : Halt} → Halts most_sector now new halt
+        → Halts (most_sector * sector_count touched) first new halt
+    halts_below halts = halts_after so.ran halts (omega (arith, so.fewer, room touched n is.below is.is))
 
-pub does_ended : (touched raised : ℕ → Bool) (wanted : ℕ → ℕ) (n : ℕ) (first now : BusState) (tally : Tally) → n ≡ 4096
-    → SectorsSoFar touched raised wanted n first now tally → DoesPrograms touched raised wanted first now tally
-does_ended touched raised wanted n first now tally end so_far' =
-    let so_far : SectorsSoFar touched raised wanted 4096 first now tally = subst (λ (m : ℕ). SectorsSoFar touched raised wanted m first now tally) end so_far' in
-    record {
-      fewer = so_far.fewer;
-      still = so_far.still;
-      tallies = record { least = so_far.least; few = so_far.few; heard = so_far.heard; sent = so_far.sent };
-      done = λ honest can.
-          let done = so_far.done honest can in
+    module _ {erased : Bool} {new : BusState} (erased_is : erased ≡ raised n)
+        (leaves : LeavesSector n bytes erased now new) where
+      -- its bytes are still the old ones
+      module _ (honest : first.honest ≡ true) (can : CanProgramAll touched raised wanted first.chip) where
+        still_old : (a : ℕ) → only n (a / 4096) ≡ true → now.chip.bytes a ≡ first.chip.bytes a
+        still_old a here =
+            let past : nat_lt (a / 4096) n ≡ false = le-ltb (a / 4096) n (omega (arith, only-is here)) in
+            (so.done honest can).bytes a ∙ rw (past, and-false) refl
+
+        can_sector : CanProgramSector n bytes erased now.chip
+        can_sector =
+            let done = so.done honest can in record {
+              can = can_after now.chip only_touched can.can done.config done.kept done.idle;
+              blank = λ was a here.
+                  let at = only-here here in
+                  still_old a at ∙ can.blank a (only_touched (a / 4096) at) (ap raised here ∙ sym erased_is ∙ was);
+              falls = λ a here. rw (wanted_byte a here, still_old a here) (can.falls a (only_touched (a / 4096) here));
+            }
+
+      pub leaves_halted : LeavesPrograms touched raised wanted first new
+      leaves_halted = record {
+        spends = spends_after so.ran leaves.spends (omega (arith, so.fewer, room touched n is.below is.is));
+        aims = aims_after only_touched so.ran leaves.aims (omega arith);
+        reached = λ honest can.
+            let may = leaves.reached (so.ran.nature.honest ∙ honest) (can_sector honest can) in
+            change_then so.ran.nature.steady
+            (change_as (λ s here. (and_parts _ _ here).0) (λ s no. no) (λ a plain here. refl)
+            (has_may (so.done honest can)))
+            (change_as only_touched (λ s no. no) (λ a plain here. wanted_byte a here) may);
+      }
+
+      pub sectors_more : {more all : Tally} → DoesSector n bytes erased now new more
+          → all.count ≡ tally.count + more.count
+          → all.transactions ≡ tally.transactions + more.transactions
+          → SectorsSoFar touched raised wanted (n + 1) first new all
+      sectors_more {more} does count transactions =
+          let one = count_below-with n touched is.is in
+          let sector : Ran (only n) 0 1 now new more =
+          record { nature = leaves.spends.nature; aims = leaves.aims; tallies = does.tallies } in
           record {
-            config = done.config;
-            bytes = λ a. done.bytes a ∙ ap (λ (b : Bool). if b then wanted a else first.chip.bytes a) (all_touched touched first.chip.config.size (a / 4096) (sized_bounds first.chip.config).small can.can.inside);
-            kept = done.kept;
-            worn = done.worn;
-            idle = done.idle;
-            latch = done.latch;
-          };
-      counted = λ honest can. so_far.counted honest can ∙ ap (λ (m : ℕ). count_below m (is_programmed touched first.chip.bytes wanted)) (let e : 16 * 4096 ≡ 65536 = omega arith in e);
-    }
+            ran = ran_after only_touched so.ran sector (omega arith) (omega arith) count transactions;
+            fewer = omega (arith, so.fewer, does.fewer);
+            still = λ none. absurd (omega arith);
+            done = λ honest can.
+                changed_then (before_more touched n is.is) (λ s. refl) (λ a here. wanted_byte a here)
+                (so.done honest can)
+                (does.done (so.ran.nature.honest ∙ honest) (can_sector honest can));
+            counted = λ honest can.
+                let here = count_below-same 16 (λ page. is_page_other now.chip.bytes (byte_of n bytes) (16 * n + page))
+                (λ page. is_page_other first.chip.bytes wanted (16 * n + page))
+                (λ page small. page_same (16 * n + page) (λ a in_page. still_old honest can a (only-here (omega arith)))
+                (λ a in_page. wanted_byte a (only-here (omega arith)))) in
+                omega (
+                  arith,
+                  count,
+                  so.counted honest can,
+                  pages_more touched first.chip.bytes wanted n true is.is,
+                  here,
+                  does.counted (so.ran.nature.honest ∙ honest) (can_sector honest can),
+                );
+          }
 
-pub leaves_ended : (touched raised : ℕ → Bool) (wanted : ℕ → ℕ) (n : ℕ) (first now : BusState) (tally : Tally) → n ≡ 4096
-    → SectorsSoFar touched raised wanted n first now tally → LeavesPrograms touched raised wanted first now
-leaves_ended touched raised wanted n first now tally end so_far =
-    let does = does_ended touched raised wanted n first now tally end so_far in
-    let fewer = does.fewer in let few = does.tallies.few in
-    record {
-      spends = record {
-        nature = so_far.nature;
-        falls = λ honest. let sent = so_far.sent honest in record { fell = omega arith; bound = omega arith };
-      };
-      aims = so_far.aims;
-      reached = λ honest can. has_may touched none wanted first now (does.done honest can);
-    }
+-- ---- the end
+
+module _ {touched raised : ℕ → Bool} {wanted : ℕ → ℕ} {n : ℕ} {first now : BusState} {tally : Tally} (end : n ≡ 4096)
+    (so_far : SectorsSoFar touched raised wanted n first now tally) where
+  pub does_ended : DoesPrograms touched raised wanted first now tally
+  does_ended =
+      let so = rw end at so_far in
+      record {
+        fewer = so.fewer;
+        still = so.still;
+        tallies = so.ran.tallies;
+        done = λ honest can.
+            let small = (sized_bounds first.chip.config).small in
+            let all : (s : ℕ) → before touched 4096 s ≡ touched s = λ s. elim (cases_Bool (touched s)) [
+              | inl is ↦ rw (is, lt-ltb s 4096 (omega (arith, can.can.inside s is))) refl
+              | inr free ↦ rw free refl
+            ] in
+            changed_same all (λ s. refl) (so.done honest can);
+        counted = λ honest can. so.counted honest can;
+      }
+
+  pub leaves_ended : LeavesPrograms touched raised wanted first now
+  leaves_ended = record {
+    spends = spends_ended so_far.ran (omega (arith, does_ended.fewer, does_ended.tallies.few));
+    aims = so_far.ran.aims;
+    reached = λ honest can. has_may (does_ended.done honest can);
+  }

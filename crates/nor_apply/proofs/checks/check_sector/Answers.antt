@@ -1,24 +1,24 @@
 use Rattle.std.proofs.Common.{◌∙◌, arith}
 use Rattle.std.proofs.lemmas.Result.{err_from_is_err_and}
 use Rattle.nor_apply.proofs.CheckingSteps.{agrees, differs, stops}
-use Rattle.nor_apply.proofs.Naming.{differs_at}
+use Rattle.nor_apply.proofs.Alone.{only-here}
 use Rattle.nor_apply.proofs.checks.check_sector.Goals as goal
 
 pub returns-in_err-read_sector-clause-tells : goal.returns-in_err-read_sector-clause-tells
 returns-in_err-read_sector-clause-tells g c =
     let p = err_from_is_err_and c.from_residual.result c.from_residual.ensures.1 in
-    rw (p.1, p.2) (stops c.args.sector c.args.wanted.now _ _ c.requires.reachable c.in_err-read_sector.ensures.halts)
+    rw (p.1, p.2) (stops c.args.wanted.now c.requires.reachable c.in_err-read_sector.ensures.halts)
 
 pub returns-in-None-clause-does : goal.returns-in-None-clause-does
 returns-in-None-clause-does g c =
-    agrees c.args.sector c.args.wanted.now c.read_sector.new.bytes _ _ c.requires.reachable (omega (arith, c.read_sector.auto.bytes)) c.in_ok-read_sector.ensures.does (λ ready. c.read_sector.ensures.heard ∙ ready) c.in-None.ensures.none
+    agrees (omega (arith, c.read_sector.auto.bytes)) c.in_ok-read_sector.ensures.does c.args.wanted.now
+    c.requires.reachable
+    (λ ready. c.read_sector.ensures.heard ∙ ready) c.in-None.ensures.none
 
 pub returns-in-Some-clause-tells : goal.returns-in-Some-clause-tells
 returns-in-Some-clause-tells g c =
-    differs c.args.sector c.in-Some.first c.args.wanted.now c.read_sector.new.bytes _ _ (omega (arith, c.read_sector.auto.bytes)) c.in_ok-read_sector.ensures.does c.in-Some.ensures.first
+    differs (omega (arith, c.read_sector.auto.bytes)) c.in_ok-read_sector.ensures.does c.args.wanted.now
+    c.in-Some.ensures.first
 
 pub returns-in-Some-clause-names : goal.returns-in-Some-clause-names
-returns-in-Some-clause-names g c =
-    let long = c.read_sector.auto.bytes in
-    let within = c.in-Some.ensures.first.within in
-    differs_at c.args.sector c.in-Some.first (omega (arith, long, within))
+returns-in-Some-clause-names g c = only-here (omega (arith, c.read_sector.auto.bytes, c.in-Some.ensures.first.within))

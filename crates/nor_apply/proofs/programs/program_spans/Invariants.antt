@@ -1,15 +1,10 @@
-use Rattle.std.proofs.Common.{◌≡◌, ◌++◌}
-use Rattle.std.specs.List.{All}
-use Rattle.nor_plan.specs.Span.{spans_of}
 use Rattle.nor_plan.specs.Spans.{spans_left}
-use Rattle.nor_plan.specs.SpanFacts.{IsSpan}
-use Rattle.nor_apply.proofs.ProgrammingExits.{SpansSoFar}
+use Rattle.nor_apply.proofs.ProgrammingExits.{AreLeft, SpansSoFar}
 use Rattle.nor_apply.proofs.programs.program_spans.Given as goal
 
 -- the spans that have come are programmed, and with those that are left they are the sector's
 abbrev pub invariant-loop-span : goal.invariant-loop-span
 invariant-loop-span g l = record {
-  all : l.yielded ++ spans_left l.span-iterator ≡ spans_of l.fn.old l.fn.wanted;
-  each : All (IsSpan l.fn.old l.fn.wanted) (spans_left l.span-iterator);
+  spanning : AreLeft l.fn.old l.fn.wanted l.yielded (spans_left l.span-iterator);
   so_far : SpansSoFar l.fn.sector l.fn.old l.fn.wanted l.yielded (g.B.Bus.state l.fn.bus) (g.B.Bus.state l.bus) l.tally;
 }
