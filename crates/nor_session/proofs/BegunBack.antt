@@ -12,7 +12,7 @@ use Rattle.nor_probe.specs.declared.probes.ProbeFault.{ProbeFault}
 use Rattle.nor_probe.specs.Known.{IsModelled}
 use Rattle.nor_save.specs.Touched.{is_touched_by}
 use Rattle.nor_save.specs.Saving.{head_of}
-use Rattle.nor_session.specs.Restore.{CanGiveBack, open_places}
+use Rattle.nor_session.specs.Headline.{CanGiveBack, open_places}
 use Rattle.nor_session.specs.Session.{HoldsBegun}
 use Rattle.nor_session.proofs.GivesBack.{saves_chip}
 

@@ -1,7 +1,9 @@
 -- What the changes came to, once they were checked.
-use Rattle.std.proofs.Common.{◌≡◌, ◌<◌, ◌≤◌, ◌%◌, ◌/◌, ◌∙◌, ℕ, Bool, true, false, ap, sym, subst, arith, ◌+◌, ◌||◌, refl, true≢false}
-use Rattle.std.specs.Prelude.{if◌then◌else◌}
-use Rattle.std.proofs.lemmas.Bool.{false_from_ne_true}
+use Rattle.std.proofs.Common.{◌≡◌, ◌<◌, ◌≤◌, ◌%◌, ◌/◌, ◌∙◌, ◌||◌, ℕ, Bool, true, false, ap, sym, subst, arith}
+use Rattle.std.specs.Prelude.{◌≢◌}
+use Rattle.std.proofs.lemmas.Bool.Decides.{nat_tests}
+use Rattle.nor_chip.specs.Code.{code_in}
+use Rattle.nor_chip.specs.Status.{bytes_of}
 use Rattle.nor_chip.specs.declared.config.Config.{Config}
 use Rattle.nor_chip.specs.Bus.{BusState}
 use Rattle.nor_chip.proofs.Sizes.{sized_bounds}
@@ -19,25 +21,20 @@ use Rattle.nor_session.specs.Changing.{touched_count, DoesCheck, DoesChange}
 
 -- ---- how much they take
 
-at_most_one : (b : Bool) → (if b then 1 else 0) ≤ 1
-at_most_one true = omega arith
-at_most_one false = omega arith
-
 pub two_writes : (changes : Changes) → status_writes changes ≤ 2
-two_writes changes =
-    let one = at_most_one changes.unlock in let two = at_most_one (writes_code changes) in
-    omega arith
-
-none_of : (lift write : Bool) → (lift || write) ≡ false → (if lift then 1 else 0) + (if write then 1 else 0) ≡ 0
-none_of true write off = absurd (true≢false off)
-none_of false true off = absurd (true≢false off)
-none_of false false off = refl
+two_writes changes = grind (arith, nat_tests)
 
 -- where it is never needed the status isn't written
 pub no_write : (changes : Changes) → ¬ ((changes.unlock || writes_code changes) ≡ true) → status_writes changes ≤ 0
-no_write changes never =
-    let none = none_of changes.unlock (writes_code changes) (false_from_ne_true (changes.unlock || writes_code changes) never) in
-    omega arith
+no_write changes never = grind (arith, nat_tests)
+
+-- where no protection is lifted it is written once, and only for another code than was read
+pub write_once : (changes : Changes) → changes.unlock ≡ false → status_writes changes ≤ 1
+write_once changes off = grind (arith, nat_tests)
+
+pub writes_other : (changes : Changes) → changes.unlock ≡ false → (changes.unlock || writes_code changes) ≡ true
+    → code_in (bytes_of changes.status) ≢ changes.code
+writes_other changes off writes same = grind (arith, nat_tests)
 
 pub touched_most : (changes : Changes) → touched_count changes ≤ 4096
 touched_most changes = count_below-most 4096 (touched_in changes)
@@ -46,10 +43,7 @@ touched_most changes = count_below-most 4096 (touched_in changes)
 pub fits_work : (changes : Changes) (wanted : ℕ → ℕ) (old new : BusState) (work : Work) → ((s : ℕ) → raised_in changes s ≡ true → touched_in changes s ≡ true)
     → DoesApply changes wanted old new work → work.transactions ≤ most_applied 4096
 fits_work changes wanted old new work inside does =
-    let most = touched_most changes in
-    let raised = raised_few changes inside in
-    let writes = two_writes changes in
-    let few = does.few in let erases = does.fewer_erases in let programs = does.fewer_programs in
+    let most = touched_most changes in let raised = raised_few changes inside in let writes = two_writes changes in
     omega arith
 
 -- as many as are planned are the fewest
@@ -75,7 +69,7 @@ rest_applied changes wanted old mid new applied rested =
       };
       worn = λ s. rested.unchanged.worn s ∙ applied.worn s;
       latch = λ set. applied.latch (rested.latch set);
-      idle = let less = rested.unchanged.busy in let idle = applied.idle in omega arith;
+      idle = omega arith;
     }
 
 pub checked : (changes : Changes) (wanted : ℕ → ℕ) (verify : Bool) (old mid new : BusState) (written work : Work) → ((s : ℕ) → raised_in changes s ≡ true → touched_in changes s ≡ true)
@@ -83,19 +77,19 @@ pub checked : (changes : Changes) (wanted : ℕ → ℕ) (verify : Bool) (old mi
     → DoesChange changes wanted verify old new work
 checked changes wanted verify old mid new written work inside leaves does checking =
     let raised = raised_few changes inside in
-    let erases = checking.erases in let programs = checking.programs in let transactions = checking.transactions in
+    let honest_still = leaves.spends.nature.honest in
     record {
       erases = checking.erases ∙ does.erases;
-      fewer_erases = let fewer = does.fewer_erases in omega arith;
-      fewer_programs = let fewer = does.fewer_programs in omega arith;
-      few = let few = does.few in omega arith;
-      least = let least = does.least in omega arith;
+      fewer_erases = omega arith;
+      fewer_programs = omega arith;
+      few = omega arith;
+      least = omega arith;
       heard = λ ready. checking.heard (does.heard ready);
       sent = λ honest.
-          let sent = does.sent honest in
-          let again = checking.sent (leaves.spends.nature.honest ∙ honest) in
+          let sent = does.sent honest in let again = checking.sent (honest_still ∙ honest) in
           omega arith;
       still = λ none. checking.still ∙ does.still none;
-      done = λ honest can. rest_applied changes wanted old mid new (does.done honest can) (checking.rested (leaves.spends.nature.honest ∙ honest));
+      done = λ honest can.
+          rest_applied changes wanted old mid new (does.done honest can) (checking.rested (honest_still ∙ honest));
       programs = λ honest can. checking.programs ∙ does.programs honest can;
     }

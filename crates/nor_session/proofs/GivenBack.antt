@@ -14,7 +14,7 @@ use Rattle.nor_chip.specs.Bus.{BusState}
 use Rattle.nor_chip.proofs.Sizes.{sized_bounds}
 use Rattle.nor_chip.proofs.Guarded.{is_guarded-end, is_guarded-past, is_guarded-no_scheme, is_guarded-same}
 use Rattle.nor_driver.specs.Looks.{IsCalm, LooksHonest}
-use Rattle.nor_driver.specs.Reads.{id_of, unique_of}
+use Rattle.nor_driver.specs.Reads.{id_of}
 use Rattle.nor_driver.specs.StatusWrites.{KeepsFixed, HasCode, HasKeptBits}
 use Rattle.nor_journal.specs.Text.{Content}
 use Rattle.nor_journal.specs.Saved.{is_saved}
@@ -31,7 +31,8 @@ use Rattle.nor_apply.proofs.Changing.{within_then, within_wider}
 use Rattle.nor_call.specs.declared.refusal.Refusal.{Refusal}
 use Rattle.nor_call.specs.declared.refusal.Refusal.TheVariants.{NoChip, UnknownChip, StatusLocked, Stopped, OtherChip, OtherUnit, StatusDiffers}
 use Rattle.nor_save.specs.Saving.{SomeHeld}
-use Rattle.nor_session.specs.Restore.{restored, is_touched_from, IsOfKind, IsOfOtherUnit, FitsStatus, RestoreTells, SavesChip, open_places, CanGiveBack}
+use Rattle.nor_session.specs.Headline.{IsOfKind, SavesChip, open_places, CanGiveBack}
+use Rattle.nor_session.specs.Restore.{restored, is_touched_from, IsOfOtherUnit, FitsStatus, RestoreTells}
 use Rattle.nor_session.proofs.Rescanned.{restored_saved, restored_other}
 use Rattle.nor_session.proofs.RestoredBytes.{touched_byte, touched_saved, first_byte}
 
@@ -244,17 +245,22 @@ unit_not None of_first same other = other
 
 pub only_stopped : (journal : Content) (first : Chip) (old new : BusState) (refusal : Refusal) → CanGiveBack journal first old → RestoreTells journal old new refusal → refusal ≡ Stopped
 only_stopped journal first old new Stopped can tells = refl
-only_stopped journal first old new NoChip can tells = absurd (known_not (shown_as first.config) Probes.NoChip can.known.shown (ap shown_as (sym can.within.config) ∙ tells))
-only_stopped journal first old new (UnknownChip fault) can tells = absurd (known_not (shown_as first.config) (Probes.UnknownChip fault) can.known.shown (ap shown_as (sym can.within.config) ∙ tells))
-only_stopped journal first old new OtherChip can tells = absurd (tells.1 (subst (λ (c : Config). IsOfKind journal c) (sym can.within.config) can.saves.kind))
+only_stopped journal first old new NoChip can tells =
+    absurd (known_not _ Probes.NoChip can.known.shown (ap shown_as (sym can.within.config) ∙ tells.holds))
+only_stopped journal first old new (UnknownChip fault) can tells =
+    absurd (known_not _ (Probes.UnknownChip fault) can.known.shown (ap shown_as (sym can.within.config) ∙ tells.holds))
+only_stopped journal first old new OtherChip can tells =
+    absurd (tells.holds (subst (IsOfKind journal) (sym can.within.config) can.saves.kind))
 only_stopped journal first old new OtherUnit can tells =
-    absurd (unit_not journal.unique (unique_of first.config) can.saves.unit (subst (λ (c : Config). IsOfOtherUnit journal c) can.within.config tells.2))
-only_stopped journal first old new StatusDiffers can tells = absurd (tells.3 (fixed_told journal first old.chip can.saves.bits can.within.config can.within.fixed can.within.kept))
+    absurd (unit_not _ _ can.saves.unit (subst (λ (c : Config). IsOfOtherUnit journal c) can.within.config tells.holds))
+only_stopped journal first old new StatusDiffers can tells =
+    let within = can.within in
+    absurd (tells.holds (fixed_told journal first old.chip can.saves.bits within.config within.fixed within.kept))
 only_stopped journal first old new StatusLocked can tells =
-    let locked : is_locked first ≡ true = sym (locked_same first old.chip can.within.fixed) ∙ tells.1 in
+    let locked : is_locked first ≡ true = sym (locked_same first old.chip can.within.fixed) ∙ tells.holds.0 in
     let stay = can.within.kept (and_not first.config.scheme (is_locked first) locked) in
-    absurd (elim tells.2 [
+    absurd (elim tells.holds.1 [
       | inl differs ↦ differs (code_locked journal first old.chip can.saves.bits stay)
       | inr some ↦ free_held journal first old.chip can.known can.saves can.within.config stay locked can.within.bytes some
     ])
-only_stopped journal first old new _ can tells = absurd tells
+only_stopped journal first old new _ can tells = absurd tells.holds

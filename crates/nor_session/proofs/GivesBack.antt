@@ -7,6 +7,7 @@ use Rattle.nor_chip.specs.Guard.{is_guarded, is_unit_guarded}
 use Rattle.nor_chip.specs.Bus.{BusState}
 use Rattle.nor_chip.proofs.Sizes.{sized_bounds}
 use Rattle.nor_chip.proofs.Guarded.{is_guarded-sector}
+use Rattle.nor_driver.specs.Looks.{Looks}
 use Rattle.nor_driver.specs.Reads.{unique_of}
 use Rattle.nor_driver.specs.StatusWrites.{HasKeptBits}
 use Rattle.nor_journal.specs.Text.{Content, SameHead}
@@ -15,7 +16,7 @@ use Rattle.nor_journal.specs.Saved.{Saves, is_saved}
 use Rattle.nor_journal.proofs.Saves.{Saves-set, Saves-same}
 use Rattle.nor_probe.specs.declared.table.Part.{Part}
 use Rattle.nor_probe.specs.declared.probes.ProbeFault.{ProbeFault}
-use Rattle.nor_probe.specs.Known.{IsGenuine}
+use Rattle.nor_probe.specs.Known.{IsGenuine, IsModelled}
 use Rattle.nor_plan.specs.Content.{is_touched}
 use Rattle.nor_apply.specs.Within.{places_of}
 use Rattle.nor_apply.proofs.Changing.{within_wider}
@@ -23,7 +24,7 @@ use Rattle.nor_call.specs.declared.request.Request.{Request}
 use Rattle.nor_call.specs.Request.{wanted}
 use Rattle.nor_save.specs.Touched.{is_touched_by}
 use Rattle.nor_save.specs.Saving.{head_of}
-use Rattle.nor_session.specs.Restore.{SavesChip, open_places, CanGiveBack}
+use Rattle.nor_session.specs.Headline.{SavesChip, open_places, CanGiveBack, HasWayBack, KeepsFirst}
 use Rattle.nor_session.specs.Session.{CanBeUndone}
 use Rattle.nor_session.specs.Rehearsing.{LeadsBack}
 use Rattle.nor_session.proofs.JudgedAgain.{accepted_named, accepted_free}
@@ -32,17 +33,22 @@ use Rattle.nor_session.proofs.JudgedAgain.{accepted_named, accepted_free}
 bits_told : (first : Chip) (journal : Content) → first.kept2 < 128 → SameHead (head_of first) journal → HasKeptBits journal.status first
 bits_told first journal small same = record {
   one =
-      let one : slice_index journal.status 0 ≡ 4 * first.kept1 = ap (λ (bytes : List ℕ). slice_index bytes 0) (sym same.status) in
+      let one : slice_index journal.status 0 ≡ 4 * first.kept1 =
+      ap (λ (c : Content). slice_index c.status 0) (sym same) in
       omega arith;
   two =
-      let two : slice_index journal.status 1 ≡ first.kept2 = ap (λ (bytes : List ℕ). slice_index bytes 1) (sym same.status) in
+      let two : slice_index journal.status 1 ≡ first.kept2 =
+      ap (λ (c : Content). slice_index c.status 1) (sym same) in
       omega arith;
 }
 
 pub saves_chip : (first : Chip) (saved : ℕ → Bool) (journal : Content) → first.kept2 < 128 → SameHead (head_of first) journal → Saves first.bytes saved journal → SavesChip journal first
 saves_chip first saved journal small same saves = record {
-  kind = record { id = sym same.id; size = sym same.size };
-  unit = subst (λ (told : Option (List ℕ)). IfSome told (λ unique. unique ≡ unique_of first.config)) same.unique refl;
+  kind = record {
+    id = ap (λ (c : Content). c.id) (sym same);
+    size = ap (λ (c : Content). c.size) (sym same);
+  };
+  unit = subst (λ (c : Content). IfSome c.unique (λ unique. unique ≡ unique_of first.config)) same refl;
   bits = bits_told first journal small same;
   sectors = Saves-same first.bytes saved (is_saved journal) journal (λ s. sym (Saves-set first.bytes saved journal s saves)) saves;
 }
@@ -94,4 +100,27 @@ leads_back request image old new vault is genuine telling undone = record {
   inside = touched_inside request image old.chip;
   free = accepted_free request image old.chip undone.accepted;
   within = undone.changes.within;
+}
+
+-- That is its way back.
+way_back : (request : Request) (image : List ℕ) (old new : BusState) (vault : VaultState) → IsChip old.chip
+    → IsGenuine old.chip.config → vault.telling ≡ true → CanBeUndone request image old new vault
+    → HasWayBack vault.bytes old.chip new
+way_back request image old new vault is genuine telling undone =
+    let leads = leads_back request image old new vault is genuine telling undone in
+    let kept = leads.journal in
+    record {
+      journal = record { content = kept.content; is = kept.saves.is; same = kept.is };
+      back = can_give_back _ old.chip vault.bytes new kept.content leads (kept.same, kept.saves);
+    }
+
+-- What a session promises before all else, from what it sent until the seal and what may be undone behind it.
+pub keeps_first : (request : Request) (image : List ℕ) (most : ℕ) (old new : BusState) (vault : VaultState)
+    → (old.honest ≡ true → IsChip old.chip) → (vault.sealed ≡ false → Looks most old new)
+    → (IsModelled old → vault.sealed ≡ true → CanBeUndone request image old new vault) → KeepsFirst old new vault
+keeps_first request image most old new vault reaches looks undo = record {
+  still = λ unsealed. (looks unsealed).sent;
+  same = λ unsealed honest. ((looks unsealed).looked honest).stays.calm;
+  leads_back = λ sealed telling modelled.
+      way_back request image old new vault (reaches modelled.honest) modelled.genuine telling (undo modelled sealed);
 }

@@ -20,7 +20,8 @@ use Rattle.nor_call.specs.declared.request.Request.{Request}
 use Rattle.nor_save.specs.Touched.{is_touched_by}
 use Rattle.nor_save.specs.Saving.{head_of}
 use Rattle.nor_save.proofs.Planned.{untouched, unraised}
-use Rattle.nor_session.specs.Restore.{restored, is_touched_from, is_raised_from, NeedsStatusFrom, SavesChip, open_places, CanGiveBack, IsRestored}
+use Rattle.nor_session.specs.Headline.{SavesChip, open_places, CanGiveBack}
+use Rattle.nor_session.specs.Restore.{restored, is_touched_from, is_raised_from, NeedsStatusFrom, IsRestored}
 use Rattle.nor_session.specs.InTurn.{LeavesJournal, IsTakenUp, ChangesNothing}
 use Rattle.nor_session.specs.WrittenOver.{IsWrittenOver}
 use Rattle.nor_session.proofs.Rescanned.{restored_saved, restored_other}
@@ -67,7 +68,8 @@ covers_none kinds total sectors none = record { units = λ k any below. absurd (
 
 none_counted : (journal : Content) (first : Chip) (old new : BusState) (report : Report) → SavesChip journal first → IsSame first old.chip → IsRestored journal old new report → report.touched ≡ 0
 none_counted journal first old new report saves same done =
-    done.made.sectors ∙ count_below-none 4096 (is_touched_from journal old.chip) (λ s below. none_touched journal first old.chip s saves same)
+    done.reported.sectors
+    ∙ count_below-none 4096 (is_touched_from journal old.chip) (λ s below. none_touched journal first old.chip s saves same)
 
 pub changes_nothing : (journal : Content) (first : Chip) (old new : BusState) (report : Report) → SavesChip journal first → IsSame first old.chip → IsRestored journal old new report
     → ChangesNothing journal old new report
@@ -75,9 +77,10 @@ changes_nothing journal first old new report saves same done = record {
   still = done.still (none_counted journal first old new report saves same done) (never_needed journal first old.chip saves same);
   touched = none_counted journal first old new report saves same done;
   erases =
-      let least = done.made.erases.least [] (covers_none _ _ (is_raised_from journal old.chip) (λ s. none_raised journal first old.chip s saves same)) in
+      let least = done.reported.erases.least []
+      (covers_none _ _ (is_raised_from journal old.chip) (λ s. none_raised journal first old.chip s saves same)) in
       omega arith;
-  programs = done.made.programs
+  programs = done.reported.programs
       ∙ count_below-none 65536 (is_programmed (is_touched_from journal old.chip) (once_erased (is_raised_from journal old.chip) old.chip.bytes) (restored journal old.chip.bytes))
       (λ page below. and_left (is_touched_from journal old.chip (page / 16)) _ (none_touched journal first old.chip (page / 16) saves same));
   spares = never_needed journal first old.chip saves same;

@@ -1,15 +1,17 @@
 -- What the judgement of a restore on the status tells.
-use Rattle.std.proofs.Common.{◌≡◌, ◌+◌, ◌*◌, ◌/◌, ◌%◌, ◌∙◌, ◌⊎◌, ℕ, Bool, true, false, ap, refl, inl, inr}
-use Rattle.std.specs.Prelude.{Option, Some, None, MatchOption}
+use Rattle.std.proofs.Common.{◌≡◌, ◌<◌, ◌+◌, ◌-◌, ◌*◌, ◌/◌, ◌⊎◌, ℕ, Bool, true, false, refl, inl, inr}
+use Rattle.std.specs.Prelude.{not, Option, Some, None, MatchOption}
 use Rattle.std.specs.Option.{is_some}
-use Rattle.std.proofs.lemmas.Bool.{both_ways}
-use Rattle.nor_chip.specs.Chip.{Chip}
-use Rattle.nor_chip.specs.Guard.{code_of}
+use Rattle.std.proofs.lemmas.Bool.{true_from_ne_false, false_from_ne_true, and_parts, and_from, not_from_false, or_from, both_ways}
+use Rattle.nor_chip.proofs.Guarded.{is_guarded-sector, is_guarded-no_scheme}
+use Rattle.nor_chip.specs.Chip.{Chip, is_locked}
+use Rattle.nor_chip.specs.Guard.{code_of, is_guarded, is_unit_guarded}
 use Rattle.nor_chip.specs.Code.{code_in}
 use Rattle.nor_journal.specs.Text.{Content}
 use Rattle.nor_save.specs.declared.opening.Opening.{Opening}
 use Rattle.nor_save.specs.Opening.{status_read}
 use Rattle.nor_save.specs.Saving.{IsOpening, IsLeastHeld, NoneHeld, SomeHeld, is_held}
+use Rattle.nor_apply.specs.Within.{is_writable}
 use Rattle.nor_session.specs.Restore.{NeedsStatusFrom}
 
 pub some_held : (found : Option ℕ) (touched : ℕ → Bool) (chip : Chip) → MatchOption found (NoneHeld touched chip) (IsLeastHeld touched chip) → is_some found ≡ true → SomeHeld touched chip
@@ -24,13 +26,31 @@ some_or_none None touched chip held = inr held
 pub none_needed : (journal : Content) (touched : ℕ → Bool) (chip : Chip) (found : Option ℕ) → MatchOption found (NoneHeld touched chip) (IsLeastHeld touched chip) → is_some found ≡ false
     → code_of chip ≡ code_in journal.status → ¬ NeedsStatusFrom journal touched chip
 none_needed journal touched chip (Some s) held is code needs = absurd cc
-none_needed journal touched chip None held is code needs =
-    elim needs [
-      | inl differs ↦ differs code
-      | inr some ↦ both_ways (is_held touched chip some.sector) (held some.sector) some.held
-    ]
+none_needed journal touched chip None held is code (inl differs) = differs code
+none_needed journal touched chip None held is code (inr some) =
+    both_ways (is_held touched chip some.sector) (held some.sector) some.held
 
 -- the code that was read is the chip's
-pub code_opened : (chip : Chip) (opening : Opening) → IsOpening chip opening → code_in (status_read opening) ≡ code_of chip
-code_opened chip opening is =
-    ap (λ (n : ℕ). 32 * (n / 64 % 2) + opening.found.status1 / 4 % 32) is.two ∙ ap (λ (n : ℕ). 32 * (chip.kept2 / 64 % 2) + n % 32) is.one
+pub code_opened : {chip : Chip} {opening : Opening} → IsOpening chip opening
+    → code_in (status_read opening) ≡ code_of chip
+code_opened is = let one = is.one in let two = is.two in cc
+
+-- a chip with a held sector has block protection
+pub held_scheme : (touched : ℕ → Bool) (chip : Chip) → SomeHeld touched chip → chip.config.scheme ≡ true
+held_scheme touched chip some = true_from_ne_false chip.config.scheme (λ none.
+    let s = some.sector in
+    both_ways (is_unit_guarded chip (4096 * s) 4096)
+    (or_from _ _ (is_guarded-no_scheme chip (4096 * s) none) (is_guarded-no_scheme chip (4096 * s + 4096 - 1) none))
+    (and_parts (touched s) (is_unit_guarded chip (4096 * s) 4096) some.held).1)
+
+-- no place of a touched sector that isn't held is guarded
+pub free_place : (touched : ℕ → Bool) (chip : Chip) (a : ℕ) → NoneHeld touched chip → touched (a / 4096) ≡ true
+    → a < chip.config.size → is_guarded chip a ≡ false
+free_place touched chip a none hit below =
+    let free = none (a / 4096) in is_guarded-sector chip a below (rw hit at free)
+
+-- where the status isn't locked it can be written
+pub writable_for : (chip : Chip) → chip.config.scheme ≡ true → (is_locked chip ≡ true → ⊥) → is_writable chip ≡ true
+writable_for chip scheme unlocked =
+    and_from chip.config.scheme (not (is_locked chip)) scheme
+    (not_from_false (is_locked chip) (false_from_ne_true (is_locked chip) unlocked))

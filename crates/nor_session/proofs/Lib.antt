@@ -1,7 +1,7 @@
 pub mod Changed
 pub mod OneVerdict
-pub mod OfferedCode
 pub mod JudgedAgain
+pub mod OneRestoreVerdict
 pub mod Ready
 pub mod ReadyChip
 pub mod SessionChanges

@@ -27,12 +27,12 @@ use Rattle.nor_session.specs.Verdict.{IsNamed, NeedsStatusWrite, RefusalHolds, I
 -- ---- the part
 
 -- a chip shows itself in one way
-either : (outcome : Result Part ProbeFault) (fault : ProbeFault) (part : Part) → outcome ≡ Err fault → outcome ≡ Ok part → ⊥
+pub either : (outcome : Result Part ProbeFault) (fault : ProbeFault) (part : Part) → outcome ≡ Err fault → outcome ≡ Ok part → ⊥
 either (Ok other) fault part wrong right = absurd cc
 either (Err other) fault part wrong right = absurd cc
 
 -- and shows no chip in one way
-two_faults : (outcome : Result Part ProbeFault) (fault : SfdpFault) → outcome ≡ Err Probes.NoChip → outcome ≡ Err (Probes.UnknownChip fault) → ⊥
+pub two_faults : (outcome : Result Part ProbeFault) (fault : SfdpFault) → outcome ≡ Err Probes.NoChip → outcome ≡ Err (Probes.UnknownChip fault) → ⊥
 two_faults (Ok part) fault one two = absurd cc
 two_faults (Err other) fault one two = absurd cc
 

@@ -1,10 +1,12 @@
 -- What holds of a chip that is what it shows itself to be, once its touched sectors are saved.
-use Rattle.std.proofs.Common.{◌≡◌, ◌<◌, ◌≤◌, ◌+◌, ◌*◌, ◌/◌, ◌∙◌, ℕ, Bool, true, false, List, length, ap, refl, arith, sym, inr}
-use Rattle.std.specs.Prelude.{if◌then◌else◌, ◌==◌, Option, Err}
-use Rattle.nor_chip.specs.Chip.{Chip, IsSame, status1_of}
+use Rattle.std.proofs.Common.{◌≡◌, ◌<◌, ◌≤◌, ◌/◌, ◌∙◌, ℕ, true, false, List, length, ap, refl, arith, inr}
+use Rattle.std.specs.Prelude.{Option, Err}
+use Rattle.std.proofs.lemmas.Bool.Decides.{nat_tests}
+use Rattle.nor_chip.specs.Chip.{IsSame, status1_of}
 use Rattle.nor_chip.specs.Bus.{BusState}
 use Rattle.nor_driver.specs.Reads.{unique_of}
 use Rattle.nor_driver.specs.Looks.{Looks, Falls, RanOut}
+use Rattle.nor_driver.proofs.LooksInTurn.{same_then}
 use Rattle.nor_journal.specs.Vault.{VaultState, Rose}
 use Rattle.nor_probe.specs.declared.table.ChipName.{ChipName}
 use Rattle.nor_probe.specs.Found.{IsConfigOf, part_in}
@@ -12,7 +14,7 @@ use Rattle.nor_apply.specs.Spending.{Spends}
 use Rattle.nor_save.specs.declared.opening.Opening.{Opening}
 use Rattle.nor_call.specs.declared.request.Request.{Request}
 use Rattle.nor_call.specs.declared.refusal.Refusal.{Refusal}
-use Rattle.nor_call.specs.declared.refusal.Refusal.TheVariants.{NoChip, UnknownChip, OtherName, ImageSize, RegionOutside, NoProtection, UndefinedProtection, RangeNotOffered, StatusLocked, Protected, Vault, Stopped, Timeout}
+use Rattle.nor_call.specs.declared.refusal.Refusal.TheVariants.{NoChip, UnknownChip, OtherName, StatusLocked, Protected, Vault, Stopped, Timeout}
 use Rattle.nor_call.specs.Refusal.{number_of}
 use Rattle.nor_call.specs.Request.{scanned_sectors}
 use Rattle.nor_save.specs.Opening.{Opens, most_opening}
@@ -29,37 +31,26 @@ use Rattle.nor_session.proofs.Ready.{scanned_most, scanned_few}
 
 -- ---- the opening tells the starting chip
 
-two_bits : (latch idle : Bool) → (if latch then 2 else 0) + (if idle then 0 else 1) < 4
-two_bits true true = omega arith
-two_bits true false = omega arith
-two_bits false true = omega arith
-two_bits false false = omega arith
-
-pub kept1_of : (chip : Chip) (status : ℕ) → status ≡ status1_of chip → status / 4 ≡ chip.kept1
-kept1_of chip status is =
-    let low : ℕ = (if chip.latch then 2 else 0) + (if chip.busy == 0 then 0 else 1) in
-    let small : low < 4 = two_bits chip.latch (chip.busy == 0) in
-    let whole : status ≡ 4 * chip.kept1 + low = is ∙ (let e : 4 * chip.kept1 + (if chip.latch then 2 else 0) + (if chip.busy == 0 then 0 else 1) ≡ 4 * chip.kept1 + low = omega arith in e) in
-    omega (arith, small, whole)
-
-pub is_opening : (request : Request) (opening : Opening) (old mid : BusState) → IsModelled old → Opens request.named old mid opening → IsOpening old.chip opening
-is_opening request opening old mid is opens =
+pub opening_of : {named : Option ChipName} {opening : Opening} {old mid : BusState} → IsModelled old
+    → Opens named old mid opening → IsOpening old.chip opening
+opening_of is opens =
     let same = (opens.rested is.honest).unchanged.same in
     record {
       config = opens.genuine is;
-      one = kept1_of mid.chip opening.found.status1 (opens.status1 is.honest) ∙ same.kept1;
+      one = let read = opens.status1 is.honest in let kept = same.kept1 in grind (arith, nat_tests);
       two = opens.status2 is.honest ∙ same.kept2;
       unique = opens.unique is.honest ∙ ap unique_of same.config;
     }
 
+pub is_opening : (request : Request) (opening : Opening) (old mid : BusState) → IsModelled old
+    → Opens request.named old mid opening → IsOpening old.chip opening
+is_opening request opening old mid = opening_of
+
 -- an idle chip's status 1 is told as it was, with its latch
 pub told_idle : (named : Option ChipName) (opening : Opening) (old mid : BusState) → old.honest ≡ true → Opens named old mid opening → old.chip.busy ≡ 0 → opening.found.status1 ≡ status1_of old.chip
 told_idle named opening old mid honest opens idle =
-    let rested = opens.rested honest in
-    opens.status1 honest
-    ∙ ap (λ (n : ℕ). 4 * n + (if mid.chip.latch then 2 else 0) + (if mid.chip.busy == 0 then 0 else 1)) rested.unchanged.same.kept1
-    ∙ ap (λ (b : Bool). 4 * old.chip.kept1 + (if b then 2 else 0) + (if mid.chip.busy == 0 then 0 else 1)) (rested.idle_latch idle)
-    ∙ ap (λ (n : ℕ). 4 * old.chip.kept1 + (if old.chip.latch then 2 else 0) + (if n == 0 then 0 else 1)) (opens.idle honest ∙ sym idle)
+    let rested = opens.rested honest in let latch = rested.idle_latch idle in
+    opens.status1 honest ∙ (let now = opens.idle honest in let same = rested.unchanged.same.kept1 in cc)
 
 pub shows : (request : Request) (opening : Opening) (old mid : BusState) → IsModelled old → Looks most_opening old mid → Opens request.named old mid opening → Shows old.chip mid
 shows request opening old mid is looks opens = record {
@@ -80,48 +71,33 @@ named request opening old mid is opens = record { part = part_in opening.found; 
 pub falls_sized : (request : Request) (opening : Opening) (old new : BusState) → old.honest ≡ true → IsConfigOf old.chip.config opening.found
     → Spends (most_of (scanned_sectors request opening.found.size)) old new → Falls (most_of (old.chip.config.size / 4096)) old new
 falls_sized request opening old new honest config spends =
-    let falls = spends.falls honest in let bound = falls.bound in
+    let falls = spends.falls honest in
     let most = scanned_most request opening.found.size in let size = config.size in
     record { fell = falls.fell; bound = omega arith }
 
 pub ran_out_sized : (request : Request) (opening : Opening) (old new : BusState) → IsConfigOf old.chip.config opening.found
     → RanOut (most_of (scanned_sectors request opening.found.size)) old new → RanOut (most_of (old.chip.config.size / 4096)) old new
 ran_out_sized request opening old new config ran =
-    let below = ran.below in
     let most = scanned_most request opening.found.size in let size = config.size in
     record { none_left = ran.none_left; below = omega arith }
 
 -- ---- what a refusal of the opening tells, and of the scan
 
-pub opening_gives_up : (named : Option ChipName) (old new : BusState) (refusal : Refusal) → old.honest ≡ true → (number_of refusal ≤ 11 → IsSame old.chip new.chip)
-    → OpeningTells most_opening named old new refusal → HonestTells (most_of 4096) (λ refusal. number_of refusal ≤ 11) old new refusal
-opening_gives_up named old new Stopped honest same tells = let ran = tells honest in let below = ran.below in record { none_left = ran.none_left; below = omega arith }
-opening_gives_up named old new (Timeout address) honest same tells = tells.1 honest
-opening_gives_up named old new _ honest same tells = same
-
 -- a reading after the opening leaves the chip as it was
 pub still_same : (named : Option ChipName) (opening : Opening) (few : ℕ) (old mid new : BusState) → old.honest ≡ true → Looks most_opening old mid → Opens named old mid opening → Looks few mid new → IsSame old.chip new.chip
 still_same named opening few old mid new honest looks opens more =
-    let before = (opens.rested honest).unchanged.same in
-    let after = (more.looked (looks.nature.honest ∙ honest)).stays.calm (inr (opens.idle honest)) in
-    record {
-      config = after.config ∙ before.config;
-      bytes = λ a. after.bytes a ∙ before.bytes a;
-      kept1 = after.kept1 ∙ before.kept1;
-      kept2 = after.kept2 ∙ before.kept2;
-    }
+    same_then old.chip mid.chip new.chip (opens.rested honest).unchanged.same
+    ((more.looked (looks.nature.honest ∙ honest)).stays.calm (inr (opens.idle honest)))
 
 pub save_gives_up : (request : Request) (image : List ℕ) (opening : Opening) (code few : ℕ) (old mid new : BusState) (refusal : Refusal) → old.honest ≡ true → Looks most_opening old mid → Opens request.named old mid opening
     → Looks few mid new → SaveTells request opening code image mid new refusal → HonestTells (most_of 4096) (λ refusal. number_of refusal ≤ 11) old new refusal
 save_gives_up request image opening code few old mid new Stopped honest looks opens more tells =
-    let ran = tells (looks.nature.honest ∙ honest) in
-    let below = ran.below in let count = opens.count honest in let most = opens.most in
+    let ran = tells (looks.nature.honest ∙ honest) in let count = opens.count honest in
     let sectors = scanned_few request opening.found.size opens.part.at_most in
     record { none_left = ran.none_left; below = omega arith }
-save_gives_up request image opening code few old mid new Vault honest looks opens more tells = λ early. still_same request.named opening few old mid new honest looks opens more
-save_gives_up request image opening code few old mid new StatusLocked honest looks opens more tells = λ early. still_same request.named opening few old mid new honest looks opens more
-save_gives_up request image opening code few old mid new (Protected address) honest looks opens more tells = λ early. still_same request.named opening few old mid new honest looks opens more
-save_gives_up request image opening code few old mid new _ honest looks opens more tells = absurd tells
+save_gives_up request image opening code few old mid new (Timeout address) honest looks opens more tells = absurd tells
+save_gives_up request image opening code few old mid new _ honest looks opens more tells = λ early.
+    still_same request.named opening few old mid new honest looks opens more
 
 pub not_sealed : (refusal : Refusal) (old new : VaultState) → old.sealed ≡ false → SavePuts (Err refusal) old new → new.sealed ≡ false
 not_sealed Vault old new unsealed puts = puts.sealed ∙ unsealed
@@ -132,8 +108,7 @@ pub save_tells : (request : Request) (image : List ℕ) (opening : Opening) (cod
     → (refusal ≡ Vault → Rose vault vault') → SaveTells request opening code image mid new refusal → SessionTells request image old new vault vault' refusal
 save_tells request image opening code old mid new vault vault' Vault is looks opens accepts rose tells = rose refl
 save_tells request image opening code old mid new vault vault' Stopped is looks opens accepts rose tells =
-    let ran = tells (looks.nature.honest ∙ is.honest) in
-    let below = ran.below in let count = opens.count is.honest in let few = opens.most in
+    let ran = tells (looks.nature.honest ∙ is.honest) in let count = opens.count is.honest in
     let most = scanned_most request opening.found.size in let size = (opens.genuine is).size in
     record { none_left = ran.none_left; below = omega arith }
 save_tells request image opening code old mid new vault vault' StatusLocked is looks opens accepts rose tells =
@@ -152,16 +127,14 @@ open_tells request image old new vault vault' NoChip is tells = no_chip request 
 open_tells request image old new vault vault' (UnknownChip fault) is tells = unknown_chip request image old.chip fault (tells is.honest).0
 open_tells request image old new vault vault' OtherName is tells = another_name request image old.chip (tells is.honest).0
 open_tells request image old new vault vault' Stopped is tells =
-    let ran = tells is.honest in let below = ran.below in record { none_left = ran.none_left; below = omega arith }
+    let ran = tells is.honest in record { none_left = ran.none_left; below = omega arith }
 open_tells request image old new vault vault' (Timeout address) is tells = absurd (tells.1 is.honest)
 open_tells request image old new vault vault' _ is tells = absurd tells
 
 -- and where its judgement does
 pub judge_tells : (request : Request) (image : List ℕ) (old new : BusState) (vault vault' : VaultState) (refusal : Refusal) → IsNamed request.named old.chip.config → IsOpeningRefusal refusal
     → OpeningJudges request (length image) old.chip refusal → SessionTells request image old new vault vault' refusal
-judge_tells request image old new vault vault' (ImageSize size len) is fault judges = opening_judged request image old.chip (ImageSize size len) is judges
-judge_tells request image old new vault vault' RegionOutside is fault judges = opening_judged request image old.chip RegionOutside is judges
-judge_tells request image old new vault vault' NoProtection is fault judges = opening_judged request image old.chip NoProtection is judges
-judge_tells request image old new vault vault' UndefinedProtection is fault judges = opening_judged request image old.chip UndefinedProtection is judges
-judge_tells request image old new vault vault' RangeNotOffered is fault judges = opening_judged request image old.chip RangeNotOffered is judges
-judge_tells request image old new vault vault' _ is fault judges = absurd fault
+judge_tells request image old new vault vault' Vault is fault judges = absurd fault
+judge_tells request image old new vault vault' Stopped is fault judges = absurd fault
+judge_tells request image old new vault vault' refusal is fault judges =
+    opening_judged request image old.chip refusal is judges

@@ -17,7 +17,8 @@ use Rattle.nor_call.specs.declared.refusal.Refusal.{Refusal}
 use Rattle.nor_call.specs.declared.refusal.Refusal.TheVariants.{Stopped, Timeout, BadJournal}
 use Rattle.nor_save.specs.Saving.{head_of}
 use Rattle.nor_session.specs.Bounds.{most_of}
-use Rattle.nor_session.specs.Restore.{CanGiveBack, LeavesRestore, IsJudgedFirst, IsRestoreRefusal}
+use Rattle.nor_session.specs.Headline.{CanGiveBack}
+use Rattle.nor_session.specs.Restore.{LeavesRestore, IsJudgedFirst, IsRestoreRefusal}
 use Rattle.nor_session.specs.Session.{HonestTells, NamesSector, IsWithinBound, AimsAtSaved, WritesStatusAtMost}
 use Rattle.nor_session.specs.Rehearsal.{AreRestores, FitsLastStop, IsNoHalt}
 use Rattle.nor_session.specs.Rehearsing.{LeavesRestores, ShowsRestore, ShowsRestores, StopsRestores, Undoes, WearsSaved, AimsAtText, RefusesUndo}

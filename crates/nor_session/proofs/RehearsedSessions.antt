@@ -14,7 +14,7 @@ use Rattle.nor_plan.specs.Content.{is_touched, is_raised}
 use Rattle.nor_call.specs.declared.request.Request.{Request}
 use Rattle.nor_call.specs.declared.report.Report.{Report}
 use Rattle.nor_call.specs.declared.refusal.Refusal.{Refusal}
-use Rattle.nor_call.specs.declared.refusal.Refusal.TheVariants.{NoChip, UnknownChip, OtherName, ImageSize, RegionOutside, NoProtection, UndefinedProtection, RangeNotOffered, StatusLocked, Protected, Vault, Stopped, Timeout, Mismatch, BadJournal, OtherChip, StatusDiffers, Memory, Output, OtherUnit}
+use Rattle.nor_call.specs.declared.refusal.Refusal.TheVariants.{NoChip, UnknownChip, OtherName, ImageSize, RegionOutside, NoProtection, UndefinedProtection, RangeNotOffered, StatusLocked, Protected, Vault, Stopped, Timeout}
 use Rattle.nor_call.specs.Refusal.{number_of}
 use Rattle.nor_call.specs.Request.{wanted, scanned_sectors}
 use Rattle.nor_save.specs.Touched.{is_touched_by, is_raised_by}
@@ -90,9 +90,9 @@ took : (n : ℕ) (request : Request) (image : List ℕ) (mid new : BusState) (va
     → EndsSealed request vault report → mid.left ≡ new.left + report.transactions → IsDone request image mid new report → least_needed request image mid.chip report.erases ≤ n
 took n request image mid new vault report left genuine ends sent done =
     let least = ends.bounded.least in
-    let size = (shown_config mid.chip.config report.found genuine done.made.shown).size in
+    let size = (shown_config mid.chip.config report.found genuine done.reported.shown).size in
     let scanned : scanned_sectors request report.found.size ≡ scanned_sectors request mid.chip.config.size = ap (scanned_sectors request) size in
-    let programs = done.made.programs in
+    let programs = done.reported.programs in
     omega arith
 
 -- with a sealed vault it went past the scan
@@ -114,7 +114,8 @@ session_ends n request image old mid new vault report allows ends sent done undo
       record {
         accepted = subst (IsAccepted request image) allows.chip (undo mid_modelled ends.sealed).accepted;
         erases = report.erases;
-        fewest = subst (λ (chip : Chip). AreFewestErases chip.config (is_raised_by request image chip) report.erases) allows.chip (done mid_modelled).made.erases;
+        fewest = subst (λ (chip : Chip). AreFewestErases chip.config (is_raised_by request image chip) report.erases)
+            allows.chip (done mid_modelled).reported.erases;
         enough = subst (λ (chip : Chip). least_needed request image chip report.erases ≤ n) allows.chip
             (took n request image mid new vault report (allows.left modelled.honest) mid_modelled.genuine ends (sent mid_modelled.honest) (done mid_modelled));
       };
@@ -178,26 +179,9 @@ no_halt old new _ never tells = refl
 -- an answer of the session that isn't a stop is that of the rehearsal
 told : (request : Request) (image : List ℕ) (old new : BusState) (before after : VaultState) (refusal : Refusal) → (refusal ≡ Stopped → ⊥)
     → SessionTells request image old new before after refusal → RehearsalTells request image old.chip before after refusal
-told request image old new before after NoChip never tells = tells
-told request image old new before after (UnknownChip fault) never tells = tells
-told request image old new before after OtherName never tells = tells
-told request image old new before after (ImageSize chip len) never tells = tells
-told request image old new before after RegionOutside never tells = tells
-told request image old new before after NoProtection never tells = tells
-told request image old new before after UndefinedProtection never tells = tells
-told request image old new before after RangeNotOffered never tells = tells
-told request image old new before after StatusLocked never tells = tells
-told request image old new before after (Protected address) never tells = tells
 told request image old new before after Vault never tells = tells
 told request image old new before after Stopped never tells = absurd (never refl)
-told request image old new before after (Timeout address) never tells = tells
-told request image old new before after (Mismatch address) never tells = tells
-told request image old new before after (BadJournal fault) never tells = tells
-told request image old new before after OtherChip never tells = tells
-told request image old new before after StatusDiffers never tells = tells
-told request image old new before after Memory never tells = tells
-told request image old new before after (Output written) never tells = tells
-told request image old new before after OtherUnit never tells = tells
+told request image old new before after _ never tells = tells
 
 -- and one of those that leave the chip as it was, and the vault unsealed
 early : (request : Request) (image : List ℕ) (old new : BusState) (before after : VaultState) (refusal : Refusal) → RehearsalTells request image old.chip before after refusal
@@ -213,15 +197,7 @@ early request image old new before after RangeNotOffered tells = (omega arith, �
 early request image old new before after StatusLocked tells = (omega arith, λ same. same (omega arith))
 early request image old new before after (Protected address) tells = (omega arith, λ same. same (omega arith))
 early request image old new before after Vault tells = (omega arith, λ same. same (omega arith))
-early request image old new before after Stopped tells = absurd tells.holds
-early request image old new before after (Timeout address) tells = absurd tells.holds
-early request image old new before after (Mismatch address) tells = absurd tells.holds
-early request image old new before after (BadJournal fault) tells = absurd tells.holds
-early request image old new before after OtherChip tells = absurd tells.holds
-early request image old new before after StatusDiffers tells = absurd tells.holds
-early request image old new before after Memory tells = absurd tells.holds
-early request image old new before after (Output written) tells = absurd tells.holds
-early request image old new before after OtherUnit tells = absurd tells.holds
+early request image old new before after _ tells = absurd tells.holds
 
 -- it was refused, and not by a stop, unless as many transactions were allowed as any call needs
 pub session_refuses : (n few : ℕ) (request : Request) (image : List ℕ) (old mid new : BusState) (before after : VaultState) (refusal : Refusal) → Allows n old mid → AnswersSession before after refusal → NamesAddress after refusal

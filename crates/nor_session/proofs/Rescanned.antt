@@ -1,9 +1,10 @@
 -- What a restore has scanned so far.
-use Rattle.std.proofs.Common.{◌≡◌, ◌<◌, ◌≤◌, ◌+◌, ◌*◌, ◌/◌, ◌%◌, ◌&&◌, ◌||◌, ◌∙◌, ℕ, Bool, true, false, List, [], length, take, slice_index, refl, ap, sym, subst, arith, inl, inr, cond}
-use Rattle.std.specs.Prelude.{if◌then◌else◌, ◌==◌, Option, Some, None, slice_get}
+use Rattle.std.proofs.Common.{◌≡◌, ◌<◌, ◌≤◌, ◌+◌, ◌*◌, ◌/◌, ◌%◌, ◌&&◌, ◌||◌, ◌∙◌, ℕ, Bool, true, false, List, [], length, take, slice_index, refl, ap, sym, subst, arith}
+use Rattle.std.specs.Prelude.{if◌then◌else◌, ◌==◌, Option, Some, slice_get}
 use Rattle.std.specs.Option.{is_some, unwrap_or}
-use Rattle.std.proofs.lemmas.Option.{same_Some}
-use Rattle.std.proofs.lemmas.Bool.{cases_eq, ne_eqb, eq-eqb, and_left, and_parts, or_cases, or_left, or_right, both_ways}
+use Rattle.std.proofs.lemmas.Bool.{and_left, both_ways}
+use Rattle.std.proofs.lemmas.Bool.Decides.{nat_tests}
+use Rattle.nor_chip.proofs.Sizes.{is_chip_size-in_blocks}
 use Rattle.nor_chip.specs.Bus.{BusState}
 use Rattle.nor_driver.specs.Looks.{Looks, IsOpen}
 use Rattle.nor_journal.specs.Text.{SavedSector, Content, IsContent, least_after}
@@ -39,29 +40,29 @@ pub record HasRescanned (journal : Content) (i : ℕ) (old new : BusState) (scan
 
 -- ---- before the first
 
-none_before : (journal : Content) (s : ℕ) → saved_before journal 0 s ≡ false
-none_before journal s = ap (λ (o : Option (List ℕ)). is_some o) (saved_in-nil s)
-
-pub nothing_rescanned : (journal : Content) (state : BusState) (scanned : Scanned) → IsBlank scanned → HasRescanned journal 0 state state scanned
-nothing_rescanned journal state scanned blank = record {
+pub nothing_rescanned : {journal : Content} {state : BusState} {scanned : Scanned} → IsBlank scanned
+    → HasRescanned journal 0 state state scanned
+nothing_rescanned {journal = journal} {state = state} {scanned = scanned} blank = record {
   marks = record {
     below = λ s is. absurd (both_ways (has scanned.touched s) (blank.touched s) is);
     inside = λ s is. absurd (both_ways (has scanned.raised s) (blank.raised s) is);
     count = blank.count ∙ sym (count_below-none 4096 (has scanned.touched) (λ s below. blank.touched s));
   };
   reads = blank.reads;
-  few = let count = blank.count in omega arith;
+  few = omega arith;
   looked = has_looked-none state;
   saved = λ s is. absurd (both_ways (has scanned.touched s) (blank.touched s) is);
   bytes = λ s bytes is k. absurd (let none = saved_in-nil s in cc);
-  touched = λ is_open s. blank.touched s ∙ sym (and_left (saved_before journal 0 s) (is_touched_from journal state.chip s) (none_before journal s));
-  raised = λ is_open s. blank.raised s ∙ sym (and_left (saved_before journal 0 s) (is_raised_from journal state.chip s) (none_before journal s));
+  touched = λ is_open s.
+      blank.touched s ∙ sym (and_left _ (is_touched_from journal state.chip s) (ap is_some (saved_in-nil s)));
+  raised = λ is_open s.
+      blank.raised s ∙ sym (and_left _ (is_raised_from journal state.chip s) (ap is_some (saved_in-nil s)));
 }
 
 -- ---- one more
 
-later_marks : (m n : ℕ) (scanned : Scanned) → m ≤ n → AreMarks m scanned → AreMarks n scanned
-later_marks m n scanned later are = record {
+later_marks : {m n : ℕ} {scanned : Scanned} → m ≤ n → AreMarks m scanned → AreMarks n scanned
+later_marks later are = record {
   below = λ s is. let b = are.below s is in omega arith;
   inside = are.inside;
   count = are.count;
@@ -72,40 +73,13 @@ more_before : (journal : Content) (i number : ℕ) (saved : List ℕ) (s : ℕ) 
     → saved_before journal (i + 1) s ≡ ((s == number) || saved_before journal i s)
 more_before journal i number saved s is at =
     let more = saved_in-take_more journal i (record { number = number; bytes = saved }) s is at in
-    ap (λ (o : Option (List ℕ)). is_some o) more
-    ∙ elim (cases_eq s number) [
-      | inl here ↦
-          ap (λ (b : Bool). is_some (cond b (Some saved) (saved_in (take i journal.saved) s))) (eq-eqb number s (sym here))
-          ∙ sym (or_left (s == number) (saved_before journal i s) (eq-eqb s number here))
-      | inr other ↦
-          ap (λ (b : Bool). is_some (cond b (Some saved) (saved_in (take i journal.saved) s))) (ne_eqb number s (λ same. other (sym same)))
-          ∙ sym (ap (λ (b : Bool). b || saved_before journal i s) (ne_eqb s number other))
-    ]
-
-absorbs : (t x : Bool) → ((t && true) || (x && t)) ≡ (true && t)
-absorbs true x = refl
-absorbs false true = refl
-absorbs false false = refl
-
-drops : (v old : Bool) → ((v && false) || old) ≡ old
-drops true old = refl
-drops false old = refl
+    grind (arith, nat_tests)
 
 -- a sector more was tested
-tested : (n s : ℕ) (test : ℕ → Bool) (verdict before after old new : Bool) → verdict ≡ test n → after ≡ ((s == n) || before) → old ≡ (before && test s)
-    → new ≡ ((verdict && (s == n)) || old) → new ≡ (after && test s)
-tested n s test verdict before after old new is more was inserted =
-    elim (cases_eq s n) [
-      | inl here ↦
-          inserted ∙ ap (λ (b : Bool). (b && (s == n)) || old) (is ∙ ap test (sym here))
-          ∙ ap (λ (b : Bool). (test s && b) || old) (eq-eqb s n here)
-          ∙ ap (λ (b : Bool). (test s && true) || b) was
-          ∙ absorbs (test s) before
-          ∙ ap (λ (b : Bool). b && test s) (sym (more ∙ or_left (s == n) before (eq-eqb s n here)))
-      | inr other ↦
-          inserted ∙ ap (λ (b : Bool). (verdict && b) || old) (ne_eqb s n other) ∙ drops verdict old
-          ∙ was ∙ ap (λ (b : Bool). b && test s) (sym (more ∙ ap (λ (b : Bool). b || before) (ne_eqb s n other)))
-    ]
+tested : (n s : ℕ) (test : ℕ → Bool) (verdict before after old new : Bool) → verdict ≡ test n
+    → after ≡ ((s == n) || before) → old ≡ (before && test s) → new ≡ ((verdict && (s == n)) || old)
+    → new ≡ (after && test s)
+tested n s test verdict before after old new is more was inserted = grind (arith, nat_tests)
 
 -- what is wanted of a saved sector are its saved bytes, and of another one those that it has
 pub restored_saved : (journal : Content) (content : ℕ → ℕ) (a : ℕ) → is_saved journal (a / 4096) ≡ true → restored journal content a ≡ saved_byte journal a
@@ -136,50 +110,46 @@ planned_from journal s saved bytes old mid new plan i is place whole is_open loo
     (λ k below. shown.byte k (omega arith) ∙ same (4096 * s + k))
     (λ k below. restored_at journal content s saved k is (omega arith)))
 
-pub rescanned_more : (journal : Content) (i s : ℕ) (saved bytes : List ℕ) (old mid new : BusState) (plan : SectorPlan) (scanned next : Scanned)
-    → IsContent journal → slice_get journal.saved i ≡ Some (record { number = s; bytes = saved }) → length saved ≡ 4096
-    → HasRescanned journal i old mid scanned → Looks 1 mid new → PlansSaved s saved bytes mid new plan → HasMarked s plan scanned next → HasRescanned journal (i + 1) old new next
-rescanned_more journal i s saved bytes old mid new plan scanned next is at whole was looks plans marked =
-    let is_in : saved_in journal.saved s ≡ Some saved = saved_in-at (journal.size / 4096) 0 journal.saved i (record { number = s; bytes = saved }) is.saved at in
-    let place = (rising_at (journal.size / 4096) 0 journal.saved i (record { number = s; bytes = saved }) is.saved at).0.place in
-    let next_least = take-next journal i (record { number = s; bytes = saved }) is at in
-    let most = is.size.most in
-    let plans_are = λ (is_open : IsOpen journal.size old). planned_from journal s saved bytes old mid new plan i is_in place whole is_open was.looked plans in
+pub rescanned_more : {journal : Content} {i s : ℕ} {saved bytes : List ℕ} {old mid new : BusState} {plan : SectorPlan}
+    {scanned next : Scanned} → IsContent journal
+    → slice_get journal.saved i ≡ Some (record { number = s; bytes = saved }) → length saved ≡ 4096
+    → HasRescanned journal i old mid scanned → Looks 1 mid new → PlansSaved s saved bytes mid new plan
+    → HasMarked s plan scanned next → HasRescanned journal (i + 1) old new next
+rescanned_more {journal = journal} {i = i} {s = s} {saved = saved} {bytes = bytes} {old = old} {mid = mid} {new = new}
+    {plan = plan} {scanned = scanned} {next = next} is at whole was looks plans marked =
+    let one : SavedSector = record { number = s; bytes = saved } in
+    let is_in = saved_in-at (journal.size / 4096) 0 journal.saved i one is.saved at in
+    let place = (rising_at (journal.size / 4096) 0 journal.saved i one is.saved at).0.place in
+    let next_least = take-next journal i one is at in
+    let plans_are = λ (is_open : IsOpen journal.size old).
+    planned_from journal s saved bytes old mid new plan i is_in place whole is_open was.looked plans in
+    let most = (is_chip_size-in_blocks journal.size is.size).small in
+    let more = λ (t : ℕ). more_before journal i s saved t is at in
     record {
       marks = subst (λ (n : ℕ). AreMarks n next) (sym next_least.1)
-          (marks_more s plan scanned next (omega arith) plans.needed (later_marks (least_after 0 (take i journal.saved)) s scanned next_least.0 was.marks) marked);
+          (marks_more s plan scanned next (omega arith) plans.needed (later_marks next_least.0 was.marks) marked);
       reads = marked.reads ∙ ap (λ (n : ℕ). n + 1) was.reads;
-      few = let one = at_most_one plan.touched in let count = marked.count in let few = was.few in omega arith;
+      few = let count = at_most_one plan.touched in omega arith;
       looked = has_looked-more i old mid new was.looked looks plans.read.read plans.heard;
       saved = λ t hit.
-          more_before journal i s saved t is at
-          ∙ elim (or_cases (plan.touched && (t == s)) (has scanned.touched t) (sym (marked.touched t) ∙ hit)) [
-            | inl here ↦ or_left (t == s) (saved_before journal i t) (and_parts plan.touched (t == s) here).1
-            | inr before ↦ or_right (t == s) (saved_before journal i t) (was.saved t before)
-          ];
-      bytes = λ t these told.
-          let more = saved_in-take_more journal i (record { number = s; bytes = saved }) t is at in
-          elim (cases_eq s t) [
-            | inl here ↦
-                let same : saved ≡ these = same_Some saved these (sym (more ∙ ap (λ (b : Bool). cond b (Some saved) (saved_in (take i journal.saved) t)) (eq-eqb s t here)) ∙ told) in
-                subst (λ (b : List ℕ). (k : ℕ) → slice_index b k < 256) same plans.small
-            | inr other ↦ was.bytes t these (sym (more ∙ ap (λ (b : Bool). cond b (Some saved) (saved_in (take i journal.saved) t)) (ne_eqb s t other)) ∙ told)
-          ];
+          let now = more t in let mark = marked.touched t in let before = was.saved t in
+          grind (arith, nat_tests);
+      bytes = λ t these told k.
+          let now = saved_in-take_more journal i one t is at in
+          let before = λ (had : saved_in (take i journal.saved) t ≡ Some these). was.bytes t these had k in
+          let small = plans.small k in
+          grind (arith, nat_tests);
       touched = λ is_open t.
-          tested s t (is_touched_from journal old.chip) plan.touched (saved_before journal i t) (saved_before journal (i + 1) t) (has scanned.touched t) (has next.touched t)
-          (plans_are is_open).0 (more_before journal i s saved t is at) (was.touched is_open t) (marked.touched t);
+          tested s t (is_touched_from journal old.chip) _ _ _ _ _ (plans_are is_open).0 (more t)
+          (was.touched is_open t) (marked.touched t);
       raised = λ is_open t.
-          tested s t (is_raised_from journal old.chip) plan.raised (saved_before journal i t) (saved_before journal (i + 1) t) (has scanned.raised t) (has next.raised t)
-          (plans_are is_open).1 (more_before journal i s saved t is at) (was.raised is_open t) (marked.raised t);
+          tested s t (is_raised_from journal old.chip) _ _ _ _ _ (plans_are is_open).1 (more t)
+          (was.raised is_open t) (marked.raised t);
     }
 
 -- ---- the end
 
 -- a sector that isn't saved is as wanted
-all_or_none : (b t : Bool) → (b ≡ false → t ≡ false) → (b && t) ≡ t
-all_or_none true t none = refl
-all_or_none false t none = sym (none refl)
-
 pub untouched_other : (journal : Content) (content : ℕ → ℕ) (s : ℕ) → is_saved journal s ≡ false → is_touched content (restored journal content) s ≡ false
 untouched_other journal content s none =
     untouched content (restored journal content) s
@@ -191,33 +161,35 @@ unraised_other journal content s none =
     (λ i below. restored_other journal content (4096 * s + i) (ap (λ (t : ℕ). is_saved journal t) (let e : (4096 * s + i) / 4096 ≡ s = omega arith in e) ∙ none))
 
 small_byte : (o : Option (List ℕ)) (k : ℕ) → ((bytes : List ℕ) → o ≡ Some bytes → (k : ℕ) → slice_index bytes k < 256) → is_some o ≡ true → slice_index (unwrap_or o []) k < 256
-small_byte (Some bytes) k small is = small bytes refl k
-small_byte None k small is = absurd cc
+small_byte o k small is = grind (arith, nat_tests)
 
-pub all_rescanned : (journal : Content) (n : ℕ) (old new : BusState) (scanned : Scanned) → IsContent journal → n ≡ length journal.saved → HasRescanned journal n old new scanned → ScansSaved journal old new scanned
-all_rescanned journal n old new scanned is end was =
-    let whole : take n journal.saved ≡ journal.saved = ap (λ (k : ℕ). take k journal.saved) end ∙ take-all_sectors journal.saved in
-    let all : (s : ℕ) → saved_before journal n s ≡ is_saved journal s = λ s. ap (λ (ss : List SavedSector). is_some (saved_in ss s)) whole in
-    let least : least_after 0 (take n journal.saved) ≡ least_after 0 journal.saved = ap (λ (ss : List SavedSector). least_after 0 ss) whole in
-    let within = least_within journal is in
-    let few = saved_few journal is in
-    let most = is.size.most in
+pub all_rescanned : {journal : Content} {n : ℕ} {old new : BusState} {scanned : Scanned} → IsContent journal
+    → n ≡ length journal.saved → HasRescanned journal n old new scanned → ScansSaved journal old new scanned
+all_rescanned {journal = journal} {n = n} {old = old} {scanned = scanned} is end was =
+    let whole : take n journal.saved ≡ journal.saved
+    = ap (λ (k : ℕ). take k journal.saved) end ∙ take-all_sectors journal.saved in
+    let least = ap (least_after 0) whole in
+    let within = least_within journal is in let few = saved_few journal is in
+    let most = (is_chip_size-in_blocks journal.size is.size).small in
+    let all : (s : ℕ) → saved_before journal n s ≡ is_saved journal s = λ s. rw whole refl in
     record {
-      marks = later_marks (least_after 0 (take n journal.saved)) (journal.size / 4096) scanned (omega arith) was.marks;
+      marks = later_marks (omega arith) was.marks;
       saved = λ s hit. sym (all s) ∙ was.saved s hit;
       bytes = λ a hit.
           small_byte (saved_in journal.saved (a / 4096)) (a % 4096)
-          (λ bytes told. was.bytes (a / 4096) bytes (ap (λ (ss : List SavedSector). saved_in ss (a / 4096)) whole ∙ told)) hit;
+          (λ bytes told. was.bytes (a / 4096) bytes (rw whole told)) hit;
       reads = was.reads ∙ end;
-      few = let reads = was.reads in let count = was.few in omega arith;
+      few = omega arith;
       room = omega arith;
       heard = was.looked.heard;
       rested = was.looked.rested;
       sent = λ honest. let sent = was.looked.sent honest in omega arith;
       touched = λ is_open s.
-          was.touched is_open s ∙ ap (λ (b : Bool). b && is_touched_from journal old.chip s) (all s)
-          ∙ all_or_none (is_saved journal s) (is_touched_from journal old.chip s) (untouched_other journal old.chip.bytes s);
+          let hit = was.touched is_open s in let before = all s in
+          let other = untouched_other journal old.chip.bytes s in
+          grind (arith, nat_tests);
       raised = λ is_open s.
-          was.raised is_open s ∙ ap (λ (b : Bool). b && is_raised_from journal old.chip s) (all s)
-          ∙ all_or_none (is_saved journal s) (is_raised_from journal old.chip s) (unraised_other journal old.chip.bytes s);
+          let hit = was.raised is_open s in let before = all s in
+          let other = unraised_other journal old.chip.bytes s in
+          grind (arith, nat_tests);
     }

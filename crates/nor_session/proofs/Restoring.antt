@@ -29,8 +29,10 @@ use Rattle.nor_save.specs.Opening.{most_opening}
 use Rattle.nor_session.specs.Bounds.{most_of}
 use Rattle.nor_session.specs.Session.{HonestTells, IsWithinBound}
 use Rattle.nor_session.specs.Changing.{most_changed, LeavesChange, DoesChange, ChangeTells}
-use Rattle.nor_session.specs.Restore.{is_touched_from, is_raised_from, NeedsStatusFrom, IsJudgedFirst, IsRestoreRefusal, RestoreTells, LeavesRestore, IsRestored, open_places, CanGiveBack}
+use Rattle.nor_session.specs.Headline.{open_places, CanGiveBack}
+use Rattle.nor_session.specs.Restore.{is_touched_from, is_raised_from, NeedsStatusFrom, IsJudgedFirst, IsRestoreRefusal, RestoreTells, LeavesRestore, IsRestored}
 use Rattle.nor_session.specs.Prepare.{PrepareTells, IsPrepared}
+use Rattle.nor_session.proofs.OneRestoreVerdict.{judged_verdict, accepted_restorable}
 use Rattle.nor_session.proofs.Changed.{two_writes, no_write, fewest_at}
 use Rattle.nor_session.proofs.RestoredBytes.{touched_saved, written_restored, pages_same}
 use Rattle.nor_session.proofs.GivenBack.{looked_within, change_within, given_back}
@@ -73,7 +75,8 @@ pub prepare_tells : (journal : Content) (most : ℕ) (old new : BusState) (refus
     → RestoreTells journal old new refusal
 prepare_tells journal most old new Stopped fits modelled tells = let out = tells modelled.honest in let below = out.below in record { none_left = out.none_left; below = omega arith }
 prepare_tells journal most old new (Timeout address) fits modelled tells = absurd (tells.1 modelled.honest)
-prepare_tells journal most old new _ fits modelled tells = tells.verdict modelled
+prepare_tells journal most old new refusal fits modelled tells =
+    judged_verdict journal old.chip refusal (tells.verdict modelled)
 
 pub looks_leave : (journal : Content) (most : ℕ) (old new : BusState) → LooksHonest most old new → LeavesRestore journal old new
 looks_leave journal most old new looked = record {
@@ -254,13 +257,15 @@ restored_done journal prepared old mid new work sent are does modelled =
     let raised : raised_in changes ≡ is_raised_from journal old.chip = fun_ext for.raised in
     let bytes : mid.chip.bytes ≡ old.chip.bytes = fun_ext same.same.bytes in
     record {
-      accepted = for.accepted;
+      accepted = accepted_restorable journal old.chip for.accepted;
       made = record {
         config = applied.config ∙ same.same.config;
         bytes = λ a. written_restored journal old.chip.bytes mid.chip.bytes new.chip.bytes (touched_in changes) a for.touched (same.same.bytes a) (applied.bytes a);
         fixed = fixed_then old.chip mid.chip new.chip (kept_fixed old.chip mid.chip (same.same.kept1, same.same.kept2)) applied.fixed;
         idle = applied.idle;
         latch = λ set. (are.is.rested modelled.honest).latch (applied.latch set);
+      };
+      reported = record {
         worn = λ s. applied.worn s ∙ ap (λ (b : Bool). b || raised_in changes s) (same.worn s) ∙ ap (λ (b : Bool). old.worn s || b) (for.raised s);
         shown = for.shown;
         status1 = for.status1;

@@ -1,6 +1,7 @@
 -- The bytes that a journal saved, at the addresses of a chip.
-use Rattle.std.proofs.Common.{◌≡◌, ℕ, ◌+◌, ◌*◌, ◌/◌, ◌%◌, ◌<◌, ◌≤◌, true, length, List, [], slice_index, sym, ap, ◌∙◌, arith, Option, Some}
-use Rattle.std.specs.Option.{is_some, unwrap_or}
+use Rattle.std.proofs.Common.{◌≡◌, ℕ, ◌+◌, ◌*◌, ◌/◌, ◌%◌, ◌<◌, ◌≤◌, true, length, List, slice_index, refl, ap, arith, Option, Some}
+use Rattle.std.specs.Option.{is_some}
+use Rattle.nor_chip.proofs.Sizes.{is_chip_size-in_blocks}
 use Rattle.nor_journal.specs.Text.{Content, IsContent}
 use Rattle.nor_journal.proofs.Saved.{saved_few}
 use Rattle.nor_journal.specs.Saved.{saved_in, is_saved, saved_byte}
@@ -10,9 +11,7 @@ pub byte_at : (journal : Content) (s : ℕ) (bytes : List ℕ) (i : ℕ) → sav
 byte_at journal s bytes i is below =
     let sector : (4096 * s + i) / 4096 ≡ s = omega arith in
     let place : (4096 * s + i) % 4096 ≡ i = omega arith in
-    sym (ap (λ (t : ℕ). slice_index (unwrap_or (saved_in journal.saved t) []) ((4096 * s + i) % 4096)) sector
-    ∙ ap (λ (k : ℕ). slice_index (unwrap_or (saved_in journal.saved s) []) k) place
-    ∙ ap (λ (o : Option (List ℕ)). slice_index (unwrap_or o []) i) is)
+    rw (sector, place, is) refl
 
 -- a sector with bytes is saved
 pub is_saved-some : (journal : Content) (s : ℕ) (bytes : List ℕ) → saved_in journal.saved s ≡ Some bytes → is_saved journal s ≡ true
@@ -20,4 +19,7 @@ is_saved-some journal s bytes is = ap (λ (o : Option (List ℕ)). is_some o) is
 
 -- a journal saves no more sectors than a chip can have
 pub saved_room : (journal : Content) → IsContent journal → length journal.saved ≤ 4096
-saved_room journal is = let few = saved_few journal is in let most = is.size.most in omega arith
+saved_room journal is =
+    let few = saved_few journal is in
+    let most = (is_chip_size-in_blocks journal.size is.size).small in
+    omega arith

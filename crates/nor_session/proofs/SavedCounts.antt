@@ -1,17 +1,18 @@
 -- How many sectors a journal saves.
-use Rattle.std.proofs.Common.{◌≡◌, ◌<◌, ◌≤◌, ◌+◌, ◌/◌, ◌∙◌, ◌||◌, ℕ, Bool, false, List, [], ◌∷◌, length, refl, sym, arith, inl, inr}
+use Rattle.std.proofs.Common.{◌≡◌, ◌<◌, ◌≤◌, ◌+◌, ◌/◌, ◌∙◌, ◌||◌, ℕ, Bool, false, List, [], ◌∷◌, length, refl, sym, arith}
 use Rattle.std.specs.Prelude.{◌==◌}
 use Rattle.std.specs.Option.{is_some}
-use Rattle.std.proofs.lemmas.Bool.{eq-eqb, ne_eqb}
-use Rattle.std.proofs.lemmas.Bool.Decides.{eqb_tells}
+use Rattle.std.proofs.lemmas.Bool.{ne_eqb}
+use Rattle.std.proofs.lemmas.Bool.Decides.{nat_tests}
+use Rattle.nor_chip.proofs.Sizes.{is_chip_size-in_blocks}
 use Rattle.nor_journal.specs.Text.{SavedSector, Content, AreRising}
 use Rattle.nor_journal.specs.Saved.{Saves, saved_in}
 use Rattle.nor_journal.proofs.Saves.{Saves-set}
 use Rattle.nor_count.specs.Below.{count_below}
-use Rattle.nor_count.proofs.Below.{count_below-most}
 use Rattle.nor_count.specs.Counts.{sector_count}
 use Rattle.nor_count.proofs.Counting.{count_below-none, count_below-same}
 use Rattle.nor_count.proofs.Verdicts.{count_below-insert}
+use Rattle.nor_session.proofs.SavedBytes.{saved_room}
 
 -- whether one of these records has the sector
 abbrev has_record : List SavedSector → ℕ → Bool
@@ -22,17 +23,12 @@ not_below : (sectors least : ℕ) (saved : List SavedSector) (s : ℕ) → AreRi
 unfolding saved_in
 not_below sectors least [] s rising below = refl
 not_below sectors least (first ∷ rest) s rising below =
-    let above = rising.1 in
     rw (ne_eqb first.number s (λ e. omega arith)) (not_below sectors (first.number + 1) rest s rising.2 (omega arith))
 
 -- one record more has its own sector
 one_more : (first : SavedSector) (rest : List SavedSector) (s : ℕ) → has_record (first ∷ rest) s ≡ ((s == first.number) || has_record rest s)
 unfolding saved_in
-one_more first rest s =
-    elim (eqb_tells first.number s) [
-      | inl hit ↦ rw (eq-eqb first.number s hit.1, eq-eqb s first.number (sym hit.1)) refl
-      | inr miss ↦ rw (ne_eqb first.number s miss.1, ne_eqb s first.number (λ e. miss.1 (sym e))) refl
-    ]
+one_more first rest s = grind (arith, nat_tests)
 
 counted : (n sectors least : ℕ) (saved : List SavedSector) → sectors ≤ n → AreRising sectors least saved → count_below n (has_record saved) ≡ length saved
 unfolding saved_in
@@ -47,13 +43,10 @@ counted n sectors least (first ∷ rest) upto rising =
 -- as many as are in the set that it saves
 pub saved_count : (chip : ℕ → ℕ) (saved : ℕ → Bool) (journal : Content) → Saves chip saved journal → length journal.saved ≡ sector_count saved
 saved_count chip saved journal saves =
-    let most = saves.is.size.most in
+    let most = (is_chip_size-in_blocks journal.size saves.is.size).small in
     sym (counted 4096 (journal.size / 4096) 0 journal.saved (omega arith) saves.is.saved)
     ∙ sym (count_below-same 4096 saved (has_record journal.saved) (λ s below. Saves-set chip saved journal s saves))
 
 -- so at most 4,096
 pub saved_few : (chip : ℕ → ℕ) (saved : ℕ → Bool) (journal : Content) → Saves chip saved journal → length journal.saved ≤ 4096
-saved_few chip saved journal saves =
-    let count = saved_count chip saved journal saves in
-    let most = count_below-most 4096 saved in
-    omega arith
+saved_few chip saved journal saves = saved_room journal saves.is

@@ -205,6 +205,8 @@ done request image image' opening status code kept old mid new verify work sent 
         fixed = fixed_then old.chip mid.chip new.chip (kept_fixed old.chip mid.chip (same.kept1, same.kept2)) applied.fixed;
         idle = applied.idle;
         latch = λ set. of.rested.latch (applied.latch set);
+      };
+      reported = record {
         worn = λ s. applied.worn s ∙ ap (λ (b : Bool). b || has kept.scanned.raised s) (of.rested.unchanged.worn s) ∙ ap (λ (b : Bool). old.worn s || b) (of.raised s);
         shown = of.shown;
         status1 = of.is.one;

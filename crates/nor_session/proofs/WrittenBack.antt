@@ -12,7 +12,7 @@ use Rattle.nor_save.specs.Touched.{is_touched_by}
 use Rattle.nor_save.specs.Saving.{head_of}
 use Rattle.nor_call.specs.declared.request.Request.{Request}
 use Rattle.nor_probe.specs.Known.{IsModelled}
-use Rattle.nor_session.specs.Restore.{CanGiveBack, open_places}
+use Rattle.nor_session.specs.Headline.{CanGiveBack, open_places}
 use Rattle.nor_session.specs.Session.{CanBeUndone}
 use Rattle.nor_session.specs.WrittenOver.{IsWrittenOver}
 use Rattle.nor_session.proofs.GivesBack.{can_give_back, leads_back}

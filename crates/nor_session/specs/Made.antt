@@ -1,7 +1,7 @@
 -- What a session or a restore makes of a chip, and what its report counts.
 use Rattle.std.specs.Prelude.{◌≡◌, ◌/◌, ◌||◌, ℕ, Bool, true, Ok}
 use Rattle.nor_chip.specs.declared.config.Config.{Config}
-use Rattle.nor_chip.specs.Chip.{status1_of}
+use Rattle.nor_chip.specs.Chip.{Chip, status1_of}
 use Rattle.nor_chip.specs.Bus.{BusState}
 use Rattle.nor_driver.specs.StatusWrites.{KeepsFixed}
 use Rattle.nor_count.specs.Below.{count_below}
@@ -20,16 +20,19 @@ AreFewestErases config = IsLeastLength config.kinds (config.size / 4096)
 abbrev pub pages_of : (touched raised : ℕ → Bool) → (old wanted : ℕ → ℕ) → ℕ
 pages_of touched raised old wanted = count_below 65536 (is_programmed touched (once_erased raised old) wanted)
 
--- At the end each byte is the wanted one, the fixed bits are as they were, the chip is idle, and its latch is set only
--- where it was; only the raised sectors were erased, by the fewest erases; and the report tells the chip, and counts
--- what was done.
-pub record IsMade (wanted : ℕ → ℕ) (touched raised : ℕ → Bool) (old new : BusState)
+-- The chip is made the wanted one: each byte is that, the fixed bits are as they were, it is idle, and its latch is set
+-- only where it was.
+pub record IsMade (wanted : ℕ → ℕ) (old new : Chip) : Type 0 where
+  pub config : new.config ≡ old.config
+  pub bytes : (a : ℕ) → new.bytes a ≡ wanted a
+  pub fixed : KeepsFixed old new
+  pub idle : new.busy ≡ 0
+  pub latch : new.latch ≡ true → old.latch ≡ true
+
+-- Only the raised sectors were erased for it; and the report tells the chip, and counts what was done: the touched
+-- sectors, the erases, which are the fewest, and the programs.
+pub record IsReported (wanted : ℕ → ℕ) (touched raised : ℕ → Bool) (old new : BusState)
     (report : Report) : Type 0 where
-  pub config : new.chip.config ≡ old.chip.config
-  pub bytes : (a : ℕ) → new.chip.bytes a ≡ wanted a
-  pub fixed : KeepsFixed old.chip new.chip
-  pub idle : new.chip.busy ≡ 0
-  pub latch : new.chip.latch ≡ true → old.chip.latch ≡ true
   pub worn : (s : ℕ) → new.worn s ≡ (old.worn s || raised s)
   pub shown : shown_as old.chip.config ≡ Ok (part_in report.found)
   pub status1 : report.found.status1 / 4 ≡ old.chip.kept1

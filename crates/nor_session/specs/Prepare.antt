@@ -1,5 +1,5 @@
 -- What a restore finds of a chip before it changes anything.
-use Rattle.std.specs.Prelude.{◌≡◌, ◌<◌, ◌≤◌, ◌+◌, ◌/◌, ◌||◌, ◌⊎◌, ℕ, Bool, true, List, Result, Ok, IfErr, OnOk, OnErr, IfOk, MatchBool, length, slice_index, ⊤}
+use Rattle.std.specs.Prelude.{◌≡◌, ◌<◌, ◌≤◌, ◌+◌, ◌/◌, ◌||◌, ◌⊎◌, ℕ, Bool, true, List, Result, None, Ok, Err, IfErr, OnOk, OnErr, IfOk, MatchBool, length, slice_index, ⊤}
 use Rattle.nor_chip.specs.Code.{code_in}
 use Rattle.nor_chip.specs.Chip.{Chip, IsSame, is_locked, status1_of}
 use Rattle.nor_chip.specs.Bus.{BusState}
@@ -12,6 +12,7 @@ use Rattle.nor_plan.specs.declared.plan.SectorPlan.{SectorPlan}
 use Rattle.nor_plan.specs.Plan.{AreBytesOf, IsPlan}
 use Rattle.nor_plan.specs.SectorSet.{has, LiesBelow}
 use Rattle.nor_probe.specs.declared.probes.Found.{Found}
+use Rattle.nor_probe.specs.declared.probes.ProbeFault.TheVariants as Probes
 use Rattle.nor_probe.specs.Known.{shown_as, IsModelled}
 use Rattle.nor_probe.specs.Found.{part_in}
 use Rattle.nor_apply.specs.declared.changes.Changes.{Changes}
@@ -19,13 +20,43 @@ use Rattle.nor_apply.specs.Applying.{writes_code, CanApply}
 use Rattle.nor_save.specs.declared.opening.Opening.{Opening}
 use Rattle.nor_save.specs.declared.scanning.Scanned.{Scanned}
 use Rattle.nor_call.specs.declared.refusal.Refusal.{Refusal}
-use Rattle.nor_call.specs.declared.refusal.Refusal.TheVariants.{OtherUnit, StatusDiffers, Stopped, Timeout}
+use Rattle.nor_call.specs.declared.refusal.Refusal.TheVariants.{NoChip, UnknownChip, StatusLocked, Stopped, Timeout, OtherChip, OtherUnit, StatusDiffers}
 use Rattle.nor_save.specs.Scanning.{AreMarks}
 use Rattle.nor_save.specs.Saving.{IsOpening, NoneHeld, SomeHeld}
 use Rattle.nor_session.specs.declared.prepare.Prepared.{Prepared}
 use Rattle.nor_session.specs.Bounds.{most_looked}
 use Rattle.nor_session.specs.Changing.{touched_count}
-use Rattle.nor_session.specs.Restore.{is_touched_from, is_raised_from, IsOfKind, FitsStatus, Fits, NeedsStatusFrom, IsJudgedFirst, IsRestoreVerdict, IsRestorable}
+use Rattle.nor_session.specs.Headline.{IsOfKind}
+use Rattle.nor_session.specs.Verdict.{IsNamed}
+use Rattle.nor_session.specs.Restore.{is_touched_from, is_raised_from, IsOfOtherUnit, FitsStatus, NeedsStatusFrom, IsJudgedFirst}
+
+-- ---- what is judged, in the order of the code
+
+-- The chip is known, and the journal is one of it.
+pub record Fits (journal : Content) (chip : Chip) : Type 0 where
+  pub named : IsNamed None chip.config
+  pub kind : IsOfKind journal chip.config
+  pub unit : ¬ IsOfOtherUnit journal chip.config
+  pub fixed : FitsStatus journal chip
+
+-- a refusal that is judged, and what was judged before it
+abbrev pub RestoreJudges : Content → Chip → Refusal → Type 0
+RestoreJudges journal chip NoChip = shown_as chip.config ≡ Err Probes.NoChip
+RestoreJudges journal chip (UnknownChip fault) = shown_as chip.config ≡ Err (Probes.UnknownChip fault)
+RestoreJudges journal chip OtherChip = IsNamed None chip.config × (¬ IsOfKind journal chip.config)
+RestoreJudges journal chip OtherUnit =
+    IsNamed None chip.config × IsOfKind journal chip.config × IsOfOtherUnit journal chip.config
+RestoreJudges journal chip StatusDiffers =
+    IsNamed None chip.config × IsOfKind journal chip.config × (¬ IsOfOtherUnit journal chip.config)
+    × (¬ FitsStatus journal chip)
+RestoreJudges journal chip StatusLocked =
+    Fits journal chip × (is_locked chip ≡ true) × NeedsStatusFrom journal (is_touched_from journal chip) chip
+RestoreJudges journal chip _ = ⊥
+
+-- All is judged, and nothing refused.
+pub record RestoreAccepts (journal : Content) (chip : Chip) : Type 0 where
+  pub fits : Fits journal chip
+  pub not_locked : is_locked chip ≡ true → ¬ NeedsStatusFrom journal (is_touched_from journal chip) chip
 
 -- ---- the opening
 
@@ -54,16 +85,16 @@ abbrev pub AcceptsUnit : Content → Opening → Result Unit Refusal → Type 0
 AcceptsUnit journal opening judged = (chip : Chip) → chip.kept2 < 128 → IsOpening chip opening
     → IsOfKind journal chip.config → OnOk judged (Fits journal chip)
 
--- and where it is refused, that is the verdict
+-- and where it is refused, all before that is accepted
 abbrev pub RefusesUnit : Content → Opening → Result Unit Refusal → Type 0
 RefusesUnit journal opening judged = (chip : Chip) → chip.kept2 < 128 → IsOpening chip opening
-    → IsOfKind journal chip.config → IfErr judged (IsRestoreVerdict journal chip)
+    → IsOfKind journal chip.config → IfErr judged (RestoreJudges journal chip)
 
--- A refusal that was judged: nothing changed, and on a modelled bus it is the verdict.
+-- A refusal that was judged: nothing changed, and on a modelled bus that was judged of the chip.
 pub record IsRefusedFor (journal : Content) (old new : BusState) (refusal : Refusal) : Type 0 where
   pub judged : IsJudgedFirst refusal
   pub same : old.honest ≡ true → IsSame old.chip new.chip
-  pub verdict : IsModelled old → IsRestoreVerdict journal old.chip refusal
+  pub verdict : IsModelled old → RestoreJudges journal old.chip refusal
 
 -- What a refusal tells before anything is changed: the bus stopped, with fewer transactions left than these; another
 -- bus than an honest one stayed busy, which is told at 0; or it was judged.
@@ -138,7 +169,7 @@ RefusesShut journal opening touched judged =
 -- On a modelled bus: the chip as it was before may be restored, was found as what it shows itself to be, and as it is
 -- now the changes that the journal asks for can be made, which write the status only where that is needed.
 pub record IsPreparedFor (journal : Content) (old new : Chip) (prepared : Prepared) : Type 0 where
-  pub accepted : IsRestorable journal old
+  pub accepted : RestoreAccepts journal old
   pub shown : shown_as old.config ≡ Ok (part_in prepared.found)
   pub status1 : prepared.found.status1 / 4 ≡ old.kept1
   pub told : old.busy ≡ 0 → prepared.found.status1 ≡ status1_of old

@@ -3,7 +3,6 @@ use Rattle.std.specs.Prelude.{◌≡◌, ◌≤◌, ◌<◌, ◌+◌, ◌-◌, �
 use Rattle.std.specs.List.{list_any}
 use Rattle.nor_chip.specs.Chip.{Chip, IsSame}
 use Rattle.nor_chip.specs.Bus.{BusState, KeepsNature}
-use Rattle.nor_driver.specs.Looks.{IsCalm}
 use Rattle.nor_journal.specs.Vault.{VaultState, Rose}
 use Rattle.nor_journal.specs.Saved.{JournalSaves}
 use Rattle.nor_count.specs.Counts.{sector_count}
@@ -115,8 +114,6 @@ pub record RehearsalAlways (request : Request) (stops : List ℕ) (old new : Bus
 -- On an honest bus whose chip is what it shows itself to be.
 pub record RehearsalModelled (request : Request) (image stops : List ℕ) (old new : BusState) (vault vault' : VaultState)
     (result : Result Rehearsal Refusal) : Type 0 where
-  -- on a calm bus the chip is the same again, at every exit
-  pub gives_back : IsCalm old → IsSame old.chip new.chip
   -- session and restores erase no sector but those that the session touches
   pub wears : (s : ℕ) → is_touched_by request image old.chip s ≡ false → new.worn s ≡ old.worn s
   -- after a refusal nothing changed, and the vault isn't sealed

@@ -1,5 +1,5 @@
 -- What the parts of a rehearsal come to: its session, and the restores in turn.
-use Rattle.std.specs.Prelude.{◌≡◌, ◌≤◌, ◌<◌, ◌+◌, ◌*◌, ◌/◌, ℕ, Bool, true, false, List, length}
+use Rattle.std.specs.Prelude.{◌≡◌, ◌≤◌, ◌<◌, ◌+◌, ◌*◌, ◌/◌, ℕ, Bool, true, false, List, Result, IfOk, IfErr, OnOk, length}
 use Rattle.nor_chip.specs.Chip.{Chip, IsChip, IsSame, is_locked}
 use Rattle.nor_chip.specs.Bus.{BusState, KeepsNature}
 use Rattle.nor_driver.specs.Looks.{IsCalm}
@@ -20,7 +20,8 @@ use Rattle.nor_save.specs.SavedScan.{IsJournal}
 use Rattle.nor_session.specs.Bounds.{most_of}
 use Rattle.nor_session.specs.Verdict.{IsAccepted}
 use Rattle.nor_session.specs.Session.{AnswersSession, SavesSector, NamesSector, NamesAddress, most_status_writes, AimsAtSaved, WritesStatusAtMost}
-use Rattle.nor_session.specs.Restore.{IsRestoreRefusal, CanGiveBack}
+use Rattle.nor_session.specs.Headline.{CanGiveBack}
+use Rattle.nor_session.specs.Restore.{IsRestoreRefusal}
 use Rattle.nor_session.specs.Rehearsal.{CanEnd, SealFits, AreRestores, FitsLastStop, LeavesRefused, IsNoHalt, RehearsalTells}
 
 -- ---- the session
@@ -143,3 +144,20 @@ pub record RefusesUndo (text : List ℕ) (old : BusState) (refusal : Refusal) : 
   pub names : NamesSector (λ sector. SavesSector sector text) refusal
   pub halts : old.honest ≡ true → IsNoHalt refusal
   pub never : IsModelled old → (saved : ℕ → Bool) (first : Chip) → LeadsBack saved first text old → ⊥
+
+-- All that restores from a text under these stops leave.
+pub record LeavesUndo (text stops : List ℕ) (old new : BusState) (result : Result ℕ Refusal) : Type 0 where
+  -- the bus stays as honest and as steady as it was
+  pub nature : KeepsNature old new
+  -- at every exit only sectors are worn that the text leads back
+  pub wears : WearsSaved text old new
+  -- and aimed at that it saves
+  pub aims : AimsAtText text old new
+  -- each restore wrote the status at most twice, and one was run at most past the stops
+  pub writes : WritesStatusAtMost (2 * (length stops + 1)) old new
+  -- they ended, and the first chip is there again
+  pub undoes : IfOk result (Undoes text stops old new)
+  -- they end only where the last poll showed that the chip is ready
+  pub heard : OnOk result (new.heard ≡ true)
+  -- or were refused
+  pub refuses : IfErr result (RefusesUndo text old)

@@ -1,20 +1,19 @@
 -- What a restore wants of a chip, and what it promises.
-use Rattle.std.specs.Prelude.{◌≡◌, ◌≢◌, ◌+◌, ◌/◌, ◌==◌, ◌&&◌, ◌⊎◌, ℕ, Bool, true, false, not, [], ◌∷◌, length, None, Result, IfOk, IfErr, IfSome, IsSomeAnd, OnOk, Err, if◌then◌else◌}
+use Rattle.std.specs.Prelude.{◌≡◌, ◌≢◌, ◌<◌, ◌+◌, ◌/◌, ◌==◌, ◌⊎◌, ℕ, Bool, true, false, List, [], ◌∷◌, length, Result, IfOk, IfErr, IsSomeAnd, OnOk, Err, if◌then◌else◌}
 use Rattle.std.specs.List.{list_any}
 use Rattle.nor_chip.specs.Code.{code_in}
 use Rattle.nor_chip.specs.declared.config.Config.{Config}
-use Rattle.nor_chip.specs.Chip.{Chip, IsSame, is_locked}
-use Rattle.nor_chip.specs.Guard.{code_of, is_guarded}
+use Rattle.nor_chip.specs.Chip.{Chip, is_locked}
+use Rattle.nor_chip.specs.Guard.{code_of}
 use Rattle.nor_chip.specs.Bus.{BusState}
 use Rattle.nor_driver.specs.Looks.{IsCalm, Looks, RanOut}
-use Rattle.nor_driver.specs.Reads.{id_of, unique_of}
+use Rattle.nor_driver.specs.Reads.{unique_of}
 use Rattle.nor_driver.specs.StatusWrites.{KeepsFixed, HasCode, HasKeptBits, HasFixedBits}
 use Rattle.nor_journal.specs.Text.{Content}
-use Rattle.nor_journal.specs.Saved.{Saves, is_saved, saved_byte}
+use Rattle.nor_journal.specs.Saved.{is_saved, saved_byte}
 use Rattle.nor_probe.specs.declared.probes.ProbeFault.TheVariants as Probes
-use Rattle.nor_probe.specs.Known.{shown_as, IsKnown}
+use Rattle.nor_probe.specs.Known.{shown_as}
 use Rattle.nor_plan.specs.Content.{is_touched, is_raised}
-use Rattle.nor_apply.specs.Within.{IsWithin}
 use Rattle.nor_apply.specs.Spending.{Spends}
 use Rattle.nor_call.specs.declared.report.Report.{Report}
 use Rattle.nor_call.specs.declared.refusal.Refusal.{Refusal}
@@ -22,8 +21,8 @@ use Rattle.nor_call.specs.declared.refusal.Refusal.TheVariants.{NoChip, UnknownC
 use Rattle.nor_call.specs.Refusal.{number_of}
 use Rattle.nor_save.specs.Saving.{SomeHeld}
 use Rattle.nor_session.specs.Bounds.{most_looked, most_of}
-use Rattle.nor_session.specs.Made.{IsMade}
-use Rattle.nor_session.specs.Verdict.{IsNamed}
+use Rattle.nor_session.specs.Made.{IsMade, IsReported}
+use Rattle.nor_session.specs.Headline.{IsOfKind}
 use Rattle.nor_session.specs.Session.{NamesSector, IsWithinBound, AimsAtSaved, WritesStatusAtMost, HonestTells}
 
 -- ---- what is wanted
@@ -42,11 +41,6 @@ is_raised_from journal chip = is_raised chip.bytes (restored journal chip.bytes)
 
 -- ---- the verdict
 
--- The journal has this ID and this size.
-pub record IsOfKind (journal : Content) (config : Config) : Type 0 where
-  pub id : journal.id ≡ id_of config
-  pub size : journal.size ≡ config.size
-
 -- the journal tells the own number of another unit; one of format 1 tells none
 abbrev pub IsOfOtherUnit : Content → Config → Type 0
 IsOfOtherUnit journal config = IsSomeAnd journal.unique (λ unique. unique ≢ unique_of config)
@@ -56,46 +50,50 @@ pub record FitsStatus (journal : Content) (chip : Chip) : Type 0 where
   pub fixed : HasFixedBits journal.status chip
   pub all : chip.config.scheme ≡ false → HasKeptBits journal.status chip
 
--- The chip is known, and the journal is one of it.
-pub record Fits (journal : Content) (chip : Chip) : Type 0 where
-  pub named : IsNamed None chip.config
-  pub kind : IsOfKind journal chip.config
-  pub unit : ¬ IsOfOtherUnit journal chip.config
-  pub fixed : FitsStatus journal chip
-
 -- a status write is needed: the code differs from the journal's, or one of these sectors is guarded
 abbrev pub NeedsStatusFrom : Content → (touched : ℕ → Bool) → Chip → Type 0
 NeedsStatusFrom journal touched chip = (code_of chip ≢ code_in journal.status) ⊎ SomeHeld touched chip
 
--- The refusal is the verdict: the first of 1, 2, 16, 20, 17 and 9 that holds.
-abbrev pub IsRestoreVerdict : Content → Chip → Refusal → Type 0
-IsRestoreVerdict journal chip NoChip = shown_as chip.config ≡ Err Probes.NoChip
-IsRestoreVerdict journal chip (UnknownChip fault) = shown_as chip.config ≡ Err (Probes.UnknownChip fault)
-IsRestoreVerdict journal chip OtherChip = IsNamed None chip.config × (¬ IsOfKind journal chip.config)
-IsRestoreVerdict journal chip OtherUnit =
-    IsNamed None chip.config × IsOfKind journal chip.config × IsOfOtherUnit journal chip.config
-IsRestoreVerdict journal chip StatusDiffers =
-    IsNamed None chip.config × IsOfKind journal chip.config × (¬ IsOfOtherUnit journal chip.config)
-    × (¬ FitsStatus journal chip)
-IsRestoreVerdict journal chip StatusLocked =
-    Fits journal chip × (is_locked chip ≡ true) × NeedsStatusFrom journal (is_touched_from journal chip) chip
-IsRestoreVerdict journal chip _ = ⊥
+-- A refusal holds of a journal and a chip, whatever others do.
+abbrev pub RestoreHolds : Content → Chip → Refusal → Type 0
+RestoreHolds journal chip NoChip = shown_as chip.config ≡ Err Probes.NoChip
+RestoreHolds journal chip (UnknownChip fault) = shown_as chip.config ≡ Err (Probes.UnknownChip fault)
+RestoreHolds journal chip OtherChip = ¬ IsOfKind journal chip.config
+RestoreHolds journal chip OtherUnit = IsOfOtherUnit journal chip.config
+RestoreHolds journal chip StatusDiffers = ¬ FitsStatus journal chip
+RestoreHolds journal chip StatusLocked =
+    (is_locked chip ≡ true) × NeedsStatusFrom journal (is_touched_from journal chip) chip
+RestoreHolds journal chip _ = ⊥
 
--- The verdict is "accepted".
-pub record IsRestorable (journal : Content) (chip : Chip) : Type 0 where
-  pub fits : Fits journal chip
-  pub not_locked : is_locked chip ≡ true → ¬ NeedsStatusFrom journal (is_touched_from journal chip) chip
+-- these refusals, by their numbers, in the order in which they are judged
+abbrev pub judged_in_turn : List ℕ
+judged_in_turn = 1 ∷ 2 ∷ 16 ∷ 20 ∷ 17 ∷ 9 ∷ []
+
+-- the refusal is one of these: all are judged before anything changing is sent
+abbrev pub IsJudgedFirst : Refusal → Type 0
+IsJudgedFirst refusal = list_any (λ n. number_of refusal == n) judged_in_turn ≡ true
+
+-- how many numbers of a list stand before this one
+abbrev pub place_in : List ℕ → ℕ → ℕ
+place_in [] n = 0
+place_in (first ∷ later) n = if first == n then 0 else 1 + place_in later n
+
+-- The refusal is the verdict: it holds, and none that is judged before it does.
+pub record IsRestoreVerdict (journal : Content) (chip : Chip) (refusal : Refusal) : Type 0 where
+  pub holds : RestoreHolds journal chip refusal
+  pub first : (other : Refusal)
+      → place_in judged_in_turn (number_of other) < place_in judged_in_turn (number_of refusal)
+      → ¬ RestoreHolds journal chip other
+
+-- the verdict is "accepted": no refusal holds
+abbrev pub IsRestorable : Content → Chip → Type 0
+IsRestorable journal chip = (refusal : Refusal) → ¬ RestoreHolds journal chip refusal
 
 -- ---- on every bus
 
--- the refusals that are judged before anything changing is sent, by their numbers
-abbrev pub IsJudgedFirst : Refusal → Type 0
-IsJudgedFirst refusal = list_any (λ n. number_of refusal == n) (1 ∷ 2 ∷ 9 ∷ 16 ∷ 17 ∷ 20 ∷ []) ≡ true
-
--- the refusals that a restore gives: these, and the three of a stop, a timeout and a difference
+-- the refusals that a restore gives: those that are judged, and the three of a stop, a timeout and a difference
 abbrev pub IsRestoreRefusal : Refusal → Type 0
-IsRestoreRefusal refusal =
-    list_any (λ n. number_of refusal == n) (1 ∷ 2 ∷ 9 ∷ 12 ∷ 13 ∷ 14 ∷ 16 ∷ 17 ∷ 20 ∷ []) ≡ true
+IsRestoreRefusal refusal = list_any (λ n. number_of refusal == n) (12 ∷ 13 ∷ 14 ∷ judged_in_turn) ≡ true
 
 -- ---- on an honest bus whose chip is what it shows itself to be
 
@@ -112,35 +110,16 @@ pub record LeavesRestore (journal : Content) (old new : BusState) : Type 0 where
   pub fixed : IsCalm old → KeepsFixed old.chip new.chip
   pub worn : (s : ℕ) → is_raised_from journal old.chip s ≡ false → new.worn s ≡ old.worn s
 
--- At the end the chip is made what the journal wants, with its code; and where nothing is to be changed, nothing
--- changing was sent.
+-- At the end the chip is made what the journal wants, with its code; the report says so; and where nothing is to be
+-- changed, nothing changing was sent.
 pub record IsRestored (journal : Content) (old new : BusState) (report : Report) : Type 0 where
   pub accepted : IsRestorable journal old.chip
-  pub made : IsMade (restored journal old.chip.bytes) (is_touched_from journal old.chip)
-      (is_raised_from journal old.chip) old new report
+  pub made : IsMade (restored journal old.chip.bytes) old.chip new.chip
   pub code : HasCode (code_in journal.status) new.chip
+  pub reported : IsReported (restored journal old.chip.bytes) (is_touched_from journal old.chip)
+      (is_raised_from journal old.chip) old new report
   pub still : report.touched ≡ 0 → (¬ NeedsStatusFrom journal (is_touched_from journal old.chip) old.chip)
       → new.sent ≡ old.sent
-
--- ---- giving a chip back
-
--- The journal saves this chip.
-pub record SavesChip (journal : Content) (first : Chip) : Type 0 where
-  pub kind : IsOfKind journal first.config
-  pub unit : IfSome journal.unique (λ unique. unique ≡ unique_of first.config)
-  pub bits : HasKeptBits journal.status first
-  pub sectors : Saves first.bytes (is_saved journal) journal
-
--- the places at which a chip may differ from the first one: those of saved sectors, and where the first one's status is
--- locked the ones that aren't guarded
-abbrev pub open_places : Content → Chip → ℕ → Bool
-open_places journal first a = is_saved journal (a / 4096) && not (is_locked first && is_guarded first a)
-
--- The bus's chip can be made the first one again: that is known and saved by the journal, and the chip is within it.
-pub record CanGiveBack (journal : Content) (first : Chip) (state : BusState) : Type 0 where
-  pub known : IsKnown first.config
-  pub saves : SavesChip journal first
-  pub within : IsWithin (open_places journal first) first state
 
 -- ---- the promises of a restore
 
@@ -183,9 +162,3 @@ pub record RestoreModelled (journal : Content) (old new : BusState) (result : Re
   -- where no status write is needed, the report has no room for one
   pub spares : (¬ NeedsStatusFrom journal (is_touched_from journal old.chip) old.chip)
       → IfOk result (IsWithinBound (length journal.saved) 0 true)
-  -- at every exit the bus's chip can still be made each first one that it could be made before
-  pub within : (first : Chip) → CanGiveBack journal first old → CanGiveBack journal first new
-  -- a restore that ends has made it that one
-  pub back : (first : Chip) → CanGiveBack journal first old → OnOk result (IsSame first new.chip)
-  -- and nothing else than a stop keeps it from ending
-  pub only_stops : (first : Chip) → CanGiveBack journal first old → IfErr result (λ refusal. refusal ≡ Stopped)

@@ -23,7 +23,7 @@ use Rattle.nor_save.specs.Touched.{is_touched_by, is_raised_by}
 use Rattle.nor_save.specs.Saving.{head_of}
 use Rattle.nor_save.specs.SavedScan.{IsJournal, BeginsJournal, HoldsJournal}
 use Rattle.nor_session.specs.Bounds.{most_looked, most_of}
-use Rattle.nor_session.specs.Made.{IsMade}
+use Rattle.nor_session.specs.Made.{IsMade, IsReported}
 use Rattle.nor_session.specs.Verdict.{IsNamed, NeedsStatusWrite, IsVerdict, IsAccepted}
 
 -- ---- on every bus
@@ -108,14 +108,15 @@ SessionTells request image old new vault vault' Vault = Rose vault vault'
 SessionTells request image old new vault vault' Stopped = RanOut (most_of (old.chip.config.size / 4096)) old new
 SessionTells request image old new vault vault' refusal = IsVerdict request image old.chip refusal
 
--- At the end the chip is made the wanted one, with the wanted code; and where nothing is to be changed, nothing
--- changing was sent.
+-- At the end the chip is made the wanted one, with the wanted code; the report says so; and where nothing is to be
+-- changed, nothing changing was sent.
 pub record IsDone (request : Request) (image : List ℕ) (old new : BusState) (report : Report) : Type 0 where
-  pub made : IsMade (wanted request image old.chip) (is_touched_by request image old.chip)
-      (is_raised_by request image old.chip) old new report
+  pub made : IsMade (wanted request image old.chip) old.chip new.chip
   pub code : ℕ
   pub is_wanted : IsWantedCode request.what old.chip code
   pub has_code : HasCode code new.chip
+  pub reported : IsReported (wanted request image old.chip) (is_touched_by request image old.chip)
+      (is_raised_by request image old.chip) old new report
   pub still : report.touched ≡ 0 → ¬ NeedsStatusWrite request image old.chip → new.sent ≡ old.sent
 
 -- Once the vault is sealed the request is accepted, so where the status is locked no touched sector is guarded; a

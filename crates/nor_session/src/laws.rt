@@ -9,7 +9,8 @@ ghost use Rattle.nor_call.specs.declared.report.Report.{Report};
 ghost use Rattle.nor_call.specs.declared.request.Request.{Request};
 ghost use Rattle.nor_probe.specs.Known.{IsModelled};
 ghost use Rattle.nor_session.specs.InTurn.{LeavesJournal, IsTakenUp, ChangesNothing};
-ghost use Rattle.nor_session.specs.Restore.{SavesChip, IsRestored, CanGiveBack};
+ghost use Rattle.nor_session.specs.Headline.{SavesChip, CanGiveBack};
+ghost use Rattle.nor_session.specs.Restore.{IsRestored};
 ghost use Rattle.nor_session.specs.Session.{CanBeUndone, HoldsBegun};
 ghost use Rattle.nor_session.specs.WrittenOver.{IsWrittenOver};
 

@@ -1,13 +1,13 @@
 //! A rehearsal: a session that is stopped on purpose, and the restores from its journal.
-ghost use Rattle.std.specs.Prelude.{◌≡◌, ◌≤◌, ◌+◌, ◌*◌, true, length, drop, IfOk, IfErr, OnOk};
-ghost use Rattle.nor_chip.specs.Bus.{KeepsNature};
+ghost use Rattle.std.specs.Prelude.{◌≡◌, ◌≤◌, ◌+◌, true, length, drop, IfOk, IfErr, OnOk};
+ghost use Rattle.nor_chip.specs.Chip.{IsSame};
+ghost use Rattle.nor_driver.specs.Looks.{IsCalm};
 ghost use Rattle.nor_journal.specs.Vault.{IsFresh};
 ghost use Rattle.nor_journal.specs.MemVault.{held_by};
 ghost use Rattle.nor_probe.specs.Known.{IsModelled};
 ghost use Rattle.nor_session.specs.Bounds.{most_of};
-ghost use Rattle.nor_session.specs.Session.{WritesStatusAtMost};
 ghost use Rattle.nor_session.specs.Rehearsing.{LeavesSession, ShowsSession, RefusesSession, LeavesRestores, ShowsRestore, ShowsRestores};
-ghost use Rattle.nor_session.specs.Rehearsing.{Undoes, WearsSaved, AimsAtText, StopsRestores, RefusesUndo};
+ghost use Rattle.nor_session.specs.Rehearsing.{LeavesUndo, StopsRestores};
 ghost use Rattle.nor_session.specs.Rehearsal.{RehearsalAlways, RehearsalModelled, IsNoHalt, first_allowance};
 
 use crate::restores::restore;
@@ -39,6 +39,8 @@ pub fn rehearse<B: Meter>(
 ) -> Result<Rehearsal, Refusal>
     requires few { length stops.now ≤ 64 }
     requires fresh { IsFresh (held_by vault.old) }
+    ensures gives_back { IsModelled (B.state bus.old) → IsCalm (B.state bus.old)
+        → IsSame (B.state bus.old).chip (B.state bus.new).chip }
     ensures always { RehearsalAlways request.now stops.now (B.state bus.old) (B.state bus.new) (held_by vault.old)
         (held_by vault.new) result }
     ensures honest { (B.state bus.old).honest ≡ true → IfErr result IsNoHalt }
@@ -125,13 +127,7 @@ fn stopped_session<B: Meter>(
 // Restores from the journal that the text is. Answers how many restores were run.
 fn undo<B: Meter>(bus: &mut B, text: &[u8], stops: &[u64]) -> Result<u32, Refusal>
     requires few { length stops.now ≤ 64 }
-    ensures nature { KeepsNature (B.state bus.old) (B.state bus.new) }
-    ensures wears { WearsSaved text.now (B.state bus.old) (B.state bus.new) }
-    ensures aims { AimsAtText text.now (B.state bus.old) (B.state bus.new) }
-    ensures writes { WritesStatusAtMost (2 * (length stops.now + 1)) (B.state bus.old) (B.state bus.new) }
-    ensures undoes { IfOk result (Undoes text.now stops.now (B.state bus.old) (B.state bus.new)) }
-    ensures heard { OnOk result ((B.state bus.new).heard ≡ true) }
-    ensures refuses { IfErr result (RefusesUndo text.now (B.state bus.old)) }
+    ensures { LeavesUndo text.now stops.now (B.state bus.old) (B.state bus.new) result }
 {
     match Journal::read(text) {
         Ok(journal) => restore_in_turn(bus, &journal, stops),

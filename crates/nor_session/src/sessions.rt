@@ -5,6 +5,7 @@ ghost use Rattle.nor_journal.specs.Vault.{IsFresh};
 ghost use Rattle.nor_call.specs.declared.request.Request.{Request};
 ghost use Rattle.nor_call.specs.declared.refusal.Refusal.{Refusal};
 ghost use Rattle.nor_probe.specs.Known.{IsModelled};
+ghost use Rattle.nor_session.specs.Headline.{KeepsFirst};
 ghost use Rattle.nor_session.specs.Verdict.{IsVerdict, IsAccepted};
 ghost use Rattle.nor_session.specs.Session.{SessionAlways, SessionHonest, SessionModelled};
 
@@ -25,6 +26,7 @@ pub fn session<B: Bus, V: Vault>(
     request: &Request,
 ) -> Result<Report, Refusal>
     requires { IsFresh (V.state vault.old) }
+    ensures keeps { KeepsFirst (B.state bus.old) (B.state bus.new) (V.state vault.new) }
     ensures always { SessionAlways request.now (B.state bus.old) (B.state bus.new) (V.state vault.old)
         (V.state vault.new) result }
     ensures honest { (B.state bus.old).honest ≡ true → SessionHonest (B.state bus.old) (B.state bus.new) result }

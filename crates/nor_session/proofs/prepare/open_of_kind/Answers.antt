@@ -1,7 +1,5 @@
-use Rattle.std.proofs.Common.{arith}
+use Rattle.std.proofs.Common.{rules, arith}
 use Rattle.std.proofs.lemmas.Grind.{common_steps}
-use Rattle.nor_probe.specs.Found.{most_probe}
-use Rattle.nor_save.specs.Opening.{most_opening}
 use Rattle.nor_driver.proofs.LooksInTurn.{looks_then, looks_more}
 use Rattle.nor_session.proofs.Reopened.{probe_tells}
 use Rattle.nor_session.proofs.prepare.open_of_kind.Goals as goal
@@ -13,13 +11,10 @@ returns-in_err-probed-clause-tells g c =
     grind (arith, common_steps, told)
 
 pub returns-in_err-opening-clause-leaves : goal.returns-in_err-opening-clause-leaves
-returns-in_err-opening-clause-leaves g c =
-    looks_then most_probe 2 (g.B.Bus.state c.args.bus.now) (g.B.Bus.state c.probe_counted.new.bus) (g.B.Bus.state c.read_on.new.bus) c.probe_counted.ensures.always.looks c.read_on.ensures.leaves
+returns-in_err-opening-clause-leaves g c = search (rules, looks_then)
 
 pub returns-clause-leaves : goal.returns-clause-leaves
-returns-clause-leaves g c =
-    looks_then most_probe 2 (g.B.Bus.state c.args.bus.now) (g.B.Bus.state c.probe_counted.new.bus) (g.B.Bus.state c.read_on.new.bus) c.probe_counted.ensures.always.looks c.read_on.ensures.leaves
+returns-clause-leaves g c = search (rules, looks_then)
 
 pub returns-then-not-is_of_kind-clause-leaves : goal.returns-then-not-is_of_kind-clause-leaves
-returns-then-not-is_of_kind-clause-leaves g c =
-    looks_more most_probe most_opening (g.B.Bus.state c.args.bus.now) (g.B.Bus.state c.probe_counted.new.bus) (omega arith) c.probe_counted.ensures.always.looks
+returns-then-not-is_of_kind-clause-leaves g c = search (rules, arith, looks_more)

@@ -41,7 +41,21 @@ returns-in_err-restores-clause-modelled g c = λ modelled.
     let sealed = sym c.is_sealed.ensures ∙ c.if-not-is_sealed.false in
     absurd (never_refused _ _ _ _ _ _ leaves.nature (λ modelled. leaves.back modelled sealed) c.bytes.ensures c.in_err-restores.ensures.refuses modelled)
 
+pub returns-in_err-restores-clause-gives_back : goal.returns-in_err-restores-clause-gives_back
+returns-in_err-restores-clause-gives_back g c = λ modelled calm.
+    let leaves = c.stopped_session.ensures.leaves in
+    let sealed = sym c.is_sealed.ensures ∙ c.if-not-is_sealed.false in
+    absurd (never_refused _ _ _ _ _ _ leaves.nature (λ modelled. leaves.back modelled sealed) c.bytes.ensures
+    c.in_err-restores.ensures.refuses modelled)
+
 -- ---- one ended
+
+pub returns-clause-gives_back : goal.returns-clause-gives_back
+returns-clause-gives_back g c = λ modelled calm.
+    let leaves = c.stopped_session.ensures.leaves in
+    let sealed = sym c.is_sealed.ensures ∙ c.if-not-is_sealed.false in
+    same_again _ _ _ _ _ _ _ _ leaves.nature (λ modelled. leaves.back modelled sealed) c.bytes.ensures
+    c.in_ok-restores.ensures.undoes modelled
 
 pub returns-clause-always : goal.returns-clause-always
 returns-clause-always g c =
@@ -72,7 +86,6 @@ returns-clause-modelled g c = λ modelled.
     let leaves = c.stopped_session.ensures.leaves in
     let sealed = sym c.is_sealed.ensures ∙ c.if-not-is_sealed.false in
     record {
-      gives_back = λ calm. same_again _ _ _ _ _ _ _ _ leaves.nature (λ modelled. leaves.back modelled sealed) c.bytes.ensures c.in_ok-restores.ensures.undoes modelled;
       wears = worn_all _ _ _ (g.B.Bus.state c.args.bus.now) (g.B.Bus.state c.stopped_session.new.bus) (g.B.Bus.state c.undo.new.bus)
           leaves.nature (λ modelled. leaves.back modelled sealed) c.bytes.ensures leaves.wears c.undo.ensures.wears modelled;
       refuses = search rules;

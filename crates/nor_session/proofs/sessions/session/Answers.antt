@@ -4,7 +4,14 @@ use Rattle.nor_session.specs.Session.{NamesAddress, SessionTells}
 use Rattle.nor_session.proofs.Naming.{judged_names}
 use Rattle.nor_session.proofs.Aiming.{none_written}
 use Rattle.nor_session.proofs.ReadyChip.{is_opening, named, open_tells, judge_tells}
+use Rattle.nor_session.proofs.GivesBack.{keeps_first}
 use Rattle.nor_session.proofs.sessions.session.Goals as goal
+
+pub returns-clause-keeps : goal.returns-clause-keeps
+returns-clause-keeps g c =
+    let kept = c.answer.ensures (g.B.Bus.state c.args.bus.now) (search rules) (search rules) in
+    keeps_first c.args.request.now c.args.image.now _ _ _ _ (g.met.B.Bus.reaches c.args.bus.now) kept.always.looks
+    (λ modelled. (kept.modelled modelled).undo)
 
 pub returns-in_err-code-clause-always : goal.returns-in_err-code-clause-always
 returns-in_err-code-clause-always g c = record {

@@ -4,7 +4,5 @@ use Rattle.nor_session.proofs.kept.Done.check.Goals as goal
 
 pub overflow_add-result : goal.overflow_add-result
 overflow_add-result g c =
-    let written = c.requires.fits in
-    let reads = c.in_ok-reads.ensures.does.reads in
-    let touched = touched_most c.args.self.changes.now in
-    omega (arith, written, reads, touched)
+    let reads = c.in_ok-reads.ensures.does.reads in let touched = touched_most c.args.self.changes.now in
+    omega arith
