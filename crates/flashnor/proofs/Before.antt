@@ -1,7 +1,7 @@
 -- What a run leaves of files that ends before its call, or whose task doesn't change the chip.
-use Rattle.std.proofs.Common.{◌≡◌, ◌∙◌, Option, None, Some, inl, inr, refl, sym, true, true≢false}
+use Rattle.std.proofs.Common.{◌≡◌, Option, None, Some, inl, inr, refl, sym, true, true≢false}
 use Rattle.std.specs.Borrow.{Bor}
-use Rattle.nor_files.specs.Files.{AllStay, AreAtRest, FilesState, IsKnown, Name, Stays}
+use Rattle.nor_files.specs.Files.{AllStay, AreAtRest, FilesState, Name, Stays}
 use Rattle.nor_files.specs.Calls.{LeavesNoMore}
 use Rattle.nor_words.specs.Text.{Text}
 use Rattle.nor_words.specs.declared.job.ChipJob.{ChipJob}
@@ -15,40 +15,22 @@ use Rattle.flashnor.specs.Roles.{HaveOneRole, named_by}
 use Rattle.flashnor.specs.Run.{KeepsChange, KeepsFiles, StayBut}
 use Rattle.flashnor.specs.Stored.{AreTwo, IsNot, LeavesNoMoreOf, LeavesOrEmpty, MakesNothing, StaysOf}
 use Rattle.flashnor.specs.Tasks.{journal_by, journal_of, keeps_journal, made_by, puts_back}
-use Rattle.flashnor.proofs.Stays.{lawful_after}
-
--- ---- names
-
--- the other way round
-pub not_that : (one : Option (Bor Text)) (file : Bor Text) → AreTwo one (Some file) → IsNot one file.now
-not_that None file two = tt
-not_that (Some name) file two = λ same. two (sym same)
+use Rattle.flashnor.proofs.Stays.{known_after, known_at_rest, not_that}
 
 module _ (old new : FilesState) where
   -- a file that is named is one of all
+  pub leaves_of : (name : Option (Bor Text)) → LeaveNoMore old new → LeavesNoMoreOf name old new
+  leaves_of None leave = tt
+  leaves_of (Some name) leave = leave name.now
+
   stays_of : (name : Option (Bor Text)) → AllStay old new → StaysOf name old new
   stays_of None stay = tt
   stays_of (Some name) stay = stay name.now
 
-  leaves_of : (name : Option (Bor Text)) → LeaveNoMore old new → LeavesNoMoreOf name old new
-  leaves_of None leave = tt
-  leaves_of (Some name) leave = leave name.now
-
-  module _ (trace made : Option (Bor Text)) where
-    -- it is one of those that are neither the trace nor made
-    pub stays_apart : (name : Option (Bor Text)) → AreTwo name trace → AreTwo name made
-        → ((any : Name) → IsNot trace any → IsNot made any → Stays any old new) → StaysOf name old new
-    stays_apart None traced other stay = tt
-    stays_apart (Some name) traced other stay = stay name.now traced other
-
-    leaves_apart : (name : Option (Bor Text)) → AreTwo name trace → AreTwo name made
-        → ((any : Name) → IsNot trace any → IsNot made any → LeavesNoMore any old new) → LeavesNoMoreOf name old new
-    leaves_apart None traced other leave = tt
-    leaves_apart (Some name) traced other leave = leave name.now traced other
-
   -- ---- where each file stays
 
-  pub stay_all : (programmer : Programmer) (made : Option (Bor Text)) → AllStay old new → StayBut programmer made old new
+  pub stay_all : (programmer : Programmer) (made : Option (Bor Text)) → AllStay old new
+      → StayBut programmer made old new
   stay_all programmer made stay = record {
     image = stays_of programmer.image stay;
     status = stays_of programmer.status stay;
@@ -72,112 +54,88 @@ module _ (old new : FilesState) where
     journal = (stay journal.now).leaves;
     others = λ name not. (stay name).leaves;
   })
-  keeps_still programmer task.Probe stay = stay_all programmer None stay
-  keeps_still programmer task.FlashSize stay = stay_all programmer None stay
-  keeps_still programmer task.WpStatus stay = stay_all programmer None stay
-  keeps_still programmer task.WpList stay = stay_all programmer None stay
-  keeps_still programmer (task.Read file regions) stay = stay_all programmer (Some file) stay
-  keeps_still programmer (task.Verify file regions) stay = stay_all programmer None stay
+  keeps_still programmer done stay = stay_all programmer (made_by done) stay
 
 -- ---- the file that a task makes is no file of the chip
 
-two_made : (done : Task) (one : Option (Bor Text)) → AreTwo one (named_by done).output → AreTwo one (named_by done).journal
-    → AreTwo one (made_by done)
-two_made done None output journal = tt
-two_made (task.Change change) (Some one) output journal = journal
-two_made (task.Restore file) (Some one) output journal = tt
-two_made task.Probe (Some one) output journal = tt
-two_made task.FlashSize (Some one) output journal = tt
-two_made task.WpStatus (Some one) output journal = tt
-two_made task.WpList (Some one) output journal = tt
-two_made (task.Read file regions) (Some one) output journal = output
-two_made (task.Verify file regions) (Some one) output journal = tt
+two_made : (done : Task) (one : Option (Bor Text)) → AreTwo one (named_by done).output
+    → AreTwo one (named_by done).journal → AreTwo one (made_by done)
+two_made (task.Change change) one output journal = journal
+two_made (task.Read file regions) one output journal = output
+two_made _ None output journal = tt
+two_made _ (Some one) output journal = tt
 
 -- nor is the trace the journal that a change keeps
-pub two_kept : (done : Task) (one : Option (Bor Text)) → AreTwo one (named_by done).journal → AreTwo one (journal_by done)
-two_kept done None two = tt
-two_kept (task.Change change) (Some one) two = two
-two_kept (task.Restore file) (Some one) two = tt
-two_kept task.Probe (Some one) two = tt
-two_kept task.FlashSize (Some one) two = tt
-two_kept task.WpStatus (Some one) two = tt
-two_kept task.WpList (Some one) two = tt
-two_kept (task.Read file regions) (Some one) two = tt
-two_kept (task.Verify file regions) (Some one) two = tt
+pub two_kept : (done : Task) (one : Option (Bor Text)) → AreTwo one (named_by done).journal
+    → AreTwo one (journal_by done)
+two_kept (task.Change change) one two = two
+two_kept _ None two = tt
+two_kept _ (Some one) two = tt
 
 module _ (job : ChipJob) (roles : HaveOneRole job) where
-  image_made : AreTwo job.programmer.image (made_by job.task)
+  pub image_made : AreTwo job.programmer.image (made_by job.task)
   image_made = two_made job.task job.programmer.image roles.image_output roles.image_journal
 
-  status_made : AreTwo job.programmer.status (made_by job.task)
+  pub status_made : AreTwo job.programmer.status (made_by job.task)
   status_made = two_made job.task job.programmer.status roles.status_output roles.status_journal
 
   -- ---- where all but the trace and that one do
 
-  pub stays_but : (old new : FilesState)
-      → ((any : Name) → IsNot job.programmer.trace any → IsNot (made_by job.task) any → Stays any old new)
-      → StayBut job.programmer (made_by job.task) old new
-  stays_but old new stay = record {
-    image = stays_apart old new job.programmer.trace (made_by job.task) job.programmer.image roles.image_trace image_made stay;
-    status = stays_apart old new job.programmer.trace (made_by job.task) job.programmer.status roles.status_trace status_made stay;
-    others = stay;
-  }
+  module _ (old new : FilesState) where
+    stays_apart : (name : Option (Bor Text)) → AreTwo name job.programmer.trace → AreTwo name (made_by job.task)
+        → ((any : Name) → IsNot job.programmer.trace any → IsNot (made_by job.task) any → Stays any old new)
+        → StaysOf name old new
+    stays_apart None traced other stay = tt
+    stays_apart (Some name) traced other stay = stay name.now traced other
 
-  module _ (old new : FilesState)
-      (stay : (any : Name) → IsNot job.programmer.trace any → IsNot (made_by job.task) any → LeavesNoMore any old new) where
-    image_leaves : LeavesNoMoreOf job.programmer.image old new
-    image_leaves =
-        leaves_apart old new job.programmer.trace (made_by job.task) job.programmer.image roles.image_trace image_made stay
+    leaves_apart : (name : Option (Bor Text)) → AreTwo name job.programmer.trace → AreTwo name (made_by job.task)
+        → ((any : Name) → IsNot job.programmer.trace any → IsNot (made_by job.task) any → LeavesNoMore any old new)
+        → LeavesNoMoreOf name old new
+    leaves_apart None traced other leave = tt
+    leaves_apart (Some name) traced other leave = leave name.now traced other
 
-    status_leaves : LeavesNoMoreOf job.programmer.status old new
-    status_leaves =
-        leaves_apart old new job.programmer.trace (made_by job.task) job.programmer.status roles.status_trace status_made stay
+    pub stays_but : ((any : Name) → IsNot job.programmer.trace any → IsNot (made_by job.task) any → Stays any old new)
+        → StayBut job.programmer (made_by job.task) old new
+    stays_but stay = record {
+      image = stays_apart job.programmer.image roles.image_trace image_made stay;
+      status = stays_apart job.programmer.status roles.status_trace status_made stay;
+      others = stay;
+    }
 
 -- ---- where the file of a journal may be empty, too
 
-keeps_begun : (programmer : Programmer) (kept : JournalUse) (old new : FilesState) → keeps_journal kept ≡ true
-    → LeavesNoMoreOf programmer.image old new → LeavesNoMoreOf programmer.status old new
-    → ((any : Name) → IsNot programmer.trace any → IsNot (journal_of kept) any → LeavesNoMore any old new)
-    → ((file : Bor Text) → journal_of kept ≡ Some file → LeavesOrEmpty file.now old new) → KeepsChange programmer kept old new
-keeps_begun programmer (uses.Journal file) old new keeps image status leave empty =
-    inl (record { image = image; status = status; others = leave; empty = empty file refl })
-keeps_begun programmer (uses.Rehearse stops) old new keeps image status leave empty = absurd (true≢false (sym keeps))
+module _ (programmer : Programmer) (old new : FilesState) (image : LeavesNoMoreOf programmer.image old new)
+    (status : LeavesNoMoreOf programmer.status old new) where
+  keeps_begun : (kept : JournalUse) → keeps_journal kept ≡ true
+      → ((any : Name) → IsNot programmer.trace any → IsNot (journal_of kept) any → LeavesNoMore any old new)
+      → ((file : Bor Text) → journal_of kept ≡ Some file → LeavesOrEmpty file.now old new)
+      → KeepsChange programmer kept old new
+  keeps_begun (uses.Journal file) keeps leave empty =
+      inl (record { image = image; status = status; others = leave; empty = empty file refl })
+  keeps_begun (uses.Rehearse stops) keeps leave empty = absurd (true≢false (sym keeps))
 
-keeps_unmade : (programmer : Programmer) (done : Task) (old new : FilesState) → puts_back done ≡ true
-    → LeavesNoMoreOf programmer.image old new → LeavesNoMoreOf programmer.status old new
-    → AreTwo programmer.trace (named_by done).journal
-    → ((any : Name) → IsNot programmer.trace any → IsNot (made_by done) any → LeavesNoMore any old new)
-    → ((file : Bor Text) → journal_by done ≡ Some file → LeavesOrEmpty file.now old new) → KeepsFiles programmer done old new
-keeps_unmade programmer (task.Change change) old new puts image status apart leave empty =
-    keeps_begun programmer change.journal_use old new puts image status leave empty
-keeps_unmade programmer (task.Restore journal) old new puts image status apart leave empty = inl (record {
-  image = image;
-  status = status;
-  journal = leave journal.now (not_that programmer.trace journal apart) tt;
-  others = λ name not. leave name not tt;
-})
-keeps_unmade programmer task.Probe old new puts image status apart leave empty = absurd (true≢false (sym puts))
-keeps_unmade programmer task.FlashSize old new puts image status apart leave empty = absurd (true≢false (sym puts))
-keeps_unmade programmer task.WpStatus old new puts image status apart leave empty = absurd (true≢false (sym puts))
-keeps_unmade programmer task.WpList old new puts image status apart leave empty = absurd (true≢false (sym puts))
-keeps_unmade programmer (task.Read file regions) old new puts image status apart leave empty = absurd (true≢false (sym puts))
-keeps_unmade programmer (task.Verify file regions) old new puts image status apart leave empty = absurd (true≢false (sym puts))
+  keeps_unmade : (done : Task) → puts_back done ≡ true → AreTwo programmer.trace (named_by done).journal
+      → ((any : Name) → IsNot programmer.trace any → IsNot (made_by done) any → LeavesNoMore any old new)
+      → ((file : Bor Text) → journal_by done ≡ Some file → LeavesOrEmpty file.now old new)
+      → KeepsFiles programmer done old new
+  keeps_unmade (task.Change change) puts apart leave empty = keeps_begun change.journal_use puts leave empty
+  keeps_unmade (task.Restore journal) puts apart leave empty = inl (record {
+    image = image;
+    status = status;
+    journal = leave journal.now (not_that programmer.trace journal apart) tt;
+    others = λ name not. leave name not tt;
+  })
+  keeps_unmade _ puts apart leave empty = absurd (true≢false (sym puts))
 
 module _ (old mid new : FilesState) (rest : AreAtRest old) (nature : mid.view.nature ≡ old.view.nature)
     (known : KnownStay old mid) (first : LeaveNoMore old mid) where
   -- a journal that isn't made leaves its file, or an empty one
   or_empty : (named : Option (Bor Text)) (file : Bor Text) → named ≡ Some file → MakesNothing named mid new
       → LeavesOrEmpty file.now old new
-  or_empty None file is makes left can = absurd cc
-  or_empty (Some name) file is makes left can =
-      let same : name ≡ file = cc in
-      let stays = known name.now (record { lawful = rest.lawful; in_store = rest.in_store name.now }) in
-      let in_mid : IsKnown name.now mid.view = record {
-        lawful = lawful_after old mid nature rest.lawful;
-        in_store = stays.out ∙ rest.in_store name.now;
-      } in
-      elim (makes in_mid left (rw same can)) [
-        | inl was ↦ inl (rw (← same) (first name.now left was))
+  or_empty named file is makes left can =
+      let was = known_at_rest rest file.now in
+      elim ((rw is at makes) (known_after nature (known file.now was) was) left can) [
+        | inl before ↦ inl (first file.now left before)
         | inr empty ↦ inr empty
       ]
 
@@ -188,5 +146,7 @@ module _ (old mid new : FilesState) (rest : AreAtRest old) (nature : mid.view.na
   keeps_before job roles puts stay makes =
       let leave : (any : Name) → IsNot job.programmer.trace any → IsNot (made_by job.task) any → LeavesNoMore any old new =
       λ any traced other left can. first any left ((stay any traced other).leaves left can) in
-      keeps_unmade job.programmer job.task old new puts (image_leaves job roles old new leave) (status_leaves job roles old new leave)
-      roles.trace_journal leave (λ file is. or_empty (journal_by job.task) file is makes)
+      keeps_unmade job.programmer old new
+      (leaves_apart job roles old new job.programmer.image roles.image_trace (image_made job roles) leave)
+      (leaves_apart job roles old new job.programmer.status roles.status_trace (status_made job roles) leave)
+      job.task puts roles.trace_journal leave (λ file is. or_empty (journal_by job.task) file is makes)

@@ -21,24 +21,7 @@ use Rattle.flashnor.specs.declared.answers.Answer.TheVariants as answer
 stays : (old new : BusState) (refusal : Refusal) → HonestTells (most_of 4096) (λ refusal. number_of refusal ≤ 11) old new refusal → number_of refusal ≤ 11 → IsSame old.chip new.chip
 stays old new why.Stopped tells early = absurd (omega arith)
 stays old new (why.Timeout address) tells early = absurd tells
-stays old new why.NoChip tells early = tells early
-stays old new (why.UnknownChip fault) tells early = tells early
-stays old new why.OtherName tells early = tells early
-stays old new (why.ImageSize chip len) tells early = tells early
-stays old new why.RegionOutside tells early = tells early
-stays old new why.NoProtection tells early = tells early
-stays old new why.UndefinedProtection tells early = tells early
-stays old new why.RangeNotOffered tells early = tells early
-stays old new why.StatusLocked tells early = tells early
-stays old new (why.Protected address) tells early = tells early
-stays old new why.Vault tells early = tells early
-stays old new (why.Mismatch address) tells early = tells early
-stays old new (why.BadJournal fault) tells early = tells early
-stays old new why.OtherChip tells early = tells early
-stays old new why.StatusDiffers tells early = tells early
-stays old new why.Memory tells early = tells early
-stays old new (why.Output written) tells early = tells early
-stays old new why.OtherUnit tells early = tells early
+stays old new _ tells early = tells early
 
 module _ (request : Request) (image : List ℕ) (old new : BusState) (vault vault' : VaultState)
     (looks : vault'.sealed ≡ false → Looks 69638 old new) (undo : vault'.sealed ≡ true → CanBeUndone request image old new vault')

@@ -48,26 +48,21 @@ module _ (view : View) where
   no_include (Some regions) fault fails = elim fails [ inl f ↦ f | inr f ↦ f ]
 
   no_read : (what : Wanted) (fault : UsageFault) → FailsToRead view what (end.Usage fault) → ⊥
-  no_read (wanted.Write image) fault fails = fails
   no_read wanted.Erase fault fails = cc
-  no_read (wanted.Range start len) fault fails = fails
+  no_read _ fault fails = fails
 
   no_keep : (kept : JournalUse) (fault : UsageFault) → FailsToKeep view kept (end.Usage fault) → ⊥
   no_keep (uses.Journal file) fault fails = fails
   no_keep (uses.Rehearse stops) fault fails = fails
 
   no_before : (done : Task) (fault : UsageFault) → FailsBefore view done (end.Usage fault) → ⊥
-  no_before task.Probe fault fails = fails
-  no_before task.FlashSize fault fails = fails
-  no_before task.WpStatus fault fails = fails
-  no_before task.WpList fault fails = fails
   no_before (task.Read file regions) fault fails = elim fails [ inl f ↦ no_include regions fault f | inr f ↦ f ]
   no_before (task.Verify file regions) fault fails = elim fails [ inl f ↦ no_include regions fault f | inr f ↦ f ]
   no_before (task.Change change) fault fails = elim fails [
     | inl f ↦ no_include change.regions fault f
     | inr f ↦ elim f [ inl g ↦ no_read change.wanted fault g | inr g ↦ no_keep change.journal_use fault g ]
   ]
-  no_before (task.Restore journal) fault fails = fails
+  no_before _ fault fails = fails
 
 -- nor does one before its call
 module _ (view : View) where
@@ -112,22 +107,16 @@ module _ (files after : FilesState) where
   fails_ends : (on_chip : ChipJob) (unwritten : Unwritten) (fault : Fault) → FailsJob files.view on_chip fault
       → EndsJob files after on_chip unwritten (Err fault)
   fails_ends on_chip unwritten (end.Refused refusal) fails = inr fails
-  fails_ends on_chip unwritten (end.Usage fault) fails = fails
-  fails_ends on_chip unwritten end.NoText fails = fails
-  fails_ends on_chip unwritten (end.Layout fault) fails = fails
-  fails_ends on_chip unwritten (end.File fault name) fails = fails
+  fails_ends on_chip unwritten _ fails = fails
 
   -- ---- runs
 
   pub answer_ended : (words : List Text) (on_chip : ChipJob) (unwritten : Unwritten) (told : Result Answer Fault)
       → IsJob words (job.Chip on_chip) → (AreAtRest files → KeepsFiles on_chip.programmer on_chip.task files after)
       → EndsJob files after on_chip unwritten told → AnswersWords files after words told unwritten
-  answer_ended words on_chip unwritten (Ok found) asks keeps ends = (job.Chip on_chip, asks, (ends, keeps))
-  answer_ended words on_chip unwritten (Err (end.Usage fault)) asks keeps ends = absurd (no_usage files.view on_chip fault ends)
-  answer_ended words on_chip unwritten (Err (end.Refused refusal)) asks keeps ends = (job.Chip on_chip, asks, (ends, keeps))
-  answer_ended words on_chip unwritten (Err end.NoText) asks keeps ends = (job.Chip on_chip, asks, (ends, keeps))
-  answer_ended words on_chip unwritten (Err (end.Layout fault)) asks keeps ends = (job.Chip on_chip, asks, (ends, keeps))
-  answer_ended words on_chip unwritten (Err (end.File fault name)) asks keeps ends = (job.Chip on_chip, asks, (ends, keeps))
+  answer_ended words on_chip unwritten (Err (end.Usage fault)) asks keeps ends =
+      absurd (no_usage files.view on_chip fault ends)
+  answer_ended words on_chip unwritten _ asks keeps ends = (job.Chip on_chip, asks, (ends, keeps))
 
   pub answer_failed : (words : List Text) (on_chip : ChipJob) (unwritten : Unwritten) (fault : Fault) (told : Result Answer Fault)
       → told ≡ Err fault → IsJob words (job.Chip on_chip)
@@ -158,19 +147,7 @@ module _ (files after : FilesState) where
   succeeds_by words (Ok found) out out' answers prints = inr (found, answers, prints)
   succeeds_by words (Err (end.Usage (usage.Words error))) out out' answers prints =
       inl (subst (λ k. IsAmong k (refusals_of words)) prints answers.0)
-  succeeds_by words (Err (end.Usage usage.NoProgrammer)) out out' answers prints = absurd prints
-  succeeds_by words (Err (end.Usage usage.Programmer)) out out' answers prints = absurd prints
-  succeeds_by words (Err (end.Usage usage.TwoOperations)) out out' answers prints = absurd prints
-  succeeds_by words (Err (end.Usage usage.Range)) out out' answers prints = absurd prints
-  succeeds_by words (Err (end.Usage usage.Journal)) out out' answers prints = absurd prints
-  succeeds_by words (Err (end.Usage usage.Layout)) out out' answers prints = absurd prints
-  succeeds_by words (Err (end.Usage usage.Unneeded)) out out' answers prints = absurd prints
-  succeeds_by words (Err (end.Usage usage.Stops)) out out' answers prints = absurd prints
-  succeeds_by words (Err (end.Usage usage.Memory)) out out' answers prints = absurd prints
-  succeeds_by words (Err end.NoText) out out' answers prints = absurd prints
-  succeeds_by words (Err (end.Layout fault)) out out' answers prints = absurd prints
-  succeeds_by words (Err (end.File fault name)) out out' answers prints = absurd prints
-  succeeds_by words (Err (end.Refused refusal)) out out' answers prints = absurd prints
+  succeeds_by words _ out out' answers prints = absurd prints
 
   pub succeeds : (words : List Text) (outcome : Result Answer Fault) (unwritten : Unwritten) (out out' err err' : Option (List ℕ))
       (ending : Ending) → AnswersWords files after words outcome unwritten → HasPrinted outcome unwritten out out' err err' ending

@@ -1,14 +1,21 @@
 -- What a run that changes a chip leaves of files, whatever its task.
-use Rattle.std.proofs.Common.{◌≡◌, ◌<◌, ◌∙◌, ℕ, Bool, true, false, List, Option, None, Some, Result, ap, inr, length, refl, sym, true≢false, arith}
+use Rattle.std.proofs.Common.{◌≡◌, ◌<◌, ◌+◌, ◌*◌, ◌/◌, ◌%◌, ◌==◌, ◌∙◌, ◌∷◌, [], ℕ, Bool, true, false, List, Option}
+use Rattle.std.proofs.Common.{None, Some}
+use Rattle.std.proofs.Common.{Result, ap, arith, inl, inr, length, refl, replicate, subst, sym, true≢false}
+use Rattle.std.specs.Prelude.{◌⊎◌, IfSome, if◌then◌else◌, slice_index, unwrap_or}
 use Rattle.std.specs.Borrow.{Bor}
-use Rattle.nor_probe.specs.declared.table.ChipName.{ChipName}
-use Rattle.std.proofs.lemmas.List.{length-replicate}
+use Rattle.std.proofs.lemmas.Bool.{cases_Bool, cases_lt}
+use Rattle.std.proofs.lemmas.List.{get_or_past, length-replicate}
+use Rattle.std.proofs.lemmas.Option.{same_Some}
 use Rattle.nor_chip.specs.Bus.{BusState}
 use Rattle.nor_chip.specs.Start.{status_of}
-use Rattle.nor_files.specs.Files.{AllStay, AreAtRest, FilesState, IsKnown, IsSettled, Name, Stays, View, is_lawful}
+use Rattle.nor_chip.specs.declared.config.Config.{Config}
+use Rattle.nor_probe.specs.declared.table.ChipName.{ChipName}
+use Rattle.nor_files.specs.Files.{AllStay, AreAtRest, FilesState, Found, Name, Stays, View, is_lawful}
 use Rattle.nor_journal.specs.Vault.{VaultState}
 use Rattle.nor_call.specs.declared.refusal.Refusal.{Refusal}
 use Rattle.nor_call.specs.declared.request.Request.{Request}
+use Rattle.nor_session.specs.WrittenOver.{IsWrittenOver}
 use Rattle.nor_words.specs.Text.{Text}
 use Rattle.nor_words.specs.declared.job.ChipJob.{ChipJob}
 use Rattle.nor_words.specs.declared.job.JournalUse.{JournalUse}
@@ -16,237 +23,305 @@ use Rattle.nor_words.specs.declared.job.JournalUse.TheVariants as uses
 use Rattle.nor_words.specs.declared.job.Task.{Task}
 use Rattle.nor_words.specs.declared.job.Task.TheVariants as task
 use Rattle.nor_words.specs.declared.programmer.Programmer.{Programmer}
-use Rattle.flashnor.specs.Changes.{HasKeptChange, HasMadeChange, IsKeptFile}
+use Rattle.flashnor.specs.Changes.{HasMadeChange, IsKeptFile, IsKeptIn}
 use Rattle.flashnor.specs.Chips.{IsContentOf, OpensChip}
 use Rattle.flashnor.specs.Found.{emulated_part}
-use Rattle.flashnor.specs.Holding.{AreAmid, AreHeld, AreReady, IsReady, IsReadyFile, LeavesAmid, Settles, StandsFor, was}
-use Rattle.flashnor.specs.Left.{LeavesAsLong}
+use Rattle.flashnor.specs.Holding.{AreAmid, AreHeld, AreReady, IsAmid, IsReady, LeavesAmid, Settles, StandsFor, was}
+use Rattle.flashnor.specs.Left.{IsOpenedFrom, LeavesAsLong, MayLeave}
 use Rattle.flashnor.specs.Roles.{HaveOneRole, named_by}
 use Rattle.flashnor.specs.Run.{DoesJob, IsViewBut, KeepsChange, KeepsFiles}
-use Rattle.flashnor.specs.Stored.{AreTwo, IsNot}
+use Rattle.flashnor.specs.Stored.{AreOfFile, AreTwo, IsNot}
 use Rattle.flashnor.specs.Tasks.{journal_of, keeps_journal, made_by, puts_back}
 use Rattle.flashnor.specs.declared.answers.Answer.{Answer}
 use Rattle.flashnor.specs.declared.holding.Held.{Held}
-use Rattle.flashnor.proofs.Before.{not_that}
-use Rattle.flashnor.proofs.Held.{same_some}
-use Rattle.flashnor.proofs.Stays.{lawful_after, lawful_before, stays_on}
+use Rattle.flashnor.proofs.Before.{image_made, status_made}
+use Rattle.flashnor.proofs.Shown.{size_with}
+use Rattle.flashnor.proofs.Stays.{known_after, known_at_rest, lawful_after, lawful_before, not_that, rest_on}
+use Rattle.flashnor.proofs.Stays.{settled_after, stays_on}
 use Rattle.flashnor.proofs.Traced.{reads_before}
-use Rattle.flashnor.proofs.WayBack.{as_many, restorable, size_with, way_back}
 
--- ---- files that are ready to be written over
+-- ---- as many bytes as a file is to have
 
-module _ (s1 s2 : FilesState) (nature : s2.view.nature ≡ s1.view.nature) where
-  ready_file : (name : Text) (there : Bool) (had put : List ℕ) → Stays name s1 s2 → IsKnown name s1.view
-      → IsSettled name (was there had) s1 → length had ≡ length put → IsReadyFile name there had put s2
-  ready_file name there had put stays known settled many = record {
-    known = record { lawful = lawful_after s1 s2 nature known.lawful; in_store = stays.out ∙ known.in_store };
-    settled = record { seen = stays.seen ∙ settled.seen; leaves = λ left can. settled.leaves left (stays.leaves left can) };
-    as_many = many;
+-- where no file is named the missing bytes stand for it
+pub of_none : (view : View) (name : Option (Bor Text)) (len : ℕ) (missing bytes : List ℕ) → name ≡ None
+    → AreOfFile view name len missing bytes → bytes ≡ missing
+of_none view None len missing bytes none are = are.same ∙ (rw are.is_found refl)
+of_none view (Some name) len missing bytes none are = cc
+
+many_of : (found : Found) (missing : List ℕ) (len : ℕ) → IfSome found (λ all. length all ≡ len) → length missing ≡ len
+    → length (unwrap_or found missing) ≡ len
+many_of None missing len whole many = many
+many_of (Some all) missing len whole many = whole
+
+pub as_many : (view : View) (name : Option (Bor Text)) (len : ℕ) (missing bytes : List ℕ)
+    → AreOfFile view name len missing bytes → length missing ≡ len → length bytes ≡ len
+as_many view name len missing bytes are many = ap length are.same ∙ many_of are.found missing len are.whole many
+
+-- ---- what is opened from what may be left
+
+-- byte by byte it is what was there or what is written
+abbrev IsEither : (had bytes has : List ℕ) → Type 0
+IsEither had bytes has = (i : ℕ) → (slice_index has i ≡ slice_index had i) ⊎ (slice_index has i ≡ slice_index bytes i)
+
+one_of : (had bytes missing : List ℕ) (there : Bool) (left : Found) → (there ≡ false → had ≡ missing)
+    → IsAmid there had bytes left → IfSome left (λ has. length has ≡ length bytes)
+    → IsEither had bytes (unwrap_or left missing)
+one_of had bytes missing true left stood amid whole i = rw amid.1 (amid.2.each i)
+one_of had bytes missing false left stood (inl gone) whole i = inl (rw (gone, stood refl) refl)
+one_of had bytes missing false left stood (inr made) whole i =
+    let same : made.0 ≡ bytes = made.2 (rw made.1 at whole) in
+    inr (rw made.1 (ap (λ (l : List ℕ). slice_index l i) same))
+
+left_either : (had bytes missing : List ℕ) (named : Option (Bor Text)) (there : Bool) (files : FilesState) (left : Found)
+    → (there ≡ false → had ≡ missing) → (named ≡ None → had ≡ missing) → LeavesAmid named there had bytes files
+    → MayLeave named left files → IfSome left (λ has. length has ≡ length bytes)
+    → IsEither had bytes (unwrap_or left missing)
+left_either had bytes missing None there files left stood unnamed amid can whole = λ i.
+    inl (rw (can, unnamed refl) refl)
+left_either had bytes missing (Some name) there files left stood unnamed amid can whole =
+    one_of had bytes missing there left stood (amid left can) whole
+
+-- a status byte 1 tells the kept bits
+pub quarter : (kept : ℕ) (latch idle : Bool)
+    → (4 * kept + (if latch then 2 else 0) + (if idle then 0 else 1)) / 4 ≡ kept
+quarter kept true true = omega arith
+quarter kept true false = omega arith
+quarter kept false true = omega arith
+quarter kept false false = omega arith
+
+-- a file that was there has all its bytes while it is written over
+as_long : (name : Option (Bor Text)) (there : Bool) (had put : List ℕ) (s0 s1 s3 : FilesState) → AllStay s0 s1
+    → Settles name (was there had) s1 → length had ≡ length put → LeavesAmid name there had put s3
+    → LeavesAsLong name s0 s3
+as_long None there had put s0 s1 s3 stay settled many amid = tt
+as_long (Some name) true had put s0 s1 s3 stay settled many amid = λ all seen left can.
+    let (has, is, mix) = amid left can in
+    let same : all ≡ had = same_Some all had (sym seen ∙ sym (stay name.now).seen ∙ settled.seen) in
+    rw is (omega (arith, mix.shortest, mix.longest, many, ap length same))
+as_long (Some name) false had put s0 s1 s3 stay settled many amid = λ all seen left can.
+    let both : None ≡ Some all = sym settled.seen ∙ (stay name.now).seen ∙ seen in
+    absurd cc
+
+-- ---- the chip and the journal that the call left
+
+-- the file of a journal stays while others are written
+kept_after : {file : Text} {vault : VaultState} {s2 s3 : FilesState} → Stays file s2 s3 → IsKeptFile file vault s2
+    → IsKeptFile file vault s3
+kept_after stays kept = record {
+  telling = kept.telling;
+  seen = stays.seen ∙ kept.seen;
+  settled = λ is. settled_after stays (kept.settled is);
+}
+
+-- the chip that a change leaves has the same configuration
+setup_kept : (kept : JournalUse) (request : Request) (image : List ℕ) (old new : BusState) (after : FilesState)
+    (outcome : Result Answer Refusal) → keeps_journal kept ≡ true
+    → HasMadeChange request image kept old new after outcome → new.chip.config ≡ old.chip.config
+setup_kept (uses.Journal file) request image old new after outcome keeps made =
+    elim (cases_Bool made.vault'.sealed) [
+      | inl sealed ↦ (made.done.undo sealed).changes.within.config
+      | inr open' ↦ (made.done.same open').config
+    ]
+setup_kept (uses.Rehearse stops) request image old new after outcome keeps made = absurd (true≢false (sym keeps))
+
+pub setup_done : (done : Task) (amid : View) (after : FilesState) (programmer : Programmer) (named : Option ChipName)
+    (old new : BusState) (outcome : Result Answer Refusal) → puts_back done ≡ true
+    → DoesJob amid after programmer named done old new outcome → new.chip.config ≡ old.chip.config
+setup_done (task.Change change) amid after programmer named old new outcome puts does =
+    setup_kept change.journal_use _ does.image old new after outcome puts does.changed
+setup_done (task.Restore journal) amid after programmer named old new outcome puts does = does.restored.config
+setup_done _ amid after programmer named old new outcome puts does = absurd (true≢false (sym puts))
+
+-- and its journal is kept while the chip's files are written
+module _ (programmer : Programmer) (s2 s3 : FilesState) (nature : s3.view.nature ≡ s2.view.nature)
+    (last : is_lawful s2.view ≡ true → (any : Name) → IsNot programmer.image any → IsNot programmer.status any
+    → Stays any s2 s3) where
+  kept_in_after : (kept : JournalUse) (vault vault' : VaultState) → AreTwo programmer.image (journal_of kept)
+      → AreTwo programmer.status (journal_of kept) → IsKeptIn kept vault vault' s2 → IsKeptIn kept vault vault' s3
+  kept_in_after (uses.Journal file) vault vault' one other before = λ lawful.
+      let was' = lawful_before nature lawful in
+      kept_after (last was' file.now (not_that programmer.image file one) (not_that programmer.status file other))
+      (before was')
+  kept_in_after (uses.Rehearse stops) vault vault' one other before = before
+
+  pub does_after : (done : Task) (amid : View) (named : Option ChipName) (old new : BusState)
+      (outcome : Result Answer Refusal) → puts_back done ≡ true → AreTwo programmer.image (named_by done).journal
+      → AreTwo programmer.status (named_by done).journal → DoesJob amid s2 programmer named done old new outcome
+      → DoesJob amid s3 programmer named done old new outcome
+  does_after (task.Change change) amid named old new outcome puts one other does = record {
+    ranges = does.ranges;
+    included = does.included;
+    image = does.image;
+    buffer = does.buffer;
+    changed = record {
+      vault = does.changed.vault;
+      vault' = does.changed.vault';
+      fresh = does.changed.fresh;
+      kept_in = kept_in_after change.journal_use _ _ one other does.changed.kept_in;
+      done = does.changed.done;
+    };
   }
+  does_after (task.Restore journal) amid named old new outcome puts one other does = does
+  does_after _ amid named old new outcome puts one other does = absurd (true≢false (sym puts))
 
-  pub ready_named : (name trace made : Option (Bor Text)) (there : Bool) (had put : List ℕ) → AreAtRest s1
-      → ((any : Name) → IsNot trace any → IsNot made any → Stays any s1 s2) → AreTwo name trace → AreTwo name made
-      → Settles name (was there had) s1 → length had ≡ length put → IsReady name there had put s2
-  ready_named None trace made there had put rest stay traced other settled many = tt
-  ready_named (Some name) trace made there had put rest stay traced other settled many =
-      ready_file name.now there had put (stay name.now traced other)
-      (record { lawful = rest.lawful; in_store = rest.in_store name.now }) settled many
+-- ---- the chip's files
 
--- the file that a task makes is no file of the chip
-two_made : (done : Task) (one : Option (Bor Text)) → puts_back done ≡ true → AreTwo one (named_by done).journal → AreTwo one (made_by done)
-two_made (task.Change change) one puts two = two
-two_made (task.Restore journal) None puts two = tt
-two_made (task.Restore journal) (Some one) puts two = tt
-two_made task.Probe one puts two = absurd (true≢false (sym puts))
-two_made task.FlashSize one puts two = absurd (true≢false (sym puts))
-two_made task.WpStatus one puts two = absurd (true≢false (sym puts))
-two_made task.WpList one puts two = absurd (true≢false (sym puts))
-two_made (task.Read file regions) one puts two = absurd (true≢false (sym puts))
-two_made (task.Verify file regions) one puts two = absurd (true≢false (sym puts))
+ready_named : {s1 s2 : FilesState} (name trace made : Option (Bor Text)) (there : Bool) (had put : List ℕ)
+    → s2.view.nature ≡ s1.view.nature → AreAtRest s1
+    → ((any : Name) → IsNot trace any → IsNot made any → Stays any s1 s2) → AreTwo name trace → AreTwo name made
+    → Settles name (was there had) s1 → length had ≡ length put → IsReady name there had put s2
+ready_named None trace made there had put nature rest stay traced other settled many = tt
+ready_named (Some name) trace made there had put nature rest stay traced other settled many =
+    let stays = stay name.now traced other in
+    record {
+      known = known_after nature stays (known_at_rest rest name.now);
+      settled = settled_after stays settled;
+      as_many = many;
+    }
 
 module _ (job : ChipJob) (held : Held) (s0 s1 s2 : FilesState) (bus bus' : BusState) (roles : HaveOneRole job)
-    (puts : puts_back job.task ≡ true)
     (read : IsContentOf s0.view job.programmer held.content) (opens : OpensChip job.programmer held.content bus)
     (rest : AreAtRest s0) (is_held : AreHeld job.programmer held s0 s1)
     (nature1 : s1.view.nature ≡ s0.view.nature) (nature2 : s2.view.nature ≡ s1.view.nature)
-    (stay : is_lawful s1.view ≡ true → (any : Name) → IsNot job.programmer.trace any → IsNot (made_by job.task) any → Stays any s1 s2)
+    (stay : is_lawful s1.view ≡ true → (any : Name) → IsNot job.programmer.trace any → IsNot (made_by job.task) any
+    → Stays any s1 s2)
     (setup : bus'.chip.config ≡ bus.chip.config) where
   still : AreAtRest s1
-  still = record {
-    lawful = lawful_after s0 s1 nature1 rest.lawful;
-    in_store = λ name. (is_held.stay name).out ∙ rest.in_store name;
-  }
+  still = rest_on nature1 rest is_held.stay
 
   size : bus.chip.config.size ≡ (emulated_part job.programmer.chip).size
   size = size_with job.programmer.chip job.programmer.unique bus.chip.config opens.ready.config
 
-  image_many : length held.content.bytes.items ≡ (emulated_part job.programmer.chip).size
-  image_many = as_many s0.view job.programmer.image _ _ _ read.bytes (length-replicate {A = ℕ} (emulated_part job.programmer.chip).size 255)
+  image_many : length held.content.bytes.items ≡ bus.chip.config.size
+  image_many = as_many s0.view job.programmer.image _ _ _ read.bytes (length-replicate {A = ℕ} _ 255) ∙ sym size
 
   status_many : length held.content.status ≡ 2
   status_many = as_many s0.view job.programmer.status 2 _ _ read.status refl
 
-  -- both files are ready to be written over with the chip that the call left
-  pub ready_both : AreReady job.programmer held.image_there held.status_there held.content.bytes.items held.content.status bus'.chip s2
+  -- both are ready to be written over with the chip that the call left
+  pub ready_both : AreReady job.programmer held.image_there held.status_there held.content.bytes.items
+      held.content.status bus'.chip s2
   ready_both = record {
-    image = λ put are. ready_named s1 s2 nature2 job.programmer.image job.programmer.trace (made_by job.task) held.image_there
-        held.content.bytes.items put still (stay still.lawful) roles.image_trace (two_made job.task job.programmer.image puts roles.image_journal)
-        is_held.image (image_many ∙ sym size ∙ sym (ap (λ c. c.size) setup) ∙ sym are.len);
-    status = ready_named s1 s2 nature2 job.programmer.status job.programmer.trace (made_by job.task) held.status_there
-        held.content.status (status_of bus'.chip) still (stay still.lawful) roles.status_trace
-        (two_made job.task job.programmer.status puts roles.status_journal) is_held.status status_many;
+    image = λ put are. ready_named job.programmer.image _ _ held.image_there _ put nature2 still (stay still.lawful)
+        roles.image_trace (image_made job roles) is_held.image
+        (image_many ∙ sym (ap (λ (c : Config). c.size) setup) ∙ sym are.len);
+    status = ready_named job.programmer.status _ _ held.status_there _ (status_of bus'.chip) nature2 still
+        (stay still.lawful) roles.status_trace (status_made job roles) is_held.status status_many;
   }
 
--- ---- what the files may be left as
+  -- ---- what they may be left as
 
--- the file of a journal stays while others are written
-kept_after : (file : Text) (vault : VaultState) (s2 s3 : FilesState) → Stays file s2 s3 → IsKeptFile file vault s2 → IsKeptFile file vault s3
-kept_after file vault s2 s3 stays kept = record {
-  telling = kept.telling;
-  seen = stays.seen ∙ kept.seen;
-  settled = λ is. record {
-    seen = stays.seen ∙ (kept.settled is).seen;
-    leaves = λ left can. (kept.settled is).leaves left (stays.leaves left can);
-  };
-}
+  module _ (s3 : FilesState) (amid : View) (stands : StandsFor job.programmer held) (small : bus'.chip.kept2 < 128)
+      (but : IsViewBut job.programmer.trace s0.view amid)
+      (last : is_lawful s2.view ≡ true → (any : Name) → IsNot job.programmer.image any
+      → IsNot job.programmer.status any → Stays any s2 s3)
+      (is_amid : AreAmid job.programmer held.image_there held.status_there held.content.bytes.items
+      held.content.status bus'.chip s3) where
+    put_len : length is_amid.put ≡ bus.chip.config.size
+    put_len = is_amid.are.len ∙ ap (λ (c : Config). c.size) setup
 
-setup_by : (request : Request) (image : List ℕ) (old new : BusState) (vault vault' : VaultState) (outcome : Result Answer Refusal)
-    → HasKeptChange request image old new vault vault' outcome → (sealed : Bool) → vault'.sealed ≡ sealed
-    → new.chip.config ≡ old.chip.config
-setup_by request image old new vault vault' outcome kept false is = (kept.same is).config
-setup_by request image old new vault vault' outcome kept true is = (kept.undo is).changes.within.config
+    image_whole : LeavesAsLong job.programmer.image s0 s3
+    image_whole =
+        as_long job.programmer.image held.image_there held.content.bytes.items is_amid.put s0 s1 s3 is_held.stay
+        is_held.image (image_many ∙ sym put_len) is_amid.image
 
--- the chip that a change leaves has the same configuration
-setup_kept : (kept : JournalUse) (request : Request) (image : List ℕ) (old new : BusState) (after : FilesState)
-    (outcome : Result Answer Refusal) → keeps_journal kept ≡ true → HasMadeChange request image kept old new after outcome
-    → new.chip.config ≡ old.chip.config
-setup_kept (uses.Journal file) request image old new after outcome keeps made =
-    setup_by request image old new made.vault made.vault' outcome made.done made.vault'.sealed refl
-setup_kept (uses.Rehearse stops) request image old new after outcome keeps made = absurd (true≢false (sym keeps))
+    status_whole : LeavesAsLong job.programmer.status s0 s3
+    status_whole =
+        as_long job.programmer.status held.status_there held.content.status (status_of bus'.chip) s0 s1 s3
+        is_held.stay is_held.status status_many is_amid.status
 
-pub setup_done : (done : Task) (amid : View) (after : FilesState) (programmer : Programmer) (named : Option ChipName) (old new : BusState)
-    (outcome : Result Answer Refusal) → puts_back done ≡ true → DoesJob amid after programmer named done old new outcome
-    → new.chip.config ≡ old.chip.config
-setup_done (task.Change change) amid after programmer named old new outcome puts does =
-    setup_kept change.journal_use _ does.image old new after outcome puts does.changed
-setup_done (task.Restore journal) amid after programmer named old new outcome puts does = does.restored.config
-setup_done task.Probe amid after programmer named old new outcome puts does = absurd (true≢false (sym puts))
-setup_done task.FlashSize amid after programmer named old new outcome puts does = absurd (true≢false (sym puts))
-setup_done task.WpStatus amid after programmer named old new outcome puts does = absurd (true≢false (sym puts))
-setup_done task.WpList amid after programmer named old new outcome puts does = absurd (true≢false (sym puts))
-setup_done (task.Read file regions) amid after programmer named old new outcome puts does = absurd (true≢false (sym puts))
-setup_done (task.Verify file regions) amid after programmer named old new outcome puts does = absurd (true≢false (sym puts))
+    erased : held.content.bytes.items ≡ replicate (emulated_part job.programmer.chip).size 255
+        → held.content.bytes.items ≡ replicate bus.chip.config.size 255
+    erased is = is ∙ ap (λ (n : ℕ). replicate n 255) (sym size)
 
--- a change keeps its journal while the chip's files are written
-made_after : (kept : JournalUse) (programmer : Programmer) (request : Request) (image : List ℕ) (old new : BusState) (s2 s3 : FilesState)
-    (outcome : Result Answer Refusal) → AreTwo programmer.image (journal_of kept) → AreTwo programmer.status (journal_of kept)
-    → s3.view.nature ≡ s2.view.nature
-    → (is_lawful s2.view ≡ true → (any : Name) → IsNot programmer.image any → IsNot programmer.status any → Stays any s2 s3)
-    → HasMadeChange request image kept old new s2 outcome → HasMadeChange request image kept old new s3 outcome
-made_after (uses.Journal file) programmer request image old new s2 s3 outcome one other nature last made = record {
-  vault = made.vault;
-  vault' = made.vault';
-  fresh = made.fresh;
-  kept_in = λ is.
-      let before = lawful_before s2 s3 nature is in
-      kept_after file.now made.vault' s2 s3
-      (last before file.now (not_that programmer.image file one) (not_that programmer.status file other)) (made.kept_in before);
-  done = made.done;
-}
-made_after (uses.Rehearse stops) programmer request image old new s2 s3 outcome one other nature last made = record {
-  vault = made.vault;
-  vault' = made.vault';
-  fresh = made.fresh;
-  kept_in = made.kept_in;
-  done = made.done;
-}
+    -- each byte that is opened from what may be left is the old or the new chip's
+    over : (image status : Found) (later : BusState) → MayLeave job.programmer.image image s3
+        → MayLeave job.programmer.status status s3 → IsOpenedFrom image status bus.chip.config later.chip
+        → IsWrittenOver bus.chip bus'.chip later.chip
+    over image status later can can_status from =
+        let holds = opens.holds in
+        let byte = left_either held.content.bytes.items is_amid.put (replicate bus.chip.config.size 255)
+        job.programmer.image held.image_there s3 image (λ gone. erased (stands.image gone))
+        (λ none. erased (of_none s0.view job.programmer.image _ _ _ none read.bytes)) is_amid.image can
+        (subst (λ (n : ℕ). IfSome image (λ has. length has ≡ n)) (sym put_len) from.whole) in
+        let bit = left_either held.content.status (status_of bus'.chip) (0 ∷ 0 ∷ []) job.programmer.status
+        held.status_there s3 status stands.status
+        (λ none. of_none s0.view job.programmer.status _ _ _ none read.status) is_amid.status can_status from.two in
+        record {
+          config = from.config;
+          bytes = λ a. elim (byte a) [
+            | inl is ↦ inl (from.bytes a ∙ is ∙ sym (holds.bytes a))
+            | inr is ↦ elim (cases_lt a bus.chip.config.size) [
+              | inl below ↦ inr (from.bytes a ∙ is
+                  ∙ is_amid.are.at a (omega (arith, below, ap (λ (c : Config). c.size) setup)))
+              | inr past ↦ inl (from.bytes a ∙ is ∙ get_or_past is_amid.put a 0 (omega (arith, put_len, past))
+                  ∙ sym (get_or_past held.content.bytes.items a 0 (omega (arith, image_many, past)))
+                  ∙ sym (holds.bytes a))
+            ]
+          ];
+          kept1 = elim (bit 0) [
+            | inl is ↦ inl (from.kept1 ∙ ap (λ (b : ℕ). b / 4) is ∙ sym holds.kept1)
+            | inr is ↦ inr (from.kept1 ∙ ap (λ (b : ℕ). b / 4) is
+                ∙ quarter bus'.chip.kept1 bus'.chip.latch (bus'.chip.busy == 0))
+          ];
+          kept2 = elim (bit 1) [
+            | inl is ↦ inl (from.kept2 ∙ ap (λ (b : ℕ). b % 128) is ∙ sym holds.kept2)
+            | inr is ↦ inr (from.kept2 ∙ ap (λ (b : ℕ). b % 128) is ∙ omega (arith, small))
+          ];
+          idle = from.idle;
+        }
 
-pub does_after : (done : Task) (amid : View) (s2 s3 : FilesState) (programmer : Programmer) (named : Option ChipName) (old new : BusState)
-    (outcome : Result Answer Refusal) → puts_back done ≡ true → AreTwo programmer.image (named_by done).journal
-    → AreTwo programmer.status (named_by done).journal → s3.view.nature ≡ s2.view.nature
-    → (is_lawful s2.view ≡ true → (any : Name) → IsNot programmer.image any → IsNot programmer.status any → Stays any s2 s3)
-    → DoesJob amid s2 programmer named done old new outcome → DoesJob amid s3 programmer named done old new outcome
-does_after (task.Change change) amid s2 s3 programmer named old new outcome puts one other nature last does = record {
-  ranges = does.ranges;
-  included = does.included;
-  image = does.image;
-  buffer = does.buffer;
-  changed = made_after change.journal_use programmer _ does.image old new s2 s3 outcome one other nature last does.changed;
-}
-does_after (task.Restore journal) amid s2 s3 programmer named old new outcome puts one other nature last does = does
-does_after task.Probe amid s2 s3 programmer named old new outcome puts one other nature last does = absurd (true≢false (sym puts))
-does_after task.FlashSize amid s2 s3 programmer named old new outcome puts one other nature last does = absurd (true≢false (sym puts))
-does_after task.WpStatus amid s2 s3 programmer named old new outcome puts one other nature last does = absurd (true≢false (sym puts))
-does_after task.WpList amid s2 s3 programmer named old new outcome puts one other nature last does = absurd (true≢false (sym puts))
-does_after (task.Read file regions) amid s2 s3 programmer named old new outcome puts one other nature last does = absurd (true≢false (sym puts))
-does_after (task.Verify file regions) amid s2 s3 programmer named old new outcome puts one other nature last does = absurd (true≢false (sym puts))
+    last_stays : (file : Bor Text) → AreTwo job.programmer.image (Some file) → AreTwo job.programmer.status (Some file)
+        → Stays file.now s2 s3
+    last_stays file one other =
+        last (lawful_after nature2 still.lawful) file.now (not_that job.programmer.image file one)
+        (not_that job.programmer.status file other)
 
--- a file that was there has all its bytes while it is written over
-as_long : (name : Option (Bor Text)) (there : Bool) (had put : List ℕ) (s0 s1 s3 : FilesState) → AllStay s0 s1
-    → Settles name (was there had) s1 → length had ≡ length put → LeavesAmid name there had put s3 → LeavesAsLong name s0 s3
-as_long None there had put s0 s1 s3 stay settled many amid = tt
-as_long (Some name) true had put s0 s1 s3 stay settled many amid = λ all seen left can.
-    let (has, is, mix) = amid left can in
-    let same : all ≡ had = same_some all had (sym seen ∙ sym (stay name.now).seen ∙ settled.seen) in
-    rw is (omega (arith, mix.shortest, mix.longest, many, ap length same))
-as_long (Some name) false had put s0 s1 s3 stay settled many amid = λ all seen left can.
-    absurd (none_some all (sym settled.seen ∙ (stay name.now).seen ∙ seen))
-  where
-    none_some : (all : List ℕ) → None ≡ Some all → ⊥
-    none_some all is = cc
+    -- behind a session, whose journal is in its file
+    keeps_change : (kept : JournalUse) (request : Request) (image : List ℕ) (outcome : Result Answer Refusal)
+        → keeps_journal kept ≡ true → AreTwo job.programmer.image (journal_of kept)
+        → AreTwo job.programmer.status (journal_of kept) → HasMadeChange request image kept bus bus' s2 outcome
+        → KeepsChange job.programmer kept s0 s3
+    keeps_change (uses.Journal file) request image outcome keeps one other made =
+        let in_file = kept_after (last_stays file one other) (made.kept_in (lawful_after nature2 still.lawful)) in
+        inr (record {
+          image = image_whole;
+          status = status_whole;
+          first = record { content = held.content; read = read; bus = bus; opens = opens };
+          sealed = made.vault'.sealed;
+          same = λ is i s later can can_s from. (made.done.over later (over i s later can can_s from)).same is;
+          back = λ is.
+              let saves = (made.done.undo is).journal in_file.telling in
+              record {
+                journal = saves.content;
+                sound = saves.saves.is;
+                left = λ any can. (in_file.settled is).leaves any can ∙ ap Some saves.is;
+                back = λ i s later can can_s from.
+                    (made.done.over later (over i s later can can_s from)).back is in_file.telling saves.content
+                    saves.saves.is saves.is;
+              };
+        })
+    keeps_change (uses.Rehearse stops) request image outcome keeps one other made = absurd (true≢false (sym keeps))
 
-module _ (programmer : Programmer) (held : Held) (s0 s1 s2 s3 : FilesState) (bus bus' : BusState) (amid : View)
-    (read : IsContentOf s0.view programmer held.content) (opens : OpensChip programmer held.content bus)
-    (many : length held.content.bytes.items ≡ (emulated_part programmer.chip).size) (stands : StandsFor programmer held)
-    (small : bus'.chip.kept2 < 128) (rest : AreAtRest s0) (first : AllStay s0 s1)
-    (nature1 : s1.view.nature ≡ s0.view.nature) (nature2 : s2.view.nature ≡ s1.view.nature)
-    (but : IsViewBut programmer.trace s0.view amid)
-    (last : (any : Name) → IsNot programmer.image any → IsNot programmer.status any → Stays any s2 s3)
-    (is_amid : AreAmid programmer held.image_there held.status_there held.content.bytes.items held.content.status bus'.chip s3)
-    (is_held : AreHeld programmer held s0 s1) (setup : bus'.chip.config ≡ bus.chip.config) where
-  had_size : bus.chip.config.size ≡ (emulated_part programmer.chip).size
-  had_size = size_with programmer.chip programmer.unique bus.chip.config opens.ready.config
-
-  image_whole : LeavesAsLong programmer.image s0 s3
-  image_whole =
-      as_long programmer.image held.image_there held.content.bytes.items is_amid.put s0 s1 s3 first is_held.image
-      (many ∙ sym had_size ∙ sym (ap (λ c. c.size) setup) ∙ sym is_amid.are.len) is_amid.image
-
-  status_whole : LeavesAsLong programmer.status s0 s3
-  status_whole =
-      as_long programmer.status held.status_there held.content.status (status_of bus'.chip) s0 s1 s3 first is_held.status
-      (as_many s0.view programmer.status 2 _ _ read.status refl) is_amid.status
-
-  lawful2 : is_lawful s2.view ≡ true
-  lawful2 = lawful_after s1 s2 nature2 (lawful_after s0 s1 nature1 rest.lawful)
-
-  keeps_change : (kept : JournalUse) (request : Request) (image : List ℕ) (outcome : Result Answer Refusal) → keeps_journal kept ≡ true
-      → AreTwo programmer.image (journal_of kept) → AreTwo programmer.status (journal_of kept)
-      → HasMadeChange request image kept bus bus' s2 outcome → KeepsChange programmer kept s0 s3
-  keeps_change (uses.Journal file) request image outcome keeps one other made =
-      let stays = last file.now (not_that programmer.image file one) (not_that programmer.status file other) in
-      inr (way_back programmer held s0 s3 bus bus' read opens many stands small is_amid image_whole status_whole file.now request image made.vault made.vault' outcome
-      made.done (kept_after file.now made.vault' s2 s3 stays (made.kept_in lawful2)))
-  keeps_change (uses.Rehearse stops) request image outcome keeps one other made = absurd (true≢false (sym keeps))
-
-  pub keeps_files : (done : Task) (named : Option ChipName) (outcome : Result Answer Refusal) → puts_back done ≡ true
-      → ((any : Name) → IsNot programmer.trace any → IsNot (made_by done) any → Stays any s1 s2)
-      → (journal : Option (Bor Text)) → AreTwo programmer.image journal → AreTwo programmer.status journal
-      → AreTwo programmer.trace journal → journal ≡ (named_by done).journal
-      → DoesJob amid s2 programmer named done bus bus' outcome → KeepsFiles programmer done s0 s3
-  keeps_files (task.Change change) named outcome puts stay journal one other traced is does =
-      keeps_change change.journal_use _ does.image outcome puts (rw is at one) (rw is at other) does.changed
-  keeps_files (task.Restore journal) named outcome puts stay given one other traced is does =
-      let apart : AreTwo programmer.trace (Some journal) = rw is at traced in
-      let not = not_that programmer.trace journal apart in
-      let stays1 = stay journal.now not tt in
-      let stays2 = last journal.now (not_that programmer.image journal (rw is at one)) (not_that programmer.status journal (rw is at other)) in
-      inr (restorable programmer held s0 s3 bus bus' read opens many stands small is_amid image_whole status_whole journal.now does.journal named outcome does.sound
-      (reads_before programmer.trace journal.now 16793662 _ s0.view amid not but does.read)
-      (stays_on journal.now s0 s1 s3 (first journal.now) (stays_on journal.now s1 s2 s3 stays1 stays2)) does.restored)
-  keeps_files task.Probe named outcome puts stay journal one other traced is does = absurd (true≢false (sym puts))
-  keeps_files task.FlashSize named outcome puts stay journal one other traced is does = absurd (true≢false (sym puts))
-  keeps_files task.WpStatus named outcome puts stay journal one other traced is does = absurd (true≢false (sym puts))
-  keeps_files task.WpList named outcome puts stay journal one other traced is does = absurd (true≢false (sym puts))
-  keeps_files (task.Read file regions) named outcome puts stay journal one other traced is does = absurd (true≢false (sym puts))
-  keeps_files (task.Verify file regions) named outcome puts stay journal one other traced is does = absurd (true≢false (sym puts))
+    pub keeps_files : (done : Task) (named : Option ChipName) (outcome : Result Answer Refusal) → puts_back done ≡ true
+        → ((any : Name) → IsNot job.programmer.trace any → IsNot (made_by done) any → Stays any s1 s2)
+        → AreTwo job.programmer.image (named_by done).journal → AreTwo job.programmer.status (named_by done).journal
+        → AreTwo job.programmer.trace (named_by done).journal
+        → DoesJob amid s2 job.programmer named done bus bus' outcome → KeepsFiles job.programmer done s0 s3
+    keeps_files (task.Change change) named outcome puts stay' one other traced does =
+        keeps_change change.journal_use _ does.image outcome puts one other does.changed
+    keeps_files (task.Restore journal) named outcome puts stay' one other traced does =
+        let not = not_that job.programmer.trace journal traced in
+        inr (record {
+          image = image_whole;
+          status = status_whole;
+          found = record { content = held.content; read = read; bus = bus; opens = opens };
+          journal = does.journal;
+          sound = does.sound;
+          read = reads_before job.programmer.trace journal.now 16793662 _ s0.view amid not but does.read;
+          stays = stays_on (is_held.stay journal.now)
+              (stays_on (stay' journal.now not tt) (last_stays journal one other));
+          back = λ chip can i s later left left_status from.
+              does.restored.over chip later can (over i s later left left_status from);
+        })
+    keeps_files _ named outcome puts stay' one other traced does = absurd (true≢false (sym puts))

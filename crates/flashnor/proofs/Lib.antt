@@ -6,10 +6,7 @@ pub mod Changed
 pub mod Doing
 pub mod Stays
 pub mod Unread
-pub mod Amid
-pub mod WayBack
 pub mod Traced
-pub mod Told
 pub mod Before
 pub mod Kept
 pub mod Undone

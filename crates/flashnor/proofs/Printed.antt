@@ -63,19 +63,7 @@ tells_well : (outcome : Result Answer Fault) (unwritten : Unwritten) (err err' :
     → Appends err err' (lines_of_unwritten unwritten) → IfSome (lines_told outcome unwritten) (Appends err err')
 tells_well (Ok found) unwritten err err' answered told = told
 tells_well (Err (end.Usage (usage.Words error))) unwritten err err' answered told = tt
-tells_well (Err (end.Usage usage.NoProgrammer)) unwritten err err' answered told = absurd answered
-tells_well (Err (end.Usage usage.Programmer)) unwritten err err' answered told = absurd answered
-tells_well (Err (end.Usage usage.TwoOperations)) unwritten err err' answered told = absurd answered
-tells_well (Err (end.Usage usage.Range)) unwritten err err' answered told = absurd answered
-tells_well (Err (end.Usage usage.Journal)) unwritten err err' answered told = absurd answered
-tells_well (Err (end.Usage usage.Layout)) unwritten err err' answered told = absurd answered
-tells_well (Err (end.Usage usage.Unneeded)) unwritten err err' answered told = absurd answered
-tells_well (Err (end.Usage usage.Stops)) unwritten err err' answered told = absurd answered
-tells_well (Err (end.Usage usage.Memory)) unwritten err err' answered told = absurd answered
-tells_well (Err end.NoText) unwritten err err' answered told = absurd answered
-tells_well (Err (end.Layout fault)) unwritten err err' answered told = absurd answered
-tells_well (Err (end.File fault name)) unwritten err err' answered told = absurd answered
-tells_well (Err (end.Refused refusal)) unwritten err err' answered told = absurd answered
+tells_well _ unwritten err err' answered told = absurd answered
 
 -- an answer, or help
 pub printed_well : (outcome : Result Answer Fault) (unwritten : Unwritten) (out out' err err' : Option (List ℕ)) (ending : Ending)

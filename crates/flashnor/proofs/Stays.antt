@@ -2,32 +2,70 @@
 use Rattle.std.proofs.Common.{◌≡◌, ◌≢◌, ◌∙◌, Option, None, Some, ap, inl, refl, sym, true}
 use Rattle.std.specs.Borrow.{Bor}
 use Rattle.nor_files.specs.Calls.{Lends, TakesBack}
-use Rattle.nor_files.specs.Files.{FilesState, Name, Stays, is_lawful}
+use Rattle.nor_files.specs.Files.{AllStay, AreAtRest, FilesState, Found, IsKnown, IsSettled, Name, Nature, Stays}
+use Rattle.nor_files.specs.Files.{is_lawful}
 use Rattle.nor_journal.specs.Vault.{VaultState}
 use Rattle.nor_words.specs.Text.{Text}
 use Rattle.flashnor.specs.Changes.{IsKeptFile}
-use Rattle.flashnor.specs.Stored.{MakesNothing}
+use Rattle.flashnor.specs.Holding.{KnownStay}
+use Rattle.flashnor.specs.Stored.{AreTwo, IsNot, MakesNothing}
 
 pub stays_same : (name : Name) (files : FilesState) → Stays name files files
 stays_same name files = record { out = refl; seen = refl; leaves = λ left can. can }
 
-pub stays_on : (name : Name) (old mid new : FilesState) → Stays name old mid → Stays name mid new → Stays name old new
-stays_on name old mid new one other = record {
+pub stays_on : {name : Name} {old mid new : FilesState} → Stays name old mid → Stays name mid new → Stays name old new
+stays_on one other = record {
   out = other.out ∙ one.out;
   seen = other.seen ∙ one.seen;
   leaves = λ left can. one.leaves left (other.leaves left can);
 }
 
+-- the other way round
+pub not_that : (one : Option (Bor Text)) (file : Bor Text) → AreTwo one (Some file) → IsNot one file.now
+not_that None file two = tt
+not_that (Some name) file two = λ same. two (sym same)
+
 pub nothing_same : (name : Option (Bor Text)) (files : FilesState) → MakesNothing name files files
 nothing_same None files = tt
 nothing_same (Some name) files = λ known left can. inl can
 
--- the files are lawful before where they are afterwards
-pub lawful_before : (old new : FilesState) → new.view.nature ≡ old.view.nature → is_lawful new.view ≡ true → is_lawful old.view ≡ true
-lawful_before old new same is = sym (ap (λ n. n.lawful) same) ∙ is
+-- ---- what is known of a file still is
 
-pub lawful_after : (old new : FilesState) → new.view.nature ≡ old.view.nature → is_lawful old.view ≡ true → is_lawful new.view ≡ true
-lawful_after old new same is = ap (λ n. n.lawful) same ∙ is
+-- the files are lawful before where they are afterwards
+pub lawful_before : {old new : Nature} → new ≡ old → new.lawful ≡ true → old.lawful ≡ true
+lawful_before same is = sym (ap (λ (n : Nature). n.lawful) same) ∙ is
+
+pub lawful_after : {old new : Nature} → new ≡ old → old.lawful ≡ true → new.lawful ≡ true
+lawful_after same is = ap (λ (n : Nature). n.lawful) same ∙ is
+
+pub known_after : {name : Name} {old new : FilesState} → new.view.nature ≡ old.view.nature → Stays name old new
+    → IsKnown name old.view → IsKnown name new.view
+known_after same stays known = record {
+  lawful = lawful_after same known.lawful;
+  in_store = stays.out ∙ known.in_store;
+}
+
+pub settled_after : {name : Name} {content : Found} {old new : FilesState} → Stays name old new
+    → IsSettled name content old → IsSettled name content new
+settled_after stays is = record {
+  seen = stays.seen ∙ is.seen;
+  leaves = λ left can. is.leaves left (stays.leaves left can);
+}
+
+pub known_at_rest : {files : FilesState} → AreAtRest files → (name : Name) → IsKnown name files.view
+known_at_rest rest name = record { lawful = rest.lawful; in_store = rest.in_store name }
+
+pub known_stay_on : {old mid new : FilesState} → mid.view.nature ≡ old.view.nature → KnownStay old mid
+    → KnownStay mid new → KnownStay old new
+known_stay_on same one two name known =
+    stays_on (one name known) (two name (known_after same (one name known) known))
+
+pub rest_on : {old new : FilesState} → new.view.nature ≡ old.view.nature → AreAtRest old → AllStay old new
+    → AreAtRest new
+rest_on same rest stay = record {
+  lawful = lawful_after same rest.lawful;
+  in_store = λ name. (stay name).out ∙ rest.in_store name;
+}
 
 -- a vault that was handed out and back
 module _ (name : Name) (old mid new : FilesState) (vault : VaultState)
@@ -35,13 +73,12 @@ module _ (name : Name) (old mid new : FilesState) (vault : VaultState)
     (back : new.view.nature ≡ mid.view.nature)
     (takes : is_lawful mid.view ≡ true → (n : Name) → mid.lent ≡ Some n → TakesBack n vault mid new) where
   taken : is_lawful old.view ≡ true → TakesBack name vault mid new
-  taken is = takes (lawful_after old mid made is) name (lends is).lent
+  taken is = takes (lawful_after made is) name (lends is).lent
 
   pub kept_file : is_lawful new.view ≡ true → IsKeptFile name vault new
   kept_file is =
-      let was = lawful_before old mid made (lawful_before mid new back is) in
-      let t = taken was in
+      let t = taken (lawful_before made (lawful_before back is)) in
       record { telling = t.telling; seen = t.seen; settled = t.settled }
 
   pub others_stay : is_lawful old.view ≡ true → (any : Name) → any ≢ name → Stays any old new
-  others_stay is any other = stays_on any old mid new ((lends is).others any other) ((taken is).others any other)
+  others_stay is any other = stays_on ((lends is).others any other) ((taken is).others any other)

@@ -4,7 +4,7 @@ use Rattle.std.specs.Prelude.{IsSomeAnd, option_map}
 use Rattle.std.specs.Borrow.{Bor}
 use Rattle.nor_chip.specs.Bus.{BusState}
 use Rattle.nor_files.specs.Calls.{Reads}
-use Rattle.nor_files.specs.Files.{FilesState, Found, IsKnown, Nature, OthersStay, View, is_lawful}
+use Rattle.nor_files.specs.Files.{FilesState, Found, Nature, OthersStay, View, is_lawful}
 use Rattle.nor_files.specs.Files.Failure.{Unmade}
 use Rattle.nor_call.specs.declared.refusal.Refusal.{Refusal}
 use Rattle.nor_words.specs.Text.{Text}
@@ -18,7 +18,7 @@ use Rattle.flashnor.specs.declared.messages.Fault.TheVariants as end
 use Rattle.flashnor.specs.declared.messages.FileFault.TheVariants as file
 use Rattle.flashnor.specs.Stored.{IsNot, MakesNothing}
 use Rattle.flashnor.specs.declared.answers.Answer.{Answer}
-use Rattle.flashnor.proofs.Stays.{lawful_after}
+use Rattle.flashnor.proofs.Stays.{known_after, lawful_after}
 
 pub view_but : (trace : Option (Bor Text)) (name : Bor Text) (old mid : FilesState) → trace ≡ Some name
     → mid.view.nature ≡ old.view.nature → (is_lawful old.view ≡ true → OthersStay name.now old mid)
@@ -35,64 +35,57 @@ view_before trace old mid amid nature stay but = record {
   nature = but.nature ∙ nature;
   stays = λ name not known.
       let stays = stay name known in
-      let is_known : IsKnown name mid.view = record { lawful = lawful_after old mid nature known.lawful; in_store = stays.out ∙ known.in_store } in
-      let same = but.stays name not is_known in
+      let same = but.stays name not (known_after nature stays known) in
       (same.0 ∙ stays.out, same.1 ∙ stays.seen);
 }
 
 -- what was read once the trace was made is what was there before
-pub reads_before : (trace : Option (Bor Text)) (file : Text) (most : ℕ) (found : Found) (old amid : View) → IsNot trace file
+pub reads_before : (trace : Option (Bor Text)) (file : Text) (most : ℕ) (found : Found) (old amid : View)
+    → IsNot trace file
     → IsViewBut trace old amid → Reads file most found amid → Reads file most found old
 reads_before trace file most found old amid not but reads = λ known.
     let same = but.stays file not known in
-    let is_known : IsKnown file amid = record { lawful = ap (λ n. n.lawful) but.nature ∙ known.lawful; in_store = same.0 ∙ known.in_store } in
-    reads is_known ∙ ap (λ (f : Found). option_map (take most) f) same.1
+    reads (record { lawful = lawful_after but.nature known.lawful; in_store = same.0 ∙ known.in_store })
+    ∙ ap (option_map (take most)) same.1
 
 -- of a file that isn't the trace nothing may be left but what could be left before the trace was made
-pub makes_nothing_before : (name : Bor Text) (journal : Option (Bor Text)) (old mid new : FilesState) → mid.view.nature ≡ old.view.nature
-    → IsNot journal name.now → (is_lawful old.view ≡ true → OthersStay name.now old mid) → MakesNothing journal mid new → MakesNothing journal old new
+pub makes_nothing_before : (name : Bor Text) (journal : Option (Bor Text)) (old mid new : FilesState)
+    → mid.view.nature ≡ old.view.nature → IsNot journal name.now
+    → (is_lawful old.view ≡ true → OthersStay name.now old mid) → MakesNothing journal mid new
+    → MakesNothing journal old new
 makes_nothing_before name None old mid new nature not others made = tt
 makes_nothing_before name (Some file) old mid new nature not others made = λ known left may.
     let stays = others known.lawful file.now (λ same. not (sym same)) in
-    let is_known : IsKnown file.now mid.view = record { lawful = lawful_after old mid nature known.lawful; in_store = stays.out ∙ known.in_store } in
-    elim (made is_known left may) [ inl was ↦ inl (stays.leaves left was) | inr empty ↦ inr empty ]
+    elim (made (known_after nature stays known) left may) [ inl was ↦ inl (stays.leaves left was) | inr empty ↦ inr empty ]
 
 pub traced_does : (files mid after : FilesState) (job : ChipJob) (old old' new new' : BusState) (outcome : Result Answer Refusal)
     → IsViewBut job.programmer.trace files.view mid.view → old' ≡ old → new ≡ new'
     → (IsReady job.programmer old' → DoesJob mid.view after job.programmer job.named job.task old' new' outcome)
     → IsReady job.programmer old → DoesTraced files after job old new outcome
 traced_does files mid after job old old' new new' outcome but was is does ready =
-    let called = does (subst (IsReady job.programmer) (sym was) ready) in
-    let ends = subst (λ (b : BusState). DoesJob mid.view after job.programmer job.named job.task old' b outcome) (sym is) called in
-    (mid.view, but, subst (λ (b : BusState). DoesJob mid.view after job.programmer job.named job.task b new outcome) was ends)
+    (mid.view, but, rw (← was, is) (does (rw was ready)))
 
 -- ---- faults
 
-making_before : (name : Text) (fault : Fault) (old mid : View) → mid.nature ≡ old.nature → IsMaking mid name fault → IsMaking old name fault
+making_before : (name : Text) (fault : Fault) (old mid : View) → mid.nature ≡ old.nature → IsMaking mid name fault
+    → IsMaking old name fault
 making_before name (end.File file.Write of) old mid same fails =
     (fails.0, subst (λ (n : Nature). n.fails (Unmade name) ≡ true) same fails.1)
-making_before name (end.File file.Read of) old mid same fails = absurd fails
-making_before name (end.File file.Length of) old mid same fails = absurd fails
-making_before name (end.File file.Exists of) old mid same fails = absurd fails
-making_before name (end.File file.Taken of) old mid same fails = absurd fails
-making_before name (end.Usage fault) old mid same fails = absurd fails
-making_before name end.NoText old mid same fails = absurd fails
-making_before name (end.Layout fault) old mid same fails = absurd fails
-making_before name (end.Refused refusal) old mid same fails = absurd fails
+making_before name _ old mid same fails = absurd fails
 
-logging_before : (name : Text) (fault : Fault) (old mid : View) → mid.nature ≡ old.nature → IsLogging mid name fault → IsLogging old name fault
+logging_before : (name : Text) (fault : Fault) (old mid : View) → mid.nature ≡ old.nature → IsLogging mid name fault
+    → IsLogging old name fault
 logging_before name (end.Refused refusal) old mid same fails = fails
 logging_before name (end.File kind of) old mid same fails = making_before name (end.File kind of) old mid same fails
-logging_before name (end.Usage fault) old mid same fails = making_before name (end.Usage fault) old mid same fails
-logging_before name end.NoText old mid same fails = making_before name end.NoText old mid same fails
-logging_before name (end.Layout fault) old mid same fails = making_before name (end.Layout fault) old mid same fails
+logging_before name _ old mid same fails = absurd fails
 
 trace_before : (trace : Option (Bor Text)) (fault : Fault) (old mid : View) → mid.nature ≡ old.nature
     → IsSomeAnd trace (λ name. IsLogging mid name.now fault) → IsSomeAnd trace (λ name. IsLogging old name.now fault)
 trace_before None fault old mid same fails = fails
 trace_before (Some name) fault old mid same fails = logging_before name.now fault old mid same fails
 
-pub fails_before : (job : ChipJob) (fault : Fault) (old mid : FilesState) → mid.view.nature ≡ old.view.nature → KnownStay old mid
+pub fails_before : (job : ChipJob) (fault : Fault) (old mid : FilesState) → mid.view.nature ≡ old.view.nature
+    → KnownStay old mid
     → FailsTraced mid.view job fault → FailsTraced old.view job fault
 fails_before job fault old mid same stay fails = elim fails [
   | inl trace ↦ inl (trace_before job.programmer.trace fault old.view mid.view same trace)

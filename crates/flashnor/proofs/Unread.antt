@@ -11,23 +11,11 @@ use Rattle.flashnor.specs.declared.messages.FileFault.TheVariants as file
 
 module _ (view : View) (name : Text) (size : ℕ) (unread : Happens view (Unread name)) where
   pub unread_reading : (fault : Fault) → IsUnreadFault name fault → IsReadingFault view name size fault
-  unread_reading (end.Refused refusal) is = is
   unread_reading (end.File file.Read of) is = (is, inr unread)
-  unread_reading (end.File file.Write of) is = is
   unread_reading (end.File file.Length of) is = absurd is
-  unread_reading (end.File file.Exists of) is = is
-  unread_reading (end.File file.Taken of) is = is
-  unread_reading (end.Usage fault) is = is
-  unread_reading end.NoText is = is
-  unread_reading (end.Layout fault) is = is
+  unread_reading _ is = is
 
   pub unread_opening : (fault : Fault) → IsUnreadFault name fault → IsOpeningFault view name size fault
-  unread_opening (end.Refused refusal) is = is
   unread_opening (end.File file.Read of) is = (is, unread)
-  unread_opening (end.File file.Write of) is = is
   unread_opening (end.File file.Length of) is = absurd is
-  unread_opening (end.File file.Exists of) is = is
-  unread_opening (end.File file.Taken of) is = is
-  unread_opening (end.Usage fault) is = is
-  unread_opening end.NoText is = is
-  unread_opening (end.Layout fault) is = is
+  unread_opening _ is = is

@@ -1,66 +1,60 @@
--- Both files of the chip, one after the other put back.
-use Rattle.std.proofs.Common.{◌≡◌, ◌∙◌, ℕ, Bool, true, List, Option, None, Some, ap, refl, subst, sym}
+-- Both files of the chip, one after the other put back, and the names of those that couldn't be written.
+use Rattle.std.proofs.Common.{◌≡◌, ◌∙◌, ℕ, Bool, true, List, Option, None, Some, ap, refl}
 use Rattle.std.specs.Prelude.{IfSome}
 use Rattle.std.specs.Borrow.{Bor}
 use Rattle.nor_chip.specs.Chip.{Chip}
 use Rattle.nor_chip.specs.Start.{AreChipBytes, status_of}
-use Rattle.nor_files.specs.Files.{FilesState, Name, Nature, Stays, is_lawful}
+use Rattle.nor_files.specs.Files.{FilesState, Name, Nature, Stays, View, is_lawful}
 use Rattle.nor_files.specs.Files.Failure.{Unwritten}
 use Rattle.nor_words.specs.Text.{Text}
 use Rattle.nor_words.specs.declared.programmer.Programmer.{Programmer}
 use Rattle.flashnor.specs.Chips.{ArePutBack}
 use Rattle.flashnor.specs.Holding.{AreAmid, AreReady, IsReady, LeavesAmid, Settles}
-use Rattle.flashnor.specs.Stored.{ArePut, AreTwo, Happens, Has, IsNot}
-use Rattle.flashnor.proofs.Held.{lawful_on}
+use Rattle.flashnor.specs.Stored.{ArePut, AreTwo, Happens, Has, IsNot, IsToldOf}
+use Rattle.flashnor.proofs.Stays.{known_after, lawful_after, not_that, settled_after}
 
 -- each file stays whose name isn't that one
 abbrev OthersOf : Option (Bor Text) → (old new : FilesState) → Type 0
 OthersOf name old new = is_lawful old.view ≡ true → (any : Name) → IsNot name any → Stays any old new
 
 -- A file was put back, if one is named, or failed to be.
-pub record PutsBack (name : Option (Bor Text)) (there : Bool) (bytes : List ℕ) (failed : Option (Bor Text))
-    (old new : FilesState) : Type 0 where
-  pub nature : new.view.nature ≡ old.view.nature
-  pub others : OthersOf name old new
-  pub fails : IfSome failed (λ of. (name ≡ Some of) × Happens old.view (Unwritten of.now))
-  pub put : failed ≡ None → (had : List ℕ) → IsReady name there had bytes old → Settles name (Some bytes) new
-  pub amid : (had : List ℕ) → IsReady name there had bytes old → LeavesAmid name there had bytes new
+abbrev PutsBack : Option (Bor Text) → (there : Bool) → (bytes : List ℕ) → (failed : Option (Bor Text))
+    → (old new : FilesState) → Type 0
+PutsBack name there bytes failed old new = record {
+  nature : new.view.nature ≡ old.view.nature;
+  others : OthersOf name old new;
+  fails : IfSome failed (λ of. (name ≡ Some of) × Happens old.view (Unwritten of.now));
+  put : failed ≡ None → (had : List ℕ) → IsReady name there had bytes old → Settles name (Some bytes) new;
+  amid : (had : List ℕ) → IsReady name there had bytes old → LeavesAmid name there had bytes new;
+}
 
 -- ---- the other file stays
-
-not_first : (one : Option (Bor Text)) (other : Bor Text) → AreTwo one (Some other) → IsNot one other.now
-not_first None other two = tt
-not_first (Some one) other two = λ same. two (sym same)
 
 ready_still : (one other : Option (Bor Text)) (there : Bool) (had bytes : List ℕ) (a b : FilesState)
     → AreTwo one other → b.view.nature ≡ a.view.nature → OthersOf one a b → IsReady other there had bytes a
     → IsReady other there had bytes b
 ready_still one None there had bytes a b two same others ready = tt
 ready_still one (Some name) there had bytes a b two same others ready =
-    let stays = others ready.known.lawful name.now (not_first one name two) in
+    let stays = others ready.known.lawful name.now (not_that one name two) in
     record {
-      known = record { lawful = lawful_on a b same ready.known.lawful; in_store = stays.out ∙ ready.known.in_store };
-      settled = record {
-        seen = stays.seen ∙ ready.settled.seen;
-        leaves = λ left can. ready.settled.leaves left (stays.leaves left can);
-      };
+      known = known_after same stays ready.known;
+      settled = settled_after stays ready.settled;
       as_many = ready.as_many;
     }
 
 module _ (there : Bool) (had bytes : List ℕ) (a b c : FilesState) where
-  settled_still : (one other : Option (Bor Text)) → AreTwo one other → b.view.nature ≡ a.view.nature → OthersOf other b c
+  settled_still : (one other : Option (Bor Text)) → AreTwo one other → b.view.nature ≡ a.view.nature
+      → OthersOf other b c
       → IsReady one there had bytes a → Settles one (Some bytes) b → Settles one (Some bytes) c
   settled_still None other two same others ready is = tt
   settled_still (Some name) other two same others ready is =
-      let stays = others (lawful_on a b same ready.known.lawful) name.now two in
-      record { seen = stays.seen ∙ is.seen; leaves = λ left can. is.leaves left (stays.leaves left can) }
+      settled_after (others (lawful_after same ready.known.lawful) name.now two) is
 
   amid_still : (one other : Option (Bor Text)) → AreTwo one other → b.view.nature ≡ a.view.nature → OthersOf other b c
       → IsReady one there had bytes a → LeavesAmid one there had bytes b → LeavesAmid one there had bytes c
   amid_still None other two same others ready amid = tt
-  amid_still (Some name) other two same others ready amid =
-      let stays = others (lawful_on a b same ready.known.lawful) name.now two in
-      λ left can. amid left (stays.leaves left can)
+  amid_still (Some name) other two same others ready amid = λ left can.
+      amid left ((others (lawful_after same ready.known.lawful) name.now two).leaves left can)
 
 -- ---- what is told of each
 
@@ -76,16 +70,27 @@ are_put name bytes None old new same fails put = has_these name bytes new (put r
 are_put name bytes (Some of) old new same fails put =
     (fails.0, ap (λ (nature : Nature). nature.fails (Unwritten of.now)) same ∙ fails.1)
 
+pub told_of : (name failed : Option (Bor Text)) (view : View)
+    → IfSome failed (λ is. (name ≡ Some is) × Happens view (Unwritten is.now)) → IsToldOf name failed view
+told_of name None view is = tt
+told_of name (Some failed) view is = is
+
+pub told_before : (name failed : Option (Bor Text)) (old mid : View) → mid.nature ≡ old.nature
+    → IsToldOf name failed mid
+    → IsToldOf name failed old
+told_before name None old mid same is = tt
+told_before name (Some failed) old mid same is = (is.0, rw (← same) is.1)
+
 -- ---- both
 
-module _ (programmer : Programmer) (image_there status_there : Bool) (had bits : List ℕ) (chip : Chip)
-    (bytes flags : List ℕ) (are : AreChipBytes chip bytes) (is : flags ≡ status_of chip)
-    (image status : Option (Bor Text)) (a b c : FilesState) (two : AreTwo programmer.image programmer.status)
+module _ {programmer : Programmer} {image_there status_there : Bool} {had bits : List ℕ} {chip : Chip}
+    {bytes flags : List ℕ} {image status : Option (Bor Text)} {a b c : FilesState} (are : AreChipBytes chip bytes)
+    (is : flags ≡ status_of chip) (two : AreTwo programmer.image programmer.status)
     (ready : AreReady programmer image_there status_there had bits chip a)
     (first : PutsBack programmer.image image_there bytes image a b)
     (second' : PutsBack programmer.status status_there flags status b c) where
   second : PutsBack programmer.status status_there (status_of chip) status b c
-  second = subst (λ (it : List ℕ). PutsBack programmer.status status_there it status b c) is second'
+  second = rw is at second'
 
   ready_image : IsReady programmer.image image_there had bytes a
   ready_image = ready.image bytes are

@@ -20,7 +20,8 @@ use Rattle.nor_probe.specs.Known.{IsModelled}
 use Rattle.nor_session.specs.Bounds.{most_of}
 use Rattle.nor_session.specs.Verdict.{IsAccepted, IsNamed}
 use Rattle.nor_session.specs.Session.{CanBeUndone, IsDone, SessionTells}
-use Rattle.nor_session.specs.Restore.{CanGiveBack, IsRestored, RestoreTells, IsJudgedFirst}
+use Rattle.nor_session.specs.Headline.{CanGiveBack}
+use Rattle.nor_session.specs.Restore.{IsRestored, RestoreTells, IsJudgedFirst}
 use Rattle.nor_session.specs.WrittenOver.{IsWrittenOver}
 use Rattle.nor_session.specs.Rehearsal.{AreRestores, CanEnd, IsRehearsal, RehearsalTells, SealFits, first_allowance}
 use Rattle.nor_session.specs.declared.rehearsals.Rehearsal.{Rehearsal}

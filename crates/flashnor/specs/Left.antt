@@ -8,7 +8,7 @@ use Rattle.nor_chip.specs.declared.config.Config.{Config}
 use Rattle.nor_files.specs.Calls.{LeavesNoMore}
 use Rattle.nor_files.specs.Files.{FilesState, Found, Stays}
 use Rattle.nor_journal.specs.Text.{Content as Journal, IsContent, text}
-use Rattle.nor_session.specs.Restore.{CanGiveBack}
+use Rattle.nor_session.specs.Headline.{CanGiveBack}
 use Rattle.nor_words.specs.declared.programmer.Programmer.{Programmer}
 use Rattle.nor_words.specs.Text.{Text}
 use Rattle.flashnor.specs.Chips.{IsContentOf, OpensChip}

@@ -1,24 +1,69 @@
+use Rattle.std.proofs.Common.{◌∙◌, inl, inr}
 use Rattle.std.proofs.lemmas.Result.{err_from_is_err_and}
-use Rattle.flashnor.proofs.Ready.{restores_done, restores_refused, restores_unfound}
+use Rattle.nor_probe.specs.Found.{most_probe}
+use Rattle.nor_session.proofs.Restoring.{looks_back}
+use Rattle.nor_session.proofs.WrittenBack.{restore_over}
+use Rattle.flashnor.proofs.Ready.{looked_same}
 use Rattle.flashnor.proofs.changes.restore_named.Goals as goal
 
 pub returns-in_err-find_named : goal.returns-in_err-find_named
 returns-in_err-find_named g c = λ modelled calm.
     let p = err_from_is_err_and c.from_residual.result c.from_residual.ensures.1 in
-    rw (p.1, p.2) (restores_unfound c.args.journal.now c.args.named _ _ _ c.in_err-find_named.ensures.looks (c.find_named.ensures.same modelled calm)
-    (c.in_err-find_named.ensures.refuses modelled))
+    let looks = c.in_err-find_named.ensures.looks in
+    let same = c.find_named.ensures.same modelled calm in
+    rw (p.1, p.2) (record {
+      found = g.B.Bus.state c.find_named.new.bus;
+      looks = looks;
+      same = same;
+      config = same.config;
+      name = tt;
+      told = inr (c.in_err-find_named.ensures.refuses modelled);
+      over = λ first opened can.
+          restore_over c.args.journal.now first _ _ opened can
+          (looks_back c.args.journal.now first most_probe _ _ modelled.honest looks can);
+      back = tt;
+    })
 
 pub returns-in_err-report : goal.returns-in_err-report
 returns-in_err-report g c = λ modelled calm.
-    let passes = c.in_ok-find_named.ensures.passes modelled calm in
     let p = err_from_is_err_and c.from_residual-in_err-report.result c.from_residual-in_err-report.ensures.1 in
-    rw (p.1, p.2) (restores_refused c.args.journal.now c.args.named _ _ _ _ c.in_ok-find_named.ensures.looks
-    (c.in_err-report.ensures.modelled passes.modelled).leaves.config passes
-    (c.in_err-report.ensures.modelled passes.modelled).tells c.in_err-report.ensures.always.looks (c.in_err-report.ensures.modelled passes.modelled).within)
+    let looks = c.in_ok-find_named.ensures.looks in
+    let passes = c.in_ok-find_named.ensures.passes modelled calm in
+    let failed = c.in_err-report.ensures.modelled passes.modelled in
+    let leads = c.in_err-report.ensures.gives_back passes.modelled in
+    rw (p.1, p.2) (record {
+      found = g.B.Bus.state c.find_named.new.bus;
+      looks = looks;
+      same = passes.same;
+      config = failed.leaves.config ∙ passes.same.config;
+      name = tt;
+      told = inl (record {
+        refuses = failed.tells;
+        same = λ judged.
+            looked_same 69638 _ _ (c.in_err-report.ensures.always.looks judged) passes.modelled.honest passes.calm;
+      });
+      over = λ first opened can.
+          restore_over c.args.journal.now first _ _ opened can
+          (leads.within first (looks_back c.args.journal.now first most_probe _ _ modelled.honest looks can));
+      back = tt;
+    })
 
 pub returns : goal.returns
 returns g c = λ modelled calm.
+    let looks = c.in_ok-find_named.ensures.looks in
     let passes = c.in_ok-find_named.ensures.passes modelled calm in
-    restores_done c.args.journal.now c.args.named _ _ _ _ c.in_ok-find_named.ensures.looks
-    (c.in_ok-report.ensures.modelled passes.modelled).leaves.config passes (c.in_ok-report.ensures.modelled passes.modelled).done
-    (c.in_ok-report.ensures.modelled passes.modelled).within (c.in_ok-report.ensures.modelled passes.modelled).back
+    let done = c.in_ok-report.ensures.modelled passes.modelled in
+    let leads = c.in_ok-report.ensures.gives_back passes.modelled in
+    record {
+      found = g.B.Bus.state c.find_named.new.bus;
+      looks = looks;
+      same = passes.same;
+      config = done.leaves.config ∙ passes.same.config;
+      name = passes.name;
+      told = done.done;
+      over = λ first opened can.
+          restore_over c.args.journal.now first _ _ opened can
+          (leads.within first (looks_back c.args.journal.now first most_probe _ _ modelled.honest looks can));
+      back = λ first can.
+          leads.back first (looks_back c.args.journal.now first most_probe _ _ modelled.honest looks can);
+    }

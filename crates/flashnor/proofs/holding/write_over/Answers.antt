@@ -6,36 +6,24 @@ returns-in_err-write_over-clause-others g c = λ lawful. (c.in_err-write_over.en
 
 pub returns-in_err-set_len-clause-others : goal.returns-in_err-set_len-clause-others
 returns-in_err-set_len-clause-others g c =
-    let one = call _ _ _ _ c.in_ok-write_over.ensures.nature c.in_ok-write_over.ensures.alone in
-    let two = call _ _ _ _ c.in_err-set_len.ensures.nature c.in_err-set_len.ensures.alone in
-    (then_on _ _ _ _ one two).others
+    let one = call c.in_ok-write_over.ensures.nature c.in_ok-write_over.ensures.alone in
+    (then_on one (call c.in_err-set_len.ensures.nature c.in_err-set_len.ensures.alone)).others
 
 pub returns-in_err-set_len-clause-amid : goal.returns-in_err-set_len-clause-amid
 returns-in_err-set_len-clause-amid g c = λ had ready.
-    let old = g.R.Store.state c.args.rt.now in
-    let over = g.R.Store.state c.write_over.new.self in
-    let new = g.R.Store.state c.set_len.new.self in
-    let one = call c.args.name.now _ old over c.in_ok-write_over.ensures.nature c.in_ok-write_over.ensures.alone in
-    amid_cut c.args.name.now had c.args.bytes.now ready.as_many old over new new ready.settled _
-    (c.in_ok-write_over.ensures.writes ready.known) _
-    (c.in_err-set_len.ensures.sets (known_on c.args.name.now old over one ready.known))
+    let one = call c.in_ok-write_over.ensures.nature c.in_ok-write_over.ensures.alone in
+    amid_cut ready (c.in_ok-write_over.ensures.writes ready.known)
+    (c.in_err-set_len.ensures.sets (known_on one ready.known))
 
 pub returns-clause-others : goal.returns-clause-others
 returns-clause-others g c =
-    let one = call _ _ _ _ c.in_ok-write_over.ensures.nature c.in_ok-write_over.ensures.alone in
-    let two = call _ _ _ _ c.in_ok-set_len.ensures.nature c.in_ok-set_len.ensures.alone in
-    let three = call _ _ _ _ c.sync.ensures.nature c.sync.ensures.alone in
-    (then_on _ _ _ _ (then_on _ _ _ _ one two) three).others
+    let one = call c.in_ok-write_over.ensures.nature c.in_ok-write_over.ensures.alone in
+    let two = then_on one (call c.in_ok-set_len.ensures.nature c.in_ok-set_len.ensures.alone) in
+    (then_on two (call c.sync.ensures.nature c.sync.ensures.alone)).others
 
 pub returns-clause-amid : goal.returns-clause-amid
 returns-clause-amid g c = λ had ready.
-    let old = g.R.Store.state c.args.rt.now in
-    let over = g.R.Store.state c.write_over.new.self in
-    let cut = g.R.Store.state c.set_len.new.self in
-    let new = g.R.Store.state c.sync.new.self in
-    let one = call c.args.name.now _ old over c.in_ok-write_over.ensures.nature c.in_ok-write_over.ensures.alone in
-    let two = call c.args.name.now _ over cut c.in_ok-set_len.ensures.nature c.in_ok-set_len.ensures.alone in
-    let known = known_on c.args.name.now old over one ready.known in
-    amid_over c.args.name.now had c.args.bytes.now ready.as_many old over cut new ready.settled _
-    (c.in_ok-write_over.ensures.writes ready.known) _ (c.in_ok-set_len.ensures.sets known) _
-    (c.sync.ensures.syncs (known_on c.args.name.now over cut two known))
+    let one = call c.in_ok-write_over.ensures.nature c.in_ok-write_over.ensures.alone in
+    let two = then_on one (call c.in_ok-set_len.ensures.nature c.in_ok-set_len.ensures.alone) in
+    amid_over ready (c.in_ok-write_over.ensures.writes ready.known) _ _
+    (c.in_ok-set_len.ensures.sets (known_on one ready.known)) (c.sync.ensures.syncs (known_on two ready.known))

@@ -24,7 +24,7 @@ returns-in_err-outcome-2-clause-unmade g c = λ lawful two.
     let old = g.R.Store.state c.args.rt.now in let mid = g.R.Store.state c.create_log.new.rt in
     let nature = c.in_ok-create_log.ensures.nature in
     rw p.1 (makes_nothing_before c.in-Some.name (journal_by c.args.job.now.task) old mid (g.R.Store.state c.do_task-2.new.rt) nature
-    (rw c.in-Some.is at two) c.in_ok-create_log.ensures.others (c.in_err-outcome-2.ensures.unmade (lawful_after old mid nature lawful)))
+    (rw c.in-Some.is at two) c.in_ok-create_log.ensures.others (c.in_err-outcome-2.ensures.unmade (lawful_after nature lawful)))
 
 pub returns-clause-ok : goal.returns-clause-ok
 returns-clause-ok g c =

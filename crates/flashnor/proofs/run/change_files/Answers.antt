@@ -1,31 +1,28 @@
-use Rattle.std.proofs.Common.{◌∙◌, inr, refl}
-use Rattle.std.proofs.lemmas.List.{length-replicate}
+use Rattle.std.proofs.Common.{◌∙◌, inr}
 use Rattle.std.proofs.lemmas.Result.{err_from_is_err_and}
 use Rattle.nor_chip.specs.Sim.{state_of}
-use Rattle.flashnor.specs.Roles.{named_by}
 use Rattle.flashnor.proofs.Ended.{ends_called}
 use Rattle.flashnor.proofs.Kept.{does_after, keeps_files, ready_both, setup_done}
 use Rattle.flashnor.proofs.Stays.{lawful_after}
-use Rattle.flashnor.proofs.Told.{told_before}
 use Rattle.flashnor.proofs.Traced.{fails_before, view_before}
-use Rattle.flashnor.proofs.WayBack.{as_many}
+use Rattle.flashnor.proofs.WrittenBack.{told_before}
 use Rattle.flashnor.proofs.Before.{keeps_before, two_kept}
 use Rattle.flashnor.proofs.run.change_files.Goals as goal
 
 pub returns-in_err-called-clause-err : goal.returns-in_err-called-clause-err
 returns-in_err-called-clause-err g c =
     let p = err_from_is_err_and c.from_residual-in_err-called.result c.from_residual-in_err-called.ensures.1 in
-    rw (p.1, p.2) (inr (inr (fails_before c.args.job.now _ (g.R.Store.state c.args.rt.now) (g.R.Store.state c.hold_content.new.rt)
-    c.in_ok-held.ensures.nature c.in_ok-held.ensures.stay c.in_err-called.ensures.err)))
+    rw (p.1, p.2) (inr (inr (fails_before c.args.job.now _ (g.R.Store.state c.args.rt.now)
+    (g.R.Store.state c.hold_content.new.rt) c.in_ok-held.ensures.nature c.in_ok-held.ensures.stay
+    c.in_err-called.ensures.err)))
 
 pub returns-in_err-called-clause-keeps : goal.returns-in_err-called-clause-keeps
 returns-in_err-called-clause-keeps g c = λ rest.
-    let s0 = g.R.Store.state c.args.rt.now in
-    let s1 = g.R.Store.state c.hold_content.new.rt in
-    let s2 = g.R.Store.state c.call_on.new.rt in
-    let lawful1 = lawful_after s0 s1 c.in_ok-held.ensures.nature rest.lawful in
-    keeps_before s0 s1 s2 rest c.in_ok-held.ensures.nature c.in_ok-held.ensures.stay (c.in_ok-held.ensures.no_more rest)
-    c.args.job.now c.requires.roles c.requires.changes (c.in_err-called.ensures.others lawful1)
+    let held = c.in_ok-held.ensures in
+    let lawful1 = lawful_after held.nature rest.lawful in
+    keeps_before (g.R.Store.state c.args.rt.now) (g.R.Store.state c.hold_content.new.rt)
+    (g.R.Store.state c.call_on.new.rt) rest held.nature held.stay (held.no_more rest) c.args.job.now c.requires.roles
+    c.requires.changes (c.in_err-called.ensures.others lawful1)
     (c.in_err-called.ensures.unmade lawful1 (two_kept c.args.job.now.task _ c.requires.roles.trace_journal))
 
 pub returns-clause-ok : goal.returns-clause-ok
@@ -35,19 +32,16 @@ returns-clause-ok g c =
     let s2 = g.R.Store.state c.call_on.new.rt in
     let s3 = g.R.Store.state c.write_back.new.rt in
     let job = c.args.job.now in
-    let bus = state_of c.start-bus.result in
-    let bus' = state_of c.in_ok-called.called.bus in
     let roles = c.requires.roles in
     let puts = c.requires.changes in
     let held = c.in_ok-held.ensures in
     let opens = c.start-bus.ensures.opens in
     let called = c.in_ok-called.ensures in
+    let back = c.write_back.ensures in
     let d = called.ok opens.ready in
-    let setup = setup_done job.task d.0 s2 job.programmer job.named _ _ _ puts d.2 in
-    let two = roles.status puts in
     ends_called s0 s3 job _ _ _ (record {
       roles = roles;
-      nature = c.write_back.ensures.nature ∙ called.nature ∙ held.nature;
+      nature = back.nature ∙ called.nature ∙ held.nature;
       content = c.in_ok-held.held.content;
       read = held.ok;
       bus = c.start-bus.result;
@@ -56,20 +50,22 @@ returns-clause-ok g c =
       does = (
         d.0,
         view_before job.programmer.trace s0 s1 d.0 held.nature held.stay d.1,
-        does_after job.task d.0 s2 s3 job.programmer job.named _ _ _ puts roles.image_journal roles.status_journal
-            c.write_back.ensures.nature c.write_back.ensures.others d.2,
+        does_after job.programmer s2 s3 back.nature back.others job.task d.0 job.named _ _ _ puts roles.image_journal
+            roles.status_journal d.2,
       );
       told_of = rw puts (
-        told_before _ _ s0.view s2.view (called.nature ∙ held.nature) c.write_back.ensures.fails.0,
-        told_before _ _ s0.view s2.view (called.nature ∙ held.nature) c.write_back.ensures.fails.1,
+        told_before _ _ s0.view s2.view (called.nature ∙ held.nature) back.fails.0,
+        told_before _ _ s0.view s2.view (called.nature ∙ held.nature) back.fails.1,
       );
-      left = λ rest puts. c.write_back.ensures.put two _ _
-          (ready_both job c.in_ok-held.held s0 s1 s2 bus bus' roles puts held.ok opens rest (held.held rest) held.nature called.nature called.others setup);
+      left = λ rest puts. back.put (roles.status puts) _ _
+          (ready_both job c.in_ok-held.held s0 s1 s2 (state_of c.start-bus.result) (state_of c.in_ok-called.called.bus)
+          roles held.ok opens rest (held.held rest) held.nature called.nature called.others
+          (setup_done job.task d.0 s2 job.programmer job.named _ _ _ puts d.2));
       traced = called.lost;
     }) c.told-answer.ensures
 
 pub returns-clause-keeps : goal.returns-clause-keeps
-returns-clause-keeps g c =
+returns-clause-keeps g c = λ rest.
     let s0 = g.R.Store.state c.args.rt.now in
     let s1 = g.R.Store.state c.hold_content.new.rt in
     let s2 = g.R.Store.state c.call_on.new.rt in
@@ -82,17 +78,15 @@ returns-clause-keeps g c =
     let held = c.in_ok-held.ensures in
     let opens = c.start-bus.ensures.opens in
     let called = c.in_ok-called.ensures in
+    let back = c.write_back.ensures in
     let d = called.ok opens.ready in
-    let setup = setup_done job.task d.0 s2 job.programmer job.named _ _ _ puts d.2 in
-    let two = roles.status puts in
-    λ rest.
     let is_held = held.held rest in
-    let lawful1 = lawful_after s0 s1 held.nature rest.lawful in
-    let ready = ready_both job c.in_ok-held.held s0 s1 s2 bus bus' roles puts held.ok opens rest is_held held.nature called.nature called.others setup in
-    keeps_files job.programmer c.in_ok-held.held s0 s1 s2 s3 bus bus' d.0 held.ok opens
-    (as_many s0.view job.programmer.image _ _ _ held.ok.bytes (length-replicate _ 255)) held.stands c.in_ok-called.called.bus.flash.kept2_in
-    rest is_held.stay held.nature called.nature (view_before job.programmer.trace s0 s1 d.0 held.nature held.stay d.1)
-    (c.write_back.ensures.others (lawful_after s1 s2 called.nature lawful1)) (c.write_back.ensures.amid two _ _ ready)
-    is_held setup
-    job.task job.named _ puts (called.others lawful1) (named_by job.task).journal roles.image_journal roles.status_journal roles.trace_journal
-    refl d.2
+    let setup = setup_done job.task d.0 s2 job.programmer job.named _ _ _ puts d.2 in
+    let ready = ready_both job c.in_ok-held.held s0 s1 s2 bus bus' roles held.ok opens rest is_held held.nature
+    called.nature called.others setup in
+    keeps_files job c.in_ok-held.held s0 s1 s2 bus bus' roles held.ok opens rest is_held held.nature called.nature
+    called.others setup s3 d.0 held.stands c.in_ok-called.called.bus.flash.kept2_in
+    (view_before job.programmer.trace s0 s1 d.0 held.nature held.stay d.1) back.others
+    (back.amid (roles.status puts) _ _ ready) job.task job.named _ puts
+    (called.others (lawful_after held.nature rest.lawful)) roles.image_journal roles.status_journal
+    roles.trace_journal d.2

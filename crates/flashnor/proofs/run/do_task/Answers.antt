@@ -5,26 +5,14 @@ use Rattle.flashnor.proofs.run.do_task.Goals as goal
 pub returns-in-Probe-clause-ok : goal.returns-in-Probe-clause-ok
 returns-in-Probe-clause-ok g c = λ ready. rw c.in-Probe.is (c.find_chip.ensures c.args.job.now.programmer ready)
 
-pub returns-in-Probe-clause-err : goal.returns-in-Probe-clause-err
-returns-in-Probe-clause-err g c = tt
-
 pub returns-in-FlashSize-clause-ok : goal.returns-in-FlashSize-clause-ok
 returns-in-FlashSize-clause-ok g c = λ ready. rw c.in-FlashSize.is (c.tell_size.ensures c.args.job.now.programmer ready)
-
-pub returns-in-FlashSize-clause-err : goal.returns-in-FlashSize-clause-err
-returns-in-FlashSize-clause-err g c = tt
 
 pub returns-in-WpStatus-clause-ok : goal.returns-in-WpStatus-clause-ok
 returns-in-WpStatus-clause-ok g c = λ ready. rw c.in-WpStatus.is c.tell_protection.ensures
 
-pub returns-in-WpStatus-clause-err : goal.returns-in-WpStatus-clause-err
-returns-in-WpStatus-clause-err g c = tt
-
 pub returns-in-WpList-clause-ok : goal.returns-in-WpList-clause-ok
 returns-in-WpList-clause-ok g c = λ ready. rw c.in-WpList.is c.list_ranges.ensures
-
-pub returns-in-WpList-clause-err : goal.returns-in-WpList-clause-err
-returns-in-WpList-clause-err g c = tt
 
 pub returns-in-Read-clause-ok : goal.returns-in-Read-clause-ok
 returns-in-Read-clause-ok g c = λ ready. rw c.in-Read.is c.read_chip.ensures.ok
