@@ -1,12 +1,13 @@
 #!/usr/bin/env python3
 """scripts/statement.py [--check]: the page docs/STATEMENT.md, made from the sources.
 
-It prints all that three calls promise, and the laws that join them: each definition of specs/ and each type of src/
-that their contracts need, in an order in which each word is explained before it is used, and then the contracts. A
-definition by one equation has its signature in it. With --check it compares the page with what it would print, tells
+It prints all that three calls promise, and the laws that join them, in parts: each definition of specs/ and each type
+of src/ that the contracts of a part need and no part before it has, in an order in which each word is explained before
+it is used, and then these contracts. A definition by one equation has its signature in it. With --check it compares the page with what it would print, tells
 each difference, and ends with status 1 where there is one. It fails where a name is found nowhere, where SUBJECTS
 hasn't the file of a word, and where LEGEND doesn't explain a word of a library.
 """
+import copy
 import difflib
 import functools
 import itertools
@@ -17,30 +18,44 @@ sys.dont_write_bytecode = True  # nothing else is to be left in docs/
 from sources import TOP, Word, fail, source
 
 PAGE = "docs/STATEMENT.md"
-CALLS = {
-    "session": "nor_session/src/sessions.rt",
-    "restore": "nor_session/src/restores.rt",
-    "rehearse": "nor_session/src/rehearsals.rt",
+# The parts of the page, each a title, the contracts that it has and what these come to. Of a contract it has the
+# clauses that are named, or all that no part before it has; what a caller owes stands in each.
+PARTS = {
+    "what is given back": (
+        {
+            "session": "nor_session/src/sessions.rt keeps",
+            "restore": "nor_session/src/restores.rt gives_back",
+            "rehearse": "nor_session/src/rehearsals.rt gives_back",
+            "Journal::read": "nor_journal/src/journal.rt found only",
+        },
+        """Of a modelled chip, and of a vault that tells: until that is sealed a session sends nothing that may change a chip
+(`still`, on every bus), and where the bus is calm leaves it as it was (`same`). From then on, wherever it ends or is
+stopped, the vault has a journal from which the chip can be made the first one (`leads_back`). Reading gives that journal
+(`only`). A restore from it leaves, wherever it is stopped, a chip of which that holds still (`within`); nothing but a stop
+keeps it from ending (`only_stops`); and the one that ends has left the first chip, each byte and each kept bit (`back`).""",
+    ),
+    "what is promised beside it": (
+        {
+            "session": "nor_session/src/sessions.rt",
+            "restore": "nor_session/src/restores.rt",
+            "rehearse": "nor_session/src/rehearsals.rt",
+            "Journal::read": "nor_journal/src/journal.rt",
+            "accepted_alone": "nor_session/src/sessions.rt",
+            "read_gives_back": "nor_session/src/laws.rt",
+            "begun_gives_back": "nor_session/src/laws.rt",
+            "session_written_over": "nor_session/src/laws.rt",
+            "restore_written_over": "nor_session/src/laws.rt",
+            "same_written_over": "nor_session/src/laws.rt",
+            "undone_in_turn": "nor_session/src/laws.rt",
+        },
+        "",
+    ),
 }
-# What leads from a session to its restores, and what that comes to.
-LAWS = {
-    "Journal::read": "nor_journal/src/journal.rt",
-    "accepted_alone": "nor_session/src/sessions.rt",
-    "read_gives_back": "nor_session/src/laws.rt",
-    "begun_gives_back": "nor_session/src/laws.rt",
-    "session_written_over": "nor_session/src/laws.rt",
-    "restore_written_over": "nor_session/src/laws.rt",
-    "same_written_over": "nor_session/src/laws.rt",
-    "undone_in_turn": "nor_session/src/laws.rt",
-}
-END = """By `undo` a session that is stopped behind its seal `CanBeUndone`; its vault's bytes are read as that one journal
-(`kept`); so it `CanGiveBack` the first chip (`read_gives_back`), and so can it after each restore that is stopped
-(`within`); and the first restore that ends leaves that chip (`back`), refused by nothing but a stop (`only_stops`)."""
 
 # The subjects of the page in their order, and the files whose words each of them has. Where a word needs one of a later
 # subject the order gives way.
 SUBJECTS = {
-    "The chip": "nor_chip: specs/Size src/config specs/Makers src/running specs/Sfdp specs/Chip",
+    "The chip": "nor_count: specs/Size nor_chip: src/config specs/Makers src/running specs/Sfdp specs/Chip",
     "Guarded places": "nor_chip: specs/Code specs/Guard specs/Offer",
     "What a transaction asks for": "nor_chip: src/command specs/Command specs/Aim",
     "The chip's step": "nor_chip: specs/Step",
@@ -60,7 +75,8 @@ SUBJECTS = {
     "The faults of a journal": "nor_journal: specs/Fault",
     "Refusals": "nor_call: src/refusal specs/Refusal",
     "What each refusal says, and the verdict": "nor_save: specs/Saving specs/Judging nor_session: specs/Verdict",
-    "A chip that can be given back": "nor_apply: specs/Within specs/Change nor_session: specs/Changing",
+    "A chip that can be given back": "nor_apply: specs/Within nor_session: specs/Headline",
+    "A chip on its way": "nor_apply: specs/Change nor_session: specs/Changing",
     "What a call makes of the chip": "nor_call: src/report nor_session: specs/Made",
     "Sessions": "nor_session: specs/Session",
     "Restores": "nor_session: specs/Restore",
@@ -70,13 +86,13 @@ SUBJECTS = {
 
 HEAD = """# The statement
 
-All that the calls `session`, `restore` and `rehearse` promise, and what joins them: the contracts stand at the end, and
-before them each definition and type that these need, as its source has it, so that each word is explained before it is
-used. (Only set
-closer: a definition by one equation has its arguments' types beside them, and not in a line above; that a word is a
-statement, `: Type 0`, is left out where its type has no `→`; and fields without a comment stand side by side.)
-`make statement` makes this page from the sources (`scripts/statement.py`), `make agree` compares it with them, and it has
-{told} without comments and blanks.
+All that the calls `session`, `restore` and `rehearse` promise, and what joins them, in two parts: what is given back, for
+which this project is there, and what is promised beside it. In each part the contracts stand at the end, and before them
+each definition and type that these need and no part before it has, as its source has it, so that each word is explained
+before it is used. Of a contract a part has the clauses that belong there. (Only set closer: a definition by one equation
+has its arguments' types beside them, and not in a line above; that a word is a statement, `: Type 0`, is left out where
+its type has no `→`; and fields without a comment stand side by side.) `make statement` makes this page from the sources
+(`scripts/statement.py`), `make agree` compares it with them, and it has {told} without comments and blanks.
 
 """
 
@@ -141,8 +157,8 @@ LEGEND = {
         "`map f xs`: f of each item; `flat_map f xs`: these lists, joined. `find t xs`: the first item that passes "
         "the test; `list_any t xs`: some item does. `All P xs`: P holds of each.",
     "range_with_len": "`range_with_len a n`: the n numbers from a on.",
-    "zero suc max min is_power_of_two":
-        "`zero` is 0, `suc n` is n + 1, `max a b`, `min a b` the larger and the smaller; `is_power_of_two n` is a test.",
+    "zero suc max min":
+        "`zero` is 0, `suc n` is n + 1, `max a b`, `min a b` the larger and the smaller.",
     "bit_and bit_or": "`bit_and a b`, `bit_or a b`: bit by bit.",
     "bytes_eq codes": '`bytes_eq xs ys` tests whether two lists are equal; `codes "ab"` are the bytes of a text.',
     "little_bytes little_number little_from":
@@ -152,18 +168,49 @@ LEGEND = {
 }
 
 
+def with_clauses(word, kept):
+    """Returns a function with those of its clauses alone whose names pass this test, and with all that its caller owes;
+    and its clauses' names."""
+    lines, names, taken, free = [], [], True, []
+    for line in word.code:
+        if line.startswith("    //"):
+            free.append(line)
+            continue
+        if clause := re.match(r"    (?:(requires)\b|ensures(?: (\w+))? \{)", line):
+            names.append(clause[2])
+            taken = bool(clause[1]) or kept(clause[2])
+        lines += [*free, line] if taken else []
+        free = []
+    part = copy.copy(word)
+    part.code = lines
+    return part, {name for name in names if name}
+
+
 def needed():
-    """Returns the contracts, each word that they need with those that it uses, and the names of libraries."""
-    contracts = [[source(path).words.get(name) or fail(f"{path} has no '{name}'") for name, path in part.items()]
-                 for part in (CALLS, LAWS)]
-    uses, names, todo = {}, set(), sum(contracts, [])
-    while todo:
-        word = todo.pop()
-        found = word.source.used(word)
-        names |= {use for use in found if isinstance(use, str)}
-        uses[word] = {use for use in found if isinstance(use, Word) and use is not word}
-        todo += [use for use in uses[word] if use not in uses]
-    return contracts, uses, names
+    """Returns for each part of the page its contracts, each word that they need and no part before it has, with those
+    that it uses; and the names of libraries."""
+    parts, told, names, done = [], {}, set(), set()
+    for calls, _ in PARTS.values():
+        contracts, uses = [], {}
+        for name, place in calls.items():
+            path, *clauses = place.split()
+            word = source(path).words.get(name) or fail(f"{path} has no '{name}'")
+            before = told.setdefault(name, set())
+            contract, known = with_clauses(word, lambda clause: clause in clauses if clauses else clause not in before)
+            if missing := set(clauses) - known:
+                fail(f"'{name}' has no clause {' '.join(sorted(missing))}")
+            before |= set(clauses)
+            contracts.append(contract)
+        todo = list(contracts)
+        while todo:
+            word = todo.pop()
+            found = word.source.used(word)
+            names |= {use for use in found if isinstance(use, str)}
+            uses[word] = {use for use in found if isinstance(use, Word) and use is not word}
+            todo += [use for use in uses[word] if use not in uses and use not in done]
+        done |= set(uses)
+        parts.append((contracts, uses))
+    return parts, names
 
 
 @functools.cache
@@ -188,13 +235,14 @@ def ready(words, uses, done):
     return taken
 
 
-def sections(uses):
+def sections(uses, done):
     """Returns the words in groups, each the name of a subject and its words, so that each stands behind those that it
-    uses. The next group is the first subject that can follow whole, or the first of which some words can."""
+    uses, where some are done already. The next group is the first subject that can follow whole, or the first of which
+    some words can."""
     for word in uses:
         if word.source.path not in ranks():
             fail(f"SUBJECTS of scripts/statement.py hasn't {word.source.path}: add it to the subject of its '{word.name}'")
-    left, done, found = sorted(uses, key=lambda word: (ranks()[word.source.path], word.line)), set(), []
+    left, done, found = sorted(uses, key=lambda word: (ranks()[word.source.path], word.line)), set(done), []
     while left:
         can = []
         for number, subject in enumerate(SUBJECTS):
@@ -311,29 +359,34 @@ def listed(number, subject, words):
 
 def told_of(words):
     """Returns how many words there are, and how many lines without comments and blanks."""
-    return f"{len(words)} words, {count(words):,} lines"
+    numbers = (len(words), "word"), (count(words), "line")
+    return ", ".join(f"{number:,} {what}{'s' * (number != 1)}" for number, what in numbers)
 
 
 def page():
     """Returns the lines of the page, and how much it has."""
-    contracts, uses, names = needed()
+    parts, names = needed()
     explained = {name for line in LEGEND for name in line.split()}
     if missing := sorted(names - explained):
         fail(f"LEGEND of scripts/statement.py doesn't explain {' '.join(missing)}")
     if idle := sorted(explained - names):
         fail(f"LEGEND of scripts/statement.py explains {' '.join(idle)}, which the page doesn't have")
-    groups = sections({word: uses[word] for word in uses if word not in sum(contracts, [])})
-    told = told_of(uses)
-    parts = zip(("The contracts", "From a session to its restores"), contracts)
-    numbered = list(enumerate([*groups, *parts], 1))
-    lines = HEAD.format(told=told).splitlines()
-    lines += [listed(number, *group) for number, group in numbered]
-    lines += ["", "## How to read it", ""]
-    lines += [f"- {text}" for text in LEGEND.values()]
-    for number, (subject, words) in numbered:
-        lines += ["", f"## {number}. {subject}", "", *show(words)]
-    lines += ["", *END.splitlines()]
-    return lines, told
+    numbers, done, seen, contents, lines = itertools.count(1), set(), set(), [], []
+    for (title, (_, end)), count_word, (contracts, uses) in zip(PARTS.items(), ("one", "two", "three"), parts):
+        groups = sections({word: uses[word] for word in uses if word not in contracts}, done)
+        groups = [(subject + ", further" * (subject in seen), words) for subject, words in groups]
+        seen |= {subject for subject, _ in groups}
+        done |= set(uses)
+        numbered = [(next(numbers), group) for group in [*groups, (f"The contracts of part {count_word}", contracts)]]
+        title = f"Part {count_word}: {title}"
+        contents += [f"**{title}**: {told_of(uses)}", "", *(listed(number, *group) for number, group in numbered), ""]
+        lines += ["", f"## {title}"]
+        for number, (subject, words) in numbered:
+            lines += ["", f"### {number}. {subject}", "", *show(words)]
+        lines += ["", *end.splitlines()] if end else []
+    told = told_of(done)
+    legend = ["## How to read it", "", *(f"- {text}" for text in LEGEND.values())]
+    return [*HEAD.format(told=told).splitlines(), *contents, *legend, *lines], told
 
 
 def check(lines, told):
