@@ -22,8 +22,8 @@ STATEMENT = ["python3", "scripts/statement.py", "--check"]
 # each kind one is refused by agree as a whole, the others by the part of it.
 PLANTS = {
     "a clause of another call": (
-        AGREE, "README.md", r"`session`: `looks`, `undo`", "`probe`: `looks`, `undo`",
-        r"README.md:\d+: `probe` has no clause `undo`: crates/nor_probe/src/"),
+        AGREE, "README.md", r"`session`: `still`, `same`, `leads_back`", "`probe`: `still`, `same`, `leads_back`",
+        r"README.md:\d+: `probe` has no clause `still`: crates/nor_probe/src/"),
     "a clause of a call's neighbour": (
         ROWS, "README.md", r"`session`, `done`", "`session`, `back`", "`session` has no clause `back`"),
     "a premise for a clause": (
@@ -54,8 +54,8 @@ PLANTS = {
         ROWS, "docs/PROMISES.md", r"`restore_written_over`, `same_written_over`",
         "`restore_written_over`, `same_written`", "no clause `same_written`"),
     "a broken promise that isn't there": (
-        ROWS, "docs/PROMISES.md", r"`write_code`, `names` \|", "`write_code`, `named` |",
-        "`write_code` has no clause `named`"),
+        ROWS, "docs/PROMISES.md", r"`write_code`, `leaves` \|", "`write_code`, `leave` |",
+        "`write_code` has no clause `leave`"),
     "two promises as one": (
         ROWS, "docs/PROMISES.md", r"`session`, `restore`: `unwritten`, `spares`",
         "`session`: `unwritten`, `restore`: `spares`", "two colons between names"),
