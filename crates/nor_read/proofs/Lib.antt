@@ -1,7 +1,6 @@
 pub mod Onward
 pub mod Pieces
 pub mod Copied
-pub mod CopyExits
 pub mod Differing
 pub mod Whole
 pub mod Guards
