@@ -1,6 +1,5 @@
 pub mod Agreement
 pub mod Blocks
-pub mod Changed
 pub mod Coverage
 pub mod Ends
 pub mod Fewest
