@@ -1,9 +1,9 @@
 -- The changes of a block of many lanes, put together before one test.
-use Rattle.std.proofs.Common.{ℕ, zero, suc, ◌≡◌, ◌≢◌, ◌<◌, ◌≤◌, ◌⊎◌, ◌+◌, ◌-◌, ◌*◌, bit_or, bit_xor, List, [], ◌∷◌, length, replicate, get_or, refl, sym, ◌∙◌, ap, subst, Bool, not, nat_eq, inl, inr, arith}
+use Rattle.std.proofs.Common.{ℕ, zero, suc, ◌≡◌, ◌≢◌, ◌<◌, ◌≤◌, ◌+◌, ◌-◌, bit_or, bit_xor, List, [], ◌∷◌, length, replicate, get_or, sym, ◌∙◌, ap, not, nat_eq, inl, inr, arith}
 use lib.Bits.{xor_self, xor_assoc, xor_zero_l, xor_zero_r, or_zero_l}
 use lib.Lanes.{chunk, zip2, fold_l}
 use Rattle.std.proofs.Math.Nat.{eq-zero-or-pos}
-use Rattle.std.proofs.lemmas.Bool.{cases_lt, cases_eq, eq-eqb, ne_eqb}
+use Rattle.std.proofs.lemmas.Bool.{cases_lt, cases_eq, ne_eqb}
 use Rattle.std.proofs.lemmas.List.{length-replicate, get_or-replicate}
 use Rattle.std.proofs.lemmas.Nat.{le_or_l, le_or_r}
 use Rattle.std.proofs.lemmas.Simd.{length-chunk, get_or-chunk, length-zip2, get_or-zip2}
@@ -17,43 +17,26 @@ same_from_xor a b none =
     sym (xor_zero_r a) ∙ ap (bit_xor a) (sym none) ∙ sym (xor_assoc a a b)
     ∙ ap (λ x. bit_xor x b) (xor_self a) ∙ xor_zero_l b
 
--- what is put together is nothing only where its parts are
-or_zero : (x y : ℕ) → bit_or x y ≡ 0 → (x ≡ 0) × (y ≡ 0)
-or_zero x y none = (omega (arith, none, le_or_l x y), omega (arith, none, le_or_r x y))
+-- the bits of all lanes, put together, are nothing only where each lane is 0
+front_le : (start : ℕ) (xs : List ℕ) → start ≤ fold_l bit_or start xs
+front_le start [] = omega arith
+front_le start (x ∷ xs) = omega (arith, le_or_l start x, front_le (bit_or start x) xs)
 
-or_lanes : (xs ys : List ℕ) → length xs ≡ 32 → length ys ≡ 32 → length (zip2 bit_or xs ys) ≡ 32
-or_lanes xs ys long same = length-zip2 bit_or xs ys (long ∙ sym same) ∙ long
+lane_le : (start : ℕ) (xs : List ℕ) (i : ℕ) → get_or xs i 0 ≤ fold_l bit_or start xs
+lane_le start [] i = omega arith
+lane_le start (x ∷ xs) zero = omega (arith, le_or_r start x, front_le (bit_or start x) xs)
+lane_le start (x ∷ xs) (suc i) = lane_le (bit_or start x) xs i
 
-or_lane : (xs ys : List ℕ) → length xs ≡ 32 → length ys ≡ 32 → (i : ℕ) → i < 32 → get_or (zip2 bit_or xs ys) i 0 ≡ bit_or (get_or xs i 0) (get_or ys i 0)
-or_lane xs ys long same i lane = get_or-zip2 bit_or xs ys i 0 0 0 (omega arith) (omega arith)
-
-or_zero_lane : (xs ys : List ℕ) → length xs ≡ 32 → length ys ≡ 32 → (i : ℕ) → i < 32 → get_or (zip2 bit_or xs ys) i 0 ≡ 0 → (get_or xs i 0 ≡ 0) × (get_or ys i 0 ≡ 0)
-or_zero_lane xs ys long same i lane none =
-    or_zero (get_or xs i 0) (get_or ys i 0) (sym (or_lane xs ys long same i lane) ∙ none)
-
--- where the bits of all lanes, put together, are nothing, each lane is 0
-zero_first : (x : ℕ) (xs : List ℕ) → x ≡ 0 → ((i : ℕ) → get_or xs i 0 ≡ 0) → (i : ℕ) → get_or (x ∷ xs) i 0 ≡ 0
-zero_first x xs first rest zero = first
-zero_first x xs first rest (suc i) = rest i
-
-zero_lanes : (start : ℕ) (xs : List ℕ) → fold_l bit_or start xs ≡ 0 → (start ≡ 0) × ((i : ℕ) → get_or xs i 0 ≡ 0)
-zero_lanes start [] none = (none, λ i. refl)
-zero_lanes start (x ∷ xs) none =
-    let rest = zero_lanes (bit_or start x) xs none in
-    let parts = or_zero start x rest.0 in
-    (parts.0, zero_first x xs parts.1 rest.1)
-
--- and where they are something, some lane isn't 0
-some_lane : (start : ℕ) (xs : List ℕ) → fold_l bit_or start xs ≢ 0 → (start ≢ 0) ⊎ ((i : ℕ) × (i < length xs) × (get_or xs i 0 ≢ 0))
-some_lane start [] some = inl some
-some_lane start (x ∷ xs) some =
-    elim (some_lane (bit_or start x) xs some) [
-      | inl front ↦ elim (eq-zero-or-pos start) [
-        | inl none ↦ inr (zero, omega arith, λ last. front (ap (λ s. bit_or s x) none ∙ or_zero_l x ∙ last))
-        | inr first ↦ inl (λ none. omega (arith, first, none))
-      ]
-      | inr lane ↦ inr (suc lane.0, omega (arith, lane.1), lane.2)
-    ]
+-- and where they are something, some lane isn't
+some_lane : (P : Type 0) (start : ℕ) (xs : List ℕ) → (start ≢ 0 → P) → ((i : ℕ) → i < length xs → get_or xs i 0 ≢ 0 → P) → fold_l bit_or start xs ≢ 0 → P
+some_lane P start [] front lane some = front some
+some_lane P start (x ∷ xs) front lane some =
+    some_lane P (bit_or start x) xs
+    (λ both. elim (eq-zero-or-pos start) [
+      | inl none ↦ lane zero (omega arith) (λ last. both (ap (λ s. bit_or s x) none ∙ or_zero_l x ∙ last))
+      | inr first ↦ front (λ none. omega arith)
+    ])
+    (λ i within other. lane (suc i) (omega arith) other) some
 
 -- the bits that differ of two chunks tell whether the bytes do
 pub TellsChanges-xor : (a b : List ℕ) (at : ℕ) → at + 32 ≤ length a → at + 32 ≤ length b → TellsChanges a b at 32 (zip2 bit_xor (chunk at 32 a) (chunk at 32 b))
@@ -62,22 +45,16 @@ TellsChanges-xor a b at a_room b_room =
     let ys : List ℕ = chunk at 32 b in
     let a_long : length (chunk at 32 a) ≡ 32 = length-chunk at 32 a a_room in
     let b_long : length (chunk at 32 b) ≡ 32 = length-chunk at 32 b b_room in
+    let bits : (i : ℕ) → i < 32 → get_or (zip2 bit_xor (chunk at 32 a) (chunk at 32 b)) i 0 ≡ bit_xor (get_or a (at + i) 0) (get_or b (at + i) 0) =
+    λ i lane. get_or-zip2 bit_xor xs ys i 0 0 0 (omega arith) (omega arith) ∙ rw (get_or-chunk at 32 a i 0 lane, get_or-chunk at 32 b i 0 lane) in
     record {
       long = length-zip2 bit_xor xs ys (a_long ∙ sym b_long) ∙ a_long;
       none = λ zeros k low high.
           let place : at + (k - at) ≡ k = omega arith in
           let lane : k - at < 32 = omega arith in
-          let same : get_or (chunk at 32 a) (k - at) 0 ≡ get_or (chunk at 32 b) (k - at) 0 =
-          same_from_xor _ _ (sym (get_or-zip2 bit_xor xs ys (k - at) 0 0 0 (omega arith) (omega arith)) ∙ zeros (k - at) lane) in
-          ap (λ j. get_or a j 0) (sym place) ∙ sym (get_or-chunk at 32 a (k - at) 0 lane) ∙ same
-          ∙ get_or-chunk at 32 b (k - at) 0 lane ∙ ap (λ j. get_or b j 0) place;
-      some = λ i lane other. (
-        at + i,
-        omega arith,
-        λ same.
-            let equal : get_or xs i 0 ≡ get_or ys i 0 = get_or-chunk at 32 a i 0 lane ∙ same ∙ sym (get_or-chunk at 32 b i 0 lane) in
-            other (get_or-zip2 bit_xor xs ys i 0 0 0 (omega arith) (omega arith) ∙ ap (λ x. bit_xor x (get_or ys i 0)) equal ∙ xor_self (get_or ys i 0)),
-      );
+          let same = same_from_xor (get_or a (at + (k - at)) 0) (get_or b (at + (k - at)) 0) (sym (bits (k - at) lane) ∙ zeros (k - at) lane) in
+          rw place at same;
+      some = λ i lane other. (at + i, omega arith, λ same. other (bits i lane ∙ ap (λ x. bit_xor x (get_or b (at + i) 0)) same ∙ xor_self (get_or b (at + i) 0)));
     }
 
 -- a vector of zeros tells that none of no bytes differs
@@ -89,53 +66,34 @@ TellsChanges-zeros a b at = record {
 }
 
 -- so do two such vectors of neighbouring parts, put together
-TellsChanges-or : (a b : List ℕ) (at m n : ℕ) (xs ys : List ℕ) → TellsChanges a b at m xs → TellsChanges a b (at + m) n ys → TellsChanges a b at (m + n) (zip2 bit_or xs ys)
-TellsChanges-or a b at m n xs ys first second = record {
-  long = or_lanes xs ys first.long second.long;
-  none = λ zeros k low high.
-      let parts = λ (i : ℕ) (lane : i < 32). or_zero_lane xs ys first.long second.long i lane (zeros i lane) in
-      elim (cases_lt k (at + m)) [
-        | inl near ↦ first.none (λ i lane. (parts i lane).0) k low near
-        | inr far ↦ second.none (λ i lane. (parts i lane).1) k far (omega arith)
+pub TellsChanges-or : (a b : List ℕ) (at m from n count : ℕ) (xs ys : List ℕ) → from ≡ at + m → count ≡ m + n
+    → TellsChanges a b at m xs → TellsChanges a b from n ys → TellsChanges a b at count (zip2 bit_or xs ys)
+TellsChanges-or a b at m from n count xs ys next sum first second =
+    let long = first.long in
+    let same = second.long in
+    let bits : (i : ℕ) → i < 32 → get_or (zip2 bit_or xs ys) i 0 ≡ bit_or (get_or xs i 0) (get_or ys i 0) =
+    λ i lane. get_or-zip2 bit_or xs ys i 0 0 0 (omega arith) (omega arith) in
+    record {
+      long = length-zip2 bit_or xs ys (long ∙ sym same) ∙ long;
+      none = λ zeros k low high. elim (cases_lt k from) [
+        | inl near ↦ first.none (λ i lane. omega (arith, bits i lane, zeros i lane, le_or_l (get_or xs i 0) (get_or ys i 0))) k low (omega arith)
+        | inr far ↦ second.none (λ i lane. omega (arith, bits i lane, zeros i lane, le_or_r (get_or xs i 0) (get_or ys i 0))) k far (omega arith)
       ];
-  some = λ i lane other.
-      elim (eq-zero-or-pos (get_or xs i 0)) [
-        | inl none ↦ second.some i lane (λ last. other (or_lane xs ys first.long second.long i lane ∙ ap (λ x. bit_or x (get_or ys i 0)) none ∙ or_zero_l (get_or ys i 0) ∙ last))
-        | inr some ↦ first.some i lane (λ none. omega (arith, some, none))
+      some = λ i lane other. elim (eq-zero-or-pos (get_or xs i 0)) [
+        | inl none ↦ second.some i lane (λ last. other (bits i lane ∙ ap (λ x. bit_or x (get_or ys i 0)) none ∙ or_zero_l (get_or ys i 0) ∙ last))
+        | inr some ↦ first.some i lane (λ none. omega arith)
       ];
-}
-
--- so does the vector of the first parts of one length with that of the next one
-pub TellsChanges-next : (a b : List ℕ) (at len part from : ℕ) (xs ys : List ℕ) → from ≡ at + part * len
-    → TellsChanges a b at (part * len) xs → TellsChanges a b from len ys → TellsChanges a b at ((part + 1) * len) (zip2 bit_or xs ys)
-TellsChanges-next a b at len part from xs ys here first second =
-    let P : ℕ → Type 0 = λ place. TellsChanges a b place len ys in
-    let Q : ℕ → Type 0 = λ count. TellsChanges a b at count (zip2 bit_or xs ys) in
-    let count : part * len + len ≡ (part + 1) * len = omega arith in
-    subst Q count (TellsChanges-or a b at (part * len) len xs ys first (subst P here second))
+    }
 
 -- a vector whose lanes, put together, are nothing
 pub TellsChanges-none : (a b : List ℕ) (at count : ℕ) (xs : List ℕ) → TellsChanges a b at count xs → fold_l bit_or 0 xs ≡ 0 → AgreeWithin a b at (at + count)
-TellsChanges-none a b at count xs tells none = tells.none (λ i lane. (zero_lanes 0 xs none).1 i)
-
--- or something
-TellsChanges-some : (a b : List ℕ) (at count : ℕ) (xs : List ℕ) → TellsChanges a b at count xs → fold_l bit_or 0 xs ≢ 0 → SomeDiffer a b
-TellsChanges-some a b at count xs tells some =
-    elim (some_lane 0 xs some) [
-      | inl nothing ↦ absurd (nothing refl)
-      | inr lane ↦ tells.some lane.0 (omega (arith, lane.1, tells.long)) lane.2
-    ]
-
-tested : (n : ℕ) (P Q : Type 0) → (n ≢ 0 → P) → (n ≡ 0 → Q) → MatchBool (not (nat_eq n 0)) P Q
-tested n P Q some none =
-    let M : Bool → Type 0 = λ test. MatchBool (not test) P Q in
-    elim (cases_eq n 0) [
-      | inl nothing ↦ subst M (sym (eq-eqb n 0 nothing)) (none nothing)
-      | inr something ↦ subst M (sym (ne_eqb n 0 something)) (some something)
-    ]
+TellsChanges-none a b at count xs tells none = tells.none (λ i lane. omega (arith, none, lane_le 0 xs i))
 
 -- the test of a vector that tells of all bytes up to a place
 pub TellsChanges-tested : (a b : List ℕ) (count end : ℕ) (xs : List ℕ) → TellsChanges a b 0 count xs → end ≤ count → MatchBool (not (nat_eq (fold_l bit_or 0 xs) 0)) (SomeDiffer a b) (AgreeWithin a b 0 end)
 TellsChanges-tested a b count end xs tells within =
-    tested (fold_l bit_or 0 xs) (SomeDiffer a b) (AgreeWithin a b 0 end) (TellsChanges-some a b 0 count xs tells)
-    (λ none k low high. TellsChanges-none a b 0 count xs tells none k low (omega arith))
+    elim (cases_eq (fold_l bit_or 0 xs) 0) [
+      | inl nothing ↦ rw nothing (λ k low high. TellsChanges-none a b 0 count xs tells nothing k low (omega arith))
+      | inr something ↦ rw (ne_eqb (fold_l bit_or 0 xs) 0 something)
+          (some_lane (SomeDiffer a b) 0 xs (λ some. absurd (some (omega arith))) (λ i lane other. tells.some i (omega (arith, tells.long)) other) something)
+    ]

@@ -1,15 +1,14 @@
 pub mod Agreement
+pub mod AllSpans
 pub mod Blocks
 pub mod Coverage
 pub mod Ends
 pub mod Fewest
 pub mod Masks
 pub mod Members
-pub mod Parts
-pub mod Places
 pub mod PageSpans
+pub mod Parts
 pub mod Planning
 pub mod Plans
-pub mod Tally
 pub mod Units
 pub mod Words

@@ -1,59 +1,84 @@
 -- From the bounds of a page, taken as a slice of its own, to its span.
-use Rattle.std.proofs.Common.{ℕ, ◌≡◌, ◌≢◌, ◌<◌, ◌≤◌, ◌+◌, ◌-◌, ◌*◌, Bool, true, false, not, nat_eq, List, [], ◌∷◌, length, get_or, Some, None, inl, inr, sym, ap, ◌∙◌, arith, suc}
+use Rattle.std.proofs.Common.{ℕ, ◌≡◌, ◌≢◌, ◌<◌, ◌≤◌, ◌+◌, ◌-◌, ◌*◌, ◌/◌, min, Bool, not, nat_eq, List, [], ◌∷◌, length, get_or, Some, None, inl, inr, sym, ap, ◌∙◌, arith, suc}
 use lib.Lanes.{chunk}
 use Rattle.std.specs.List.{cons_option}
 use Rattle.std.specs.Int.{div_ceil}
 use Rattle.std.proofs.lemmas.Simd.{length-chunk, get_or-chunk}
 use Rattle.std.proofs.lemmas.Bool.{cases_lt}
-use Rattle.std.proofs.lemmas.Bool.Decides.{nat_tests}
 use Rattle.nor_plan.specs.declared.page.Span.{Span}
-use Rattle.nor_plan.specs.Bytes.{AllAgree, IsFirstDifference, IsLastDifference}
-use Rattle.nor_plan.specs.Span.{differences, ends, page_span, spans_in, spans_from, page_count}
-use Rattle.nor_plan.proofs.Places.{passing-none, ends-passing}
+use Rattle.nor_plan.specs.Bytes.{AllAgree, DifferAt, IsFirstDifference, IsLastDifference}
+use Rattle.nor_plan.specs.Span.{page_span, spans_in, spans_from, page_count}
+use Rattle.nor_plan.proofs.Masks.{other_from_test, test_from_other}
+use Rattle.nor_plan.proofs.Ends.{AreEnds, ends_once, ends_like, Passes, ends_of}
 
 abbrev pub other : List ℕ → List ℕ → ℕ → Bool
 other old target k = not (nat_eq (get_or old k 0) (get_or target k 0))
 
-test-same : (x y : ℕ) → x ≡ y → not (nat_eq x y) ≡ false
-test-same x y same = grind (arith, nat_tests)
+-- a place of this page at which the bytes differ
+abbrev pub DiffersOn : (old target : List ℕ) → (page k : ℕ) → Type 0
+DiffersOn old target page k = (k / 256 ≡ page) × DifferAt old target k
 
-pub test-other : (x y : ℕ) → x ≢ y → not (nat_eq x y) ≡ true
-test-other x y differ = grind (arith, nat_tests)
+-- the span of a page are the first and the last of these
+pub page_ends : (old target : List ℕ) (page : ℕ) → AreEnds (DiffersOn old target page) (page_span old target page)
+page_ends old target page =
+    let from = page * 256 in
+    let count = min 256 (length old - page * 256) in
+    ends_like (Passes (other old target) from count) (DiffersOn old target page) (page_span old target page)
+    (λ k passes. (omega arith, (omega arith, other_from_test _ _ passes.2)))
+    (λ k differs. let within : k < length old = differs.1.0 in (omega arith, omega arith, test_from_other _ _ differs.1.1))
+    (ends_of (other old target) from count)
 
--- a place of the part is a place of the whole
-other-chunk : (old target : List ℕ) (start count k : ℕ) → start ≤ k → k < start + count → not (nat_eq (get_or (chunk start count old) (k - start) 0) (get_or (chunk start count target) (k - start) 0)) ≡ other old target k
-other-chunk old target start count k low high =
+-- bytes that agree in a part of the slices
+same_in_part : (old target : List ℕ) (start count k : ℕ) → start ≤ k → k < start + count
+    → get_or (chunk start count old) (k - start) 0 ≡ get_or (chunk start count target) (k - start) 0 → get_or old k 0 ≡ get_or target k 0
+same_in_part old target start count k low high same =
     let place : start + (k - start) ≡ k = omega arith in
-    ap (λ x. not (nat_eq x (get_or (chunk start count target) (k - start) 0))) (get_or-chunk start count old (k - start) 0 (omega arith) ∙ ap (λ j. get_or old j 0) place)
-    ∙ ap (λ y. not (nat_eq (get_or old k 0) y)) (get_or-chunk start count target (k - start) 0 (omega arith) ∙ ap (λ j. get_or target j 0) place)
+    let part = λ (bytes : List ℕ). get_or-chunk start count bytes (k - start) 0 (omega arith) ∙ ap (λ j. get_or bytes j 0) place in
+    sym (part old) ∙ same ∙ part target
 
-pub agreed_page : (old target : List ℕ) (start count : ℕ) → start + count ≤ length old → AllAgree (chunk start count old) (chunk start count target) → ends (differences old target start count) ≡ None
-agreed_page old target start count room agree =
-    ap ends (passing-none (other old target) start count (λ k low high.
-    let long : length (chunk start count old) ≡ count = length-chunk start count old room in
-    sym (other-chunk old target start count k low high) ∙ test-same _ _ (agree (k - start) (omega arith))))
+pub agreed_page : (old target : List ℕ) (page count : ℕ) → count ≡ min 256 (length old - page * 256) → page * 256 + count ≤ length old
+    → AllAgree (chunk (page * 256) count old) (chunk (page * 256) count target) → None ≡ page_span old target page
+agreed_page old target page count size room agree =
+    let long : length (chunk (page * 256) count old) ≡ count = length-chunk (page * 256) count old room in
+    ends_once (DiffersOn old target page) None (page_span old target page)
+    (λ k differs.
+    let within : k < length old = differs.1.0 in
+    differs.1.1 (same_in_part old target (page * 256) count k (omega arith) (omega arith) (agree (k - page * 256) (omega arith))))
+    (page_ends old target page)
 
-pub bounded_page : (old target : List ℕ) (start count first last : ℕ) → start + count ≤ length old → IsFirstDifference (chunk start count old) (chunk start count target) first → IsLastDifference (chunk start count old) (chunk start count target) last → ends (differences old target start count) ≡ Some (record { first = start + first; last = start + last })
-bounded_page old target start count first last room f l =
-    let long : length (chunk start count old) ≡ count = length-chunk start count old room in
-    let first_within : first < count = omega (arith, f.within) in
-    let last_within : last < count = omega (arith, l.within) in
-    let order : first ≤ last = ordered first last (λ less. l.differs (f.before last less)) in
-    ends-passing (other old target) start count (start + first) (start + last) (omega arith) (omega arith) (omega arith)
-    (at_place first first_within f.differs)
-    (λ k low high. sym (other-chunk old target start count k low (omega arith)) ∙ test-same _ _ (f.before (k - start) (omega arith)))
-    (at_place last last_within l.differs)
-    (λ k low high. sym (other-chunk old target start count k (omega arith) high) ∙ test-same _ _ (l.after (k - start) (omega arith) (omega arith)))
+pub bounded_page : (old target : List ℕ) (page count first last : ℕ) → count ≡ min 256 (length old - page * 256) → page * 256 + count ≤ length old
+    → IsFirstDifference (chunk (page * 256) count old) (chunk (page * 256) count target) first
+    → IsLastDifference (chunk (page * 256) count old) (chunk (page * 256) count target) last
+    → Some (record { first = page * 256 + first; last = page * 256 + last }) ≡ page_span old target page
+bounded_page old target page count first last size room f l =
+    let long : length (chunk (page * 256) count old) ≡ count = length-chunk (page * 256) count old room in
+    let in_first : first < count = omega (arith, f.within) in
+    let in_last : last < count = omega (arith, l.within) in
+    let start = page * 256 in
+    ends_once (DiffersOn old target page) (Some (record { first = page * 256 + first; last = page * 256 + last })) (page_span old target page)
+    (
+      at first in_first f.differs,
+      at last in_last l.differs,
+      λ k differs.
+          let within : k < length old = differs.1.0 in
+          let same = same_in_part old target (page * 256) count k (omega arith) (omega arith) in (
+            elim (cases_lt k (page * 256 + first)) [
+              | inl before ↦ absurd (differs.1.1 (same (f.before (k - page * 256) (omega arith))))
+              | inr from ↦ from
+            ],
+            elim (cases_lt (page * 256 + last) k) [
+              | inl after ↦ absurd (differs.1.1 (same (l.after (k - page * 256) (omega arith) (omega arith))))
+              | inr upto ↦ upto
+            ],
+          ),
+    )
+    (page_ends old target page)
   where
-    ordered : (a b : ℕ) → (b < a → ⊥) → a ≤ b
-    ordered a b never = elim (cases_lt b a) [ inl less ↦ absurd (never less) | inr fine ↦ fine ]
-
-    at_place : (k : ℕ) → k < count → get_or (chunk start count old) k 0 ≢ get_or (chunk start count target) k 0 → other old target (start + k) ≡ true
-    at_place k within differ =
-        let back : (start + k) - start ≡ k = omega arith in
-        sym (other-chunk old target start count (start + k) (omega arith) (omega arith))
-        ∙ ap (λ j. not (nat_eq (get_or (chunk start count old) j 0) (get_or (chunk start count target) j 0))) back
-        ∙ test-other _ _ differ
+    at : (k : ℕ) → k < count → get_or (chunk (page * 256) count old) k 0 ≢ get_or (chunk (page * 256) count target) k 0 → DiffersOn old target page (page * 256 + k)
+    at k within differ = (
+      omega arith,
+      (omega arith, λ same. differ (get_or-chunk (page * 256) count old k 0 within ∙ same ∙ sym (get_or-chunk (page * 256) count target k 0 within))),
+    )
 
 -- from a page on: nothing is left behind the last one,
 pub spans_from-end : (old target : List ℕ) (page : ℕ) → page_count old ≤ page → spans_from old target page ≡ []
@@ -62,7 +87,7 @@ spans_from-end old target page past =
     ap (spans_in old target page) none
 
 -- and else the span of this page, where it has one, stands before the others
-pub spans_from-step : (old target : List ℕ) (page : ℕ) → page < page_count old → spans_from old target page ≡ cons_option (page_span old target page) (spans_from old target (page + 1))
+spans_from-step : (old target : List ℕ) (page : ℕ) → page < page_count old → spans_from old target page ≡ cons_option (page_span old target page) (spans_from old target (page + 1))
 spans_from-step old target page there =
     let more : page_count old - page ≡ suc (page_count old - (page + 1)) = omega arith in
     ap (spans_in old target page) more

@@ -1,26 +1,16 @@
--- The list of planned erases: from one sector to the next, and what they erase together.
-use Rattle.std.proofs.Common.{ℕ, suc, ◌≡◌, ◌<◌, ◌≤◌, ◌+◌, ◌-◌, Bool, true, false, [], ◌∷◌, map, sym, ap, ◌∙◌, arith}
+-- The list of planned erases: from one sector to the next.
+use Rattle.std.proofs.Common.{ℕ, suc, ◌≡◌, ◌<◌, ◌≤◌, ◌+◌, ◌-◌, Bool, true, false, [], ◌∷◌, sym, arith}
 use Rattle.nor_chip.specs.declared.config.Kinds.{Kinds}
 use Rattle.nor_plan.specs.Planned.{begins_unit, erase_at, planned_from}
-use Rattle.nor_plan.proofs.Places.{passing, passing-true, passing-false}
 
--- from one sector to the next
 pub planned_from-end : (whole : Bool) (kinds : Kinds) (set : ℕ → Bool) (from : ℕ) → 4096 ≤ from → planned_from whole kinds set from ≡ []
 unfolding planned_from
-planned_from-end whole kinds set from past =
-    let none : 4096 - from ≡ 0 = omega arith in
-    ap (λ n. map (erase_at whole kinds set) (passing (begins_unit whole kinds set) from n)) none
+planned_from-end whole kinds set from past = let none : 4096 - from ≡ 0 = omega arith in rw none
 
 pub planned_from-skip : (whole : Bool) (kinds : Kinds) (set : ℕ → Bool) (from : ℕ) → from < 4096 → begins_unit whole kinds set from ≡ false → planned_from whole kinds set (from + 1) ≡ planned_from whole kinds set from
 unfolding planned_from
-planned_from-skip whole kinds set from there no_unit =
-    let more : 4096 - from ≡ suc (4096 - (from + 1)) = omega arith in
-    sym (ap (λ n. map (erase_at whole kinds set) (passing (begins_unit whole kinds set) from n)) more
-    ∙ ap (map (erase_at whole kinds set)) (passing-false (begins_unit whole kinds set) from (4096 - (from + 1)) no_unit))
+planned_from-skip whole kinds set from there no_unit = let more : 4096 - from ≡ suc (4096 - (from + 1)) = omega arith in rw (more, no_unit)
 
 pub planned_from-take : (whole : Bool) (kinds : Kinds) (set : ℕ → Bool) (from : ℕ) → from < 4096 → begins_unit whole kinds set from ≡ true → planned_from whole kinds set from ≡ erase_at whole kinds set from ∷ planned_from whole kinds set (from + 1)
 unfolding planned_from
-planned_from-take whole kinds set from there unit =
-    let more : 4096 - from ≡ suc (4096 - (from + 1)) = omega arith in
-    ap (λ n. map (erase_at whole kinds set) (passing (begins_unit whole kinds set) from n)) more
-    ∙ ap (map (erase_at whole kinds set)) (passing-true (begins_unit whole kinds set) from (4096 - (from + 1)) unit)
+planned_from-take whole kinds set from there unit = let more : 4096 - from ≡ suc (4096 - (from + 1)) = omega arith in rw (more, unit)

@@ -1,70 +1,109 @@
 -- The unit of a sector: which blocks of the set hold it, and where it begins.
-use Rattle.std.proofs.Common.{ℕ, zero, suc, ◌≡◌, ◌<◌, ◌≤◌, ◌+◌, ◌⊎◌, Bool, true, false, ◌&&◌, refl, sym, ap, ◌∙◌, inl, inr, arith}
-use Rattle.std.specs.Prelude.{if◌then◌else◌}
-use Rattle.std.proofs.lemmas.Bool.{cases_eq, cases_Bool, and_parts, and_from}
+use Rattle.std.proofs.Common.{ℕ, ◌≡◌, ◌<◌, ◌≤◌, ◌+◌, ◌-◌, ◌%◌, Bool, true, false, ◌&&◌, get_or, refl, sym, ap, ◌∙◌, inl, inr, arith}
+use Rattle.std.specs.List.{range_with_len}
+use Rattle.std.proofs.lemmas.Bool.{cases_Bool, and_parts, and_from, both_ways, eq-eqb, eqb-true}
+use Rattle.std.proofs.lemmas.List.FromFn.{length-range_with_len, get_or-range_with_len}
+use Rattle.std.proofs.lemmas.List.Sums.{AllPass-from_list_all, list_all-from_AllPass}
 use Rattle.nor_chip.specs.declared.config.Kinds.{Kinds}
 use Rattle.nor_driver.specs.declared.units.EraseUnit.{EraseUnit}
 use Rattle.nor_driver.specs.declared.units.EraseUnit.TheVariants.{Sector, Block32, Block64, Chip}
+use Rattle.nor_driver.specs.Units.{sectors_in, is_aligned}
+use Rattle.nor_plan.specs.Erase.{is_offered}
 use Rattle.nor_plan.specs.Planned.{holds_run, holds_block, planned_unit}
 
 -- a run is in the set exactly where each of its sectors is
 pub holds_run-at : (set : ℕ → Bool) (from count : ℕ) → holds_run set from count ≡ true → (s : ℕ) → from ≤ s → s < from + count → set s ≡ true
 unfolding holds_run
-holds_run-at set from zero holds s low high = absurd (omega arith)
-holds_run-at set from (suc count) holds s low high =
-    let parts = and_parts _ _ holds in
-    elim (cases_eq from s) [
-      | inl here ↦ ap set (sym here) ∙ parts.0
-      | inr later ↦ holds_run-at set (from + 1) count parts.1 s (omega arith) (omega arith)
-    ]
+holds_run-at set from count holds s low high =
+    let place : from + (s - from) ≡ s = omega arith in
+    let there : s - from < count = omega arith in
+    let passes = AllPass-from_list_all set (range_with_len from count) holds (s - from) 0 (omega (arith, length-range_with_len from count)) in
+    ap set (sym place ∙ sym (get_or-range_with_len from count (s - from) 0 there)) ∙ passes
 
 pub holds_run-from : (set : ℕ → Bool) (from count : ℕ) → ((s : ℕ) → from ≤ s → s < from + count → set s ≡ true) → holds_run set from count ≡ true
 unfolding holds_run
-holds_run-from set from zero all = refl
-holds_run-from set from (suc count) all =
-    and_from _ _ (all from (omega arith) (omega arith)) (holds_run-from set (from + 1) count (λ s low high. all s (omega arith) (omega arith)))
+holds_run-from set from count all = list_all-from_AllPass set (range_with_len from count) (λ k d within.
+    let there : k < count = omega (arith, length-range_with_len from count) in
+    ap set (get_or-range_with_len from count k d there) ∙ all (from + k) (omega arith) (omega arith))
 
--- the unit, by the tests that choose it
-abbrev choose : Bool → Bool → Bool → EraseUnit
-choose whole wide narrow = if whole then Chip else if wide then Block64 else if narrow then Block32 else Sector
+-- the first sector of the unit that holds a sector
+abbrev pub first_of : EraseUnit → ℕ → ℕ
+first_of Sector s = s
+first_of Block32 s = s - s % 8
+first_of Block64 s = s - s % 16
+first_of Chip s = 0
 
-unit_at-is : (whole : Bool) (kinds : Kinds) (set : ℕ → Bool) (q : ℕ) → planned_unit whole kinds set q ≡ choose whole (kinds.k64 && holds_block set 16 q) (kinds.k32 && holds_block set 8 q)
+pub first_of-once : (total : ℕ) (unit : EraseUnit) (first s : ℕ) → is_aligned unit first ≡ true → first ≤ s → s < first + sectors_in total unit → first_of unit s ≡ first
+first_of-once total Sector first s aligned low high = omega arith
+first_of-once total Block32 first s aligned low high = omega (arith, eqb-true)
+first_of-once total Block64 first s aligned low high = omega (arith, eqb-true)
+first_of-once total Chip first s aligned low high = omega (arith, eqb-true)
+
+pub first_of-aligned : (unit : EraseUnit) (s : ℕ) → is_aligned unit (first_of unit s) ≡ true
+first_of-aligned Sector s = refl
+first_of-aligned Block32 s = eq-eqb _ _ (omega arith)
+first_of-aligned Block64 s = eq-eqb _ _ (omega arith)
+first_of-aligned Chip s = refl
+
+pub first_of-holds : (total : ℕ) (unit : EraseUnit) (s : ℕ) → s < total → (first_of unit s ≤ s) × (s < first_of unit s + sectors_in total unit)
+first_of-holds total Sector s below = (omega arith, omega arith)
+first_of-holds total Block32 s below = (omega arith, omega arith)
+first_of-holds total Block64 s below = (omega arith, omega arith)
+first_of-holds total Chip s below = (omega arith, omega arith)
+
+-- a unit is offered, and lies in the set
+abbrev pub is_fit : Bool → Kinds → (ℕ → Bool) → ℕ → EraseUnit → Bool
+is_fit whole kinds set s Sector = true
+is_fit whole kinds set s Block32 = kinds.k32 && holds_block set 8 s
+is_fit whole kinds set s Block64 = kinds.k64 && holds_block set 16 s
+is_fit whole kinds set s Chip = whole
+
+-- the unit is fit, and no larger one is
+abbrev pub IsLargest : Bool → Kinds → (ℕ → Bool) → ℕ → EraseUnit → Type 0
+IsLargest whole kinds set s Chip = whole ≡ true
+IsLargest whole kinds set s Block64 = (whole ≡ false) × (is_fit whole kinds set s Block64 ≡ true)
+IsLargest whole kinds set s Block32 = (whole ≡ false) × (is_fit whole kinds set s Block64 ≡ false) × (is_fit whole kinds set s Block32 ≡ true)
+IsLargest whole kinds set s Sector = (whole ≡ false) × (is_fit whole kinds set s Block64 ≡ false) × (is_fit whole kinds set s Block32 ≡ false)
+
+pub planned_unit-largest : (whole : Bool) (kinds : Kinds) (set : ℕ → Bool) (s : ℕ) → IsLargest whole kinds set s (planned_unit whole kinds set s)
 unfolding planned_unit
-unit_at-is whole kinds set q = refl
-
-pub unit_at-chip : (whole : Bool) (kinds : Kinds) (set : ℕ → Bool) (q : ℕ) → whole ≡ true → planned_unit whole kinds set q ≡ Chip
-unit_at-chip whole kinds set q w =
-    unit_at-is whole kinds set q ∙ ap (λ v. choose v (kinds.k64 && holds_block set 16 q) (kinds.k32 && holds_block set 8 q)) w
-
-pub unit_at-64 : (whole : Bool) (kinds : Kinds) (set : ℕ → Bool) (q : ℕ) → whole ≡ false → (kinds.k64 && holds_block set 16 q) ≡ true → planned_unit whole kinds set q ≡ Block64
-unit_at-64 whole kinds set q w b =
-    unit_at-is whole kinds set q ∙ ap (λ v. choose v (kinds.k64 && holds_block set 16 q) (kinds.k32 && holds_block set 8 q)) w
-    ∙ ap (λ v. choose false v (kinds.k32 && holds_block set 8 q)) b
-
-pub unit_at-32 : (whole : Bool) (kinds : Kinds) (set : ℕ → Bool) (q : ℕ) → whole ≡ false → (kinds.k64 && holds_block set 16 q) ≡ false → (kinds.k32 && holds_block set 8 q) ≡ true → planned_unit whole kinds set q ≡ Block32
-unit_at-32 whole kinds set q w b n =
-    unit_at-is whole kinds set q ∙ ap (λ v. choose v (kinds.k64 && holds_block set 16 q) (kinds.k32 && holds_block set 8 q)) w
-    ∙ ap (λ v. choose false v (kinds.k32 && holds_block set 8 q)) b ∙ ap (λ v. choose false false v) n
-
-pub unit_at-sector : (whole : Bool) (kinds : Kinds) (set : ℕ → Bool) (q : ℕ) → whole ≡ false → (kinds.k64 && holds_block set 16 q) ≡ false → (kinds.k32 && holds_block set 8 q) ≡ false → planned_unit whole kinds set q ≡ Sector
-unit_at-sector whole kinds set q w b n =
-    unit_at-is whole kinds set q ∙ ap (λ v. choose v (kinds.k64 && holds_block set 16 q) (kinds.k32 && holds_block set 8 q)) w
-    ∙ ap (λ v. choose false v (kinds.k32 && holds_block set 8 q)) b ∙ ap (λ v. choose false false v) n
-
--- the four cases of a unit
-pub unit_cases : (whole : Bool) (kinds : Kinds) (set : ℕ → Bool) (q : ℕ) →
-    ((planned_unit whole kinds set q ≡ Chip) × (whole ≡ true))
-    ⊎ (((planned_unit whole kinds set q ≡ Block64) × (whole ≡ false) × ((kinds.k64 && holds_block set 16 q) ≡ true))
-    ⊎ (((planned_unit whole kinds set q ≡ Block32) × (whole ≡ false) × ((kinds.k64 && holds_block set 16 q) ≡ false) × ((kinds.k32 && holds_block set 8 q) ≡ true))
-    ⊎ ((planned_unit whole kinds set q ≡ Sector) × (whole ≡ false) × ((kinds.k64 && holds_block set 16 q) ≡ false) × ((kinds.k32 && holds_block set 8 q) ≡ false))))
-unit_cases whole kinds set q =
-    elim (cases_Bool whole) [
-      | inl w ↦ inl (unit_at-chip whole kinds set q w, w)
-      | inr w ↦ inr (elim (cases_Bool (kinds.k64 && holds_block set 16 q)) [
-        | inl b ↦ inl (unit_at-64 whole kinds set q w b, w, b)
-        | inr b ↦ inr (elim (cases_Bool (kinds.k32 && holds_block set 8 q)) [
-          | inl n ↦ inl (unit_at-32 whole kinds set q w b n, w, b, n)
-          | inr n ↦ inr (unit_at-sector whole kinds set q w b n, w, b, n)
-        ])
-      ])
+planned_unit-largest whole kinds set s = elim (cases_Bool whole) [
+  | inl w ↦ rw w
+  | inr w ↦ elim (cases_Bool (kinds.k64 && holds_block set 16 s)) [
+    | inl wide ↦ rw (w, wide) (refl, wide)
+    | inr b ↦ elim (cases_Bool (kinds.k32 && holds_block set 8 s)) [
+      | inl narrow ↦ rw (w, b, narrow) (refl, b, narrow)
+      | inr n ↦ rw (w, b, n) (refl, b, n)
     ]
+  ]
+]
+
+pub planned_unit-is : (whole : Bool) (kinds : Kinds) (set : ℕ → Bool) (s : ℕ) (unit : EraseUnit) → IsLargest whole kinds set s unit → planned_unit whole kinds set s ≡ unit
+unfolding planned_unit
+planned_unit-is whole kinds set s Chip largest = rw largest
+planned_unit-is whole kinds set s Block64 largest = rw (largest.0, largest.1)
+planned_unit-is whole kinds set s Block32 largest = rw (largest.0, largest.1, largest.2)
+planned_unit-is whole kinds set s Sector largest = rw (largest.0, largest.1, largest.2)
+
+-- so it is the unit of the sector at which it begins, too
+pub IsLargest-first : (whole : Bool) (kinds : Kinds) (set : ℕ → Bool) (s : ℕ) (unit : EraseUnit) → IsLargest whole kinds set s unit → IsLargest whole kinds set (first_of unit s) unit
+IsLargest-first whole kinds set s Chip largest = largest
+IsLargest-first whole kinds set s Block64 largest =
+    let same : (s - s % 16) - (s - s % 16) % 16 ≡ s - s % 16 = omega arith in
+    (largest.0, rw same largest.1)
+IsLargest-first whole kinds set s Block32 largest =
+    let wide : (s - s % 8) - (s - s % 8) % 16 ≡ s - s % 16 = omega arith in
+    let same : (s - s % 8) - (s - s % 8) % 8 ≡ s - s % 8 = omega arith in
+    (largest.0, rw wide largest.1, rw same largest.2)
+IsLargest-first whole kinds set s Sector largest = largest
+
+-- a fit unit that begins at no sector of its block's but the first begins where a larger one does
+pub larger_begins : (whole : Bool) (kinds : Kinds) (set : ℕ → Bool) (s : ℕ) (unit largest : EraseUnit) → is_fit whole kinds set s unit ≡ true → IsLargest whole kinds set s largest → is_aligned largest s ≡ true → first_of unit s ≡ s
+larger_begins whole kinds set s Sector _ fit is aligned = refl
+larger_begins whole kinds set s Block32 Sector fit is aligned = absurd (both_ways _ is.2 fit)
+larger_begins whole kinds set s Block64 Sector fit is aligned = absurd (both_ways _ is.1 fit)
+larger_begins whole kinds set s Block64 Block32 fit is aligned = absurd (both_ways _ is.1 fit)
+larger_begins whole kinds set s Chip Sector fit is aligned = absurd (both_ways _ is.0 fit)
+larger_begins whole kinds set s Chip Block32 fit is aligned = absurd (both_ways _ is.0 fit)
+larger_begins whole kinds set s Chip Block64 fit is aligned = absurd (both_ways _ is.0 fit)
+larger_begins whole kinds set s unit largest fit is aligned = omega (arith, eqb-true)

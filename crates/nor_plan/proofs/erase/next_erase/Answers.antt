@@ -1,28 +1,21 @@
-use Rattle.std.proofs.Common.{ℕ, ◌≡◌, ◌∷◌, ◌+◌, true, false, List, sym, ap, ◌∙◌, arith}
+use Rattle.std.proofs.Common.{◌≡◌, ◌+◌, false, sym, ap, ◌∙◌, arith}
 use Rattle.std.proofs.lemmas.Bool.{and_from, and_left, and_right}
-use Rattle.nor_driver.specs.declared.units.Erase.{Erase}
-use Rattle.nor_driver.specs.declared.units.EraseUnit.{EraseUnit}
 use Rattle.nor_plan.specs.SectorSet.{has}
 use Rattle.nor_driver.specs.Units.{is_aligned}
-use Rattle.nor_plan.specs.Planned.{begins_unit, planned_unit, planned_from}
+use Rattle.nor_plan.specs.Planned.{begins_unit}
 use Rattle.nor_plan.proofs.Planning.{planned_from-end, planned_from-skip, planned_from-take}
 use Rattle.nor_plan.proofs.erase.next_erase.Goals as goal
 use Rattle.nor_plan.proofs.erase.next_erase.Goals.{then-contains+else-begins_at, else-contains}
 
 pub returns-then-begins_at : goal.returns-then-begins_at
 returns-then-begins_at c =
-    let set = has c.args.set.now in
     let s = c.loop-sector.sector in
-    let member : set s ≡ true = sym c.contains.ensures ∙ c.if-contains.true in
-    let aligned : is_aligned (planned_unit c.args.whole c.args.kinds set s) s ≡ true =
-    ap (λ u. is_aligned u s) (sym c.unit_of-unit.ensures) ∙ sym c.begins_at.ensures ∙ c.if-begins_at.true in
-    let rest = planned_from c.args.whole c.args.kinds set in
-    let head : EraseUnit → ℕ → List Erase = λ u k. record { unit = u; sector = s } ∷ rest k in
-    let next : s + 1 ≡ c.from.result + 1 = omega (arith, c.from.ensures) in
+    let begins = and_from _ _ (sym c.contains.ensures ∙ c.if-contains.true)
+        (ap (λ u. is_aligned u s) (sym c.unit_of-unit.ensures) ∙ sym c.begins_at.ensures ∙ c.if-begins_at.true) in
+    let next : c.from.result + 1 ≡ c.loop-sector.sector + 1 = omega (arith, c.from.ensures) in
     sym c.loop-sector.invariant
-    ∙ planned_from-take c.args.whole c.args.kinds set s c.loop-sector-test.true (and_from _ _ member aligned)
-    ∙ ap (λ u. head u (s + 1)) (sym c.unit_of-unit.ensures)
-    ∙ ap (head c.unit_of-unit.result) next
+    ∙ planned_from-take c.args.whole c.args.kinds (has c.args.set.now) s c.loop-sector-test.true begins
+    ∙ rw (c.unit_of-unit.ensures, next)
 
 pub loop-sector-preserved : goal.loop-sector-preserved
 loop-sector-preserved c =

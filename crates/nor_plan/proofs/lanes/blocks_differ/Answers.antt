@@ -1,5 +1,5 @@
 use Rattle.std.proofs.Common.{◌*◌, ◌/◌, length, arith}
-use Rattle.nor_plan.proofs.Blocks.{TellsChanges-zeros, TellsChanges-next, TellsChanges-tested}
+use Rattle.nor_plan.proofs.Blocks.{TellsChanges-zeros, TellsChanges-or, TellsChanges-tested}
 use Rattle.nor_plan.proofs.lanes.blocks_differ.Goals as goal
 
 pub loop-block-init : goal.loop-block-init
@@ -7,7 +7,7 @@ loop-block-init c = TellsChanges-zeros c.args.a.now c.args.b.now 0
 
 pub loop-block-preserved : goal.loop-block-preserved
 loop-block-preserved c =
-    TellsChanges-next c.args.a.now c.args.b.now 0 256 c.loop-block.block _ c.loop-block.changes c.changes_256-changes.result (omega arith) c.loop-block.invariant c.changes_256-changes.ensures
+    TellsChanges-or c.args.a.now c.args.b.now 0 (c.loop-block.block * 256) _ 256 _ c.loop-block.changes c.changes_256-changes.result (omega arith) (omega arith) c.loop-block.invariant c.changes_256-changes.ensures
 
 pub returns : goal.returns
 returns c =

@@ -1,6 +1,5 @@
-use Rattle.std.proofs.Common.{◌≡◌, ◌*◌, ℕ, subst, arith}
-use Rattle.nor_plan.specs.Mask.{TellsChanges}
-use Rattle.nor_plan.proofs.Blocks.{TellsChanges-zeros, TellsChanges-next}
+use Rattle.std.proofs.Common.{◌≡◌, ◌*◌, arith}
+use Rattle.nor_plan.proofs.Blocks.{TellsChanges-zeros, TellsChanges-or}
 use Rattle.nor_plan.proofs.lanes.changes_256.Goals as goal
 
 pub loop-part-init : goal.loop-part-init
@@ -8,9 +7,7 @@ loop-part-init c = TellsChanges-zeros c.args.a.now c.args.b.now c.args.at
 
 pub loop-part-preserved : goal.loop-part-preserved
 loop-part-preserved c =
-    TellsChanges-next c.args.a.now c.args.b.now c.args.at 32 c.loop-part.part _ c.loop-part.changes c.changes_32-changes.result (omega arith) c.loop-part.invariant c.changes_32-changes.ensures
+    TellsChanges-or c.args.a.now c.args.b.now c.args.at (c.loop-part.part * 32) _ 32 _ c.loop-part.changes c.changes_32-changes.result (omega arith) (omega arith) c.loop-part.invariant c.changes_32-changes.ensures
 
 pub returns : goal.returns
-returns c =
-    let all : c.loop-part.part * 32 ≡ 256 = omega arith in
-    subst (λ (count : ℕ). TellsChanges c.args.a.now c.args.b.now c.args.at count c.loop-part.changes) all c.loop-part.invariant
+returns c = let all : c.loop-part.part * 32 ≡ 256 = omega arith in rw all at c.loop-part.invariant

@@ -1,5 +1,5 @@
 -- The lanes of the two slices, compared.
-use Rattle.std.proofs.Common.{not, nat_eq, get_or, ◌∙◌, ap, ◌+◌}
+use Rattle.std.proofs.Common.{not, nat_eq}
 use lib.Lanes.{chunk}
 use Rattle.std.proofs.lemmas.Simd.{length-chunk, get_or-chunk}
 use Rattle.nor_plan.proofs.Masks.{compared-IsMask}
@@ -11,7 +11,5 @@ returns c =
     let b = c.args.b.now in
     let at = c.args.at in
     compared-IsMask (λ x y. not (nat_eq x y)) (chunk at 32 a) (chunk at 32 b)
-    (length-chunk at 32 a c.requires.a_within) (length-chunk at 32 b c.requires.b_within)
-    (λ i. not (nat_eq (get_or a (at + i) 0) (get_or b (at + i) 0)))
-    (λ i lane. ap (λ x. not (nat_eq x (get_or (chunk at 32 b) i 0))) (get_or-chunk at 32 a i 0 lane)
-    ∙ ap (λ y. not (nat_eq (get_or a (at + i) 0) y)) (get_or-chunk at 32 b i 0 lane))
+    (length-chunk at 32 a c.requires.a_within) (length-chunk at 32 b c.requires.b_within) _
+    (λ i lane. rw (get_or-chunk at 32 a i 0 lane, get_or-chunk at 32 b i 0 lane))
