@@ -1,5 +1,5 @@
-use Rattle.std.proofs.Common.{◌≡◌, length}
-use Rattle.nor_layout.specs.Text.{AreRegions, lines_of}
+use Rattle.std.proofs.Common.{◌≡◌, length, map}
+use Rattle.nor_layout.specs.Text.{AreRegions}
 use Rattle.nor_layout.proofs.Texts.{Gives}
 use Rattle.nor_layout.proofs.layout.Layout.read.Given as goal
 
@@ -8,5 +8,5 @@ abbrev pub invariant-loop-line : goal.invariant-loop-line
 invariant-loop-line l = record {
   counted : l.number ≡ length l.yielded;
   kept : AreRegions l.regions.items;
-  read : Gives (lines_of l.text) l.number l.regions.items;
+  read : Gives (map (λ line. line.now) l.yielded) l.number l.regions.items;
 }
