@@ -1,11 +1,14 @@
 -- A line gives a region exactly where the grammar has it.
 use Rattle.std.proofs.Common.{◌≡◌, ◌∙◌, ℕ, ◌⊎◌, Bool, true, false, not, ◌&&◌, leb, eqb, ltb, List, [], ◌∷◌, ◌++◌}
-use Rattle.std.proofs.Common.{length, Option, Some, None, Ok, Err, IfSome, if◌then◌else◌, refl, ap, inl, inr, arith}
+use Rattle.std.proofs.Common.{length, Option, Some, None, Result, Ok, Err, IfSome, if◌then◌else◌, refl, ap, inl, inr}
+use Rattle.std.proofs.Common.{arith}
 use Rattle.std.specs.Option.{option_map}
 use Rattle.std.specs.List.{list_all}
-use Rattle.std.proofs.lemmas.Bool.{cases_Bool, eqb-true, eq-eqb, ltb-false, le-ltb, not-true, and_parts, and_from}
+use Rattle.std.proofs.lemmas.Bool.{cases_Bool, cond_both, eqb-true, eq-eqb, ltb-false, le-ltb, not-true, and_parts}
+use Rattle.std.proofs.lemmas.Bool.{and_from}
 use Rattle.std.proofs.lemmas.Bool.Decides.{nat_tests}
 use Rattle.nor_layout.specs.declared.region.Region.{Region}
+use Rattle.nor_layout.specs.declared.fault.LineFault.{LineFault}
 use Rattle.nor_layout.specs.declared.fault.LineFault.TheVariants.{Backwards, Name}
 use Rattle.nor_layout.specs.Address.{is_hex_digit, digits_of, are_digits, digits_address}
 use Rattle.nor_layout.specs.Line.{cut_at, without_spaces, with_start, parts_behind, is_name_byte, is_name, region_of}
@@ -25,20 +28,12 @@ passes false false x y first second e = absurd (cc)
 digits_of-is : (text : List ℕ) → (text ≡ digits_of text) ⊎ (text ≡ 48 ∷ 120 ∷ digits_of text)
 digits_of-is [] = inl refl
 digits_of-is (a ∷ []) = inl refl
-digits_of-is (a ∷ b ∷ text) = elim (cases_Bool (eqb a 48 && eqb b 120)) [
-  | inl prefix ↦
-      let both = and_parts (eqb a 48) (eqb b 120) prefix in
-      inr (rw (prefix, eqb-true a 48 both.0, eqb-true b 120 both.1) refl)
-  | inr plain ↦ inl (rw plain refl)
-]
+digits_of-is (a ∷ b ∷ text) = grind (arith, nat_tests)
 
 address_of-found : (text : List ℕ) → IfSome (digits_address text) (IsAddress text)
-address_of-found text = elim (cases_Bool (are_digits (digits_of text))) [
-  | inl hexadecimal ↦
-      let is = digits_of-is text in
-      rw hexadecimal (record { digits = digits_of text; text_is = is; hexadecimal = hexadecimal; address_is = refl })
-  | inr other ↦ rw other tt
-]
+address_of-found text = cond_both (are_digits (digits_of text)) _ _ (λ found. IfSome found (IsAddress text))
+    (λ is. record { digits = digits_of text; text_is = digits_of-is text; hexadecimal = is; address_is = refl })
+    (λ other. tt)
 
 -- digits have no x
 digits_of-digits : (digits : List ℕ) → list_all is_hex_digit digits ≡ true → digits_of digits ≡ digits
@@ -58,21 +53,19 @@ address_of-taken text address is =
 -- ---- cuts
 
 -- the parts of a cut with the byte between them are the text
-IsCut : ℕ → List ℕ → List ℕ × List ℕ → Type 0
+abbrev IsCut : ℕ → List ℕ → List ℕ × List ℕ → Type 0
 IsCut byte text parts = text ≡ parts.0 ++ byte ∷ parts.1
-
-cut_later : (byte b : ℕ) (text : List ℕ) (cut : Option (List ℕ × List ℕ)) (here : Bool) → eqb b byte ≡ here
-    → IfSome cut (IsCut byte text)
-    → IfSome (if here then Some ([], text) else option_map (λ (p : List ℕ × List ℕ). (b ∷ p.0, p.1)) cut)
-    (IsCut byte (b ∷ text))
-unfolding IsCut
-cut_later byte b text cut true test is = ap (λ (c : ℕ). c ∷ text) (eqb-true b byte test)
-cut_later byte b text None false test is = tt
-cut_later byte b text (Some parts) false test is = ap (λ (t : List ℕ). b ∷ t) is
 
 cut_at-is : (byte : ℕ) (text : List ℕ) → IfSome (cut_at byte text) (IsCut byte text)
 cut_at-is byte [] = tt
-cut_at-is byte (b ∷ text) = cut_later byte b text (cut_at byte text) (eqb b byte) refl (cut_at-is byte text)
+cut_at-is byte (b ∷ text) = elim (cases_Bool (eqb b byte)) [
+  | inl here ↦ rw here (ap (λ (c : ℕ). c ∷ text) (eqb-true b byte here))
+  | inr other ↦ rw other (elim (cut_at byte text) as (λ cut. IfSome cut (IsCut byte text)
+      → IfSome (option_map (λ (p : List ℕ × List ℕ). (b ∷ p.0, p.1)) cut) (IsCut byte (b ∷ text))) [
+        | None ↦ λ none. tt
+        | Some parts ↦ λ is. ap (λ (t : List ℕ). b ∷ t) is
+      ] (cut_at-is byte text))
+]
 
 -- no such byte stands in the text
 abbrev lacks : ℕ → List ℕ → Bool
@@ -138,45 +131,36 @@ line_says-taken line region is =
     let forward = le-ltb region.end region.start is.forward in
     rw (is.line_is, first, second, third, start, end, forward, is.named) refl
 
--- the same from its parts on, where the end of the start and that of the end are found
-by_addresses : (line start_text end_text behind : List ℕ) (start end : Option ℕ) (region : Region)
-    → line ≡ start_text ++ 58 ∷ (end_text ++ 32 ∷ behind) → IfSome start (IsAddress start_text)
-    → IfSome end (IsAddress end_text)
-    → region_of start end (without_spaces behind) ≡ Ok region → IsLine line region
-by_addresses line start_text end_text behind None end region line_is start_is end_is e = absurd (cc)
-by_addresses line start_text end_text behind (Some start) None region line_is start_is end_is e = absurd (cc)
-by_addresses line start_text end_text behind (Some start) (Some end) region line_is start_is end_is e =
-    let name = without_spaces behind in
-    let made : Region = record { start = start; end = end; name = record { items = name } } in
-    let is = passes (ltb end start) (is_name name) made region Backwards Name e in
-    let front = leading behind in
+-- what is cut or read is there where the line gives a region
+some_of : {A : Type 0} (P : A → Type 0) (o : Option A) (gives : Option A → Result Region LineFault) (region : Region)
+    → IfSome o P → ¬ (gives None ≡ Ok region) → gives o ≡ Ok region → (x : A) × P x × (gives (Some x) ≡ Ok region)
+some_of P None gives region is none e = absurd (none e)
+some_of P (Some x) gives region is none e = (x, is, e)
+
+pub line_says-found : (line : List ℕ) (region : Region) → line_says line ≡ Ok region → IsLine line region
+line_says-found line region e =
+    let first = some_of (IsCut 58 line) (cut_at 58 line) (λ cut. parts_say (parts_behind cut)) region
+    (cut_at-is 58 line) (λ none. cc) e in
+    let behind = first.0.1 in
+    let second = some_of (IsCut 32 behind) (cut_at 32 behind) (λ cut. parts_say (with_start first.0.0 cut)) region
+    (cut_at-is 32 behind) (λ none. cc) first.2 in
+    let name = without_spaces second.0.1 in
+    let start = some_of (IsAddress first.0.0) (digits_address first.0.0)
+    (λ start. region_of start (digits_address second.0.0) name) region (address_of-found first.0.0) (λ none. cc)
+    second.2 in
+    let end = some_of (IsAddress second.0.0) (digits_address second.0.0)
+    (λ end. region_of (Some start.0) end name) region (address_of-found second.0.0) (λ none. cc) start.2 in
+    let made : Region = record { start = start.0; end = end.0; name = record { items = name } } in
+    let is = passes (ltb end.0 start.0) (is_name name) made region Backwards Name end.2 in
+    let front = leading second.0.1 in
     rw (← is.2) (record {
-      start_text = start_text;
-      end_text = end_text;
+      start_text = first.0.0;
+      end_text = second.0.0;
       spaces = front.0;
-      line_is = rw front.1 at line_is;
-      start_is = start_is;
-      end_is = end_is;
-      forward = ltb-false end start is.0;
+      line_is = first.1 ∙ ap (λ t. first.0.0 ++ 58 ∷ t) (second.1 ∙ ap (λ t. second.0.0 ++ 32 ∷ t) front.1);
+      start_is = start.1;
+      end_is = end.1;
+      forward = ltb-false end.0 start.0 is.0;
       blank = front.2;
       named = is.1;
     })
-
-by_end : (line start rest : List ℕ) (cut : Option (List ℕ × List ℕ)) (region : Region)
-    → line ≡ start ++ 58 ∷ rest → IfSome cut (IsCut 32 rest) → parts_say (with_start start cut) ≡ Ok region
-    → IsLine line region
-unfolding IsCut
-by_end line start rest None region line_is cut_is e = absurd (cc)
-by_end line start rest (Some cut) region line_is cut_is e =
-    by_addresses line start cut.0 cut.1 (digits_address start) (digits_address cut.0) region (rw cut_is at line_is)
-    (address_of-found start) (address_of-found cut.0) e
-
-by_start : (line : List ℕ) (cut : Option (List ℕ × List ℕ)) (region : Region)
-    → IfSome cut (IsCut 58 line) → parts_say (parts_behind cut) ≡ Ok region → IsLine line region
-unfolding IsCut
-by_start line None region cut_is e = absurd (cc)
-by_start line (Some cut) region cut_is e = by_end line cut.0 cut.1 (cut_at 32 cut.1) region cut_is
-    (cut_at-is 32 cut.1) e
-
-pub line_says-found : (line : List ℕ) (region : Region) → line_says line ≡ Ok region → IsLine line region
-line_says-found line region e = by_start line (cut_at 58 line) region (cut_at-is 58 line) e
