@@ -1,9 +1,9 @@
 -- A span joins a set of spans.
-use Rattle.std.proofs.Common.{◌≡◌, ◌∙◌, ℕ, ◌+◌, ◌<◌, ◌≤◌, Bool, true, false, ◌||◌, cond, ltb, List, [], ◌∷◌, ◌++◌}
-use Rattle.std.proofs.Common.{length, get_or, drop, refl, sym, ap, append_assoc, inl, inr, arith}
-use Rattle.std.proofs.lemmas.Bool.{cases_Bool, ltb-true, ltb-false}
+use Rattle.std.proofs.Common.{◌≡◌, ℕ, ◌+◌, ◌<◌, ◌≤◌, Bool, ◌||◌, cond, ltb, List, [], ◌∷◌, ◌++◌, length, drop, refl}
+use Rattle.std.proofs.Common.{arith}
+use Rattle.std.proofs.lemmas.Bool.{cond_both, ltb-true, ltb-false}
 use Rattle.std.proofs.lemmas.Bool.Decides.{nat_tests}
-use Rattle.std.proofs.lemmas.List.{drop_more, at_drop_all}
+use Rattle.std.proofs.lemmas.List.{at_drop_all}
 use Rattle.std.proofs.Math.Bool.{or_assoc}
 use Rattle.nor_layout.specs.declared.ranges.Span.{Span}
 use Rattle.nor_layout.specs.Ranges.{is_in_span, contains, IsApartFrom, AreApart}
@@ -25,20 +25,12 @@ merged_cases : (P : List Span → Type 0) (new span : Span) (spans : List Span)
     → (new.first ≤ span.last + 1 → span.first ≤ new.last + 1 → P (merged (join new span) spans))
     → P (merged new (span ∷ spans))
 unfolding merged
-merged_cases P new span spans below above joined = elim (cases_Bool (is_below span new)) [
-  | inl is ↦ rw is (below (ltb-true _ _ is))
-  | inr not_below ↦ elim (cases_Bool (is_below new span)) [
-    | inl is ↦ rw (not_below, is) (above (ltb-true _ _ is))
-    | inr nor ↦ rw (not_below, nor) (joined (ltb-false _ _ not_below) (ltb-false _ _ nor))
-  ]
-]
+merged_cases P new span spans below above joined =
+    cond_both (is_below span new) _ _ P (λ is. below (ltb-true _ _ is))
+    (λ not_below. cond_both (is_below new span) _ _ P (λ is. above (ltb-true _ _ is))
+    (λ nor. joined (ltb-false _ _ not_below) (ltb-false _ _ nor)))
 
 -- ---- what it is
-
-or_swap : (p q r : Bool) → (p || (q || r)) ≡ (q || (p || r))
-or_swap true true r = refl
-or_swap true false r = refl
-or_swap false q r = refl
 
 -- spans that touch or overlap have the addresses of their join
 holds-join : (a b : Span) (address : ℕ) → a.first ≤ a.last → b.first ≤ b.last → a.first ≤ b.last + 1
@@ -54,7 +46,7 @@ contains-merged new (span ∷ spans) address forward apart =
     let here = is_in_span new address in
     let there = is_in_span span address in
     merged_cases (λ all. contains all address ≡ (here || contains (span ∷ spans) address)) new span spans
-    (λ below. rw (contains-merged new spans address forward apart.2) (or_swap there here (contains spans address)))
+    (λ below. grind (arith, contains-merged new spans address forward apart.2))
     (λ above. rw (contains-merged span spans address apart.0 apart.2) refl)
     (λ le ge. rw (
       contains-merged (join new span) spans address (omega (arith, forward, apart.0)) apart.2,
@@ -62,62 +54,31 @@ contains-merged new (span ∷ spans) address forward apart =
     ) (or_assoc here there (contains spans address)))
 
 -- what is apart below a span is apart below those behind it
-further : (low span : Span) (spans : List Span) → low.last + 1 < span.first → AreApart (span ∷ spans)
-    → IsApartFrom low spans
-further low span [] lt apart = tt
-further low span (second ∷ spans) lt apart = omega (arith, lt, apart.0, apart.1)
+further : (low span : Span) (spans : List Span) → low.first ≤ low.last → low.last + 1 < span.first
+    → AreApart (span ∷ spans) → AreApart (low ∷ spans)
+further low span [] forward lt apart = (forward, tt, tt)
+further low span (second ∷ spans) forward lt apart = (forward, omega (arith, lt, apart.0, apart.1), apart.2)
 
--- a span below the new one and the others stays apart from them
-apart-merged : (low new : Span) (spans : List Span) → low.last + 1 < new.first → new.first ≤ new.last
-    → IsApartFrom low spans → AreApart spans → IsApartFrom low (merged new spans)
+-- behind a span that is below the new one and apart from the others
+apart_behind : (low new : Span) (spans : List Span) → low.last + 1 < new.first → new.first ≤ new.last
+    → AreApart (low ∷ spans) → AreApart (low ∷ merged new spans)
 unfolding merged
-apart-merged low new [] lt forward apart all = lt
-apart-merged low new (span ∷ spans) lt forward apart all =
-    merged_cases (IsApartFrom low) new span spans (λ below. apart) (λ above. lt)
-    (λ le ge. apart-merged low (join new span) spans (omega (arith, lt, apart)) (omega (arith, forward, all.0))
-    (further low span spans apart all) all.2)
+apart_behind low new [] lt forward apart = (apart.0, lt, (forward, tt, tt))
+apart_behind low new (span ∷ spans) lt forward apart =
+    merged_cases (λ all. AreApart (low ∷ all)) new span spans
+    (λ below. (apart.0, apart.1, apart_behind span new spans below forward apart.2))
+    (λ above. (apart.0, lt, apart_behind new span spans above apart.2.0 (further new span spans forward above apart.2)))
+    (λ le ge. apart_behind low (join new span) spans (omega (arith, lt, apart.1)) (omega (arith, forward, apart.2.0))
+    (further low span spans apart.0 apart.1 apart.2))
 
 AreApart-merged : (new : Span) (spans : List Span) → new.first ≤ new.last → AreApart spans → AreApart (merged new spans)
 unfolding merged
 AreApart-merged new [] forward apart = (forward, tt, tt)
 AreApart-merged new (span ∷ spans) forward apart =
     merged_cases AreApart new span spans
-    (λ below. (
-      apart.0,
-      apart-merged span new spans below forward apart.1 apart.2,
-      AreApart-merged new spans forward
-          apart.2,
-    ))
-    (λ above. (
-      forward,
-      apart-merged new span spans above apart.0 (further new span spans above apart) apart.2,
-      AreApart-merged span spans apart.0 apart.2,
-    ))
+    (λ below. apart_behind span new spans below forward apart)
+    (λ above. apart_behind new span spans above apart.0 (further new span spans forward above apart))
     (λ le ge. AreApart-merged (join new span) spans (omega (arith, forward, apart.0)) apart.2)
-
--- ---- the steps of the loop that makes it
-
--- the next span goes in front of those still to come, or the new one does, or they are joined
-pub merged_next : (front : List Span) (new : Span) (spans all : List Span) (i : ℕ) (d : Span) → i < length spans
-    → front ++ merged new (drop i spans) ≡ all
-    → (is_below (get_or spans i d) new ≡ true → (front ++ get_or spans i d ∷ []) ++ merged new (drop (i + 1) spans)
-    ≡ all)
-    × (is_below (get_or spans i d) new ≡ false
-    → (is_below new (get_or spans i d) ≡ true → (front ++ new ∷ []) ++ merged (get_or spans i d) (drop (i + 1) spans)
-    ≡ all)
-    × (is_below new (get_or spans i d) ≡ false → front ++ merged (join new (get_or spans i d)) (drop (i + 1) spans)
-    ≡ all))
-unfolding merged
-merged_next front new spans all i d lt same =
-    let next : front ++ merged new (get_or spans i d ∷ drop (i + 1) spans) ≡ all
-    = ap (λ (xs : List Span). front ++ merged new xs) (sym (drop_more spans i d lt)) ∙ same in (
-      λ below. append_assoc front _ _ ∙ (rw below at next),
-      λ not_below. (
-        λ above. append_assoc front _ _ ∙ (rw (not_below, above) at next),
-        λ nor. rw
-            (not_below, nor) at next,
-      ),
-    )
 
 -- at the end it is the spans with one more
 pub merged_all : (front : List Span) (new added : Span) (spans : List Span) (i : ℕ) → length spans ≤ i
