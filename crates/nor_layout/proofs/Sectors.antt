@@ -7,8 +7,8 @@ use Rattle.std.proofs.lemmas.Bool.{cases_Bool, both_ways, leb-true, or_left, or_
 use Rattle.std.proofs.lemmas.Bool.Decides.{nat_tests}
 use Rattle.nor_layout.specs.declared.ranges.Span.{Span}
 use Rattle.nor_layout.specs.Ranges.{is_in_span, contains, AreApart}
-use Rattle.nor_layout.specs.Sectors.{includes, sectors_included, SomeInSector, NoneInSector, has_in_sector, ReachesPast}
-use Rattle.nor_count.proofs.Below.{same_tests, any_below-some, any_below-found, any_below-cases, count_below-most}
+use Rattle.nor_layout.specs.Sectors.{includes, sectors_included, has_in_sector, ReachesPast}
+use Rattle.nor_count.proofs.Below.{same_tests, any_below-some, any_below-found, count_below-most}
 
 -- where each span that passes a test has an address of a kind, and one passes, the set has one, ..
 any_span : (test : Span → Bool) (Kind : ℕ → Type 0)
@@ -24,28 +24,21 @@ any_span test Kind has (span ∷ spans) apart h = elim (or_cases (test span) (li
 some_span : (test : Span → Bool) (a : ℕ) → ((span : Span) → is_in_span span a ≡ true → test span ≡ true)
     → (spans : List Span) → contains spans a ≡ true → list_any test spans ≡ true
 some_span test a passes [] h = h
-some_span test a passes (span ∷ spans) h = elim (or_cases (is_in_span span a) (contains spans a) h) [
-  | inl here ↦ or_left _ _ (passes span here)
-  | inr later ↦ or_right (test span) _ (some_span test a passes spans later)
-]
+some_span test a passes (span ∷ spans) h = grind (arith, passes span, some_span test a passes spans)
 
 -- ---- from an address on
 
 abbrev pub ends_from : ℕ → Span → Bool
 ends_from size span = leb size span.last
 
-last : (size : ℕ) (span : Span) → span.first ≤ span.last → ends_from size span ≡ true
-    → (a : ℕ) × (size ≤ a) × (is_in_span span a ≡ true)
-last size span forward is = (span.last, leb-true size span.last is, grind (arith, nat_tests))
-
 -- one ends from the size on, or none reaches there
 pub size_cases : (spans : List Span) (size : ℕ) → AreApart spans
     → MatchBool (list_any (ends_from size) spans) (ReachesPast (Some spans) size) (¬ ReachesPast (Some spans) size)
 size_cases spans size apart = elim (cases_Bool (list_any (ends_from size) spans)) [
-  | inl some ↦ rw some (any_span (ends_from size) (λ a. size ≤ a) (last size) spans apart some)
-  | inr none ↦ rw none (λ reaches.
-      let past = reaches.1 in
-      both_ways _ none (some_span (ends_from size) reaches.0 (λ span here. grind (arith, nat_tests)) spans reaches.2))
+  | inl some ↦ rw some (any_span (ends_from size) (λ a. size ≤ a)
+      (λ span forward ends. (span.last, leb-true size span.last ends, grind (arith, nat_tests))) spans apart some)
+  | inr none ↦ rw none (λ reaches. both_ways _ none
+      (some_span (ends_from size) reaches.0 (λ span here. grind (arith, nat_tests, reaches.1)) spans reaches.2))
 ]
 
 -- ---- in a sector
@@ -53,27 +46,21 @@ size_cases spans size apart = elim (cases_Bool (list_any (ends_from size) spans)
 abbrev pub is_in_sector : ℕ → Span → Bool
 is_in_sector sector span = leb (span.first / 4096) sector && leb sector (span.last / 4096)
 
--- an address of the span in the sector: the span's first, or the sector's first
-common : (sector : ℕ) (span : Span) → span.first ≤ span.last → is_in_sector sector span ≡ true
-    → (address : ℕ) × (address / 4096 ≡ sector) × (is_in_span span address ≡ true)
-common sector span forward h = (max span.first (sector * 4096), grind (arith, nat_tests), grind (arith, nat_tests))
-
 -- the spans have an address in the sector exactly where a place of it has one
 pub in_sector-is : (spans : List Span) (sector : ℕ) → AreApart spans → list_any (is_in_sector sector) spans ≡ has_in_sector (contains spans) sector
 in_sector-is spans sector apart =
     same_tests (list_any (is_in_sector sector) spans) (has_in_sector (contains spans) sector)
     (λ yes.
-    let h = any_span (is_in_sector sector) (λ a. a / 4096 ≡ sector) (common sector) spans apart yes in
+    -- of a span in the sector: its first address, or that of the sector
+    let h = any_span (is_in_sector sector) (λ a. a / 4096 ≡ sector)
+    (λ span forward here. (max span.first (sector * 4096), grind (arith, nat_tests), grind (arith, nat_tests)))
+    spans apart yes in
     let place : 4096 * sector + h.0 % 4096 ≡ h.0 = omega (arith, h.1) in
     any_below-some 4096 (h.0 % 4096) (λ i. contains spans (4096 * sector + i)) (omega arith) (ap (contains spans) place ∙ h.2))
     (λ yes.
     let h = any_below-found 4096 (λ i. contains spans (4096 * sector + i)) yes in
     let below = h.1 in
     some_span (is_in_sector sector) (4096 * sector + h.0) (λ span here. grind (arith, nat_tests)) spans h.2)
-
--- some address of the sector belongs to a set, or none does
-pub sector_cases : (set : ℕ → Bool) (sector : ℕ) → MatchBool (has_in_sector set sector) (SomeInSector set sector) (NoneInSector set sector)
-sector_cases set sector = any_below-cases 4096 (λ i. set (4096 * sector + i))
 
 -- ---- how many sectors are included
 
