@@ -1,5 +1,5 @@
 -- The number that digits write, digit by digit.
-use Rattle.std.proofs.Common.{◌≡◌, ℕ, suc, ◌+◌, ◌-◌, ◌*◌, ◌^◌, ◌<◌, ◌≤◌, true, List, length, get_or, drop, ap, arith}
+use Rattle.std.proofs.Common.{◌≡◌, ℕ, suc, ◌+◌, ◌-◌, ◌*◌, ◌^◌, ◌<◌, ◌≤◌, true, List, length, get_or, drop, arith}
 use Rattle.std.proofs.Math.Nat.{pow-le-pow_right, pow-suc}
 use Rattle.std.proofs.lemmas.Bool.Decides.{nat_tests}
 use Rattle.std.proofs.lemmas.List.{drop_more, length-drop}
@@ -7,23 +7,15 @@ use Rattle.std.specs.Char.{digit_value}
 use Rattle.nor_layout.specs.Address.{is_hex_digit, hex_value, digits_number}
 
 -- the characters that count below 16 are the digits of either case
-pub digit_is : (byte : ℕ) → digit_value byte < 16 → is_hex_digit byte ≡ true
+pub digit_is : (byte : ℕ) → digit_value byte < 16 → (is_hex_digit byte ≡ true) × (digit_value byte ≡ hex_value byte)
 digit_is byte below = grind (arith, nat_tests)
-
-pub digit_counts : (byte : ℕ) → digit_value byte < 16 → digit_value byte ≡ hex_value byte
-digit_counts byte below = grind (arith, nat_tests)
-
-regroup : (v h p m : ℕ) → v * (p * 16) + (h * p + m) ≡ (v * 16 + h) * p + m
-regroup v h p m = omega arith
 
 -- one digit more
 pub number_of-more : (digits : List ℕ) (i value : ℕ) → i < length digits
     → value * 16 ^ (length digits - i) + digits_number (drop i digits) ≡ (value * 16 + hex_value (get_or digits i 0)) * 16 ^ (length digits - (i + 1)) + digits_number (drop (i + 1) digits)
 number_of-more digits i value lt =
     let k : length digits - i ≡ suc (length digits - (i + 1)) = omega arith in
-    let n : length (drop (i + 1) digits) ≡ length digits - (i + 1) = length-drop (i + 1) digits in
-    let rest : digits_number (drop i digits) ≡ hex_value (get_or digits i 0) * 16 ^ length (drop (i + 1) digits) + digits_number (drop (i + 1) digits) = ap digits_number (drop_more digits i 0 lt) in
-    rw (rest, k, n, pow-suc) (regroup value (hex_value (get_or digits i 0)) (16 ^ (length digits - (i + 1))) (digits_number (drop (i + 1) digits)))
+    rw (drop_more digits i 0 lt, length-drop (i + 1) digits, k, pow-suc) (omega arith)
 
 -- at most 8 digits fit 32 bits
 pub pow-fits : (i : ℕ) → i ≤ 8 → 16 ^ i ≤ 2 ^ 32
