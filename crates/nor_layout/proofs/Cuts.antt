@@ -1,5 +1,6 @@
 -- Where a text is cut.
-use Rattle.std.proofs.Common.{◌≡◌, ◌≢◌, ℕ, zero, suc, ◌+◌, ◌-◌, ◌<◌, false, eqb, List, [], ◌∷◌, length, get_or, take, drop, Some, None, refl, add-one, arith}
+use Rattle.std.proofs.Common.{◌≡◌, ◌≢◌, ℕ, zero, suc, ◌+◌, ◌-◌, ◌<◌, List, [], ◌∷◌, length, get_or, take, drop, Some}
+use Rattle.std.proofs.Common.{None, refl, add-one, arith}
 use Rattle.std.proofs.lemmas.Bool.{eq-eqb, ne_eqb}
 use Rattle.std.proofs.lemmas.List.{take_rest}
 use Rattle.nor_layout.specs.Line.{cut_at}
@@ -10,19 +11,16 @@ cut_at-here : (byte : ℕ) (text : List ℕ) (i : ℕ) → i < length text → g
 cut_at-here byte [] i lt here before = absurd (omega arith)
 cut_at-here byte (b ∷ text) zero lt here before = rw (eq-eqb b byte here) refl
 cut_at-here byte (b ∷ text) (suc i) lt here before =
-    let first : eqb b byte ≡ false = ne_eqb b byte (before 0 (omega arith)) in
-    let others : cut_at byte text ≡ Some (take i text, drop (suc i) text) = cut_at-here byte text i (omega arith) here (λ k h. before (suc k) (omega arith)) in
-    rw (first, others) refl
+    let others = cut_at-here byte text i (omega arith) here (λ k h. before (suc k) (omega arith)) in
+    rw (ne_eqb b byte (before 0 (omega arith)), others) refl
 
 pub cut_at-first : (byte : ℕ) (text : List ℕ) (i : ℕ) → IsFirst byte text i → cut_at byte text ≡ Some (take i text, take (length text - (i + 1)) (drop (i + 1) text))
 cut_at-first byte text i first =
-    let e : take (length text - (i + 1)) (drop (i + 1) text) ≡ drop (i + 1) text = take_rest text (i + 1) in
-    rw (e, add-one) (cut_at-here byte text i first.within first.here first.before)
+    rw (take_rest text (i + 1), add-one) (cut_at-here byte text i first.within first.here first.before)
 
 -- where there is no such byte
 pub cut_at-nowhere : (byte : ℕ) (text : List ℕ) → ((k : ℕ) → k < length text → get_or text k 0 ≢ byte) → cut_at byte text ≡ None
 cut_at-nowhere byte [] none = refl
 cut_at-nowhere byte (b ∷ text) none =
-    let first : eqb b byte ≡ false = ne_eqb b byte (none 0 (omega arith)) in
-    let others : cut_at byte text ≡ None = cut_at-nowhere byte text (λ k h. none (suc k) (omega arith)) in
-    rw (first, others) refl
+    let others = cut_at-nowhere byte text (λ k h. none (suc k) (omega arith)) in
+    rw (ne_eqb b byte (none 0 (omega arith)), others) refl

@@ -1,5 +1,5 @@
 -- The union of what names include, by name and by region.
-use Rattle.std.proofs.Common.{◌≡◌, ℕ, Bool, true, false, ◌&&◌, ◌||◌, List, [], ◌∷◌, refl, ap, ◌∙◌}
+use Rattle.std.proofs.Common.{◌≡◌, ℕ, Bool, false, ◌&&◌, ◌||◌, List, [], ◌∷◌, refl, ap, ◌∙◌, arith}
 use Rattle.std.specs.List.{list_any}
 use Rattle.std.specs.Str.{bytes_eq}
 use Rattle.nor_layout.specs.declared.region.Region.{Region}
@@ -11,13 +11,7 @@ none [] = refl
 none (x ∷ xs) = none xs
 
 regroup : (p q h y z : Bool) → (((p || q) && h) || (y || z)) ≡ (((p && h) || y) || ((q && h) || z))
-regroup true q true y z = refl
-regroup true true false y z = refl
-regroup true false false y z = refl
-regroup false true true true z = refl
-regroup false true true false z = refl
-regroup false true false y z = refl
-regroup false false h y z = refl
+regroup p q h y z = grind arith
 
 abbrev by_region : List (List ℕ) → ℕ → List Region → Bool
 by_region names address regions = list_any (λ region. list_any (λ listed. bytes_eq region.name.items listed) names && has_address region address) regions
@@ -26,10 +20,9 @@ by_region names address regions = list_any (λ region. list_any (λ listed. byte
 by_region-cons : (name : List ℕ) (names : List (List ℕ)) (address : ℕ) (regions : List Region) → by_region (name ∷ names) address regions ≡ (name_includes regions address name || by_region names address regions)
 by_region-cons name names address [] = refl
 by_region-cons name names address (region ∷ regions) =
-    let p = bytes_eq region.name.items name in
-    let q = list_any (λ listed. bytes_eq region.name.items listed) names in
-    let h = has_address region address in
-    rw (by_region-cons name names address regions) (regroup p q h (name_includes regions address name) (by_region names address regions))
+    rw (by_region-cons name names address regions)
+    (regroup (bytes_eq region.name.items name) (list_any (bytes_eq region.name.items) names)
+    (has_address region address) _ _)
 
 by_name : (names : List (List ℕ)) (regions : List Region) (address : ℕ) → by_region names address regions ≡ list_any (name_includes regions address) names
 by_name [] regions address = none regions

@@ -1,7 +1,8 @@
-use Rattle.std.proofs.Common.{◌≡◌, ℕ, ◌≤◌, ◌||◌, ◌∷◌, true, false, sym, ◌∙◌, inl, inr, arith}
-use Rattle.std.proofs.lemmas.Bool.{cases_lt, or_from, or_left}
+use Rattle.std.proofs.Common.{◌≡◌, ℕ, ◌≤◌, ◌||◌, ◌∷◌, true, false, leb, sym, ◌∙◌, inl, inr, arith}
+use Rattle.std.proofs.lemmas.Bool.{cases_lt, le-leb, lt-leb, lt-ltb, le-ltb, and_from, and_left, and_right, or_from}
+use Rattle.std.proofs.lemmas.Bool.{or_left}
 use Rattle.nor_layout.specs.Places.{is_in_places, is_covered, AreRisingFrom, places_left}
-use Rattle.nor_layout.proofs.Fills.{is_covered-below, covers-inside, covers-below, covers-above}
+use Rattle.nor_layout.proofs.Fills.{is_covered-below}
 use Rattle.nor_layout.proofs.merge.fill_around.Goals as goal
 
 pub loop-part-preserved : goal.loop-part-preserved
@@ -18,16 +19,19 @@ loop-part-preserved c =
       reached = rising.2;
       rising = rising.3;
       left = λ at le.
-          let past : is_in_places part at ≡ false = covers-above part at le in
+          let past : is_in_places part at ≡ false = and_right (leb part.start at) _ (le-ltb at part.end le) in
           rw past at (left at (omega (arith, le, rising.0, rising.1)));
       filled = λ at lt. elim (cases_lt at done) [
         | inl old ↦ c.copy_part.ensures.below at old ∙ kept.filled at old
         | inr new ↦ elim (cases_lt at part.start) [
           | inl between ↦
-              let none : is_covered all at ≡ false = sym (left at new) ∙ or_from _ _ (covers-below part at between) (is_covered-below part.end more at rising.3 (omega (arith, between, rising.1))) in
+              let none : is_covered all at ≡ false = sym (left at new)
+              ∙ or_from _ _ (and_left _ _ (lt-leb part.start at between))
+              (is_covered-below part.end more at rising.3 (omega (arith, between, rising.1))) in
               rw none (c.copy_part.ensures.part at new between)
           | inr inside ↦
-              let some : is_covered all at ≡ true = sym (left at new) ∙ or_left _ _ (covers-inside part at inside lt) in
+              let some : is_covered all at ≡ true = sym (left at new)
+              ∙ or_left _ _ (and_from _ _ (le-leb part.start at inside) (lt-ltb at part.end lt)) in
               rw some (c.copy_part.ensures.above at inside ∙ kept.others at new)
         ]
       ];
