@@ -1,6 +1,7 @@
 -- What was aimed at, over one transaction after another.
 use Rattle.std.proofs.Common.{◌≡◌, ◌≤◌, ◌+◌, ◌-◌, ◌^◌, ◌||◌, ◌∙◌, ◌⊎◌, ℕ, Bool, true, false, cond, List, [], ◌∷◌, ap, refl, arith, inl, inr}
 use Rattle.std.specs.Prelude.{min}
+use Rattle.std.proofs.lemmas.Bool.{cases_Bool}
 use Rattle.std.proofs.lemmas.Bool.Decides.{nat_tests}
 use Rattle.std.proofs.Math.Bool.{or-false}
 use Rattle.nor_chip.specs.Command.{begins_change}
@@ -23,16 +24,12 @@ writes_most false n w is = omega arith
 
 -- one transaction
 pub aims_sent : (out : List ℕ) (old new : BusState) → Sends out old new → AimsWithin (aims out) (writes_in out) old new
-aims_sent out old new sends = elim (begins_change out) as (λ b. begins_change out ≡ b → AimsWithin (aims out) (writes_in out) old new) [
-  | true ↦ λ changes. record {
-    aimed = λ s. elim (aims out s) as (λ b. aims out s ≡ b → (is_aimed_at new.sent s ≡ is_aimed_at old.sent s) ⊎ (aims out s ≡ true)) [
-      | true ↦ λ is. inr is
-      | false ↦ λ not. inl (sends.sent.aimed changes s ∙ ap (λ (b : Bool). is_aimed_at old.sent s || b) not ∙ or-false (is_aimed_at old.sent s))
-    ] refl;
-    writes = writes_most (begins_status_write out) (status_writes_of new.sent) (status_writes_of old.sent) (sends.sent.status_writes changes);
-  }
-  | false ↦ λ quiet. aims_none (aims out) (writes_in out) old new (sends.sent.quiet quiet)
-] refl
+aims_sent out old new sends =
+    let writes = writes_most (begins_status_write out) (status_writes_of new.sent) (status_writes_of old.sent) in
+    elim (cases_Bool (begins_change out)) [
+      | inl changes ↦ grind (arith, sends.sent.aimed changes, sends.sent.status_writes changes, or-false, writes)
+      | inr quiet ↦ aims_none (aims out) (writes_in out) old new (sends.sent.quiet quiet)
+    ]
 
 pub in_none : (s : ℕ) → is_in_aim aim_none s ≡ true → ⊥
 in_none s is = grind (arith, nat_tests)

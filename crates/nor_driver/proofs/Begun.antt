@@ -55,16 +55,9 @@ then_done out old ready asks enabling = elim (eqb_tells old.chip.busy 0) [
 ]
 
 -- what is no operation, of what an operation may ask for, is ignored
-ignored-else : (command : Command) → is_operation_or_none command ≡ true → is_operation command ≡ false
-    → command ≡ Ignored
-ignored-else Ignored is none = refl
-ignored-else _ is none = absurd cc
-
 pub operation-ignored : (chip : Chip) (out : List ℕ) → AsksForOperation out
     → is_operation (operation_of chip out) ≡ false → operation_of chip out ≡ Ignored
-operation-ignored chip out asks none =
-    ignored-else (operation_of chip out) (or_ignored is_operation_or_none (is_carried_out (record chip { latch = true })
-    (command_of chip.config out 0)) (command_of chip.config out 0) refl (asks chip.config)) none
+operation-ignored chip out asks none = grind (arith, asks chip.config)
 
 -- an operation that is done is that of an idle chip
 pub idle-takes : (chip : Chip) (out : List ℕ) → AsksForOperation out → is_operation (operation_of chip out) ≡ true
@@ -77,13 +70,13 @@ idle-takes chip out asks is = elim (eqb_tells chip.busy 0) [
 
 -- An operation has begun: its effect is there, and the chip is busy for a while, or not at all.
 pub record HasBegun (command : Command) (sent : List ℕ) (old new : BusState) : Type 0 where
-  config : new.chip.config ≡ old.chip.config
-  bytes : (a : ℕ) → new.chip.bytes a ≡ byte_after old.chip command sent a
-  kept1 : new.chip.kept1 ≡ kept1_after old.chip command
-  kept2 : new.chip.kept2 ≡ kept2_after old.chip command
-  running : new.chip.running ≡ running_after old.chip command
-  latch : new.chip.latch ≡ not (new.chip.busy == 0)
-  worn : Wore command old new
+  pub config : new.chip.config ≡ old.chip.config
+  pub bytes : (a : ℕ) → new.chip.bytes a ≡ byte_after old.chip command sent a
+  pub kept1 : new.chip.kept1 ≡ kept1_after old.chip command
+  pub kept2 : new.chip.kept2 ≡ kept2_after old.chip command
+  pub running : new.chip.running ≡ running_after old.chip command
+  pub latch : new.chip.latch ≡ not (new.chip.busy == 0)
+  pub worn : Wore command old new
 
 pub operation-begins : (command : Command) (sent answer : List ℕ) (old ready new : BusState)
     → is_operation command ≡ true → Unchanged old ready → Does command sent ready.chip answer new.chip
@@ -125,20 +118,10 @@ may-before command sent old new idle stays = grind (arith, stays.calm (inr idle)
 -- and where it had
 pub may-after : (command : Command) (sent : List ℕ) (old begun new : BusState) → is_operation command ≡ true
     → begun.steady ≡ old.steady → HasBegun command sent old begun → Stays begun new → MayOperate command sent old new
-may-after command sent old begun new is steady has stays = record {
-  config = stays.config ∙ has.config;
-  bytes = λ a. elim (is_in_work (running_after old.chip command) a) as (λ b.
-      is_in_work (running_after old.chip command) a ≡ b → (new.chip.bytes a ≡ old.chip.bytes a)
-      ⊎ ((b ≡ true) × (old.steady ≡ true → new.chip.bytes a ≡ byte_after old.chip command sent a))) [
-        | true ↦ λ inside. inr (refl, λ on. (stays.calm (inl (steady ∙ on))).bytes a ∙ has.bytes a)
-        | false ↦ λ outside. inl (stays.bytes a (rw has.running outside)
-            ∙ has.bytes a ∙ outside-work old.chip command sent a outside is)
-      ] refl;
-  kept = kept-cut command old.chip begun.chip new.chip is has.kept1 has.kept2
-      (subst (λ (running : Running). KeptCut running begun.chip new.chip) has.running stays.kept);
-  runs = λ busy. stays.running busy ∙ has.running;
-  worn = λ s free. stays.worn s ∙ has.worn s ∙ rw free (or-false (old.worn s));
-}
+may-after command sent old begun new is steady has stays =
+    let outside = outside-work old.chip command sent in
+    let kept = kept-cut command old.chip begun.chip new.chip is has.kept1 has.kept2 in
+    grind (arith, stays.calm, has.bytes, stays.bytes, outside, stays.worn, has.worn, or-false, kept)
 
 -- the latch once the chip is idle again
 latch-ends : (idle latch : Bool) → latch ≡ not idle → cond idle latch false ≡ false

@@ -85,12 +85,9 @@ module _ (out : List ℕ) (asks : AsksForOperation out) (old : BusState) where
 
       pub leaves-at_wait : (new : BusState) → Looks 65536 begun new → LeavesOperation out old new
       leaves-at_wait new looks = record {
-        stirs = record {
-          nature = nature_then old begun new looks.nature stirs.nature;
-          stirred = ap is_stirred looks.sent ∙ stirs.stirred;
-          aims = aims_then (aims out) (writes_in out) 0 (writes_in out) old begun new (omega arith) stirs.aims
-              (aims_none (aims out) 0 begun new looks.sent);
-        };
+        stirs =
+            let nature = nature_then old begun new looks.nature stirs.nature in
+            grind (arith, nature, stirs.aims.aimed);
         falls = λ honest. omega (
           arith,
           (looks.looked (stirs.nature.honest ∙ honest)).falls,

@@ -1,5 +1,5 @@
 -- What the program of a part of a page does, from what an operation does.
-use Rattle.std.proofs.Common.{◌≡◌, ◌<◌, ◌≤◌, ◌+◌, ◌*◌, ◌%◌, ℕ, cond, List, [], ◌∷◌, length, refl, arith}
+use Rattle.std.proofs.Common.{◌≡◌, ◌<◌, ◌≤◌, ◌+◌, ◌*◌, ◌%◌, ℕ, cond, List, [], ◌∷◌, length, drop, refl, arith}
 use Rattle.std.proofs.Math.Nat.{mod-eq_of_lt}
 use Rattle.std.proofs.Math.Bool.{or-false, and-true}
 use Rattle.nor_chip.specs.declared.config.Config.{Config}
@@ -10,7 +10,7 @@ use Rattle.nor_chip.specs.Step.{is_idle}
 use Rattle.nor_chip.specs.Sent.{aims}
 use Rattle.nor_chip.specs.Bus.{BusState}
 use Rattle.nor_chip.proofs.Page.{byte_after-program}
-use Rattle.nor_driver.specs.Operations.{operation_of, IsCommandAt, MayOperate, HasOperated, LeavesOperation, Operates}
+use Rattle.nor_driver.specs.Operations.{operation_of, writes_in, IsCommandAt, MayOperate, HasOperated, LeavesOperation, Operates}
 use Rattle.nor_driver.specs.Programs.{takes_program, is_sector_of, MayProgram, HasProgrammed, LeavesProgram, Programs}
 use Rattle.nor_driver.proofs.Aims.{stirs_more}
 use Rattle.nor_driver.proofs.Taken.{may_taken, has_taken, may_refused, has_refused}
@@ -21,11 +21,12 @@ pub same_address : (config : Config) (x y z at : ℕ) → 65536 * x + 256 * y + 
 same_address config x y z at names below = rw names (mod-eq_of_lt below)
 
 -- 02h at a place programs there, where the chip takes it
-program_command : (chip : Chip) (x y z at byte : ℕ) (rest : List ℕ) → 65536 * x + 256 * y + z ≡ at
-    → at < chip.config.size → operation_of chip (0x02 ∷ x ∷ y ∷ z ∷ byte ∷ rest) ≡ cond (takes_program chip at) (Program at) Ignored
-program_command chip x y z at byte [] names below =
+program_command : (chip : Chip) (x y z at : ℕ) (sent : List ℕ) → 65536 * x + 256 * y + z ≡ at → at < chip.config.size
+    → 0 < length sent → operation_of chip (0x02 ∷ x ∷ y ∷ z ∷ sent) ≡ cond (takes_program chip at) (Program at) Ignored
+program_command chip x y z at [] names below some = absurd (omega arith)
+program_command chip x y z at (byte ∷ []) names below some =
     rw (same_address chip.config x y z at names below, and-true (is_idle chip)) refl
-program_command chip x y z at byte (next ∷ rest) names below =
+program_command chip x y z at (byte ∷ next ∷ rest) names below some =
     rw (same_address chip.config x y z at names below, and-true (is_idle chip)) refl
 
 module _ (at : ℕ) (sent : List ℕ) (fits : at % 256 + length sent ≤ 256) (old new : BusState) where
@@ -40,36 +41,31 @@ module _ (at : ℕ) (sent : List ℕ) (fits : at % 256 + length sent ≤ 256) (o
       grind (arith, byte, or-false)
 
 -- the command as a whole
-pub leaves_program : (at : ℕ) (sent command : List ℕ) → IsCommandAt 0x02 at sent command → 0 < length sent
-    → at % 256 + length sent ≤ 256 → (old new : BusState) → LeavesOperation command old new
-    → LeavesProgram at sent old new
-leaves_program at [] command sends some fits old new left = absurd (omega arith)
-leaves_program at (byte ∷ rest) command (x, y, z, names, is) some fits old new left =
-    let out = 0x02 ∷ x ∷ y ∷ z ∷ byte ∷ rest in
-    let leaves : LeavesOperation out old new = rw is at left in
-    let asked = program_command old.chip x y z at byte rest names in
-    record {
-      stirs = stirs_more (aims out) (is_sector_of at) 0 0 old new (λ s aimed. rw names at aimed) (omega arith)
-          leaves.stirs;
-      falls = leaves.falls;
-      reached = λ honest can. may_program at (byte ∷ rest) fits old new
-          (may_taken out _ (takes_program old.chip at) old new (asked (omega (arith, can.inside))) honest
-          leaves refl (rw (can.idle, can.free) refl));
-      ignored = λ honest below takes. may_refused out _ _ old new (asked below) honest leaves takes;
-    }
+module _ (at : ℕ) (sent command : List ℕ) (sends : IsCommandAt 0x02 at sent command) (some : 0 < length sent)
+    (fits : at % 256 + length sent ≤ 256) (old new : BusState) where
+  asked : at < old.chip.config.size
+      → operation_of old.chip command ≡ cond (takes_program old.chip at) (Program at) Ignored
+  asked below = rw sends.4 (program_command old.chip sends.0 sends.1 sends.2 at sent sends.3 below some)
 
-pub does_program : (at : ℕ) (sent command : List ℕ) → IsCommandAt 0x02 at sent command → 0 < length sent
-    → at % 256 + length sent ≤ 256 → (old new : BusState) (count : ℕ) → Operates command old new count
-    → Programs at sent old new count
-does_program at [] command sends some fits old new count did = absurd (omega arith)
-does_program at (byte ∷ rest) command (x, y, z, names, is) some fits old new count did =
-    let out = 0x02 ∷ x ∷ y ∷ z ∷ byte ∷ rest in
-    let does : Operates out old new count = rw is at did in
-    let asked = program_command old.chip x y z at byte rest names in
-    record {
-      ends = does.ends;
-      done = λ honest can. has_programmed at (byte ∷ rest) fits old new
-          (has_taken out _ (takes_program old.chip at) old new (asked (omega (arith, can.inside))) honest
-          does refl (rw (can.idle, can.free) refl));
-      ignored = λ honest below takes. has_refused out _ _ old new (asked below) honest does takes;
-    }
+  bare : drop 4 command ≡ sent
+  bare = rw sends.4 refl
+
+  pub leaves_program : LeavesOperation command old new → LeavesProgram at sent old new
+  leaves_program leaves = record {
+    stirs = stirs_more (aims command) (is_sector_of at) (writes_in command) 0 old new
+        (rw (sends.4, sends.3) (λ s aimed. aimed)) (rw sends.4 (omega arith)) leaves.stirs;
+    falls = leaves.falls;
+    reached = λ honest can. may_program at sent fits old new (rw bare at (may_taken command _
+        (takes_program old.chip at) old new (asked (omega (arith, can.inside))) honest leaves refl
+        (rw (can.idle, can.free) refl)));
+    ignored = λ honest below takes. may_refused command _ _ old new (asked below) honest leaves takes;
+  }
+
+  pub does_program : (count : ℕ) → Operates command old new count → Programs at sent old new count
+  does_program count does = record {
+    ends = does.ends;
+    done = λ honest can. has_programmed at sent fits old new (rw bare at (has_taken command _
+        (takes_program old.chip at) old new (asked (omega (arith, can.inside))) honest does refl
+        (rw (can.idle, can.free) refl)));
+    ignored = λ honest below takes. has_refused command _ _ old new (asked below) honest does takes;
+  }

@@ -69,12 +69,7 @@ pub looked_by : (old new : BusState) (most : ℕ) → Rested old new → old.lef
 looked_by old new most rested count = search (arith, unchanged_stays old new rested.unchanged)
 
 looked_at_stop : (old new : BusState) (most : ℕ) → Stops old new → LooksHonest most old new
-looked_at_stop old new most stops = record {
-  stays = stays_at_stop old new stops;
-  latch = λ set. elim stops.chip [ inl same ↦ cc | inr cut ↦ cc ];
-  idle_latch = λ steady _. elim stops.chip [ inl same ↦ cc | inr cut ↦ cc ];
-  falls = omega arith;
-}
+looked_at_stop old new most stops = grind (arith, stays_at_stop old new stops)
 
 -- calls that look, one after another
 pub looked_then : (m n : ℕ) (old mid new : BusState) → mid.steady ≡ old.steady → LooksHonest m old mid

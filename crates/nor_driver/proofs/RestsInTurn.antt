@@ -31,8 +31,7 @@ looks_after reads more most old mid new few has looks =
 
 -- the next one stopped
 pub runs_out : (reads most : ℕ) (old mid new : BusState) → reads < most → HasLooked reads old mid → RanOutIfHonest 1 mid new → RanOutIfHonest most old new
-runs_out reads most old mid new few has out honest =
-    let sent = has.sent honest in let none = out (has.nature.honest ∙ honest) in omega arith
+runs_out reads most old mid new few has out = grind (arith, has.sent, has.nature.honest, out)
 
 -- the next one succeeded too
 pub has_looked-more : (reads : ℕ) (old mid new : BusState) → HasLooked reads old mid → Looks 1 mid new → (mid.honest ≡ true → HasRead mid new) → StaysReady mid new → HasLooked (reads + 1) old new
