@@ -45,38 +45,20 @@ pub record Stands (bytes : ℕ → ℕ) (worn : ℕ → Bool) (code : ℕ) (old 
 pub stands_changed : {t e worn : ℕ → Bool} {w bytes : ℕ → ℕ} {code : ℕ} {old mid new : BusState}
     → Stands bytes worn code old mid → HasChanged t w e mid new
     → Stands (λ a. if t (a / 4096) then w a else bytes a) (λ s. worn s || e s) code old new
-stands_changed {t} {e} {w = w} {old = old} {mid = mid} {new = new} is has = record {
-  config = has.config ∙ is.config;
-  byte = λ a. has.bytes a ∙ ap (λ (n : ℕ). if t (a / 4096) then w a else n) (is.byte a);
-  fixed = fixed_then old.chip mid.chip new.chip is.fixed (kept_fixed mid.chip new.chip has.kept);
-  has_code = record { low = rw has.kept.0 is.has_code.low; high = rw has.kept.1 is.has_code.high };
-  wear = λ s. has.worn s ∙ ap (λ (b : Bool). b || e s) (is.wear s);
-  idle = has.idle;
-  latch = λ set. is.latch (has.latch set);
-}
+stands_changed {old = old} {mid = mid} {new = new} is has =
+    let fixed = fixed_then old.chip mid.chip new.chip is.fixed (kept_fixed mid.chip new.chip has.kept) in
+    grind (arith, is.byte, has.bytes, is.wear, has.worn, fixed)
 
 and_byte : (w : ℕ) → w < 256 → bit_and w 255 ≡ w
 and_byte w small = omega (arith, and_mask w 8)
 
-made_byte : (t r : Bool) (w x : ℕ) → (r ≡ true → t ≡ true)
-    → ◌≡◌ {A = ℕ} (if t then w else if r then 255 else x) (if t then w else x)
-made_byte t r w x inside = grind arith
-
 code_at_end : (changes : Changes) (chip : Chip) (writes : Bool) → writes_code changes ≡ writes
     → HasCode (if writes then changes.code else code_once changes) chip → HasCode changes.code chip
-code_at_end changes chip true is has = has
-code_at_end changes chip false is has =
-    let same : code_once changes ≡ changes.code = not_other _ _ is in rw (← same) has
-  where
-    not_other : (n m : ℕ) → not (n == m) ≡ false → n ≡ m
-    not_other n m is = grind (arith, nat_tests)
+code_at_end changes chip writes is has = grind (arith, nat_tests)
 
 has_read : {changes : Changes} {wanted : ℕ → ℕ} {chip : Chip} → CanApply changes wanted chip
     → HasCode (code_read changes) chip
-has_read {changes} {chip = chip} can =
-    let one : changes.status.one.0 / 4 ≡ chip.kept1 = can.kept.one in
-    let two : changes.status.two.0 % 128 ≡ chip.kept2 = can.kept.two in
-    record { low = omega arith; high = omega arith }
+has_read can = grind (arith, can.kept.one, can.kept.two)
 
 module _ {changes : Changes} {wanted : ℕ → ℕ} {old : BusState} (can : CanApply changes wanted old.chip) where
   pub stands_first : Stands old.chip.bytes old.worn (code_read changes) old old
@@ -90,15 +72,8 @@ module _ {changes : Changes} {wanted : ℕ → ℕ} {old : BusState} (can : CanA
     -- a chip that can be written, of these fixed bits, takes a status write
     can_write : needed ≡ true → CanWriteStatus changes.status mid.chip
     can_write writes =
-        let one : changes.status.one.0 / 4 ≡ old.chip.kept1 = can.kept.one in
-        let two : changes.status.two.0 % 128 ≡ old.chip.kept2 = can.kept.two in
-        let open_to : not (is_locked old.chip) ≡ true =
-        (and_parts old.chip.config.scheme (not (is_locked old.chip)) (writable writes)).1 in
-        record {
-          idle = is.idle;
-          open_to = locked_same old.chip mid.chip is.fixed ∙ grind (arith, open_to);
-          fixed = record { one = omega (arith, one, is.fixed.one); two = omega (arith, two, is.fixed.two) };
-        }
+        let lock = locked_same old.chip mid.chip is.fixed in
+        grind (arith, lock, writable writes, can.kept.one, can.kept.two)
 
     pub code_change : MayChange (touched_in changes) (raised_in changes) wanted mid new
     code_change = elim (cases_Bool needed) [
@@ -115,15 +90,8 @@ module _ {changes : Changes} {wanted : ℕ → ℕ} {old : BusState} (can : CanA
       | inr spared ↦ rw (leaves.still spared, spared) is
       | inl writes ↦
           let has = does.done writes honest (can_write writes) in
-          rw writes (record {
-            config = has.config ∙ is.config;
-            byte = λ a. has.bytes a ∙ is.byte a;
-            fixed = fixed_then old.chip mid.chip new.chip is.fixed has.fixed;
-            has_code = has.written;
-            wear = λ s. has.worn s ∙ is.wear s;
-            idle = does.idle writes honest;
-            latch = λ set. absurd (true≢false (sym set ∙ has.latch));
-          })
+          let fixed = fixed_then old.chip mid.chip new.chip is.fixed has.fixed in
+          rw writes (grind (arith, has.bytes, is.byte, has.worn, is.wear, fixed, does.idle))
     ]
 
   -- ---- what erases and programs need
@@ -131,16 +99,9 @@ module _ {changes : Changes} {wanted : ℕ → ℕ} {old : BusState} (can : CanA
   module _ {bytes : ℕ → ℕ} {worn : ℕ → Bool} {mid : BusState} (is : Stands bytes worn (code_once changes) old mid) where
     -- once protection is lifted where that is asked, no touched place is guarded
     free : (a : ℕ) → touched_in changes (a / 4096) ≡ true → is_guarded mid.chip a ≡ false
-    free a touched = elim (cases_Bool changes.unlock) [
-      | inl lifts ↦
-          let none = rw lifts at is.has_code in
-          is_guarded-zero mid.chip a (omega (arith, none))
-      | inr shut ↦
-          let now : HasCode (code_read changes) mid.chip = rw shut at is.has_code in
-          let before = has_read can in
-          is_guarded-same old.chip mid.chip is.config (omega (arith, now.low, before.low, is.fixed.one))
-          (omega (arith, now.high, before.high, is.fixed.two)) a ∙ can.free shut a touched
-    ]
+    free a touched =
+        let before = has_read can in
+        grind (arith, is_guarded-zero mid.chip a, is_guarded-same old.chip mid.chip is.config, can.free)
 
     can_touched : CanChange (touched_in changes) mid.chip
     can_touched = record { idle = is.idle; inside = λ s touched. rw is.config (can.inside s touched); free = free }
@@ -154,14 +115,7 @@ module _ {changes : Changes} {wanted : ℕ → ℕ} {old : BusState} (can : CanA
   pub can_program_all : {worn : ℕ → Bool} {mid : BusState}
       → Stands (once_erased (raised_in changes) old.chip.bytes) worn (code_once changes) old mid
       → CanProgramAll (touched_in changes) (raised_in changes) wanted mid.chip
-  can_program_all is = record {
-    can = can_touched is;
-    blank = λ a touched raised. is.byte a ∙ rw raised refl;
-    falls = λ a touched. rw (is.byte a) (elim (cases_Bool (raised_in changes (a / 4096))) [
-      | inl raised ↦ rw raised (and_byte (wanted a) (can.bytes a touched))
-      | inr spared ↦ rw spared (can.falls a touched spared)
-    ]);
-  }
+  can_program_all is = let touched = can_touched is in grind (arith, is.byte, and_byte, can.bytes, can.falls)
 
   -- ---- the end
 
@@ -170,12 +124,6 @@ module _ {changes : Changes} {wanted : ℕ → ℕ} {old : BusState} (can : CanA
       (λ a. if touched_in changes (a / 4096) then wanted a else once_erased (raised_in changes) old.chip.bytes a)
       (λ s. (old.worn s || raised_in changes s) || none s) (if writes then changes.code else code_once changes) old new
       → HasApplied changes wanted old new
-  applied {writes} {new} same is = record {
-    config = is.config;
-    bytes = λ a. is.byte a ∙ made_byte _ _ (wanted a) (old.chip.bytes a) (can.raised (a / 4096));
-    fixed = is.fixed;
-    has_code = code_at_end changes new.chip writes same is.has_code;
-    worn = λ s. is.wear s ∙ or-false (old.worn s || raised_in changes s);
-    idle = is.idle;
-    latch = is.latch;
-  }
+  applied {writes} {new} same is =
+      let code = code_at_end changes new.chip writes same is.has_code in
+      grind (arith, is.byte, can.raised, is.wear, or-false, code)

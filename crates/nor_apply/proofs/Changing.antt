@@ -54,13 +54,7 @@ within_wider p q first state wider within = record {
 pub idle_within : {p : ℕ → Bool} {first : Chip} {state : BusState} → state.chip.config ≡ first.config
     → ((a : ℕ) → p a ≡ false → state.chip.bytes a ≡ first.bytes a) → KeptStay first state.chip → state.chip.busy ≡ 0
     → IsWithin p first state
-idle_within {first} {state} config bytes kept idle = record {
-  config = config;
-  bytes = bytes;
-  fixed = kept_fixed first state.chip kept;
-  kept = λ shut. kept;
-  runs = λ loses works. absurd (works idle);
-}
+idle_within {first} {state} config bytes kept idle = grind (arith, kept_fixed first state.chip kept)
 
 pub same_within : (p : ℕ → Bool) (first : Chip) (state : BusState) → IsSame first state.chip → state.chip.busy ≡ 0
     → IsWithin p first state
@@ -71,11 +65,8 @@ same_within p first state same idle = idle_within same.config (λ a out. same.by
 -- a part of the sectors can be changed where all of them can, as long as all but bytes stays
 pub can_after : {t t' : ℕ → Bool} {old : Chip} (new : Chip) → ((s : ℕ) → t' s ≡ true → t s ≡ true) → CanChange t old
     → new.config ≡ old.config → KeptStay old new → new.busy ≡ 0 → CanChange t' new
-can_after {old} new within can config kept idle = record {
-  idle = idle;
-  inside = λ s is. rw config (can.inside s (within s is));
-  free = λ a is. is_guarded-same old new config kept.0 kept.1 a ∙ can.free a (within (a / 4096) is);
-}
+can_after {old} new within can config kept idle =
+    grind (arith, within, can.inside, can.free, is_guarded-same old new config kept.0 kept.1)
 
 -- ---- every exit
 
@@ -85,47 +76,20 @@ pub same_change : {t r : ℕ → Bool} {w : ℕ → ℕ} {old new : BusState} �
 same_change {t} {old} {new} same idle worn =
     search (same_within (places_of t) old.chip new same idle, same.bytes, inl)
 
--- what has ended may stand at an exit too
-either_byte : (b : Bool) {x old wanted : ℕ} → x ≡ (if b then wanted else old) → (x ≡ old) ⊎ (x ≡ wanted)
-either_byte b is = grind arith
-
-pub has_may : {t e : ℕ → Bool} {w : ℕ → ℕ} {old new : BusState} → HasChanged t w e old new → MayChange t e w old new
-has_may {t} {w} {old} {new} has = record {
-  within =
-      let outside = λ (a : ℕ) (out : t (a / 4096) ≡ false).
-      has.bytes a ∙ ap (λ (b : Bool). if b then w a else old.chip.bytes a) out in
-      idle_within has.config outside has.kept has.idle;
-  gentle = λ steady a plain. either_byte (t (a / 4096)) (has.bytes a);
-  worn = λ s spared. has.worn s ∙ rw spared (or-false (old.worn s));
-}
-
-pub gentle_then : {x y z w : ℕ} → (y ≡ x) ⊎ (y ≡ w) → (z ≡ y) ⊎ (z ≡ w) → (z ≡ x) ⊎ (z ≡ w)
-gentle_then before after = grind arith
-
 -- one part after another
 pub change_then : {t r : ℕ → Bool} {w : ℕ → ℕ} {old mid new : BusState} → mid.steady ≡ old.steady
     → MayChange t r w old mid → MayChange t r w mid new → MayChange t r w old new
-change_then {t} {old} {mid} {new} steadily before after = record {
-  within = within_then (places_of t) old.chip mid new before.within after.within;
-  gentle = λ steady a plain. gentle_then (before.gentle steady a plain) (after.gentle (steadily ∙ steady) a plain);
-  worn = λ s spared. after.worn s spared ∙ before.worn s spared;
-}
+change_then {t} {old} {mid} {new} steadily before after =
+    let within = within_then (places_of t) old.chip mid new before.within after.within in
+    grind (arith, within, before.gentle, after.gentle, before.worn, after.worn)
 
 -- a part of the sectors may change where all of them may, to bytes that are the same where they can be told
 pub change_as : {t r t' r' : ℕ → Bool} {w w' : ℕ → ℕ} {old new : BusState} → ((s : ℕ) → t s ≡ true → t' s ≡ true)
     → ((s : ℕ) → r s ≡ true → r' s ≡ true) → ((a : ℕ) → r' (a / 4096) ≡ false → t (a / 4096) ≡ true → w a ≡ w' a)
     → MayChange t r w old new → MayChange t' r' w' old new
-change_as {t} {t' = t'} {old} {new} more raised wanted change = record {
-  within = within_wider (places_of t) (places_of t') old.chip new (λ a. more (a / 4096)) change.within;
-  gentle = λ steady a plain. elim (cases_Bool (t (a / 4096))) [
-    | inr out ↦ inl (change.within.bytes a out)
-    | inl is ↦ elim (change.gentle steady a (narrower (raised (a / 4096)) plain)) [
-      | inl same ↦ inl same
-      | inr made ↦ inr (made ∙ wanted a plain is)
-    ]
-  ];
-  worn = λ s spared. change.worn s (narrower (raised s) spared);
-}
+change_as {t} {t' = t'} {old} {new} more raised wanted change =
+    let within = within_wider (places_of t) (places_of t') old.chip new (λ a. more (a / 4096)) change.within in
+    grind (arith, within, raised, wanted, change.gentle, change.within.bytes, change.worn)
 
 -- an operation that works on some places of the sectors
 pub operation_change : {t r : ℕ → Bool} {w : ℕ → ℕ} {old new : BusState} (places : ℕ → Bool) (v : ℕ → ℕ)
@@ -134,79 +98,62 @@ pub operation_change : {t r : ℕ → Bool} {w : ℕ → ℕ} {old new : BusStat
     → ((a : ℕ) → r (a / 4096) ≡ false → places a ≡ true → (v a ≡ old.chip.bytes a) ⊎ (v a ≡ w a))
     → KeptStay old.chip new.chip → (new.chip.busy ≢ 0 → WorksIn (places_of t) old.chip new.chip.running)
     → ((s : ℕ) → r s ≡ false → new.worn s ≡ old.worn s) → MayChange t r w old new
-operation_change {old} {new} places v config bytes inside gentle kept runs worn = record {
-  within = record {
-    config = config;
-    bytes = λ a out. elim (bytes a) [ inl same ↦ same | inr work ↦ absurd (true≢false (sym (inside a work.0) ∙ out)) ];
-    fixed = kept_fixed old.chip new.chip kept;
-    kept = λ shut. kept;
-    runs = λ loses works. runs works;
-  };
-  gentle = λ steady a plain. elim (bytes a) [
-    | inl same ↦ inl same
-    | inr work ↦ elim (gentle a plain work.0) [
-      | inl same ↦ inl (work.1 steady ∙ same)
-      | inr made ↦ inr (work.1 steady ∙ made)
-    ]
-  ];
-  worn = worn;
-}
+operation_change {old} {new} places v config bytes inside gentle kept runs worn =
+    grind (arith, bytes, inside, gentle, runs, worn, kept_fixed old.chip new.chip kept)
 
 -- a status write of a chip whose status may be written
 pub status_change : {t r : ℕ → Bool} {w : ℕ → ℕ} {code : ℕ} {old new : BusState} → is_writable old.chip ≡ true
     → MayWriteStatus code old new → MayChange t r w old new
-status_change writable wrote = record {
-  within = record {
-    config = wrote.config;
-    bytes = λ a out. wrote.bytes a;
-    fixed = wrote.fixed;
-    kept = λ shut. absurd (true≢false (sym writable ∙ shut));
-    runs = λ loses works. rw (wrote.runs works) (record {
-      known = refl;
-      inside = λ a in_work. absurd (true≢false (sym in_work));
-      status = λ one two runs. (writable, cc, cc);
-    });
-  };
-  gentle = λ steady a plain. inl (wrote.bytes a);
-  worn = λ s spared. wrote.worn s;
-}
+status_change writable wrote = grind (arith, wrote.bytes, wrote.runs, wrote.worn)
 
 -- ---- the end
 
-pub changed_none : {t e : ℕ → Bool} {w : ℕ → ℕ} (state : BusState) → ((s : ℕ) → t s ≡ false) → ((s : ℕ) → e s ≡ false)
-    → state.chip.busy ≡ 0 → HasChanged t w e state state
-changed_none {w} state none spared idle = record {
-  config = refl;
-  bytes = λ a. sym (ap (λ (b : Bool). if b then w a else state.chip.bytes a) (none (a / 4096)));
-  kept = (refl, refl);
-  worn = λ s. rw (spared s) (sym (or-false (state.worn s)));
-  idle = idle;
-  latch = λ set. set;
-}
+-- Some places have the wanted bytes, and some sectors were erased; all else is as it was, the chip is idle, and its
+-- latch is set only where it was.
+pub record HasMade (places : ℕ → Bool) (wanted : ℕ → ℕ) (erased : ℕ → Bool) (old new : BusState) : Type 0 where
+  pub config : new.chip.config ≡ old.chip.config
+  pub bytes : (a : ℕ) → new.chip.bytes a ≡ (if places a then wanted a else old.chip.bytes a)
+  pub kept : KeptStay old.chip new.chip
+  pub worn : (s : ℕ) → new.worn s ≡ (old.worn s || erased s)
+  pub idle : new.chip.busy ≡ 0
+  pub latch : new.chip.latch ≡ true → old.chip.latch ≡ true
+
+-- the places of whole sectors
+pub made_of : {t e : ℕ → Bool} {w : ℕ → ℕ} {old new : BusState} → HasChanged t w e old new
+    → HasMade (places_of t) w e old new
+made_of has = assumption
+
+pub changed_of : {t e : ℕ → Bool} {w : ℕ → ℕ} {old new : BusState} → HasMade (places_of t) w e old new
+    → HasChanged t w e old new
+changed_of has = assumption
+
+-- what has ended may stand at an exit too
+pub either_byte : (b : Bool) {x old wanted : ℕ} → x ≡ (if b then wanted else old) → (x ≡ old) ⊎ (x ≡ wanted)
+either_byte b is = grind arith
+
+pub made_may : {p t r e : ℕ → Bool} {w : ℕ → ℕ} {old new : BusState} → ((a : ℕ) → p a ≡ true → t (a / 4096) ≡ true)
+    → ((s : ℕ) → e s ≡ true → r s ≡ true) → HasMade p w e old new → MayChange t r w old new
+made_may {old} {new} inside raised has =
+    grind (arith, inside, raised, has.bytes, has.worn, or-false, kept_fixed old.chip new.chip has.kept)
+
+pub changed_may : {t e : ℕ → Bool} {w : ℕ → ℕ} {old new : BusState} → HasChanged t w e old new → MayChange t e w old new
+changed_may has = made_may (λ a is. is) (λ s is. is) (made_of has)
+
+pub made_none : {p e : ℕ → Bool} {w : ℕ → ℕ} (state : BusState) → ((a : ℕ) → p a ≡ false) → ((s : ℕ) → e s ≡ false)
+    → state.chip.busy ≡ 0 → HasMade p w e state state
+made_none state none spared idle = grind (arith, none, spared, or-false)
 
 -- tests that agree
-pub changed_same : {t t' e e' : ℕ → Bool} {w : ℕ → ℕ} {old new : BusState} → ((s : ℕ) → t s ≡ t' s)
-    → ((s : ℕ) → e s ≡ e' s) → HasChanged t w e old new → HasChanged t' w e' old new
-changed_same {w} {old} same spared has =
-    let bytes = λ (a : ℕ). has.bytes a ∙ ap (λ (b : Bool). if b then w a else old.chip.bytes a) (same (a / 4096)) in
+pub made_same : {p p' e e' : ℕ → Bool} {w : ℕ → ℕ} {old new : BusState} → ((a : ℕ) → p a ≡ p' a)
+    → ((s : ℕ) → e s ≡ e' s) → HasMade p w e old new → HasMade p' w e' old new
+made_same {w = w} {old = old} same spared has =
+    let bytes = λ (a : ℕ). has.bytes a ∙ ap (λ (b : Bool). if b then w a else old.chip.bytes a) (same a) in
     let worn = λ (s : ℕ). has.worn s ∙ ap (λ (b : Bool). old.worn s || b) (spared s) in
     assumption
 
 -- one part after another, where the later one's bytes are the wanted ones
-both_bytes : (b c : Bool) {d : Bool} (x v w : ℕ) {y z : ℕ} → d ≡ (b || c) → y ≡ (if b then w else x)
-    → z ≡ (if c then v else y)
-    → (c ≡ true → v ≡ w) → z ≡ (if d then w else x)
-both_bytes b c x v w both before after wanted = grind arith
-
-pub changed_then : {p q t e f g : ℕ → Bool} {v w : ℕ → ℕ} {old mid new : BusState} → ((s : ℕ) → t s ≡ (p s || q s))
-    → ((s : ℕ) → g s ≡ (e s || f s)) → ((a : ℕ) → q (a / 4096) ≡ true → v a ≡ w a)
-    → HasChanged p w e old mid → HasChanged q v f mid new → HasChanged t w g old new
-changed_then {p} {q} {e} {f} {old} {mid} {new} both spared wanted before after = record {
-  config = after.config ∙ before.config;
-  bytes = λ a.
-      both_bytes (p (a / 4096)) (q (a / 4096)) _ _ _ (both (a / 4096)) (before.bytes a) (after.bytes a) (wanted a);
-  kept = kept_then old.chip mid.chip new.chip before.kept after.kept;
-  worn = λ s. after.worn s ∙ rw (before.worn s, spared s) (or_assoc (old.worn s) (e s) (f s));
-  idle = after.idle;
-  latch = λ set. before.latch (after.latch set);
-}
+pub made_then : {p q t e f g : ℕ → Bool} {v w : ℕ → ℕ} {old mid new : BusState} → ((a : ℕ) → t a ≡ (p a || q a))
+    → ((s : ℕ) → g s ≡ (e s || f s)) → ((a : ℕ) → q a ≡ true → v a ≡ w a)
+    → HasMade p w e old mid → HasMade q v f mid new → HasMade t w g old new
+made_then both spared wanted before after =
+    grind (arith, both, spared, wanted, before.bytes, after.bytes, before.worn, after.worn, or_assoc)

@@ -8,6 +8,5 @@ pub mod ProgrammingSpans
 pub mod ProgrammingExits
 pub mod ProgrammingWhole
 pub mod CheckingSteps
-pub mod Naming
 pub mod ApplyingSteps
 pub mod ApplyingExits

@@ -1,114 +1,86 @@
 -- A sector that is read, unless it was erased, and programmed; and the loop over all sectors: what holds after those
 -- below a number, and what follows at each exit.
-use Rattle.std.proofs.Common.{◌≡◌, ◌<◌, ◌+◌, ◌-◌, ◌*◌, ◌/◌, ◌∙◌, ℕ, Bool, true, List, slice_index, refl, ap, sym, subst, arith, inl, inr, Ok, ◌≤◌, false}
+use Rattle.std.proofs.Common.{◌≡◌, ◌<◌, ◌≤◌, ◌+◌, ◌-◌, ◌*◌, ◌/◌, ◌∙◌, ℕ, Bool, true, false, List, slice_index, refl, ap, sym, arith, inl, inr, Ok, true≢false}
+use Rattle.std.specs.Prelude.{◌&&◌, ◌||◌, nat_lt}
 use Rattle.std.proofs.lemmas.Bool.{cases_Bool, and_parts, lt-ltb, le-ltb}
-use Rattle.nor_chip.specs.Chip.{IsSame}
+use Rattle.std.proofs.lemmas.Bool.Decides.{nat_tests}
+use Rattle.std.proofs.Math.Bool.{and-false, or-false}
+use Rattle.nor_count.specs.Below.{count_below}
+use Rattle.nor_count.specs.Counts.{sector_count}
+use Rattle.nor_count.proofs.Counting.{any_below-same, count_below-same, count_below-zero, count_below-with, count_below-without, count_below-add, count_below-none, count_below-most}
 use Rattle.nor_chip.specs.Bus.{BusState}
+use Rattle.nor_chip.proofs.Sizes.{sized_bounds}
+use Rattle.nor_driver.specs.declared.waits.Halt.{Halt}
+use Rattle.nor_driver.specs.declared.waits.Halt.TheVariants.{Stopped, Timeout}
 use Rattle.nor_driver.specs.Reads.{IsSectorOf}
+use Rattle.nor_driver.specs.Waits.{Halts}
 use Rattle.nor_driver.proofs.Aims.{aims_none}
-use Rattle.nor_apply.specs.declared.tally.Tally.{Tally}
 use Rattle.nor_plan.specs.Content.{is_other, is_page_other, is_programmed}
-use Rattle.nor_apply.specs.Change.{HasChanged, only, byte_of}
 use Rattle.nor_plan.specs.SectorSet.{none}
+use Rattle.nor_apply.specs.declared.tally.Tally.{Tally}
+use Rattle.nor_apply.specs.Within.{places_of}
+use Rattle.nor_apply.specs.Change.{only, byte_of}
+use Rattle.nor_apply.specs.Spending.{NamesTimeoutIn}
 use Rattle.nor_apply.specs.Programming.{CanProgramSpans, LeavesSpans, DoesSpans, CanProgramSector, Loads, LeavesSector, DoesSector, CanProgramAll, LeavesPrograms, DoesPrograms, most_sector}
 use Rattle.nor_apply.proofs.InTurn.{Ran, aims_after, ran_after, spends_after, ran_none, spends_ended, halts_after}
 use Rattle.nor_apply.proofs.Alone.{only-here, count_below-next, only-is}
-use Rattle.nor_apply.proofs.Changing.{can_after, same_change, change_then, changed_then, has_may, change_as, changed_none, changed_same}
-use Rattle.nor_count.proofs.Counting.{any_below-same, count_below-same, count_below-zero, count_below-with, count_below-without, count_below-add, count_below-none, count_below-most}
-use Rattle.nor_apply.proofs.ProgrammingSpans.{KeepsRest, rest_none, rest_changed, shown_byte}
-use Rattle.std.specs.Prelude.{◌&&◌, ◌||◌, nat_lt}
-use Rattle.std.proofs.lemmas.Bool.Decides.{nat_tests}
-use Rattle.std.proofs.Math.Bool.{and-false}
-use Rattle.nor_chip.proofs.Sizes.{sized_bounds}
-use Rattle.nor_driver.specs.declared.waits.Halt.{Halt}
-use Rattle.nor_driver.specs.Waits.{Halts}
-use Rattle.nor_count.specs.Below.{count_below}
-use Rattle.nor_count.specs.Counts.{sector_count}
+use Rattle.nor_apply.proofs.Changing.{can_after, change_then, change_as, HasMade, made_of, changed_of, made_may, changed_may, made_none, made_same, made_then}
+use Rattle.nor_apply.proofs.ProgrammingSpans.{shown_byte}
 
--- the pages that differ are the same where the bytes are
-pub page_same : (page : ℕ) {now before wanted wanted' : ℕ → ℕ} → ((a : ℕ) → a / 256 ≡ page → now a ≡ before a)
-    → ((a : ℕ) → a / 256 ≡ page → wanted a ≡ wanted' a)
-    → is_page_other now wanted page ≡ is_page_other before wanted' page
-unfolding is_page_other
-page_same page {now} {before} {wanted} {wanted'} same same_wanted =
-    let at : ℕ → ℕ = λ i. 256 * page + i in
-    any_below-same 256 (λ i. is_other (now (at i)) (wanted (at i))) (λ i. is_other (before (at i)) (wanted' (at i)))
-    (λ i below. rw (same (at i) (omega arith), same_wanted (at i) (omega arith)) refl)
-
--- A sector's bytes are known, and the chip is as it was.
-record HasLoaded (sector : ℕ) (bytes : List ℕ) (first mid : BusState) : Type 0 where
-  pub rest : KeepsRest first mid
-  pub same : (a : ℕ) → mid.chip.bytes a ≡ first.chip.bytes a
-  pub shown : IsSectorOf mid.chip.bytes sector bytes
+-- ---- a sector that is read, or known to be blank, and then programmed
 
 module _ {sector : ℕ} {erased : Bool} {bytes bytes' : List ℕ} {reads : ℕ} {first mid : BusState}
     (loads : Loads sector erased bytes bytes' (Ok reads) first mid) where
   -- at most one transaction was sent
   loads_ran : Ran (only sector) 0 1 first mid (record { count = 0; transactions = reads })
-  loads_ran =
-      let ends = loads.ends in
-      let heard = λ (ready : first.heard ≡ true). ends.heard ∙ ready in
-      record {
-        nature = loads.looks.nature;
-        aims = aims_none _ _ _ _ loads.looks.sent;
-        tallies = elim (cases_Bool erased) [
-          | inl is ↦
-              let left : mid.left ≡ first.left = ap (λ (m : BusState). m.left) (ends.kept is).1 in
-              let none : reads ≡ 0 = ends.reads_once ∙ rw is refl in
-              record { least = omega arith; few = omega arith; heard = heard; sent = λ honest. omega arith }
-          | inr is ↦
-              let one : reads ≡ 1 = ends.reads_once ∙ rw is refl in
-              let read = ends.read is in
-              let sent = λ (honest : first.honest ≡ true). (read honest).count in
-              record {
-                least = omega arith;
-                few = omega arith;
-                heard = heard;
-                sent = λ honest. omega (arith, sent honest);
-              }
-        ];
-      }
+  loads_ran = record {
+    nature = loads.looks.nature;
+    aims = aims_none _ _ _ _ loads.looks.sent;
+    tallies = record {
+      least = omega arith;
+      few = rw loads.ends.reads_once (grind arith);
+      heard = λ ready. loads.ends.heard ∙ ready;
+      sent = λ honest. elim (cases_Bool erased) [
+        | inl is ↦ rw (loads.ends.reads_once, is, (loads.ends.kept is).1) (omega arith)
+        | inr is ↦ rw (loads.ends.reads_once, is) (loads.ends.read is honest).count
+      ];
+    };
+  }
 
   module _ {wanted : List ℕ} (blank : (i : ℕ) → i < 4096 → slice_index bytes i ≡ 255) (honest : first.honest ≡ true)
       (can : CanProgramSector sector wanted erased first.chip) where
-    has_loaded : HasLoaded sector bytes' first mid
-    has_loaded =
-        let ends = loads.ends in
-        let inside = can.can.inside sector (only-here refl) in
-        elim (cases_Bool erased) [
-          | inl is ↦
-              let kept = ends.kept is in
-              let here : HasLoaded sector bytes' first first = record {
-                rest = rest_none first can.can.idle;
-                same = λ a. refl;
-                shown = record {
-                  byte = λ i small. rw kept.0
-                      (blank i small ∙ sym (can.blank is (4096 * sector + i) (omega arith)));
-                };
-              } in
-              subst (λ (m : BusState). HasLoaded sector bytes' first m) (sym kept.1) here
-          | inr is ↦
-              let read = ends.read is honest in
-              let same = read.rested.unchanged.same in
-              let of = ends.told is honest can.can.idle (omega arith) in
-              let idle : mid.chip.busy ≡ 0 = read.busy ∙ can.can.idle in
-              record {
-                rest = search;
-                same = same.bytes;
-                shown = record { byte = λ i small. of.byte i small ∙ sym (same.bytes (4096 * sector + i)) };
-              }
-        ]
+    -- its bytes are known, and the chip is as it was
+    has_loaded : HasMade (λ a. false) (byte_of sector wanted) none first mid × IsSectorOf mid.chip.bytes sector bytes'
+    has_loaded = elim (cases_Bool erased) [
+      | inl is ↦
+          let kept = loads.ends.kept is in
+          rw kept.1 (
+            made_none first (λ a. refl) (λ s. refl) can.can.idle,
+            record {
+              byte = λ i small. rw kept.0
+                  (blank i small ∙ sym (can.blank is (4096 * sector + i) (omega arith)));
+            },
+          )
+      | inr is ↦
+          let inside = can.can.inside sector (only-here refl) in
+          let read = loads.ends.read is honest in
+          let unchanged = read.rested.unchanged in
+          let of = loads.ends.told is honest can.can.idle (omega arith) in
+          let worn = λ (s : ℕ). unchanged.worn s ∙ sym (or-false (first.worn s)) in
+          let idle : mid.chip.busy ≡ 0 = read.busy ∙ can.can.idle in
+          (assumption, record { byte = λ i small. of.byte i small ∙ sym (unchanged.same.bytes (4096 * sector + i)) })
+    ]
 
     can_spans : CanProgramSpans sector bytes' wanted mid.chip
     can_spans =
         let loaded = has_loaded in
         record {
-          can = can_after mid.chip (λ s is. is) can.can loaded.rest.config loaded.rest.kept loaded.rest.idle;
-          shown = loaded.shown;
+          can = can_after mid.chip (λ s is. is) can.can loaded.0.config loaded.0.kept loaded.0.idle;
+          shown = loaded.1;
           falls = λ i small.
               let offset : 4096 * sector + i - 4096 * sector ≡ i = omega arith in
               let fall = rw offset at (can.falls (4096 * sector + i) (only-here (omega arith))) in
-              rw (loaded.shown.byte i small, loaded.same (4096 * sector + i)) fall;
+              rw (loaded.1.byte i small, loaded.0.bytes (4096 * sector + i)) fall;
         }
 
   module _ {wanted : List ℕ} {new : BusState} (blank : (i : ℕ) → i < 4096 → slice_index bytes i ≡ 255)
@@ -118,9 +90,8 @@ module _ {sector : ℕ} {erased : Bool} {bytes bytes' : List ℕ} {reads : ℕ} 
       spends = spends_after loads_ran leaves.spends (omega (arith, loads_ran.tallies.few));
       aims = aims_after (λ s is. is) loads_ran leaves.aims (omega arith);
       reached = λ honest can.
-          let loaded = has_loaded blank honest can in
-          let same : IsSame first.chip mid.chip = search in
-          change_then loads.looks.nature.steady (same_change same loaded.rest.idle loaded.rest.worn)
+          change_then loads.looks.nature.steady
+          (made_may (λ a no. absurd (true≢false (sym no))) (λ s no. no) (has_loaded blank honest can).0)
           (leaves.reached (loads.looks.nature.honest ∙ honest) (can_spans blank honest can));
     }
 
@@ -135,31 +106,26 @@ module _ {sector : ℕ} {erased : Bool} {bytes bytes' : List ℕ} {reads : ℕ} 
           fewer = omega (arith, does.fewer);
           tallies = ran.tallies;
           done = λ honest can.
-              let loaded = has_loaded blank honest can in
-              let before : HasChanged none (byte_of sector wanted) none first mid =
-              rest_changed loaded.rest loaded.same in
-              changed_then (λ s. refl) (λ s. refl) (λ a is. refl) before
-              (does.done (loads.looks.nature.honest ∙ honest) (can_spans blank honest can));
+              changed_of (made_then (λ a. refl) (λ s. refl) (λ a is. refl) (has_loaded blank honest can).0
+              (made_of (does.done (loads.looks.nature.honest ∙ honest) (can_spans blank honest can))));
           counted = λ honest can.
-              let loaded = has_loaded blank honest can in
+              let bytes : mid.chip.bytes ≡ first.chip.bytes = λ i a. (has_loaded blank honest can).0.bytes a i in
               count ∙ does.counted (loads.looks.nature.honest ∙ honest) (can_spans blank honest can)
-              ∙ count_below-same 16 (λ page. is_page_other mid.chip.bytes (byte_of sector wanted) (16 * sector + page))
-              (λ page. is_page_other first.chip.bytes (byte_of sector wanted) (16 * sector + page))
-              (λ page small. page_same (16 * sector + page) (λ a in_page. loaded.same a) (λ a in_page. refl));
+              ∙ ap (λ (x : ℕ → ℕ). count_below 16 (λ page. is_page_other x (byte_of sector wanted) (16 * sector + page)))
+              bytes;
         }
+
+-- ---- sector by sector
 
 -- the touched sectors below a number
 abbrev pub before : (ℕ → Bool) → ℕ → ℕ → Bool
 before touched n s = touched s && nat_lt s n
 
-lt_next : (s n : ℕ) → nat_lt s (n + 1) ≡ (nat_lt s n || only n s)
-lt_next s n = grind (arith, nat_tests)
-
 before_more : (touched : ℕ → Bool) (n : ℕ) → touched n ≡ true → (s : ℕ)
     → before touched (n + 1) s ≡ (before touched n s || only n s)
 before_more touched n is s = grind (arith, nat_tests)
 
-before_skip : (touched : ℕ → Bool) (n : ℕ) → touched n ≡ false → (s : ℕ) → before touched (n + 1) s ≡ before touched n s
+before_skip : (touched : ℕ → Bool) (n : ℕ) → touched n ≡ false → (s : ℕ) → before touched n s ≡ before touched (n + 1) s
 before_skip touched n free s = grind (arith, nat_tests)
 
 -- The touched sectors below a number were programmed, and nothing else was sent.
@@ -169,18 +135,17 @@ pub record SectorsSoFar (touched raised : ℕ → Bool) (wanted : ℕ → ℕ) (
   pub fewer : tally.count ≤ 16 * count_below n touched
   pub still : count_below n touched ≡ 0 → now.sent ≡ first.sent
   pub done : first.honest ≡ true → CanProgramAll touched raised wanted first.chip
-      → HasChanged (before touched n) wanted none first now
+      → HasMade (places_of (before touched n)) wanted none first now
   pub counted : first.honest ≡ true → CanProgramAll touched raised wanted first.chip
       → tally.count ≡ count_below (16 * n) (is_programmed touched first.chip.bytes wanted)
 
 pub sectors_none : {touched raised : ℕ → Bool} {wanted : ℕ → ℕ} (state : BusState)
     → SectorsSoFar touched raised wanted 0 state state (record { count = 0; transactions = 0 })
-sectors_none {touched} {wanted} state = record {
+sectors_none {touched} {wanted = wanted} state = record {
   ran = ran_none state;
   fewer = omega arith;
   still = λ none. refl;
-  done = λ honest can. changed_none {t = before touched 0} state
-      (λ s. rw (le-ltb s 0 (omega arith)) (and-false (touched s))) (λ s. refl) can.can.idle;
+  done = λ honest can. made_none state (λ a. grind (arith, nat_tests)) (λ s. refl) can.can.idle;
   counted = λ honest can. sym (count_below-zero (is_programmed touched state.chip.bytes wanted));
 }
 
@@ -197,16 +162,25 @@ pages_more touched content wanted n is same =
     (λ page. is && is_page_other content wanted (16 * n + page))
     (λ page small. let sector : (16 * n + page) / 16 ≡ n = omega arith in rw (sector, same) refl))
 
--- ---- a touched sector, whose wanted bytes are these
-
-pub record IsTouched (touched : ℕ → Bool) (wanted : ℕ → ℕ) (n : ℕ) (bytes : List ℕ) : Type 0 where
-  pub is : touched n ≡ true
-  pub below : n < 4096
-  pub shows : (i : ℕ) → i < 4096 → slice_index bytes i ≡ wanted (4096 * n + i)
+-- a page differs alike where its bytes are the same
+page_same : (page : ℕ) {now before wanted wanted' : ℕ → ℕ} → ((a : ℕ) → a / 256 ≡ page → now a ≡ before a)
+    → ((a : ℕ) → a / 256 ≡ page → wanted a ≡ wanted' a)
+    → is_page_other now wanted page ≡ is_page_other before wanted' page
+unfolding is_page_other
+page_same page {now} {before} {wanted} {wanted'} same same_wanted =
+    let at : ℕ → ℕ = λ i. 256 * page + i in
+    any_below-same 256 (λ i. is_other (now (at i)) (wanted (at i))) (λ i. is_other (before (at i)) (wanted' (at i)))
+    (λ i below. rw (same (at i) (omega arith), same_wanted (at i) (omega arith)) refl)
 
 -- a sector that is touched and comes next counts among all
 pub room : (touched : ℕ → Bool) (n : ℕ) → n < 4096 → touched n ≡ true → count_below n touched + 1 ≤ sector_count touched
 room touched n below is = count_below-next 4096 n touched below is
+
+-- a touched sector, whose wanted bytes are these
+pub record IsTouched (touched : ℕ → Bool) (wanted : ℕ → ℕ) (n : ℕ) (bytes : List ℕ) : Type 0 where
+  pub is : touched n ≡ true
+  pub below : n < 4096
+  pub shows : (i : ℕ) → i < 4096 → slice_index bytes i ≡ wanted (4096 * n + i)
 
 module _ {touched raised : ℕ → Bool} {wanted : ℕ → ℕ} {n : ℕ} {first now : BusState} {tally : Tally}
     (so : SectorsSoFar touched raised wanted n first now tally) where
@@ -221,7 +195,8 @@ module _ {touched raised : ℕ → Bool} {wanted : ℕ → ℕ} {n : ℕ} {first
         ran = rw count so.ran;
         fewer = rw count so.fewer;
         still = rw count so.still;
-        done = λ honest can. changed_same (λ s. sym (before_skip touched n free s)) (λ s. refl) (so.done honest can);
+        done = λ honest can.
+            made_same (λ a. before_skip touched n free (a / 4096)) (λ s. refl) (so.done honest can);
         counted = λ honest can.
             let none = count_below-none 16 (λ page. false) (λ page small. refl) in
             omega (arith, so.counted honest can, pages_more touched first.chip.bytes wanted n false free, none);
@@ -234,9 +209,8 @@ module _ {touched raised : ℕ → Bool} {wanted : ℕ → ℕ} {n : ℕ} {first
     wanted_byte : (a : ℕ) → only n (a / 4096) ≡ true → byte_of n bytes a ≡ wanted a
     wanted_byte a here = shown_byte n a bytes wanted (only-is here) is.shows
 
-    pub halts_below : {new : BusState} {halt : Halt} → Halts most_sector now new halt
-        → Halts (most_sector * sector_count touched) first new halt
-    halts_below halts = halts_after so.ran halts (omega (arith, so.fewer, room touched n is.below is.is))
+    names_member : (halt : Halt) → NamesTimeoutIn (only n) halt → NamesTimeoutIn touched halt
+    names_member halt told = grind (arith, only_touched)
 
     module _ {erased : Bool} {new : BusState} (erased_is : erased ≡ raised n)
         (leaves : LeavesSector n bytes erased now new) where
@@ -249,25 +223,28 @@ module _ {touched raised : ℕ → Bool} {wanted : ℕ → ℕ} {n : ℕ} {first
 
         can_sector : CanProgramSector n bytes erased now.chip
         can_sector =
-            let done = so.done honest can in record {
-              can = can_after now.chip only_touched can.can done.config done.kept done.idle;
-              blank = λ was a here.
-                  let at = only-here here in
-                  still_old a at ∙ can.blank a (only_touched (a / 4096) at) (ap raised here ∙ sym erased_is ∙ was);
-              falls = λ a here. rw (wanted_byte a here, still_old a here) (can.falls a (only_touched (a / 4096) here));
-            }
+            let done = so.done honest can in
+            let able = can_after now.chip only_touched can.can done.config done.kept done.idle in
+            grind (arith, still_old, only_touched, wanted_byte, can.blank, can.falls, nat_tests)
 
-      pub leaves_halted : LeavesPrograms touched raised wanted first new
-      leaves_halted = record {
-        spends = spends_after so.ran leaves.spends (omega (arith, so.fewer, room touched n is.below is.is));
-        aims = aims_after only_touched so.ran leaves.aims (omega arith);
-        reached = λ honest can.
-            let may = leaves.reached (so.ran.nature.honest ∙ honest) (can_sector honest can) in
-            change_then so.ran.nature.steady
-            (change_as (λ s here. (and_parts _ _ here).0) (λ s no. no) (λ a plain here. refl)
-            (has_may (so.done honest can)))
-            (change_as only_touched (λ s no. no) (λ a plain here. wanted_byte a here) may);
-      }
+      pub sectors_halted : {halt : Halt} → Halts most_sector now new halt → NamesTimeoutIn (only n) halt
+          → LeavesPrograms touched raised wanted first new
+          × Halts (most_sector * sector_count touched) first new halt × NamesTimeoutIn touched halt
+      sectors_halted {halt} halts names =
+          let fits : tally.transactions + most_sector ≤ most_sector * sector_count touched =
+          omega (arith, so.fewer, room touched n is.below is.is) in (
+            record {
+              spends = spends_after so.ran leaves.spends fits;
+              aims = aims_after only_touched so.ran leaves.aims (omega arith);
+              reached = λ honest can.
+                  let may = leaves.reached (so.ran.nature.honest ∙ honest) (can_sector honest can) in
+                  change_then so.ran.nature.steady
+                  (made_may (λ a here. (and_parts _ _ here).0) (λ s no. no) (so.done honest can))
+                  (change_as only_touched (λ s no. no) (λ a plain here. wanted_byte a here) may);
+            },
+            halts_after so.ran halts fits,
+            names_member halt names,
+          )
 
       pub sectors_more : {more all : Tally} → DoesSector n bytes erased now new more
           → all.count ≡ tally.count + more.count
@@ -282,9 +259,9 @@ module _ {touched raised : ℕ → Bool} {wanted : ℕ → ℕ} {n : ℕ} {first
             fewer = omega (arith, so.fewer, does.fewer);
             still = λ none. absurd (omega arith);
             done = λ honest can.
-                changed_then (before_more touched n is.is) (λ s. refl) (λ a here. wanted_byte a here)
+                made_then (λ a. before_more touched n is.is (a / 4096)) (λ s. refl) wanted_byte
                 (so.done honest can)
-                (does.done (so.ran.nature.honest ∙ honest) (can_sector honest can));
+                (made_of (does.done (so.ran.nature.honest ∙ honest) (can_sector honest can)));
             counted = λ honest can.
                 let here = count_below-same 16 (λ page. is_page_other now.chip.bytes (byte_of n bytes) (16 * n + page))
                 (λ page. is_page_other first.chip.bytes wanted (16 * n + page))
@@ -317,7 +294,7 @@ module _ {touched raised : ℕ → Bool} {wanted : ℕ → ℕ} {n : ℕ} {first
               | inl is ↦ rw (is, lt-ltb s 4096 (omega (arith, can.can.inside s is))) refl
               | inr free ↦ rw free refl
             ] in
-            changed_same all (λ s. refl) (so.done honest can);
+            changed_of (made_same (λ a. all (a / 4096)) (λ s. refl) (so.done honest can));
         counted = λ honest can. so.counted honest can;
       }
 
@@ -325,5 +302,5 @@ module _ {touched raised : ℕ → Bool} {wanted : ℕ → ℕ} {n : ℕ} {first
   leaves_ended = record {
     spends = spends_ended so_far.ran (omega (arith, does_ended.fewer, does_ended.tallies.few));
     aims = so_far.ran.aims;
-    reached = λ honest can. has_may (does_ended.done honest can);
+    reached = λ honest can. changed_may (does_ended.done honest can);
   }

@@ -1,15 +1,11 @@
-use Rattle.std.specs.Prelude.{◌/◌}
 use Rattle.nor_plan.specs.Erases.{erases_left}
 use Rattle.nor_plan.specs.SectorSet.{has}
-use Rattle.nor_apply.proofs.ErasingExits.{IsPlan}
 use Rattle.nor_apply.proofs.ErasingExits.{ErasesSoFar}
 use Rattle.nor_apply.proofs.erases.erase_all.Given as goal
 
 -- the erases that have come are carried out, and with those that are left they are the plan
 abbrev pub invariant-loop-unit : goal.invariant-loop-unit
-invariant-loop-unit g l =
-    (goal.iterator-loop-unit g).can_next l.unit-iterator
-    × (goal.iterator-loop-unit g).is_finite l.unit-iterator
-    × IsPlan l.fn.kinds (l.fn.size / 4096) (has l.fn.raised) l.yielded (erases_left l.unit-iterator)
-    × ErasesSoFar l.fn.kinds l.fn.size (has l.fn.raised) l.yielded (g.B.Bus.state l.fn.bus)
-    (g.B.Bus.state l.bus) l.tally
+invariant-loop-unit g l = record {
+  so_far : ErasesSoFar l.fn.kinds l.fn.size (has l.fn.raised) l.yielded (erases_left l.unit-iterator)
+      (g.B.Bus.state l.fn.bus) (g.B.Bus.state l.bus) l.tally;
+}

@@ -1,8 +1,7 @@
 use Rattle.std.proofs.Common.{◌∙◌, sym, refl, arith}
 use Rattle.std.proofs.lemmas.Grind.{common_steps}
 use Rattle.nor_plan.specs.SectorSet.{has}
-use Rattle.nor_apply.proofs.ProgrammingWhole.{IsTouched, sectors_none, sectors_skip, sectors_more, few_sectors, leaves_halted, halts_below, does_ended, leaves_ended}
-use Rattle.nor_apply.proofs.Naming.{names_member}
+use Rattle.nor_apply.proofs.ProgrammingWhole.{IsTouched, sectors_none, sectors_skip, sectors_more, few_sectors, sectors_halted, does_ended, leaves_ended}
 use Rattle.nor_apply.proofs.programs.program_all.Goals.{After-sector}
 use Rattle.nor_apply.proofs.programs.program_all.Goals as goal
 
@@ -42,17 +41,10 @@ overflow_add-tally-in-loop-sector g c =
 
 pub returns-in_err-more : goal.returns-in_err-more
 returns-in_err-more g c =
-    let so = c.loop-sector.invariant.so_far in
     let here = touched_here g (goal.at.returns-in_err-more g c).After-sector in
-    let halts = halts_below so here c.in_err-more.ensures.halts in
-    let names = names_member c.loop-sector.sector (has c.args.touched.now) c.in_err-more.field-0.0 here.is
-    c.in_err-more.ensures.names in
-    record {
-      leaves = leaves_halted so here c.contains-in-loop-sector.ensures c.program_sector.ensures.leaves;
-      does = grind (arith, common_steps);
-      halts = grind (arith, common_steps, halts);
-      names = grind (arith, common_steps, names);
-    }
+    let halted = sectors_halted c.loop-sector.invariant.so_far here c.contains-in-loop-sector.ensures
+    c.program_sector.ensures.leaves c.in_err-more.ensures.halts c.in_err-more.ensures.names in
+    grind (arith, common_steps, halted)
 
 pub returns-clause-leaves : goal.returns-clause-leaves
 returns-clause-leaves g c = leaves_ended (omega arith) c.loop-sector.invariant.so_far

@@ -1,10 +1,10 @@
 use Rattle.nor_plan.specs.Spans.{spans_left}
-use Rattle.nor_apply.proofs.ProgrammingExits.{AreLeft, SpansSoFar}
+use Rattle.nor_apply.proofs.ProgrammingExits.{SpansSoFar}
 use Rattle.nor_apply.proofs.programs.program_spans.Given as goal
 
 -- the spans that have come are programmed, and with those that are left they are the sector's
 abbrev pub invariant-loop-span : goal.invariant-loop-span
 invariant-loop-span g l = record {
-  spanning : AreLeft l.fn.old l.fn.wanted l.yielded (spans_left l.span-iterator);
-  so_far : SpansSoFar l.fn.sector l.fn.old l.fn.wanted l.yielded (g.B.Bus.state l.fn.bus) (g.B.Bus.state l.bus) l.tally;
+  so_far : SpansSoFar l.fn.sector l.fn.old l.fn.wanted l.yielded (spans_left l.span-iterator) (g.B.Bus.state l.fn.bus)
+      (g.B.Bus.state l.bus) l.tally;
 }
