@@ -1,9 +1,8 @@
 -- What an accepted request tells of its chip.
-use Rattle.std.proofs.Common.{◌≡◌, ◌<◌, ◌*◌, ◌⊎◌, ℕ, Bool, true, false, List, Option, None, Some, Result, Ok, Err, zero, suc, sym, refl, arith, true≢false, inl, inr}
+use Rattle.std.proofs.Common.{◌≡◌, ◌≢◌, ◌<◌, ◌*◌, ◌⊎◌, ℕ, Bool, true, false, List, Option, None, Some, Result, Ok, Err, zero, suc, refl, arith, inl, inr}
 use Rattle.std.specs.Prelude.{if◌then◌else◌}
 use Rattle.std.proofs.lemmas.Bool.{cases_Bool, false_from_ne_true, true_from_ne_false, both_ways, and_parts, and_right}
 use borrow.Author.Count.{below_more}
-use Rattle.nor_chip.specs.declared.config.Config.{Config}
 use Rattle.nor_chip.specs.Chip.{Chip, is_locked}
 use Rattle.nor_chip.specs.Guard.{code_of, is_unit_guarded}
 use Rattle.nor_plan.specs.Content.{is_touched}
@@ -19,7 +18,7 @@ use Rattle.nor_probe.specs.Table.{part_with_id}
 use Rattle.nor_probe.specs.Found.{IsWanted}
 use Rattle.nor_call.specs.declared.request.Request.{Request}
 use Rattle.nor_call.specs.declared.request.What.{What}
-use Rattle.nor_call.specs.declared.request.What.TheVariants.{Write, Erase, WpRange}
+use Rattle.nor_call.specs.declared.request.What.TheVariants.{WpRange}
 use Rattle.nor_call.specs.declared.refusal.Refusal.TheVariants.{NoChip, UnknownChip, OtherName, StatusLocked, Protected}
 use Rattle.nor_call.specs.Request.{is_data, IsWantedCode}
 use Rattle.nor_save.specs.Touched.{is_touched_by}
@@ -29,21 +28,16 @@ use Rattle.nor_session.specs.Verdict.{IsNamed, IsAccepted}
 
 -- ---- the part
 
--- A chip shows itself as a part, as no chip, or as one that isn't known.
-abbrev pub IsPartOrFault : Result Part ProbeFault → Type 0
-IsPartOrFault outcome = ((part : Part) × (outcome ≡ Ok part))
-    ⊎ ((outcome ≡ Err Probes.NoChip) ⊎ ((fault : SfdpFault) × (outcome ≡ Err (Probes.UnknownChip fault))))
-
-part_or_fault : (undriven : Bool) (listed : Option Part) (with_id : List ℕ) (says : Result Geometry SfdpFault)
-    → IsPartOrFault (if undriven then Err Probes.NoChip else listed_or (part_by_sfdp with_id says) listed)
-part_or_fault true listed with_id says = inr (inl refl)
-part_or_fault false (Some part) with_id says = inl (part, refl)
-part_or_fault false None with_id (Ok geometry) = inl (_, refl)
-part_or_fault false None with_id (Err fault) = inr (inr (fault, refl))
-
-pub shows_itself : (config : Config) → IsPartOrFault (shown_as config)
-shows_itself config =
-    part_or_fault (is_no_chip (id_of config)) (part_with_id (id_of config)) (id_of config) (chip_says config)
+-- a chip that shows itself neither as none nor as one that isn't known shows itself as a part
+part_shown : (undriven : Bool) (listed : Option Part) (with_id : List ℕ) (says : Result Geometry SfdpFault)
+    (shown : Result Part ProbeFault)
+    → shown ≡ (if undriven then Err Probes.NoChip else listed_or (part_by_sfdp with_id says) listed)
+    → shown ≢ Err Probes.NoChip → ((fault : SfdpFault) → shown ≢ Err (Probes.UnknownChip fault))
+    → (part : Part) × (shown ≡ Ok part)
+part_shown true listed with_id says shown is there known = absurd (there is)
+part_shown false (Some part) with_id says shown is there known = (part, is)
+part_shown false None with_id (Ok geometry) shown is there known = (_, is)
+part_shown false None with_id (Err fault) shown is there known = absurd (known fault is)
 
 -- a name is wanted, or it isn't
 wanted_or_other : (named : Option ChipName) (name : ChipName) → IsWanted named name ⊎ (¬ IsWanted named name)
@@ -57,14 +51,13 @@ wanted_or_other (Some _) _ = inr (λ same. absurd cc)
 -- its chip has the name that is wanted
 pub accepted_named : (request : Request) (image : List ℕ) (chip : Chip) → IsAccepted request image chip
     → IsNamed request.named chip.config
-accepted_named request image chip accepted = elim (shows_itself chip.config) [
-  | inl shown ↦ elim (wanted_or_other request.named shown.0.name) [
-    | inl is ↦ record { part = shown.0; shown = shown.1; wanted = is }
-    | inr other ↦ absurd (accepted OtherName (record { part = shown.0; shown = shown.1; other = other }))
-  ]
-  | inr (inl none) ↦ absurd (accepted NoChip none)
-  | inr (inr unknown) ↦ absurd (accepted (UnknownChip unknown.0) unknown.1)
-]
+accepted_named request image chip accepted =
+    let shown = part_shown (is_no_chip (id_of chip.config)) (part_with_id (id_of chip.config)) (id_of chip.config)
+    (chip_says chip.config) (shown_as chip.config) refl (accepted NoChip) (λ fault. accepted (UnknownChip fault)) in
+    elim (wanted_or_other request.named shown.0.name) [
+      | inl is ↦ record { part = shown.0; shown = shown.1; wanted = is }
+      | inr other ↦ absurd (accepted OtherName (record { part = shown.0; shown = shown.1; other = other }))
+    ]
 
 -- ---- the touched sectors
 
@@ -88,9 +81,8 @@ touched_data request image chip s touched = true_from_ne_false (is_data request.
 needs_lift : (what : What) (unlock : Bool) (touched : ℕ → Bool) (chip : Chip) → is_data what ≡ true → unlock ≡ true
     → SomeHeld touched chip
     → IsWantedCode what chip (code_of chip) × NeedsStatus what unlock (code_of chip) touched chip
-needs_lift Write unlock touched chip is lifts some = (refl, (lifts, some))
-needs_lift Erase unlock touched chip is lifts some = (refl, (lifts, some))
-needs_lift (WpRange start len) unlock touched chip is lifts some = absurd (true≢false (sym is))
+needs_lift (WpRange start len) unlock touched chip is lifts some = absurd cc
+needs_lift _ unlock touched chip is lifts some = (refl, (lifts, some))
 
 -- where the status is locked no touched sector is guarded
 pub accepted_free : (request : Request) (image : List ℕ) (chip : Chip) → IsAccepted request image chip
