@@ -1,5 +1,5 @@
 -- What a restore knows before it changes anything.
-use Rattle.std.proofs.Common.{◌≡◌, ◌<◌, ◌+◌, ◌/◌, ◌∙◌, ◌||◌, ℕ, Bool, true, length, ap, sym, refl, arith, inl, inr}
+use Rattle.std.proofs.Common.{◌≡◌, ◌<◌, ◌+◌, ◌/◌, ◌∙◌, ◌||◌, ℕ, Bool, true, length, ap, sym, refl, arith, rules, inl, inr}
 use Rattle.std.specs.Prelude.{None}
 use Rattle.std.proofs.lemmas.Bool.{cases_Bool, both_ways, true_from_ne_false}
 use mathlib.Core.Path.{fun_ext}
@@ -15,7 +15,7 @@ use Rattle.nor_plan.specs.SectorSet.{has}
 use Rattle.nor_plan.specs.declared.set.SectorSet.{SectorSet}
 use Rattle.nor_apply.specs.declared.changes.Changes.{Changes}
 use Rattle.nor_count.specs.Counts.{sector_count}
-use Rattle.nor_apply.specs.Applying.{writes_code}
+use Rattle.nor_apply.specs.Applying.{CanApply, writes_code}
 use Rattle.nor_apply.proofs.Kept.{writable_same, kept_fixed}
 use Rattle.nor_save.specs.declared.opening.Opening.{Opening}
 use Rattle.nor_save.specs.declared.scanning.Scanned.{Scanned}
@@ -24,6 +24,7 @@ use Rattle.nor_save.specs.Opening.{Opens, most_opening}
 use Rattle.nor_save.specs.Saving.{IsOpening}
 use Rattle.nor_driver.proofs.RestsInTurn.{rested_then}
 use Rattle.nor_probe.specs.Known.{IsModelled}
+use Rattle.nor_session.specs.Changing.{touched_count}
 use Rattle.nor_session.specs.Restore.{restored, is_touched_from, is_raised_from, NeedsStatusFrom}
 use Rattle.nor_session.specs.Prepare.{Fits, IsOfKindFound, FitsOpening, PrepareTells, ScansSaved, AreChanges, MayChangeStatus, IsShut, IsPreparedFor, IsPrepared}
 use Rattle.nor_session.proofs.Changed.{writes_other}
@@ -88,101 +89,82 @@ scheme_for journal touched chip fits (inl differs) =
 module _ {journal : Content} {opening : Opening} {scanned : Scanned} {changes : Changes} {old mid new : BusState}
     (read : AreRead journal opening scanned old mid new) (are : AreChanges journal opening scanned changes)
     (judged : (chip : Chip) → IsOpening chip opening → MayChangeStatus journal (has scanned.touched) chip changes) where
+  below : (s : ℕ) → has changes.touched s ≡ true → s < changes.size / 4096
+  below s hit = let b = read.scans.marks.below s (rw are.touched at hit) in omega arith
+
+  saved : (s : ℕ) → has changes.touched s ≡ true → is_saved journal s ≡ true
+  saved s hit = read.scans.saved s (rw are.touched at hit)
+
+  rises_touched : (s : ℕ) → has changes.raised s ≡ true → has changes.touched s ≡ true
+  rises_touched s hit = rw are.touched (read.scans.marks.inside s (rw are.raised at hit))
+
   prepared_for : (sent : ℕ) → IsModelled old → IsPreparedFor journal old.chip new.chip
       record { found = opening.found; changes = changes; touched = scanned.count; transactions = sent }
   prepared_for sent modelled =
       let is = opening_of modelled read.opens in
-      let small = read.small modelled.honest in
-      let fits = read.fits old.chip small is in
+      let fits = read.fits old.chip (read.small modelled.honest) is in
       let content = old.chip.bytes in let aim = restored journal content in
       let marks = marks_old read modelled in
-      let touched : has changes.touched ≡ is_touched_from journal old.chip = ap has are.touched ∙ marks.0 in
-      let raised : has changes.raised ≡ is_raised_from journal old.chip = ap has are.raised ∙ marks.1 in
+      let touched : (s : ℕ) → has changes.touched s ≡ is_touched_from journal old.chip s
+      = λ s. ap (λ (set : ℕ → Bool). set s) (ap has are.touched ∙ marks.0) in
+      let raised : (s : ℕ) → has changes.raised s ≡ is_raised_from journal old.chip s
+      = λ s. ap (λ (set : ℕ → Bool). set s) (ap has are.raised ∙ marks.1) in
       let may = rw marks.0 at (judged old.chip is) in
       let same = (rested_all read modelled.honest).unchanged.same in
       let size : changes.size ≡ old.chip.config.size = are.size ∙ is.config.size in
       let kinds : changes.kinds ≡ old.chip.config.kinds = are.kinds ∙ is.config.kinds in
       let one : changes.status.one.0 / 4 ≡ old.chip.kept1 = ap (λ (n : ℕ). n / 4) are.one ∙ is.one in
       let two : changes.status.two.0 ≡ old.chip.kept2 = are.two ∙ is.two in
-      let below : (s : ℕ) → has changes.touched s ≡ true → s < old.chip.config.size / 4096
-      = λ s hit. let b = read.scans.marks.below s (rw are.touched at hit) in omega arith in
-      let saved : (s : ℕ) → has changes.touched s ≡ true → is_saved journal s ≡ true
-      = λ s hit. read.scans.saved s (rw are.touched at hit) in
       let needed : (changes.unlock || writes_code changes) ≡ true
       → NeedsStatusFrom journal (is_touched_from journal old.chip) old.chip
       = λ writes. elim (cases_Bool changes.unlock) [
         | inl lifted ↦ inr (may.lifts lifted)
         | inr off ↦ inl (λ same. writes_other changes off writes (let code = are.code in cc))
       ] in
-      record {
-        accepted = record { fits = fits; not_locked = may.not_locked };
-        shown = read.opens.shown modelled.honest;
-        status1 = is.one;
-        told = told_idle None opening old mid modelled.honest read.opens;
-        kinds = kinds;
-        size = size;
-        code = are.code;
-        touched = λ s. ap (λ (set : ℕ → Bool). set s) touched;
-        raised = λ s. ap (λ (set : ℕ → Bool). set s) raised;
-        needed = needed;
-        can = record {
-          idle =
-              let idle = read.opens.idle modelled.honest in
-              let rested = read.scans.rested (read.looks.nature.honest ∙ modelled.honest) in
-              omega arith;
-          sized = record {
-            same = ap (λ (config : Config). config.size) same.config ∙ sym size;
-            same_kinds = ap (λ (config : Config). config.kinds) same.config ∙ sym kinds;
-          };
-          kept = record { one = one ∙ sym same.kept1; two = omega arith };
-          inside = λ s hit.
-              let b = below s hit in let now = ap (λ (config : Config). config.size) same.config in
-              let blocks = (sized_bounds old.chip.config).blocks in
-              omega arith;
-          free = λ plain a hit.
-              is_guarded-same old.chip new.chip same.config same.kept1 same.kept2 a
-              ∙ elim may.free [
-                | inl lifted ↦ absurd (both_ways changes.unlock plain lifted)
-                | inr none ↦
-                    let b = below (a / 4096) hit in
-                    free_place _ old.chip a none (rw touched at hit) (omega arith)
-              ];
-          writable = λ writes.
-              writable_same old.chip new.chip same.config (kept_fixed old.chip new.chip (same.kept1, same.kept2))
-              ∙ writable_for old.chip (scheme_for journal _ old.chip fits (needed writes))
-              (λ locked. may.not_locked locked (needed writes));
-          raised = λ s hit.
-              let inside = read.scans.marks.inside s (rw are.raised at hit) in rw are.touched inside;
-          bytes = λ a hit. read.scans.bytes a (saved (a / 4096) hit);
-          falls = λ a hit flat.
-              let wanted : aim a ≡ saved_byte journal a = restored_saved journal content a (saved (a / 4096) hit) in
-              let falls = unraised_byte content aim a (rw raised at flat) in
-              let stays = same.bytes a in
-              cc;
-        };
-      }
+      let shown = read.opens.shown modelled.honest in
+      let told = told_idle None opening old mid modelled.honest read.opens in
+      let can : CanApply changes (saved_byte journal) new.chip = record {
+        idle =
+            let idle = read.opens.idle modelled.honest in
+            let rested = read.scans.rested (read.looks.nature.honest ∙ modelled.honest) in
+            omega arith;
+        sized = record { same = cc; same_kinds = cc };
+        kept = record { one = one ∙ sym same.kept1; two = omega arith };
+        inside = λ s hit.
+            let b = below s hit in let now = ap (λ (config : Config). config.size) same.config in
+            let blocks = (sized_bounds old.chip.config).blocks in
+            omega arith;
+        free = λ plain a hit.
+            is_guarded-same old.chip new.chip same.config same.kept1 same.kept2 a
+            ∙ elim may.free [
+              | inl lifted ↦ absurd (both_ways changes.unlock plain lifted)
+              | inr none ↦
+                  let b = below (a / 4096) hit in
+                  free_place _ old.chip a none (sym (touched (a / 4096)) ∙ hit) (omega arith)
+            ];
+        writable = λ writes.
+            writable_same old.chip new.chip same.config (kept_fixed old.chip new.chip (same.kept1, same.kept2))
+            ∙ writable_for old.chip (scheme_for journal _ old.chip fits (needed writes))
+            (λ locked. may.not_locked locked (needed writes));
+        raised = rises_touched;
+        bytes = λ a hit. read.scans.bytes a (saved (a / 4096) hit);
+        falls = λ a hit flat.
+            let wanted : aim a ≡ saved_byte journal a = restored_saved journal content a (saved (a / 4096) hit) in
+            let falls = unraised_byte content aim a (sym (raised (a / 4096)) ∙ flat) in
+            let stays = same.bytes a in
+            cc;
+      } in
+      search rules
 
   pub prepared_all : (sent : ℕ) → sent ≡ opening.transactions + length journal.saved → IsPrepared journal old new
       record { found = opening.found; changes = changes; touched = scanned.count; transactions = sent }
   prepared_all sent sum =
-      let marks = read.scans.marks in let opens = read.opens in
-      let part = opens.part.at_most in
-      record {
-        inside = λ s hit. let b = marks.below s (rw are.touched at hit) in omega arith;
-        raised = λ s hit. let inside = marks.inside s (rw are.raised at hit) in rw are.touched inside;
-        small = omega arith;
-        sized = are.size ∙ sym read.kind.size;
-        six_bits = are.six_bits;
-        saved = λ s hit. read.scans.saved s (rw are.touched at hit);
-        count = marks.count ∙ ap (λ (t : SectorSet). sector_count (has t)) (sym are.touched);
-        few = omega arith;
-        room = read.scans.room;
-        least = omega arith;
-        most = omega arith;
-        heard = read.scans.heard opens.heard;
-        rested = rested_all read;
-        sent = λ honest.
-            let opened = opens.count honest in let left = read.scans.sent (read.looks.nature.honest ∙ honest) in
-            omega arith;
-        modelled = prepared_for sent;
-      }
+      let part = read.opens.part.at_most in
+      let count : scanned.count ≡ touched_count changes
+      = read.scans.marks.count ∙ ap (λ (t : SectorSet). sector_count (has t)) (sym are.touched) in
+      let heard = read.scans.heard read.opens.heard in
+      let left : old.honest ≡ true → old.left ≡ new.left + sent = λ honest.
+      let opened = read.opens.count honest in
+      let left = read.scans.sent (read.looks.nature.honest ∙ honest) in
+      omega arith in
+      search (rules, arith, below, saved, rises_touched, rested_all read, prepared_for sent)
