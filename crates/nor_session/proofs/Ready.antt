@@ -1,7 +1,7 @@
 -- What holds on every bus once the touched sectors are saved, and how many transactions follow.
-use Rattle.std.proofs.Common.{◌≡◌, ◌≤◌, ◌+◌, ◌/◌, ◌∙◌, ℕ, Bool, true, false, List, ap, sym, refl, arith}
+use Rattle.std.proofs.Common.{◌≡◌, ◌≤◌, ◌+◌, ◌/◌, ◌∙◌, ℕ, Bool, true, false, List, ap, sym, refl, arith, rules}
 use Rattle.std.specs.Prelude.{if◌then◌else◌}
-use Rattle.std.proofs.lemmas.Bool.{true_from_ne_false, false_from_ne_true, both_ways}
+use Rattle.std.proofs.lemmas.Bool.{true_from_ne_false, false_from_ne_true}
 use Rattle.std.proofs.lemmas.Bool.Decides.{nat_tests}
 use Rattle.nor_chip.specs.declared.status.Status.{Status}
 use Rattle.nor_chip.specs.Status.{bytes_of}
@@ -20,9 +20,10 @@ use Rattle.nor_apply.specs.Applying.{status_writes}
 use Rattle.nor_apply.proofs.ProgrammingWhole.{room}
 use Rattle.nor_save.specs.declared.opening.Opening.{Opening}
 use Rattle.nor_save.specs.declared.saving.SavedScan.{SavedScan}
+use Rattle.nor_save.specs.declared.scanning.Scanned.{Scanned}
 use Rattle.nor_call.specs.declared.request.Request.{Request}
 use Rattle.nor_call.specs.declared.request.What.{What}
-use Rattle.nor_call.specs.declared.request.What.TheVariants.{Write, Erase, WpRange}
+use Rattle.nor_call.specs.declared.request.What.TheVariants.{WpRange}
 use Rattle.nor_call.specs.Request.{is_data, scanned_sectors}
 use Rattle.nor_save.specs.Opening.{status_read, Opens, most_opening}
 use Rattle.nor_save.specs.Judging.{Lifts}
@@ -61,37 +62,27 @@ pub record Ready (request : Request) (opening : Opening) (status : Status) (code
 
 -- ---- the opening, and what is read after it
 
-pub has_opened : (request : Request) (opening : Opening) (old mid : BusState) → Looks most_opening old mid → Opens request.named old mid opening → HasLooked opening.transactions old mid
-has_opened request opening old mid looks opens = record {
-  nature = looks.nature;
-  same_sent = looks.sent;
-  heard = λ _. opens.heard;
-  rested = opens.rested;
-  sent = opens.count;
-}
+pub has_opened : {named : _} {opening : Opening} {old mid : BusState} → Looks most_opening old mid
+    → Opens named old mid opening → HasLooked opening.transactions old mid
+has_opened looks opens = search rules
 
-pub ready : (request : Request) (opening : Opening) (status : Status) (code most : ℕ) (image image' : List ℕ) (vault : _) (kept : SavedScan) (old mid new : BusState) → Looks most_opening old mid → Opens request.named old mid opening
-    → Looks most mid new → HasSaved request opening code image image' mid new vault kept → bytes_of status ≡ status_read opening
-    → (is_data request.what ≡ true → code ≡ code_in (status_read opening)) → Ready request opening status code kept old new
-ready request opening status code most image image' vault kept old mid new looks opens more keeps is_status same_code = record {
-  part = opens.part;
-  looked = record {
-    nature = nature_then old mid new more.nature looks.nature;
-    same_sent = more.sent ∙ looks.sent;
-    heard = λ _. keeps.scans.heard opens.heard;
-    rested = λ honest.
-        rested_then old mid new (opens.rested honest) (keeps.scans.rested (looks.nature.honest ∙ honest));
-    sent = λ honest. let sent = opens.count honest in let again = keeps.scans.sent (looks.nature.honest ∙ honest) in omega arith;
-  };
-  least = opens.least;
-  few = opens.most;
-  reads = keeps.scans.reads;
-  marks = keeps.scans.marks;
-  fewer = keeps.scans.few;
-  lifts = keeps.lifts;
-  is_status = is_status;
-  same_code = same_code;
-}
+pub ready : {request : Request} {opening : Opening} {status : Status} {code most : ℕ} {image image' : List ℕ}
+    {vault : _} {kept : SavedScan} {old mid new : BusState} → Looks most_opening old mid
+    → Opens request.named old mid opening → Looks most mid new
+    → HasSaved request opening code image image' mid new vault kept
+    → bytes_of status ≡ status_read opening → (is_data request.what ≡ true → code ≡ code_in (status_read opening))
+    → Ready request opening status code kept old new
+ready {opening = opening} {kept = kept} {old = old} {mid = mid} {new = new} looks opens more keeps is_status same_code =
+    let looked : HasLooked (opening.transactions + kept.scanned.reads) old new = record {
+      nature = nature_then old mid new more.nature looks.nature;
+      same_sent = more.sent ∙ looks.sent;
+      heard = λ _. keeps.scans.heard opens.heard;
+      rested = λ honest.
+          rested_then old mid new (opens.rested honest) (keeps.scans.rested (looks.nature.honest ∙ honest));
+      sent = λ honest.
+          let sent = opens.count honest in let again = keeps.scans.sent (looks.nature.honest ∙ honest) in omega arith;
+    } in
+    search rules
 
 -- ---- how many sectors there are
 
@@ -105,68 +96,63 @@ scanned_few request size small = let most = scanned_most request size in omega a
 
 -- ---- how many transactions there are
 
-pub spends_more : (m n : ℕ) (old new : BusState) → m ≤ n → Spends m old new → Spends n old new
-spends_more m n old new fits spends = record {
-  nature = spends.nature;
-  falls = λ honest. let falls = spends.falls honest in record { fell = falls.fell; bound = omega arith };
-}
+pub spends_more : {m n : ℕ} {old new : BusState} → m ≤ n → Spends m old new → Spends n old new
+spends_more fits spends =
+    record { nature = spends.nature; falls = λ honest. let falls = spends.falls honest in omega arith }
 
-pub spends_looks : (m n : ℕ) (old new : BusState) → m ≤ n → Looks m old new → Spends n old new
-spends_looks m n old new fits looks =
-    spends_more m n old new fits (record { nature = looks.nature; falls = λ honest. (looks.looked honest).falls })
-
--- after the readings come the changes
-pub spends_ready : (request : Request) (opening : Opening) (status : Status) (code : ℕ) (kept : SavedScan) (old mid new : BusState) → Ready request opening status code kept old mid
-    → Spends (most_changed (changes_of opening kept status code)) mid new → Spends (most_of (scanned_sectors request opening.found.size)) old new
-spends_ready request opening status code kept old mid new is spends = record {
-  nature = nature_then old mid new spends.nature is.looked.nature;
-  falls = λ honest.
-      let sent = is.looked.sent honest in let falls = spends.falls (is.looked.nature.honest ∙ honest) in
-      record { fell = omega arith; bound = omega arith };
-}
-
-pub ran_out_ready : {request : Request} {opening : Opening} {status : Status} {code : ℕ} {kept : SavedScan}
-    {old mid new : BusState} → old.honest ≡ true → Ready request opening status code kept old mid
-    → RanOut (most_changed (changes_of opening kept status code)) mid new
-    → RanOut (most_of (scanned_sectors request opening.found.size)) old new
-ran_out_ready honest is ran =
-    let sent = is.looked.sent honest in
-    record { none_left = ran.none_left; below = omega arith }
+pub spends_looks : {m n : ℕ} {old new : BusState} → m ≤ n → Looks m old new → Spends n old new
+spends_looks fits looks =
+    spends_more fits (record { nature = looks.nature; falls = λ honest. (looks.looked honest).falls })
 
 -- ---- how often the status is written
 
 -- what is touched was scanned, so the request is about bytes
-pub touched_data : (request : Request) (opening : Opening) (kept : SavedScan) (s : ℕ) → opening.found.size ≤ 16777216 → AreMarks (opening.found.size / 4096) kept.scanned → kept.scanned.count ≤ kept.scanned.reads
-    → kept.scanned.reads ≡ scanned_sectors request opening.found.size → has kept.scanned.touched s ≡ true → is_data request.what ≡ true
-touched_data request opening kept s large marks fewer reads some = true_from_ne_false (is_data request.what) (λ other.
+pub touched_data : (request : Request) (size : ℕ) {scanned : Scanned} (s : ℕ) → size ≤ 16777216
+    → AreMarks (size / 4096) scanned → scanned.count ≤ scanned.reads → scanned.reads ≡ scanned_sectors request size
+    → has scanned.touched s ≡ true → is_data request.what ≡ true
+touched_data request size {scanned} s large marks fewer reads some = true_from_ne_false (is_data request.what) (λ other.
     let below = marks.below s some in
-    let one = room (has kept.scanned.touched) s (omega arith) some in
+    let one = room (has scanned.touched) s (omega arith) some in
     grind (arith, nat_tests))
-
--- nothing is lifted where nothing was scanned
-pub lifts_none : (request : Request) (opening : Opening) (status : Status) (code : ℕ) (kept : SavedScan) (old mid : BusState) → Ready request opening status code kept old mid → is_data request.what ≡ false → kept.unlock ≡ false
-lifts_none request opening status code kept old mid is other = false_from_ne_true kept.unlock (λ lifted.
-    let some = (is.lifts lifted).1 in
-    both_ways (is_data request.what) other
-    (touched_data request opening kept some.0 is.part.at_most is.marks is.fewer is.reads some.1))
 
 writes_by : (what : What) (unlock lifted : Bool) (writes : ℕ) → writes ≤ 2 → (lifted ≡ true → unlock ≡ true)
     → (is_data what ≡ true → lifted ≡ false → writes ≡ 0) → (is_data what ≡ false → writes ≤ 1)
     → writes ≤ most_status_writes what unlock
 writes_by (WpRange start len) unlock lifted writes two lifts none one = one refl
-writes_by Write unlock lifted writes two lifts none one = let zero = none refl in grind (arith, nat_tests)
-writes_by Erase unlock lifted writes two lifts none one = let zero = none refl in grind (arith, nat_tests)
+writes_by _ unlock lifted writes two lifts none one = let zero = none refl in grind (arith, nat_tests)
 
-pub writes_few : (request : Request) (opening : Opening) (status : Status) (code : ℕ) (kept : SavedScan) (old mid : BusState) → Ready request opening status code kept old mid
-    → status_writes (changes_of opening kept status code) ≤ most_status_writes request.what request.unlock
-writes_few request opening status code kept old mid is =
-    let changes = changes_of opening kept status code in
-    writes_by request.what request.unlock kept.unlock (status_writes changes) (two_writes changes)
-    (λ lifted. (is.lifts lifted).0)
-    (λ about_bytes off.
-    let same : code_in (bytes_of status) ≡ code = ap code_in is.is_status ∙ sym (is.same_code about_bytes) in
-    grind (arith, nat_tests))
-    (λ range. write_once changes (lifts_none request opening status code kept old mid is range))
+module _ {request : Request} {opening : Opening} {status : Status} {code : ℕ} {kept : SavedScan} {old mid : BusState}
+    (is : Ready request opening status code kept old mid) where
+  -- after the readings come the changes
+  pub spends_ready : {new : BusState} → Spends (most_changed (changes_of opening kept status code)) mid new
+      → Spends (most_of (scanned_sectors request opening.found.size)) old new
+  spends_ready {new} spends = record {
+    nature = nature_then old mid new spends.nature is.looked.nature;
+    falls = λ honest.
+        let sent = is.looked.sent honest in let falls = spends.falls (is.looked.nature.honest ∙ honest) in omega arith;
+  }
+
+  pub ran_out_ready : {new : BusState} → old.honest ≡ true
+      → RanOut (most_changed (changes_of opening kept status code)) mid new
+      → RanOut (most_of (scanned_sectors request opening.found.size)) old new
+  ran_out_ready honest ran = let sent = is.looked.sent honest in omega arith
+
+  -- nothing is lifted where nothing was scanned
+  pub lifts_none : is_data request.what ≡ false → kept.unlock ≡ false
+  lifts_none other = false_from_ne_true kept.unlock (λ lifted.
+      let some = (is.lifts lifted).1 in
+      let about_bytes = touched_data request _ some.0 is.part.at_most is.marks is.fewer is.reads some.1 in
+      cc)
+
+  pub writes_few : status_writes (changes_of opening kept status code) ≤ most_status_writes request.what request.unlock
+  writes_few =
+      let changes = changes_of opening kept status code in
+      writes_by request.what request.unlock kept.unlock (status_writes changes) (two_writes changes)
+      (λ lifted. (is.lifts lifted).0)
+      (λ about_bytes off.
+      let same : code_in (bytes_of status) ≡ code = ap code_in is.is_status ∙ sym (is.same_code about_bytes) in
+      grind (arith, nat_tests))
+      (λ range. write_once changes (lifts_none range))
 
 -- ---- the report
 
@@ -179,18 +165,4 @@ pub bounded_by : (request : Request) (opening : Opening) (status : Status) (code
 bounded_by request opening status code kept old mid new wanted verify work sent most is_sent is writes does =
     let checks : (if verify then kept.scanned.count else 0) ≡ read_back (changes_of opening kept status code) verify
     = ap (λ (n : ℕ). if verify then n else 0) is.marks.count in
-    record {
-      touched = omega arith;
-      erases = omega arith;
-      programs = omega arith;
-      few = omega arith;
-      least = omega arith;
-    }
-
-pub bounded : (request : Request) (opening : Opening) (status : Status) (code : ℕ) (kept : SavedScan) (old mid new : BusState) (wanted : ℕ → ℕ) (verify : Bool) (work : Work) (sent : ℕ) → sent ≡ kept.scanned.reads → Ready request opening status code kept old mid
-    → DoesChange (changes_of opening kept status code) wanted verify mid new work
-    → IsWithinBound (scanned_sectors request opening.found.size) (most_status_writes request.what request.unlock) verify
-    (record { found = opening.found; touched = kept.scanned.count; erases = work.erases; programs = work.programs; transactions = opening.transactions + sent + work.transactions })
-bounded request opening status code kept old mid new wanted verify work sent is_sent is does =
-    bounded_by request opening status code kept old mid new wanted verify work sent (most_status_writes request.what request.unlock) is_sent is
-    (writes_few request opening status code kept old mid is) does
+    omega arith

@@ -4,7 +4,6 @@ use Rattle.nor_probe.specs.Known.{shown_as}
 use Rattle.nor_probe.specs.Found.{part_in}
 use Rattle.std.specs.Prelude.{Ok, ◌||◌, nat_lt, slice_index}
 use Rattle.std.proofs.lemmas.Bool.{true_from_ne_false, and_parts}
-use Rattle.nor_chip.specs.declared.config.Config.{Config}
 use Rattle.nor_chip.specs.declared.status.Status.{Status}
 use Rattle.nor_chip.specs.Status.{bytes_of}
 use Rattle.nor_chip.specs.Code.{code_in}
@@ -15,14 +14,14 @@ use Rattle.nor_chip.proofs.Guarded.{is_guarded-same}
 use Rattle.nor_driver.specs.Looks.{Rested}
 use Rattle.nor_plan.specs.SectorSet.{has}
 use Rattle.nor_apply.specs.Within.{is_writable}
-use Rattle.nor_apply.specs.Applying.{CanApply, writes_code}
+use Rattle.nor_apply.specs.Applying.{CanApply, status_writes, writes_code}
 use Rattle.nor_journal.specs.Vault.{VaultState}
 use Rattle.nor_apply.proofs.Kept.{kept_fixed, writable_same}
 use Rattle.nor_save.specs.declared.opening.Opening.{Opening}
 use Rattle.nor_save.specs.declared.saving.SavedScan.{SavedScan}
 use Rattle.nor_call.specs.declared.request.Request.{Request}
 use Rattle.nor_call.specs.declared.request.What.{What}
-use Rattle.nor_call.specs.declared.request.What.TheVariants.{Write, Erase, WpRange}
+use Rattle.nor_call.specs.declared.request.What.TheVariants.{WpRange}
 use Rattle.nor_call.specs.declared.refusal.Refusal.{Refusal}
 use Rattle.nor_call.specs.declared.refusal.Refusal.TheVariants.{Stopped, Timeout, Mismatch}
 use Rattle.nor_call.specs.Request.{is_data, wanted}
@@ -33,11 +32,12 @@ use Rattle.nor_session.specs.Bounds.{most_of}
 use Rattle.nor_save.specs.Saving.{IsOpening, OpeningAccepts, ScanAccepts, SomeHeld, NeedsStatus}
 use Rattle.nor_session.specs.Changing.{ChangeTells}
 use Rattle.nor_session.specs.Session.{HonestTells, SessionTells}
-use Rattle.nor_session.proofs.Changed.{writes_other}
+use Rattle.nor_session.specs.Verdict.{NeedsStatusWrite}
+use Rattle.nor_session.proofs.Changed.{no_write, writes_other}
 use Rattle.nor_session.proofs.JudgedStatus.{code_opened, held_scheme, free_place, writable_for}
 use Rattle.nor_session.proofs.RestoredBytes.{unraised_byte}
 use Rattle.nor_session.proofs.Ready.{Ready, changes_of, lifts_none, ran_out_ready, scanned_few}
-use Rattle.nor_session.proofs.ReadyChip.{ran_out_sized}
+use Rattle.nor_session.proofs.ReadyChip.{most_sized}
 
 -- All that is known of a chip whose touched sectors are saved, where it is what it shows itself to be.
 pub record ReadyChip (request : Request) (image image' : List ℕ) (opening : Opening) (code : ℕ) (kept : SavedScan) (old mid : BusState) : Type 0 where
@@ -62,15 +62,12 @@ needs_by : (what : What) (unlock lifted : Bool) (code : ℕ) (touched : ℕ → 
     → (is_data what ≡ true → code ≡ code_of chip) → (lifted ≡ false → code ≢ code_of chip)
     → NeedsStatus what unlock code touched chip
 needs_by (WpRange start len) unlock lifted code touched chip lifts off same other = other (off refl)
-needs_by Write unlock lifted code touched chip lifts off same other =
-    lifts (true_from_ne_false lifted (λ none. other none (same refl)))
-needs_by Erase unlock lifted code touched chip lifts off same other =
+needs_by _ unlock lifted code touched chip lifts off same other =
     lifts (true_from_ne_false lifted (λ none. other none (same refl)))
 
 scheme_needed : (what : What) (unlock : Bool) (code : ℕ) (touched : ℕ → Bool) (chip : Chip) → (is_data what ≡ false → chip.config.scheme ≡ true) → NeedsStatus what unlock code touched chip → chip.config.scheme ≡ true
 scheme_needed (WpRange start len) unlock code touched chip scheme need = scheme refl
-scheme_needed Write unlock code touched chip scheme need = held_scheme touched chip need.1
-scheme_needed Erase unlock code touched chip scheme need = held_scheme touched chip need.1
+scheme_needed _ unlock code touched chip scheme need = held_scheme touched chip need.1
 
 -- ---- the changes can be made
 
@@ -84,8 +81,14 @@ module _ (request : Request) (image image' : List ℕ) (opening : Opening) (stat
       let read : code_in (bytes_of status) ≡ code_in (status_read opening) = ap code_in is.is_status in
       let chip = code_opened of.is in
       needs_by request.what request.unlock kept.unlock code _ old.chip of.scan.lifts
-      (lifts_none request opening status code kept old mid is) (λ about_bytes. is.same_code about_bytes ∙ chip)
+      (lifts_none is) (λ about_bytes. is.same_code about_bytes ∙ chip)
       (λ off same. writes_other (changes_of opening kept status code) off writes (read ∙ chip ∙ sym same))
+
+  -- so never where none is needed
+  pub never_written : ¬ NeedsStatusWrite request image old.chip
+      → status_writes (changes_of opening kept status code) ≤ 0
+  never_written none =
+      no_write (changes_of opening kept status code) (λ writes. none (code, of.accepts.is_wanted, needs writes))
 
   writable : (kept.unlock || writes_code (changes_of opening kept status code)) ≡ true → is_writable old.chip ≡ true
   writable writes =
@@ -105,20 +108,13 @@ module _ (request : Request) (image image' : List ℕ) (opening : Opening) (stat
   pub can_apply : CanApply (changes_of opening kept status code) (λ a. slice_index image' a) mid.chip
   can_apply =
       let same = of.rested.unchanged.same in
-      let size : mid.chip.config.size ≡ old.chip.config.size = ap (λ (config : Config). config.size) same.config in
-      let sized = of.is.config.size in
+      let size : mid.chip.config.size ≡ opening.found.size = cc in
       let one : status.one.0 ≡ opening.found.status1 = (let read = is.is_status in cc) in
       let two : status.two.0 ≡ opening.status2 = (let read = is.is_status in cc) in
       record {
         idle = of.idle;
-        sized = record {
-          same = size ∙ sym sized;
-          same_kinds = ap (λ (config : Config). config.kinds) same.config ∙ sym of.is.config.kinds;
-        };
-        kept = record {
-          one = ap (λ (n : ℕ). n / 4) one ∙ of.is.one ∙ sym same.kept1;
-          two = omega arith;
-        };
+        sized = record { same = size; same_kinds = cc };
+        kept = record { one = ap (λ (n : ℕ). n / 4) one ∙ of.is.one ∙ sym same.kept1; two = omega arith };
         inside = λ s touched. let below = is.marks.below s touched in omega arith;
         free = λ off a touched.
             let below = is.marks.below (a / 4096) touched in
@@ -140,19 +136,21 @@ module _ (request : Request) (image image' : List ℕ) (opening : Opening) (stat
 pub change_gives_up : (request : Request) (opening : Opening) (status : Status) (code : ℕ) (kept : SavedScan) (aim : ℕ → ℕ) (old mid new : BusState) (refusal : Refusal) → old.honest ≡ true
     → Ready request opening status code kept old mid → ChangeTells (changes_of opening kept status code) aim mid new refusal → HonestTells (most_of 4096) (λ refusal. number_of refusal ≤ 11) old new refusal
 change_gives_up request opening status code kept aim old mid new Stopped honest is tells =
-    let ran = ran_out_ready honest is (tells (is.looked.nature.honest ∙ honest)) in
+    let ran = ran_out_ready is honest (tells (is.looked.nature.honest ∙ honest)) in
     let few = scanned_few request opening.found.size is.part.at_most in
-    record { none_left = ran.none_left; below = omega arith }
+    omega arith
 change_gives_up request opening status code kept aim old mid new (Timeout address) honest is tells = tells (is.looked.nature.honest ∙ honest)
-change_gives_up request opening status code kept aim old mid new (Mismatch address) honest is tells = λ judged. let past : 14 ≤ 11 = judged in absurd (omega arith)
+change_gives_up request opening status code kept aim old mid new (Mismatch address) honest is tells =
+    λ judged. absurd (omega arith)
 change_gives_up request opening status code kept aim old mid new _ honest is tells = absurd tells
 
 pub change_tells : (request : Request) (image image' : List ℕ) (opening : Opening) (status : Status) (code : ℕ) (kept : SavedScan) (old mid new : BusState) (vault vault' : VaultState) (refusal : Refusal)
     → Ready request opening status code kept old mid → ReadyChip request image image' opening code kept old mid
     → ChangeTells (changes_of opening kept status code) (λ a. slice_index image' a) mid new refusal → SessionTells request image old new vault vault' refusal
 change_tells request image image' opening status code kept old mid new vault vault' Stopped is of tells =
-    ran_out_sized request opening old new of.is.config
-    (ran_out_ready of.honest is (tells (is.looked.nature.honest ∙ of.honest)))
+    let ran = ran_out_ready is of.honest (tells (is.looked.nature.honest ∙ of.honest)) in
+    let sized = most_sized request of.is.config in
+    omega arith
 change_tells request image image' opening status code kept old mid new vault vault' (Timeout address) is of tells = absurd (tells (is.looked.nature.honest ∙ of.honest))
 change_tells request image image' opening status code kept old mid new vault vault' (Mismatch address) is of tells =
     absurd (tells (is.looked.nature.honest ∙ of.honest) (can_apply request image image' opening status code kept old mid is of))

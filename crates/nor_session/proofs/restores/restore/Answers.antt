@@ -1,11 +1,12 @@
-use Rattle.std.proofs.Common.{◌+◌, length, rules, arith}
+use Rattle.std.proofs.Common.{◌+◌, length, sym, rules, arith}
 use Rattle.std.proofs.lemmas.Result.{err_from_is_err_and}
 use Rattle.nor_save.specs.Opening.{most_opening}
 use Rattle.nor_session.specs.Bounds.{most_looked, most_of}
 use Rattle.nor_session.proofs.Restoring.{AreChanged, looks_most, looks_spend, prepare_answers, prepare_gives_up, prepare_tells, looks_leave, looks_back, changed_spends, changed_leaves, changed_back, change_answers, change_not_judged, change_gives_up, change_tells, sum_fits, restored_bounded, restored_counted, restored_sparing, restored_done, restored_back}
+use Rattle.nor_session.proofs.Changed.{two_writes, no_write}
 use Rattle.nor_session.proofs.GivenBack.{only_stopped}
-use Rattle.nor_session.proofs.Naming.{prepare_names, restore_names}
-use Rattle.nor_session.proofs.Aiming.{none_written, none_aimed, restore_aims, restore_writes, restore_unwritten}
+use Rattle.nor_session.proofs.Naming.{prepare_names, change_names}
+use Rattle.nor_session.proofs.Aiming.{none_written, none_aimed, change_aims, change_writes}
 use Rattle.nor_session.proofs.restores.restore.Goals as goal
 
 -- it was judged, or stopped before that
@@ -23,27 +24,16 @@ returns-in_err-prepared g c =
         back = search rules;
         only_stops = λ first can. only_stopped journal first old new refusal can (told modelled tells);
       };
-      always = record {
-        spends = looks_spend most (most_of (length journal.saved)) old new (omega arith) looks;
-        aims = none_aimed journal old new looks.sent;
-        writes = none_written 2 old new looks.sent;
-        answers = prepare_answers journal most old new refusal tells;
-        names = prepare_names journal most old new refusal tells;
-        looks = λ first. looks_most most (most_looked 4096) old new (omega arith) looks;
-        bounded = search rules;
-        heard = search rules;
-      };
-      honest = λ honest. record {
-        gives_up = prepare_gives_up journal most old new refusal (omega arith) honest tells;
-        counted = search rules;
-      };
-      modelled = λ modelled. record {
-        tells = told modelled tells;
-        leaves = looks_leave journal most old new (looks.looked modelled.honest);
-        done = search rules;
-        unwritten = λ none. none_written 0 old new looks.sent;
-        spares = search rules;
-      };
+      always =
+          let spends = looks_spend most (most_of (length journal.saved)) old new (omega arith) looks in
+          let looks = looks_most most (most_looked 4096) old new (omega arith) looks in
+          search (rules, arith, none_aimed, none_written, prepare_answers, prepare_names);
+      honest = λ honest.
+          let gives_up = prepare_gives_up journal most old new refusal (omega arith) honest tells in search rules;
+      modelled = λ modelled.
+          let told = told modelled tells in
+          let leaves = looks_leave journal most old new (looks.looked modelled.honest) in
+          search (rules, none_written);
     })
 
 -- the changes weren't finished
@@ -51,8 +41,7 @@ pub returns-in_err-work : goal.returns-in_err-work
 returns-in_err-work g c =
     let journal = c.args.journal.now in let prepared = c.in_ok-prepared.prepared in
     let old = g.B.Bus.state c.args.bus.now in let mid = g.B.Bus.state c.prepare.new.bus in let new = g.B.Bus.state c.finish.new.self.0 in
-    let are : AreChanged journal prepared old mid new
-    = record { room = c.prepare.ensures.room; looks = c.prepare.ensures.leaves; is = c.in_ok-prepared.ensures.prepares; leaves = c.finish.ensures.leaves } in
+    let are : AreChanged journal prepared old mid new = search rules in
     let refusal = c.in_err-work.field-0.0 in let tells = c.in_err-work.ensures.tells in
     let p = err_from_is_err_and c.from_residual-in_err-work.result c.from_residual-in_err-work.ensures.1 in
     rw (p.1, p.2) (record {
@@ -64,10 +53,10 @@ returns-in_err-work g c =
       };
       always = record {
         spends = changed_spends journal prepared old mid new are;
-        aims = restore_aims journal prepared old mid new are;
-        writes = restore_writes journal prepared old mid new are;
+        aims = change_aims old are.looks.sent are.leaves journal (sym are.is.sized) are.is.saved;
+        writes = change_writes old are.looks.sent are.leaves (two_writes prepared.changes);
         answers = change_answers prepared.changes _ mid new refusal tells;
-        names = restore_names journal prepared.changes refusal are.is.saved c.in_err-work.ensures.names;
+        names = change_names prepared.changes refusal are.is.saved c.in_err-work.ensures.names;
         looks = λ first. absurd (change_not_judged prepared.changes _ mid new refusal tells first);
         bounded = search rules;
         heard = search rules;
@@ -80,7 +69,8 @@ returns-in_err-work g c =
         tells = change_tells journal prepared old mid new refusal are modelled tells;
         leaves = changed_leaves journal prepared old mid new are modelled;
         done = search rules;
-        unwritten = λ none. restore_unwritten journal prepared old mid new are modelled none;
+        unwritten = λ none. change_writes old are.looks.sent are.leaves
+            (no_write prepared.changes (λ writes. none ((are.is.modelled modelled).needed writes)));
         spares = search rules;
       };
     })
@@ -89,8 +79,7 @@ returns-in_err-work g c =
 pub overflow_add-result : goal.overflow_add-result
 overflow_add-result g c =
     let are : AreChanged c.args.journal.now c.in_ok-prepared.prepared (g.B.Bus.state c.args.bus.now)
-    (g.B.Bus.state c.prepare.new.bus) (g.B.Bus.state c.finish.new.self.0)
-    = record { room = c.prepare.ensures.room; looks = c.prepare.ensures.leaves; is = c.in_ok-prepared.ensures.prepares; leaves = c.finish.ensures.leaves } in
+    (g.B.Bus.state c.prepare.new.bus) (g.B.Bus.state c.finish.new.self.0) = search rules in
     let fits = sum_fits _ c.in_ok-prepared.prepared _ _ _ c.in_ok-work.work are c.in_ok-work.ensures.does in
     omega (arith, fits)
 
@@ -98,8 +87,7 @@ pub returns : goal.returns
 returns g c =
     let journal = c.args.journal.now in let prepared = c.in_ok-prepared.prepared in
     let old = g.B.Bus.state c.args.bus.now in let mid = g.B.Bus.state c.prepare.new.bus in let new = g.B.Bus.state c.finish.new.self.0 in
-    let are : AreChanged journal prepared old mid new
-    = record { room = c.prepare.ensures.room; looks = c.prepare.ensures.leaves; is = c.in_ok-prepared.ensures.prepares; leaves = c.finish.ensures.leaves } in
+    let are : AreChanged journal prepared old mid new = search rules in
     let work = c.in_ok-work.work in let sent = prepared.transactions + work.transactions in
     let does = c.in_ok-work.ensures.does in
     record {
@@ -111,8 +99,8 @@ returns g c =
       };
       always = record {
         spends = changed_spends journal prepared old mid new are;
-        aims = restore_aims journal prepared old mid new are;
-        writes = restore_writes journal prepared old mid new are;
+        aims = change_aims old are.looks.sent are.leaves journal (sym are.is.sized) are.is.saved;
+        writes = change_writes old are.looks.sent are.leaves (two_writes prepared.changes);
         answers = search rules;
         names = search rules;
         looks = search rules;
@@ -127,7 +115,8 @@ returns g c =
         tells = search rules;
         leaves = changed_leaves journal prepared old mid new are modelled;
         done = restored_done journal prepared old mid new work sent are does modelled;
-        unwritten = λ none. restore_unwritten journal prepared old mid new are modelled none;
+        unwritten = λ none. change_writes old are.looks.sent are.leaves
+            (no_write prepared.changes (λ writes. none ((are.is.modelled modelled).needed writes)));
         spares = λ none. restored_sparing journal prepared old mid new work sent are does (omega arith) modelled none;
       };
     }
