@@ -1,5 +1,6 @@
 -- A copy grows by a piece after the other, until it is whole, or the vault refuses one.
-use Rattle.std.proofs.Common.{◌≡◌, ◌≤◌, ◌<◌, ◌+◌, ◌-◌, ◌*◌, ◌++◌, ◌∙◌, ℕ, true, List, [], length, slice_index, take, Option, refl, ap, sym, arith, inl, inr, append_assoc, append-nil, length-append}
+use Rattle.std.proofs.Common.{◌≡◌, ◌≤◌, ◌<◌, ◌+◌, ◌-◌, ◌*◌, ◌++◌, ◌∙◌, ℕ, true, List, [], length, slice_index, take}
+use Rattle.std.proofs.Common.{Option, refl, ap, sym, arith, inl, inr, append_assoc, append-nil, length-append}
 use Rattle.std.specs.Prelude.{◌/◌}
 use Rattle.std.proofs.lemmas.Bool.{cases_lt}
 use Rattle.std.proofs.lemmas.List.{get_or_append_left, get_or-append_right, get_or-take, length-take-le}
@@ -24,12 +25,7 @@ pub record CopiesIf (known : Type 0) (included : Option (List Span)) (content : 
 
 copies_if : {known : Type 0} {included : Option (List Span)} {content : ℕ → ℕ} {count : ℕ} {old new : VaultState}
     → CopiesIf known included content count old new → known → Copies included content count old new
-copies_if has is = record {
-  bytes = has.grows.bytes;
-  long = has.grows.long;
-  grown = has.grows.grown;
-  right = has.right is;
-}
+copies_if has is = let right = has.right is in search right
 
 -- The pieces below n were copied.
 pub record HasCopied (included : Option (List Span)) (size n : ℕ) (old new : BusState) (vault vault' : VaultState)
@@ -46,7 +42,7 @@ copied_none included size state vault = record {
   few = omega arith;
   counted = sym (count_below-zero (has_in_sector (includes included)));
   looked = has_looked-none state;
-  accepted = record { telling = refl; sealed = refl; failures = refl };
+  accepted = assumption;
   copy = λ telling. record {
     grows = record { bytes = []; long = refl; grown = sym (append-nil vault.bytes) };
     right = λ known a below. absurd (omega arith);
@@ -54,27 +50,27 @@ copied_none included size state vault = record {
 }
 
 -- so many bytes more
-copies_more : {known : Type 0} {included : Option (List Span)} {content : ℕ → ℕ} {m : ℕ} {vault mid new : VaultState}
-    (k count : ℕ) (part : List ℕ) → m + k ≡ count → CopiesIf known included content m vault mid → length part ≡ k
-    → new.bytes ≡ mid.bytes ++ part
-    → (known → (i : ℕ) → i < k → slice_index part i ≡ copied included content (m + i))
-    → CopiesIf known included content count vault new
-copies_more {known} {included} {content} {m} {vault} {mid} {new} k count part all has long grown right =
-    let before = has.grows in
-    let whole = before.long in
-    record {
-      grows = record {
-        bytes = before.bytes ++ part;
-        long = length-append before.bytes part ∙ (omega arith);
-        grown = grown ∙ ap (λ (xs : List ℕ). xs ++ part) before.grown ∙ append_assoc vault.bytes before.bytes part;
-      };
-      right = λ is a below. elim (cases_lt a m) [
-        | inl low ↦ get_or_append_left before.bytes part 0 a (omega arith) ∙ has.right is a low
-        | inr behind ↦
-            let at : m + (a - m) ≡ a = omega arith in
-            get_or-append_right before.bytes part m a 0 whole behind ∙ rw at at (right is (a - m) (omega arith))
-      ];
-    }
+module _ {known : Type 0} {included : Option (List Span)} {content : ℕ → ℕ} {m : ℕ} {vault mid new : VaultState} where
+  copies_more : (k count : ℕ) (part : List ℕ) → m + k ≡ count → CopiesIf known included content m vault mid
+      → length part ≡ k → new.bytes ≡ mid.bytes ++ part
+      → (known → (i : ℕ) → i < k → slice_index part i ≡ copied included content (m + i))
+      → CopiesIf known included content count vault new
+  copies_more k count part all has long grown right =
+      let before = has.grows in
+      let whole = before.long in
+      record {
+        grows = record {
+          bytes = before.bytes ++ part;
+          long = length-append before.bytes part ∙ (omega arith);
+          grown = grown ∙ ap (λ (xs : List ℕ). xs ++ part) before.grown ∙ append_assoc vault.bytes before.bytes part;
+        };
+        right = λ is a below. elim (cases_lt a m) [
+          | inl low ↦ get_or_append_left before.bytes part 0 a (omega arith) ∙ has.right is a low
+          | inr behind ↦
+              let at : m + (a - m) ≡ a = omega arith in
+              get_or-append_right before.bytes part m a 0 whole behind ∙ rw at at (right is (a - m) (omega arith))
+        ];
+      }
 
 -- ---- a piece after those below n
 
@@ -94,7 +90,8 @@ module _ {included : Option (List Span)} {size n reads more : ℕ} {bytes : List
       rw (same_bytes (has.looked.rested is_open.honest)) at (piece.right now.honest now.idle (omega arith) i small)
 
   -- the vault took it
-  pub copied_more : {later : VaultState} → Took now bytes later → HasCopied included size (n + 1) old new vault later (reads + more)
+  pub copied_more : {later : VaultState} → Took now bytes later
+      → HasCopied included size (n + 1) old new vault later (reads + more)
   copied_more took = record {
     few = let few = has.few in let most = piece.most in omega arith;
     counted =
@@ -141,11 +138,8 @@ module _ {included : Option (List Span)} {size n reads more : ℕ} {bytes : List
 pub copied_all : {included : Option (List Span)} {size n reads : ℕ} {old new : BusState} {vault vault' : VaultState}
     → 65536 * n ≡ size → HasCopied included size n old new vault vault' reads → reads ≡ sectors_included included size
     → ReadsAll included size old new vault vault' reads
-copied_all whole has counted = record {
-  counted = counted;
-  heard = has.looked.heard;
-  rested = has.looked.rested;
-  fell = has.looked.sent;
-  took = record { accepted = has.accepted; grows = λ telling. rw whole at (has.copy telling).grows };
-  copy = λ is_open telling. rw whole at (copies_if (has.copy telling) is_open);
-}
+copied_all {included} {size} {old = old} {vault = vault} {vault' = vault'} whole has counted =
+    let grows : vault.telling ≡ true → Grows size vault vault' = λ telling. rw whole at (has.copy telling).grows in
+    let copy : IsOpen size old → vault.telling ≡ true → Copies included old.chip.bytes size vault vault'
+    = λ is_open telling. rw whole at (copies_if (has.copy telling) is_open) in
+    search

@@ -1,5 +1,6 @@
 -- The first difference, sector by sector.
-use Rattle.std.proofs.Common.{◌≡◌, ◌≤◌, ◌<◌, ◌+◌, ◌-◌, ◌*◌, ◌∙◌, ℕ, Bool, true, false, List, length, slice_index, Option, Some, None, subst, sym, arith, inl, inr}
+use Rattle.std.proofs.Common.{◌≡◌, ◌≤◌, ◌<◌, ◌+◌, ◌-◌, ◌*◌, ◌∙◌, ℕ, Bool, true, false, List, length, slice_index}
+use Rattle.std.proofs.Common.{Option, Some, None, subst, sym, arith, inl, inr}
 use Rattle.std.specs.Prelude.{◌/◌, MatchBool, if◌then◌else◌}
 use Rattle.std.specs.Option.{option_or}
 use Rattle.std.proofs.lemmas.Bool.{cases_lt, cases_Bool}
@@ -30,8 +31,8 @@ pub record IsFilled (included : Option (List Span)) (image : List ℕ) (sector :
     (bytes filled part : List ℕ) : Type 0 where
   pub long : length filled ≡ 4096
   pub cut : (i : ℕ) → i < 4096 → slice_index part i ≡ slice_index image (4096 * sector + i)
-  pub fills : (i : ℕ) → i < 4096
-      → slice_index filled i ≡ (if includes included (4096 * sector + i) then slice_index bytes i else slice_index part i)
+  pub fills : (i : ℕ) → i < 4096 → slice_index filled i
+      ≡ (if includes included (4096 * sector + i) then slice_index bytes i else slice_index part i)
 
 module _ {included : Option (List Span)} {image : List ℕ} {sector : ℕ} {bytes filled part : List ℕ}
     (is : IsFilled included image sector bytes filled part)
@@ -118,25 +119,21 @@ pub record HasCompared (included : Option (List Span)) (image : List ℕ) (size 
 
 pub compared_none : (included : Option (List Span)) (image : List ℕ) (size : ℕ) (state : BusState)
     → HasCompared included image size 0 state state None 0
-compared_none included image size state = record {
-  few = omega arith;
-  counted = sym (count_below-zero (has_in_sector (includes included)));
-  looked = has_looked-none state;
-  tells = λ is_open a above below inside. absurd (omega arith);
-}
+compared_none included image size state = grind (arith, count_below-zero, has_looked-none state)
 
-pub compared_more : {included : Option (List Span)} {image : List ℕ} {size n reads : ℕ} {old mid new : BusState}
-    {first : Option ℕ} {part : Compared} → n < size / 4096
-    → HasCompared included image size n old mid first reads → Looks 1 mid new
-    → ComparesPart included image n mid new part
-    → HasCompared included image size (n + 1) old new (option_or first part.first) (reads + part.reads)
-compared_more {included} {image} {size} {n} {reads} {old} {mid} {new} {first} {part} below has looks compares = record {
-  few = let few = has.few in let counted = compares.counted in grind arith;
-  counted = counted_on n reads part.reads (has_in_sector (includes included)) has.counted compares.counted;
-  looked = looked_on has.looked (has_looked looks compares.rested compares.fell compares.heard);
-  tells = λ is_open.
-      let now = open_on is_open has.looked in
-      let same = now.same in
-      tells_more included image old.chip.bytes 0 (4096 * n) (4096 * (n + 1)) first part.first (omega arith) (omega arith)
-      (has.tells is_open) (rw (same_bytes (has.looked.rested is_open.honest)) at (compares.tells now.honest now.idle (omega arith)));
-}
+module _ {included : Option (List Span)} {image : List ℕ} {size n reads : ℕ} {old mid new : BusState}
+    {first : Option ℕ} {part : Compared} where
+  pub compared_more : n < size / 4096 → HasCompared included image size n old mid first reads → Looks 1 mid new
+      → ComparesPart included image n mid new part
+      → HasCompared included image size (n + 1) old new (option_or first part.first) (reads + part.reads)
+  compared_more below has looks compares = record {
+    few = let few = has.few in let counted = compares.counted in grind arith;
+    counted = counted_on n reads part.reads (has_in_sector (includes included)) has.counted compares.counted;
+    looked = looked_on has.looked (has_looked looks compares.rested compares.fell compares.heard);
+    tells = λ is_open.
+        let now = open_on is_open has.looked in
+        let same = now.same in
+        tells_more included image old.chip.bytes 0 (4096 * n) (4096 * (n + 1)) first part.first (omega arith)
+        (omega arith) (has.tells is_open) (rw (same_bytes (has.looked.rested is_open.honest))
+        at (compares.tells now.honest now.idle (omega arith)));
+  }

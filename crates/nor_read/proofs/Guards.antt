@@ -1,5 +1,6 @@
 -- What the two status bytes tell of a chip that was found.
-use Rattle.std.proofs.Common.{◌≡◌, ◌∙◌, ℕ, ◌/◌, ◌%◌, Bool, true, false, List, [], ◌∷◌, Option, Some, None, Result, Ok, Err, ap, sym, refl, arith}
+use Rattle.std.proofs.Common.{◌≡◌, ◌∙◌, ℕ, ◌/◌, ◌%◌, Bool, true, false, List, [], ◌∷◌, Option, Some, None, Result, Ok}
+use Rattle.std.proofs.Common.{Err, ap, sym, refl, arith}
 use Rattle.std.specs.Prelude.{◌||◌, ◌==◌, MatchOption}
 use Rattle.std.proofs.lemmas.Bool.Decides.{nat_tests}
 use Rattle.nor_chip.specs.Chip.{Chip, IsSame, status1_of}
@@ -95,17 +96,15 @@ module _ (named : Option ChipName) where
           refuses = tt;
           heard = same ∙ found.heard;
         };
-        honest = λ honest. record {
-          rested = rested_on found looks (λ is. (reads.read is).rested) honest;
-          idle =
-              let idle = found.idle honest in
-              let same = (reads.read (looks.nature.honest ∙ honest)).busy in omega arith;
-          is = has_name found looks honest;
-          tells = tt;
-        };
+        honest = λ honest.
+            let rested = rested_on found looks (λ is. (reads.read is).rested) honest in
+            let idle = found.idle honest in
+            let same = (reads.read (looks.nature.honest ∙ honest)).busy in
+            search (arith, has_name found looks);
         modelled = λ known.
             let was = (found.rested known.honest).unchanged.same in
-            let one = kept1_read old.chip mid.chip probed.found.status1 (found.status1 known.honest) was (found.idle known.honest) in
+            let one = kept1_read old.chip mid.chip probed.found.status1 (found.status1 known.honest) was
+            (found.idle known.honest) in
             let two : status2 ≡ old.chip.kept2 = reads.told (looks.nature.honest ∙ known.honest) ∙ was.kept2 in
             let protects : old.chip.config.scheme ≡ true = sym (found.is.config known).scheme ∙ scheme in
             let code : code_in bytes ≡ code_of old.chip = rw (are, one, two) refl in

@@ -1,8 +1,7 @@
 -- Readings that follow one another, of which some sent nothing.
-use Rattle.std.proofs.Common.{◌≡◌, ◌+◌, ◌∙◌, ℕ, Bool, true, ap, arith}
+use Rattle.std.proofs.Common.{◌≡◌, ◌+◌, ℕ, Bool, true, arith}
 use Rattle.std.specs.Prelude.{if◌then◌else◌}
 use mathlib.Core.Path.{fun_ext}
-use Rattle.nor_chip.specs.declared.config.Config.{Config}
 use Rattle.nor_chip.specs.Bus.{BusState}
 use Rattle.nor_chip.proofs.Nature.{nature_then}
 use Rattle.nor_driver.specs.Ready.{StaysReady}
@@ -33,10 +32,4 @@ counted_on n reads more test before last = let next = count_below-more n test in
 
 -- an idle chip stays one, of the same size
 pub open_on : {size reads : ℕ} {old mid : BusState} → IsOpen size old → HasLooked reads old mid → IsOpen size mid
-open_on is_open looked =
-    let was = (looked.rested is_open.honest).unchanged in let idle = is_open.idle in
-    record {
-      honest = looked.nature.honest ∙ is_open.honest;
-      idle = omega arith;
-      same = ap (λ (config : Config). config.size) was.same.config ∙ is_open.same;
-    }
+open_on is_open looked = let was = (looked.rested is_open.honest).unchanged in search arith

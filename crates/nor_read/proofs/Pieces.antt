@@ -1,5 +1,6 @@
 -- A piece of the copy grows by a sector after the other.
-use Rattle.std.proofs.Common.{◌≡◌, ◌≤◌, ◌<◌, ◌+◌, ◌-◌, ◌*◌, ◌∙◌, ℕ, true, List, length, slice_index, Option, refl, arith, inl, inr}
+use Rattle.std.proofs.Common.{◌≡◌, ◌≤◌, ◌<◌, ◌+◌, ◌-◌, ◌*◌, ◌∙◌, ℕ, true, List, length, slice_index, Option, refl}
+use Rattle.std.proofs.Common.{arith, inl, inr}
 use Rattle.std.proofs.lemmas.Bool.{cases_lt}
 use borrow.Rule.Slice.PartMut.{put_mid}
 use Rattle.nor_chip.specs.Bus.{BusState}
@@ -25,51 +26,40 @@ pub record HasPieced (included : Option (List Span)) (piece k : ℕ) (bytes : Li
 
 pub pieced_none : (included : Option (List Span)) (piece : ℕ) (bytes : List ℕ) (state : BusState)
     → HasPieced included piece 0 bytes state state 0
-pieced_none included piece bytes state = record {
-  few = omega arith;
-  counted = let same : 16 * piece + 0 ≡ 16 * piece = omega arith in rw same (omega arith);
-  looked = has_looked-none state;
-  right = λ honest idle fits i below. absurd (omega arith);
-}
+pieced_none included piece bytes state = grind (arith, has_looked-none state)
 
 -- a sector more
-pub pieced_more : {included : Option (List Span)} {piece k reads more : ℕ} {bytes part : List ℕ}
-    {old mid new : BusState} (width : ℕ) → k < 16 → width ≡ 4096 → length bytes ≡ 65536 → length part ≡ 4096
-    → HasPieced included piece k bytes old mid reads → Looks 1 mid new
-    → ReadsPart included (16 * piece + k) part mid new more
-    → HasPieced included piece (k + 1) (put_mid (4096 * k) width bytes part) old new (reads + more)
-pieced_more {included} {piece} {k} {reads} {more} {bytes} {part} {old} {mid} {new} width below exact whole long has looks reading =
-    let test = has_in_sector (includes included) in
-    record {
-      few = let few = has.few in let one = reading.counted in grind arith;
-      counted =
-          let next = count_below-more (16 * piece + k) test in let before = has.counted in let last = reading.counted in
-          let e : 16 * piece + (k + 1) ≡ 16 * piece + k + 1 = omega arith in
-          rw e (omega arith);
-      looked = looked_on has.looked (has_looked looks reading.rested reading.fell reading.heard);
-      right = λ honest idle fits i small.
-          let put = put_back k width bytes part exact long (omega arith) in
-          elim (cases_lt i (4096 * k)) [
-            | inl before ↦ put.outside i (λ same. omega arith) ∙ has.right honest idle fits i before
-            | inr behind ↦
-                let j = i - 4096 * k in
-                let at : 4096 * k + j ≡ i = omega arith in
-                let far : 4096 * (16 * piece + k) + j ≡ 65536 * piece + i = omega arith in
-                let now = open_on (record { honest = honest; idle = idle; same = refl }) has.looked in
-                let same = now.same in
-                rw at at (put.inside j (omega arith))
-                ∙ rw (same_bytes (has.looked.rested honest), far) at (reading.right now.honest now.idle (omega arith) j (omega arith))
-          ];
-    }
+module _ {included : Option (List Span)} {piece k reads more : ℕ} {bytes part : List ℕ} {old mid new : BusState} where
+  pub pieced_more : (width : ℕ) → k < 16 → width ≡ 4096 → length bytes ≡ 65536 → length part ≡ 4096
+      → HasPieced included piece k bytes old mid reads → Looks 1 mid new
+      → ReadsPart included (16 * piece + k) part mid new more
+      → HasPieced included piece (k + 1) (put_mid (4096 * k) width bytes part) old new (reads + more)
+  pieced_more width below exact whole long has looks reading =
+      let test = has_in_sector (includes included) in
+      record {
+        few = let few = has.few in let one = reading.counted in grind arith;
+        counted =
+            let next = count_below-more (16 * piece + k) test in let before = has.counted in
+            let last = reading.counted in let e : 16 * piece + (k + 1) ≡ 16 * piece + k + 1 = omega arith in
+            rw e (omega arith);
+        looked = looked_on has.looked (has_looked looks reading.rested reading.fell reading.heard);
+        right = λ honest idle fits i small.
+            let put = put_back k width bytes part exact long (omega arith) in
+            elim (cases_lt i (4096 * k)) [
+              | inl before ↦ put.outside i (λ same. omega arith) ∙ has.right honest idle fits i before
+              | inr behind ↦
+                  let j = i - 4096 * k in
+                  let at : 4096 * k + j ≡ i = omega arith in
+                  let far : 4096 * (16 * piece + k) + j ≡ 65536 * piece + i = omega arith in
+                  let now = open_on (record { honest = honest; idle = idle; same = refl }) has.looked in
+                  let same = now.same in
+                  rw at at (put.inside j (omega arith))
+                  ∙ rw (same_bytes (has.looked.rested honest), far)
+                  at (reading.right now.honest now.idle (omega arith) j (omega arith))
+            ];
+      }
 
 -- all sixteen
 pub pieced_all : {included : Option (List Span)} {piece k reads : ℕ} {bytes : List ℕ} {old new : BusState} → k ≡ 16
     → HasPieced included piece k bytes old new reads → ReadsPiece included piece bytes old new reads
-pieced_all all has = let at_16 = rw all at has in record {
-  counted = at_16.counted;
-  most = at_16.few;
-  heard = has.looked.heard;
-  rested = has.looked.rested;
-  fell = has.looked.sent;
-  right = λ honest idle fits i small. at_16.right honest idle fits i (omega arith);
-}
+pieced_all all has = let at_16 = rw all at has in grind arith

@@ -42,9 +42,10 @@ module _ (named : Option ChipName) (included : Option (List Span)) (vault : Vaul
   -- no chip is found
   unfound_tells : (old new : BusState) (refusal : Refusal) → OpeningTells most_probe named old new refusal
       → IsReadRefusal vault vault refusal × (IsModelled old → ReadOutTells named included old new vault vault refusal)
-  unfound_tells old new Stopped tells = ((tt, accepted_none vault), λ known. let ran = tells known.honest in omega arith)
+  unfound_tells old new Stopped tells =
+      ((tt, accepted_none vault), λ known. let ran = tells known.honest in omega arith)
   unfound_tells old new (Timeout address) tells = ((tells.0, accepted_none vault), λ known. tt)
-  unfound_tells old new _ tells = search (accepted_none vault)
+  unfound_tells old new _ tells = let none = accepted_none vault in search
 
   pub unfound : {old new : BusState} (refusal : Refusal) → Looks most_probe old new
       → OpeningTells most_probe named old new refusal → HasReadOut named included old new vault vault (Err refusal)
@@ -87,7 +88,8 @@ module _ (named : Option ChipName) (included : Option (List Span)) (vault : Vaul
           let looked = has_looked after all.rested all.fell all.heard in
           let reports = reported found looks looked all.counted in
           let took = all.took in
-          let copy : IsModelled old → vault.telling ≡ true → Copies included old.chip.bytes old.chip.config.size vault vault'
+          let copy : IsModelled old → vault.telling ≡ true
+          → Copies included old.chip.bytes old.chip.config.size vault vault'
           = λ known telling. rw (size_of found looks known, same_bytes (found.rested known.honest))
           at (all.copy (open_after found looks known) telling) in
           search (sends.own, reports.reads, reports.config)

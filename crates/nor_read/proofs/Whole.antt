@@ -1,7 +1,6 @@
 -- The probe, and what is read after it.
-use Rattle.std.proofs.Common.{◌≡◌, ◌≤◌, ◌+◌, ◌∙◌, ℕ, true, List, Option, Result, Ok, Err, ap, sym, refl, arith}
+use Rattle.std.proofs.Common.{◌≡◌, ◌≤◌, ◌+◌, ◌∙◌, ℕ, true, List, Option, Result, Ok, Err, ap, sym, arith}
 use Rattle.std.specs.Prelude.{◌/◌, IsErrAnd}
-use Rattle.nor_chip.specs.declared.config.Config.{Config}
 use Rattle.nor_chip.specs.Chip.{status1_of}
 use Rattle.nor_chip.specs.Bus.{BusState}
 use Rattle.nor_driver.specs.Looks.{Rested, Looks, RanOut, RanOutIfHonest, IsOpen}
@@ -10,7 +9,7 @@ use Rattle.nor_layout.specs.Sectors.{sectors_included, FitsInto, ReachesPast}
 use Rattle.nor_layout.proofs.Sectors.{sectors_included-most}
 use Rattle.nor_probe.specs.declared.table.ChipName.{ChipName}
 use Rattle.nor_probe.specs.declared.probes.Probed.{Probed}
-use Rattle.nor_probe.specs.Found.{part_in, IsConfigOf, most_probe}
+use Rattle.nor_probe.specs.Found.{IsConfigOf, most_probe}
 use Rattle.nor_driver.proofs.LooksInTurn.{looks_then, looks_more}
 use Rattle.nor_driver.proofs.RestsInTurn.{HasLooked, rested_then}
 use Rattle.nor_call.specs.declared.refusal.Refusal.{Refusal}
@@ -59,6 +58,18 @@ report_of probed reads = record {
   transactions = probed.transactions + reads;
 }
 
+-- it is told by each of its fields
+pub report_is : (probed : Probed) (reads : ℕ) (report : Report) → report.found ≡ probed.found → report.touched ≡ 0
+    → report.erases ≡ 0 → report.programs ≡ 0 → report.transactions ≡ probed.transactions + reads
+    → report ≡ report_of probed reads
+report_is probed reads report found touched erases programs sent = λ i. record {
+  found = found i;
+  touched = touched i;
+  erases = erases i;
+  programs = programs i;
+  transactions = sent i;
+}
+
 -- What the report of a reading tells.
 pub record Reports (named : Option ChipName) (included : Option (List Span)) (old new : BusState)
     (report : Report) : Type 0 where
@@ -70,9 +81,8 @@ pub record Reports (named : Option ChipName) (included : Option (List Span)) (ol
 -- a reading leaves an idle chip's status 1 as it is, each bit of it
 status1_stays : (old new : BusState) → old.chip.busy ≡ 0 → Rested old new → status1_of new.chip ≡ status1_of old.chip
 status1_stays old new idle rested =
-    let less = rested.unchanged.busy in
-    let busy : new.chip.busy ≡ old.chip.busy = omega arith in
-    rw (rested.unchanged.same.kept1, rested.idle_latch idle, busy) refl
+    let latch = rested.idle_latch idle in
+    let busy : new.chip.busy ≡ old.chip.busy = omega arith in cc
 
 module _ {named : Option ChipName} {old mid : BusState} {probed : Probed}
     (found : HasFound named old mid probed) (looks : Looks most_probe old mid) where
@@ -86,10 +96,7 @@ module _ {named : Option ChipName} {old mid : BusState} {probed : Probed}
       looks_more (most_probe + n) most old new fits (looks_then most_probe n old mid new looks after)
 
   pub sends_on : {new : BusState} → Looks (probed.found.size / 4096) mid new → Sends old new
-  sends_on after = record {
-    largest = looks_on _ (most_read 16777216) (let most = found.is.part.at_most in omega arith) after;
-    own = λ known. looks_on _ (most_read old.chip.config.size) (let same = size_of known in omega arith) after;
-  }
+  sends_on after = search (arith, looks_on, size_of)
 
   -- a stop after the probe
   pub ran_on : {new : BusState} (n most : ℕ) → most_probe + n ≤ most → RanOutIfHonest n mid new → old.honest ≡ true
@@ -98,10 +105,7 @@ module _ {named : Option ChipName} {old mid : BusState} {probed : Probed}
       let ran = out (looks.nature.honest ∙ honest) in let fell = found.fell honest in omega arith
 
   pub halts : {new : BusState} → RanOutIfHonest (probed.found.size / 4096) mid new → Halts old new
-  halts out = record {
-    largest = ran_on _ (most_read 16777216) (let most = found.is.part.at_most in omega arith) out;
-    own = λ known. ran_on _ (most_read old.chip.config.size) (let same = size_of known in omega arith) out known.honest;
-  }
+  halts out = let most = found.is.part.at_most in search (arith, ran_on, size_of)
 
   -- nothing changed by the probe, nor after it
   pub rested_on : {new : BusState} → (mid.honest ≡ true → Rested mid new) → old.honest ≡ true → Rested old new
@@ -110,26 +114,19 @@ module _ {named : Option ChipName} {old mid : BusState} {probed : Probed}
 
   -- the chip after the probe
   pub open_after : IsModelled old → IsOpen probed.found.size mid
-  open_after known = record {
-    honest = looks.nature.honest ∙ known.honest;
-    idle = found.idle known.honest;
-    same = ap (λ (config : Config). config.size) (found.rested known.honest).unchanged.same.config ∙ sym (size_of known);
-  }
+  open_after known =
+      let rested = found.rested known.honest in let size = size_of known in search (arith, found.idle)
 
   pub has_name : old.honest ≡ true → IsNamed named old.chip.config
-  has_name honest = record {
-    part = part_in probed.found;
-    shown = found.is.shown honest;
-    wanted = found.is.has_name;
-  }
+  has_name honest = search found.is.shown
 
   pub is_taken : {included : Option (List Span)} → FitsInto included probed.found.size → IsModelled old
       → IsTaken named included old.chip.config
-  is_taken fits known = record { is = has_name known.honest; fits = rw (size_of known) at fits }
+  is_taken fits known = search (has_name, rw (size_of known) at fits)
 
   pub is_passed : {included : Option (List Span)} → ReachesPast included probed.found.size → IsModelled old
       → IsPassed named included old.chip.config
-  is_passed past known = record { is = has_name known.honest; past = rw (size_of known) at past }
+  is_passed past known = search (has_name, rw (size_of known) at past)
 
   -- the report
   pub reported : {included : Option (List Span)} {new : BusState} {reads : ℕ} → HasLooked reads mid new
@@ -138,25 +135,15 @@ module _ {named : Option ChipName} {old mid : BusState} {probed : Probed}
       let few = sectors_included-most included probed.found.size in
       let most = found.most in
       record {
-        part = record {
-          part = found.is.part;
-          has_name = found.is.has_name;
-          touched = refl;
-          erases = refl;
-          programs = refl;
-          most = omega arith;
-        };
+        part = search arith;
         heard = looked.heard found.heard;
         reads = λ honest.
             let now = looks.nature.honest ∙ honest in
-            let rested = looked.rested now in
-            record {
-              shown = found.is.shown honest;
-              rested = rested_then old mid new (found.rested honest) rested;
-              idle = let idle = found.idle honest in omega arith;
-              status1 = found.status1 honest ∙ sym (status1_stays mid new (found.idle honest) rested);
-              count = let count = found.count honest in omega arith;
-              fell = let before = found.fell honest in let last = looked.sent now in omega arith;
-            };
+            let idle = found.idle honest in
+            let last = looked.rested now in
+            let sent = looked.sent now in
+            let rested = rested_on looked.rested honest in
+            let status1 = found.status1 honest ∙ sym (status1_stays mid new idle last) in
+            search (arith, found.is.shown honest, found.count honest, found.fell honest);
         config = found.is.config;
       }

@@ -1,4 +1,4 @@
-use Rattle.std.proofs.Common.{◌≡◌, true, false, rules}
+use Rattle.std.proofs.Common.{rules}
 use Rattle.nor_read.proofs.Whole.{is_err}
 use Rattle.nor_read.proofs.Guards.{unfound, stopped, plain, told}
 use Rattle.nor_read.proofs.protection.wp_status.Goals as goal
@@ -9,17 +9,14 @@ returns-in_err-found g c = rw (is_err _ _ c.from_residual.ensures.1)
 
 pub returns-in_err-status2 : goal.returns-in_err-status2
 returns-in_err-status2 g c = rw (is_err _ _ c.from_residual-in_err-status2.ensures.1) (assumption
-    (stopped c.args.named c.in_ok-found.ensures.finds c.find.ensures.leaves c.read_status2.ensures.leaves c.in_err-status2.ensures.halts))
+    (stopped c.args.named c.in_ok-found.ensures.finds c.find.ensures.leaves c.read_status2.ensures.leaves
+    c.in_err-status2.ensures.halts))
 
 pub returns-then-not-found : goal.returns-then-not-found
-returns-then-not-found g c =
-    let none : c.in_ok-found.field-0.found.scheme ≡ false = search rules in
-    assumption (plain c.args.named c.in_ok-found.ensures.finds c.find.ensures.leaves c.read_status2.ensures.leaves
-    c.in_ok-status2.ensures.does none)
+returns-then-not-found g c = assumption (plain c.args.named c.in_ok-found.ensures.finds c.find.ensures.leaves
+    c.read_status2.ensures.leaves c.in_ok-status2.ensures.does (search rules))
 
 pub returns : goal.returns
-returns g c =
-    let scheme : c.in_ok-found.field-0.found.scheme ≡ true = search rules in
-    assumption (told c.args.named c.in_ok-found.ensures.finds c.find.ensures.leaves c.read_status2.ensures.leaves
-    c.in_ok-status2.ensures.does _ _ _ c.read_status2.ensures.heard scheme c.of-status.ensures c.guarded_range.ensures
-    c.is_locked.ensures)
+returns g c = assumption (told c.args.named c.in_ok-found.ensures.finds c.find.ensures.leaves
+    c.read_status2.ensures.leaves c.in_ok-status2.ensures.does _ _ _ c.read_status2.ensures.heard (search rules)
+    c.of-status.ensures c.guarded_range.ensures c.is_locked.ensures)

@@ -6,7 +6,8 @@ use Rattle.nor_read.proofs.reading.copy_all.Goals as goal
 
 pub loop-piece-init : goal.loop-piece-init
 loop-piece-init g c =
-    copied_none (option_copied c.args.included) c.args.size (g.B.Bus.state c.args.bus.now) (g.V.Vault.state c.args.out.now)
+    copied_none (option_copied c.args.included) c.args.size (g.B.Bus.state c.args.bus.now)
+    (g.V.Vault.state c.args.out.now)
 
 pub loop-piece-preserved : goal.loop-piece-preserved
 loop-piece-preserved g c = copied_more (omega arith) (omega arith) c.loop-piece.invariant c.read_piece.ensures.leaves
@@ -15,8 +16,8 @@ loop-piece-preserved g c = copied_more (omega arith) (omega arith) c.loop-piece.
 pub returns-in_err-put_piece-clause-tells : goal.returns-in_err-put_piece-clause-tells
 returns-in_err-put_piece-clause-tells g c =
     let long : length c.read_piece.new.bytes ≡ 65536 = omega arith in
-    let before = copy_fails (omega arith) long c.loop-piece.invariant c.read_piece.ensures.leaves c.in_ok-reads.ensures.reads
-    _ c.in_err-put_piece.field-0.0 c.in_err-put_piece.ensures.tells in
+    let before = copy_fails (omega arith) long c.loop-piece.invariant c.read_piece.ensures.leaves
+    c.in_ok-reads.ensures.reads _ c.in_err-put_piece.field-0.0 c.in_err-put_piece.ensures.tells in
     grind (arith, common_steps, before)
 
 pub returns-clause-reads : goal.returns-clause-reads

@@ -15,7 +15,8 @@ loop-k-preserved g c =
     let whole : length c.loop-k.bytes ≡ 65536 = omega arith in
     let part : length c.read_part.new.bytes ≡ 4096
     = c.read_part.auto.bytes ∙ part_long c.loop-k.bytes (4096 * k) width exact (omega arith) in
-    pieced_more width (omega arith) exact whole part c.loop-k.invariant c.read_part.ensures.leaves c.in_ok-reads.ensures.reads
+    pieced_more width (omega arith) exact whole part c.loop-k.invariant c.read_part.ensures.leaves
+    c.in_ok-reads.ensures.reads
 
 pub returns-clause-reads : goal.returns-clause-reads
 returns-clause-reads g c = pieced_all (omega arith) c.loop-k.invariant
