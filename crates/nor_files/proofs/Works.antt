@@ -1,13 +1,13 @@
 -- What a call on one file does to the files in memory.
 use Rattle.std.proofs.Common.{◌≡◌, ◌∙◌, ◌+◌, ◌⊎◌, ℕ, Bool, true, false, List, [], Option, None, Some, Result, Ok, Err}
-use Rattle.std.proofs.Common.{refl, sym, ap, subst, inl, inr, arith, is_some, OnErr, OnOk}
+use Rattle.std.proofs.Common.{arith, refl, sym, ap, rules, is_some, OnErr, OnOk}
 use Rattle.nor_journal.specs.Vault.{VaultState}
 use Rattle.nor_files.specs.Files.{Found, IsSettled, Name, OthersStay, Stays}
-use Rattle.nor_files.specs.Calls.{Counts, IsPlaced, IsSynced, Makes, SetsLength, TakesBack, WorksOn, WritesOver}
-use Rattle.nor_files.specs.Named.{file_of}
+use Rattle.nor_files.specs.Calls.{IsPlaced, IsSynced, Makes, SetsLength, TakesBack, WorksOn, WritesOver}
+use Rattle.nor_files.specs.Named.{file_of, is_there}
 use Rattle.nor_files.specs.Memory.{state_of}
-use Rattle.nor_files.specs.Stored.{FileLends, FileMakes, FilePlaces, FileSets, FileSettles, FileSyncs}
-use Rattle.nor_files.specs.Stored.{FileTakesBack, FileWrites, MayBe, MayLeave, OrMissing, file_in, missing, seen_may_be}
+use Rattle.nor_files.specs.Stored.{FileLends, FileMakes, FilePlaces, FileSets, FileSettles, FileSyncs, FileTakesBack}
+use Rattle.nor_files.specs.Stored.{FileWrites, MayBe, MayLeave, OrMissing, file_in, missing, seen_may_be}
 use Rattle.nor_files.specs.declared.stored.Stored.{Stored}
 use Rattle.nor_files.proofs.Places.{IsUpdated}
 
@@ -15,42 +15,29 @@ use Rattle.nor_files.proofs.Places.{IsUpdated}
 
 may_be_gone : (unplaced : Bool) (May : Type 0) (seen left : Found) → OrMissing unplaced (left ≡ seen) seen left
     → (left ≡ seen) ⊎ ((left ≡ None) × OrMissing unplaced May seen None)
-may_be_gone true May seen left (inl gone) = inr (gone, inl refl)
-may_be_gone true May seen left (inr same) = inl same
-may_be_gone false May seen left (there, same) = inl same
+may_be_gone unplaced May seen left may = grind arith
 
 placed : (unplaced : Bool) (May : Type 0) (seen left : Found) → (is_some left ≡ is_some seen) × May
     → OrMissing unplaced May seen left × (is_some left ≡ is_some seen)
-placed true May seen left may = (inr may.1, may.0)
-placed false May seen left may = (may, may.0)
+placed unplaced May seen left may = grind arith
 
 made : (unplaced : Bool) (May : Found → Type 0) (seen found : Found) → seen ≡ None → May seen
     → (found ≡ None) ⊎ (found ≡ Some []) → OrMissing unplaced (May found) seen found ⊎ (found ≡ Some [])
-made true May seen found none may (inl gone) = inl (inl gone)
-made false May seen found none may (inl gone) = inl (rw (gone, none) refl, subst May (none ∙ sym gone) may)
-made unplaced May seen found none may (inr empty) = inr empty
+made unplaced May seen found none may either = grind arith
 
-pub made_out : {T E : Type 0} (result : Result T E) (was now : Stored) → FileMakes result was now → now.out ≡ was.out
-made_out (Ok any) was now done = ap (λ its. its.out) done.file
-made_out (Err error) was now done = ap (λ its. its.out) done.file
-
-pub made_name : {T E : Type 0} (result : Result T E) (was now : Stored) → FileMakes result was now
-    → now.name ≡ was.name
-made_name (Ok any) was now done = done.name
-made_name (Err error) was now done = done.name
+pub made_kept : {T E : Type 0} (result : Result T E) (was now : Stored) → FileMakes result was now
+    → (now.name ≡ was.name) × (now.out ≡ was.out)
+made_kept (Ok any) was now done = (done.name, ap (λ its. its.out) done.file)
+made_kept (Err error) was now done = (done.name, ap (λ its. its.out) done.file)
 
 pub lent_name : {T E : Type 0} (is_new : Bool) (result : Result T E) (was now : Stored)
     → FileLends is_new result was now → now.name ≡ was.name
 lent_name is_new (Ok any) was now done = done.name
 lent_name is_new (Err error) was now done = done.name
 
-pub on_ok : {T E P : Type 0} (result : Result T E) → P → OnOk result P
-on_ok (Ok any) fact = fact
-on_ok (Err error) fact = tt
-
 -- ---- of the files
 
-stays : {name : Name} (old new : List Stored) {left left' : ℕ} {lent lent' : Option Name}
+pub stays : {name : Name} (old new : List Stored) {left left' : ℕ} {lent lent' : Option Name}
     → file_of new name ≡ file_of old name → Stays name (state_of old left lent) (state_of new left' lent')
 stays old new same = record { out = rw same refl; seen = rw same refl; leaves = λ found may. rw same at may }
 
@@ -80,16 +67,11 @@ module _ {name : Name} {old new : List Stored} {was now : Stored} {left left' : 
   pub works_on : {T E : Type 0} (result : Result T E) → left ≡ left' + 1 → lent' ≡ lent → now.out ≡ was.out
       → WorksOn name result (state_of old left lent) (state_of new left' lent')
   works_on result spent same out = record {
-    counts = counts result;
+    counts = search (rules, spent);
     lent = same;
     out = rw (is.after, is.before) out;
     others = others_stay;
   }
-    where
-      counts : {T E : Type 0} (result : Result T E) → Counts result (state_of old left lent) (state_of new left' lent')
-      counts (Ok done) = record { left = spent }
-      counts (Err error) =
-          record { left = omega (arith, spent); none_left = λ none. absurd (omega (arith, spent, none)) }
 
   pub writes_over : {T E : Type 0} {bytes : List ℕ} {result : Result T E} → FileWrites bytes result was now
       → WritesOver name bytes result (state_of old left lent) (state_of new left' lent')
@@ -153,16 +135,11 @@ module _ {name : Name} {old new : List Stored} {was now : Stored} (is : IsUpdate
   makes left left' lent lent' (Err error) done = unchanged is done.file
 
   -- a file that couldn't be handed out is as it was
-  pub lends_none : (left left' : ℕ) (lent lent' : Option Name) {T E : Type 0} (is_new : Bool) (result : Result T E)
-      → FileLends is_new result was now
-      → OnErr result (Stays name (state_of old left lent) (state_of new left' lent'))
-  lends_none left left' lent lent' is_new (Ok any) done = tt
-  lends_none left left' lent lent' is_new (Err error) done = unchanged is done.file
-
-  pub lent_out : {T E : Type 0} (is_new : Bool) (result : Result T E) → FileLends is_new result was now
-      → OnOk result ((file_of new name).out ≡ true)
-  lent_out is_new (Ok any) done = rw (is.after ∙ done.file) refl
-  lent_out is_new (Err error) done = tt
+  pub lends : {T E : Type 0} (is_new : Bool) (result : Result T E) → FileLends is_new result was now
+      → OnOk result ((file_of new name).out ≡ true) × OnOk result (is_there new name ≡ true)
+      × OnErr result (file_of new name ≡ file_of old name)
+  lends is_new (Ok any) done = (rw (is.after ∙ done.file) refl, is.there, tt)
+  lends is_new (Err error) done = (tt, tt, is.after ∙ done.file ∙ sym is.before)
 
   pub settles : {left : ℕ} {lent : Option Name} {bytes : List ℕ} → FileSettles bytes was now
       → IsSettled name (Some bytes) (state_of new left lent)

@@ -1,6 +1,6 @@
-use Rattle.std.proofs.Common.{◌≡◌, None, is_ok, length, option_map, position, rules, true}
+use Rattle.std.proofs.Common.{◌≡◌, is_ok, length, option_map, rules, true}
 use Rattle.std.proofs.lemmas.Bool.{cond_both}
-use Rattle.nor_files.specs.Named.{is_lent_there, is_named}
+use Rattle.nor_files.specs.Named.{is_lent_there}
 use Rattle.nor_files.proofs.Places.{lent_with_place, place_kept, same_with_place}
 use Rattle.nor_files.proofs.memory.Memory.keep_place.Goals as goal
 
@@ -14,10 +14,9 @@ invariant_of-self c = record {
 
 pub returns-clause-at : goal.returns-clause-at
 returns-clause-at c =
-    let none : position (is_named c.args.name.now) c.args.self.now.files.items ≡ None = search rules in
-    let named : c.new-stored.result.name.items ≡ c.args.name.now = search rules in
     let at : c.len-at.result ≡ length c.args.self.now.files.items = search rules in
-    rw (c.in_ok-push.ensures.items, at) (place_kept c.args.name.now c.args.self.now.files.items c.new-stored.result none named)
+    rw (c.in_ok-push.ensures.items, at) (place_kept c.args.name.now c.args.self.now.files.items c.new-stored.result
+    (search rules) (search rules))
 
 pub returns-clause-same : goal.returns-clause-same
 returns-clause-same c any =

@@ -4,15 +4,12 @@ use Rattle.nor_files.proofs.Works.{others_stay, settles}
 use Rattle.nor_files.proofs.memory.Memory.put.Goals as goal
 
 pub invariant_of-self : goal.invariant_of-self
-invariant_of-self c = record {
-  lent_is_there = lent_updated _ c.keep_place.new.self.files.items c.in_ok-at.at c.index_mut.result.now c.settle.new.self
-      c.index_mut.ensures.value c.settle.ensures.name c.keep_place.new.self.lent_is_there;
-}
+invariant_of-self c = search (rules, lent_updated)
 
 pub returns : goal.returns
 returns c =
-    let is = updated c.args.name.now c.keep_place.new.self.files.items c.in_ok-at.at c.index_mut.result.now
-    c.settle.new.self c.in_ok-at.ensures.at c.index_mut.ensures.value c.settle.ensures.name in
+    let is = updated _ _ _ c.settle.new.self c.index_mut.ensures.value c.settle.ensures.name c.args.name.now
+    c.in_ok-at.ensures.at in
     record {
       left = search rules;
       puts = settles is (rw (sym c.in_ok-copied.ensures) c.settle.ensures);

@@ -11,8 +11,7 @@ returns-in-Some-place-clause-takes c lawful name lent =
     let named : c.in-Some.name.items ≡ name = search (rules, was, lent) in
     let at : position (is_named name) c.args.self.now.files.items ≡ Some c.in-Some-place.at = search (rules, named) in
     takes_back
-    (updated name c.args.self.now.files.items c.in-Some-place.at c.index_mut.result.now c.take_back.new.self at
-    c.index_mut.ensures.value c.take_back.ensures.name)
+    (updated _ _ _ c.take_back.new.self c.index_mut.ensures.value c.take_back.ensures.name name at)
     (held_by c.args.vault) refl
     (ap (option_map (λ text. text.items)) c.replace.ensures.after) c.take_back.ensures
 

@@ -1,20 +1,15 @@
-use Rattle.std.proofs.Common.{◌≡◌, Some, ap, position, refl, rules}
-use Rattle.nor_files.specs.Named.{is_named}
+use Rattle.std.proofs.Common.{ap, refl, rules}
 use Rattle.nor_files.proofs.Places.{lent_updated, not_found, updated}
 use Rattle.nor_files.proofs.Works.{places, places_none, works_on}
 use Rattle.nor_files.proofs.memory.MemoryStore.sync_folder.Goals as goal
 
 pub invariant_of-self-in-Some : goal.invariant_of-self-in-Some
-invariant_of-self-in-Some c = record {
-  lent_is_there = lent_updated _ c.args.self.now.files.items c.in-Some.at c.index_mut.result.now c.place-in-Some.new.self
-      c.index_mut.ensures.value c.place-in-Some.ensures.name c.args.self.now.lent_is_there;
-}
+invariant_of-self-in-Some c = search (rules, lent_updated)
 
 pub returns-in-Some : goal.returns-in-Some
 returns-in-Some c =
-    let at : position (is_named c.args.name.now) c.args.self.now.files.items ≡ Some c.in-Some.at = search rules in
-    let is = updated c.args.name.now c.args.self.now.files.items c.in-Some.at c.index_mut.result.now
-    c.place-in-Some.new.self at c.index_mut.ensures.value c.place-in-Some.ensures.name in
+    let is = updated _ _ _ c.place-in-Some.new.self c.index_mut.ensures.value c.place-in-Some.ensures.name
+    c.args.name.now (search rules) in
     record {
       nature = refl;
       alone = λ lawful.
