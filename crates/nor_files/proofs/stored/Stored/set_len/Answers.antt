@@ -1,8 +1,5 @@
-use Rattle.nor_files.specs.declared.stored.Content.TheVariants.{Plain}
 use Rattle.nor_files.proofs.Changes.{file_sets}
 use Rattle.nor_files.proofs.stored.Stored.set_len.Goals as goal
 
 pub returns : goal.returns
-returns c =
-    file_sets c.args.len _ (Plain c.in_ok-has-in-Some.has) c.in-Some.had.now c.args.self.now c.change.new.self
-    c.in_ok-change.ensures c.in-Some.ensures c.in_ok-has-in-Some.ensures
+returns c = file_sets c.in_ok-change.ensures c.in-Some.ensures c.in_ok-has-in-Some.ensures

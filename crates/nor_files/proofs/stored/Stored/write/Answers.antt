@@ -1,19 +1,14 @@
 use Rattle.std.proofs.Common.{ap, arith}
 use Rattle.nor_files.specs.Stored.{IsMixOf}
-use Rattle.nor_files.specs.declared.stored.Change.TheVariants.{Written}
-use Rattle.nor_files.specs.declared.stored.Content.TheVariants.{Plain}
 use Rattle.nor_files.proofs.Changes.{file_writes}
 use Rattle.nor_files.proofs.stored.Stored.write.Goals as goal
 
 pub returns-then-most-bytes : goal.returns-then-most-bytes
 returns-then-most-bytes c =
-    file_writes c.args.bytes.now c.min-most.result _ (Plain c.in_ok-has-in-Some.has) (Written c.in_ok-copy.field-0)
-    c.in-Some.had.now c.args.self.now c.change.new.self c.in_ok-change.ensures c.in-Some.ensures
-    (omega (arith, c.min-most.ensures)) (ap IsMixOf c.in_ok-copy.ensures) c.in_ok-has-in-Some.ensures (λ any fails. cc)
+    file_writes c.min-most.result c.in_ok-change.ensures c.in-Some.ensures (omega (arith, c.min-most.ensures))
+    (ap IsMixOf c.in_ok-copy.ensures) c.in_ok-has-in-Some.ensures (λ any fails. cc)
 
 pub returns : goal.returns
 returns c =
-    file_writes c.args.bytes.now c.min-most.result _ (Plain c.in_ok-has-in-Some.has) (Written c.in_ok-copy.field-0)
-    c.in-Some.had.now c.args.self.now c.change.new.self c.in_ok-change.ensures c.in-Some.ensures
-    (omega (arith, c.min-most.ensures)) (ap IsMixOf c.in_ok-copy.ensures) c.in_ok-has-in-Some.ensures
-    (λ any is_ok. c.if-most-bytes.false)
+    file_writes c.min-most.result c.in_ok-change.ensures c.in-Some.ensures (omega (arith, c.min-most.ensures))
+    (ap IsMixOf c.in_ok-copy.ensures) c.in_ok-has-in-Some.ensures (λ any is_ok. c.if-most-bytes.false)
