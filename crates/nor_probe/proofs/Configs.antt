@@ -1,5 +1,5 @@
 -- What a genuine chip shows itself as is its configuration.
-use Rattle.std.proofs.Common.{◌≡◌, ℕ, Bool, true, false, List, [], ◌∷◌, sym, refl, arith}
+use Rattle.std.proofs.Common.{◌≡◌, ℕ, Bool, true, false, List, [], ◌∷◌, refl, arith}
 use Rattle.std.specs.Prelude.{Option, None, Some, Result, Ok, Err, find, bytes_eq, if◌then◌else◌}
 use Rattle.std.specs.List.{list_all}
 use Rattle.std.proofs.lemmas.Grind.{common_steps}
@@ -12,7 +12,7 @@ use Rattle.nor_probe.specs.declared.table.Part.{Part}
 use Rattle.nor_probe.specs.declared.probes.Found.{Found}
 use Rattle.nor_probe.specs.declared.probes.ProbeFault.TheVariants.{NoChip}
 use Rattle.nor_probe.specs.Table.{chips, part_with_id}
-use Rattle.nor_probe.specs.Known.{is_no_chip, chip_says, sfdp_part, part_by_sfdp, listed_or, shown_as, IsGenuine}
+use Rattle.nor_probe.specs.Known.{is_no_chip, chip_says, sfdp_part, part_by_sfdp, listed_or, shown_as, IsGenuine, IsKnown}
 use Rattle.nor_probe.specs.Found.{part_in, IsConfigOf}
 
 -- the part that a test finds passes it, and has what each part has
@@ -43,22 +43,13 @@ shown_part config false (Some row) says part genuine listed tells is =
     let has = genuine.listed row listed in
     let found = found_has (λ p. bytes_eq p.id (id_of config)) (λ p. true) chips row refl listed in
     let same : row ≡ part = cc in
-    rw (← same) (record {
-      id = (bytes_eq-Decides row.id (id_of config)).0 found.0;
-      size = sym has.0.size;
-      kinds = sym has.0.kinds;
-      scheme = sym has.1;
-    })
+    let id = (bytes_eq-Decides row.id (id_of config)).0 found.0 in
+    grind arith
 shown_part config false None (Ok geometry) part genuine listed tells is =
     let has = genuine.described listed geometry tells in
     let same : sfdp_part (id_of config) geometry ≡ part = cc in
-    rw (← same) (record {
-      id = refl;
-      size = sym has.size;
-      kinds = sym has.kinds;
-      scheme = sym
-          (genuine.unlisted listed);
-    })
+    let scheme = genuine.unlisted listed in
+    grind arith
 shown_part config false None (Err fault) part genuine listed tells is = absurd (cc)
 
 -- So what was found of a genuine chip tells its configuration, where it is what the chip shows itself as.
@@ -68,10 +59,5 @@ shown_config config found genuine is =
     let of_id = id_of config in
     let part = shown_part config (is_no_chip of_id) (part_with_id of_id) (chip_says config)
     (part_in found) genuine refl refl is in
-    record {
-      known = record { genuine = genuine; shown = rw is refl };
-      id = part.id;
-      size = part.size;
-      kinds = part.kinds;
-      scheme = part.scheme;
-    }
+    let known : IsKnown config = record { genuine = genuine; shown = rw is refl } in
+    assumption

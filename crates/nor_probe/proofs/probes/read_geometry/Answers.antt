@@ -14,10 +14,9 @@ returns-in_err-geometry-clause-tells g c honest idle =
 pub returns-clause-reads : goal.returns-clause-reads
 returns-clause-reads g c honest =
     let read = c.in_ok-parameters.ensures.reads honest in
+    let says = parameters_say (g.B.Bus.state c.args.bus.now).chip.config c.in_ok-parameters.parameters in
     record {
       rested = read.rested;
       count = read.count;
-      says = λ idle.
-          parameters_say (g.B.Bus.state c.args.bus.now).chip.config c.in_ok-parameters.parameters (read.shown idle)
-          ∙ sym c.read_sfdp.ensures.says ∙ c.in_ok-geometry.was;
+      says = λ idle. says (read.shown idle) ∙ sym c.read_sfdp.ensures.says ∙ c.in_ok-geometry.was;
     }
