@@ -22,78 +22,94 @@ is_some-ends test (k ∷ ks) = elim (cases_Bool (test k)) [
   | inr fails ↦ rw fails (is_some-ends test ks)
 ]
 
--- a span of the pages from this one on
-abbrev SpanFrom : List ℕ → List ℕ → ℕ → Span → Type 0
-SpanFrom old target page s = IsSpan old target s × (page ≤ s.first / 256)
+length-cons_option : (o : Option Span) (spans : List Span)
+    → length (cons_option o spans) ≡ cond (is_some o) 1 0 + length spans
+length-cons_option None spans = omega arith
+length-cons_option (Some s) spans = omega arith
 
--- what the spans of so many pages tell
-record Tell (old target : List ℕ) (page count : ℕ) (spans : List Span) : Type 0 where
-  each : All (SpanFrom old target page) spans
-  complete : (k : ℕ) → page ≤ k / 256 → k / 256 < page + count → DifferAt old target k → spanned_by spans k ≡ true
-  rising : AllPairs (λ s t. s.last / 256 < t.first / 256) spans
-  number : length spans ≡ count_by (page_differs old target) (range_with_len page count)
+module _ (old target : List ℕ) where
+  -- a span of the pages from this one on
+  abbrev SpanFrom : ℕ → Span → Type 0
+  SpanFrom page s = IsSpan old target s × (page ≤ s.first / 256)
 
-tell_more : (old target : List ℕ) (page count : ℕ) (o : Option Span) (spans : List Span) → AreEnds (DiffersOn old target page) o
-    → is_some o ≡ page_differs old target page → Tell old target (page + 1) count spans → Tell old target page (suc count) (cons_option o spans)
-tell_more old target page count None spans none differs rest = record {
-  each = All-weaker (SpanFrom old target (page + 1)) (SpanFrom old target page) (λ s is. (is.0, omega arith)) spans rest.each;
-  complete = λ k low high differ. elim (cases_eq (k / 256) page) [
-    | inl here ↦ absurd (none k (here, differ))
-    | inr later ↦ rest.complete k (omega arith) (omega arith) differ
-  ];
-  rising = rest.rising;
-  number = omega (arith, rest.number, sum_by-cons (λ p. cond (page_differs old target p) 1 0) page (range_with_len (page + 1) count), ap {B = ℕ} (λ b. cond b 1 0) differs);
-}
-tell_more old target page count (Some span) spans are differs rest =
-    let place : span.first / 256 ≡ page = are.0.0 in
-    let last_place : span.last / 256 ≡ page = are.1.0 in
-    let is : IsSpan old target span = record {
-      one_page = omega arith;
-      order = (are.2 span.last are.1).0;
-      first = are.0.1;
-      last = are.1.1;
-      outside = λ k here differ. are.2 k (omega arith, differ);
-    } in
-    record {
-      each = All-cons (SpanFrom old target page) span spans (is, omega arith)
-          (All-weaker (SpanFrom old target (page + 1)) (SpanFrom old target page) (λ s is. (is.0, omega arith)) spans rest.each);
-      complete = λ k low high differ. elim (cases_eq (k / 256) page) [
-        | inl here ↦
-            let inside = are.2 k (here, differ) in
-            or_left _ _ (and_from _ _ (le-leb _ _ inside.0) (le-leb _ _ inside.1))
-        | inr later ↦ or_right _ _ (rest.complete k (omega arith) (omega arith) differ)
-      ];
-      rising = AllPairs-cons (λ s t. s.last / 256 < t.first / 256) span spans
-          (All-weaker (SpanFrom old target (page + 1)) (λ t. span.last / 256 < t.first / 256) (λ s is. omega arith) spans rest.each) rest.rising;
-      number = omega (arith, rest.number, sum_by-cons (λ p. cond (page_differs old target p) 1 0) page (range_with_len (page + 1) count), ap {B = ℕ} (λ b. cond b 1 0) differs);
-    }
+  -- what the spans of so many pages tell
+  record Tell (page count : ℕ) (spans : List Span) : Type 0 where
+    each : All (SpanFrom page) spans
+    complete : (k : ℕ) → page ≤ k / 256 → k / 256 < page + count → DifferAt old target k → spanned_by spans k ≡ true
+    rising : AllPairs (λ s t. s.last / 256 < t.first / 256) spans
 
-tell : (old target : List ℕ) (page count : ℕ) → Tell old target page count (spans_in old target page count)
-tell old target page zero = record {
-  each = All-nil (SpanFrom old target page);
-  complete = λ k low high differ. absurd (omega arith);
-  rising = λ i j d less within. absurd (omega arith);
-  number = refl;
-}
-tell old target page (suc count) =
-    tell_more old target page count (page_span old target page) (spans_in old target (page + 1) count) (page_ends old target page)
-    (is_some-ends (other old target) (range_with_len (page * 256) (min 256 (length old - page * 256)))) (tell old target (page + 1) count)
+  tell_more : (page count : ℕ) (o : Option Span) (spans : List Span) → AreEnds (DiffersOn old target page) o
+      → Tell (page + 1) count spans → Tell page (suc count) (cons_option o spans)
+  tell_more page count None spans none rest = record {
+    each = All-weaker (SpanFrom (page + 1)) (SpanFrom page) (λ s is. (is.0, omega arith)) spans rest.each;
+    complete = λ k low high differ. elim (cases_eq (k / 256) page) [
+      | inl here ↦ absurd (none k (here, differ))
+      | inr later ↦ rest.complete k (omega arith) (omega arith) differ
+    ];
+    rising = rest.rising;
+  }
+  tell_more page count (Some span) spans are rest =
+      let first : span.first / 256 ≡ page = are.0.0 in
+      let last : span.last / 256 ≡ page = are.1.0 in
+      let is : IsSpan old target span = record {
+        one_page = omega arith;
+        order = (are.2 span.last are.1).0;
+        first = are.0.1;
+        last = are.1.1;
+        outside = λ k here differ. are.2 k (omega arith, differ);
+      } in
+      record {
+        each = All-cons (SpanFrom page) span spans (is, omega arith)
+            (All-weaker (SpanFrom (page + 1)) (SpanFrom page) (λ s is. (is.0, omega arith)) spans rest.each);
+        complete = λ k low high differ. elim (cases_eq (k / 256) page) [
+          | inl here ↦
+              let inside = are.2 k (here, differ) in
+              or_left _ _ (and_from _ _ (le-leb _ _ inside.0) (le-leb _ _ inside.1))
+          | inr later ↦ or_right _ _ (rest.complete k (omega arith) (omega arith) differ)
+        ];
+        rising = AllPairs-cons (λ s t. s.last / 256 < t.first / 256) span spans
+            (All-weaker (SpanFrom (page + 1)) (λ t. span.last / 256 < t.first / 256) (λ s is. omega arith) spans
+            rest.each) rest.rising;
+      }
 
-pub spans_of-AreSpans : (old target : List ℕ) → AreSpans old target (spans_of old target)
-spans_of-AreSpans old target =
-    let told = tell old target 0 (page_count old - 0) in
-    let all : page_count old - 0 ≡ page_count old = omega arith in
-    let spanned : (k : ℕ) → DifferAt old target k → spanned_by (spans_of old target) k ≡ true = λ k differ. told.complete k (omega arith) (omega (arith, differ.0)) differ in
-    record {
-      each = All-weaker (SpanFrom old target 0) (IsSpan old target) (λ s is. is.0) (spans_of old target) told.each;
-      complete = λ k differ.
-          let found = Any-from_list_any _ (spans_of old target) (spanned k differ) in
-          let inside = and_parts _ _ found.4 in
-          (found.0, found.1, found.2, found.3, (leb-true _ _ inside.0, leb-true _ _ inside.1));
-      rising = told.rising;
-      others = λ k within outside. elim (cases_eq (get_or old k 0) (get_or target k 0)) [
-        | inl same ↦ same
-        | inr differ ↦ absurd (both_ways _ outside (spanned k (within, differ)))
-      ];
-      count = told.number ∙ ap (λ n. count_by (page_differs old target) (range_with_len 0 n)) all;
-    }
+  tell : (page count : ℕ) → Tell page count (spans_in old target page count)
+  tell page zero = record {
+    each = All-nil (SpanFrom page);
+    complete = λ k low high differ. absurd (omega arith);
+    rising = λ i j d less within. absurd (omega arith);
+  }
+  tell page (suc count) =
+      tell_more page count (page_span old target page) (spans_in old target (page + 1) count)
+      (page_ends old target page) (tell (page + 1) count)
+
+  length-spans_in : (page count : ℕ)
+      → length (spans_in old target page count) ≡ count_by (page_differs old target) (range_with_len page count)
+  length-spans_in page zero = refl
+  length-spans_in page (suc count) =
+      let pages = range_with_len (page + 1) count in
+      let places = range_with_len (page * 256) (min 256 (length old - page * 256)) in
+      length-cons_option (page_span old target page) (spans_in old target (page + 1) count)
+      ∙ rw (is_some-ends (other old target) places, length-spans_in (page + 1) count)
+      (sym (sum_by-cons (λ p. cond (page_differs old target p) 1 0) page pages))
+
+  pub spans_of-AreSpans : AreSpans old target (spans_of old target)
+  spans_of-AreSpans =
+      let spans = spans_of old target in
+      let told = tell 0 (page_count old - 0) in
+      let all : page_count old - 0 ≡ page_count old = omega arith in
+      let spanned : (k : ℕ) → DifferAt old target k → spanned_by (spans_of old target) k ≡ true =
+      λ k differ. told.complete k (omega arith) (omega (arith, differ.0)) differ in
+      record {
+        each = All-weaker (SpanFrom 0) (IsSpan old target) (λ s is. is.0) spans told.each;
+        complete = λ k differ.
+            let found = Any-from_list_any _ spans (spanned k differ) in
+            let inside = and_parts _ _ found.4 in
+            (found.0, found.1, found.2, found.3, (leb-true _ _ inside.0, leb-true _ _ inside.1));
+        rising = told.rising;
+        others = λ k within outside. elim (cases_eq (get_or old k 0) (get_or target k 0)) [
+          | inl same ↦ same
+          | inr differ ↦ absurd (both_ways _ outside (spanned k (within, differ)))
+        ];
+        count = length-spans_in 0 (page_count old - 0)
+            ∙ ap (λ n. count_by (page_differs old target) (range_with_len 0 n)) all;
+      }

@@ -17,6 +17,10 @@ same_from_xor a b none =
     sym (xor_zero_r a) ∙ ap (bit_xor a) (sym none) ∙ sym (xor_assoc a a b)
     ∙ ap (λ x. bit_xor x b) (xor_self a) ∙ xor_zero_l b
 
+-- what is put together is nothing only where its parts are
+or_zero : (x y : ℕ) → bit_or x y ≡ 0 → (x ≡ 0) × (y ≡ 0)
+or_zero x y none = (omega (arith, none, le_or_l x y), omega (arith, none, le_or_r x y))
+
 -- the bits of all lanes, put together, are nothing only where each lane is 0
 front_le : (start : ℕ) (xs : List ℕ) → start ≤ fold_l bit_or start xs
 front_le start [] = omega arith
@@ -28,7 +32,8 @@ lane_le start (x ∷ xs) zero = omega (arith, le_or_r start x, front_le (bit_or 
 lane_le start (x ∷ xs) (suc i) = lane_le (bit_or start x) xs i
 
 -- and where they are something, some lane isn't
-some_lane : (P : Type 0) (start : ℕ) (xs : List ℕ) → (start ≢ 0 → P) → ((i : ℕ) → i < length xs → get_or xs i 0 ≢ 0 → P) → fold_l bit_or start xs ≢ 0 → P
+some_lane : (P : Type 0) (start : ℕ) (xs : List ℕ) → (start ≢ 0 → P) → ((i : ℕ) → i < length xs → get_or xs i 0 ≢ 0 → P)
+    → fold_l bit_or start xs ≢ 0 → P
 some_lane P start [] front lane some = front some
 some_lane P start (x ∷ xs) front lane some =
     some_lane P (bit_or start x) xs
@@ -38,62 +43,73 @@ some_lane P start (x ∷ xs) front lane some =
     ])
     (λ i within other. lane (suc i) (omega arith) other) some
 
--- the bits that differ of two chunks tell whether the bytes do
-pub TellsChanges-xor : (a b : List ℕ) (at : ℕ) → at + 32 ≤ length a → at + 32 ≤ length b → TellsChanges a b at 32 (zip2 bit_xor (chunk at 32 a) (chunk at 32 b))
-TellsChanges-xor a b at a_room b_room =
-    let xs : List ℕ = chunk at 32 a in
-    let ys : List ℕ = chunk at 32 b in
-    let a_long : length (chunk at 32 a) ≡ 32 = length-chunk at 32 a a_room in
-    let b_long : length (chunk at 32 b) ≡ 32 = length-chunk at 32 b b_room in
-    let bits : (i : ℕ) → i < 32 → get_or (zip2 bit_xor (chunk at 32 a) (chunk at 32 b)) i 0 ≡ bit_xor (get_or a (at + i) 0) (get_or b (at + i) 0) =
-    λ i lane. get_or-zip2 bit_xor xs ys i 0 0 0 (omega arith) (omega arith) ∙ rw (get_or-chunk at 32 a i 0 lane, get_or-chunk at 32 b i 0 lane) in
-    record {
-      long = length-zip2 bit_xor xs ys (a_long ∙ sym b_long) ∙ a_long;
-      none = λ zeros k low high.
-          let place : at + (k - at) ≡ k = omega arith in
-          let lane : k - at < 32 = omega arith in
-          let same = same_from_xor (get_or a (at + (k - at)) 0) (get_or b (at + (k - at)) 0) (sym (bits (k - at) lane) ∙ zeros (k - at) lane) in
-          rw place at same;
-      some = λ i lane other. (at + i, omega arith, λ same. other (bits i lane ∙ ap (λ x. bit_xor x (get_or b (at + i) 0)) same ∙ xor_self (get_or b (at + i) 0)));
-    }
+module _ (a b : List ℕ) where
+  -- the bits that differ of two chunks tell whether the bytes do
+  pub TellsChanges-xor : (at : ℕ) → at + 32 ≤ length a → at + 32 ≤ length b
+      → TellsChanges a b at 32 (zip2 bit_xor (chunk at 32 a) (chunk at 32 b))
+  TellsChanges-xor at a_room b_room =
+      let xs : List ℕ = chunk at 32 a in
+      let ys : List ℕ = chunk at 32 b in
+      let a_long : length (chunk at 32 a) ≡ 32 = length-chunk at 32 a a_room in
+      let b_long : length (chunk at 32 b) ≡ 32 = length-chunk at 32 b b_room in
+      let bits : (i : ℕ) → i < 32 → get_or (zip2 bit_xor xs ys) i 0 ≡ bit_xor (get_or a (at + i) 0)
+      (get_or b (at + i) 0) =
+      λ i lane. get_or-zip2 bit_xor xs ys i 0 0 0 (omega arith) (omega arith)
+      ∙ rw (get_or-chunk at 32 a i 0 lane, get_or-chunk at 32 b i 0 lane) in
+      record {
+        long = length-zip2 bit_xor xs ys (a_long ∙ sym b_long) ∙ a_long;
+        none = λ zeros k low high.
+            let place : at + (k - at) ≡ k = omega arith in
+            let lane : k - at < 32 = omega arith in
+            let same = same_from_xor (get_or a (at + (k - at)) 0) (get_or b (at + (k - at)) 0)
+            (sym (bits (k - at) lane) ∙ zeros (k - at) lane) in
+            rw place at same;
+        some = λ i lane other. (at + i, omega arith, λ same. other (bits i lane ∙ rw (same, xor_self)));
+      }
 
--- a vector of zeros tells that none of no bytes differs
-pub TellsChanges-zeros : (a b : List ℕ) (at : ℕ) → TellsChanges a b at 0 (replicate 32 0)
-TellsChanges-zeros a b at = record {
-  long = length-replicate {A = ℕ} 32 0;
-  none = λ zeros k low high. absurd (omega (arith, low, high));
-  some = λ i lane other. absurd (other (get_or-replicate {A = ℕ} 32 i 0 0 lane));
-}
+  -- a vector of zeros tells that none of no bytes differs
+  pub TellsChanges-zeros : (at : ℕ) → TellsChanges a b at 0 (replicate 32 0)
+  TellsChanges-zeros at = record {
+    long = length-replicate {A = ℕ} 32 0;
+    none = λ zeros k low high. absurd (omega (arith, low, high));
+    some = λ i lane other. absurd (other (get_or-replicate {A = ℕ} 32 i 0 0 lane));
+  }
 
--- so do two such vectors of neighbouring parts, put together
-pub TellsChanges-or : (a b : List ℕ) (at m from n count : ℕ) (xs ys : List ℕ) → from ≡ at + m → count ≡ m + n
-    → TellsChanges a b at m xs → TellsChanges a b from n ys → TellsChanges a b at count (zip2 bit_or xs ys)
-TellsChanges-or a b at m from n count xs ys next sum first second =
-    let long = first.long in
-    let same = second.long in
-    let bits : (i : ℕ) → i < 32 → get_or (zip2 bit_or xs ys) i 0 ≡ bit_or (get_or xs i 0) (get_or ys i 0) =
-    λ i lane. get_or-zip2 bit_or xs ys i 0 0 0 (omega arith) (omega arith) in
-    record {
-      long = length-zip2 bit_or xs ys (long ∙ sym same) ∙ long;
-      none = λ zeros k low high. elim (cases_lt k from) [
-        | inl near ↦ first.none (λ i lane. omega (arith, bits i lane, zeros i lane, le_or_l (get_or xs i 0) (get_or ys i 0))) k low (omega arith)
-        | inr far ↦ second.none (λ i lane. omega (arith, bits i lane, zeros i lane, le_or_r (get_or xs i 0) (get_or ys i 0))) k far (omega arith)
-      ];
-      some = λ i lane other. elim (eq-zero-or-pos (get_or xs i 0)) [
-        | inl none ↦ second.some i lane (λ last. other (bits i lane ∙ ap (λ x. bit_or x (get_or ys i 0)) none ∙ or_zero_l (get_or ys i 0) ∙ last))
-        | inr some ↦ first.some i lane (λ none. omega arith)
-      ];
-    }
+  -- so do two such vectors of neighbouring parts, put together
+  pub TellsChanges-or : {at m from n count : ℕ} {xs ys : List ℕ} → from ≡ at + m → count ≡ m + n
+      → TellsChanges a b at m xs → TellsChanges a b from n ys → TellsChanges a b at count (zip2 bit_or xs ys)
+  TellsChanges-or {at} {m} {from} {n} {count} {xs} {ys} next sum first second =
+      let long = first.long in
+      let same = second.long in
+      let bits : (i : ℕ) → i < 32 → get_or (zip2 bit_or xs ys) i 0 ≡ bit_or (get_or xs i 0) (get_or ys i 0) =
+      λ i lane. get_or-zip2 bit_or xs ys i 0 0 0 (omega arith) (omega arith) in
+      record {
+        long = length-zip2 bit_or xs ys (long ∙ sym same) ∙ long;
+        none = λ zeros k low high.
+            let parts = λ (i : ℕ) (lane : i < 32). or_zero (get_or xs i 0) (get_or ys i 0)
+            (sym (bits i lane) ∙ zeros i lane) in
+            elim (cases_lt k from) [
+              | inl near ↦ first.none (λ i lane. (parts i lane).0) k low (omega arith)
+              | inr far ↦ second.none (λ i lane. (parts i lane).1) k far (omega arith)
+            ];
+        some = λ i lane other. elim (eq-zero-or-pos (get_or xs i 0)) [
+          | inl none ↦ second.some i lane (λ last. other (bits i lane ∙ rw (none, or_zero_l) last))
+          | inr some ↦ first.some i lane (λ none. omega arith)
+        ];
+      }
 
--- a vector whose lanes, put together, are nothing
-pub TellsChanges-none : (a b : List ℕ) (at count : ℕ) (xs : List ℕ) → TellsChanges a b at count xs → fold_l bit_or 0 xs ≡ 0 → AgreeWithin a b at (at + count)
-TellsChanges-none a b at count xs tells none = tells.none (λ i lane. omega (arith, none, lane_le 0 xs i))
+  -- a vector whose lanes, put together, are nothing
+  pub TellsChanges-none : (at count : ℕ) (xs : List ℕ) → TellsChanges a b at count xs → fold_l bit_or 0 xs ≡ 0
+      → AgreeWithin a b at (at + count)
+  TellsChanges-none at count xs tells none = tells.none (λ i lane. omega (arith, none, lane_le 0 xs i))
 
--- the test of a vector that tells of all bytes up to a place
-pub TellsChanges-tested : (a b : List ℕ) (count end : ℕ) (xs : List ℕ) → TellsChanges a b 0 count xs → end ≤ count → MatchBool (not (nat_eq (fold_l bit_or 0 xs) 0)) (SomeDiffer a b) (AgreeWithin a b 0 end)
-TellsChanges-tested a b count end xs tells within =
-    elim (cases_eq (fold_l bit_or 0 xs) 0) [
-      | inl nothing ↦ rw nothing (λ k low high. TellsChanges-none a b 0 count xs tells nothing k low (omega arith))
-      | inr something ↦ rw (ne_eqb (fold_l bit_or 0 xs) 0 something)
-          (some_lane (SomeDiffer a b) 0 xs (λ some. absurd (some (omega arith))) (λ i lane other. tells.some i (omega (arith, tells.long)) other) something)
-    ]
+  -- the test of a vector that tells of all bytes up to a place
+  pub TellsChanges-tested : (count end : ℕ) (xs : List ℕ) → TellsChanges a b 0 count xs → end ≤ count
+      → MatchBool (not (nat_eq (fold_l bit_or 0 xs) 0)) (SomeDiffer a b) (AgreeWithin a b 0 end)
+  TellsChanges-tested count end xs tells within =
+      elim (cases_eq (fold_l bit_or 0 xs) 0) [
+        | inl nothing ↦ rw nothing (λ k low high. TellsChanges-none 0 count xs tells nothing k low (omega arith))
+        | inr something ↦ rw (ne_eqb (fold_l bit_or 0 xs) 0 something) (some_lane (SomeDiffer a b) 0 xs
+            (λ some. absurd (some (omega arith))) (λ i lane other. tells.some i (omega (arith, tells.long)) other)
+            something)
+      ]

@@ -13,7 +13,7 @@ use Rattle.nor_driver.specs.Units.{sectors_in, is_aligned, erases_sector}
 use Rattle.nor_count.proofs.Below.{same_tests}
 use Rattle.nor_plan.specs.Erase.{is_offered, IsErase, Covers}
 use Rattle.nor_plan.specs.Planned.{holds_run, planned_unit, begins_unit, erase_at, planned_from}
-use Rattle.nor_plan.proofs.Units.{holds_run-at, first_of, first_of-once, first_of-aligned, first_of-holds, IsLargest, IsLargest-first, planned_unit-largest, planned_unit-is}
+use Rattle.nor_plan.proofs.Units.{holds_run-at, first_of, first_of-once, first_of-aligned, first_of-holds, IsLargest, planned_unit-largest, planned_unit-first}
 
 -- the sectors of a chip: `whole` says whether they are all in the set, which lies below their number
 pub record IsPlannable (whole : Bool) (total : ℕ) (set : ℕ → Bool) : Type 0 where
@@ -22,87 +22,101 @@ pub record IsPlannable (whole : Bool) (total : ℕ) (set : ℕ → Bool) : Type 
   pub small : (s : ℕ) → set s ≡ true → s < 4096
 
 -- a sector at which its unit begins is in the set
-pub begins_in : (whole : Bool) (kinds : Kinds) (set : ℕ → Bool) (q : ℕ) → begins_unit whole kinds set q ≡ true → set q ≡ true
+pub begins_in : (whole : Bool) (kinds : Kinds) (set : ℕ → Bool) (q : ℕ) → begins_unit whole kinds set q ≡ true
+    → set q ≡ true
 begins_in whole kinds set q begins = (and_parts _ _ begins).0
 
--- the largest unit that holds a sector of the set lies in the set
-largest_within : (whole : Bool) (kinds : Kinds) (total : ℕ) (set : ℕ → Bool) → IsPlannable whole total set → (q : ℕ) → set q ≡ true → (unit : EraseUnit) → IsLargest whole kinds set q unit
-    → (s : ℕ) → first_of unit q ≤ s → s < first_of unit q + sectors_in total unit → set s ≡ true
-largest_within whole kinds total set can q member Sector largest s low high = let same : s ≡ q = omega arith in rw same member
-largest_within whole kinds total set can q member Block32 largest s low high = holds_run-at set (q - q % 8) 8 (and_parts _ _ largest.2).1 s low high
-largest_within whole kinds total set can q member Block64 largest s low high = holds_run-at set (q - q % 16) 16 (and_parts _ _ largest.1).1 s low high
-largest_within whole kinds total set can q member Chip largest s low high = holds_run-at set 0 total (sym can.whole_is ∙ largest) s low high
-
-largest_offered : (whole : Bool) (kinds : Kinds) (set : ℕ → Bool) (q : ℕ) (unit : EraseUnit) → IsLargest whole kinds set q unit → is_offered kinds unit ≡ true
-largest_offered whole kinds set q Sector largest = refl
-largest_offered whole kinds set q Block32 largest = (and_parts _ _ largest.2).0
-largest_offered whole kinds set q Block64 largest = (and_parts _ _ largest.1).0
-largest_offered whole kinds set q Chip largest = refl
-
--- so does a planned one
-unit_within : (whole : Bool) (kinds : Kinds) (total : ℕ) (set : ℕ → Bool) → IsPlannable whole total set → (q : ℕ) → begins_unit whole kinds set q ≡ true → (s : ℕ) → q ≤ s → s < q + sectors_in total (planned_unit whole kinds set q) → set s ≡ true
-unit_within whole kinds total set can q begins s low high =
-    let unit = planned_unit whole kinds set q in
-    let first : first_of (planned_unit whole kinds set q) q ≡ q = first_of-once total unit q q (and_parts _ _ begins).1 (omega arith) (omega arith) in
-    largest_within whole kinds total set can q (begins_in whole kinds set q begins) unit (planned_unit-largest whole kinds set q) s (omega arith) (omega arith)
-
--- a planned erase is one that the chip has
-planned_IsErase : (whole : Bool) (kinds : Kinds) (total : ℕ) (set : ℕ → Bool) → IsPlannable whole total set → (q : ℕ) → begins_unit whole kinds set q ≡ true → IsErase kinds total (erase_at whole kinds set q)
-planned_IsErase whole kinds total set can q begins =
-    let here : q < total = can.below q (begins_in whole kinds set q begins) in
-    let count = sectors_in total (planned_unit whole kinds set q) in
-    record {
-      offered = largest_offered whole kinds set q _ (planned_unit-largest whole kinds set q);
-      aligned = (and_parts _ _ begins).1;
-      within = elim (cases_lt 0 (sectors_in total (planned_unit whole kinds set q))) [
-        | inl some ↦ let last = can.below (q + (count - 1)) (unit_within whole kinds total set can q begins (q + (count - 1)) (omega arith) (omega arith)) in omega arith
-        | inr none ↦ omega arith
-      ];
-    }
-
--- each sector of the set is within the unit that begins at some sector
-unit_begins : (whole : Bool) (kinds : Kinds) (total : ℕ) (set : ℕ → Bool) → IsPlannable whole total set → (s : ℕ) → set s ≡ true → (q : ℕ) × (begins_unit whole kinds set q ≡ true) × (q ≤ s) × (s < q + sectors_in total (planned_unit whole kinds set q))
-unit_begins whole kinds total set can s member =
-    let unit = planned_unit whole kinds set s in
-    let largest = planned_unit-largest whole kinds set s in
-    let q = first_of unit s in
-    let same : planned_unit whole kinds set (first_of (planned_unit whole kinds set s) s) ≡ planned_unit whole kinds set s =
-    planned_unit-is whole kinds set q unit (IsLargest-first whole kinds set s unit largest) in
-    let holds = first_of-holds total unit s (can.below s member) in
-    let here : set q ≡ true = largest_within whole kinds total set can s member unit largest q (omega arith) (omega arith) in
-    (q, and_from _ _ here (rw same (first_of-aligned unit s)), holds.0, rw same holds.1)
-
 -- some of what passes one test and is mapped passes another
-list_any-kept : {X : Type 0} (p : X → Bool) (f : ℕ → X) (test : ℕ → Bool) (ks : List ℕ) → list_any p (map f (filter test ks)) ≡ list_any (λ k. test k && p (f k)) ks
+list_any-kept : {X : Type 0} (p : X → Bool) (f : ℕ → X) (test : ℕ → Bool) (ks : List ℕ)
+    → list_any p (map f (filter test ks)) ≡ list_any (λ k. test k && p (f k)) ks
 list_any-kept p f test [] = refl
 list_any-kept p f test (k ∷ ks) = elim (cases_Bool (test k)) [
   | inl passes ↦ rw passes (ap (λ b. p (f k) || b) (list_any-kept p f test ks))
   | inr fails ↦ rw fails (list_any-kept p f test ks)
 ]
 
--- the planned erases together erase the set
-planned_union : (whole : Bool) (kinds : Kinds) (total : ℕ) (set : ℕ → Bool) → IsPlannable whole total set → (from : ℕ) → from ≡ 0 → (s : ℕ) → list_any (erases_sector total s) (planned_from whole kinds set from) ≡ set s
-unfolding planned_from
-planned_union whole kinds total set can from start s =
-    let sectors : List ℕ = range_with_len from (4096 - from) in
-    list_any-kept (erases_sector total s) (erase_at whole kinds set) (begins_unit whole kinds set) sectors ∙ same_tests _ _
-    (λ some.
-    let found = Any-from_list_any _ sectors some in
-    let parts = and_parts _ _ found.4 in
-    let holds = and_parts _ _ parts.1 in
-    unit_within whole kinds total set can found.1 parts.0 s (leb-true _ _ holds.0) (ltb-true _ _ holds.1))
-    (λ member.
-    let unit = unit_begins whole kinds total set can s member in
-    let small : unit.0 < 4096 = can.small unit.0 (begins_in whole kinds set unit.0 unit.1) in
-    let at : get_or (range_with_len from (4096 - from)) unit.0 0 ≡ unit.0 = get_or-range_with_len from (4096 - from) unit.0 0 (omega arith) ∙ omega arith in
-    list_any_at _ sectors unit.0 0 (omega (arith, length-range_with_len from (4096 - from)))
-    (rw at (and_from _ _ unit.1 (and_from _ _ (le-leb _ _ unit.2) (lt-ltb _ _ unit.3)))))
+module _ (whole : Bool) (kinds : Kinds) (total : ℕ) (set : ℕ → Bool) (can : IsPlannable whole total set) where
+  -- the largest unit that holds a sector of the set is offered, and lies in the set
+  largest_offered : (q : ℕ) (unit : EraseUnit) → IsLargest whole kinds set q unit → is_offered kinds unit ≡ true
+  largest_offered q Sector largest = refl
+  largest_offered q Block32 largest = (and_parts _ _ largest.2).0
+  largest_offered q Block64 largest = (and_parts _ _ largest.1).0
+  largest_offered q Chip largest = refl
 
-pub planned_Covers : (whole : Bool) (kinds : Kinds) (total : ℕ) (set : ℕ → Bool) → IsPlannable whole total set → (from : ℕ) → from ≡ 0 → Covers kinds total (planned_from whole kinds set from) set
-unfolding planned_from
-planned_Covers whole kinds total set can from start = record {
-  units = All-map (IsErase kinds total) (erase_at whole kinds set) _
-      (All-weaker (λ q. begins_unit whole kinds set q ≡ true) (λ q. IsErase kinds total (erase_at whole kinds set q))
-      (planned_IsErase whole kinds total set can) _ (filter_passes (begins_unit whole kinds set) (range_with_len from (4096 - from))));
-  union = planned_union whole kinds total set can from start;
-}
+  largest_within : (q : ℕ) → set q ≡ true → (unit : EraseUnit) → IsLargest whole kinds set q unit
+      → (s : ℕ) → first_of unit q ≤ s → s < first_of unit q + sectors_in total unit → set s ≡ true
+  largest_within q member Sector largest s low high = let same : s ≡ q = omega arith in rw same member
+  largest_within q member Block32 largest s low high = holds_run-at set (q - q % 8) 8 (and_parts _ _ largest.2).1 s low
+      high
+  largest_within q member Block64 largest s low high = holds_run-at set (q - q % 16) 16 (and_parts _ _ largest.1).1 s
+      low high
+  largest_within q member Chip largest s low high = holds_run-at set 0 total (sym can.whole_is ∙ largest) s low high
+
+  -- so does a planned one
+  unit_within : (q : ℕ) → begins_unit whole kinds set q ≡ true
+      → (s : ℕ) → q ≤ s → s < q + sectors_in total (planned_unit whole kinds set q) → set s ≡ true
+  unit_within q begins s low high =
+      let unit = planned_unit whole kinds set q in
+      let first : first_of (planned_unit whole kinds set q) q ≡ q =
+      first_of-once total unit q q (and_parts _ _ begins).1 (omega arith) (omega arith) in
+      largest_within q (begins_in whole kinds set q begins) unit (planned_unit-largest whole kinds set q) s
+      (omega arith) (omega arith)
+
+  -- a planned erase is one that the chip has
+  planned_IsErase : (q : ℕ) → begins_unit whole kinds set q ≡ true → IsErase kinds total (erase_at whole kinds set q)
+  planned_IsErase q begins = record {
+    offered = largest_offered q _ (planned_unit-largest whole kinds set q);
+    aligned = (and_parts _ _ begins).1;
+    within =
+        let here : q < total = can.below q (begins_in whole kinds set q begins) in
+        let count = sectors_in total (planned_unit whole kinds set q) in
+        elim (cases_lt 0 count) [
+          | inl some ↦ let last = can.below (q + (count - 1))
+              (unit_within q begins (q + (count - 1)) (omega arith) (omega arith)) in omega arith
+          | inr none ↦ omega arith
+        ];
+  }
+
+  -- each sector of the set is within the unit that begins at some sector
+  unit_begins : (s : ℕ) → set s ≡ true
+      → (q : ℕ) × (begins_unit whole kinds set q ≡ true) × (q ≤ s) × (s < q + sectors_in total
+      (planned_unit whole kinds set q))
+  unit_begins s member =
+      let unit = planned_unit whole kinds set s in
+      let largest = planned_unit-largest whole kinds set s in
+      let same = planned_unit-first whole kinds set s unit largest in
+      let holds = first_of-holds total unit s (can.below s member) in
+      let here : set (first_of unit s) ≡ true =
+      largest_within s member unit largest (first_of unit s) (omega arith) (omega arith) in
+      (first_of unit s, and_from _ _ here (rw same (first_of-aligned unit s)), holds.0, rw same holds.1)
+
+  -- the planned erases together erase the set
+  planned_union : (from : ℕ) → from ≡ 0 → (s : ℕ)
+      → list_any (erases_sector total s) (planned_from whole kinds set from) ≡ set s
+  unfolding planned_from
+  planned_union from start s =
+      let sectors : List ℕ = range_with_len from (4096 - from) in
+      list_any-kept (erases_sector total s) (erase_at whole kinds set) (begins_unit whole kinds set) sectors
+      ∙ same_tests _ _
+      (λ some.
+      let found = Any-from_list_any _ sectors some in
+      let parts = and_parts _ _ found.4 in
+      let holds = and_parts _ _ parts.1 in
+      unit_within found.1 parts.0 s (leb-true _ _ holds.0) (ltb-true _ _ holds.1))
+      (λ member.
+      let unit = unit_begins s member in
+      let small : unit.0 < 4096 = can.small unit.0 (begins_in whole kinds set unit.0 unit.1) in
+      let at : get_or (range_with_len from (4096 - from)) unit.0 0 ≡ unit.0 =
+      get_or-range_with_len from (4096 - from) unit.0 0 (omega arith) ∙ omega arith in
+      list_any_at _ sectors unit.0 0 (omega (arith, length-range_with_len from (4096 - from)))
+      (rw at (and_from _ _ unit.1 (and_from _ _ (le-leb _ _ unit.2) (lt-ltb _ _ unit.3)))))
+
+  pub planned_Covers : (from : ℕ) → from ≡ 0 → Covers kinds total (planned_from whole kinds set from) set
+  unfolding planned_from
+  planned_Covers from start = record {
+    units = All-map (IsErase kinds total) (erase_at whole kinds set) _
+        (All-weaker (λ q. begins_unit whole kinds set q ≡ true) (λ q. IsErase kinds total (erase_at whole kinds set q))
+        planned_IsErase _
+        (filter_passes (begins_unit whole kinds set) (range_with_len from (4096 - from))));
+    union = planned_union from start;
+  }

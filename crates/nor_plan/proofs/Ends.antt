@@ -8,7 +8,8 @@ use Rattle.nor_plan.specs.Span.{last_of, ends}
 
 -- the first and the last of some numbers, where there are any
 abbrev pub AreEnds : (ℕ → Type 0) → Option Span → Type 0
-AreEnds P o = MatchOption o ((k : ℕ) → ¬ P k) (λ s. P s.first × P s.last × ((k : ℕ) → P k → (s.first ≤ k) × (k ≤ s.last)))
+AreEnds P o =
+    MatchOption o ((k : ℕ) → ¬ P k) (λ s. P s.first × P s.last × ((k : ℕ) → P k → (s.first ≤ k) × (k ≤ s.last)))
 
 -- they have no others
 pub ends_once : (P : ℕ → Type 0) (o p : Option Span) → AreEnds P o → AreEnds P p → o ≡ p
@@ -22,7 +23,8 @@ ends_once P (Some s) (Some t) a b =
     ap (λ f. span f s.last) first ∙ ap (span t.first) last
 
 -- and numbers of another description have the same
-pub ends_like : (P Q : ℕ → Type 0) (o : Option Span) → ((k : ℕ) → P k → Q k) → ((k : ℕ) → Q k → P k) → AreEnds P o → AreEnds Q o
+pub ends_like : (P Q : ℕ → Type 0) (o : Option Span) → ((k : ℕ) → P k → Q k) → ((k : ℕ) → Q k → P k) → AreEnds P o
+    → AreEnds Q o
 ends_like P Q None to from none = λ k is. none k (from k is)
 ends_like P Q (Some s) to from are = (to s.first are.0, to s.last are.1, λ k is. are.2 k (from k is))
 
@@ -31,7 +33,8 @@ abbrev pub Passes : (test : ℕ → Bool) → (from count k : ℕ) → Type 0
 Passes test from count k = (from ≤ k) × (k < from + count) × (test k ≡ true)
 
 -- a place in front of the others that pass is the first
-in_front : (test : ℕ → Bool) (from count : ℕ) (others : List ℕ) → test from ≡ true → AreEnds (Passes test (from + 1) count) (ends others)
+in_front : (test : ℕ → Bool) (from count : ℕ) (others : List ℕ) → test from ≡ true
+    → AreEnds (Passes test (from + 1) count) (ends others)
     → AreEnds (Passes test from (suc count)) (ends (from ∷ others))
 in_front test from count [] here none = (
   (omega arith, omega arith, here),
@@ -50,7 +53,8 @@ in_front test from count (j ∷ js) here are = (
   ],
 )
 
-pub ends_of : (test : ℕ → Bool) (from count : ℕ) → AreEnds (Passes test from count) (ends (filter test (range_with_len from count)))
+pub ends_of : (test : ℕ → Bool) (from count : ℕ)
+    → AreEnds (Passes test from count) (ends (filter test (range_with_len from count)))
 ends_of test from zero = λ k passes. absurd (omega arith)
 ends_of test from (suc count) =
     let others : List ℕ = filter test (range_with_len (from + 1) count) in

@@ -23,28 +23,13 @@ use Rattle.nor_plan.specs.Planned.{holds_run, planned_unit, begins_unit, erase_a
 use Rattle.nor_plan.proofs.Units.{holds_run-from, first_of, first_of-once, is_fit, larger_begins, planned_unit-largest}
 use Rattle.nor_plan.proofs.Coverage.{IsPlannable, planned_Covers, begins_in}
 
--- a unit within the set is fit
-within_fit : (whole : Bool) (kinds : Kinds) (total : ℕ) (set : ℕ → Bool) → IsPlannable whole total set → (unit : EraseUnit) (q : ℕ) → is_offered kinds unit ≡ true
-    → ((s : ℕ) → first_of unit q ≤ s → s < first_of unit q + sectors_in total unit → set s ≡ true) → is_fit whole kinds set q unit ≡ true
-within_fit whole kinds total set can Sector q offered inside = refl
-within_fit whole kinds total set can Block32 q offered inside = and_from _ _ offered (holds_run-from set (q - q % 8) 8 inside)
-within_fit whole kinds total set can Block64 q offered inside = and_from _ _ offered (holds_run-from set (q - q % 16) 16 inside)
-within_fit whole kinds total set can Chip q offered inside = can.whole_is ∙ holds_run-from set 0 total inside
-
--- a unit within the set that holds a sector at which a planned unit begins, begins there
-begins_alike : (whole : Bool) (kinds : Kinds) (total : ℕ) (set : ℕ → Bool) → IsPlannable whole total set → (q : ℕ) → begins_unit whole kinds set q ≡ true → (unit : EraseUnit) (first : ℕ) → is_offered kinds unit ≡ true → is_aligned unit first ≡ true
-    → ((s : ℕ) → first ≤ s → s < first + sectors_in total unit → set s ≡ true) → first ≤ q → q < first + sectors_in total unit → q ≡ first
-begins_alike whole kinds total set can q begins unit first offered aligned inside low high =
-    let start = first_of-once total unit first q aligned low high in
-    let fit = within_fit whole kinds total set can unit q offered (λ s from to. inside s (omega arith) (omega arith)) in
-    sym (larger_begins whole kinds set q unit (planned_unit whole kinds set q) fit (planned_unit-largest whole kinds set q) (and_parts _ _ begins).1) ∙ start
-
 -- no place of a range stands twice among those that pass
 IsDistinct-places : (test : ℕ → Bool) (from count : ℕ) → IsDistinct nat_eq (filter test (range_with_len from count))
 IsDistinct-places test from count =
+    let place = get_or-range_with_len from count in
     let rising = IsStrictlyIncreasing-filter test (range_with_len from count) (λ k within.
     let there : k + 1 < count = omega (arith, length-range_with_len from count) in
-    omega (arith, get_or-range_with_len from count k 0 (omega arith), get_or-range_with_len from count (k + 1) 0 there)) in
+    omega (arith, place k 0 (omega arith), place (k + 1) 0 there)) in
     IsDistinct-from_apart nat_eq _ (λ i j d before within.
     let less = AllPairs-from_increasing (filter test (range_with_len from count)) rising i j d before within in
     ne_eqb _ _ (λ same. omega arith))
@@ -52,38 +37,72 @@ IsDistinct-places test from count =
 abbrev sector : Erase → ℕ
 sector erase = erase.sector
 
--- so an erase of a list that covers the set begins where a planned one does
-some_begins : (whole : Bool) (kinds : Kinds) (total : ℕ) (set : ℕ → Bool) → IsPlannable whole total set → (others : List Erase) → Covers kinds total others set
-    → (q : ℕ) → begins_unit whole kinds set q ≡ true → list_any (nat_eq q) (map sector others) ≡ true
-some_begins whole kinds total set can others covers q begins =
-    let found = Any-from_list_any (erases_sector total q) others (covers.union q ∙ begins_in whole kinds set q begins) in
-    let erase = get_or others found.0 found.1 in
-    let is = covers.units found.0 found.1 found.2 in
-    let holds = and_parts _ _ (ap (erases_sector total q) found.3 ∙ found.4) in
-    let same : q ≡ (get_or others found.0 found.1).sector = begins_alike whole kinds total set can q begins erase.unit erase.sector is.offered is.aligned
-        (λ s low high. sym (covers.union s) ∙ list_any_at (erases_sector total s) others found.0 found.1 found.2 (and_from _ _ (le-leb _ _ low) (lt-ltb _ _ high)))
-        (leb-true _ _ holds.0) (ltb-true _ _ holds.1) in
-    list_any_at (nat_eq q) (map sector others) found.0 q (omega (arith, length-map others sector, found.2)) (eq-eqb _ _ (same ∙ sym (get_or-map sector others found.0 found.1 q found.2)))
+module _ (whole : Bool) (kinds : Kinds) (total : ℕ) (set : ℕ → Bool) (can : IsPlannable whole total set) where
+  -- a unit within the set is fit
+  within_fit : (unit : EraseUnit) (q : ℕ) → is_offered kinds unit ≡ true
+      → ((s : ℕ) → first_of unit q ≤ s → s < first_of unit q + sectors_in total unit → set s ≡ true) → is_fit whole
+      kinds set q unit ≡ true
+  within_fit Sector q offered inside = refl
+  within_fit Block32 q offered inside = and_from _ _ offered (holds_run-from set (q - q % 8) 8 inside)
+  within_fit Block64 q offered inside = and_from _ _ offered (holds_run-from set (q - q % 16) 16 inside)
+  within_fit Chip q offered inside = can.whole_is ∙ holds_run-from set 0 total inside
 
-pub planned_fewest : (whole : Bool) (kinds : Kinds) (total : ℕ) (set : ℕ → Bool) → IsPlannable whole total set → (from : ℕ) (others : List Erase) → Covers kinds total others set → length (planned_from whole kinds set from) ≤ length others
-unfolding planned_from
-planned_fewest whole kinds total set can from others covers =
-    let sectors : List ℕ = range_with_len from (4096 - from) in
-    let begins : ℕ → Bool = begins_unit whole kinds set in
-    let few : length (filter (begins_unit whole kinds set) (range_with_len from (4096 - from))) ≤ length (map sector others) =
-    length-le_from_is_member nat_eq_equiv (filter begins sectors) (map sector others) (IsDistinct-places begins from (4096 - from)) (λ q member.
-    let kept = is_member-filter nat_eq_equiv begins q (λ s same. ap begins (eqb-true q s same)) sectors in
-    some_begins whole kinds total set can others covers q (and_parts (list_any (nat_eq q) sectors) (begins q) (sym kept ∙ member)).1) in
-    omega (arith, length-map others sector, length-map (filter begins sectors) (erase_at whole kinds set))
+  -- if it holds a sector at which a planned unit begins, it begins there
+  begins_alike : (q : ℕ) → begins_unit whole kinds set q ≡ true → (unit : EraseUnit) (first : ℕ)
+      → is_offered kinds unit ≡ true → is_aligned unit first ≡ true
+      → ((s : ℕ) → first ≤ s → s < first + sectors_in total unit → set s ≡ true) → first ≤ q → q < first + sectors_in
+      total unit → q ≡ first
+  begins_alike q begins unit first offered aligned inside low high =
+      let start = first_of-once total unit first q aligned low high in
+      let fit = within_fit unit q offered (λ s from to. inside s (omega arith) (omega arith)) in
+      sym (larger_begins whole kinds set q unit _ fit (planned_unit-largest whole kinds set q) (and_parts _ _ begins).1)
+      ∙ start
+
+  -- so an erase of a list that covers the set begins where a planned one does
+  some_begins : (others : List Erase) → Covers kinds total others set → (q : ℕ) → begins_unit whole kinds set q ≡ true
+      → list_any (nat_eq q) (map sector others) ≡ true
+  some_begins others covers q begins =
+      let found = Any-from_list_any (erases_sector total q) others
+      (covers.union q ∙ begins_in whole kinds set q begins) in
+      let erase = get_or others found.0 found.1 in
+      let is = covers.units found.0 found.1 found.2 in
+      let holds = and_parts _ _ (ap (erases_sector total q) found.3 ∙ found.4) in
+      let inside = λ (s : ℕ) (low : erase.sector ≤ s) (high : s < erase.sector + sectors_in total erase.unit).
+      sym (covers.union s) ∙ list_any_at (erases_sector total s) others found.0 found.1 found.2
+      (and_from _ _ (le-leb _ _ low) (lt-ltb _ _ high)) in
+      let same = begins_alike q begins erase.unit erase.sector is.offered is.aligned inside (leb-true _ _ holds.0)
+      (ltb-true _ _ holds.1) in
+      list_any_at (nat_eq q) (map sector others) found.0 q (omega (arith, length-map others sector, found.2))
+      (eq-eqb _ _ (same ∙ sym (get_or-map sector others found.0 found.1 q found.2)))
+
+  pub planned_fewest : (from : ℕ) (others : List Erase) → Covers kinds total others set
+      → length (planned_from whole kinds set from) ≤ length others
+  unfolding planned_from
+  planned_fewest from others covers =
+      let sectors : List ℕ = range_with_len from (4096 - from) in
+      let begins : ℕ → Bool = begins_unit whole kinds set in
+      let few : length (filter begins sectors) ≤ length (map sector others) =
+      length-le_from_is_member nat_eq_equiv (filter begins sectors) (map sector others)
+      (IsDistinct-places begins from (4096 - from)) (λ q member.
+      let kept = is_member-filter nat_eq_equiv begins q (λ s same. ap begins (eqb-true q s same)) sectors in
+      some_begins others covers q (and_parts (list_any (nat_eq q) sectors) (begins q) (sym kept ∙ member)).1) in
+      omega (arith, length-map others sector, length-map (filter begins sectors) (erase_at whole kinds set))
 
 -- each erase begins at a sector of its own
-pub planned_few : (whole : Bool) (kinds : Kinds) (set : SectorSet) (from : ℕ) → length (planned_from whole kinds (has set) from) ≤ length (members_from set from)
+pub planned_few : (whole : Bool) (kinds : Kinds) (set : SectorSet) (from : ℕ)
+    → length (planned_from whole kinds (has set) from) ≤ length (members_from set from)
 unfolding planned_from members_from
 planned_few whole kinds set from =
     let sectors : List ℕ = range_with_len from (4096 - from) in
     let begins : ℕ → Bool = begins_unit whole kinds (has set) in
-    omega (arith, length-map (filter begins sectors) (erase_at whole kinds (has set)), length-filter begins sectors, length-filter (has set) sectors,
-    sum_by-le-sum_by (λ s. cond (begins s) 1 0) (λ s. cond (has set s) 1 0) sectors (λ s. both_le (has set s) (is_aligned (planned_unit whole kinds (has set) s) s)))
+    omega (
+      arith,
+      length-map (filter begins sectors) (erase_at whole kinds (has set)),
+      length-filter begins sectors,
+      length-filter (has set) sectors,
+      sum_by-le-sum_by (λ s. cond (begins s) 1 0) (λ s. cond (has set s) 1 0) sectors
+          (λ s. both_le (has set s) (is_aligned (planned_unit whole kinds (has set) s) s)),
+    )
   where
     both_le : (a b : Bool) → cond (a && b) 1 0 ≤ cond a 1 0
     both_le true true = omega arith

@@ -15,7 +15,8 @@ abbrev pub compared : (ℕ → ℕ → Bool) → List ℕ → List ℕ → ℕ
 compared t xs ys = mask_l (map (top 7) (zip2 (λ a b. cond (t a b) (2 ^ 8 - 1) 0) xs ys)) % 2 ^ 64
 
 -- the mask of two vectors, as a test of the elements that they hold
-pub compared-IsMask : (t : ℕ → ℕ → Bool) (xs ys : List ℕ) → length xs ≡ 32 → length ys ≡ 32 → (test : ℕ → Bool) → ((i : ℕ) → i < 32 → t (get_or xs i 0) (get_or ys i 0) ≡ test i) → IsMask (compared t xs ys) test
+pub compared-IsMask : (t : ℕ → ℕ → Bool) (xs ys : List ℕ) → length xs ≡ 32 → length ys ≡ 32 → (test : ℕ → Bool)
+    → ((i : ℕ) → i < 32 → t (get_or xs i 0) (get_or ys i 0) ≡ test i) → IsMask (compared t xs ys) test
 compared-IsMask t xs ys long same test tells =
     let whole : length (zip2 t xs ys) ≡ 32 = length-zip2 t xs ys (long ∙ sym same) ∙ long in
     let is : compared t xs ys ≡ mask_l (zip2 t xs ys) =
@@ -41,34 +42,6 @@ same_from_bit x y e = grind (arith, nat_tests)
 other_from_bit : (x y : ℕ) → ◌≡◌ {A = ℕ} (cond (not (nat_eq x y)) 1 0) 1 → x ≢ y
 other_from_bit x y e same = grind (arith, nat_tests)
 
--- a mask tells at which of 32 places from `at` on two functions differ
-abbrev TellsOthers : (f g : ℕ → ℕ) → (at mask : ℕ) → Type 0
-TellsOthers f g at mask = IsMask mask (λ i. not (nat_eq (f (at + i)) (g (at + i))))
-
-clear_lane : (f g : ℕ → ℕ) (at mask : ℕ) → TellsOthers f g at mask → (k : ℕ) → at ≤ k → k < at + 32 → bit_at mask (k - at) ≡ 0 → f k ≡ g k
-clear_lane f g at mask is k low high clear =
-    let place : at + (k - at) ≡ k = omega arith in
-    ap f (sym place) ∙ same_from_bit _ _ (sym (is.bits (k - at) (omega arith)) ∙ clear) ∙ ap g place
-
-set_lane : (f g : ℕ → ℕ) (at mask : ℕ) → TellsOthers f g at mask → (i : ℕ) → bit_at mask i ≡ 1 → (i < 32) × (f (at + i) ≢ g (at + i))
-set_lane f g at mask is i one =
-    elim (cases_lt i 32) [
-      | inl lane ↦ (lane, other_from_bit _ _ (sym (is.bits i lane) ∙ one))
-      | inr above ↦ absurd (omega (arith, one, bit_at_above mask 32 i is.lanes above))
-    ]
-
--- they differ at none of them,
-pub passed_block : (f g : ℕ → ℕ) (at mask : ℕ) → TellsOthers f g at mask → mask ≡ 0 → (k : ℕ) → at ≤ k → k < at + 32 → f k ≡ g k
-passed_block f g at mask is none k low high =
-    clear_lane f g at mask is k low high (ap (λ m. bit_at m (k - at)) none ∙ bit_at-zero (k - at))
-
--- or first at that of the lowest bit,
-pub first_in_block : (f g : ℕ → ℕ) (at mask : ℕ) → TellsOthers f g at mask → 0 < mask → let t = trailing_zeros w64 mask in (t < 32) × (f (at + t) ≢ g (at + t)) × ((k : ℕ) → at ≤ k → k < at + t → f k ≡ g k)
-first_in_block f g at mask is some =
-    let lowest = bit_at-trailing_zeros w64 mask some (omega (arith, is.lanes)) in
-    let first = set_lane f g at mask is (trailing_zeros w64 mask) lowest.1 in
-    (first.0, first.1, λ k low before. clear_lane f g at mask is k low (omega (arith, first.0)) (lowest.2 (k - at) (omega arith)))
-
 -- the bit that the logarithm names is set
 highest_bit : (n r : ℕ) → 2 ^ r ≤ n → n < 2 * 2 ^ r → bit_at n r ≡ 1
 highest_bit n r least most =
@@ -77,8 +50,44 @@ highest_bit n r least most =
     let one : n / 2 ^ r ≡ 1 = omega arith in
     ap (λ x. x % 2) one
 
--- or last at that of the highest one
-pub last_in_block : (f g : ℕ → ℕ) (at mask r : ℕ) → TellsOthers f g at mask → 2 ^ r ≤ mask → mask < 2 * 2 ^ r → (r < 32) × (f (at + r) ≢ g (at + r)) × ((k : ℕ) → at + r < k → k < at + 32 → f k ≡ g k)
-last_in_block f g at mask r is least most =
-    let last = set_lane f g at mask is r (highest_bit mask r least most) in
-    (last.0, last.1, λ k after high. clear_lane f g at mask is k (omega arith) high (bit_at_above mask (suc r) (k - at) (omega (arith, most, pow-suc 2 r)) (omega arith)))
+-- where a mask tells at which of 32 places from `at` on two functions differ, they differ
+module _ (f g : ℕ → ℕ) (at mask : ℕ) (is : IsMask mask (λ i. not (nat_eq (f (at + i)) (g (at + i))))) where
+  clear_lane : (k : ℕ) → at ≤ k → k < at + 32 → bit_at mask (k - at) ≡ 0 → f k ≡ g k
+  clear_lane k low high clear =
+      let place : at + (k - at) ≡ k = omega arith in
+      ap f (sym place) ∙ same_from_bit _ _ (sym (is.bits (k - at) (omega arith)) ∙ clear) ∙ ap g place
+
+  set_lane : (i : ℕ) → bit_at mask i ≡ 1 → (i < 32) × (f (at + i) ≢ g (at + i))
+  set_lane i one =
+      elim (cases_lt i 32) [
+        | inl lane ↦ (lane, other_from_bit _ _ (sym (is.bits i lane) ∙ one))
+        | inr above ↦ absurd (omega (arith, one, bit_at_above mask 32 i is.lanes above))
+      ]
+
+  -- at none of them,
+  pub passed_block : mask ≡ 0 → (k : ℕ) → at ≤ k → k < at + 32 → f k ≡ g k
+  passed_block none k low high = clear_lane k low high (ap (λ m. bit_at m (k - at)) none ∙ bit_at-zero (k - at))
+
+  pub passed_before : ((k : ℕ) → k < at → f k ≡ g k) → mask ≡ 0 → (k : ℕ) → k < at + 32 → f k ≡ g k
+  passed_before before none k high =
+      elim (cases_lt k at) [ inl earlier ↦ before k earlier | inr here ↦ passed_block none k here high ]
+
+  -- or first at that of the lowest bit,
+  pub first_in_block : 0 < mask → let t = trailing_zeros w64
+      mask in (t < 32) × (f (at + t) ≢ g (at + t)) × ((k : ℕ) → at ≤ k → k < at + t → f k ≡ g k)
+  first_in_block some =
+      let lowest = bit_at-trailing_zeros w64 mask some (omega (arith, is.lanes)) in
+      let first = set_lane (trailing_zeros w64 mask) lowest.1 in
+      (first.0, first.1, λ k low before. clear_lane k low (omega (arith, first.0)) (lowest.2 (k - at) (omega arith)))
+
+  -- or last at that of the highest one
+  pub last_in_block : (r : ℕ) → 2 ^ r ≤ mask → mask < 2 * 2 ^ r
+      → (r < 32) × (f (at + r) ≢ g (at + r)) × ((k : ℕ) → at + r < k → k < at + 32 → f k ≡ g k)
+  last_in_block r least most =
+      let last = set_lane r (highest_bit mask r least most) in
+      let above : mask < 2 ^ suc r = omega (arith, pow-suc 2 r) in (
+        last.0,
+        last.1,
+        λ k after high. clear_lane k (omega arith) high
+            (bit_at_above mask (suc r) (k - at) above (omega arith)),
+      )

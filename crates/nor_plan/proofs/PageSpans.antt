@@ -14,91 +14,88 @@ use Rattle.nor_plan.proofs.Ends.{AreEnds, ends_once, ends_like, Passes, ends_of}
 abbrev pub other : List ℕ → List ℕ → ℕ → Bool
 other old target k = not (nat_eq (get_or old k 0) (get_or target k 0))
 
--- a place of this page at which the bytes differ
-abbrev pub DiffersOn : (old target : List ℕ) → (page k : ℕ) → Type 0
-DiffersOn old target page k = (k / 256 ≡ page) × DifferAt old target k
+module _ (old target : List ℕ) where
+  -- a place of this page at which the bytes differ
+  abbrev pub DiffersOn : (page k : ℕ) → Type 0
+  DiffersOn page k = (k / 256 ≡ page) × DifferAt old target k
 
--- the span of a page are the first and the last of these
-pub page_ends : (old target : List ℕ) (page : ℕ) → AreEnds (DiffersOn old target page) (page_span old target page)
-page_ends old target page =
-    let from = page * 256 in
-    let count = min 256 (length old - page * 256) in
-    ends_like (Passes (other old target) from count) (DiffersOn old target page) (page_span old target page)
-    (λ k passes. (omega arith, (omega arith, other_from_test _ _ passes.2)))
-    (λ k differs. let within : k < length old = differs.1.0 in (omega arith, omega arith, test_from_other _ _ differs.1.1))
-    (ends_of (other old target) from count)
+  -- the span of a page are the first and the last of these
+  pub page_ends : (page : ℕ) → AreEnds (DiffersOn page) (page_span old target page)
+  page_ends page =
+      let from = page * 256 in
+      let count = min 256 (length old - page * 256) in
+      ends_like (Passes (other old target) from count) (DiffersOn page) (page_span old target page)
+      (λ k passes. (omega arith, (omega arith, other_from_test _ _ passes.2)))
+      (λ k differs. let within : k < length
+      old = differs.1.0 in (omega arith, omega arith, test_from_other _ _ differs.1.1))
+      (ends_of (other old target) from count)
 
--- bytes that agree in a part of the slices
-same_in_part : (old target : List ℕ) (start count k : ℕ) → start ≤ k → k < start + count
-    → get_or (chunk start count old) (k - start) 0 ≡ get_or (chunk start count target) (k - start) 0 → get_or old k 0 ≡ get_or target k 0
-same_in_part old target start count k low high same =
-    let place : start + (k - start) ≡ k = omega arith in
-    let part = λ (bytes : List ℕ). get_or-chunk start count bytes (k - start) 0 (omega arith) ∙ ap (λ j. get_or bytes j 0) place in
-    sym (part old) ∙ same ∙ part target
+  -- bytes that agree in a part of the slices
+  same_in_part : (start count k : ℕ) → start ≤ k → k < start + count
+      → get_or (chunk start count old) (k - start) 0 ≡ get_or (chunk start count target) (k - start) 0 → get_or old k
+      0 ≡ get_or target k 0
+  same_in_part start count k low high same =
+      let place : start + (k - start) ≡ k = omega arith in
+      let part = λ (bytes : List ℕ). get_or-chunk start count bytes (k - start) 0 (omega arith)
+      ∙ ap (λ j. get_or bytes j 0) place in
+      sym (part old) ∙ same ∙ part target
 
-pub agreed_page : (old target : List ℕ) (page count : ℕ) → count ≡ min 256 (length old - page * 256) → page * 256 + count ≤ length old
-    → AllAgree (chunk (page * 256) count old) (chunk (page * 256) count target) → None ≡ page_span old target page
-agreed_page old target page count size room agree =
-    let long : length (chunk (page * 256) count old) ≡ count = length-chunk (page * 256) count old room in
-    ends_once (DiffersOn old target page) None (page_span old target page)
-    (λ k differs.
-    let within : k < length old = differs.1.0 in
-    differs.1.1 (same_in_part old target (page * 256) count k (omega arith) (omega arith) (agree (k - page * 256) (omega arith))))
-    (page_ends old target page)
+  pub agreed_page : (page count : ℕ) → count ≡ min 256 (length old - page * 256) → page * 256 + count ≤ length old
+      → AllAgree (chunk (page * 256) count old) (chunk (page * 256) count target) → None ≡ page_span old target page
+  agreed_page page count size room agree =
+      let long = length-chunk (page * 256) count old room in
+      ends_once (DiffersOn page) None (page_span old target page)
+      (λ k differs.
+      let within : k < length old = differs.1.0 in
+      differs.1.1 (same_in_part (page * 256) count k (omega arith) (omega arith)
+      (agree (k - page * 256) (omega arith))))
+      (page_ends page)
 
-pub bounded_page : (old target : List ℕ) (page count first last : ℕ) → count ≡ min 256 (length old - page * 256) → page * 256 + count ≤ length old
-    → IsFirstDifference (chunk (page * 256) count old) (chunk (page * 256) count target) first
-    → IsLastDifference (chunk (page * 256) count old) (chunk (page * 256) count target) last
-    → Some (record { first = page * 256 + first; last = page * 256 + last }) ≡ page_span old target page
-bounded_page old target page count first last size room f l =
-    let long : length (chunk (page * 256) count old) ≡ count = length-chunk (page * 256) count old room in
-    let in_first : first < count = omega (arith, f.within) in
-    let in_last : last < count = omega (arith, l.within) in
-    let start = page * 256 in
-    ends_once (DiffersOn old target page) (Some (record { first = page * 256 + first; last = page * 256 + last })) (page_span old target page)
-    (
-      at first in_first f.differs,
-      at last in_last l.differs,
-      λ k differs.
-          let within : k < length old = differs.1.0 in
-          let same = same_in_part old target (page * 256) count k (omega arith) (omega arith) in (
-            elim (cases_lt k (page * 256 + first)) [
-              | inl before ↦ absurd (differs.1.1 (same (f.before (k - page * 256) (omega arith))))
-              | inr from ↦ from
-            ],
-            elim (cases_lt (page * 256 + last) k) [
-              | inl after ↦ absurd (differs.1.1 (same (l.after (k - page * 256) (omega arith) (omega arith))))
-              | inr upto ↦ upto
-            ],
-          ),
-    )
-    (page_ends old target page)
-  where
-    at : (k : ℕ) → k < count → get_or (chunk (page * 256) count old) k 0 ≢ get_or (chunk (page * 256) count target) k 0 → DiffersOn old target page (page * 256 + k)
-    at k within differ = (
-      omega arith,
-      (omega arith, λ same. differ (get_or-chunk (page * 256) count old k 0 within ∙ same ∙ sym (get_or-chunk (page * 256) count target k 0 within))),
-    )
+  pub bounded_page : (page count first last : ℕ) → count ≡ min 256 (length old - page * 256)
+      → page * 256 + count ≤ length old
+      → IsFirstDifference (chunk (page * 256) count old) (chunk (page * 256) count target) first
+      → IsLastDifference (chunk (page * 256) count old) (chunk (page * 256) count target) last
+      → Some (record { first = page * 256 + first; last = page * 256 + last }) ≡ page_span old target page
+  bounded_page page count first last size room f l =
+      let long = length-chunk (page * 256) count old room in
+      let start = page * 256 in
+      let differ = λ (k : ℕ) (within : k < count).
+      λ (same : get_or old (page * 256 + k) 0 ≡ get_or target (page * 256 + k) 0).
+      get_or-chunk (page * 256) count old k 0 within ∙ same ∙ sym (get_or-chunk (page * 256) count target k 0 within) in
+      let in_first : first < count = omega (arith, f.within) in
+      let in_last : last < count = omega (arith, l.within) in
+      ends_once (DiffersOn page) _ (page_span old target page) (
+        (omega arith, (omega arith, λ same. f.differs (differ first in_first same))),
+        (omega arith, (omega arith, λ same. l.differs (differ last in_last same))),
+        λ k differs.
+            let within : k < length old = differs.1.0 in
+            let same = same_in_part (page * 256) count k (omega arith) (omega arith) in (
+              elim (cases_lt k (page * 256 + first)) [
+                | inl before ↦ absurd (differs.1.1 (same (f.before (k - page * 256) (omega arith))))
+                | inr from ↦ from
+              ],
+              elim (cases_lt (page * 256 + last) k) [
+                | inl after ↦ absurd (differs.1.1 (same (l.after (k - page * 256) (omega arith) (omega arith))))
+                | inr upto ↦ upto
+              ],
+            ),
+      )
+      (page_ends page)
 
--- from a page on: nothing is left behind the last one,
-pub spans_from-end : (old target : List ℕ) (page : ℕ) → page_count old ≤ page → spans_from old target page ≡ []
-spans_from-end old target page past =
-    let none : page_count old - page ≡ 0 = omega arith in
-    ap (spans_in old target page) none
+  -- from a page on: nothing is left behind the last one,
+  pub spans_from-end : (page : ℕ) → page_count old ≤ page → spans_from old target page ≡ []
+  spans_from-end page past = let none : page_count old - page ≡ 0 = omega arith in rw none
 
--- and else the span of this page, where it has one, stands before the others
-spans_from-step : (old target : List ℕ) (page : ℕ) → page < page_count old → spans_from old target page ≡ cons_option (page_span old target page) (spans_from old target (page + 1))
-spans_from-step old target page there =
-    let more : page_count old - page ≡ suc (page_count old - (page + 1)) = omega arith in
-    ap (spans_in old target page) more
+  -- and else the span of this page, where it has one, stands before the others
+  pub spans_from-none : (page : ℕ) → page < page_count old → page_span old target page ≡ None
+      → spans_from old target (page + 1) ≡ spans_from old target page
+  spans_from-none page there none = let more : page_count old - page ≡ suc
+      (page_count old - (page + 1)) = omega arith in rw (more, none)
 
-pub spans_from-none : (old target : List ℕ) (page : ℕ) → page < page_count old → page_span old target page ≡ None → spans_from old target (page + 1) ≡ spans_from old target page
-spans_from-none old target page there none =
-    sym (spans_from-step old target page there ∙ ap (λ o. cons_option o (spans_from old target (page + 1))) none)
-
-pub spans_from-some : (old target : List ℕ) (page : ℕ) (span : Span) → page < page_count old → page_span old target page ≡ Some span → spans_from old target page ≡ span ∷ spans_from old target (page + 1)
-spans_from-some old target page span there some =
-    spans_from-step old target page there ∙ ap (λ o. cons_option o (spans_from old target (page + 1))) some
+  pub spans_from-some : (page : ℕ) (span : Span) → page < page_count old → page_span old target page ≡ Some span
+      → spans_from old target page ≡ span ∷ spans_from old target (page + 1)
+  spans_from-some page span there some = let more : page_count old - page ≡ suc
+      (page_count old - (page + 1)) = omega arith in rw (more, some)
 
 -- a page that is counted begins within the slice
 pub page_within : (length page : ℕ) → page < div_ceil length 256 → page * 256 < length

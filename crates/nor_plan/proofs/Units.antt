@@ -12,15 +12,18 @@ use Rattle.nor_plan.specs.Erase.{is_offered}
 use Rattle.nor_plan.specs.Planned.{holds_run, holds_block, planned_unit}
 
 -- a run is in the set exactly where each of its sectors is
-pub holds_run-at : (set : ℕ → Bool) (from count : ℕ) → holds_run set from count ≡ true → (s : ℕ) → from ≤ s → s < from + count → set s ≡ true
+pub holds_run-at : (set : ℕ → Bool) (from count : ℕ) → holds_run set from count ≡ true → (s : ℕ) → from ≤ s
+    → s < from + count → set s ≡ true
 unfolding holds_run
 holds_run-at set from count holds s low high =
     let place : from + (s - from) ≡ s = omega arith in
     let there : s - from < count = omega arith in
-    let passes = AllPass-from_list_all set (range_with_len from count) holds (s - from) 0 (omega (arith, length-range_with_len from count)) in
+    let passes = AllPass-from_list_all set (range_with_len from count) holds (s - from) 0
+    (omega (arith, length-range_with_len from count)) in
     ap set (sym place ∙ sym (get_or-range_with_len from count (s - from) 0 there)) ∙ passes
 
-pub holds_run-from : (set : ℕ → Bool) (from count : ℕ) → ((s : ℕ) → from ≤ s → s < from + count → set s ≡ true) → holds_run set from count ≡ true
+pub holds_run-from : (set : ℕ → Bool) (from count : ℕ) → ((s : ℕ) → from ≤ s → s < from + count → set s ≡ true)
+    → holds_run set from count ≡ true
 unfolding holds_run
 holds_run-from set from count all = list_all-from_AllPass set (range_with_len from count) (λ k d within.
     let there : k < count = omega (arith, length-range_with_len from count) in
@@ -33,7 +36,8 @@ first_of Block32 s = s - s % 8
 first_of Block64 s = s - s % 16
 first_of Chip s = 0
 
-pub first_of-once : (total : ℕ) (unit : EraseUnit) (first s : ℕ) → is_aligned unit first ≡ true → first ≤ s → s < first + sectors_in total unit → first_of unit s ≡ first
+pub first_of-once : (total : ℕ) (unit : EraseUnit) (first s : ℕ) → is_aligned unit first ≡ true → first ≤ s
+    → s < first + sectors_in total unit → first_of unit s ≡ first
 first_of-once total Sector first s aligned low high = omega arith
 first_of-once total Block32 first s aligned low high = omega (arith, eqb-true)
 first_of-once total Block64 first s aligned low high = omega (arith, eqb-true)
@@ -45,65 +49,63 @@ first_of-aligned Block32 s = eq-eqb _ _ (omega arith)
 first_of-aligned Block64 s = eq-eqb _ _ (omega arith)
 first_of-aligned Chip s = refl
 
-pub first_of-holds : (total : ℕ) (unit : EraseUnit) (s : ℕ) → s < total → (first_of unit s ≤ s) × (s < first_of unit s + sectors_in total unit)
+pub first_of-holds : (total : ℕ) (unit : EraseUnit) (s : ℕ) → s < total
+    → (first_of unit s ≤ s) × (s < first_of unit s + sectors_in total unit)
 first_of-holds total Sector s below = (omega arith, omega arith)
 first_of-holds total Block32 s below = (omega arith, omega arith)
 first_of-holds total Block64 s below = (omega arith, omega arith)
 first_of-holds total Chip s below = (omega arith, omega arith)
 
--- a unit is offered, and lies in the set
-abbrev pub is_fit : Bool → Kinds → (ℕ → Bool) → ℕ → EraseUnit → Bool
-is_fit whole kinds set s Sector = true
-is_fit whole kinds set s Block32 = kinds.k32 && holds_block set 8 s
-is_fit whole kinds set s Block64 = kinds.k64 && holds_block set 16 s
-is_fit whole kinds set s Chip = whole
+module _ (whole : Bool) (kinds : Kinds) (set : ℕ → Bool) where
+  -- a unit that holds a sector is offered, and lies in the set
+  abbrev pub is_fit : ℕ → EraseUnit → Bool
+  is_fit s Sector = true
+  is_fit s Block32 = kinds.k32 && holds_block set 8 s
+  is_fit s Block64 = kinds.k64 && holds_block set 16 s
+  is_fit s Chip = whole
 
--- the unit is fit, and no larger one is
-abbrev pub IsLargest : Bool → Kinds → (ℕ → Bool) → ℕ → EraseUnit → Type 0
-IsLargest whole kinds set s Chip = whole ≡ true
-IsLargest whole kinds set s Block64 = (whole ≡ false) × (is_fit whole kinds set s Block64 ≡ true)
-IsLargest whole kinds set s Block32 = (whole ≡ false) × (is_fit whole kinds set s Block64 ≡ false) × (is_fit whole kinds set s Block32 ≡ true)
-IsLargest whole kinds set s Sector = (whole ≡ false) × (is_fit whole kinds set s Block64 ≡ false) × (is_fit whole kinds set s Block32 ≡ false)
+  -- the unit is fit, and no larger one is
+  abbrev pub IsLargest : ℕ → EraseUnit → Type 0
+  IsLargest s Chip = whole ≡ true
+  IsLargest s Block64 = (whole ≡ false) × (is_fit s Block64 ≡ true)
+  IsLargest s Block32 = (whole ≡ false) × (is_fit s Block64 ≡ false) × (is_fit s Block32 ≡ true)
+  IsLargest s Sector = (whole ≡ false) × (is_fit s Block64 ≡ false) × (is_fit s Block32 ≡ false)
 
-pub planned_unit-largest : (whole : Bool) (kinds : Kinds) (set : ℕ → Bool) (s : ℕ) → IsLargest whole kinds set s (planned_unit whole kinds set s)
-unfolding planned_unit
-planned_unit-largest whole kinds set s = elim (cases_Bool whole) [
-  | inl w ↦ rw w
-  | inr w ↦ elim (cases_Bool (kinds.k64 && holds_block set 16 s)) [
-    | inl wide ↦ rw (w, wide) (refl, wide)
-    | inr b ↦ elim (cases_Bool (kinds.k32 && holds_block set 8 s)) [
-      | inl narrow ↦ rw (w, b, narrow) (refl, b, narrow)
-      | inr n ↦ rw (w, b, n) (refl, b, n)
+  pub planned_unit-largest : (s : ℕ) → IsLargest s (planned_unit whole kinds set s)
+  unfolding planned_unit
+  planned_unit-largest s = elim (cases_Bool whole) [
+    | inl w ↦ rw w
+    | inr w ↦ elim (cases_Bool (is_fit s Block64)) [
+      | inl wide ↦ rw (w, wide) (refl, wide)
+      | inr b ↦ elim (cases_Bool (is_fit s Block32)) [
+        | inl narrow ↦ rw (w, b, narrow) (refl, b, narrow)
+        | inr n ↦ rw (w, b, n) (refl, b, n)
+      ]
     ]
   ]
-]
 
-pub planned_unit-is : (whole : Bool) (kinds : Kinds) (set : ℕ → Bool) (s : ℕ) (unit : EraseUnit) → IsLargest whole kinds set s unit → planned_unit whole kinds set s ≡ unit
-unfolding planned_unit
-planned_unit-is whole kinds set s Chip largest = rw largest
-planned_unit-is whole kinds set s Block64 largest = rw (largest.0, largest.1)
-planned_unit-is whole kinds set s Block32 largest = rw (largest.0, largest.1, largest.2)
-planned_unit-is whole kinds set s Sector largest = rw (largest.0, largest.1, largest.2)
+  -- it is the unit of the sector at which it begins, too
+  pub planned_unit-first : (s : ℕ) (unit : EraseUnit) → IsLargest s unit
+      → planned_unit whole kinds set (first_of unit s) ≡ unit
+  unfolding planned_unit
+  planned_unit-first s Chip largest = rw largest
+  planned_unit-first s Block64 largest =
+      let same : (s - s % 16) - (s - s % 16) % 16 ≡ s - s % 16 = omega arith in
+      rw (largest.0, same, largest.1)
+  planned_unit-first s Block32 largest =
+      let wide : (s - s % 8) - (s - s % 8) % 16 ≡ s - s % 16 = omega arith in
+      let same : (s - s % 8) - (s - s % 8) % 8 ≡ s - s % 8 = omega arith in
+      rw (largest.0, wide, largest.1, same, largest.2)
+  planned_unit-first s Sector largest = rw (largest.0, largest.1, largest.2)
 
--- so it is the unit of the sector at which it begins, too
-pub IsLargest-first : (whole : Bool) (kinds : Kinds) (set : ℕ → Bool) (s : ℕ) (unit : EraseUnit) → IsLargest whole kinds set s unit → IsLargest whole kinds set (first_of unit s) unit
-IsLargest-first whole kinds set s Chip largest = largest
-IsLargest-first whole kinds set s Block64 largest =
-    let same : (s - s % 16) - (s - s % 16) % 16 ≡ s - s % 16 = omega arith in
-    (largest.0, rw same largest.1)
-IsLargest-first whole kinds set s Block32 largest =
-    let wide : (s - s % 8) - (s - s % 8) % 16 ≡ s - s % 16 = omega arith in
-    let same : (s - s % 8) - (s - s % 8) % 8 ≡ s - s % 8 = omega arith in
-    (largest.0, rw wide largest.1, rw same largest.2)
-IsLargest-first whole kinds set s Sector largest = largest
-
--- a fit unit that begins at no sector of its block's but the first begins where a larger one does
-pub larger_begins : (whole : Bool) (kinds : Kinds) (set : ℕ → Bool) (s : ℕ) (unit largest : EraseUnit) → is_fit whole kinds set s unit ≡ true → IsLargest whole kinds set s largest → is_aligned largest s ≡ true → first_of unit s ≡ s
-larger_begins whole kinds set s Sector _ fit is aligned = refl
-larger_begins whole kinds set s Block32 Sector fit is aligned = absurd (both_ways _ is.2 fit)
-larger_begins whole kinds set s Block64 Sector fit is aligned = absurd (both_ways _ is.1 fit)
-larger_begins whole kinds set s Block64 Block32 fit is aligned = absurd (both_ways _ is.1 fit)
-larger_begins whole kinds set s Chip Sector fit is aligned = absurd (both_ways _ is.0 fit)
-larger_begins whole kinds set s Chip Block32 fit is aligned = absurd (both_ways _ is.0 fit)
-larger_begins whole kinds set s Chip Block64 fit is aligned = absurd (both_ways _ is.0 fit)
-larger_begins whole kinds set s unit largest fit is aligned = omega (arith, eqb-true)
+  -- a fit unit begins where a larger one does
+  pub larger_begins : (s : ℕ) (unit largest : EraseUnit) → is_fit s unit ≡ true → IsLargest s largest
+      → is_aligned largest s ≡ true → first_of unit s ≡ s
+  larger_begins s Sector _ fit is aligned = refl
+  larger_begins s Block32 Sector fit is aligned = absurd (both_ways _ is.2 fit)
+  larger_begins s Block64 Sector fit is aligned = absurd (both_ways _ is.1 fit)
+  larger_begins s Block64 Block32 fit is aligned = absurd (both_ways _ is.1 fit)
+  larger_begins s Chip Sector fit is aligned = absurd (both_ways _ is.0 fit)
+  larger_begins s Chip Block32 fit is aligned = absurd (both_ways _ is.0 fit)
+  larger_begins s Chip Block64 fit is aligned = absurd (both_ways _ is.0 fit)
+  larger_begins s unit largest fit is aligned = omega (arith, eqb-true)

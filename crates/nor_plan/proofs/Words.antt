@@ -24,7 +24,8 @@ none-set sector = rw (zeros 64 (sector / 64), bit_at-zero)
 
 -- the words with one bit more
 pub bit_of-with_bit : (words : List ℕ) (sector : ℕ) → sector / 64 < length words → (s : ℕ)
-    → bit_of (set words (sector / 64) (bit_or (get_or words (sector / 64) 0) (1 * 2 ^ (sector % 64) % 2 ^ 64))) s ≡ (nat_eq s sector || bit_of words s)
+    → bit_of (set words (sector / 64) (bit_or (get_or words (sector / 64) 0) (1 * 2 ^ (sector % 64) % 2 ^ 64)))
+    s ≡ (nat_eq s sector || bit_of words s)
 bit_of-with_bit words sector there s =
     let old = get_or words (sector / 64) 0 in
     let new = bit_or old (1 * 2 ^ (sector % 64) % 2 ^ 64) in
@@ -47,56 +48,57 @@ bit_of-with_bit words sector there s =
 
 -- the bits of a word that is shifted
 bit_at-shifted : (word k i : ℕ) → bit_at (word / 2 ^ k) i ≡ bit_at word (k + i)
-bit_at-shifted word k i = ap (λ x. x % 2) (div-div-eq-div-mul word (2 ^ k) (2 ^ i) ∙ ap (λ x. word / x) (sym (pow-add 2 k i)))
-
--- the sectors from `first` on are the bits of what is left of their word, shifted down to `first`
-has_at : (set : SectorSet) (first index k bits i : ℕ) → first ≡ index * 64 + k → bits ≡ get_or set.words index 0 / 2 ^ k → k + i < 64
-    → has set (first + i) ≡ (bit_at bits i == 1)
-unfolding has
-has_at set first index k bits i place shifted within =
-    let row : (first + i) / 64 ≡ index = omega arith in
-    let column : (first + i) % 64 ≡ k + i = omega arith in
-    rw (row, column, shifted, bit_at-shifted (get_or set.words index 0) k i)
+bit_at-shifted word k i =
+    ap (λ x. x % 2) (div-div-eq-div-mul word (2 ^ k) (2 ^ i) ∙ ap (λ x. word / x) (sym (pow-add 2 k i)))
 
 -- none of the sectors from one up to another is in the set
 abbrev pub NoneBetween : SectorSet → (from to : ℕ) → Type 0
 NoneBetween set from to = (s : ℕ) → from ≤ s → s < to → has set s ≡ false
 
--- where no bit is left in a word, none of its sectors is either,
-pub none_in_word : (set : SectorSet) (from first index k bits : ℕ) → first ≡ index * 64 + k → bits ≡ get_or set.words index 0 / 2 ^ k
-    → NoneBetween set from first → bits ≡ 0 → NoneBetween set from (index * 64 + 64)
-none_in_word set from first index k bits place shifted before none s low high =
-    elim (cases_lt s first) [
-      | inl earlier ↦ before s low earlier
-      | inr here ↦
-          let there : first + (s - first) ≡ s = omega arith in
-          rw there at (has_at set first index k bits (s - first) place shifted (omega arith)) ∙ rw (none, bit_at-zero)
-    ]
+-- `bits` are what is left of a word of the set, shifted down to the sector `first`
+module _ (set : SectorSet) (from first index k bits : ℕ) (place : first ≡ index * 64 + k)
+    (shifted : bits ≡ get_or set.words index 0 / 2 ^ k) where
+  has_at : (s : ℕ) → first ≤ s → s < index * 64 + 64 → has set s ≡ (bit_at bits (s - first) == 1)
+  unfolding has
+  has_at s low high =
+      let row : s / 64 ≡ index = omega arith in
+      let column : s % 64 ≡ k + (s - first) = omega arith in
+      rw (row, column, shifted, bit_at-shifted (get_or set.words index 0) k (s - first))
 
--- and else the lowest bit is the least sector
-pub least_in_word : (set : SectorSet) (from first index k bits : ℕ) → first ≡ index * 64 + k → bits ≡ get_or set.words index 0 / 2 ^ k
-    → NoneBetween set from first → 0 < bits → index < 64 → from ≤ first → get_or set.words index 0 < 2 ^ 64 → IsLeastFrom set from (first + trailing_zeros w64 bits)
-least_in_word set from first index k bits place shifted before some few after fits =
-    let word = get_or set.words index 0 in
-    let lowest = bit_at-trailing_zeros w64 bits some (omega (arith, div-le_self word (2 ^ k))) in
-    let t = trailing_zeros w64 bits in
-    let inside : k + trailing_zeros w64 bits < 64 = elim (cases_lt (k + t) 64) [
-      | inl inside ↦ inside
-      | inr past ↦ absurd (omega (arith, bit_at_above word 64 (k + t) fits past, bit_at-shifted word k t, ap (λ b. bit_at b t) shifted, lowest.1))
-    ] in
-    record {
-      after = omega arith;
-      below = omega arith;
-      member = has_at set first index k bits t place shifted inside ∙ rw lowest.1;
-      before = λ s low high. elim (cases_lt s first) [
+  -- where no bit is left, none of its sectors is in the set either,
+  pub none_in_word : NoneBetween set from first → bits ≡ 0 → NoneBetween set from (index * 64 + 64)
+  none_in_word before none s low high =
+      elim (cases_lt s first) [
         | inl earlier ↦ before s low earlier
-        | inr here ↦
-            let there : first + (s - first) ≡ s = omega arith in
-            rw there at (has_at set first index k bits (s - first) place shifted (omega arith)) ∙ rw (lowest.2 (s - first) (omega arith))
-      ];
-    }
+        | inr here ↦ has_at s here high ∙ rw (none, bit_at-zero)
+      ]
+
+  -- and else the lowest bit is the least sector
+  pub least_in_word : NoneBetween set from first → 0 < bits → index < 64 → from ≤ first
+      → get_or set.words index 0 < 2 ^ 64
+      → IsLeastFrom set from (first + trailing_zeros w64 bits)
+  least_in_word before some few after fits =
+      let word = get_or set.words index 0 in
+      let t = trailing_zeros w64 bits in
+      let lowest = bit_at-trailing_zeros w64 bits some (omega (arith, div-le_self word (2 ^ k))) in
+      let inside : k + trailing_zeros w64 bits < 64 = elim (cases_lt (k + t) 64) [
+        | inl inside ↦ inside
+        | inr past ↦
+            let none = bit_at_above word 64 (k + t) fits past in
+            absurd (omega (arith, none, bit_at-shifted word k t, ap (λ b. bit_at b t) shifted, lowest.1))
+      ] in
+      let here : first + t - first ≡ t = omega arith in
+      record {
+        after = omega arith;
+        below = omega arith;
+        member = has_at (first + t) (omega arith) (omega arith) ∙ rw (here, lowest.1);
+        before = λ s low high. elim (cases_lt s first) [
+          | inl earlier ↦ before s low earlier
+          | inr here ↦ has_at s here (omega arith) ∙ rw (lowest.2 (s - first) (omega arith))
+        ];
+      }
 
 -- no sector is behind the last word
 pub none_past : (set : SectorSet) → length set.words ≡ 64 → (s : ℕ) → 4096 ≤ s → has set s ≡ false
 unfolding has
-none_past set long s past = let row : 64 ≤ s / 64 = omega arith in rw (get_or_past set.words (s / 64) 0 (omega arith), bit_at-zero)
+none_past set long s past = rw (get_or_past set.words (s / 64) 0 (omega arith), bit_at-zero)

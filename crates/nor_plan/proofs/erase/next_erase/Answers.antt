@@ -11,7 +11,7 @@ pub returns-then-begins_at : goal.returns-then-begins_at
 returns-then-begins_at c =
     let s = c.loop-sector.sector in
     let begins = and_from _ _ (sym c.contains.ensures ∙ c.if-contains.true)
-        (ap (λ u. is_aligned u s) (sym c.unit_of-unit.ensures) ∙ sym c.begins_at.ensures ∙ c.if-begins_at.true) in
+    (ap (λ u. is_aligned u s) (sym c.unit_of-unit.ensures) ∙ sym c.begins_at.ensures ∙ c.if-begins_at.true) in
     let next : c.from.result + 1 ≡ c.loop-sector.sector + 1 = omega (arith, c.from.ensures) in
     sym c.loop-sector.invariant
     ∙ planned_from-take c.args.whole c.args.kinds (has c.args.set.now) s c.loop-sector-test.true begins

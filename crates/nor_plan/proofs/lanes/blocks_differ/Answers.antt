@@ -7,8 +7,9 @@ loop-block-init c = TellsChanges-zeros c.args.a.now c.args.b.now 0
 
 pub loop-block-preserved : goal.loop-block-preserved
 loop-block-preserved c =
-    TellsChanges-or c.args.a.now c.args.b.now 0 (c.loop-block.block * 256) _ 256 _ c.loop-block.changes c.changes_256-changes.result (omega arith) (omega arith) c.loop-block.invariant c.changes_256-changes.ensures
+    TellsChanges-or _ _ (omega arith) (omega arith) c.loop-block.invariant c.changes_256-changes.ensures
 
 pub returns : goal.returns
 returns c =
-    TellsChanges-tested c.args.a.now c.args.b.now (c.loop-block.block * 256) (length c.args.a.now / 256 * 256) c.loop-block.changes c.loop-block.invariant (omega arith)
+    TellsChanges-tested c.args.a.now c.args.b.now (c.loop-block.block * 256) (length c.args.a.now / 256 * 256)
+    c.loop-block.changes c.loop-block.invariant (omega arith)

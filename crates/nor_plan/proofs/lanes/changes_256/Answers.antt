@@ -7,7 +7,7 @@ loop-part-init c = TellsChanges-zeros c.args.a.now c.args.b.now c.args.at
 
 pub loop-part-preserved : goal.loop-part-preserved
 loop-part-preserved c =
-    TellsChanges-or c.args.a.now c.args.b.now c.args.at (c.loop-part.part * 32) _ 32 _ c.loop-part.changes c.changes_32-changes.result (omega arith) (omega arith) c.loop-part.invariant c.changes_32-changes.ensures
+    TellsChanges-or _ _ (omega arith) (omega arith) c.loop-part.invariant c.changes_32-changes.ensures
 
 pub returns : goal.returns
 returns c = let all : c.loop-part.part * 32 ≡ 256 = omega arith in rw all at c.loop-part.invariant

@@ -14,4 +14,6 @@ returns c =
     let target_long = length-chunk at 32 c.args.target.now c.requires.target_within in
     compared-IsMask (λ x y. not (nat_eq x y)) (zip2 bit_and target old) target
     (length-zip2 bit_and target old (target_long ∙ sym old_long) ∙ target_long) target_long _
-    (λ i lane. rw (get_or-zip2 bit_and target old i 0 0 0 (omega arith) (omega arith), get_or-chunk at 32 c.args.old.now i 0 lane, get_or-chunk at 32 c.args.target.now i 0 lane))
+    (λ i lane.
+    let kept = get_or-zip2 bit_and target old i 0 0 0 (omega arith) (omega arith) in
+    rw (kept, get_or-chunk at 32 c.args.old.now i 0 lane, get_or-chunk at 32 c.args.target.now i 0 lane))

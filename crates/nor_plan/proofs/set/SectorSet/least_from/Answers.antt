@@ -19,14 +19,14 @@ loop-index-init c s low high =
 pub returns-then-word-ne0-2 : goal.returns-then-word-ne0-2
 returns-then-word-ne0-2 c =
     let index = c.loop-index.index in
-    least_in_word c.args.self.now c.args.from (index * 64) index 0 (get_or c.args.self.now.words index 0) (omega arith) (omega arith)
-    c.loop-index.invariant (omega arith) (omega arith) (omega arith) (search rules)
+    least_in_word c.args.self.now c.args.from (index * 64) index 0 (get_or c.args.self.now.words index 0) (omega arith)
+    (omega arith) c.loop-index.invariant (omega arith) (omega arith) (omega arith) (search rules)
 
 pub loop-index-preserved : goal.loop-index-preserved
 loop-index-preserved c s low high =
     let index = c.loop-index.index in
-    none_in_word c.args.self.now c.args.from (index * 64) index 0 (get_or c.args.self.now.words index 0) (omega arith) (omega arith)
-    c.loop-index.invariant c.if-word-ne0-2.false s low (omega arith)
+    none_in_word c.args.self.now c.args.from (index * 64) index 0 (get_or c.args.self.now.words index 0) (omega arith)
+    (omega arith) c.loop-index.invariant c.if-word-ne0-2.false s low (omega arith)
 
 pub returns : goal.returns
 returns c s low =
