@@ -6,7 +6,7 @@ use Rattle.std.proofs.lemmas.Bool.{cases_lt}
 use Rattle.std.proofs.lemmas.List.{get_or_append_left, get_or-append_right, get_or-take, length-take-le}
 use Rattle.nor_chip.specs.Bus.{BusState}
 use Rattle.nor_driver.specs.Looks.{Looks, IsOpen}
-use Rattle.nor_journal.specs.Vault.{VaultState, Accepted, Took, one_more}
+use Rattle.nor_journal.specs.Vault.{VaultState, Accepted, Took}
 use Rattle.nor_layout.specs.declared.ranges.Span.{Span}
 use Rattle.nor_count.specs.Below.{count_below}
 use Rattle.nor_layout.specs.Sectors.{includes, has_in_sector, sectors_included}
@@ -93,17 +93,10 @@ module _ {included : Option (List Span)} {size n reads more : ℕ} {bytes : List
   pub copied_more : {later : VaultState} → Took now bytes later
       → HasCopied included size (n + 1) old new vault later (reads + more)
   copied_more took = record {
-    few = let few = has.few in let most = piece.most in omega arith;
-    counted =
-        let before = has.counted in let last = piece.counted in
-        let e : 16 * (n + 1) ≡ 16 * n + 16 = omega arith in
-        rw e (omega arith);
+    few = grind arith;
+    counted = grind arith;
     looked = looked_all;
-    accepted = record {
-      telling = took.telling ∙ has.accepted.telling;
-      sealed = took.sealed ∙ has.accepted.sealed;
-      failures = took.failures ∙ has.accepted.failures;
-    };
+    accepted = grind arith;
     copy = λ telling. copies_more 65536 (65536 * (n + 1)) bytes (omega arith) (has.copy telling) long
         (took.bytes (has.accepted.telling ∙ telling)) piece_right;
   }
@@ -123,11 +116,7 @@ module _ {included : Option (List Span)} {size n reads more : ℕ} {bytes : List
         rested = looked_all.rested;
         within = omega arith;
         took = record {
-          refused = record {
-            telling = refused.telling ∙ has.accepted.telling;
-            sealed = refused.sealed ∙ has.accepted.sealed;
-            failures = refused.failures ∙ ap one_more has.accepted.failures;
-          };
+          refused = let was = has.accepted in grind arith;
           grows = λ telling. (so_far telling).grows;
         };
         copy = λ is_open telling. copies_if (so_far telling) is_open;

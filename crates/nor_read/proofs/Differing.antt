@@ -1,9 +1,8 @@
 -- The first difference, sector by sector.
 use Rattle.std.proofs.Common.{◌≡◌, ◌≤◌, ◌<◌, ◌+◌, ◌-◌, ◌*◌, ◌∙◌, ℕ, Bool, true, false, List, length, slice_index}
-use Rattle.std.proofs.Common.{Option, Some, None, subst, sym, arith, inl, inr}
+use Rattle.std.proofs.Common.{Option, Some, None, subst, sym, arith}
 use Rattle.std.specs.Prelude.{◌/◌, MatchBool, if◌then◌else◌}
 use Rattle.std.specs.Option.{option_or}
-use Rattle.std.proofs.lemmas.Bool.{cases_lt, cases_Bool}
 use Rattle.nor_chip.specs.Bus.{BusState}
 use Rattle.nor_driver.specs.Looks.{Looks, IsOpen}
 use Rattle.nor_layout.specs.declared.ranges.Span.{Span}
@@ -59,10 +58,7 @@ module _ {included : Option (List Span)} {image : List ℕ} {sector : ℕ} {byte
   part_differs first difference =
       let small : first < 4096 = omega (arith, is.long, difference.within) in
       let inside : includes included (4096 * sector + first) ≡ true
-      = elim (cases_Bool (includes included (4096 * sector + first))) [
-        | inl holds ↦ holds
-        | inr out ↦ absurd (difference.differs (rw out at (is.fills first small)))
-      ] in
+      = let fills = is.fills first small in grind (arith, difference.differs) in
       record {
         above = omega arith;
         below = omega arith;
@@ -93,10 +89,7 @@ part_skipped included image sector false state out test none = record {
 agree_more : (included : Option (List Span)) (image : List ℕ) (content : ℕ → ℕ) (from mid to : ℕ)
     → AgreeIn included image content from mid → AgreeIn included image content mid to
     → AgreeIn included image content from to
-agree_more included image content from mid to low high a above below inside = elim (cases_lt a mid) [
-  | inl before ↦ low a above before inside
-  | inr behind ↦ high a behind below inside
-]
+agree_more included image content from mid to low high a above below inside = grind (arith, low, high)
 
 -- the first difference of two parts
 tells_more : (included : Option (List Span)) (image : List ℕ) (content : ℕ → ℕ) (from mid to : ℕ)
@@ -127,7 +120,7 @@ module _ {included : Option (List Span)} {image : List ℕ} {size n reads : ℕ}
       → ComparesPart included image n mid new part
       → HasCompared included image size (n + 1) old new (option_or first part.first) (reads + part.reads)
   compared_more below has looks compares = record {
-    few = let few = has.few in let counted = compares.counted in grind arith;
+    few = grind arith;
     counted = counted_on n reads part.reads (has_in_sector (includes included)) has.counted compares.counted;
     looked = looked_on has.looked (has_looked looks compares.rested compares.fell compares.heard);
     tells = λ is_open.

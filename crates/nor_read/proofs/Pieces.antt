@@ -37,11 +37,8 @@ module _ {included : Option (List Span)} {piece k reads more : ℕ} {bytes part 
   pieced_more width below exact whole long has looks reading =
       let test = has_in_sector (includes included) in
       record {
-        few = let few = has.few in let one = reading.counted in grind arith;
-        counted =
-            let next = count_below-more (16 * piece + k) test in let before = has.counted in
-            let last = reading.counted in let e : 16 * piece + (k + 1) ≡ 16 * piece + k + 1 = omega arith in
-            rw e (omega arith);
+        few = grind arith;
+        counted = let next = count_below-more (16 * piece + k) test in grind arith;
         looked = looked_on has.looked (has_looked looks reading.rested reading.fell reading.heard);
         right = λ honest idle fits i small.
             let put = put_back k width bytes part exact long (omega arith) in

@@ -50,25 +50,15 @@ sends_probe looks = search (arith, looks_more)
 
 -- the report of what was found, and of so many sectors that were read
 abbrev pub report_of : Probed → (reads : ℕ) → Report
-report_of probed reads = record {
-  found = probed.found;
-  touched = 0;
-  erases = 0;
-  programs = 0;
-  transactions = probed.transactions + reads;
-}
+report_of probed reads =
+    record { found = probed.found; touched = 0; erases = 0; programs = 0; transactions = probed.transactions + reads }
 
 -- it is told by each of its fields
 pub report_is : (probed : Probed) (reads : ℕ) (report : Report) → report.found ≡ probed.found → report.touched ≡ 0
     → report.erases ≡ 0 → report.programs ≡ 0 → report.transactions ≡ probed.transactions + reads
     → report ≡ report_of probed reads
-report_is probed reads report found touched erases programs sent = λ i. record {
-  found = found i;
-  touched = touched i;
-  erases = erases i;
-  programs = programs i;
-  transactions = sent i;
-}
+report_is probed reads report found touched erases programs sent = λ i.
+    record { found = found i; touched = touched i; erases = erases i; programs = programs i; transactions = sent i }
 
 -- What the report of a reading tells.
 pub record Reports (named : Option ChipName) (included : Option (List Span)) (old new : BusState)
