@@ -1,5 +1,6 @@
 -- What `strip_prefix` says, by `starts_with`.
-use Rattle.std.proofs.Common.{◌≡◌, ◌∙◌, ◌&&◌, Bool, true, false, List, Option, Some, None, ℕ, length, drop, ap, ap₂, codes, is_some, option_map, refl, sym, nat_eq}
+use Rattle.std.proofs.Common.{◌≡◌, ◌∙◌, true, false, List, Option, Some, None, ℕ, length, drop, ap, codes, option_map}
+use Rattle.std.proofs.Common.{arith, refl, sym, nat_eq}
 use Rattle.std.specs.Prelude.{option_and_then}
 use Rattle.std.specs.Borrow.{Bor}
 use Rattle.std.specs.List.{starts_with}
@@ -10,34 +11,31 @@ use Rattle.nor_words.specs.Programmer.{are_settings, chip_named, is_programmer_t
 use Rattle.nor_words.specs.Text.{Text}
 use Rattle.nor_words.specs.declared.programmer.Emulated.{Emulated}
 
-pub stripped : (p s : List ℕ) (r : Option (Bor (List ℕ))) → MatchOption r (FindsTextPrefix p s None) (λ x. StripsPrefix (FindsTextPrefix p) s x.now)
-    → MatchOption r (starts_with nat_eq s p ≡ false) (λ x. (starts_with nat_eq s p ≡ true) × (x.now ≡ drop (length p) s))
+pub stripped : (p s : List ℕ) (r : Option (Bor (List ℕ)))
+    → MatchOption r (FindsTextPrefix p s None) (λ x. StripsPrefix (FindsTextPrefix p) s x.now)
+    → MatchOption r (starts_with nat_eq s p ≡ false)
+    (λ x. (starts_with nat_eq s p ≡ true) × (x.now ≡ drop (length p) s))
 stripped p s None h = sym (starts_text false p s h)
 stripped p s (Some x) h =
     (sym (starts_text true p s (h.0, h.1, rw h.1.0 h.1.2)), h.2 ∙ ap (λ n. drop n s) h.1.0)
 
 -- ---- whose text is a programmer's
 
-both : (a b : Bool) → b ≡ false → (a && b) ≡ false
-both true b is = is
-both false b is = refl
-
 pub is_programmer-unsound : (text : Text) → are_settings (settings_of text) ≡ false → is_programmer_text text ≡ false
-is_programmer-unsound text unsound =
-    both (starts_with nat_eq text (codes "dummy:")) _ (ap (λ b. b && is_some (option_and_then chip_named (said text (codes "emulate")))) unsound)
+is_programmer-unsound text unsound = grind arith
 
-pub is_programmer-unnamed : (text : Text) → option_and_then chip_named (said text (codes "emulate")) ≡ None → is_programmer_text text ≡ false
-is_programmer-unnamed text unnamed =
-    both (starts_with nat_eq text (codes "dummy:")) _ (both (are_settings (settings_of text)) _ (ap is_some unnamed))
+pub is_programmer-unnamed : (text : Text) → option_and_then chip_named (said text (codes "emulate")) ≡ None
+    → is_programmer_text text ≡ false
+is_programmer-unnamed text unnamed = grind arith
 
-pub is_programmer-sound : (text : Text) (chip : Emulated) → starts_with nat_eq text (codes "dummy:") ≡ true → are_settings (settings_of text) ≡ true
-    → option_and_then chip_named (said text (codes "emulate")) ≡ Some chip → is_programmer_text text ≡ true
-is_programmer-sound text chip begins sound named =
-    ap₂ (λ a b. a && (b && is_some (option_and_then chip_named (said text (codes "emulate"))))) begins sound ∙ ap is_some named
+pub is_programmer-sound : (text : Text) (chip : Emulated) → starts_with nat_eq text (codes "dummy:") ≡ true
+    → are_settings (settings_of text) ≡ true → option_and_then chip_named (said text (codes "emulate")) ≡ Some chip
+    → is_programmer_text text ≡ true
+is_programmer-sound text chip begins sound named = rw (begins, sound, named) refl
 
 -- a reading of a text that there may be
-pub and_then-read : {T : Type 0} (f : Text → Option T) (o : Option (Bor Text)) (r : Option T) → MatchOption o (r ≡ None) (λ x. r ≡ f x.now)
-    → option_and_then f (option_map (λ x. x.now) o) ≡ r
+pub and_then-read : {T : Type 0} (f : Text → Option T) (o : Option (Bor Text)) (r : Option T)
+    → MatchOption o (r ≡ None) (λ x. r ≡ f x.now) → option_and_then f (option_map (λ x. x.now) o) ≡ r
 and_then-read f None r h = sym h
 and_then-read f (Some x) r h = sym h
 

@@ -1,9 +1,10 @@
 -- Settings that are gathered one by one: what was said, and what is left to be said.
-use Rattle.std.proofs.Common.{◌≡◌, ◌∙◌, ℕ, ◌+◌, ◌<◌, ◌≤◌, ◌&&◌, ◌||◌, Bool, true, false, cond, List, [], ◌∷◌, Option, Some, None, length, drop, get_or, nat_le, is_some, ap, ap₂, refl, subst, sym, arith}
+use Rattle.std.proofs.Common.{◌≡◌, ◌∙◌, ℕ, ◌+◌, ◌<◌, ◌≤◌, ◌&&◌, ◌||◌, Bool, true, false, cond, List, [], ◌∷◌, Option}
+use Rattle.std.proofs.Common.{Some, None, length, drop, get_or, nat_le, is_some, refl, sym, ap, arith, inl, inr}
 use Rattle.std.specs.Prelude.{option_and_then}
 use Rattle.std.specs.Option.{option_or}
 use Rattle.std.specs.List.{count_by, list_all}
-use Rattle.std.proofs.lemmas.Bool.{and_parts}
+use Rattle.std.proofs.lemmas.Bool.{and_parts, cases_Bool}
 use Rattle.std.proofs.lemmas.Bool.Decides.{nat_tests}
 use Rattle.std.proofs.lemmas.List.Folds.{list_all_at}
 use Rattle.std.proofs.lemmas.List.Sums.{sum_by-cons}
@@ -17,64 +18,60 @@ use Rattle.nor_words.specs.declared.settings.Settings.{Settings}
 -- ---- one key
 
 -- All settings say of the key what stands in its place, or else what those say that are left; at most one says it.
-pub record Open {T : Type 0} (all left : List Text) (key : Text) (read : Text → Option T) (place : Option T) : Type 0 where
+pub record Open {T : Type 0} (all left : List Text) (key : Text) (read : Text → Option T)
+    (place : Option T) : Type 0 where
   pub value : option_and_then read (value_in all key) ≡ option_or place (option_and_then read (value_in left key))
   pub count : count_by (has_key key) all ≡ cond (is_some place) 1 0 + count_by (has_key key) left
 
-counted : (key setting : Text) (left : List Text) → count_by (has_key key) (setting ∷ left) ≡ cond (has_key key setting) 1 0 + count_by (has_key key) left
+counted : (key setting : Text) (left : List Text) → count_by (has_key key) (setting ∷ left)
+    ≡ cond (has_key key setting) 1 0 + count_by (has_key key) left
 counted key setting left = sum_by-cons (λ (x : Text). cond (has_key key x) 1 0) setting left
 
 or-filled : {T : Type 0} (place other : Option T) → is_some place ≡ true → option_or place other ≡ place
 or-filled None other some = cc
 or-filled (Some x) other some = refl
 
-or-none : {T : Type 0} (place : Option T) → option_or place None ≡ place
-or-none None = refl
-or-none (Some x) = refl
-
 open-next : {T : Type 0} (all left : List Text) (setting key : Text) (read : Text → Option T) (old new : Option T)
     → PutsAt key read setting old new → Open all (setting ∷ left) key read old → Open all left key read new
-open-next all left setting key read old new puts before = go (has_key key setting) refl
-  where
-    more : count_by (has_key key) all ≡ cond (is_some old) 1 0 + (cond (has_key key setting) 1 0 + count_by (has_key key) left)
-    more = before.count ∙ ap (λ (n : ℕ). cond (is_some old) 1 0 + n) (counted key setting left)
+open-next all left setting key read old new puts before =
+    let more = rw (counted key setting left) at before.count in
+    elim (cases_Bool (has_key key setting)) [
+      | inl is ↦
+          let met = puts.met is in
+          let one : count_by (has_key key) all ≡ 0 + (1 + count_by (has_key key) left) = rw (met.0, is) at more in
+          record {
+            value = rw (met.0, is) at before.value ∙ (met.1 ∙ sym (or-filled new _ met.2));
+            count = rw met.2 (omega (arith, one));
+          }
+      | inr is ↦
+          let same : count_by (has_key key) all ≡ cond (is_some old) 1 0 + (0 + count_by (has_key key) left)
+          = rw is at more in
+          rw (puts.other is) (record { value = rw is at before.value; count = omega (arith, same) })
+    ]
 
-    go : (b : Bool) → has_key key setting ≡ b → Open all left key read new
-    go true is =
-        let met = puts.met is in
-        record {
-          value = rw (met.0, is) at before.value ∙ (met.1 ∙ sym (or-filled new _ met.2));
-          count =
-              let one : count_by (has_key key) all ≡ 0 + (1 + count_by (has_key key) left) = rw (met.0, is) at more in
-              rw met.2 (omega (arith, one));
-        }
-    go false is =
-        let same : count_by (has_key key) all ≡ cond (is_some old) 1 0 + (0 + count_by (has_key key) left) = rw is at more in
-        rw (puts.other is) (record { value = rw is at before.value; count = omega (arith, same) })
-
-open-last : {T : Type 0} (all : List Text) (key : Text) (read : Text → Option T) (place : Option T) → Open all [] key read place
+open-last : {T : Type 0} (all : List Text) (key : Text) (read : Text → Option T) (place : Option T)
+    → Open all [] key read place
     → (option_and_then read (value_in all key) ≡ place) × (count_by (has_key key) all ≤ 1)
-open-last all key read place before = (before.value ∙ or-none place, few (is_some place) before.count)
-  where
-    few : (b : Bool) → count_by (has_key key) all ≡ cond b 1 0 + 0 → count_by (has_key key) all ≤ 1
-    few true one = omega arith
-    few false none = omega arith
+open-last all key read None before = (before.value, omega (arith, before.count))
+open-last all key read (Some x) before = (before.value, omega (arith, before.count))
 
-alone-as : (all : List Text) (setting key : Text) → has_key key setting ≡ true → is_alone_in all setting ≡ nat_le (count_by (has_key key) all) 1
-alone-as all setting key has =
-    ap (λ (k : Text). nat_le (count_by (has_key k) all) 1) ((bytes_eq-Decides (key_of setting) key).0 has)
+alone-as : (all : List Text) (setting key : Text) → has_key key setting ≡ true
+    → is_alone_in all setting ≡ nat_le (count_by (has_key key) all) 1
+alone-as all setting key has = rw ((bytes_eq-Decides (key_of setting) key).0 has) refl
 
 -- what was said once isn't said again
-twice : (all left : List Text) (setting key : Text) (some : Bool) → count_by (has_key key) all ≡ cond some 1 0 + count_by (has_key key) (setting ∷ left)
+twice : (all left : List Text) (setting key : Text) (some : Bool)
+    → count_by (has_key key) all ≡ cond some 1 0 + count_by (has_key key) (setting ∷ left)
     → has_key key setting ≡ true → some ≡ true → is_alone_in all setting ≡ false
 twice all left setting key some count has is =
-    let again : count_by (has_key key) (setting ∷ left) ≡ 1 + count_by (has_key key) left =
-    counted key setting left ∙ ap (λ b. cond b 1 0 + count_by (has_key key) left) has in
+    let again : count_by (has_key key) (setting ∷ left) ≡ 1 + count_by (has_key key) left
+    = counted key setting left ∙ ap (λ b. cond b 1 0 + count_by (has_key key) left) has in
     let more : count_by (has_key key) all ≡ 1 + count_by (has_key key) (setting ∷ left) = rw is at count in
     let many : 2 ≤ count_by (has_key key) all = omega (arith, again, more) in
     alone-as all setting key has ∙ grind (arith, nat_tests)
 
-once : (all : List Text) (setting key : Text) → count_by (has_key key) all ≤ 1 → has_key key setting ≡ true → is_alone_in all setting ≡ true
+once : (all : List Text) (setting key : Text) → count_by (has_key key) all ≤ 1 → has_key key setting ≡ true
+    → is_alone_in all setting ≡ true
 once all setting key few has = alone-as all setting key has ∙ grind (arith, nat_tests)
 
 -- ---- every key
@@ -106,8 +103,9 @@ HasBy setting P T key is_value read place = has_key key setting ≡ true → is_
 -- what holds of a setting, whichever key it has
 any-key : (setting : Text) (P : Type 0) → EachKey (HasBy setting P) → is_setting setting ≡ true → P
 any-key setting P each =
-    either _ _ _ each.chip (either _ _ _ each.image (either _ _ _ each.status (either _ _ _ each.trace (
-    either _ _ _ each.stop (either _ _ _ each.unique (either _ _ _ each.busy (either _ _ _ each.power (λ none. cc))))))))
+    either _ _ _ each.chip (either _ _ _ each.image (either _ _ _ each.status (either _ _ _ each.trace
+    (either _ _ _ each.stop (either _ _ _ each.unique (either _ _ _ each.busy
+    (either _ _ _ each.power (λ none. cc))))))))
 
 -- What was said is all that isn't left, and all that isn't left are settings.
 pub record Gathered (all left : List Text) (said : Settings) : Type 0 where
@@ -119,44 +117,47 @@ abbrev is_sound_in : List Text → Text → Bool
 is_sound_in all setting = is_setting setting && is_alone_in all setting
 
 module _ (all : List Text) (n : ℕ) (setting : Text) (at : (n < length all) × (setting ≡ get_or all n setting)) where
-  nth : (said : Settings) → Gathered all (drop n all) said → Gathered all (setting ∷ drop (n + 1) all) said
-  nth said = subst (λ (left : List Text). Gathered all left said) (turned (λ (left : List Text). left) all n setting at)
-
-  pub gathered-next : (old new : Settings) → Gathered all (drop n all) old → is_setting setting ≡ true → Adds setting old new
-      → Gathered all (drop (n + 1) all) new
+  pub gathered-next : (old new : Settings) → Gathered all (drop n all) old → is_setting setting ≡ true
+      → Adds setting old new → Gathered all (drop (n + 1) all) new
   gathered-next old new before is adds =
-      let now = nth old before in
+      let now = rw (turned all n setting at) at before in
       record {
         sound = rw is at now.sound;
-        keys = each-both (λ T key is_value read place. open-next all (drop (n + 1) all) setting key read (place old) (place new)) adds now.keys;
+        keys = each-both (λ T key is_value read place.
+            open-next all (drop (n + 1) all) setting key read (place old) (place new)) adds now.keys;
       }
 
   -- a setting that is refused isn't one, or isn't alone
-  pub gathered-refused : (said : Settings) → Gathered all (drop n all) said → IsRefused setting said → are_settings all ≡ false
+  pub gathered-refused : (said : Settings) → Gathered all (drop n all) said → IsRefused setting said
+      → are_settings all ≡ false
   gathered-refused said before refused =
-      list_all_at (is_sound_in all) all n setting at.0 (ap (is_sound_in all) (sym at.1) ∙ go (is_setting setting) refl)
-    where
-      go : (b : Bool) → is_setting setting ≡ b → is_sound_in all setting ≡ false
-      go false is = rw is refl
-      go true is = rw is (any-key setting (is_alone_in all setting ≡ false) (each-both (λ T key is_value read place at_key no has is.
-          twice all (drop (n + 1) all) setting key (is_some (place said)) at_key.count has (no has is)) (nth said before).keys refused) is)
+      let now = rw (turned all n setting at) at before in
+      let beside = any-key setting (is_alone_in all setting ≡ false) (each-both
+      (λ T key is_value read place at_key no has is.
+      twice all (drop (n + 1) all) setting key (is_some (place said)) at_key.count has (no has is)) now.keys refused) in
+      list_all_at (is_sound_in all) all n setting at.0 (rw (← at.1) (elim (cases_Bool (is_setting setting)) [
+        | inl is ↦ rw is (beside is)
+        | inr is ↦ rw is refl
+      ]))
 
-both-all : (p q : Text → Bool) (xs : List Text) → ((x : Text) → p x ≡ true → q x ≡ true) → list_all p xs ≡ true → list_all (λ x. p x && q x) xs ≡ true
+both-all : (p q : Text → Bool) (xs : List Text) → ((x : Text) → p x ≡ true → q x ≡ true) → list_all p xs ≡ true
+    → list_all (λ x. p x && q x) xs ≡ true
 both-all p q [] more all = refl
 both-all p q (x ∷ xs) more all =
-    let parts = and_parts _ _ all in
-    ap₂ (λ a b. (a && b) && list_all (λ x. p x && q x) xs) parts.0 (more x parts.0) ∙ both-all p q xs more parts.1
+    let parts = and_parts _ _ all in rw (parts.0, more x parts.0) (both-all p q xs more parts.1)
 
 -- the text says of each key what is kept
 abbrev pub AreValues : List Text → Settings → Type 0
 AreValues all said = EachKey (λ T key is_value read place. option_and_then read (value_in all key) ≡ place said)
 
 -- in the end each setting is alone, and all is kept
-pub gathered-last : (all : List Text) (n : ℕ) (said : Settings) → Gathered all (drop n all) said → n ≡ length all → (are_settings all ≡ true) × AreValues all said
+pub gathered-last : (all : List Text) (n : ℕ) (said : Settings) → Gathered all (drop n all) said → n ≡ length all
+    → (are_settings all ≡ true) × AreValues all said
 gathered-last all n said before end =
-    let now = subst (λ (left : List Text). Gathered all left said) (ended (λ (left : List Text). left) all n end) before in (
+    let now = rw (ended all n end) at before in (
       both-all is_setting (is_alone_in all) all (λ setting. any-key setting (is_alone_in all setting ≡ true)
           (each-both (λ T key is_value read place at_key _ has is.
           once all setting key (open-last all key read (place said) at_key).1 has) now.keys now.keys)) (sym now.sound),
-      each-both (λ T key is_value read place at_key _. (open-last all key read (place said) at_key).0) now.keys now.keys,
+      each-both (λ T key is_value read place at_key _. (open-last all key read (place said) at_key).0)
+          now.keys now.keys,
     )

@@ -1,5 +1,6 @@
 -- Stops that are gone through in turn, from the n-th on.
-use Rattle.std.proofs.Common.{◌≡◌, ℕ, suc, ◌+◌, ◌≤◌, ◌&&◌, Bool, true, false, List, [], ◌∷◌, ◌++◌, Option, Some, None, length, cond, ap, ap₂, sym, refl, arith, nat_le}
+use Rattle.std.proofs.Common.{◌≡◌, ℕ, suc, ◌+◌, ◌<◌, ◌≤◌, ◌&&◌, Bool, true, false, List, [], ◌∷◌, ◌++◌, Option, Some}
+use Rattle.std.proofs.Common.{None, length, drop, get_or, cond, ap, refl, arith, nat_le}
 use Rattle.std.specs.Prelude.{filter_map, Result, Ok, Err, IsOk, OnOk, OnErr}
 use Rattle.std.specs.Result.{result_ok}
 use Rattle.std.specs.List.{list_all}
@@ -8,6 +9,7 @@ use Rattle.std.proofs.lemmas.List.{append-nil, append_assoc, length_push}
 use Rattle.nor_words.specs.Text.{Text, pieces_of, reads}
 use Rattle.nor_words.specs.Numbers.{decimal_number}
 use Rattle.nor_words.specs.Stops.{stops_of}
+use Rattle.nor_words.proofs.InTurn.{turned}
 
 -- these stops, and those that are left
 abbrev pub with_stops : List ℕ → List Text → Option (List ℕ)
@@ -18,21 +20,25 @@ nothing : {X : Type 0} (x : X) (a : Bool) → cond (a && false) (Some x) None �
 nothing x true = refl
 nothing x false = refl
 
-pub stops-refused : (stops : List ℕ) (piece : Text) (pieces : List Text) → decimal_number piece ≡ None → with_stops stops (piece ∷ pieces) ≡ None
-stops-refused stops piece pieces other = rw other refl
+-- the piece at n is a stop more, or none
+module _ (stops : List ℕ) (pieces : List Text) (n : ℕ) (piece : Text)
+    (at : (n < length pieces) × (piece ≡ get_or pieces n piece)) where
+  pub stops-refused : decimal_number piece ≡ None → with_stops stops (drop n pieces) ≡ None
+  stops-refused other = rw (turned pieces n piece at, other) refl
 
-pub stops-full : (stops : List ℕ) (piece : Text) (pieces : List Text) → 64 ≤ length stops → with_stops stops (piece ∷ pieces) ≡ None
-stops-full stops piece pieces full =
-    let over : nat_le (length stops + suc (length pieces)) 64 ≡ false = grind (arith, nat_tests) in
-    rw over (nothing _ (list_all (reads decimal_number) (piece ∷ pieces)))
+  pub stops-full : 64 ≤ length stops → with_stops stops (drop n pieces) ≡ None
+  stops-full full =
+      let over : nat_le (length stops + suc (length (drop (n + 1) pieces))) 64 ≡ false = grind (arith, nat_tests) in
+      rw (turned pieces n piece at, over)
+      (nothing _ (list_all (reads decimal_number) (piece ∷ drop (n + 1) pieces)))
 
-pub stops-added : (stops : List ℕ) (piece : Text) (pieces : List Text) (x : ℕ) → decimal_number piece ≡ Some x
-    → with_stops stops (piece ∷ pieces) ≡ with_stops (stops ++ x ∷ []) pieces
-stops-added stops piece pieces x number =
-    let longer = length_push stops x in
-    let len : length stops + suc (length pieces) ≡ length (stops ++ x ∷ []) + length pieces = omega (arith, longer) in
-    rw number (ap₂ (λ (n : ℕ) (xs : List ℕ). cond (list_all (reads decimal_number) pieces && nat_le n 64) (Some xs) None) len
-    (sym (append_assoc stops (x ∷ []) (filter_map decimal_number pieces))))
+  pub stops-added : (x : ℕ) → decimal_number piece ≡ Some x
+      → with_stops stops (drop n pieces) ≡ with_stops (stops ++ x ∷ []) (drop (n + 1) pieces)
+  stops-added x number =
+      let left = drop (n + 1) pieces in
+      let longer = length_push stops x in
+      let len : length stops + suc (length left) ≡ length (stops ++ x ∷ []) + length left = omega arith in
+      rw (turned pieces n piece at, number, len, append_assoc stops (x ∷ [])) refl
 
 pub stops-ended : (stops : List ℕ) → length stops ≤ 64 → with_stops stops [] ≡ Some stops
 stops-ended stops few =
@@ -42,7 +48,7 @@ stops-ended stops few =
 pub stops_of-with : (text : Text) → with_stops [] (pieces_of text) ≡ stops_of text
 stops_of-with text =
     let zero_more : 0 + length (pieces_of text) ≡ length (pieces_of text) = omega arith in
-    ap (λ (n : ℕ). cond (list_all (reads decimal_number) (pieces_of text) && nat_le n 64) (Some (filter_map decimal_number (pieces_of text))) None) zero_more
+    rw zero_more refl
 
 -- what a push says, by its result as an option
 pub not_pushed : {T E : Type 0} (r : Result T E) (P : Type 0) → OnErr r P → result_ok r ≡ None → P

@@ -1,32 +1,29 @@
 -- Numbers of digits, and a range of two.
-use Rattle.std.proofs.Common.{◌≡◌, ℕ, ◌^◌, ◌<◌, ◌≤◌, ◌==◌, ◌&&◌, Bool, true, false, [], ◌∷◌, Option, Some, None, Result, Ok, Err, length, drop, cond, ap, sym, refl, subst, arith, nat_lt, nat_le, option_map}
+use Rattle.std.proofs.Common.{◌≡◌, ℕ, ◌^◌, ◌<◌, ◌≤◌, ◌==◌, ◌&&◌, Bool, true, false, [], ◌∷◌, Option, Some, None, Result}
+use Rattle.std.proofs.Common.{Ok, Err, length, cond, ap, sym, refl, arith, inl, inr, nat_lt, nat_le, option_map}
 use Rattle.std.specs.Prelude.{option_and_then}
 use Rattle.std.specs.Char.{digit_value, is_digit}
 use Rattle.std.specs.List.{list_all, position_or_len}
 use Rattle.std.specs.Result.{result_ok}
 use Rattle.std.specs.Str.Parse.{AllDigits, ParsesUnsigned, digits_value, without_leading_plus}
-use Rattle.std.proofs.lemmas.Bool.{and_parts}
+use Rattle.std.proofs.lemmas.Bool.{and_parts, cases_Bool}
 use Rattle.std.proofs.lemmas.Bool.Decides.{nat_tests}
 use Rattle.std.proofs.lemmas.List.{at_drop_all}
 use Rattle.nor_words.specs.Text.{Text, front_of, rest_of}
 use Rattle.nor_words.specs.Numbers.{numeral, place_of, range_of}
 
 -- a plus is no digit
-plus-digit : (radix c : ℕ) → radix ≤ 36 → is_digit c radix ≡ true → c ≡ 43 → ⊥
-plus-digit radix c low is e =
-    let h : nat_lt (digit_value 43) radix ≡ true = subst (λ (d : ℕ). nat_lt (digit_value d) radix ≡ true) e is in
-    let over : 36 < radix = grind (arith, nat_tests) in
-    absurd (omega (arith, over, low))
-
-without_plus : (radix : ℕ) (text : Text) → radix ≤ 36 → list_all (λ digit. is_digit digit radix) text ≡ true → without_leading_plus text ≡ text
+without_plus : (radix : ℕ) (text : Text) → radix ≤ 36 → list_all (λ digit. is_digit digit radix) text ≡ true
+    → without_leading_plus text ≡ text
 without_plus radix [] low all = refl
-without_plus radix (c ∷ cs) low all = go (c == 43) refl
-  where
-    go : (b : Bool) → (c == 43) ≡ b → drop (cond (c == 43) 1 0) (c ∷ cs) ≡ c ∷ cs
-    go true is =
-        let e : c ≡ 43 = grind (arith, nat_tests) in
-        absurd (plus-digit radix c low (and_parts _ _ all).0 e)
-    go false is = rw is refl
+without_plus radix (c ∷ cs) low all = elim (cases_Bool (c == 43)) [
+  | inl is ↦
+      let plus : c ≡ 43 = grind (arith, nat_tests) in
+      let digit : is_digit c radix ≡ true = (and_parts _ _ all).0 in
+      let value : nat_lt (digit_value 43) radix ≡ true = rw plus at digit in
+      absurd (grind (arith, nat_tests))
+  | inr is ↦ rw is refl
+]
 
 all_digits : (radix : ℕ) (text : Text) → list_all (λ digit. is_digit digit radix) text ≡ true → AllDigits radix text
 all_digits radix [] all = tt
@@ -39,34 +36,28 @@ abbrev pub at_most : ℕ → ℕ → Option ℕ
 at_most greatest n = cond (nat_le n greatest) (Some n) None
 
 -- what `from_str_radix` gives of digits that aren't too many
-pub numeral-parsed : {E : Type 0} (radix most greatest : ℕ) (text : Text) (r : Result ℕ E) → radix ≤ 36 → greatest < 2 ^ 64
-    → list_all (λ digit. is_digit digit radix) text ≡ true → length text ≤ most → ParsesUnsigned 64 radix text r
+pub numeral-parsed : {E : Type 0} (radix most greatest : ℕ) (text : Text) (r : Result ℕ E) → radix ≤ 36
+    → greatest < 2 ^ 64 → list_all (λ digit. is_digit digit radix) text ≡ true → length text ≤ most
+    → ParsesUnsigned 64 radix text r
     → numeral radix most greatest text ≡ option_and_then (at_most greatest) (result_ok r)
 numeral-parsed radix most greatest text (Ok x) low fits all short parses =
     let few : nat_le (length text) most ≡ true = grind (arith, nat_tests) in
-    let plain = without_plus radix text low all in
-    let parses2 = rw plain at parses in
-    let some : nat_le 1 (length text) ≡ true = let long = parses2.0.0.0 in grind (arith, nat_tests) in
-    rw (all, some, few) (ap (at_most greatest) (sym parses2.1))
+    let read = rw (without_plus radix text low all) at parses in
+    let some : nat_le 1 (length text) ≡ true = let long = read.0.0.0 in grind (arith, nat_tests) in
+    rw (all, some, few) (ap (at_most greatest) (sym read.1))
 numeral-parsed radix most greatest text (Err e) low fits all short parses =
     let few : nat_le (length text) most ≡ true = grind (arith, nat_tests) in
-    let plain = without_plus radix text low all in
-    let parses2 = rw plain at parses in
-    go (nat_le 1 (length text)) refl (nat_le (digits_value radix text) greatest) refl (λ long under. parses2 ((long, all_digits radix text all), under))
+    let read = rw (without_plus radix text low all) at parses in
+    rw (all, few) (unread (nat_le 1 (length text)) (nat_le (digits_value radix text) greatest) (digits_value radix text)
+    (λ long small. let some : 0 < length text = grind (arith, nat_tests) in
+    let under : digits_value radix text ≤ greatest = grind (arith, nat_tests) in
+    read ((some, all_digits radix text all), omega arith)))
   where
-    go : (a : Bool) → nat_le 1 (length text) ≡ a → (b : Bool) → nat_le (digits_value radix text) greatest ≡ b
-        → (0 < length text → digits_value radix text < 2 ^ 64 → ⊥) → numeral radix most greatest text ≡ None
-    go false ea b eb none = rw (all, ea) refl
-    go true ea false eb none = both (list_all (λ digit. is_digit digit radix) text) (nat_le (length text) most)
-      where
-        both : (p q : Bool) → cond (p && (nat_le 1 (length text) && (q && nat_le (digits_value radix text) greatest))) (Some (digits_value radix text)) None ≡ None
-        both true true = rw (ea, eb) refl
-        both true false = rw ea refl
-        both false q = refl
-    go true ea true eb none =
-        let long : 0 < length text = grind (arith, nat_tests) in
-        let under : digits_value radix text ≤ greatest = grind (arith, nat_tests) in
-        absurd (none long (omega (arith, under, fits)))
+    unread : (long small : Bool) (value : ℕ) → (long ≡ true → small ≡ true → ⊥)
+        → cond (long && small) (Some value) None ≡ None
+    unread true true value none = absurd (none refl refl)
+    unread true false value none = refl
+    unread false small value none = refl
 
 -- a start, with the length that there may be
 abbrev with_len : Option ℕ → ℕ → Option (ℕ × ℕ)

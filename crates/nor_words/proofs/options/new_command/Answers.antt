@@ -12,8 +12,10 @@ without_help app = record app { top = record app.top { disable_help_flag = true 
 
 pub returns : goal.returns
 returns c =
-    let unnamed : app_of c.no_binary_name.result ≡ without_name (app_of c.new.result) = ap app_of_fields c.no_binary_name.ensures in
-    let unhelped : app_of c.disable_help_flag.result ≡ without_help (app_of c.no_binary_name.result) = ap app_of_fields c.disable_help_flag.ensures in
-    let about : app_of c.about.result ≡ app_of c.disable_help_flag.result = ap app_of_fields c.about.ensures in
-    let notes : app_of c.after_help.result ≡ app_of c.about.result = ap app_of_fields c.after_help.ensures in
-    notes ∙ (about ∙ (unhelped ∙ ap without_help (unnamed ∙ ap without_name c.new.ensures.app)))
+    let about = ap app_of_fields c.about.ensures in
+    let notes = ap app_of_fields c.after_help.ensures in
+    let unhelped : app_of c.disable_help_flag.result ≡ without_help (app_of c.no_binary_name.result)
+    = ap app_of_fields c.disable_help_flag.ensures in
+    let unnamed : app_of c.no_binary_name.result ≡ without_name (app_of c.new.result)
+    = ap app_of_fields c.no_binary_name.ensures in
+    notes ∙ about ∙ unhelped ∙ ap without_help (unnamed ∙ ap without_name c.new.ensures.app)

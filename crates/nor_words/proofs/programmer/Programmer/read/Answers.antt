@@ -1,47 +1,53 @@
-use Rattle.std.proofs.Common.{◌∙◌, Some, length, lit<, ap, codes, sym}
+use Rattle.std.proofs.Common.{◌∙◌, Some, codes, sym}
 use Rattle.std.proofs.lemmas.Iterator.Consumers.{YieldsList-turn, YieldsList-end}
-use Rattle.std.specs.Str.Iter.{split_has_more, split_pattern, split_text}
-use Rattle.std.proofs.lemmas.Iterator.Splits.{YieldsList-from_str_split}
 use Rattle.std.proofs.lemmas.List.{length_push}
 use Rattle.nor_words.specs.Programmer.{settings_of}
-use Rattle.nor_words.proofs.Begins.{and_then-some, is_programmer-sound, is_programmer-unnamed, is_programmer-unsound, stripped}
+use Rattle.nor_words.proofs.Begins.{and_then-some, is_programmer-sound, is_programmer-unnamed, is_programmer-unsound}
+use Rattle.nor_words.proofs.Begins.{stripped}
 use Rattle.nor_words.proofs.Gathered.{gathered-last, gathered-next, gathered-refused}
+use Rattle.nor_words.proofs.InTurn.{yields_pieces}
 use Rattle.nor_words.proofs.programmer.Programmer.read.Goals as goal
 
 pub loop-setting-preserved : goal.loop-setting-preserved
 loop-setting-preserved c =
-    let begins = stripped (codes "dummy:") c.args.text.now (Some c.in_ok-strip_prefix.field-0) c.in_ok-strip_prefix.ensures.cases in
-    let gives = c.into_iter-setting-iterator.ensures.into_iter_gives in
-    let pieces = YieldsList-from_str_split {s = c.into_iter-setting-iterator.result} 44 _ (lit< tt) (ap split_text gives ∙ (c.split-setting-items.ensures.text ∙ begins.1)) (ap split_has_more gives ∙ c.split-setting-items.ensures.has_more) (ap split_pattern gives ∙ c.split-setting-items.ensures.pattern) in
-    let turn = YieldsList-turn pieces c.loop-setting.yielded _ c.loop-setting.yielded_by _ _ c.in-Some.setting c.in-Some.is c.next.ensures.steps in
-    let longer = length_push c.loop-setting.yielded c.in-Some.setting in
-    let next = gathered-next (settings_of c.args.text.now) (length c.loop-setting.yielded) c.in-Some.setting.now turn c.loop-setting.settings _ c.loop-setting.invariant.2 c.in_ok-take_in.ensures.0 c.in_ok-take_in.ensures.1 in
-    (tt, tt, rw longer next)
+    let begins = stripped (codes "dummy:") _ (Some c.in_ok-strip_prefix.field-0) c.in_ok-strip_prefix.ensures.cases in
+    let split = c.split-setting-items.ensures in
+    let pieces = yields_pieces _ c.into_iter-setting-iterator.ensures.into_iter_gives (split.text ∙ begins.1)
+    split.has_more split.pattern in
+    let turn = YieldsList-turn pieces _ _ c.loop-setting.yielded_by _ _ _ c.in-Some.is c.next.ensures.steps in
+    let next = gathered-next (settings_of c.args.text.now) _ _ turn c.loop-setting.settings _ c.loop-setting.invariant.2
+    c.in_ok-take_in.ensures.0 c.in_ok-take_in.ensures.1 in
+    (tt, tt, rw (length_push c.loop-setting.yielded c.in-Some.setting) next)
 
 pub returns-in_err-take_in : goal.returns-in_err-take_in
 returns-in_err-take_in c =
-    let begins = stripped (codes "dummy:") c.args.text.now (Some c.in_ok-strip_prefix.field-0) c.in_ok-strip_prefix.ensures.cases in
-    let gives = c.into_iter-setting-iterator.ensures.into_iter_gives in
-    let pieces = YieldsList-from_str_split {s = c.into_iter-setting-iterator.result} 44 _ (lit< tt) (ap split_text gives ∙ (c.split-setting-items.ensures.text ∙ begins.1)) (ap split_has_more gives ∙ c.split-setting-items.ensures.has_more) (ap split_pattern gives ∙ c.split-setting-items.ensures.pattern) in
-    let turn = YieldsList-turn pieces c.loop-setting.yielded _ c.loop-setting.yielded_by _ _ c.in-Some.setting c.in-Some.is c.next.ensures.steps in
-    rw c.from_residual-in_err-take_in.ensures (is_programmer-unsound c.args.text.now (gathered-refused (settings_of c.args.text.now) (length c.loop-setting.yielded) c.in-Some.setting.now turn c.loop-setting.settings c.loop-setting.invariant.2 c.in_err-take_in.ensures))
+    let begins = stripped (codes "dummy:") _ (Some c.in_ok-strip_prefix.field-0) c.in_ok-strip_prefix.ensures.cases in
+    let split = c.split-setting-items.ensures in
+    let pieces = yields_pieces _ c.into_iter-setting-iterator.ensures.into_iter_gives (split.text ∙ begins.1)
+    split.has_more split.pattern in
+    let turn = YieldsList-turn pieces _ _ c.loop-setting.yielded_by _ _ _ c.in-Some.is c.next.ensures.steps in
+    rw c.from_residual-in_err-take_in.ensures (is_programmer-unsound c.args.text.now (gathered-refused _ _ _ turn
+    c.loop-setting.settings c.loop-setting.invariant.2 c.in_err-take_in.ensures))
 
 pub returns-in_err-settings : goal.returns-in_err-settings
 returns-in_err-settings c =
-    let begins = stripped (codes "dummy:") c.args.text.now (Some c.in_ok-strip_prefix.field-0) c.in_ok-strip_prefix.ensures.cases in
-    let gives = c.into_iter-setting-iterator.ensures.into_iter_gives in
-    let pieces = YieldsList-from_str_split {s = c.into_iter-setting-iterator.result} 44 _ (lit< tt) (ap split_text gives ∙ (c.split-setting-items.ensures.text ∙ begins.1)) (ap split_has_more gives ∙ c.split-setting-items.ensures.has_more) (ap split_pattern gives ∙ c.split-setting-items.ensures.pattern) in
-    let end = YieldsList-end pieces c.loop-setting.yielded _ c.loop-setting.yielded_by _ _ c.in-None.is c.next.ensures.steps in
-    let last = gathered-last (settings_of c.args.text.now) (length c.loop-setting.yielded) c.loop-setting.settings c.loop-setting.invariant.2 end.1 in
-    rw c.from_residual-in_err-settings.ensures (is_programmer-unnamed c.args.text.now (last.1.chip ∙ c.in_err-settings.was))
+    let begins = stripped (codes "dummy:") _ (Some c.in_ok-strip_prefix.field-0) c.in_ok-strip_prefix.ensures.cases in
+    let split = c.split-setting-items.ensures in
+    let pieces = yields_pieces _ c.into_iter-setting-iterator.ensures.into_iter_gives (split.text ∙ begins.1)
+    split.has_more split.pattern in
+    let end = YieldsList-end pieces _ _ c.loop-setting.yielded_by _ _ c.in-None.is c.next.ensures.steps in
+    let last = gathered-last (settings_of c.args.text.now) _ c.loop-setting.settings c.loop-setting.invariant.2 end.1 in
+    rw c.from_residual-in_err-settings.ensures
+    (is_programmer-unnamed c.args.text.now (last.1.chip ∙ c.in_err-settings.was))
 
 pub returns : goal.returns
 returns c =
-    let begins = stripped (codes "dummy:") c.args.text.now (Some c.in_ok-strip_prefix.field-0) c.in_ok-strip_prefix.ensures.cases in
-    let gives = c.into_iter-setting-iterator.ensures.into_iter_gives in
-    let pieces = YieldsList-from_str_split {s = c.into_iter-setting-iterator.result} 44 _ (lit< tt) (ap split_text gives ∙ (c.split-setting-items.ensures.text ∙ begins.1)) (ap split_has_more gives ∙ c.split-setting-items.ensures.has_more) (ap split_pattern gives ∙ c.split-setting-items.ensures.pattern) in
-    let end = YieldsList-end pieces c.loop-setting.yielded _ c.loop-setting.yielded_by _ _ c.in-None.is c.next.ensures.steps in
-    let last = gathered-last (settings_of c.args.text.now) (length c.loop-setting.yielded) c.loop-setting.settings c.loop-setting.invariant.2 end.1 in
+    let begins = stripped (codes "dummy:") _ (Some c.in_ok-strip_prefix.field-0) c.in_ok-strip_prefix.ensures.cases in
+    let split = c.split-setting-items.ensures in
+    let pieces = yields_pieces _ c.into_iter-setting-iterator.ensures.into_iter_gives (split.text ∙ begins.1)
+    split.has_more split.pattern in
+    let end = YieldsList-end pieces _ _ c.loop-setting.yielded_by _ _ c.in-None.is c.next.ensures.steps in
+    let last = gathered-last (settings_of c.args.text.now) _ c.loop-setting.settings c.loop-setting.invariant.2 end.1 in
     let chip = last.1.chip ∙ c.in_ok-settings.was in
     record {
       sound = is_programmer-sound c.args.text.now c.in_ok-settings.field-0 begins.0 last.0 chip;
