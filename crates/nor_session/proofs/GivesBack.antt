@@ -1,78 +1,48 @@
 -- A journal that a session kept can give its chip back.
-use Rattle.std.proofs.Common.{◌≡◌, ◌<◌, ◌*◌, ◌/◌, ◌∙◌, ℕ, Bool, true, false, List, slice_index, refl, ap, sym, subst, arith, true≢false, inl, inr}
-use Rattle.std.specs.Prelude.{◌&&◌, not, nat_lt, IfSome, Option, Result, IsOk}
-use Rattle.std.proofs.lemmas.Bool.{cases_Bool, and_parts, and_from, and_left, ltb-true}
+use Rattle.std.proofs.Common.{◌≡◌, ◌<◌, ◌/◌, ◌∙◌, ℕ, Bool, true, false, List, slice_index, refl, ap, sym, subst, arith}
+use Rattle.std.specs.Prelude.{◌&&◌, not, IfSome}
+use Rattle.std.proofs.lemmas.Bool.{and_parts, and_from, both_ways, false_from_ne_true, ltb-true}
 use Rattle.nor_chip.specs.Chip.{Chip, IsChip, is_locked}
-use Rattle.nor_chip.specs.Guard.{is_guarded, is_unit_guarded}
+use Rattle.nor_chip.specs.Guard.{is_guarded}
 use Rattle.nor_chip.specs.Bus.{BusState}
 use Rattle.nor_chip.proofs.Sizes.{sized_bounds}
 use Rattle.nor_chip.proofs.Guarded.{is_guarded-sector}
 use Rattle.nor_driver.specs.Looks.{Looks}
 use Rattle.nor_driver.specs.Reads.{unique_of}
-use Rattle.nor_driver.specs.StatusWrites.{HasKeptBits}
 use Rattle.nor_journal.specs.Text.{Content, SameHead}
 use Rattle.nor_journal.specs.Vault.{VaultState}
 use Rattle.nor_journal.specs.Saved.{Saves, is_saved}
 use Rattle.nor_journal.proofs.Saves.{Saves-set, Saves-same}
-use Rattle.nor_probe.specs.declared.table.Part.{Part}
-use Rattle.nor_probe.specs.declared.probes.ProbeFault.{ProbeFault}
 use Rattle.nor_probe.specs.Known.{IsGenuine, IsModelled}
-use Rattle.nor_plan.specs.Content.{is_touched}
 use Rattle.nor_apply.specs.Within.{places_of}
 use Rattle.nor_apply.proofs.Changing.{within_wider}
 use Rattle.nor_call.specs.declared.request.Request.{Request}
-use Rattle.nor_call.specs.Request.{wanted}
 use Rattle.nor_save.specs.Touched.{is_touched_by}
 use Rattle.nor_save.specs.Saving.{head_of}
-use Rattle.nor_session.specs.Headline.{SavesChip, open_places, CanGiveBack, HasWayBack, KeepsFirst}
+use Rattle.nor_session.specs.Headline.{SavesChip, open_places, CanGiveBack, KeepsFirst}
 use Rattle.nor_session.specs.Session.{CanBeUndone}
 use Rattle.nor_session.specs.Rehearsing.{LeadsBack}
 use Rattle.nor_session.proofs.JudgedAgain.{accepted_named, accepted_free}
 
--- the status bytes of the head tell the kept bits
-bits_told : (first : Chip) (journal : Content) → first.kept2 < 128 → SameHead (head_of first) journal → HasKeptBits journal.status first
-bits_told first journal small same = record {
-  one =
-      let one : slice_index journal.status 0 ≡ 4 * first.kept1 =
-      ap (λ (c : Content). slice_index c.status 0) (sym same) in
-      omega arith;
-  two =
-      let two : slice_index journal.status 1 ≡ first.kept2 =
-      ap (λ (c : Content). slice_index c.status 1) (sym same) in
-      omega arith;
-}
-
+-- the head tells the kept bits, and what a chip is
 pub saves_chip : (first : Chip) (saved : ℕ → Bool) (journal : Content) → first.kept2 < 128 → SameHead (head_of first) journal → Saves first.bytes saved journal → SavesChip journal first
-saves_chip first saved journal small same saves = record {
-  kind = record {
-    id = ap (λ (c : Content). c.id) (sym same);
-    size = ap (λ (c : Content). c.size) (sym same);
-  };
-  unit = subst (λ (c : Content). IfSome c.unique (λ unique. unique ≡ unique_of first.config)) same refl;
-  bits = bits_told first journal small same;
-  sectors = Saves-same first.bytes saved (is_saved journal) journal (λ s. sym (Saves-set first.bytes saved journal s saves)) saves;
-}
-
--- a touched sector lies inside the chip
-touched_inside : (request : Request) (image : List ℕ) (chip : Chip) (s : ℕ) → is_touched_by request image chip s ≡ true → s < chip.config.size / 4096
-touched_inside request image chip s touched =
-    ltb-true s (chip.config.size / 4096)
-    (and_parts (nat_lt s (chip.config.size / 4096)) (is_touched chip.bytes (wanted request image chip) s) touched).0
-
-and_right : (b c : Bool) → b ≡ true → (b && c) ≡ false → c ≡ false
-and_right true c is none = none
-and_right false c is none = absurd (true≢false (sym is))
+saves_chip first saved journal small same saves =
+    let status = ap (λ (c : Content). c.status) (sym same) in
+    let one = ap (λ (bytes : List ℕ). slice_index bytes 0) status in
+    let two = ap (λ (bytes : List ℕ). slice_index bytes 1) status in
+    record {
+      kind = record { id = ap (λ (c : Content). c.id) (sym same); size = ap (λ (c : Content). c.size) (sym same) };
+      unit = subst (λ (c : Content). IfSome c.unique (λ unique. unique ≡ unique_of first.config)) same refl;
+      bits = record { one = omega arith; two = omega arith };
+      sectors = Saves-same _ saved _ journal (λ s. sym (Saves-set first.bytes saved journal s saves)) saves;
+    }
 
 -- where the status is locked none of the saved places is guarded
 saved_free : (saved : ℕ → Bool) (first : Chip) (text : List ℕ) (state : BusState) (a : ℕ) → LeadsBack saved first text state → saved (a / 4096) ≡ true → (is_locked first && is_guarded first a) ≡ false
-saved_free saved first text state a leads is =
-    elim (cases_Bool (is_locked first)) [
-      | inl locked ↦
-          let inside = leads.inside (a / 4096) is in
-          let blocks = (sized_bounds first.config).blocks in
-          rw locked (is_guarded-sector first a (omega arith) (and_right (saved (a / 4096)) (is_unit_guarded first (4096 * (a / 4096)) 4096) is (leads.free locked (a / 4096))))
-      | inr writable ↦ and_left (is_locked first) (is_guarded first a) writable
-    ]
+saved_free saved first text state a leads is = false_from_ne_true _ (λ both.
+    let (locked, guarded) = and_parts _ _ both in
+    let inside = leads.inside (a / 4096) is in let blocks = (sized_bounds first.config).blocks in
+    both_ways _ (is_guarded-sector first a (omega arith) (rw is at (leads.free locked (a / 4096)))) guarded)
 
 -- The journal that was read gives the first chip back.
 pub can_give_back : (saved : ℕ → Bool) (first : Chip) (text : List ℕ) (state : BusState) (journal : Content) → LeadsBack saved first text state
@@ -94,25 +64,13 @@ leads_back request image old new vault is genuine telling undone = record {
   is = is;
   known = record {
     genuine = genuine;
-    shown = subst (λ (shown : Result Part ProbeFault). IsOk shown) (sym (accepted_named request image old.chip undone.accepted).shown) refl;
+    shown = rw (accepted_named request image old.chip undone.accepted).shown;
   };
   journal = undone.journal telling;
-  inside = touched_inside request image old.chip;
+  inside = λ s touched. ltb-true s _ (and_parts _ _ touched).0;
   free = accepted_free request image old.chip undone.accepted;
   within = undone.changes.within;
 }
-
--- That is its way back.
-way_back : (request : Request) (image : List ℕ) (old new : BusState) (vault : VaultState) → IsChip old.chip
-    → IsGenuine old.chip.config → vault.telling ≡ true → CanBeUndone request image old new vault
-    → HasWayBack vault.bytes old.chip new
-way_back request image old new vault is genuine telling undone =
-    let leads = leads_back request image old new vault is genuine telling undone in
-    let kept = leads.journal in
-    record {
-      journal = record { content = kept.content; is = kept.saves.is; same = kept.is };
-      back = can_give_back _ old.chip vault.bytes new kept.content leads (kept.same, kept.saves);
-    }
 
 -- What a session promises before all else, from what it sent until the seal and what may be undone behind it.
 pub keeps_first : (request : Request) (image : List ℕ) (most : ℕ) (old new : BusState) (vault : VaultState)
@@ -122,5 +80,11 @@ keeps_first request image most old new vault reaches looks undo = record {
   still = λ unsealed. (looks unsealed).sent;
   same = λ unsealed honest. ((looks unsealed).looked honest).stays.calm;
   leads_back = λ sealed telling modelled.
-      way_back request image old new vault (reaches modelled.honest) modelled.genuine telling (undo modelled sealed);
+      let leads = leads_back request image old new vault (reaches modelled.honest) modelled.genuine telling
+      (undo modelled sealed) in
+      let kept = leads.journal in
+      record {
+        journal = record { content = kept.content; is = kept.saves.is; same = kept.is };
+        back = can_give_back _ old.chip vault.bytes new kept.content leads (kept.same, kept.saves);
+      };
 }

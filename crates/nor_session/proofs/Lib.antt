@@ -16,7 +16,6 @@ pub mod Changeable
 pub mod GivenBack
 pub mod Restoring
 pub mod Aiming
-pub mod SavedCounts
 pub mod GivesBack
 pub mod BegunBack
 pub mod WrittenBack

@@ -1,6 +1,6 @@
 -- What a restore has scanned so far.
 use Rattle.std.proofs.Common.{◌≡◌, ◌<◌, ◌≤◌, ◌+◌, ◌*◌, ◌/◌, ◌%◌, ◌&&◌, ◌||◌, ◌∙◌, ℕ, Bool, true, false, List, [], length, take, slice_index, refl, ap, sym, subst, arith}
-use Rattle.std.specs.Prelude.{if◌then◌else◌, ◌==◌, Option, Some, slice_get}
+use Rattle.std.specs.Prelude.{◌==◌, Option, Some, slice_get}
 use Rattle.std.specs.Option.{is_some, unwrap_or}
 use Rattle.std.proofs.lemmas.Bool.{and_left, both_ways}
 use Rattle.std.proofs.lemmas.Bool.Decides.{nat_tests}
@@ -21,7 +21,7 @@ use Rattle.nor_driver.proofs.RestsInTurn.{HasLooked, has_looked-none, has_looked
 use Rattle.nor_save.proofs.Scans.{marks_more, opened_later}
 use Rattle.nor_session.specs.Restore.{restored, is_touched_from, is_raised_from}
 use Rattle.nor_session.specs.Prepare.{PlansSaved, ScansSaved}
-use Rattle.nor_session.proofs.SavedBytes.{byte_at, is_saved-some}
+use Rattle.nor_session.proofs.SavedBytes.{sector_at, byte_at, is_saved-some}
 
 -- one of the first i records has the sector
 abbrev pub saved_before : Content → ℕ → ℕ → Bool
@@ -62,11 +62,7 @@ nothing_rescanned {journal = journal} {state = state} {scanned = scanned} blank 
 -- ---- one more
 
 later_marks : {m n : ℕ} {scanned : Scanned} → m ≤ n → AreMarks m scanned → AreMarks n scanned
-later_marks later are = record {
-  below = λ s is. let b = are.below s is in omega arith;
-  inside = are.inside;
-  count = are.count;
-}
+later_marks later are = search (are.below, arith)
 
 -- which sectors the records have with one more
 more_before : (journal : Content) (i number : ℕ) (saved : List ℕ) (s : ℕ) → IsContent journal → slice_get journal.saved i ≡ Some (record { number = number; bytes = saved })
@@ -83,16 +79,15 @@ tested n s test verdict before after old new is more was inserted = grind (arith
 
 -- what is wanted of a saved sector are its saved bytes, and of another one those that it has
 pub restored_saved : (journal : Content) (content : ℕ → ℕ) (a : ℕ) → is_saved journal (a / 4096) ≡ true → restored journal content a ≡ saved_byte journal a
-restored_saved journal content a is = ap (λ (b : Bool). if b then saved_byte journal a else content a) is
+restored_saved journal content a is = rw is refl
 
 pub restored_other : (journal : Content) (content : ℕ → ℕ) (a : ℕ) → is_saved journal (a / 4096) ≡ false → restored journal content a ≡ content a
-restored_other journal content a is = ap (λ (b : Bool). if b then saved_byte journal a else content a) is
+restored_other journal content a is = rw is refl
 
 restored_at : (journal : Content) (content : ℕ → ℕ) (s : ℕ) (saved : List ℕ) (i : ℕ) → saved_in journal.saved s ≡ Some saved → i < 4096 → slice_index saved i ≡ restored journal content (4096 * s + i)
 restored_at journal content s saved i is below =
-    let sector : (4096 * s + i) / 4096 ≡ s = omega arith in
     byte_at journal s saved i is below
-    ∙ sym (restored_saved journal content (4096 * s + i) (ap (λ (t : ℕ). is_saved journal t) sector ∙ is_saved-some journal s saved is))
+    ∙ sym (restored_saved journal content (4096 * s + i) (rw (sector_at s i below) (is_saved-some journal s saved is)))
 
 -- what the plan of a sector says
 planned_from : (journal : Content) (s : ℕ) (saved bytes : List ℕ) (old mid new : BusState) (plan : SectorPlan) (i : ℕ) → saved_in journal.saved s ≡ Some saved → s < journal.size / 4096
@@ -153,12 +148,12 @@ rescanned_more {journal = journal} {i = i} {s = s} {saved = saved} {bytes = byte
 pub untouched_other : (journal : Content) (content : ℕ → ℕ) (s : ℕ) → is_saved journal s ≡ false → is_touched content (restored journal content) s ≡ false
 untouched_other journal content s none =
     untouched content (restored journal content) s
-    (λ i below. restored_other journal content (4096 * s + i) (ap (λ (t : ℕ). is_saved journal t) (let e : (4096 * s + i) / 4096 ≡ s = omega arith in e) ∙ none))
+    (λ i below. restored_other journal content (4096 * s + i) (rw (sector_at s i below) none))
 
 pub unraised_other : (journal : Content) (content : ℕ → ℕ) (s : ℕ) → is_saved journal s ≡ false → is_raised content (restored journal content) s ≡ false
 unraised_other journal content s none =
     unraised content (restored journal content) s
-    (λ i below. restored_other journal content (4096 * s + i) (ap (λ (t : ℕ). is_saved journal t) (let e : (4096 * s + i) / 4096 ≡ s = omega arith in e) ∙ none))
+    (λ i below. restored_other journal content (4096 * s + i) (rw (sector_at s i below) none))
 
 small_byte : (o : Option (List ℕ)) (k : ℕ) → ((bytes : List ℕ) → o ≡ Some bytes → (k : ℕ) → slice_index bytes k < 256) → is_some o ≡ true → slice_index (unwrap_or o []) k < 256
 small_byte o k small is = grind (arith, nat_tests)

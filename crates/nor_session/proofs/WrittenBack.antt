@@ -8,6 +8,7 @@ use Rattle.nor_journal.specs.Saved.{JournalSaves, Saves}
 use Rattle.nor_journal.specs.Vault.{VaultState}
 use Rattle.nor_journal.proofs.OneForm.{one_text}
 use Rattle.nor_apply.specs.Within.{IsWithin}
+use Rattle.nor_apply.proofs.Changing.{idle_within}
 use Rattle.nor_save.specs.Touched.{is_touched_by}
 use Rattle.nor_save.specs.Saving.{head_of}
 use Rattle.nor_call.specs.declared.request.Request.{Request}
@@ -34,10 +35,10 @@ within_both places first old new opened over before after = record {
     one = either (λ k. k / 32 ≡ first.kept1 / 32) _ _ _ over.kept1 before.fixed.one after.fixed.one;
     two = either (λ k. k % 64 ≡ first.kept2 % 64) _ _ _ over.kept2 before.fixed.two after.fixed.two;
   };
-  kept = λ shut.
-      let had = before.kept shut in
-      let got = after.kept shut in
-      (either (λ k. k ≡ first.kept1) _ _ _ over.kept1 had.0 got.0, either (λ k. k ≡ first.kept2) _ _ _ over.kept2 had.1 got.1);
+  kept = λ shut. (
+    either (λ k. k ≡ first.kept1) _ _ _ over.kept1 (before.kept shut).0 (after.kept shut).0,
+    either (λ k. k ≡ first.kept2) _ _ _ over.kept2 (before.kept shut).1 (after.kept shut).1,
+  );
   runs = λ loses works. absurd (works over.idle);
 }
 
@@ -87,18 +88,10 @@ pub session_over : (request : Request) (image : List ℕ) (old new opened : BusS
     → IsContent journal → vault.bytes ≡ text journal → IsWrittenOver old.chip new.chip opened.chip
     → CanGiveBack journal old.chip opened
 session_over request image old new opened vault journal modelled is telling undone sound read over =
-    let after : CanGiveBack journal old.chip new = read_back request image old new vault journal modelled is telling undone sound read in
+    let after = read_back request image old new vault journal modelled is telling undone sound read in
     record {
       known = after.known;
       saves = after.saves;
-      within = within_both (open_places journal old.chip) old.chip (idle old) new opened
-          (record { config = over.config; bytes = over.bytes; kept1 = over.kept1; kept2 = over.kept2; idle = over.idle })
-          (record {
-            config = refl;
-            bytes = λ a out. refl;
-            fixed = record { one = refl; two = refl };
-            kept = λ shut. (refl, refl);
-            runs = λ loses works. absurd (works refl);
-          })
-          after.within;
+      within = within_both (open_places journal old.chip) old.chip (idle old) new opened (assumption over)
+          (idle_within refl (λ a out. refl) (refl, refl) refl) after.within;
     }

@@ -1,102 +1,76 @@
 use Rattle.std.proofs.Common.{rules, ◌∙◌, refl, sym}
 use Rattle.std.proofs.lemmas.Bool.{true≢false}
-use Rattle.nor_save.proofs.Begun.{err_same}
+use Rattle.std.proofs.lemmas.Result.{err_from_is_err_and}
 use Rattle.nor_journal.specs.MemVault.{held_by}
-use Rattle.nor_session.specs.Rehearsal.{IsRehearsalRefusal, IsNoHalt}
-use Rattle.nor_session.specs.Session.{NamesAddress}
-use Rattle.nor_session.proofs.RehearsedSessions.{never_refused, refused_undo, undo_names, both_aim, both_write, same_again, worn_all, are_restores, last_stop}
+use Rattle.nor_probe.specs.Known.{IsModelled}
+use Rattle.nor_session.proofs.RehearsedSessions.{led, both_wear, both_aim, both_write, undo_refused}
 use Rattle.nor_session.proofs.rehearsals.rehearse.Goals as goal
 
--- ---- a restore was refused
-
-pub returns-in_err-restores-clause-always : goal.returns-in_err-restores-clause-always
-returns-in_err-restores-clause-always g c =
-    let leaves = c.stopped_session.ensures.leaves in
+-- a restore was refused
+pub returns-in_err-restores : goal.returns-in_err-restores
+returns-in_err-restores g c =
+    let session = c.stopped_session.ensures.leaves in let undone = c.undo.ensures in let is = c.bytes.ensures in
     let sealed = sym c.is_sealed.ensures ∙ c.if-not-is_sealed.false in
-    let mid = g.B.Bus.state c.stopped_session.new.bus in
-    let before = held_by c.args.vault.now in let after = held_by c.stopped_session.new.vault in
-    let refusal = c.in_err-restores.field-0.0 in let refuses = c.in_err-restores.ensures.refuses in
-    record {
-      nature = search rules;
-      counts = search rules;
-      answers = err_same c.from_residual-in_err-restores.result refusal (IsRehearsalRefusal before after) c.from_residual-in_err-restores.ensures.1
-          (refused_undo c.bytes.result.now before after mid refusal c.bytes.ensures sealed (leaves.aims sealed).0 refuses);
-      names = err_same c.from_residual-in_err-restores.result refusal (NamesAddress after) c.from_residual-in_err-restores.ensures.1
-          (undo_names c.bytes.result.now after mid refusal c.bytes.ensures sealed refuses);
-      heard = search rules;
-      still = λ unsealed. absurd (true≢false (sym sealed ∙ unsealed));
-      aims = λ sealed'. both_aim _ after (g.B.Bus.state c.args.bus.now) mid (g.B.Bus.state c.undo.new.bus) c.bytes.ensures (leaves.aims sealed) c.undo.ensures.aims;
-      writes = both_write c.args.request.now c.args.stops.now _ (g.B.Bus.state c.args.bus.now) (g.B.Bus.state c.stopped_session.new.bus) (g.B.Bus.state c.undo.new.bus)
-          c.later.ensures leaves.writes c.undo.ensures.writes;
-    }
-
-pub returns-in_err-restores-clause-honest : goal.returns-in_err-restores-clause-honest
-returns-in_err-restores-clause-honest g c = λ honest.
-    err_same c.from_residual-in_err-restores.result c.in_err-restores.field-0.0 IsNoHalt c.from_residual-in_err-restores.ensures.1
-    (c.in_err-restores.ensures.refuses.halts (c.stopped_session.ensures.leaves.nature.honest ∙ honest))
-
-pub returns-in_err-restores-clause-modelled : goal.returns-in_err-restores-clause-modelled
-returns-in_err-restores-clause-modelled g c = λ modelled.
-    let leaves = c.stopped_session.ensures.leaves in
-    let sealed = sym c.is_sealed.ensures ∙ c.if-not-is_sealed.false in
-    absurd (never_refused _ _ _ _ _ _ leaves.nature (λ modelled. leaves.back modelled sealed) c.bytes.ensures c.in_err-restores.ensures.refuses modelled)
-
-pub returns-in_err-restores-clause-gives_back : goal.returns-in_err-restores-clause-gives_back
-returns-in_err-restores-clause-gives_back g c = λ modelled calm.
-    let leaves = c.stopped_session.ensures.leaves in
-    let sealed = sym c.is_sealed.ensures ∙ c.if-not-is_sealed.false in
-    absurd (never_refused _ _ _ _ _ _ leaves.nature (λ modelled. leaves.back modelled sealed) c.bytes.ensures
-    c.in_err-restores.ensures.refuses modelled)
-
--- ---- one ended
-
-pub returns-clause-gives_back : goal.returns-clause-gives_back
-returns-clause-gives_back g c = λ modelled calm.
-    let leaves = c.stopped_session.ensures.leaves in
-    let sealed = sym c.is_sealed.ensures ∙ c.if-not-is_sealed.false in
-    same_again _ _ _ _ _ _ _ _ leaves.nature (λ modelled. leaves.back modelled sealed) c.bytes.ensures
-    c.in_ok-restores.ensures.undoes modelled
-
-pub returns-clause-always : goal.returns-clause-always
-returns-clause-always g c =
-    let leaves = c.stopped_session.ensures.leaves in
-    let sealed = sym c.is_sealed.ensures ∙ c.if-not-is_sealed.false in
-    record {
-      nature = search rules;
-      counts = record {
-        seal = sym sealed;
-        ended = λ ended. refl;
-        some = λ sealed'. c.in_ok-restores.ensures.undoes.some;
-        most = (let most = c.in_ok-restores.ensures.undoes.most in let behind = c.later.ensures in search rules);
-        none = λ unsealed. absurd (true≢false unsealed);
-        whole = search rules;
+    let refuses = c.in_err-restores.ensures.refuses in
+    let never = λ (modelled : IsModelled (g.B.Bus.state c.args.bus.now)).
+    let (still, leads) = led session sealed is undone modelled in refuses.never still _ _ leads in
+    let p = err_from_is_err_and c.from_residual-in_err-restores.result c.from_residual-in_err-restores.ensures.1 in
+    rw (p.1, p.2) (record {
+      gives_back = λ modelled calm. absurd (never modelled);
+      always = record {
+        nature = search rules;
+        counts = search rules;
+        answers = (undo_refused session sealed is undone _ _ refuses).0;
+        names = (undo_refused session sealed is undone (held_by c.args.vault.now) _ refuses).1;
+        heard = search rules;
+        still = λ unsealed. absurd (true≢false (sym sealed ∙ unsealed));
+        aims = λ again. both_aim session sealed is undone;
+        writes = both_write session sealed is undone c.args.stops.now c.later.ensures;
       };
-      answers = search rules;
-      names = search rules;
-      heard = search rules;
-      still = λ unsealed. absurd (true≢false (sym sealed ∙ unsealed));
-      aims = λ sealed'. both_aim _ (held_by c.stopped_session.new.vault) (g.B.Bus.state c.args.bus.now) (g.B.Bus.state c.stopped_session.new.bus) (g.B.Bus.state c.undo.new.bus)
-          c.bytes.ensures (leaves.aims sealed) c.undo.ensures.aims;
-      writes = both_write c.args.request.now c.args.stops.now _ (g.B.Bus.state c.args.bus.now) (g.B.Bus.state c.stopped_session.new.bus) (g.B.Bus.state c.undo.new.bus)
-          c.later.ensures leaves.writes c.undo.ensures.writes;
-    }
+      honest = λ honest. refuses.halts (session.nature.honest ∙ honest);
+      modelled = λ modelled. absurd (never modelled);
+    })
 
-pub returns-clause-modelled : goal.returns-clause-modelled
-returns-clause-modelled g c = λ modelled.
-    let leaves = c.stopped_session.ensures.leaves in
+-- one ended
+pub returns : goal.returns
+returns g c =
+    let session = c.stopped_session.ensures.leaves in let undone = c.undo.ensures in let is = c.bytes.ensures in
     let sealed = sym c.is_sealed.ensures ∙ c.if-not-is_sealed.false in
+    let undoes = c.in_ok-restores.ensures.undoes in
+    let led = led session sealed is undone in
     record {
-      wears = worn_all _ _ _ (g.B.Bus.state c.args.bus.now) (g.B.Bus.state c.stopped_session.new.bus) (g.B.Bus.state c.undo.new.bus)
-          leaves.nature (λ modelled. leaves.back modelled sealed) c.bytes.ensures leaves.wears c.undo.ensures.wears modelled;
-      refuses = search rules;
-      tells = search rules;
-      accepts = search rules;
-      saves = search rules;
-      ended = search rules;
-      stopped = search rules;
-      seal = search rules;
-      restores = λ sealed'. are_restores _ _ _ c.args.stops.now _ _ _ _ _ leaves.nature (λ modelled. leaves.back modelled sealed) c.bytes.ensures c.later.ensures
-          c.in_ok-restores.ensures.undoes modelled;
-      last = λ sealed'. last_stop _ _ _ c.args.stops.now _ _ _ _ _ leaves.nature (λ modelled. leaves.back modelled sealed) c.bytes.ensures c.later.ensures
-          c.in_ok-restores.ensures.undoes modelled;
+      gives_back = λ modelled calm. let (still, leads) = led modelled in undoes.same still _ _ leads;
+      always = record {
+        nature = search rules;
+        counts = record {
+          seal = sym sealed;
+          ended = λ ended. refl;
+          some = λ again. undoes.some;
+          most = (let most = undoes.most in let behind = c.later.ensures in search rules);
+          none = λ unsealed. absurd (true≢false unsealed);
+          whole = search rules;
+        };
+        answers = search rules;
+        names = search rules;
+        heard = search rules;
+        still = λ unsealed. absurd (true≢false (sym sealed ∙ unsealed));
+        aims = λ again. both_aim session sealed is undone;
+        writes = both_write session sealed is undone c.args.stops.now c.later.ensures;
+      };
+      honest = search rules;
+      modelled = λ modelled.
+          let (still, leads) = led modelled in
+          let wears = both_wear session sealed is undone modelled in
+          record {
+            wears = wears;
+            refuses = search rules;
+            tells = search rules;
+            accepts = search rules;
+            saves = search rules;
+            ended = search rules;
+            stopped = search rules;
+            seal = search rules;
+            restores = λ again. rw c.later.ensures at (undoes.are still _ _ leads);
+            last = λ again. rw c.later.ensures at (undoes.last still _ _ leads);
+          };
     }
