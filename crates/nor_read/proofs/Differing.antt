@@ -8,12 +8,12 @@ use Rattle.nor_driver.specs.Looks.{Looks, IsOpen}
 use Rattle.nor_layout.specs.declared.ranges.Span.{Span}
 use Rattle.nor_count.specs.Below.{count_below}
 use Rattle.nor_layout.specs.Sectors.{includes, has_in_sector, AreOfSector, SomeInSector, NoneInSector}
-use Rattle.nor_count.proofs.Below.{count_below-zero}
+use Rattle.nor_count.proofs.Below.{count_below-zero, count_below-more}
 use Rattle.nor_plan.specs.Bytes.{AllAgree, IsFirstDifference}
 use Rattle.nor_driver.proofs.RestsInTurn.{HasLooked, has_looked-none, rested_none}
 use Rattle.nor_read.specs.declared.verifying.Compared.{Compared}
 use Rattle.nor_read.specs.Verifying.{AgreeIn, IsFirstOther, TellsFirst, ComparesPart}
-use Rattle.nor_read.proofs.Onward.{has_looked, looked_on, counted_on, open_on, same_bytes}
+use Rattle.nor_read.proofs.Onward.{has_looked, looked_on, open_on, same_bytes}
 
 -- ---- one sector
 
@@ -86,21 +86,19 @@ part_skipped included image sector false state out test none = record {
 
 -- ---- all sectors
 
-agree_more : (included : Option (List Span)) (image : List ℕ) (content : ℕ → ℕ) (from mid to : ℕ)
-    → AgreeIn included image content from mid → AgreeIn included image content mid to
-    → AgreeIn included image content from to
-agree_more included image content from mid to low high a above below inside = grind (arith, low, high)
+module _ (included : Option (List Span)) (image : List ℕ) (content : ℕ → ℕ) (from mid : ℕ) where
+  agree_more : (to : ℕ) → AgreeIn included image content from mid → AgreeIn included image content mid to
+      → AgreeIn included image content from to
+  agree_more to low high a above below inside = grind (arith, low, high)
 
--- the first difference of two parts
-tells_more : (included : Option (List Span)) (image : List ℕ) (content : ℕ → ℕ) (from mid to : ℕ)
-    (first second : Option ℕ) → from ≤ mid → mid ≤ to → TellsFirst included image content from mid first
-    → TellsFirst included image content mid to second
-    → TellsFirst included image content from to (option_or first second)
-tells_more included image content from mid to None None low high agree more =
-    agree_more included image content from mid to agree more
-tells_more included image content from mid to None (Some address) low high agree other =
-    let before = agree_more included image content from mid address agree other.before in search arith
-tells_more included image content from mid to (Some address) second low high other more = search arith
+  -- the first difference of two parts
+  tells_more : (to : ℕ) (first second : Option ℕ) → from ≤ mid → mid ≤ to
+      → TellsFirst included image content from mid first → TellsFirst included image content mid to second
+      → TellsFirst included image content from to (option_or first second)
+  tells_more to None None low high agree more = agree_more to agree more
+  tells_more to None (Some address) low high agree other =
+      let before = agree_more address agree other.before in search arith
+  tells_more to (Some address) second low high other more = search arith
 
 -- The sectors below n were compared.
 pub record HasCompared (included : Option (List Span)) (image : List ℕ) (size n : ℕ) (old new : BusState)
@@ -121,7 +119,7 @@ module _ {included : Option (List Span)} {image : List ℕ} {size n reads : ℕ}
       → HasCompared included image size (n + 1) old new (option_or first part.first) (reads + part.reads)
   compared_more below has looks compares = record {
     few = grind arith;
-    counted = counted_on n reads part.reads (has_in_sector (includes included)) has.counted compares.counted;
+    counted = let next = count_below-more n (has_in_sector (includes included)) in grind arith;
     looked = looked_on has.looked (has_looked looks compares.rested compares.fell compares.heard);
     tells = λ is_open.
         let now = open_on is_open has.looked in

@@ -1,13 +1,10 @@
 -- Readings that follow one another, of which some sent nothing.
-use Rattle.std.proofs.Common.{◌≡◌, ◌+◌, ℕ, Bool, true, arith}
-use Rattle.std.specs.Prelude.{if◌then◌else◌}
+use Rattle.std.proofs.Common.{◌≡◌, ◌+◌, ℕ, true, arith}
 use mathlib.Core.Path.{fun_ext}
 use Rattle.nor_chip.specs.Bus.{BusState}
 use Rattle.nor_chip.proofs.Nature.{nature_then}
 use Rattle.nor_driver.specs.Ready.{StaysReady}
 use Rattle.nor_driver.specs.Looks.{Rested, Looks, IsOpen}
-use Rattle.nor_count.specs.Below.{count_below}
-use Rattle.nor_count.proofs.Below.{count_below-more}
 use Rattle.nor_driver.proofs.RestsInTurn.{HasLooked, rested_then}
 
 -- a step that succeeded
@@ -24,11 +21,6 @@ looked_on {reads} {more} {old} {mid} {new} has next =
 -- readings leave the bytes as they are
 pub same_bytes : {old new : BusState} → Rested old new → new.chip.bytes ≡ old.chip.bytes
 same_bytes rested = fun_ext rested.unchanged.same.bytes
-
--- how many of the numbers so far pass
-pub counted_on : (n reads more : ℕ) (test : ℕ → Bool) → reads ≡ count_below n test
-    → more ≡ (if test n then 1 else 0) → reads + more ≡ count_below (n + 1) test
-counted_on n reads more test before last = let next = count_below-more n test in omega arith
 
 -- an idle chip stays one, of the same size
 pub open_on : {size reads : ℕ} {old mid : BusState} → IsOpen size old → HasLooked reads old mid → IsOpen size mid
