@@ -5,35 +5,24 @@ use Rattle.std.specs.Prelude.{IfSome, MatchResult}
 use Rattle.std.specs.Array.{IsWholeChunk}
 use Rattle.std.specs.Option.{MatchOption}
 use Rattle.std.specs.Result.{result_ok}
-use Rattle.std.proofs.lemmas.List.{length-append, take-append-drop, take_all, take_at, length-drop, length-take}
+use Rattle.std.proofs.lemmas.List.{take-append-drop, append_assoc, take_at, drop_at, length-drop, length-take}
 use Rattle.std.proofs.lemmas.List.{get_or-drop}
-use Rattle.std.proofs.lemmas.Slice.{take-put_mid}
 use borrow.Rule.Slice.PartMut.{put_mid, same_len_mid}
 use Rattle.nor_journal.specs.Number.{number_text, number_at}
 use Rattle.nor_journal.specs.Text.{magic, head}
 use Rattle.nor_journal.specs.Fault.{head_length}
 use Rattle.nor_journal.proofs.Numbers.{IsBytes, IsBytes-drop, number_text-number_at}
-use Rattle.nor_journal.proofs.SectorRecords.{take_two}
+use Rattle.std.proofs.Math.Seq.{take-add}
+use Rattle.std.proofs.lemmas.Grind.{elements}
 
 -- the first bytes, one by one
 two_first : (bytes : List ℕ) → 2 ≤ length bytes → take 2 bytes ≡ get_or bytes 0 0 ∷ get_or bytes 1 0 ∷ []
-two_first [] long = absurd (omega arith)
-two_first (a ∷ []) long = absurd (omega arith)
-two_first (a ∷ b ∷ rest) long = refl
+two_first bytes long = grind (arith, elements)
 
 three_first : (bytes : List ℕ) → 3 ≤ length bytes → take 3 bytes ≡ get_or bytes 0 0 ∷ get_or bytes 1 0 ∷ get_or bytes 2 0 ∷ []
-three_first [] long = absurd (omega arith)
-three_first (a ∷ []) long = absurd (omega arith)
-three_first (a ∷ b ∷ []) long = absurd (omega arith)
-three_first (a ∷ b ∷ c ∷ rest) long = refl
+three_first bytes long = grind (arith, elements)
 
 -- the parts of a head that has k bytes behind the ID, and what stands behind it
-parts : (k : ℕ) (bytes : List ℕ) → bytes ≡ ((((take 8 bytes ++ take 3 (drop 8 bytes)) ++ take k (drop 11 bytes))
-    ++ take 2 (drop (11 + k) bytes)) ++ take 4 (drop (11 + k + 2) bytes)) ++ drop (11 + k + 2 + 4) bytes
-parts k bytes = sym (rw (take_two 8 3, take_two 11 k, take_two (11 + k) 2, take_two (11 + k + 2) 4)
-    (take-append-drop (11 + k + 2 + 4) bytes))
-
--- the parts by what a head says
 said : (k : ℕ) (bytes magic unique status : List ℕ) → IsBytes bytes → 17 + k ≤ length bytes → take 8 bytes ≡ magic
     → take k (drop 11 bytes) ≡ unique → take 2 (drop (11 + k) bytes) ≡ status
     → bytes ≡ ((((magic ++ get_or bytes 8 0 ∷ get_or bytes 9 0 ∷ get_or bytes 10 0 ∷ []) ++ unique) ++ status)
@@ -43,7 +32,8 @@ said k bytes magic unique status fits long begins is two =
     let rest = drop (11 + k + 2) bytes in
     let number = number_text-number_at rest (IsBytes-drop (11 + k + 2) bytes fits)
     (omega (arith, length-drop (11 + k + 2) bytes)) in
-    rw (← begins, ← is, ← two, ← id, number) (parts k bytes)
+    rw (← begins, ← is, ← two, ← id, number, ← take-add 8 3 bytes, ← take-add 11 k bytes, ← take-add (11 + k) 2 bytes,
+    ← take-add (11 + k + 2) 4 bytes) (sym (take-append-drop (11 + k + 2 + 4) bytes))
 
 -- Eight bytes are a unique ID, and any other number is none.
 abbrev IsUnique : (part : List ℕ) → Option (List ℕ) → Type 0
@@ -82,19 +72,14 @@ splits (Some v) len bytes (Some u) fits begins is long read =
 
 -- ---- a head that is written
 
--- The first n bytes of a head are written.
-pub record Begins (n : ℕ) (front bytes : List ℕ) : Type 0 where
-  pub long : length bytes ≡ 25
-  pub is : take n bytes ≡ front
+-- it is as long as it was
+pub length-put : (n k : ℕ) (bytes part : List ℕ) → length bytes ≡ 25 → length part ≡ k → n + k ≤ 25
+    → length (put_mid n k bytes part) ≡ 25
+length-put n k bytes part long many within =
+    same_len_mid n k bytes part (omega (arith, length-take k (drop n bytes), length-drop n bytes)) ∙ long
 
-pub begins_first : (magic left : List ℕ) → length magic ≡ 8 → length left ≡ 17 → Begins 8 magic (magic ++ left)
-begins_first magic left eight many = record { long = omega (arith, length-append magic left); is = take_at magic left 8 eight }
-
-pub begins_more : (n k : ℕ) (front bytes part : List ℕ) → Begins n front bytes → length part ≡ k → n + k ≤ 25 → Begins (n + k) (front ++ part) (put_mid n k bytes part)
-begins_more n k front bytes part before many within = record {
-  long = same_len_mid n k bytes part (omega (arith, length-take k (drop n bytes), length-drop n bytes, before.long)) ∙ before.long;
-  is = take-put_mid n k bytes part (n + k) (omega (arith, many)) (omega (arith, before.long)) ∙ ap (λ (t : List ℕ). t ++ part) before.is;
-}
-
-pub begins_all : (front bytes : List ℕ) → Begins 25 front bytes → bytes ≡ front
-begins_all front bytes before = sym (take_all 25 bytes (omega (arith, before.long))) ∙ before.is
+-- a part that is put behind what was written
+pub put_behind : (n k : ℕ) (before rest part : List ℕ) → length before ≡ n
+    → put_mid n k (before ++ rest) part ≡ (before ++ part) ++ drop k rest
+put_behind n k before rest part len =
+    rw (take_at before rest n len, drop_at before rest n len) (sym (append_assoc before part (drop k rest)))

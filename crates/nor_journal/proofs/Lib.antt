@@ -2,12 +2,9 @@ pub mod Numbers
 pub mod Heads
 pub mod SectorRecords
 pub mod Places
-pub mod Fronts
-pub mod Writes
 pub mod Beginnings
 pub mod Saved
 pub mod Sought
-pub mod KnownBytes
 pub mod Saves
 pub mod WholeJournals
 pub mod OneForm

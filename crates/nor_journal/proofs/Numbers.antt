@@ -1,8 +1,9 @@
 -- A number that is written is read again, and bytes that are read are written again.
-use Rattle.std.proofs.Common.{◌≡◌, ℕ, zero, suc, ◌+◌, ◌^◌, ◌<◌, ◌≤◌, List, [], ◌∷◌, ◌++◌, length, get_or, take, drop, refl, arith}
-use Rattle.std.proofs.lemmas.List.{get_or-drop}
+use Rattle.std.proofs.Common.{◌≡◌, ℕ, ◌+◌, ◌^◌, ◌<◌, ◌≤◌, List, ◌++◌, length, get_or, take, drop, refl, arith, inl, inr}
+use Rattle.std.proofs.lemmas.Bool.{cases_lt}
+use Rattle.std.proofs.lemmas.List.{get_or-drop, get_or-take, get_or_past, length-take, length-take-le}
 use Rattle.std.proofs.lemmas.Nat.{le_bytes_4}
-use Rattle.byteorder.specs.Numbers.{little_number-reads_back}
+use Rattle.byteorder.specs.Numbers.{little_number-reads_back, little_from-take}
 use Rattle.nor_journal.specs.Number.{number_text, number_at}
 
 -- each is a byte
@@ -20,27 +21,19 @@ pub number_at-number_text : (n : ℕ) (rest : List ℕ) → n < 2 ^ 32 → numbe
 unfolding number_text number_at
 number_at-number_text n rest fits = little_number-reads_back 4 n rest fits
 
-four_fit : (a b c d : ℕ) → a < 256 → b < 256 → c < 256 → d < 256 → IsBytes (a ∷ b ∷ c ∷ d ∷ [])
-four_fit a b c d p q r s zero = p
-four_fit a b c d p q r s (suc zero) = q
-four_fit a b c d p q r s (suc (suc zero)) = r
-four_fit a b c d p q r s (suc (suc (suc zero))) = s
-four_fit a b c d p q r s (suc (suc (suc (suc i)))) = omega arith
-
-pub number_text-number_at : (bytes : List ℕ) → IsBytes bytes → 4 ≤ length bytes → number_text (number_at bytes) ≡ take 4 bytes
-unfolding number_text number_at
-number_text-number_at [] fits long = absurd (omega arith)
-number_text-number_at (a ∷ []) fits long = absurd (omega arith)
-number_text-number_at (a ∷ b ∷ []) fits long = absurd (omega arith)
-number_text-number_at (a ∷ b ∷ c ∷ []) fits long = absurd (omega arith)
-number_text-number_at (a ∷ b ∷ c ∷ d ∷ rest) fits long =
-    le_bytes_4 (a ∷ b ∷ c ∷ d ∷ []) _ refl (four_fit a b c d (fits 0) (fits 1) (fits 2) (fits 3)) (omega arith)
-
 -- only the first four bytes count
 pub number_at-take : (bytes : List ℕ) → number_at (take 4 bytes) ≡ number_at bytes
 unfolding number_at
-number_at-take [] = refl
-number_at-take (a ∷ []) = refl
-number_at-take (a ∷ b ∷ []) = refl
-number_at-take (a ∷ b ∷ c ∷ []) = refl
-number_at-take (a ∷ b ∷ c ∷ d ∷ rest) = refl
+number_at-take bytes = little_from-take 0 4 4 bytes (omega arith)
+
+IsBytes-take : (n : ℕ) (bytes : List ℕ) → IsBytes bytes → IsBytes (take n bytes)
+IsBytes-take n bytes fits i = elim (cases_lt i n) [
+  | inl below ↦ rw (get_or-take n bytes i 0 below) (fits i)
+  | inr past ↦ rw (get_or_past (take n bytes) i 0 (omega (arith, length-take n bytes))) (omega arith)
+]
+
+pub number_text-number_at : (bytes : List ℕ) → IsBytes bytes → 4 ≤ length bytes → number_text (number_at bytes) ≡ take 4 bytes
+unfolding number_text number_at
+number_text-number_at bytes fits long =
+    rw (← number_at-take bytes) (le_bytes_4 (take 4 bytes) (number_at (take 4 bytes)) (length-take-le 4 bytes long)
+    (IsBytes-take 4 bytes fits) (omega arith))

@@ -1,30 +1,167 @@
--- Which fault bytes have, as a function of them: so they have one at most, and a journal has none. And a journal says
--- one thing.
-use Rattle.std.proofs.Common.{◌≡◌, ◌≢◌, ℕ, ◌-◌, ◌/◌, ◌<◌, ◌≤◌, true, List, [], ◌++◌, length, take, drop}
-use Rattle.std.proofs.Common.{Option, Some, None, sym, ap, ◌∙◌, append_assoc, arith, inl, inr}
-use Rattle.std.specs.Prelude.{if◌then◌else◌, nat_lt, false}
+-- What tells the parts of a journal apart, numbers, records, heads, and the fronts that they make: so a journal says
+-- one thing. And which fault bytes have, as a function of them: so they have one at most, and a journal has none.
+use Rattle.std.proofs.Common.{◌≡◌, ℕ, ◌+◌, ◌-◌, ◌/◌, ◌^◌, ◌<◌, ◌≤◌, true, List, [], ◌∷◌, ◌++◌, length, take, drop}
+use Rattle.std.proofs.Common.{Option, Some, None, refl, sym, ap, ◌∙◌, append_assoc, arith, inl, inr, ◌≢◌}
+use Rattle.std.specs.Prelude.{IfSome, if◌then◌else◌, nat_lt, false, Result, Ok, Err, IfOk, IfErr, OnOk, IsOkAnd}
+use Rattle.std.specs.Option.{unwrap_or}
+use Rattle.std.proofs.lemmas.List.{length-append, append-nil, take_at, drop_at, length-take, length-drop}
+use Rattle.std.proofs.lemmas.List.{append_cancel_left, take-append-drop}
+use Rattle.sha2.specs.Sha256.{sha256}
+use Rattle.nor_count.specs.Size.{is_chip_size}
+use Rattle.nor_count.proofs.Sizes.{is_chip_size-in_blocks}
+use Rattle.nor_journal.specs.Number.{number_text, number_at}
+use Rattle.nor_journal.specs.Text.{SavedSector, Content, IsContent, IsSectorBelow, AreRising, magic, SameHead, head}
+use Rattle.nor_journal.specs.Text.{record_text, records_text, front, body, text, end_mark, least_after, next_number}
+use Rattle.nor_journal.specs.Fault.{head_length, HasFault, HeadFault, NextFault}
+use Rattle.nor_journal.specs.Reading.{BeginsRecord}
+use Rattle.nor_journal.proofs.Numbers.{length-number_text, number_at-number_text, number_at-take}
 use Rattle.std.specs.Str.{bytes_eq}
 use Rattle.std.proofs.lemmas.Bool.{cases_lt, lt-ltb, le-ltb, false_from_ne_true}
-use Rattle.std.specs.Prelude.{Result, Ok, Err, IfOk, IfErr, OnOk, IsOkAnd}
-use Rattle.std.specs.Option.{unwrap_or}
 use Rattle.std.proofs.lemmas.Option.{same_Some}
-use Rattle.std.proofs.lemmas.List.{length-append, length-take, length-drop, take_at, drop_at, append-nil}
-use Rattle.std.proofs.lemmas.List.{append_cancel_left, take-append-drop}
 use Rattle.std.proofs.lemmas.Slice.Eq.{bytes_eq-Decides}
-use Rattle.sha2.specs.Sha256.{sha256}
 use Rattle.sha2.proofs.Facts256.{length-sha256}
-use Rattle.nor_count.specs.Size.{is_chip_size}
 use Rattle.nor_journal.specs.declared.fault.JournalFault.{JournalFault}
 use Rattle.nor_journal.specs.declared.fault.JournalFault.TheVariants.{Short, Magic, Size, Place, Order, Long, Digest}
-use Rattle.nor_journal.specs.Number.{number_text, number_at}
-use Rattle.nor_journal.specs.Text.{Content, IsContent, magic, head, next_number, records_text, front, body, text}
-use Rattle.nor_journal.specs.Text.{end_mark}
-use Rattle.nor_journal.specs.Fault.{HasFault, HeadFault, head_length, NextFault, FaultBehindFront}
-use Rattle.nor_journal.specs.Reading.{BeginsRecord}
-use Rattle.nor_journal.proofs.Numbers.{length-number_text, number_at-number_text}
-use Rattle.nor_journal.proofs.Fronts.{length-magic, same_format, head_opened, length-head, few_sectors}
-use Rattle.nor_journal.proofs.Fronts.{number_at-marked, number_at-end_mark, length-end_mark, front_opened, text_opened}
-use Rattle.nor_journal.proofs.Fronts.{same_fronts}
+
+-- two lists that go on differently, after parts of one length
+pub same_parts : (a b : List ℕ) {x y : List ℕ} → length a ≡ length b → a ++ x ≡ b ++ y → (a ≡ b) × (x ≡ y)
+same_parts a b {x} {y} len e = (
+  sym (take_at a x _ len) ∙ ap (take (length b)) e ∙ take_at b y _ refl,
+  sym (drop_at a x _ len) ∙ ap (drop (length b)) e ∙ drop_at b y _ refl,
+)
+
+-- ---- numbers and records
+
+same_number : (m n : ℕ) {x y : List ℕ} → m < 2 ^ 32 → n < 2 ^ 32 → number_text m ++ x ≡ number_text n ++ y
+    → (m ≡ n) × (x ≡ y)
+same_number m n {x} {y} m-fits n-fits e = (
+  sym (number_at-number_text m x m-fits) ∙ ap number_at e ∙ number_at-number_text n y n-fits,
+  (same_parts (number_text m) (number_text n) (length-number_text m ∙ sym (length-number_text n)) e).1,
+)
+
+pub length-end_mark : length end_mark ≡ 4
+unfolding end_mark
+length-end_mark = refl
+
+-- the number of no sector
+pub number_at-marked : (rest : List ℕ) → take 4 rest ≡ end_mark → number_at rest ≡ 4294967295
+unfolding end_mark number_at
+number_at-marked rest is_mark = sym (number_at-take rest) ∙ ap number_at is_mark
+
+pub few_sectors : (size : ℕ) → is_chip_size size ≡ true → size / 4096 ≤ 4096
+few_sectors size is = omega (arith, (is_chip_size-in_blocks size is).small)
+
+same_record : (sectors : ℕ) (s t : SavedSector) {x y : List ℕ} → sectors ≤ 4096 → IsSectorBelow sectors s
+    → IsSectorBelow sectors t → record_text s ++ x ≡ record_text t ++ y → (s ≡ t) × (x ≡ y)
+unfolding record_text
+same_record sectors s t {x} {y} few s-is t-is e =
+    let numbers = same_number s.number t.number (omega (arith, s-is.place)) (omega (arith, t-is.place))
+    (sym (append_assoc (number_text s.number) s.bytes x) ∙ e ∙ append_assoc (number_text t.number) t.bytes y) in
+    let rest = same_parts s.bytes t.bytes (s-is.whole ∙ sym t-is.whole) numbers.1 in
+    (ap (λ (n : ℕ). record s { number = n }) numbers.0 ∙ ap (λ (b : List ℕ). record t { bytes = b }) rest.0, rest.1)
+
+-- a record that may be next begins the bytes
+begins_record : (sectors least : ℕ) (s : SavedSector) (rest bytes : List ℕ) → sectors ≤ 4096
+    → IsSectorBelow sectors s → least ≤ s.number → bytes ≡ record_text s ++ rest
+    → BeginsRecord sectors least bytes (number_at bytes)
+unfolding record_text
+begins_record sectors least s rest bytes few is rises e =
+    let opened : bytes ≡ number_text s.number ++ (s.bytes ++ rest) = rw append_assoc at e in
+    let number : number_at bytes ≡ s.number =
+    ap number_at opened ∙ number_at-number_text _ _ (omega (arith, is.place)) in
+    record {
+      is = refl;
+      rises = omega arith;
+      place = omega (arith, is.place);
+      whole = omega (arith, simp length-append at (ap length opened), length-number_text s.number, is.whole);
+    }
+
+-- No record that may be next begins the bytes.
+abbrev pub NoRecord : (sectors least : ℕ) → List ℕ → Type 0
+NoRecord sectors least bytes = BeginsRecord sectors least bytes (number_at bytes) → ⊥
+
+-- two lists of records at the front of the same bytes, behind which no record is next, are one
+same_records : (sectors least : ℕ) (ss ts : List SavedSector) (x y : List ℕ) → sectors ≤ 4096
+    → AreRising sectors least ss → AreRising sectors least ts → NoRecord sectors (least_after least ss) x
+    → NoRecord sectors (least_after least ts) y → records_text ss ++ x ≡ records_text ts ++ y → (ss ≡ ts) × (x ≡ y)
+unfolding records_text
+same_records sectors least [] [] x y few s-are t-are no_x no_y e = (refl, e)
+same_records sectors least [] (t ∷ ts) x y few s-are t-are no_x no_y e =
+    absurd (no_x (begins_record sectors least t (records_text ts ++ y) x few t-are.0 t-are.1 (e ∙ append_assoc _ _ y)))
+same_records sectors least (s ∷ ss) [] x y few s-are t-are no_x no_y e = absurd
+    (no_y (begins_record sectors least s (records_text ss ++ x) y few s-are.0 s-are.1 (sym e ∙ append_assoc _ _ x)))
+same_records sectors least (s ∷ ss) (t ∷ ts) x y few s-are t-are no_x no_y e =
+    let first = same_record sectors s t few s-are.0 t-are.0 (sym (append_assoc _ _ x) ∙ e ∙ append_assoc _ _ y) in
+    let rest = same_records sectors (s.number + 1) ss ts x y few s-are.2 (rw first.0 t-are.2) no_x (rw first.0 no_y)
+    first.1 in
+    (rw (first.0, rest.0) refl, rest.1)
+
+-- ---- heads and fronts
+
+pub length-magic : (u : Option (List ℕ)) → length (magic u) ≡ 8
+length-magic u = grind arith
+
+-- two formats have two magics, whose last digits differ
+pub same_format : (u v : Option (List ℕ)) → magic u ≡ magic v → head_length u ≡ head_length v
+same_format u v e = grind arith
+
+-- how long what a head tells of the unique ID is
+length-unique : (u : Option (List ℕ)) → IfSome u (λ unique. length unique ≡ 8)
+    → length (unwrap_or u []) + 17 ≡ head_length u
+length-unique u is = grind arith
+
+same_unique : (u v : Option (List ℕ)) → head_length u ≡ head_length v → unwrap_or u [] ≡ unwrap_or v [] → u ≡ v
+same_unique u v f e = grind arith
+
+-- a head, part by part
+pub head_opened : (c : Content) (x : List ℕ)
+    → head c ++ x ≡ magic c.unique ++ (c.id ++ (unwrap_or c.unique [] ++ (c.status ++ (number_text c.size ++ x))))
+unfolding head
+head_opened c x = simp append_assoc
+
+pub length-head : (c : Content) → IsContent c → length (head c) ≡ head_length c.unique
+unfolding head
+length-head c is =
+    simp (length-append, length-magic, length-number_text)
+    (omega (arith, length-unique c.unique is.unique, is.id, is.status))
+
+same_heads : (c d : Content) (x y : List ℕ) → IsContent c → IsContent d → head c ++ x ≡ head d ++ y
+    → SameHead c d × (x ≡ y)
+same_heads c d x y c-is d-is e =
+    let magics = same_parts (magic c.unique) (magic d.unique)
+    (length-magic c.unique ∙ sym (length-magic d.unique)) (sym (head_opened c x) ∙ e ∙ head_opened d y) in
+    let format = same_format c.unique d.unique magics.0 in
+    let ids = same_parts c.id d.id (c-is.id ∙ sym d-is.id) magics.1 in
+    let uniques = same_parts (unwrap_or c.unique []) (unwrap_or d.unique [])
+    (omega (arith, length-unique c.unique c-is.unique, length-unique d.unique d-is.unique, format)) ids.1 in
+    let statuses = same_parts c.status d.status (c-is.status ∙ sym d-is.status) uniques.1 in
+    let sizes = same_number c.size d.size (omega (arith, few_sectors c.size c-is.size))
+    (omega (arith, few_sectors d.size d-is.size)) statuses.1 in
+    let unique = same_unique c.unique d.unique format uniques.0 in
+    (cc, sizes.1)
+
+pub front_opened : (c : Content) (x : List ℕ) → front c ++ x ≡ head c ++ (records_text c.saved ++ x)
+unfolding front
+front_opened c x = rw append_assoc
+
+pub text_opened : (c : Content) → text c ≡ front c ++ (end_mark ++ sha256 (body c))
+unfolding text body
+text_opened c = rw append_assoc
+
+-- what stands behind two fronts, and is no record that may be next, tells the contents
+pub same_fronts : (c d : Content) (x y : List ℕ) → IsContent c → IsContent d
+    → NoRecord (c.size / 4096) (next_number c) x → NoRecord (d.size / 4096) (next_number d) y
+    → front c ++ x ≡ front d ++ y → (c ≡ d) × (x ≡ y)
+unfolding next_number
+same_fronts c d x y c-is d-is no_x no_y e =
+    let heads = same_heads c d _ _ c-is d-is (sym (front_opened c x) ∙ e ∙ front_opened d y) in
+    let size : c.size ≡ d.size = ap (λ (h : Content). h.size) heads.0 in
+    let records = same_records (c.size / 4096) 0 c.saved d.saved x y (few_sectors c.size c-is.size) c-is.saved
+    (rw size d-is.saved) no_x (rw size no_y) heads.1 in (
+      ap (λ (h : Content). record h { saved = c.saved }) heads.0
+          ∙ ap (λ (ss : List SavedSector). record d { saved = ss }) records.0,
+      records.1,
+    )
 
 equal : (xs ys : List ℕ) → xs ≡ ys → bytes_eq xs ys ≡ true
 equal xs ys e = (bytes_eq-Decides xs ys).1 e
@@ -56,8 +193,7 @@ behind_magic (Some u) bytes long begins =
     rw (le-ltb _ _ long, unequal (take 8 bytes) _ other, equal (take 8 bytes) _ begins)
 
 least_head : (u : Option (List ℕ)) → 17 ≤ head_length u
-least_head None = omega arith
-least_head (Some u) = omega arith
+least_head u = grind arith
 
 -- its last four bytes are the size
 head_number : (c : Content) (x : List ℕ) → IsContent c
@@ -67,9 +203,8 @@ head_number c x is =
     let before : List ℕ = ((magic c.unique ++ c.id) ++ unwrap_or c.unique []) ++ c.status in
     let len : length before ≡ head_length c.unique - 4 =
     omega (arith, length-head c is, length-append before (number_text c.size), length-number_text c.size) in
-    ap (λ (t : List ℕ). number_at (drop (head_length c.unique - 4) t)) (append_assoc before (number_text c.size) x)
-    ∙ ap number_at (drop_at before (number_text c.size ++ x) (head_length c.unique - 4) len)
-    ∙ number_at-number_text c.size x (omega (arith, few_sectors c.size is.size))
+    rw (append_assoc before (number_text c.size) x, drop_at before (number_text c.size ++ x) _ len)
+    (number_at-number_text c.size x (omega (arith, few_sectors c.size is.size)))
 
 head_fault-is : (bytes : List ℕ) (f : JournalFault) → HeadFault bytes f → head_fault bytes ≡ Some f
 head_fault-is bytes Short (inl short) = rw (lt-ltb _ _ short)
@@ -156,12 +291,10 @@ next_fault-end c =
     at_mark c _ (take_at end_mark _ 4 length-end_mark)
     ∙ rw (len, equal _ _ (drop_at end_mark (sha256 (body c)) 4 length-end_mark))
 
--- nor has a record that may be next
-next_fault-record : (c : Content) (rest : List ℕ) → IsContent c
-    → BeginsRecord (c.size / 4096) (next_number c) rest (number_at rest) → next_fault c rest ≡ None
-next_fault-record c rest is begins =
-    at_sector c rest is (omega (arith, begins.whole)) begins.place
-    ∙ rw (le-ltb _ _ begins.rises, le-ltb _ _ begins.whole)
+-- behind a fault no record is next
+faulty : (c : Content) (rest : List ℕ) (f : JournalFault) → IsContent c → NextFault c rest f
+    → NoRecord (c.size / 4096) (next_number c) rest
+faulty c rest f is found begins = grind (arith, number_at-marked rest, few_sectors c.size is.size)
 
 -- ---- of the bytes
 
@@ -174,39 +307,31 @@ not_in_head bytes f c rest is split found =
     cc (none, some, split, front_opened c rest)
 
 -- a record begins no end
-no_record : (c : Content) (least : ℕ) (behind : List ℕ) → IsContent c
-    → BeginsRecord (c.size / 4096) least (end_mark ++ behind) (number_at (end_mark ++ behind)) → ⊥
-no_record c least behind is begins =
-    omega (arith, begins.place, number_at-end_mark behind, few_sectors c.size is.size)
-
--- behind the front of a content there is one fault at most
-front_fault : (bytes : List ℕ) (f g : JournalFault) → FaultBehindFront bytes f → FaultBehindFront bytes g → f ≡ g
-front_fault bytes f g p q =
-    let first = next_fault-is p.content p.rest f p.is_content p.next in
-    let second = next_fault-is q.content q.rest g q.is_content q.next in
-    elim (same_fronts p.content q.content p.rest q.rest p.is_content q.is_content (sym p.split ∙ q.split)) [
-      | inl same ↦ same_Some f g (sym first ∙ rw (same.0, same.1) second)
-      | inr (inl record_there) ↦ absurd (cc (next_fault-record p.content p.rest p.is_content record_there, first))
-      | inr (inr record_there) ↦ absurd (cc (next_fault-record q.content q.rest q.is_content record_there, second))
-    ]
+no_record : (c : Content) (behind : List ℕ) → IsContent c
+    → NoRecord (c.size / 4096) (next_number c) (end_mark ++ behind)
+no_record c behind is begins =
+    let mark = take_at end_mark behind 4 length-end_mark in
+    omega (arith, begins.place, number_at-marked (end_mark ++ behind) mark, few_sectors c.size is.size)
 
 pub one_fault : (bytes : List ℕ) (f g : JournalFault) → HasFault bytes f → HasFault bytes g → f ≡ g
 one_fault bytes f g (inl p) (inl q) = same_Some f g (sym (head_fault-is bytes f p) ∙ head_fault-is bytes g q)
 one_fault bytes f g (inl p) (inr q) = absurd (not_in_head bytes f q.content q.rest q.is_content q.split p)
 one_fault bytes f g (inr p) (inl q) = absurd (not_in_head bytes g p.content p.rest p.is_content p.split q)
-one_fault bytes f g (inr p) (inr q) = front_fault bytes f g p q
+one_fault bytes f g (inr p) (inr q) =
+    let same = same_fronts p.content q.content p.rest q.rest p.is_content q.is_content
+    (faulty _ _ f p.is_content p.next) (faulty _ _ g q.is_content q.next) (sym p.split ∙ q.split) in
+    let first = next_fault-is p.content p.rest f p.is_content p.next in
+    let second = next_fault-is q.content q.rest g q.is_content q.next in
+    same_Some f g (cc (first, second, same.0, same.1))
 
 -- a journal has no fault
 pub faultless : (c : Content) (bytes : List ℕ) (fault : JournalFault) → IsContent c → bytes ≡ text c → HasFault bytes fault → ⊥
 faultless c bytes fault is e (inl found) =
     not_in_head bytes fault c (end_mark ++ sha256 (body c)) is (e ∙ text_opened c) found
 faultless c bytes fault is e (inr found) =
-    let some = next_fault-is found.content found.rest fault found.is_content found.next in
-    elim (same_fronts c found.content _ found.rest is found.is_content (sym (text_opened c) ∙ sym e ∙ found.split)) [
-      | inl same ↦ cc (next_fault-end c, same.0, same.1, some)
-      | inr (inl begins) ↦ no_record c _ _ is begins
-      | inr (inr begins) ↦ cc (next_fault-record found.content found.rest found.is_content begins, some)
-    ]
+    let same = same_fronts c found.content _ found.rest is found.is_content (no_record c _ is)
+    (faulty _ _ fault found.is_content found.next) (sym (text_opened c) ∙ sym e ∙ found.split) in
+    cc (next_fault-end c, same.0, same.1, next_fault-is _ _ fault found.is_content found.next)
 
 -- ---- each journal says one thing, and none begins another
 
@@ -215,11 +340,9 @@ text_then c x = rw text_opened (simp append_assoc)
 
 pub one_text : (c d : Content) (x y : List ℕ) → IsContent c → IsContent d → text c ++ x ≡ text d ++ y → (c ≡ d) × (x ≡ y)
 one_text c d x y c-is d-is e =
-    elim (same_fronts c d _ _ c-is d-is (sym (text_then c x) ∙ e ∙ text_then d y)) [
-      | inl same ↦ (same.0, append_cancel_left (text c) x y (e ∙ ap (λ (b : Content). text b ++ y) (sym same.0)))
-      | inr (inl begins) ↦ absurd (no_record c _ _ c-is begins)
-      | inr (inr begins) ↦ absurd (no_record d _ _ d-is begins)
-    ]
+    let same = same_fronts c d _ _ c-is d-is (no_record c _ c-is) (no_record d _ d-is)
+    (sym (text_then c x) ∙ e ∙ text_then d y) in
+    (same.0, append_cancel_left (text c) x y (e ∙ ap (λ (b : Content). text b ++ y) (sym same.0)))
 
 -- what reading finds of a journal
 pub is_read : (bytes : List ℕ) (r : Result Content JournalFault) (c : Content)

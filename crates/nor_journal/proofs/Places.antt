@@ -8,9 +8,9 @@ use Rattle.nor_journal.specs.declared.fault.JournalFault.{JournalFault}
 use Rattle.nor_journal.specs.declared.head.Head.{Head}
 use Rattle.nor_journal.specs.Text.{Content, IsContent, head, front, body, text, end_mark}
 use Rattle.nor_journal.specs.Fault.{FaultBehindFront, NextFault, EndFault}
-use Rattle.nor_journal.specs.Reading.{headed, content_at, IsHead, HasRecords, EndsBehind}
+use Rattle.nor_journal.specs.Reading.{headed, content_at, IsHead, HasRecords}
 use Rattle.nor_journal.proofs.Numbers.{IsBytes}
-use Rattle.nor_journal.proofs.Fronts.{length-end_mark}
+use Rattle.nor_journal.proofs.OneForm.{length-end_mark}
 use Rattle.nor_journal.proofs.SectorRecords.{records_text-sectors_in, with_mark}
 
 -- what stands behind some bytes are bytes too
@@ -23,8 +23,8 @@ pub is_content : (h : Head) (records : List ℕ) (k : ℕ) → IsHead h → HasR
 is_content h records k is has =
     record { id = is.id; unique = is.unique; status = is.status; size = is.size; saved = has.rising }
 
-module _ (h : Head) (bytes records : List ℕ) (split : bytes ≡ head (headed h) ++ records) (fits : IsBytes bytes)
-    (k : ℕ) (has : HasRecords h records k) where
+module _ {h : Head} {bytes records : List ℕ} {k : ℕ} (split : bytes ≡ head (headed h) ++ records)
+    (fits : IsBytes bytes) (has : HasRecords h records k) where
   abbrev content : Content
   content = content_at h k records
 
@@ -58,6 +58,16 @@ module _ (h : Head) (bytes records : List ℕ) (split : bytes ≡ head (headed h
   pub from_mark : drop mark bytes ≡ drop (4100 * k) records
   from_mark = ap (drop mark) front_splits ∙ drop_at _ _ _ length-front
 
+  -- the end mark lies within the bytes
+  pub mark_within : take 4 (drop (4100 * k) records) ≡ end_mark → mark + 4 ≤ length bytes
+  mark_within ends = omega (
+    arith,
+    ap length (ap (take 4) from_mark ∙ ends),
+    length-end_mark,
+    length-take 4 (drop mark bytes),
+    length-drop mark bytes,
+  )
+
   -- a fault of what stands behind the records
   pub next_fault : (fault : JournalFault) → IsHead h → NextFault content (drop (4100 * k) records) fault
       → FaultBehindFront bytes fault
@@ -80,20 +90,4 @@ module _ (h : Head) (bytes records : List ℕ) (split : bytes ≡ head (headed h
   is_text ends digest =
       let whole : take (mark + 4) bytes ≡ front content ++ end_mark =
       with_mark mark bytes (ap (take 4) from_mark ∙ ends) ∙ ap (λ (t : List ℕ). t ++ end_mark) before_mark in
-      sym (take-append-drop (mark + 4) bytes) ∙ ap (λ (t : List ℕ). take (mark + 4) bytes ++ t) digest
-      ∙ ap (λ (t : List ℕ). t ++ sha256 t) whole
-
--- the end mark lies within the bytes
-pub mark_within : (h : Head) (bytes records : List ℕ) (k : ℕ) → bytes ≡ head (headed h) ++ records
-    → EndsBehind h records k → length bytes - length records + 4100 * k + 4 ≤ length bytes
-mark_within h bytes records k split ends =
-    omega (
-      arith,
-      ap length split,
-      length-append (head (headed h)) records,
-      ap length ends.mark,
-      length-end_mark,
-      length-take 4 (drop (4100 * k) records),
-      length-drop (4100 * k) records,
-      ends.records.within,
-    )
+      rw (← whole, ← digest) (sym (take-append-drop (mark + 4) bytes))

@@ -1,10 +1,9 @@
 -- What a content saves, one sector after the other: for the loops that write and restore it.
-use Rattle.std.proofs.Common.{add-one}
-use Rattle.std.proofs.Common.{◌≡◌, ℕ, zero, suc, ◌+◌, ◌/◌, ◌<◌, ◌≤◌, cond, eqb, List, [], ◌∷◌, ◌++◌, length, take, refl}
-use Rattle.std.proofs.Common.{sym, ap, subst, ◌∙◌, arith, Option, Some, None, inl, inr}
+use Rattle.std.proofs.Common.{add-one, ◌≡◌, ℕ, zero, suc, ◌+◌, ◌/◌, ◌<◌, ◌≤◌, cond, eqb, List, [], ◌∷◌, ◌++◌, length}
+use Rattle.std.proofs.Common.{take, refl, sym, ap, subst, ◌∙◌, arith, Option, Some, None, inl, inr}
 use Rattle.std.specs.Prelude.{◌↔◌, slice_get}
 use Rattle.std.proofs.lemmas.Bool.{eq-eqb, ne_eqb}
-use Rattle.std.proofs.lemmas.Bool.Decides.{eqb_tells}
+use Rattle.std.proofs.lemmas.Bool.Decides.{eqb_tells, nat_tests}
 use Rattle.std.proofs.Math.Seq.{take-suc}
 use Rattle.std.proofs.lemmas.List.{take_all}
 use Rattle.std.proofs.lemmas.Option.{same_Some, slice_get_within, get_or_from_slice_get}
@@ -40,31 +39,12 @@ unfolding saved_in
 saved_in-push sectors least [] s n rising above = refl
 saved_in-push sectors least (t ∷ ss) s n rising above =
     let later = saved_in-push sectors (t.number + 1) ss s n rising.2 above in
-    let below = least_le sectors (t.number + 1) ss rising.2 in
-    rw later (elim (eqb_tells s.number n) [
-      | inl hit ↦
-          rw (ne_eqb t.number n (λ e. omega (arith, hit.1, e, below)), eq-eqb s.number n hit.1) refl
-      | inr miss ↦ rw (ne_eqb s.number n miss.1) refl
-    ])
-
--- a sector that is saved is a whole sector of the chip
-pub saved_in-whole : (sectors least : ℕ) (ss : List SavedSector) (n : ℕ) (bytes : List ℕ) → AreRising sectors least ss → saved_in ss n ≡ Some bytes → (n < sectors) × (length bytes ≡ 4096)
-unfolding saved_in
-saved_in-whole sectors least [] n bytes rising e = absurd cc
-saved_in-whole sectors least (s ∷ ss) n bytes rising e =
-    elim (eqb_tells s.number n) [
-      | inl hit ↦
-          let is : s.bytes ≡ bytes = same_Some _ _ (rw (eq-eqb s.number n hit.1) at e) in
-          (omega (arith, rising.0.place, hit.1), ap length (sym is) ∙ rising.0.whole)
-      | inr miss ↦ saved_in-whole sectors (s.number + 1) ss n bytes rising.2 (rw (ne_eqb s.number n miss.1) at e)
-    ]
+    grind (arith, nat_tests, least_le sectors (t.number + 1) ss rising.2)
 
 -- the sector at an index
 pub rising_at : (sectors least : ℕ) (ss : List SavedSector) (i : ℕ) (s : SavedSector) → AreRising sectors least ss → slice_get ss i ≡ Some s → IsSectorBelow sectors s × (least ≤ s.number)
 rising_at sectors least [] i s rising e = absurd cc
-rising_at sectors least (t ∷ ss) zero s rising e =
-    let is : t ≡ s = same_Some t s e in
-    subst (λ (u : SavedSector). IsSectorBelow sectors u × (least ≤ u.number)) is (rising.0, rising.1)
+rising_at sectors least (t ∷ ss) zero s rising e = rw (← same_Some t s e) (rising.0, rising.1)
 rising_at sectors least (t ∷ ss) (suc i) s rising e =
     let later = rising_at sectors (t.number + 1) ss i s rising.2 e in
     (later.0, omega (arith, rising.1, later.1))
@@ -73,13 +53,10 @@ rising_at sectors least (t ∷ ss) (suc i) s rising e =
 pub saved_in-at : (sectors least : ℕ) (ss : List SavedSector) (i : ℕ) (s : SavedSector) → AreRising sectors least ss → slice_get ss i ≡ Some s → saved_in ss s.number ≡ Some s.bytes
 unfolding saved_in
 saved_in-at sectors least [] i s rising e = absurd cc
-saved_in-at sectors least (t ∷ ss) zero s rising e =
-    rw (eq-eqb t.number s.number (ap (λ (u : SavedSector). u.number) (same_Some t s e)))
-    (ap (λ (u : SavedSector). Some u.bytes) (same_Some t s e))
+saved_in-at sectors least (t ∷ ss) zero s rising e = rw (← same_Some t s e, eq-eqb t.number t.number refl) refl
 saved_in-at sectors least (t ∷ ss) (suc i) s rising e =
     let later = rising_at sectors (t.number + 1) ss i s rising.2 e in
-    rw (ne_eqb t.number s.number (λ same. omega (arith, later.1, same)))
-    (saved_in-at sectors (t.number + 1) ss i s rising.2 e)
+    rw (ne_eqb t.number s.number (λ same. omega arith)) (saved_in-at sectors (t.number + 1) ss i s rising.2 e)
 
 -- a sector that is saved has a record
 pub saved_in-record : (ss : List SavedSector) (n : ℕ) (bytes : List ℕ) → saved_in ss n ≡ Some bytes → (i : ℕ) × (slice_get ss i ≡ Some (record { number = n; bytes = bytes }))
@@ -87,15 +64,8 @@ unfolding saved_in
 saved_in-record [] n bytes e = absurd cc
 saved_in-record (s ∷ rest) n bytes e =
     elim (eqb_tells s.number n) [
-      | inl hit ↦
-          let is : s.bytes ≡ bytes = same_Some _ _ (rw (eq-eqb s.number n hit.1) at e) in (
-            0,
-            ap (λ (m : ℕ). Some (record s { number = m })) hit.1
-                ∙ ap (λ (b : List ℕ). Some (record s { number = n; bytes = b })) is,
-          )
-      | inr miss ↦
-          let later = saved_in-record rest n bytes (rw (ne_eqb s.number n miss.1) at e) in
-          (suc later.0, later.1)
+      | inl hit ↦ (0, rw (← hit.1, ← same_Some s.bytes bytes (rw hit.0 at e)) refl)
+      | inr miss ↦ let later = saved_in-record rest n bytes (rw miss.0 at e) in (suc later.0, later.1)
     ]
 
 -- ---- of a content
@@ -128,13 +98,13 @@ take-rising sectors least (t ∷ ss) (suc i) s rising e =
 pub saved_in-take_more : (c : Content) (i : ℕ) (s : SavedSector) (n : ℕ) → IsContent c → slice_get c.saved i ≡ Some s → saved_in (take (i + 1) c.saved) n ≡ cond (eqb s.number n) (Some s.bytes) (saved_in (take i c.saved) n)
 saved_in-take_more c i s n is e =
     let parts = take-rising (c.size / 4096) 0 c.saved i s is.saved e in
-    ap (λ (ss : List SavedSector). saved_in ss n) (take-sector c.saved i s e) ∙ saved_in-push (c.size / 4096) 0 (take i c.saved) s n parts.0 parts.1
+    rw (take-sector c.saved i s e) (saved_in-push (c.size / 4096) 0 (take i c.saved) s n parts.0 parts.1)
 
 -- the numbers go on from record to record
 pub take-next : (c : Content) (i : ℕ) (s : SavedSector) → IsContent c → slice_get c.saved i ≡ Some s → (least_after 0 (take i c.saved) ≤ s.number) × (least_after 0 (take (i + 1) c.saved) ≡ s.number + 1)
 take-next c i s is e = (
   (take-rising (c.size / 4096) 0 c.saved i s is.saved e).1,
-  ap (λ (ss : List SavedSector). least_after 0 ss) (take-sector c.saved i s e) ∙ least_after-push 0 (take i c.saved) s,
+  rw (take-sector c.saved i s e) (least_after-push 0 (take i c.saved) s),
 )
 
 -- they stay below the number of sectors, and so does how many there are
@@ -143,14 +113,13 @@ after_within sectors least [] rising within = (within, omega arith)
 after_within sectors least (s ∷ ss) rising within =
     let place = rising.0.place in
     let later = after_within sectors (s.number + 1) ss rising.2 (omega arith) in
-    let few = later.1 in let rises = rising.1 in
-    (later.0, omega arith)
+    (later.0, omega (arith, later.1, rising.1))
 
 pub least_within : (c : Content) → IsContent c → least_after 0 c.saved ≤ c.size / 4096
 least_within c is = (after_within (c.size / 4096) 0 c.saved is.saved (omega arith)).0
 
 pub saved_few : (c : Content) → IsContent c → length c.saved ≤ c.size / 4096
-saved_few c is = let few = (after_within (c.size / 4096) 0 c.saved is.saved (omega arith)).1 in omega arith
+saved_few c is = omega (arith, (after_within (c.size / 4096) 0 c.saved is.saved (omega arith)).1)
 
 pub take-all_sectors : (ss : List SavedSector) → take (length ss) ss ≡ ss
 take-all_sectors ss = take_all (length ss) ss (omega arith)
@@ -168,8 +137,7 @@ pub sector_saved : (h : Head) (bytes : List ℕ) (k i : ℕ) (s : SavedSector) (
 sector_saved h bytes k i s j view has within is =
     let below : i < k = omega (arith, ap (λ (c : Content). length c.saved) view, length-sectors_in k bytes) in
     let at : slice_get (saved_records k bytes) i ≡ Some s = slice_get-sectors_in k bytes i below ∙ ap Some (sym is) in
-    subst (λ (c : Content). (slice_get c.saved i ≡ Some s) × (saved_in c.saved s.number ≡ Some s.bytes)
-    × IsSectorBelow (c.size / 4096) s) view (
+    rw (← view) (
       at,
       saved_in-at (h.size / 4096) 0 (saved_records k bytes) i s has.rising at,
       (rising_at (h.size / 4096) 0 (saved_records k bytes) i s has.rising at).0,

@@ -1,14 +1,13 @@
 -- Records one after the other: in the bytes, and as a list of sectors that rises.
-use Rattle.std.proofs.Common.{◌≡◌, ℕ, zero, suc, ◌+◌, ◌*◌, ◌/◌, ◌<◌, ◌≤◌, List, [], ◌∷◌, ◌++◌, length, get_or, take}
-use Rattle.std.proofs.Common.{drop, refl, sym, ap, ◌∙◌, add-one, arith, Some, inl, inr}
+use Rattle.std.proofs.Common.{◌≡◌, ℕ, zero, suc, ◌+◌, ◌*◌, ◌/◌, ◌<◌, ◌≤◌, List, [], ◌∷◌, ◌++◌, length, take, drop, refl}
+use Rattle.std.proofs.Common.{sym, ap, ◌∙◌, add-one, arith, Some, inl, inr}
 use Rattle.std.specs.Prelude.{slice_get}
 use Rattle.std.specs.List.{flat_map}
 use Rattle.std.proofs.lemmas.Bool.{cases_lt}
 use Rattle.std.proofs.Math.Seq.{take-add}
-use Rattle.std.proofs.lemmas.List.{get_or_append_left, get_or_at, length-take, length-drop, drop-drop, append-nil}
-use Rattle.std.proofs.lemmas.List.{length_push}
-use Rattle.std.proofs.lemmas.Option.{slice_get-get_or}
-use Rattle.std.proofs.lemmas.Grind.{flat_map-append}
+use Rattle.std.proofs.lemmas.List.{length-take, length-drop, drop-drop, append-nil, length_push}
+use Rattle.std.proofs.lemmas.Option.{gets}
+use Rattle.std.proofs.lemmas.Grind.{common_steps, flat_map-append}
 use Rattle.nor_journal.specs.Number.{number_text, number_at}
 use Rattle.nor_journal.specs.Text.{SavedSector, IsSectorBelow, AreRising, least_after, record_text, records_text}
 use Rattle.nor_journal.specs.Text.{next_number, end_mark}
@@ -25,10 +24,6 @@ pub least_after-push : (least : ℕ) (ss : List SavedSector) (s : SavedSector) �
 least_after-push least [] s = refl
 least_after-push least (first ∷ ss) s = least_after-push (first.number + 1) ss s
 
-pub records_text-nil : records_text [] ≡ []
-unfolding records_text
-records_text-nil = refl
-
 pub records_text-push : (ss : List SavedSector) (s : SavedSector) → records_text (ss ++ s ∷ []) ≡ records_text ss ++ record_text s
 unfolding records_text
 records_text-push ss s = flat_map-append record_text ss (s ∷ []) ∙ ap (λ (t : List ℕ). flat_map record_text ss ++ t) (append-nil (record_text s))
@@ -40,30 +35,16 @@ unfolding saved_records
 length-sectors_in zero bytes = refl
 length-sectors_in (suc k) bytes = omega (arith, length_push (saved_records k bytes) (sector_at bytes k), length-sectors_in k bytes)
 
-sector_in : (k : ℕ) (bytes : List ℕ) (i : ℕ) (d : SavedSector) → i < k
-    → get_or (saved_records k bytes) i d ≡ sector_at bytes i
-unfolding saved_records
-sector_in zero bytes i d lt = absurd (omega arith)
-sector_in (suc k) bytes i d lt =
-    elim (cases_lt i k) [
-      | inl below ↦
-          get_or_append_left (saved_records k bytes) (sector_at bytes k ∷ []) d i
-          (omega (arith, length-sectors_in k bytes))
-          ∙ sector_in k bytes i d below
-      | inr at ↦
-          let e : k ≡ i = omega arith in
-          rw (← e) (get_or_at (saved_records k bytes) (sector_at bytes k) [] d k (length-sectors_in k bytes))
-    ]
-
 pub slice_get-sectors_in : (k : ℕ) (bytes : List ℕ) (i : ℕ) → i < k
     → slice_get (saved_records k bytes) i ≡ Some (sector_at bytes i)
-slice_get-sectors_in k bytes i lt =
-    slice_get-get_or (saved_records k bytes) i (sector_at bytes i) (omega (arith, length-sectors_in k bytes))
-    ∙ ap Some (sector_in k bytes i _ lt)
-
--- two parts from the front
-pub take_two : (m n : ℕ) (bytes : List ℕ) → take m bytes ++ take n (drop m bytes) ≡ take (m + n) bytes
-take_two m n bytes = sym (take-add m n bytes)
+unfolding saved_records
+slice_get-sectors_in zero bytes i lt = absurd (omega arith)
+slice_get-sectors_in (suc k) bytes i lt =
+    let len = length-sectors_in k bytes in
+    elim (cases_lt i k) [
+      | inl below ↦ let was = slice_get-sectors_in k bytes i below in grind (arith, common_steps, gets)
+      | inr at ↦ let here : i ≡ k = omega arith in rw here (grind (arith, common_steps, gets))
+    ]
 
 -- one record is the text of its sector
 pub record_text-sector_at : (k : ℕ) (bytes : List ℕ) → IsBytes bytes → 4100 * k + 4100 ≤ length bytes → record_text (sector_at bytes k) ≡ take 4100 (drop (4100 * k) bytes)
@@ -71,15 +52,16 @@ unfolding record_text
 record_text-sector_at k bytes fits long =
     let number : number_text (number_at (drop (4100 * k) bytes)) ≡ take 4 (drop (4100 * k) bytes) =
     number_text-number_at (drop (4100 * k) bytes) (IsBytes-drop (4100 * k) bytes fits) (omega (arith, length-drop (4100 * k) bytes)) in
-    rw number (ap (λ (t : List ℕ). take 4 (drop (4100 * k) bytes) ++ take 4096 t) (sym (drop-drop 4 (4100 * k) bytes)) ∙ take_two 4 4096 (drop (4100 * k) bytes))
+    rw (number, ← drop-drop 4 (4100 * k) bytes) (sym (take-add 4 4096 (drop (4100 * k) bytes)))
 
 pub records_text-sectors_in : (k : ℕ) (bytes : List ℕ) → IsBytes bytes → 4100 * k ≤ length bytes → records_text (saved_records k bytes) ≡ take (4100 * k) bytes
-unfolding saved_records
-records_text-sectors_in zero bytes fits long = records_text-nil
+unfolding saved_records records_text
+records_text-sectors_in zero bytes fits long = refl
 records_text-sectors_in (suc k) bytes fits long =
     let so_far = records_text-sectors_in k bytes fits (omega arith) in
     let next = record_text-sector_at k bytes fits (omega arith) in
-    records_text-push (saved_records k bytes) (sector_at bytes k) ∙ rw (so_far, next) (take_two (4100 * k) 4100 bytes ∙ ap (λ (n : ℕ). take n bytes) (omega arith))
+    let end : 4100 * suc k ≡ 4100 * k + 4100 = omega arith in
+    rw (records_text-push (saved_records k bytes) (sector_at bytes k), so_far, next, end) (sym (take-add (4100 * k) 4100 bytes))
 
 -- ---- one record more
 
@@ -102,14 +84,6 @@ pub next_number-more : (h : Head) (bytes : List ℕ) (k : ℕ) (n : ℕ) → n �
 unfolding next_number saved_records
 next_number-more h bytes k n e = rw (add-one k) (ap (λ (m : ℕ). m + 1) e ∙ sym (least_after-push 0 (saved_records k bytes) (sector_at bytes k)))
 
-pub starts : (h : Head) (bytes : List ℕ) → HasRecords h bytes 0
-unfolding saved_records
-starts h bytes = record { within = omega arith; rising = tt }
-
-pub next_number-none : (h : Head) (bytes : List ℕ) → 0 ≡ next_number (content_at h 0 bytes)
-unfolding next_number saved_records
-next_number-none h bytes = refl
-
 -- up to the end mark, and with it
 pub with_mark : (mark : ℕ) (bytes : List ℕ) → take 4 (drop mark bytes) ≡ end_mark → take (mark + 4) bytes ≡ take mark bytes ++ end_mark
-with_mark mark bytes is_mark = sym (take_two mark 4 bytes) ∙ ap (λ (t : List ℕ). take mark bytes ++ t) is_mark
+with_mark mark bytes is_mark = rw (← is_mark) (take-add mark 4 bytes)

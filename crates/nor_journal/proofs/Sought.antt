@@ -1,8 +1,6 @@
 -- A sector that is sought among records that rise.
-use Rattle.std.proofs.Common.{◌≡◌, ℕ, zero, suc, ◌+◌, ◌<◌, ◌≤◌, List, [], ◌∷◌, length, refl, sym, ap, ◌∙◌, arith}
-use Rattle.std.proofs.Common.{Option, Some, None, inl, inr}
+use Rattle.std.proofs.Common.{◌≡◌, ℕ, zero, suc, ◌+◌, ◌<◌, ◌≤◌, List, [], ◌∷◌, length, arith, Some, None}
 use Rattle.std.specs.Prelude.{slice_get}
-use Rattle.std.proofs.lemmas.Bool.{cases_lt}
 use Rattle.std.proofs.lemmas.Option.{same_Some}
 use Rattle.nor_journal.specs.Text.{SavedSector, AreRising}
 use Rattle.nor_journal.specs.Saved.{saved_in}
@@ -19,11 +17,8 @@ pub record IsSought (saved : List SavedSector) (number low high : ℕ) : Type 0 
 risen : (sectors least : ℕ) (ss : List SavedSector) (i j : ℕ) (s t : SavedSector) → AreRising sectors least ss
     → slice_get ss i ≡ Some s → slice_get ss j ≡ Some t → i ≤ j → s.number ≤ t.number
 risen sectors least [] i j s t rising e f upto = absurd cc
-risen sectors least (u ∷ ss) zero zero s t rising e f upto =
-    omega (arith, ap (λ (v : SavedSector). v.number) (same_Some s t (sym e ∙ f)))
-risen sectors least (u ∷ ss) zero (suc j) s t rising e f upto =
-    let later = (rising_at sectors (u.number + 1) ss j t rising.2 f).1 in
-    omega (arith, ap (λ (v : SavedSector). v.number) (same_Some u s e))
+risen sectors least (u ∷ ss) zero j s t rising e f upto =
+    rw (← same_Some u s e) (rising_at sectors u.number (u ∷ ss) j t (rising.0, omega arith, rising.2) f).1
 risen sectors least (u ∷ ss) (suc i) zero s t rising e f upto = absurd (omega arith)
 risen sectors least (u ∷ ss) (suc i) (suc j) s t rising e f upto =
     risen sectors (u.number + 1) ss i j s t rising.2 e f (omega arith)
@@ -49,14 +44,5 @@ sought_below sectors ss n low high middle t rising sought at from below more = r
 }
 
 -- no record is left that may have the number
-none_left : (ss : List SavedSector) (n low high : ℕ) (found : Option (List ℕ)) → IsSought ss n low high → high ≤ low → saved_in ss n ≡ found → found ≡ None
-none_left ss n low high None sought empty is = refl
-none_left ss n low high (Some bytes) sought empty is =
-    let at = saved_in-record ss n bytes is in
-    absurd (elim (cases_lt at.0 low) [
-      | inl under ↦ let less = sought.before at.0 _ at.1 under in omega arith
-      | inr over ↦ let more = sought.behind at.0 _ at.1 (omega arith) in omega arith
-    ])
-
 pub sought_none : (ss : List SavedSector) (n low high : ℕ) → IsSought ss n low high → high ≤ low → saved_in ss n ≡ None
-sought_none ss n low high sought empty = none_left ss n low high (saved_in ss n) sought empty refl
+sought_none ss n low high sought empty = grind (arith, saved_in-record ss n)

@@ -1,23 +1,21 @@
 -- The one journal that a content goes on to: of a chip in which some sectors are to be saved, those below a bound are.
-use Rattle.std.proofs.Common.{◌≡◌, ◌≢◌, ℕ, zero, suc, ◌+◌, ◌*◌, ◌/◌, ◌<◌, ◌≤◌, Bool, true, false, List, [], ◌++◌}
-use Rattle.std.proofs.Common.{length, map, drop, ◌-◌, refl, sym, ap, subst, ◌∙◌, append_assoc, arith, inl, inr}
+use Rattle.std.proofs.Common.{◌≡◌, ℕ, zero, suc, ◌+◌, ◌*◌, ◌/◌, ◌<◌, ◌≤◌, Bool, true, false, List, [], ◌++◌, length}
+use Rattle.std.proofs.Common.{map, drop, ◌-◌, refl, sym, ap, subst, ◌∙◌, arith, inl, inr}
 use Rattle.std.specs.Prelude.{◌&&◌, nat_lt}
 use Rattle.std.specs.Io.{StartsWith}
 use Rattle.std.specs.List.{range_with_len}
 use Rattle.std.proofs.lemmas.List.{append-nil, take-append-drop, length-append}
 use Rattle.std.proofs.lemmas.List.FromFn.{length-map-range_with_len, get_or-map-range_with_len}
-use Rattle.std.proofs.lemmas.Bool.Decides.{eqb_tells}
-use Rattle.std.proofs.lemmas.Bool.{cases_Bool, cases_lt, lt-ltb, le-ltb, and_right}
+use Rattle.std.proofs.lemmas.Bool.Decides.{nat_tests}
+use Rattle.std.proofs.lemmas.Bool.{cases_Bool}
 use Rattle.sha2.specs.Sha256.{sha256}
 use Rattle.sha2.proofs.Facts256.{length-sha256}
-use Rattle.nor_journal.specs.Text.{Content, IsContent, SameHead, next_number, record_text, end_mark, front, text}
-use Rattle.nor_journal.specs.Text.{with_sector}
+use Rattle.nor_journal.specs.Text.{Content, IsContent, SameHead, next_number, end_mark, front, text, with_sector}
 use Rattle.nor_journal.specs.Saved.{IsWholeSector, Saves, HasOneMore, BeginsText}
 use Rattle.nor_journal.proofs.Saved.{next_number-with_sector}
 use Rattle.nor_journal.proofs.Saves.{Saves-same, Saves-more}
-use Rattle.nor_journal.proofs.Writes.{front-with_sector, text_is}
+use Rattle.nor_journal.proofs.Beginnings.{front-with_sector, text_is, begins_longer}
 use Rattle.nor_journal.proofs.OneForm.{one_text}
-use Rattle.nor_journal.proofs.Beginnings.{begins_longer}
 
 -- ---- the bytes of a sector
 
@@ -33,30 +31,18 @@ sector_whole chip sector = record {
 
 -- ---- a set, below a bound
 
--- a bound that is one higher, anywhere else
-same_below : (s n : ℕ) → s ≢ n → nat_lt s (n + 1) ≡ nat_lt s n
-same_below s n other = elim (cases_lt s n) [
-  | inl below ↦ lt-ltb s (n + 1) (omega arith) ∙ sym (lt-ltb s n below)
-  | inr above ↦ le-ltb s (n + 1) (let apart : s ≡ n → ⊥ = other in omega (arith, apart)) ∙ sym (le-ltb s n above)
-]
-
 -- at a sector of the set
 pub one_more_below : (set : ℕ → Bool) (n : ℕ) → set n ≡ true
     → HasOneMore (λ s. nat_lt s n && set s) n (λ s. nat_lt s (n + 1) && set s)
 one_more_below set n is = record {
-  here = ap (λ (b : Bool). b && set n) (lt-ltb n (n + 1) (omega arith)) ∙ is;
-  others = λ s other. ap (λ (b : Bool). b && set s) (same_below s n other);
+  here = grind (arith, nat_tests);
+  others = λ s other. grind (arith, nat_tests);
 }
 
 -- and at another
 none_more_below : (set : ℕ → Bool) (n : ℕ) → set n ≡ false
     → (s : ℕ) → (nat_lt s (n + 1) && set s) ≡ (nat_lt s n && set s)
-none_more_below set n is s = elim (eqb_tells s n) [
-  | inl here ↦
-      let out : set s ≡ false = ap set here.1 ∙ is in
-      and_right (nat_lt s (n + 1)) (set s) out ∙ sym (and_right (nat_lt s n) (set s) out)
-  | inr other ↦ ap (λ (b : Bool). b && set s) (same_below s n other.1)
-]
+none_more_below set n is s = grind (arith, nat_tests)
 
 -- ---- a content that goes on
 
@@ -66,8 +52,7 @@ pub record GoesOn (chip : ℕ → ℕ) (set : ℕ → Bool) (c : Content) (n : �
   pub same : SameHead c content
   pub saves : Saves chip (λ s. nat_lt s n && set s) content
   pub next : next_number content ≤ n
-  pub rest : List ℕ
-  pub is : front content ≡ front c ++ rest
+  pub begins : (bytes : List ℕ) → StartsWith (front c) bytes → StartsWith (front content) bytes
 
 go_on_here : (chip : ℕ → ℕ) (set : ℕ → Bool) (c : Content) (n : ℕ) → n < c.size / 4096 → GoesOn chip set c n
     → GoesOn chip set c (n + 1)
@@ -81,8 +66,8 @@ go_on_here chip set c n below on = elim (cases_Bool (set n)) [
         saves = Saves-more chip _ _ on.content n bytes on.saves (record { rises = on.next; place = place })
             (sector_whole chip n) (one_more_below set n is);
         next = omega (arith, next_number-with_sector on.content n bytes);
-        rest = on.rest ++ record_text (record { number = n; bytes = bytes });
-        is = front-with_sector on.content n bytes ∙ rw on.is (append_assoc (front c) on.rest _);
+        begins = λ part begins. rw (front-with_sector on.content n bytes)
+            (begins_longer (front on.content) _ part (on.begins part begins));
       }
   | inr is ↦
       let next = on.next in
@@ -91,8 +76,7 @@ go_on_here chip set c n below on = elim (cases_Bool (set n)) [
         same = on.same;
         saves = Saves-same chip _ _ on.content (none_more_below set n is) on.saves;
         next = omega arith;
-        rest = on.rest;
-        is = on.is;
+        begins = on.begins;
       }
 ]
 
@@ -101,7 +85,7 @@ go_on : (chip : ℕ → ℕ) (set : ℕ → Bool) (c : Content) (n more : ℕ) �
 go_on chip set c n zero saves next within =
     let e : n ≡ n + 0 = omega arith in
     subst (GoesOn chip set c) e
-    (record { content = c; same = refl; saves = saves; next = next; rest = []; is = sym (append-nil (front c)) })
+    (record { content = c; same = refl; saves = saves; next = next; begins = λ bytes begins. begins })
 go_on chip set c n (suc more) saves next within =
     let e : n + more + 1 ≡ n + suc more = omega arith in
     subst (GoesOn chip set c) e
@@ -131,7 +115,7 @@ begins_whole head chip set c n bytes same saves next within begins =
       content = on.content;
       same = same ∙ on.same;
       saves = subst (λ (m : ℕ). Saves chip (λ s. nat_lt s m && set s) on.content) whole on.saves;
-      begins = front_begins on.content (front c) on.rest bytes on.is begins;
+      begins = front_begins on.content (front on.content) [] bytes (sym (append-nil _)) (on.begins bytes begins);
     }
 
 -- what begins a journal and is one is that journal

@@ -1,11 +1,14 @@
 use Rattle.std.proofs.Common.{refl, arith, ℕ, ◌*◌, ◌/◌, ◌∙◌, ap, drop}
 use Rattle.std.proofs.lemmas.List.{drop-drop}
-use Rattle.nor_journal.specs.Reading.{BeginsRecord}
-use Rattle.nor_journal.proofs.SectorRecords.{has_one_more, next_number-more, next_number-none, starts}
+use Rattle.nor_journal.specs.Text.{next_number}
+use Rattle.nor_journal.specs.Reading.{BeginsRecord, saved_records}
+use Rattle.nor_journal.proofs.SectorRecords.{has_one_more, next_number-more}
 use Rattle.nor_journal.proofs.records.count_records.Goals as goal
 
 pub loop-number-init : goal.loop-number-init
-loop-number-init c = record { records = starts _ _; rest = refl; least = next_number-none _ _; sectors = refl }
+unfolding next_number saved_records
+loop-number-init c =
+    record { records = record { within = omega arith; rising = tt }; rest = refl; least = refl; sectors = refl }
 
 pub loop-number-preserved : goal.loop-number-preserved
 loop-number-preserved c =

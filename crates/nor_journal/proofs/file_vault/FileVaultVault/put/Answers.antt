@@ -1,6 +1,7 @@
 use Rattle.std.proofs.Common.{arith, ap, length}
+use Rattle.std.proofs.KnownBytes.{Appends-trans}
+use Rattle.std.proofs.Math.Seq.{take-add}
 use Rattle.std.proofs.lemmas.List.{take_rest, length-drop}
-use Rattle.nor_journal.proofs.KnownBytes.{Appends-more}
 use Rattle.nor_journal.proofs.file_vault.FileVaultVault.put.Goals as goal
 
 pub loop-kept-preserved : goal.loop-kept-preserved
@@ -10,5 +11,6 @@ loop-kept-preserved g c =
       within = omega (arith, c.in-Ok.ensures.bound, ap length (take_rest c.args.piece.now c.loop-kept.kept), length-drop c.loop-kept.kept c.args.piece.now);
       sealed = so_far.sealed;
       failures = so_far.failures;
-      file = Appends-more _ _ _ _ _ _ _ (take_rest c.args.piece.now c.loop-kept.kept) so_far.file c.in-Ok.ensures.bytes;
+      file = rw (take-add c.loop-kept.kept _ c.args.piece.now, ← take_rest c.args.piece.now c.loop-kept.kept)
+          (Appends-trans _ _ _ _ _ so_far.file c.in-Ok.ensures.bytes);
     }

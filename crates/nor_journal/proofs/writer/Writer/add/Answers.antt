@@ -1,14 +1,14 @@
 use Rattle.std.proofs.Common.{arith}
-use Rattle.std.proofs.lemmas.Result.{on_ok_weaker, on_err_weaker}
-use Rattle.nor_journal.specs.Writer.{vault_seen}
-use Rattle.nor_journal.proofs.Writes.{adds}
-use Rattle.nor_journal.proofs.Beginnings.{piece_refused, begins_record}
+use Rattle.std.proofs.lemmas.Result.{on_ok_weaker, IfErr-weaker}
+use Rattle.nor_journal.proofs.Beginnings.{IsContent-with_sector, front-with_sector, after_refused}
 use Rattle.nor_journal.proofs.Saves.{may_follow, HasKept-more}
 use Rattle.nor_journal.proofs.writer.Writer.add.Goals as goal
 
 pub returns-clause-written : goal.returns-clause-written
-returns-clause-written g c = λ content written follows.
-    on_ok_weaker c.piece.result (adds _ _ content c.args.number c.args.bytes.now _ written.is follows (omega arith) c.record_bytes.ensures) (c.piece.ensures.put _ written.put)
+returns-clause-written g c = λ content written follows. on_ok_weaker c.piece.result (λ put. record {
+  is = IsContent-with_sector content c.args.number c.args.bytes.now written.is follows (omega arith);
+  put = rw (front-with_sector content c.args.number c.args.bytes.now, ← c.record_bytes.ensures) put;
+}) (c.piece.ensures.put _ written.put)
 
 pub returns-clause-kept : goal.returns-clause-kept
 returns-clause-kept g c = λ head chip saved more n kept above place sector one.
@@ -17,4 +17,5 @@ returns-clause-kept g c = λ head chip saved more n kept above place sector one.
 
 pub returns-clause-cut : goal.returns-clause-cut
 returns-clause-cut g c = λ content written.
-    on_err_weaker c.piece.result (begins_record (vault_seen g.V.Vault.state c.piece.new.self) content c.args.number c.args.bytes.now _ c.record_bytes.ensures) (piece_refused g.V.Vault.state c.args.self.now _ _ _ c.piece.result written.put c.piece.ensures.refused)
+    rw (front-with_sector content c.args.number c.args.bytes.now, ← c.record_bytes.ensures) (IfErr-weaker
+    c.piece.result _ _ (λ fault. after_refused _ _ _ _ fault.kept written.put.told) c.piece.ensures.refused)
