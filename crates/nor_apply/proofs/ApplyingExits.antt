@@ -73,7 +73,8 @@ Halted changes wanted old new halt =
     × NamesChange changes halt
 
 module _ {changes : Changes} {wanted bytes : ℕ → ℕ} {worn : ℕ → Bool} {code writes readings spent : ℕ}
-    {old mid : BusState} {done : Tally} (so : SoFar changes wanted bytes worn code writes readings spent old mid done) where
+    {old mid : BusState} {done : Tally}
+    (so : SoFar changes wanted bytes worn code writes readings spent old mid done) where
   now_honest : old.honest ≡ true → mid.honest ≡ true
   now_honest honest = so.ran.nature.honest ∙ honest
 
@@ -169,8 +170,8 @@ lifted changes {old} wanted leaves does =
       may = λ honest can. same_change (search) can.idle (λ s. refl);
       stands = λ honest can. stands_first can;
     } in
-    code_written nothing (λ lifts can. can.writable (rw lifts refl)) leaves does (omega arith) (omega arith) (omega arith)
-    (omega arith)
+    code_written nothing (λ lifts can. can.writable (rw lifts refl)) leaves does (omega arith) (omega arith)
+    (omega arith) (omega arith)
 
 -- The raised sectors were erased too.
 abbrev pub Erased : Changes → (ℕ → ℕ) → (old now : BusState) → Tally → Type 0
@@ -310,7 +311,8 @@ module _ {changes : Changes} {wanted : ℕ → ℕ} {old free mid made : BusStat
                 let few = raised_few changes parts.inside in
                 let shut = not_set changes.unlock (omega (arith, nothing)) in
                 let plain = is ∙ not_set (writes_code changes) (omega (arith, nothing)) in
-                ap (λ (state : BusState). state.sent) (leaves.still plain) ∙ parts.program.still (omega (arith, nothing))
+                ap (λ (state : BusState). state.sent) (leaves.still plain)
+                ∙ parts.program.still (omega (arith, nothing))
                 ∙ parts.erase.still (omega (arith, nothing, few, parts.erase.fewer))
                 ∙ ap (λ (state : BusState). state.sent) (parts.lift_leaves.still shut);
             done = λ honest can. applied can (sym is) (fourth.stands honest can);

@@ -104,21 +104,13 @@ module _ {t : ℕ → Bool} {w : ℕ → ℕ} {n sent : ℕ} {old mid : BusState
       failed_tells new (Mismatch address) tells = λ honest can.
           let same = (has.looked.rested honest).unchanged.same in
           let first = tells (has.looked.nature.honest ∙ honest) (can_one honest can) in
-          let here = only-is first.in_sector in
-          record {
-            in_sector = ap t here ∙ is;
-            differs = λ old_same. first.differs (same.bytes address ∙ old_same ∙ sym (wanted_at address here));
-            before = λ a less in_set. elim (cases_eq (a / 4096) n) [
-              | inl at ↦ sym (same.bytes a) ∙ first.before a less (only-here at) ∙ wanted_at a at
-              | inr other ↦ has.same honest can a (omega arith) in_set
-            ];
-          }
+          grind (arith, same.bytes, first.differs, first.before, wanted_at, has.same honest can, nat_tests)
 
       failed_names : (fault : CheckFault) → NamesDifference (only n) fault → NamesDifference t fault
       failed_names fault told = grind (arith, only-is)
 
-      pub failed : {new : BusState} (fault : CheckFault) → Looks 1 mid new → CheckTells (only n) (byte_of n bytes) mid new fault
-          → NamesDifference (only n) fault
+      pub failed : {new : BusState} (fault : CheckFault) → Looks 1 mid new
+          → CheckTells (only n) (byte_of n bytes) mid new fault → NamesDifference (only n) fault
           → Looks (sector_count t) old new × CheckTells t w old new fault × NamesDifference t fault
       failed {new} fault looks tells names = (
         looks_after sent 1 (sector_count t) old mid new fewer has.looked looks,

@@ -26,5 +26,4 @@ locked_same x y fixed =
     ap (λ (n : ℕ). n == 1 || y.kept2 % 2 == 1) high ∙ ap (λ (n : ℕ). x.kept1 / 32 % 2 == 1 || n == 1) low
 
 pub writable_same : (x y : Chip) → y.config ≡ x.config → KeepsFixed x y → is_writable y ≡ is_writable x
-writable_same x y config fixed =
-    ap (λ b. y.config.scheme && not b) (locked_same x y fixed) ∙ ap (λ (c : _). c.scheme && not (is_locked x)) config
+writable_same x y config fixed = grind (arith, locked_same x y fixed)

@@ -155,7 +155,8 @@ module _ {sector : ℕ} {old wanted : List ℕ} {spans left : List Span} {first 
     module _ {new : BusState} (leaves : LeavesProgram (4096 * sector + span.first) (part wanted span) now new) where
       pub spans_halted : {halt : Halt} → Halts most_operation now new halt
           → NamesTimeout (4096 * sector + span.first) halt
-          → LeavesSpans sector old wanted first new × Halts most_pages first new halt × NamesTimeoutIn (only sector) halt
+          → LeavesSpans sector old wanted first new × Halts most_pages first new halt
+          × NamesTimeoutIn (only sector) halt
       spans_halted {halt} halts names =
           let few = pages_most old wanted so.whole in
           let exit = listed_halted so.listed next aims_next leaves.stirs most_pages leaves.falls halts

@@ -110,9 +110,9 @@ module _ {sector : ℕ} {erased : Bool} {bytes bytes' : List ℕ} {reads : ℕ} 
               (made_of (does.done (loads.looks.nature.honest ∙ honest) (can_spans blank honest can))));
           counted = λ honest can.
               let bytes : mid.chip.bytes ≡ first.chip.bytes = λ i a. (has_loaded blank honest can).0.bytes a i in
+              let pages = λ (x : ℕ → ℕ) (page : ℕ). is_page_other x (byte_of sector wanted) (16 * sector + page) in
               count ∙ does.counted (loads.looks.nature.honest ∙ honest) (can_spans blank honest can)
-              ∙ ap (λ (x : ℕ → ℕ). count_below 16 (λ page. is_page_other x (byte_of sector wanted) (16 * sector + page)))
-              bytes;
+              ∙ ap (λ (x : ℕ → ℕ). count_below 16 (pages x)) bytes;
         }
 
 -- ---- sector by sector

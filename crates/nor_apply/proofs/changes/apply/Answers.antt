@@ -11,14 +11,16 @@ returns-in_err-lifted-clause-names g c =
 
 pub returns-in_err-erased : goal.returns-in_err-erased
 returns-in_err-erased g c =
-    let so = lifted c.args.changes.now (g.S.Source.wanted c.args.source.now) c.write_code.ensures.leaves c.in_ok-lifted.ensures.does in
+    let so = lifted c.args.changes.now (g.S.Source.wanted c.args.source.now) c.write_code.ensures.leaves
+    c.in_ok-lifted.ensures.does in
     let halted = erases_halted so c.requires.raised c.erase_all.ensures.leaves c.in_err-erased.ensures.halts
     c.in_err-erased.ensures.names in
     grind (arith, common_steps, halted)
 
 pub returns-in_err-programmed : goal.returns-in_err-programmed
 returns-in_err-programmed g c =
-    let so = lifted c.args.changes.now (g.S.Source.wanted c.args.source.now) c.write_code.ensures.leaves c.in_ok-lifted.ensures.does in
+    let so = lifted c.args.changes.now (g.S.Source.wanted c.args.source.now) c.write_code.ensures.leaves
+    c.in_ok-lifted.ensures.does in
     let then = erased so c.requires.raised c.erase_all.ensures.leaves c.in_ok-erased.ensures.does in
     let halted = programs_halted then c.program_all.ensures.leaves c.in_err-programmed.ensures.halts
     c.in_err-programmed.ensures.names in
