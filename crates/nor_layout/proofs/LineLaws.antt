@@ -2,10 +2,8 @@
 use Rattle.std.proofs.Common.{◌≡◌, ◌∙◌, ℕ, ◌⊎◌, Bool, true, false, not, ◌&&◌, leb, eqb, ltb, List, [], ◌∷◌, ◌++◌}
 use Rattle.std.proofs.Common.{length, Option, Some, None, Result, Ok, Err, IfSome, if◌then◌else◌, refl, ap, inl, inr}
 use Rattle.std.proofs.Common.{arith}
-use Rattle.std.specs.Option.{option_map}
 use Rattle.std.specs.List.{list_all}
-use Rattle.std.proofs.lemmas.Bool.{cases_Bool, cond_both, eqb-true, eq-eqb, ltb-false, le-ltb, not-true, and_parts}
-use Rattle.std.proofs.lemmas.Bool.{and_from}
+use Rattle.std.proofs.lemmas.Bool.{cases_Bool, cond_both, eq-eqb, ltb-false, le-ltb, and_parts}
 use Rattle.std.proofs.lemmas.Bool.Decides.{nat_tests}
 use Rattle.nor_layout.specs.declared.region.Region.{Region}
 use Rattle.nor_layout.specs.declared.fault.LineFault.{LineFault}
@@ -16,19 +14,15 @@ use Rattle.nor_layout.specs.Line.{parts_say, line_says}
 use Rattle.nor_layout.specs.Grammar.{IsAddress, IsLine}
 
 -- an answer that passes two tests
-pub passes : {A E : Type 0} (bad good : Bool) (x y : A) (first second : E)
+passes : {A E : Type 0} (bad good : Bool) (x y : A) (first second : E)
     → (if bad then Err first else if good then Ok x else Err second) ≡ Ok y → (bad ≡ false) × (good ≡ true) × (x ≡ y)
-passes true good x y first second e = absurd (cc)
-passes false true x y first second e = (refl, refl, (cc))
-passes false false x y first second e = absurd (cc)
+passes bad good x y first second e = grind arith
 
 -- ---- addresses
 
 -- what stands behind an optional 0x is all, or all behind the 0x
 digits_of-is : (text : List ℕ) → (text ≡ digits_of text) ⊎ (text ≡ 48 ∷ 120 ∷ digits_of text)
-digits_of-is [] = inl refl
-digits_of-is (a ∷ []) = inl refl
-digits_of-is (a ∷ b ∷ text) = grind (arith, nat_tests)
+digits_of-is text = grind (arith, nat_tests)
 
 address_of-found : (text : List ℕ) → IfSome (digits_address text) (IsAddress text)
 address_of-found text = cond_both (are_digits (digits_of text)) _ _ (λ found. IfSome found (IsAddress text))
@@ -37,18 +31,10 @@ address_of-found text = cond_both (are_digits (digits_of text)) _ _ (λ found. I
 
 -- digits have no x
 digits_of-digits : (digits : List ℕ) → list_all is_hex_digit digits ≡ true → digits_of digits ≡ digits
-digits_of-digits [] all = refl
-digits_of-digits (a ∷ []) all = refl
-digits_of-digits (a ∷ b ∷ digits) all = grind (arith, nat_tests)
-
-all_digits : (digits : List ℕ) → are_digits digits ≡ true → list_all is_hex_digit digits ≡ true
-all_digits digits are = (and_parts (leb 1 (length digits) && leb (length digits) 8) (list_all is_hex_digit digits) are).1
+digits_of-digits digits all = grind (arith, nat_tests)
 
 address_of-taken : (text : List ℕ) (address : ℕ) → IsAddress text address → digits_address text ≡ Some address
-address_of-taken text address is =
-    let plain = digits_of-digits is.digits (all_digits is.digits is.hexadecimal) in
-    let same : digits_of text ≡ is.digits = elim is.text_is [ inl e ↦ ap digits_of e ∙ plain | inr e ↦ ap digits_of e ] in
-    rw (same, is.hexadecimal, is.address_is) refl
+address_of-taken text address is = grind (arith, nat_tests, digits_of-digits is.digits)
 
 -- ---- cuts
 
@@ -58,14 +44,7 @@ IsCut byte text parts = text ≡ parts.0 ++ byte ∷ parts.1
 
 cut_at-is : (byte : ℕ) (text : List ℕ) → IfSome (cut_at byte text) (IsCut byte text)
 cut_at-is byte [] = tt
-cut_at-is byte (b ∷ text) = elim (cases_Bool (eqb b byte)) [
-  | inl here ↦ rw here (ap (λ (c : ℕ). c ∷ text) (eqb-true b byte here))
-  | inr other ↦ rw other (elim (cut_at byte text) as (λ cut. IfSome cut (IsCut byte text)
-      → IfSome (option_map (λ (p : List ℕ × List ℕ). (b ∷ p.0, p.1)) cut) (IsCut byte (b ∷ text))) [
-        | None ↦ λ none. tt
-        | Some parts ↦ λ is. ap (λ (t : List ℕ). b ∷ t) is
-      ] (cut_at-is byte text))
-]
+cut_at-is byte (b ∷ text) = grind (arith, nat_tests, cut_at-is byte text)
 
 -- no such byte stands in the text
 abbrev lacks : ℕ → List ℕ → Bool
@@ -73,9 +52,7 @@ lacks byte text = list_all (λ b. not (eqb b byte)) text
 
 cut_at-taken : (byte : ℕ) (front rest : List ℕ) → lacks byte front ≡ true → cut_at byte (front ++ byte ∷ rest) ≡ Some (front, rest)
 cut_at-taken byte [] rest lacking = rw (eq-eqb byte byte refl) refl
-cut_at-taken byte (b ∷ front) rest lacking =
-    let p = and_parts (not (eqb b byte)) (lacks byte front) lacking in
-    rw (not-true (eqb b byte) p.0, cut_at-taken byte front rest p.1) refl
+cut_at-taken byte (b ∷ front) rest lacking = grind (arith, nat_tests, cut_at-taken byte front rest)
 
 -- ---- spaces
 
@@ -96,9 +73,7 @@ without_spaces-taken : (spaces name : List ℕ) → list_all (λ b. eqb b 32) sp
     → without_spaces (spaces ++ name) ≡ name
 without_spaces-taken [] [] blank all = refl
 without_spaces-taken [] (b ∷ name) blank all = grind (arith, nat_tests)
-without_spaces-taken (b ∷ spaces) name blank all =
-    let p = and_parts (eqb b 32) (list_all (λ b. eqb b 32) spaces) blank in
-    rw p.0 (without_spaces-taken spaces name p.1 all)
+without_spaces-taken (b ∷ spaces) name blank all = grind (arith, nat_tests, without_spaces-taken spaces name)
 
 -- ---- lines
 
@@ -106,16 +81,12 @@ without_spaces-taken (b ∷ spaces) name blank all =
 digits_lack : (byte : ℕ) → is_hex_digit byte ≡ false → (digits : List ℕ) → list_all is_hex_digit digits ≡ true
     → lacks byte digits ≡ true
 digits_lack byte other [] all = refl
-digits_lack byte other (digit ∷ digits) all =
-    let p = and_parts (is_hex_digit digit) (list_all is_hex_digit digits) all in
-    and_from (not (eqb digit byte)) _ (grind (arith, nat_tests)) (digits_lack byte other digits p.1)
+digits_lack byte other (digit ∷ digits) all = grind (arith, nat_tests, digits_lack byte other digits)
 
 address_lacks : (byte : ℕ) → is_hex_digit byte ≡ false → eqb 120 byte ≡ false → eqb 48 byte ≡ false
     → (text : List ℕ) (address : ℕ)
     → IsAddress text address → lacks byte text ≡ true
-address_lacks byte other no_x no_0 text address is =
-    let digits = digits_lack byte other is.digits (all_digits is.digits is.hexadecimal) in
-    elim is.text_is [ inl e ↦ rw e digits | inr e ↦ rw (e, no_0, no_x) digits ]
+address_lacks byte other no_x no_0 text address is = grind (arith, nat_tests, digits_lack byte other is.digits)
 
 pub line_says-taken : (line : List ℕ) (region : Region) → IsLine line region → line_says line ≡ Ok region
 line_says-taken line region is =
