@@ -1,12 +1,11 @@
 -- Places that rise, one after the other.
 use Rattle.std.proofs.Common.{◌≡◌, ℕ, ◌<◌, false, List, [], ◌∷◌, refl, arith}
-use Rattle.std.proofs.lemmas.Bool.{lt-leb, and_left, or_from}
+use Rattle.std.proofs.lemmas.Bool.Decides.{nat_tests}
 use Rattle.nor_layout.specs.declared.places.Places.{Places}
-use Rattle.nor_layout.specs.Places.{is_in_places, is_covered, AreRisingFrom}
+use Rattle.nor_layout.specs.Places.{is_covered, AreRisingFrom}
 
 -- nothing is covered below the first place
 pub is_covered-below : (first : ℕ) (all : List Places) (at : ℕ) → AreRisingFrom first all → at < first → is_covered all at ≡ false
 is_covered-below first [] at rising lt = refl
 is_covered-below first (places ∷ more) at rising lt =
-    or_from (is_in_places places at) (is_covered more at) (and_left _ _ (lt-leb places.start at (omega (arith, lt, rising.0))))
-    (is_covered-below places.end more at rising.3 (omega (arith, lt, rising.0, rising.1)))
+    grind (arith, nat_tests, is_covered-below places.end more at rising.3)
