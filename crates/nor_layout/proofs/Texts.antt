@@ -3,7 +3,7 @@ use Rattle.std.proofs.Common.{◌≡◌, ◌≢◌, ◌∙◌, ℕ, ◌+◌, ◌
 use Rattle.std.proofs.Common.{filter, append_assoc, Result, Ok, Err, refl, sym, ap, inl, inr, arith}
 use Rattle.std.specs.Str.{bytes_eq}
 use Rattle.std.specs.List.{AllByRecursion, AllZip}
-use Rattle.std.proofs.lemmas.Bool.{cases_Bool, ltb-true, lt-ltb, or_parts, or_from}
+use Rattle.std.proofs.lemmas.Bool.{cases_Bool, ltb-true, lt-ltb}
 use Rattle.std.proofs.lemmas.Bool.Decides.{same_from_decides, Decides-like}
 use Rattle.std.proofs.lemmas.List.{length-append, append-nil}
 use Rattle.std.proofs.lemmas.List.Folds.{list_any-append}
@@ -31,23 +31,18 @@ push_apart : (regions : List Region) (region : Region) → AreNamedApart regions
     → is_region_named regions region.name.items ≡ false → AreNamedApart (regions ++ region ∷ [])
 push_apart [] region apart once = (refl, tt)
 push_apart (first ∷ regions) region apart once =
-    let name = first.name.items in
-    let parts = or_parts (bytes_eq name region.name.items) (is_region_named regions region.name.items) once in (
-      list_any-append (λ (r : Region). bytes_eq r.name.items name) regions (region ∷ [])
-          ∙ rw (apart.0, bytes_eq-swap region.name.items name, parts.0) refl,
-      push_apart regions region apart.1 parts.1,
-    )
+    let swap = bytes_eq-swap region.name.items first.name.items in
+    let named = list_any-append (λ (r : Region). bytes_eq r.name.items first.name.items) regions (region ∷ []) in
+    (grind arith, push_apart regions region apart.1 (grind arith))
 
 -- a region behind others has another name than each of them
 named_before : (regions : List Region) (region : Region) (more : List Region) → AreNamedApart (regions ++ region ∷ more)
     → is_region_named regions region.name.items ≡ false
 named_before [] region more apart = refl
 named_before (first ∷ regions) region more apart =
-    let name = first.name.items in
-    let all = sym (list_any-append (λ (r : Region). bytes_eq r.name.items name) regions (region ∷ more)) ∙ apart.0 in
-    let late = or_parts (is_region_named regions name) (is_region_named (region ∷ more) name) all in
-    let here = or_parts (bytes_eq region.name.items name) (is_region_named more name) late.1 in
-    or_from _ _ (bytes_eq-swap name region.name.items ∙ here.0) (named_before regions region more apart.1)
+    let swap = bytes_eq-swap first.name.items region.name.items in
+    let named = list_any-append (λ (r : Region). bytes_eq r.name.items first.name.items) regions (region ∷ more) in
+    grind (arith, named_before regions region more apart.1)
 
 push_forward : (regions : List Region) (region : Region) → AllByRecursion (λ (r : Region). r.start ≤ r.end) regions
     → region.start ≤ region.end → AllByRecursion (λ (r : Region). r.start ≤ r.end) (regions ++ region ∷ [])
