@@ -15,7 +15,7 @@ use Rattle.nor_chip.proofs.Steps.{done-agrees}
 use Rattle.nor_driver.specs.Looks.{Unchanged, Stays}
 use Rattle.nor_driver.specs.Waits.{HasWaited, latch_when_idle}
 use Rattle.nor_driver.specs.Operations.{operation_of, is_operation_or_none, AsksForOperation, MayOperate, HasOperated}
-use Rattle.nor_driver.proofs.Readings.{Wore, no_operation, or_ignored}
+use Rattle.nor_driver.proofs.Readings.{Wore, no_operation}
 
 -- After write enable: an idle chip has its latch set, and nothing else changed.
 pub record IsEnabled (old new : BusState) : Type 0 where
@@ -24,34 +24,19 @@ pub record IsEnabled (old new : BusState) : Type 0 where
   pub latch : new.chip.latch ≡ (if is_idle old.chip then true else old.chip.latch)
   pub count : old.left ≡ new.left + 1
 
-enabled_by : (idle : Bool) (old new : BusState) → Does (cond idle WriteEnable Ignored) [] old.chip [] new.chip
-    → Wore (cond idle WriteEnable Ignored) old new
-    → Unchanged old new × (new.chip.busy ≡ old.chip.busy) × (new.chip.latch ≡ (if idle then true else old.chip.latch))
-enabled_by true old new does wore = (no_operation WriteEnable [] [] old new refl does wore, does.busy, does.latch)
-enabled_by false old new does wore = (no_operation Ignored [] [] old new refl does wore, does.busy, does.latch)
-
 pub enabled : (old new : BusState) (answer : List ℕ) → length answer ≡ 0 → Carries (6 ∷ []) answer old new
     → IsEnabled old new
 enabled old new [] none carries =
-    let is = enabled_by (is_idle old.chip) old new carries.step carries.worn in
-    record { unchanged = is.0; busy = is.1; latch = is.2; count = carries.left }
+    let nothing = no_operation (done_of old.chip (6 ∷ []) 0) [] [] old new in
+    grind (arith, nothing, carries.step, carries.worn)
 enabled old new (byte ∷ rest) none carries = absurd (omega arith)
-
--- a busy chip carries no operation out
-busy-refuses : (chip : Chip) (command : Command) → is_operation_or_none command ≡ true → (chip.busy == 0) ≡ false
-    → cond (is_carried_out chip command) command Ignored ≡ Ignored
-busy-refuses chip Ignored is busy = refl
-busy-refuses chip _ is busy = cc
 
 -- what the command does then is what the operation does
 pub then_done : (out : List ℕ) (old ready : BusState) → AsksForOperation out → IsEnabled old ready
     → done_of ready.chip out 0 ≡ operation_of old.chip out
 then_done out old ready asks enabling = elim (eqb_tells old.chip.busy 0) [
   | inl idle ↦ done-agrees (record old.chip { latch = true }) ready.chip out 0 (grind arith)
-  | inr busy ↦
-      busy-refuses ready.chip (command_of ready.chip.config out 0) (asks ready.chip.config) (rw enabling.busy busy.0)
-      ∙ sym (busy-refuses (record old.chip { latch = true }) (command_of old.chip.config out 0)
-      (asks old.chip.config) busy.0)
+  | inr busy ↦ grind (arith, asks old.chip.config)
 ]
 
 -- what is no operation, of what an operation may ask for, is ignored
@@ -62,11 +47,7 @@ operation-ignored chip out asks none = grind (arith, asks chip.config)
 -- an operation that is done is that of an idle chip
 pub idle-takes : (chip : Chip) (out : List ℕ) → AsksForOperation out → is_operation (operation_of chip out) ≡ true
     → chip.busy ≡ 0
-idle-takes chip out asks is = elim (eqb_tells chip.busy 0) [
-  | inl idle ↦ idle.1
-  | inr busy ↦ absurd (cc (busy-refuses (record chip { latch = true }) (command_of chip.config out 0)
-      (asks chip.config) busy.0))
-]
+idle-takes chip out asks is = grind (arith, asks chip.config, nat_tests)
 
 -- An operation has begun: its effect is there, and the chip is busy for a while, or not at all.
 pub record HasBegun (command : Command) (sent : List ℕ) (old new : BusState) : Type 0 where
@@ -81,34 +62,20 @@ pub record HasBegun (command : Command) (sent : List ℕ) (old new : BusState) :
 pub operation-begins : (command : Command) (sent answer : List ℕ) (old ready new : BusState)
     → is_operation command ≡ true → Unchanged old ready → Does command sent ready.chip answer new.chip
     → Wore command ready new → HasBegun command sent old new
-operation-begins Ignored sent answer old ready new is same does wore = absurd cc
-operation-begins _ sent answer old ready new is same does wore = record {
-  config = cc;
-  bytes = λ a. cc (does.bytes a, same.same.bytes a);
-  kept1 = cc;
-  kept2 = cc;
-  running = cc;
-  latch = cc;
-  worn = λ s. cc (wore s, same.worn s);
-}
+operation-begins command sent answer old ready new is same does wore = grind (arith, same.same.bytes, same.worn, wore)
 
 -- the bytes outside what an operation aims at stay
 outside-work : (chip : Chip) (command : Command) (sent : List ℕ) (a : ℕ)
     → is_in_work (running_after chip command) a ≡ false → is_operation command ≡ true
     → byte_after chip command sent a ≡ chip.bytes a
-outside-work chip Ignored sent a out is = refl
-outside-work chip _ sent a out is = cc
+outside-work chip command sent a out is = grind arith
 
 -- the kept bits of an operation that is cut off
 kept-cut : (command : Command) (old begun new : Chip) → is_operation command ≡ true
     → begun.kept1 ≡ kept1_after old command → begun.kept2 ≡ kept2_after old command
     → KeptCut (running_after old command) begun new
     → KeptStay old new ⊎ ((new.kept1 ≡ kept1_after old command) × (new.kept2 ≡ kept2_after old command))
-kept-cut (WriteStatus one two) old begun new is kept1 kept2 (inl still) = inr (still.0 ∙ kept1, still.1 ∙ kept2)
-kept-cut (WriteStatus one two) old begun new is kept1 kept2 (inr back) = inl back
-kept-cut (Program at) old begun new is kept1 kept2 cut = inl (cut.0 ∙ kept1, cut.1 ∙ kept2)
-kept-cut (Erase start len) old begun new is kept1 kept2 cut = inl (cut.0 ∙ kept1, cut.1 ∙ kept2)
-kept-cut _ old begun new is kept1 kept2 cut = absurd cc
+kept-cut command old begun new is kept1 kept2 cut = grind arith
 
 -- where the operation hadn't begun
 pub may-before : (command : Command) (sent : List ℕ) (old new : BusState) → old.chip.busy ≡ 0 → Stays old new
@@ -123,15 +90,9 @@ may-after command sent old begun new is steady has stays =
     let kept = kept-cut command old.chip begun.chip new.chip is has.kept1 has.kept2 in
     grind (arith, stays.calm, has.bytes, stays.bytes, outside, stays.worn, has.worn, or-false, kept)
 
--- the latch once the chip is idle again
-latch-ends : (idle latch : Bool) → latch ≡ not idle → cond idle latch false ≡ false
-latch-ends true latch is = is
-latch-ends false latch is = refl
-
 pub operated : (command : Command) (sent : List ℕ) (old begun new : BusState) (waited : _)
     → HasBegun command sent old begun → HasWaited begun new waited → HasOperated command sent old new
-operated command sent old begun new waited has waits =
-    grind (arith, latch-ends (begun.chip.busy == 0) begun.chip.latch has.latch)
+operated command sent old begun new waited has waits = grind (arith, nat_tests)
 
 -- the latch of a chip that ignored the operation
 pub latch-kept : (old ready begun : BusState) → IsEnabled old ready → begun.chip.latch ≡ ready.chip.latch

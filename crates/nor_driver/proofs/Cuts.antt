@@ -10,18 +10,12 @@ use Rattle.nor_driver.specs.Looks.{IsCalm, Unchanged, Stays}
 
 -- kept bits that stayed weren't cut off
 kept_cut-stay : (running : Running) (old new : Chip) → KeptStay old new → KeptCut running old new
-kept_cut-stay (StatusWrite one two) old new stay = inl stay
-kept_cut-stay Unknown old new stay = tt
-kept_cut-stay _ old new stay = stay
+kept_cut-stay running old new stay = grind arith
 
 -- kept bits of what was cut off already
 cut_again : (running : Running) (old mid new : Chip) → KeptCut running old mid → KeptCut running mid new
     → KeptCut running old new
-cut_again (StatusWrite one two) old mid new first (inr back) = inr back
-cut_again (StatusWrite one two) old mid new (inl stay) (inl still) = inl (still.0 ∙ stay.0, still.1 ∙ stay.1)
-cut_again (StatusWrite one two) old mid new (inr back) (inl still) = inr (still.0 ∙ back.0, still.1 ∙ back.1)
-cut_again Unknown old mid new first second = tt
-cut_again _ old mid new first second = (second.0 ∙ first.0, second.1 ∙ first.1)
+cut_again running old mid new first second = grind arith
 
 pub same_then : (old mid new : Chip) → IsSame old mid → IsSame mid new → IsSame old new
 same_then old mid new first second = grind arith
@@ -48,7 +42,7 @@ pub stays_then : (old mid new : BusState) → mid.steady ≡ old.steady → Stay
 stays_then old mid new steady first second =
     let cut = cut_again old.chip.running old.chip mid.chip new.chip first.kept in
     let stay = kept_cut-stay old.chip.running mid.chip new.chip in
-    grind (arith, first.calm, second.calm, first.bytes, second.bytes, first.running, second.running, first.worn, second.worn, cut, stay)
+    grind (arith, first.calm, second.calm, first.bytes, second.bytes, first.worn, second.worn, cut, stay)
 
 pub stays_after : (old mid new : BusState) → mid.steady ≡ old.steady → Unchanged old mid → Stays mid new → Stays old new
 stays_after old mid new steady first second = stays_then old mid new steady (unchanged_stays old mid first) second

@@ -22,22 +22,13 @@ Wore command old new = (s : ℕ) → new.worn s ≡ (old.worn s || wears command
 -- what no operation leaves
 pub no_operation : (command : Command) (sent answer : List ℕ) (old new : BusState) → is_operation command ≡ false
     → Does command sent old.chip answer new.chip → Wore command old new → Unchanged old new
-no_operation (WriteStatus one two) sent answer old new is does wore = absurd cc
-no_operation (Program at) sent answer old new is does wore = absurd cc
-no_operation (Erase start len) sent answer old new is does wore = absurd cc
-no_operation _ sent answer old new is does wore = record {
-  same = assumption;
-  running = does.running;
-  busy = omega (arith, does.busy);
-  worn = λ s. wore s ∙ or-false (old.worn s);
-}
+no_operation command sent answer old new is does wore = grind (arith, wore, or-false)
 
 -- what a command that changes nothing leaves
 nothing_done : (command : Command) (sent answer : List ℕ) (old new : Chip) → changes_nothing command ≡ true
     → Does command sent old answer new
     → (is_operation command ≡ false) × (new.busy ≡ old.busy) × (new.latch ≡ old.latch)
-nothing_done Ignored sent answer old new is does = (refl, does.busy, does.latch)
-nothing_done _ sent answer old new is does = first_of (cc, assumption)
+nothing_done command sent answer old new is does = grind arith
 
 carried_by : (out answer : List ℕ) (old new : BusState)
     → changes_nothing (done_of old.chip out (length answer)) ≡ true → Carries out answer old new → HasRead old new
@@ -46,18 +37,10 @@ carried_by out answer old new is carries =
     let none = nothing_done command _ answer old.chip new.chip is carries.step in
     grind (arith, no_operation command _ answer old new none.0 carries.step carries.worn)
 
--- a command and what is done where it isn't carried out pass one test
-pub or_ignored : (test : Command → Bool) (carried : Bool) (command : Command) → test Ignored ≡ true
-    → test command ≡ true → test (cond carried command Ignored) ≡ true
-or_ignored test true command none is = is
-or_ignored test false command none is = none
-
 carried_reading : (out answer : List ℕ) (old new : BusState) → IsReading out → Carries out answer old new
     → HasRead old new
 carried_reading out answer old new is carries =
-    let command = command_of old.chip.config out (length answer) in
-    carried_by out answer old new (or_ignored changes_nothing (is_carried_out old.chip command) command refl
-    (is.reading old.chip.config (length answer))) carries
+    carried_by out answer old new (grind (arith, is.reading old.chip.config (length answer))) carries
 
 -- the command that is ignored leaves what a reading leaves
 pub carried_ignored : (out answer : List ℕ) (old new : BusState) → done_of old.chip out (length answer) ≡ Ignored
@@ -98,21 +81,15 @@ pub read_leaves : {T E : Type 0} (outcome : Result T E) (out answer : List ℕ) 
 read_leaves outcome out answer old new is sends stops carries = record {
   nature = sends.nature;
   sent = sends.sent.quiet is.quiet;
-  looked = λ honest. elim outcome as (λ r. OnErr r (Stops old new) → OnOk r (Carries out answer old new)
-      → LooksHonest 1 old new) [
-        | Ok value ↦ λ _ done.
-            let read = carried_reading out answer old new is done in looked_by old new 1 read.rested read.count
-        | Err fault ↦ λ stopped _. looked_at_stop old new 1 stopped
-      ] (stops honest) (carries honest);
+  looked = λ honest.
+      let carried = carried_reading out answer old new is in
+      let stopped = looked_at_stop old new 1 in
+      grind (arith, stops honest, carries honest, carried, stopped, looked_by old new 1);
 }
 
 pub read_does : {T E : Type 0} (outcome : Result T E) (out answer : List ℕ) (old new : BusState) → IsReading out
     → (old.honest ≡ true → OnOk outcome (Carries out answer old new)) → OnOk outcome (Replies out old new answer)
-read_does (Ok value) out answer old new is carries = record {
-  read = λ honest. carried_reading out answer old new is (carries honest);
-  told = λ honest. (carries honest).step.replies;
-}
-read_does (Err fault) out answer old new is carries = tt
+read_does outcome out answer old new is carries = grind (arith, carries, carried_reading out answer old new is)
 
 -- what reads is no poll
 no_poll : (config : Config) (out : List ℕ) → IsReading out → is_poll out ≡ false
@@ -125,5 +102,5 @@ no_poll config _ is = refl
 -- so what was heard before is what is heard
 pub read_heard : (outcome : Result Unit Stopped) (out answer : List ℕ) (old new : BusState) → IsReading out
     → Hears out answer outcome old new → new.heard ≡ old.heard
-read_heard (Ok done) out answer old new is hears = hears.told ∙ rw (no_poll old.chip.config out is) refl
-read_heard (Err stopped) out answer old new is hears = hears.stopped
+read_heard outcome out answer old new is hears =
+    grind (arith, no_poll old.chip.config out is, hears.told, hears.stopped)
