@@ -1,5 +1,5 @@
 -- What the spans of the pages tell.
-use Rattle.std.proofs.Common.{ℕ, zero, suc, ◌≡◌, ◌<◌, ◌≤◌, ◌+◌, ◌-◌, ◌*◌, ◌/◌, min, Bool, true, false, cond, List, [], ◌∷◌, All, Option, Some, None, filter, length, get_or, refl, sym, ap, ◌∙◌, inl, inr, arith}
+use Rattle.std.proofs.Common.{ℕ, zero, suc, ◌≡◌, ◌<◌, ◌≤◌, ◌+◌, ◌-◌, ◌*◌, ◌/◌, min, Bool, true, cond, List, [], ◌∷◌, All, Option, Some, None, filter, length, get_or, refl, sym, ap, ◌∙◌, inl, inr, arith}
 use Rattle.std.specs.Prelude.{AllPairs, is_some, count_by}
 use Rattle.std.specs.List.{cons_option, list_any, range_with_len}
 use Rattle.std.proofs.lemmas.Bool.{cases_eq, cases_Bool, both_ways, and_parts, and_from, or_left, or_right, le-leb, leb-true}

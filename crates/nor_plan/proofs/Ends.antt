@@ -4,7 +4,7 @@ use Rattle.std.specs.Prelude.{MatchOption}
 use Rattle.std.specs.List.{range_with_len}
 use Rattle.std.proofs.lemmas.Bool.{cases_eq, cases_Bool, both_ways}
 use Rattle.nor_plan.specs.declared.page.Span.{Span}
-use Rattle.nor_plan.specs.Span.{last_of, ends}
+use Rattle.nor_plan.specs.Span.{ends}
 
 -- the first and the last of some numbers, where there are any
 abbrev pub AreEnds : (ℕ → Type 0) → Option Span → Type 0

@@ -1,13 +1,12 @@
 -- From the bounds of a page, taken as a slice of its own, to its span.
-use Rattle.std.proofs.Common.{ℕ, ◌≡◌, ◌≢◌, ◌<◌, ◌≤◌, ◌+◌, ◌-◌, ◌*◌, ◌/◌, min, Bool, not, nat_eq, List, [], ◌∷◌, length, get_or, Some, None, inl, inr, sym, ap, ◌∙◌, arith, suc}
+use Rattle.std.proofs.Common.{ℕ, ◌≡◌, ◌<◌, ◌≤◌, ◌+◌, ◌-◌, ◌*◌, ◌/◌, min, Bool, not, nat_eq, List, [], ◌∷◌, length, get_or, Some, None, inl, inr, sym, ap, ◌∙◌, arith, suc}
 use lib.Lanes.{chunk}
-use Rattle.std.specs.List.{cons_option}
 use Rattle.std.specs.Int.{div_ceil}
 use Rattle.std.proofs.lemmas.Simd.{length-chunk, get_or-chunk}
 use Rattle.std.proofs.lemmas.Bool.{cases_lt}
 use Rattle.nor_plan.specs.declared.page.Span.{Span}
 use Rattle.nor_plan.specs.Bytes.{AllAgree, DifferAt, IsFirstDifference, IsLastDifference}
-use Rattle.nor_plan.specs.Span.{page_span, spans_in, spans_from, page_count}
+use Rattle.nor_plan.specs.Span.{page_span, spans_from, page_count}
 use Rattle.nor_plan.proofs.Masks.{other_from_test, test_from_other}
 use Rattle.nor_plan.proofs.Ends.{AreEnds, ends_once, ends_like, Passes, ends_of}
 

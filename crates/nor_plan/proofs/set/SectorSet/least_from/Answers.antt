@@ -1,4 +1,4 @@
-use Rattle.std.proofs.Common.{◌≡◌, ◌<◌, ◌*◌, ◌/◌, ◌%◌, ◌^◌, length, get_or, rules, refl, inl, inr, arith}
+use Rattle.std.proofs.Common.{◌*◌, ◌/◌, ◌%◌, get_or, rules, refl, inl, inr, arith}
 use Rattle.std.proofs.lemmas.Bool.{cases_lt}
 use Rattle.nor_plan.proofs.Words.{none_past, none_in_word, least_in_word}
 use Rattle.nor_plan.proofs.set.SectorSet.least_from.Goals as goal
