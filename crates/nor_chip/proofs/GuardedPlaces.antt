@@ -1,9 +1,9 @@
 -- Guarded places lie at the chip's ends and end at whole KiB.
-use Rattle.std.proofs.Common.{◌≡◌, ℕ, zero, suc, ◌+◌, ◌-◌, ◌*◌, ◌/◌, ◌%◌, ◌^◌, ◌<◌, ◌≤◌, ◌⊎◌, inl, inr, arith, refl, sym, ◌∙◌}
+use Rattle.std.proofs.Common.{◌≡◌, ℕ, zero, suc, ◌+◌, ◌-◌, ◌*◌, ◌/◌, ◌%◌, ◌^◌, ◌<◌, ◌≤◌, ◌⊎◌, inl, inr, arith, refl}
+use Rattle.std.proofs.Common.{◌∙◌}
 use Rattle.std.specs.Prelude.{Bool, true, false, not, ◌==◌, ◌&&◌, ◌||◌, ◌↔◌, nat_lt, nat_le, if◌then◌else◌}
-use Rattle.std.proofs.lemmas.Bool.{lt-ltb, le-leb, le-ltb, ltb-true, leb-true}
+use Rattle.std.proofs.lemmas.Bool.{lt-ltb, le-ltb}
 use Rattle.std.proofs.lemmas.Bool.Decides.{nat_tests}
-use Rattle.std.proofs.Math.Bool.{or-true}
 use Rattle.nor_chip.proofs.Sizes.{IsInBlocks}
 use Rattle.nor_chip.specs.Offer.{GuardsExactly}
 use Rattle.nor_chip.specs.Guard.{guarded_by, named_length, is_undefined, is_complement, is_bottom, names_sectors, bp_of}
@@ -51,7 +51,7 @@ place_test-end : (size named : ℕ) (undefined complement bottom : Bool) → siz
     → LieAtAnEnd size (place_test size named undefined complement bottom)
 unfolding place_test
 place_test-end size named true complement bottom blocks part =
-    ends_at size (omega arith) (inl (λ a below. rw (lt-ltb a size below) refl))
+    ends_at size (omega arith) (inl (λ a below. grind (arith, nat_tests)))
 place_test-end size named false true true blocks part =
     ends_at named part (inr (λ a below. rw (lt-ltb a size below) (not_lt a named)))
 place_test-end size named false true false blocks part =
@@ -75,29 +75,20 @@ unfolding guarded_by
 guarded_by-past size code a past = rw (le-ltb a size past) refl
 
 -- a test at an end of the chip is one and the same all over a page
-alike_lt : (border a b : ℕ) → border % 1024 ≡ 0 → a / 256 ≡ b / 256 → nat_lt a border ≡ nat_lt b border
-alike_lt border a b whole page = grind (arith, nat_tests)
-
 alike : (size : ℕ) (test : ℕ → Bool) (a b : ℕ) → LieAtAnEnd size test → a < size → b < size → a / 256 ≡ b / 256
     → test a ≡ test b
 alike size test a b ends below_a below_b page =
-    let same = alike_lt ends.border a b ends.whole page in
-    elim ends.side [
-      | inl first ↦ first a below_a ∙ same ∙ sym (first b below_b)
-      | inr last ↦ last a below_a ∙ (rw (← not_lt a ends.border, ← not_lt b ends.border, same)) ∙ sym (last b below_b)
+    let whole = ends.whole in elim ends.side [
+      | inl first ↦ grind (arith, nat_tests, first a below_a, first b below_b)
+      | inr last ↦ grind (arith, nat_tests, last a below_a, last b below_b)
     ]
 
 -- where a test at an end of the chip holds somewhere in a stretch, it holds at its first place or its last one
 pub at_borders : (size : ℕ) (test : ℕ → Bool) (start len a : ℕ) → LieAtAnEnd size test → start + len ≤ size → start ≤ a
     → a < start + len → test a ≡ true → (test start || test (start + len - 1)) ≡ true
 at_borders size test start len a ends fits from before holds = elim ends.side [
-  | inl first ↦
-      let low = ltb-true a ends.border (sym (first a (omega arith)) ∙ holds) in
-      rw (first start (omega arith), lt-ltb start ends.border (omega arith)) refl
-  | inr last ↦
-      let high = leb-true ends.border a (sym (last a (omega arith)) ∙ holds) in
-      rw (last (start + len - 1) (omega arith), le-leb ends.border (start + len - 1) (omega arith))
-      (or-true (test start))
+  | inl first ↦ grind (arith, nat_tests, first a (omega arith), first start (omega arith))
+  | inr last ↦ grind (arith, nat_tests, last a (omega arith), last (start + len - 1) (omega arith))
 ]
 
 -- A page has a guarded place exactly where any one place of it is guarded.
@@ -116,27 +107,12 @@ pub record ArePlaces (size named : ℕ) (complement bottom : Bool) (start len : 
   pub start_is : 0 < len
       → start ≡ (if complement then (if bottom then size - len else 0) else (if bottom then 0 else size - len))
 
--- the first places of the chip, and the last ones
-first_places : (size n start len a : ℕ) → n ≤ size → len ≡ n → (0 < len → start ≡ 0)
-    → ((nat_lt a size && nat_lt a n) ≡ true) ↔ ((start ≤ a) × (a < start + len))
-first_places size n start len a within long begin = grind (arith, nat_tests)
-
-last_places : (size n start len a : ℕ) → n ≤ size → len ≡ size - n → (0 < len → start ≡ n)
-    → ((nat_lt a size && nat_le n a) ≡ true) ↔ ((start ≤ a) × (a < start + len))
-last_places size n start len a within long begin = grind (arith, nat_tests)
-
 place_test-exactly : (size named : ℕ) (complement bottom : Bool) (start len : ℕ) → named ≤ size
     → ArePlaces size named complement bottom start len → (a : ℕ)
     → (place_test size named false complement bottom a ≡ true) ↔ ((start ≤ a) × (a < start + len))
 unfolding place_test
-place_test-exactly size named false true start len within are a =
-    first_places size named start len a within are.len_is are.start_is
-place_test-exactly size named false false start len within are a =
-    last_places size (size - named) start len a (omega arith) (omega arith) (omega arith)
-place_test-exactly size named true true start len within are a =
-    rw (not_lt a named) (last_places size named start len a within are.len_is (omega arith))
-place_test-exactly size named true false start len within are a =
-    rw (not_le a (size - named)) (first_places size (size - named) start len a (omega arith) are.len_is are.start_is)
+place_test-exactly size named complement bottom start len within are a =
+    let long = are.len_is in let begin = are.start_is in grind (arith, nat_tests)
 
 -- The places of a defined code, as a start and a length.
 pub guards_places : (size code start len : ℕ) → IsInBlocks size → is_undefined code ≡ false

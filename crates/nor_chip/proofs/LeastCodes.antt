@@ -1,7 +1,7 @@
 -- Which codes guard exactly the same places.
-use Rattle.std.proofs.Common.{◌≡◌, ℕ, ◌+◌, ◌-◌, ◌<◌, ◌≤◌, ◌⊎◌, inl, inr, arith, ap}
+use Rattle.std.proofs.Common.{◌≡◌, ℕ, ◌+◌, ◌-◌, ◌<◌, ◌⊎◌, inl, inr, arith, ap}
 use Rattle.std.specs.Prelude.{Option, None, Some, IfSome, IfNone, Bool, not, ◌||◌, ◌==◌, if◌then◌else◌}
-use Rattle.std.proofs.lemmas.Bool.{cases_lt, cases_order}
+use Rattle.std.proofs.lemmas.Bool.{cases_order}
 use Rattle.std.proofs.lemmas.Bool.Decides.{nat_tests}
 use mathlib.Core.Bool.{beq}
 use Rattle.nor_chip.specs.Offer.{GuardsExactly, IsLeastCode, IsNotOffered}
@@ -20,20 +20,8 @@ guards-alike size code start len start' len' guards alike a =
 pub alike-guards : (size code start len start' len' : ℕ) → GuardsExactly size code start len
     → GuardsExactly size code start' len' → AreAlike start len start' len'
 alike-guards size code start len start' len' guards guards' =
-    let to : (a : ℕ) → (start ≤ a) × (a < start + len) → (start' ≤ a) × (a < start' + len') =
-    λ a within. (guards' a).0 ((guards a).1 within) in
-    let back : (a : ℕ) → (start' ≤ a) × (a < start' + len') → (start ≤ a) × (a < start + len) =
-    λ a within. (guards a).0 ((guards' a).1 within) in
-    elim (cases_lt 0 len) [
-      | inl some ↦
-          let first = to start (omega arith) in let last = to (start + len - 1) (omega arith) in
-          let first' = back start' (omega arith) in let last' = back (start' + len' - 1) (omega arith) in
-          record { as_long = omega arith; alike = inr (omega arith) }
-      | inr none ↦ elim (cases_lt 0 len') [
-        | inl some ↦ absurd (omega (arith, back start' (omega arith)))
-        | inr none' ↦ record { as_long = omega arith; alike = inl (omega arith) }
-      ]
-    ]
+    grind (arith, guards start, guards' start, guards (start + len - 1), guards' (start + len - 1), guards start',
+    guards' start', guards (start' + len' - 1), guards' (start' + len' - 1))
 
 -- a set has one least code: that of the places of a code that is a least one is that very code
 pub least_found : (size code start len start' len' : ℕ) (found : Option ℕ) → IfSome found (IsLeastCode size start' len')

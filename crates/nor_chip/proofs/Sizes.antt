@@ -1,9 +1,8 @@
 -- What the sizes of chips have in common.
 use Rattle.std.proofs.Common.{◌≡◌}
 use Rattle.std.specs.Prelude.{Bool, true}
-pub use Rattle.nor_count.proofs.Sizes.{IsInBlocks, single_one, is_chip_size-in_blocks, is_chip_size-from}
-pub use Rattle.nor_count.proofs.Sizes.{is_chip_size-power_of_two}
-pub use Rattle.nor_count.proofs.Sizes.{count_ones-pow, is_power_of_two-size}
+pub use Rattle.nor_count.proofs.Sizes.{IsInBlocks, is_chip_size-in_blocks, is_chip_size-from}
+pub use Rattle.nor_count.proofs.Sizes.{is_chip_size-power_of_two, is_power_of_two-size}
 use Rattle.nor_count.proofs.Below.{same_tests}
 use Rattle.nor_chip.specs.declared.config.Config.{Config}
 
