@@ -1,35 +1,21 @@
 -- What a change may leave of a file.
-use Rattle.std.proofs.Common.{◌≡◌, ◌∙◌, ◌≤◌, ◌⊎◌, ℕ, Bool, List, Some, Result, Ok, refl, sym, ap, subst, inl, inr}
-use Rattle.std.proofs.Common.{arith, length, length-append, length-drop, length-take-le, take, is_some, option_map}
-use Rattle.std.proofs.lemmas.Bool.{cases_lt}
+use Rattle.std.proofs.Common.{◌≡◌, ◌∙◌, ◌≤◌, ◌⊎◌, ℕ, List, Some, Result, Ok, refl, sym, ap, subst, arith, length, take}
+use Rattle.std.proofs.Common.{option_map}
 use Rattle.std.proofs.lemmas.List.{take_all}
 use Rattle.std.proofs.lemmas.Grind.{common_steps}
 use Rattle.nor_files.specs.Files.{Found}
 use Rattle.nor_files.specs.Calls.{IsMixed, with_length, written_over}
-use Rattle.nor_files.specs.Stored.{Becomes, FileSets, FileWrites, IsChanged, IsMixOf, MayBe, MayLeave, OrMissing}
-use Rattle.nor_files.specs.Stored.{bytes_in, file_in, found_in, seen_may_be}
+use Rattle.nor_files.specs.Stored.{Becomes, FileSets, FileWrites, IsChanged, IsMixOf, MayBe, MayLeave, bytes_in}
+use Rattle.nor_files.specs.Stored.{file_in, found_in, seen_may_be}
 use Rattle.nor_files.specs.declared.stored.Change.{Change}
-use Rattle.nor_files.specs.declared.stored.Change.TheVariants.{Cut, Lent, Written}
+use Rattle.nor_files.specs.declared.stored.Change.TheVariants.{Cut}
 use Rattle.nor_files.specs.declared.stored.Content.{Content}
 use Rattle.nor_files.specs.declared.stored.Stored.{Stored}
-
--- where a file was there, what it may have been may be left of it
-was_there : (unplaced : Bool) (May : Type 0) (before left : Found) → is_some left ≡ is_some before → May
-    → OrMissing unplaced May before left
-was_there unplaced May before left there may = grind arith
 
 -- where more may have been, a change may leave more
 becomes_more : (change : Change) (May Might : Found → Type 0) (left : Found)
     → ((bytes : List ℕ) → May (Some bytes) → Might (Some bytes)) → Becomes change May left → Becomes change Might left
-becomes_more (Written bytes) May Might left more mix = (mix.0, more mix.0 mix.1, mix.2)
-becomes_more (Cut len) May Might left more cut = (cut.0, more cut.0 cut.1, cut.2)
-becomes_more Lent May Might left more any = tt
-
--- what is left is what may have been before, or what a change leaves of that
-before_or_now : (unplaced : Bool) (Seen May Made Now : Type 0) (has before left : Found) → is_some has ≡ is_some before
-    → (Seen → Now) → (Made → Now) → OrMissing unplaced (Seen ⊎ (May ⊎ Made)) has left
-    → OrMissing unplaced May before left ⊎ Now
-before_or_now unplaced Seen May Made Now has before left there seen made may = grind arith
+becomes_more change May Might left more becomes = grind arith
 
 file_leaves : (content : Content) (change : Change) (had : List ℕ) (old new : Stored)
     → IsChanged content change old new → found_in old.content ≡ Some had
@@ -37,28 +23,15 @@ file_leaves : (content : Content) (change : Change) (had : List ℕ) (old new : 
     → (left : Found) → MayLeave (file_in new) left
     → MayLeave (file_in old) left ⊎ Becomes change (MayLeave (file_in old)) left
 file_leaves content change had old new is was becomes left may =
-    let before = found_in old.content in
-    let more = becomes_more change (MayBe old.steps.items before) (MayLeave (file_in old)) left
-    (λ bytes. was_there old.unplaced (MayBe old.steps.items before (Some bytes)) before (Some bytes) (rw was refl)) in
-    before_or_now old.unplaced (left ≡ Some (bytes_in content)) (MayBe old.steps.items before left)
-    (Becomes change (MayBe old.steps.items before) left) (Becomes change (MayLeave (file_in old)) left)
-    (Some (bytes_in content)) before left (rw was refl) (λ seen. more (rw seen becomes)) more
-    (subst (λ file. MayLeave file left) is.file may)
+    let more = becomes_more change (MayBe old.steps.items (found_in old.content)) (MayLeave (file_in old)) left
+    (λ bytes before. grind arith) in
+    grind arith
 
 -- ---- writing
 
 -- the bytes, or so many of them, written over what was there
 pub mixed_over : (had bytes : List ℕ) (most : ℕ) → most ≤ length bytes → IsMixed had bytes (written_over (take most bytes) had)
-mixed_over had bytes most within =
-    let taken : length (take most bytes) ≡ most = length-take-le most bytes within in
-    record {
-      shortest = omega (arith, taken, length-append {A = ℕ}, length-drop {A = ℕ});
-      longest = omega (arith, taken, within, length-append {A = ℕ}, length-drop {A = ℕ});
-      each = λ i. elim (cases_lt i most) [
-        | inl below ↦ inr (grind (arith, common_steps, taken))
-        | inr above ↦ inl (grind (arith, common_steps, taken))
-      ];
-    }
+mixed_over had bytes most within = grind (arith, common_steps)
 
 pub file_writes : {T E : Type 0} {bytes had : List ℕ} {result : Result T E} {content : Content} {change : Change}
     {old new : Stored} (most : ℕ) → IsChanged content change old new → Some had ≡ found_in old.content
