@@ -1,13 +1,11 @@
 -- What is left of files in memory when the machine is lost.
-use Rattle.std.proofs.Common.{◌≡◌, ◌∙◌, ◌<◌, ℕ, suc, false, List, [], ◌∷◌, ◌++◌, Option, None, Some, refl, sym, ap, inl}
-use Rattle.std.proofs.Common.{inr, arith, drop, get_or, is_some, length, take}
+use Rattle.std.proofs.Common.{◌≡◌, ◌∙◌, ◌<◌, ℕ, suc, false, List, [], ◌∷◌, ◌++◌, Option, refl, ap, inl, inr, arith}
+use Rattle.std.proofs.Common.{drop, get_or, is_some, length, take}
 use Rattle.std.proofs.lemmas.List.{take_at}
-use Rattle.std.proofs.lemmas.Bool.{cases_Bool}
 use Rattle.nor_files.specs.Files.{AreAtRest, Found, IsSettled, Name}
 use Rattle.nor_files.specs.Memory.{state_of}
 use Rattle.nor_files.specs.Named.{file_of, is_name, is_named}
 use Rattle.nor_files.specs.Stored.{File, FileLoses, MayBe, MayLeave, file_in, found_in}
-use Rattle.nor_files.specs.declared.stored.Content.{Content}
 use Rattle.nor_files.specs.declared.stored.Step.{Step}
 use Rattle.nor_files.specs.declared.stored.Stored.{Stored}
 use Rattle.nor_files.proofs.Works.{settled}
@@ -19,17 +17,13 @@ oldest_may_be : (later : List Step) (oldest : Step) (seen : Found)
 oldest_may_be [] oldest seen = inr (inl refl)
 oldest_may_be (step ∷ later) oldest seen = inr (inl (oldest_may_be later oldest (found_in step.before)))
 
-found_is_some : (content : Option Content) → is_some (found_in content) ≡ is_some content
-found_is_some None = refl
-found_is_some (Some content) = refl
-
 pub oldest_allowed : (old : Stored) (later : List Step) (oldest : Step)
     → old.unplaced ≡ false → old.steps.items ≡ later ++ oldest ∷ [] → is_some oldest.before ≡ is_some old.content
     → MayLeave (file_in old) (found_in oldest.before)
 oldest_allowed old later oldest placed steps there =
-    let is : is_some (found_in oldest.before) ≡ is_some (found_in old.content)
-    = found_is_some oldest.before ∙ there ∙ sym (found_is_some old.content) in
-    rw (placed, steps) (is, oldest_may_be later oldest (found_in old.content))
+    let may : MayBe old.steps.items (found_in old.content) (found_in oldest.before) =
+    rw steps (oldest_may_be later oldest (found_in old.content)) in
+    grind arith
 
 -- ---- all files
 
@@ -47,11 +41,8 @@ all_lost (was ∷ old) [] name many each = absurd (omega (arith, many))
 all_lost (was ∷ old) (now ∷ new) name many each =
     let first : FileLoses was now = each 0 was (omega arith) in
     let names : is_named name now ≡ is_named name was = ap (λ its. is_name its.items name) first.name in
-    elim (cases_Bool (is_named name was)) [
-      | inl named ↦ rw (names, named) (record { allowed = first.allowed; file = first.file })
-      | inr other ↦ rw (names, other)
-          (all_lost old new name (omega (arith, many)) (λ k d within. each (suc k) d (omega (arith, within))))
-    ]
+    let later = all_lost old new name (omega (arith, many)) (λ k d within. each (suc k) d (omega (arith, within))) in
+    grind arith
 
 -- What is seen of each file is what may have been left, and stays.
 pub record AreLeft (old new : List Stored) (left : ℕ) (lent : Option Name) : Type 0 where

@@ -76,9 +76,7 @@ same_with_place (first ∷ files) stored any is =
 there_with_place : (files : List Stored) (stored : Stored) (name : Name)
     → is_there files name ≡ true → is_there (files ++ stored ∷ []) name ≡ true
 there_with_place [] stored name there = absurd cc
-there_with_place (first ∷ files) stored name there =
-    cond_both (is_named name first) _ _ (λ named. named ≡ true) (λ named. refl)
-    (λ other. there_with_place files stored name (rw other at there))
+there_with_place (first ∷ files) stored name there = grind (arith, there_with_place files stored name)
 
 pub lent_with_place : (files : List Stored) (stored : Stored) (lent : Option Name)
     → is_lent_there files lent ≡ true → is_lent_there (files ++ stored ∷ []) lent ≡ true
