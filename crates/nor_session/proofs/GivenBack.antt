@@ -143,28 +143,13 @@ change_within journal first touched raised wanted old mid new can within right c
 pub given_back : (journal : Content) (first old new : Chip) → SavesChip journal first → old.config ≡ first.config → KeepsFixed first old → ((a : ℕ) → open_places journal first a ≡ false → old.bytes a ≡ first.bytes a)
     → new.config ≡ old.config → ((a : ℕ) → new.bytes a ≡ restored journal old.bytes a) → KeepsFixed old new → HasCode (code_in journal.status) new → IsSame first new
 given_back journal first old new saves config fixed within config_now bytes fixed_now code =
-    let bits = saves.bits in
-    record {
-      config = config_now ∙ config;
-      bytes = λ a. bytes a ∙ elim (cases_Bool (is_saved journal (a / 4096))) [
-        | inl is ↦ restored_saved journal old.bytes a is ∙ saved_byte-is first.bytes _ journal a saves.sectors is
-        | inr other ↦ restored_other journal old.bytes a other ∙ within a (and_left _ _ other)
-      ];
-      kept1 = omega arith;
-      kept2 = omega arith;
-    }
+    search (arith, and_left, cases_Bool, restored_other, restored_saved, saved_byte-is)
 
 -- ---- such a chip is never refused
 
 -- the kept bits that the journal tells are fixed
 fixed_told : (journal : Content) (first chip : Chip) → HasKeptBits journal.status first → chip.config ≡ first.config → KeepsFixed first chip → (is_writable first ≡ false → KeptStay first chip) → FitsStatus journal chip
-fixed_told journal first chip bits config fixed kept = record {
-  fixed = omega arith;
-  all = λ bare.
-      let shut : is_writable first ≡ false = rw (← config, bare) refl in
-      let stay = kept shut in
-      omega arith;
-}
+fixed_told journal first chip bits config fixed kept = search arith
 
 -- the code of a locked chip is the journal's
 code_locked : (journal : Content) (first chip : Chip) → HasKeptBits journal.status first → KeptStay first chip → code_of chip ≡ code_in journal.status

@@ -1,6 +1,6 @@
 -- A journal that a session kept can give its chip back.
-use Rattle.std.proofs.Common.{◌≡◌, ◌<◌, ◌/◌, ◌∙◌, ℕ, Bool, true, false, List, slice_index, refl, ap, sym, subst, arith}
-use Rattle.std.specs.Prelude.{◌&&◌, not, IfSome}
+use Rattle.std.proofs.Common.{◌≡◌, ◌<◌, ◌/◌, ◌∙◌, ℕ, Bool, true, false, List, ap, sym, arith}
+use Rattle.std.specs.Prelude.{◌&&◌, not}
 use Rattle.std.proofs.lemmas.Bool.{and_parts, and_from, both_ways, false_from_ne_true, ltb-true}
 use Rattle.nor_chip.specs.Chip.{Chip, IsChip, is_locked}
 use Rattle.nor_chip.specs.Guard.{is_guarded}
@@ -8,11 +8,10 @@ use Rattle.nor_chip.specs.Bus.{BusState}
 use Rattle.nor_chip.proofs.Sizes.{sized_bounds}
 use Rattle.nor_chip.proofs.Guarded.{is_guarded-sector}
 use Rattle.nor_driver.specs.Looks.{Looks}
-use Rattle.nor_driver.specs.Reads.{unique_of}
 use Rattle.nor_journal.specs.Text.{Content, SameHead}
 use Rattle.nor_journal.specs.Vault.{VaultState}
 use Rattle.nor_journal.specs.Saved.{Saves, is_saved}
-use Rattle.nor_journal.proofs.Saves.{Saves-set, Saves-same}
+use Rattle.nor_journal.proofs.Saves.{Saves-set}
 use Rattle.nor_probe.specs.Known.{IsGenuine, IsModelled}
 use Rattle.nor_apply.specs.Within.{places_of}
 use Rattle.nor_apply.proofs.Changing.{within_wider}
@@ -26,16 +25,7 @@ use Rattle.nor_session.proofs.JudgedAgain.{accepted_named, accepted_free}
 
 -- the head tells the kept bits, and what a chip is
 pub saves_chip : (first : Chip) (saved : ℕ → Bool) (journal : Content) → first.kept2 < 128 → SameHead (head_of first) journal → Saves first.bytes saved journal → SavesChip journal first
-saves_chip first saved journal small same saves =
-    let status = ap (λ (c : Content). c.status) (sym same) in
-    let one = ap (λ (bytes : List ℕ). slice_index bytes 0) status in
-    let two = ap (λ (bytes : List ℕ). slice_index bytes 1) status in
-    record {
-      kind = record { id = ap (λ (c : Content). c.id) (sym same); size = ap (λ (c : Content). c.size) (sym same) };
-      unit = subst (λ (c : Content). IfSome c.unique (λ unique. unique ≡ unique_of first.config)) same refl;
-      bits = record { one = omega arith; two = omega arith };
-      sectors = Saves-same _ saved _ journal (λ s. sym (Saves-set first.bytes saved journal s saves)) saves;
-    }
+saves_chip first saved journal small same saves = search arith
 
 -- where the status is locked none of the saved places is guarded
 saved_free : (saved : ℕ → Bool) (first : Chip) (text : List ℕ) (state : BusState) (a : ℕ) → LeadsBack saved first text state → saved (a / 4096) ≡ true → (is_locked first && is_guarded first a) ≡ false

@@ -4,7 +4,6 @@ use Rattle.std.proofs.lemmas.Bool.{and_left, and_parts, both_ways}
 use Rattle.nor_chip.specs.Chip.{Chip, IsSame}
 use Rattle.nor_chip.specs.Bus.{BusState}
 use Rattle.nor_journal.specs.Text.{Content}
-use Rattle.nor_journal.specs.Saved.{is_saved}
 use Rattle.nor_journal.proofs.Saves.{saved_byte-is}
 use Rattle.nor_driver.specs.StatusWrites.{KeepsFixed}
 use Rattle.nor_driver.proofs.LooksInTurn.{same_then}
@@ -23,9 +22,7 @@ use Rattle.nor_session.proofs.WrittenBack.{read_back, session_over}
 
 -- each byte is as wanted
 as_saved : (journal : Content) (first chip : Chip) (a : ℕ) → SavesChip journal first → IsSame first chip → restored journal chip.bytes a ≡ chip.bytes a
-as_saved journal first chip a saves same =
-    let saved = saved_byte-is first.bytes (is_saved journal) journal a saves.sectors in let byte = same.bytes a in
-    grind arith
+as_saved journal first chip a saves same = search (arith, saved_byte-is)
 
 none_touched : (journal : Content) (first chip : Chip) (s : ℕ) → SavesChip journal first → IsSame first chip → is_touched_from journal chip s ≡ false
 none_touched journal first chip s saves same =
@@ -77,12 +74,7 @@ leads_to journal first state can = record { saves = can.saves; config = can.with
 
 -- so it does from the same chip
 leads_same : (journal : Content) (first new taken : Chip) → LeadsTo journal first new → IsSame new taken → LeadsTo journal first taken
-leads_same journal first new taken leads same = record {
-  saves = leads.saves;
-  config = same.config ∙ leads.config;
-  fixed = fixed_then _ _ _ leads.fixed (kept_fixed new taken (same.kept1, same.kept2));
-  bytes = λ a out. same.bytes a ∙ leads.bytes a out;
-}
+leads_same journal first new taken leads same = search (arith, fixed_then, kept_fixed)
 
 -- and from what a session left, where another run takes it up
 left_taken : (request : Request) (image : List ℕ) (old new taken : BusState) (journal : Content) → LeavesJournal request image old new journal → IsTakenUp old.chip new.chip taken.chip

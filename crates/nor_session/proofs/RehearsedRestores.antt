@@ -1,5 +1,5 @@
 -- What one restore under a stop comes to, restores in turn, and restores from a text.
-use Rattle.std.proofs.Common.{◌≡◌, ◌<◌, ◌≤◌, ◌+◌, ◌-◌, ◌∙◌, ℕ, Bool, List, length, slice_index, true, false, refl, ap, sym, arith, inl, inr}
+use Rattle.std.proofs.Common.{◌≡◌, ◌<◌, ◌≤◌, ◌+◌, ◌∙◌, ℕ, Bool, List, length, slice_index, true, false, refl, ap, sym, arith, inl, inr}
 use Rattle.std.specs.Prelude.{Ok, Err, Result}
 use Rattle.std.proofs.lemmas.Bool.{cases_eq}
 use Rattle.nor_chip.specs.Chip.{Chip}
@@ -56,14 +56,7 @@ allow_leaves journal old new allows = record {
 }
 
 pub restores_then : (journal : Content) (m n most : ℕ) (old mid new : BusState) → m + n ≤ most → LeavesRestores journal m old mid → LeavesRestores journal n mid new → LeavesRestores journal most old new
-restores_then journal m n most old mid new fits before after = record {
-  nature = nature_then old mid new after.nature before.nature;
-  modelled = λ modelled. after.modelled (before.modelled modelled);
-  can = λ modelled first can. after.can (before.modelled modelled) first (before.can modelled first can);
-  worn = λ modelled s other. after.worn (before.modelled modelled) s other ∙ before.worn modelled s other;
-  aims = aims_then journal old mid new before.aims after.aims;
-  writes = (let first = before.writes in let second = after.writes in omega (arith, first, second, fits));
-}
+restores_then journal m n most old mid new fits before after = search (arith, aims_then, nature_then)
 
 -- it gave up, and wasn't stopped
 pub no_halt : (most : ℕ) (IsEarly : Refusal → Type 0) (old new : BusState) (refusal : Refusal) → (refusal ≡ Stopped → ⊥)
@@ -147,43 +140,17 @@ module _ {journal : Content} {stops : List ℕ} {old now : BusState} {n : ℕ} (
   -- the next one ended
   pub ended_at : (restores : ℕ) → restores ≡ n + 1 → n < length stops
       → ShowsRestore journal (slice_index stops n) now new true → ShowsRestores journal stops old new restores
-  ended_at restores is inside shows =
-      let enough = λ (modelled : IsModelled old). shows.enough (before.leaves.modelled modelled) refl in
-      let last : restores - 1 ≡ n = omega arith in
-      record {
-        some = omega arith;
-        most = omega arith;
-        are = λ modelled. record {
-          stopped = λ i below. before.stopped modelled i (omega arith);
-          ended = λ under. rw last (let fits = enough modelled in omega arith);
-        };
-        last = λ modelled under. rw last (enough modelled);
-        back = λ modelled first can.
-            shows.back (before.leaves.modelled modelled) refl first (before.leaves.can modelled first can);
-      }
+  ended_at restores is inside shows = search arith
 
 -- what is never refused later on isn't refused
 pub refuses_before : {journal : Content} {n : ℕ} {old mid : BusState} (refusal : Refusal)
     → LeavesRestores journal n old mid → StopsRestores journal mid refusal → StopsRestores journal old refusal
-refuses_before refusal leaves refuses = record {
-  answers = refuses.answers;
-  names = refuses.names;
-  halts = λ room honest. refuses.halts room (leaves.nature.honest ∙ honest);
-  never = λ modelled first can. refuses.never (leaves.modelled modelled) first (leaves.can modelled first can);
-}
+refuses_before refusal leaves refuses = search arith
 
 -- under no stop no restore is stopped
 pub last_ends : {journal : Content} {now new : BusState} {most : ℕ} → most ≡ most_of 4096
     → ShowsRestore journal most now new false → StopsRestores journal now Stopped
-last_ends {journal = journal} is shows = record {
-  answers = refl;
-  names = tt;
-  halts = λ room honest. let below = shows.below honest refl in absurd (omega arith);
-  never = λ modelled first can.
-      let few = saved_room journal can.saves.sectors.is in
-      let below = shows.below modelled.honest refl in
-      omega arith;
-}
+last_ends {journal = journal} is shows = search (arith, saved_room)
 
 -- ---- restores from a text
 
@@ -233,9 +200,4 @@ module _ {bytes : List ℕ} {journal : Content} (is : IsContent journal) (same :
 -- a journal is read, and so is a text that leads back
 pub unread : (bytes : List ℕ) (old : BusState) (fault : JournalFault) → ((content : Content) → IsContent content → bytes ≡ text content → ⊥)
     → RefusesUndo bytes old (BadJournal fault)
-unread bytes old fault never = record {
-  answers = λ whole. absurd (never whole.content whole.is whole.same);
-  names = tt;
-  halts = λ honest. refl;
-  never = λ modelled saved first leads. never leads.journal.content leads.journal.saves.is leads.journal.is;
-}
+unread bytes old fault never = search arith

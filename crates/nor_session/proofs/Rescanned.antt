@@ -1,5 +1,5 @@
 -- What a restore has scanned so far.
-use Rattle.std.proofs.Common.{◌≡◌, ◌<◌, ◌≤◌, ◌+◌, ◌*◌, ◌/◌, ◌%◌, ◌&&◌, ◌||◌, ◌∙◌, ℕ, Bool, true, false, List, [], length, take, slice_index, refl, ap, sym, subst, arith}
+use Rattle.std.proofs.Common.{◌≡◌, ◌<◌, ◌≤◌, ◌+◌, ◌*◌, ◌/◌, ◌&&◌, ◌||◌, ◌∙◌, ℕ, Bool, true, false, List, [], length, take, slice_index, refl, ap, sym, subst, arith}
 use Rattle.std.specs.Prelude.{◌==◌, Option, Some, slice_get}
 use Rattle.std.specs.Option.{is_some, unwrap_or}
 use Rattle.std.proofs.lemmas.Bool.{and_left, both_ways}
@@ -42,22 +42,8 @@ pub record HasRescanned (journal : Content) (i : ℕ) (old new : BusState) (scan
 
 pub nothing_rescanned : {journal : Content} {state : BusState} {scanned : Scanned} → IsBlank scanned
     → HasRescanned journal 0 state state scanned
-nothing_rescanned {journal = journal} {state = state} {scanned = scanned} blank = record {
-  marks = record {
-    below = λ s is. absurd (both_ways (has scanned.touched s) (blank.touched s) is);
-    inside = λ s is. absurd (both_ways (has scanned.raised s) (blank.raised s) is);
-    count = blank.count ∙ sym (count_below-none 4096 (has scanned.touched) (λ s below. blank.touched s));
-  };
-  reads = blank.reads;
-  few = omega arith;
-  looked = has_looked-none state;
-  saved = λ s is. absurd (both_ways (has scanned.touched s) (blank.touched s) is);
-  bytes = λ s bytes is k. absurd (let none = saved_in-nil s in cc);
-  touched = λ is_open s.
-      blank.touched s ∙ sym (and_left _ (is_touched_from journal state.chip s) (ap is_some (saved_in-nil s)));
-  raised = λ is_open s.
-      blank.raised s ∙ sym (and_left _ (is_raised_from journal state.chip s) (ap is_some (saved_in-nil s)));
-}
+nothing_rescanned {journal = journal} {state = state} {scanned = scanned} blank =
+    search (arith, and_left, both_ways, count_below-none, has_looked-none, saved_in-nil)
 
 -- ---- one more
 
@@ -85,9 +71,7 @@ pub restored_other : (journal : Content) (content : ℕ → ℕ) (a : ℕ) → i
 restored_other journal content a is = rw is refl
 
 restored_at : (journal : Content) (content : ℕ → ℕ) (s : ℕ) (saved : List ℕ) (i : ℕ) → saved_in journal.saved s ≡ Some saved → i < 4096 → slice_index saved i ≡ restored journal content (4096 * s + i)
-restored_at journal content s saved i is below =
-    byte_at journal s saved i is below
-    ∙ sym (restored_saved journal content (4096 * s + i) (rw (sector_at s i below) (is_saved-some journal s saved is)))
+restored_at journal content s saved i is below = search (arith, byte_at, is_saved-some, restored_saved, sector_at)
 
 -- what the plan of a sector says
 planned_from : (journal : Content) (s : ℕ) (saved bytes : List ℕ) (old mid new : BusState) (plan : SectorPlan) (i : ℕ) → saved_in journal.saved s ≡ Some saved → s < journal.size / 4096
@@ -146,14 +130,10 @@ rescanned_more {journal = journal} {i = i} {s = s} {saved = saved} {bytes = byte
 
 -- a sector that isn't saved is as wanted
 pub untouched_other : (journal : Content) (content : ℕ → ℕ) (s : ℕ) → is_saved journal s ≡ false → is_touched content (restored journal content) s ≡ false
-untouched_other journal content s none =
-    untouched content (restored journal content) s
-    (λ i below. restored_other journal content (4096 * s + i) (rw (sector_at s i below) none))
+untouched_other journal content s none = search (arith, restored_other, sector_at, untouched)
 
 pub unraised_other : (journal : Content) (content : ℕ → ℕ) (s : ℕ) → is_saved journal s ≡ false → is_raised content (restored journal content) s ≡ false
-unraised_other journal content s none =
-    unraised content (restored journal content) s
-    (λ i below. restored_other journal content (4096 * s + i) (rw (sector_at s i below) none))
+unraised_other journal content s none = search (arith, restored_other, sector_at, unraised)
 
 small_byte : (o : Option (List ℕ)) (k : ℕ) → ((bytes : List ℕ) → o ≡ Some bytes → (k : ℕ) → slice_index bytes k < 256) → is_some o ≡ true → slice_index (unwrap_or o []) k < 256
 small_byte o k small is = grind (arith, nat_tests)
@@ -161,30 +141,15 @@ small_byte o k small is = grind (arith, nat_tests)
 pub all_rescanned : {journal : Content} {n : ℕ} {old new : BusState} {scanned : Scanned} → IsContent journal
     → n ≡ length journal.saved → HasRescanned journal n old new scanned → ScansSaved journal old new scanned
 all_rescanned {journal = journal} {n = n} {old = old} {scanned = scanned} is end was =
-    let whole : take n journal.saved ≡ journal.saved
-    = ap (λ (k : ℕ). take k journal.saved) end ∙ take-all_sectors journal.saved in
-    let least = ap (least_after 0) whole in
-    let within = least_within journal is in let few = saved_few journal is in
-    let most = (is_chip_size-in_blocks journal.size is.size).small in
-    let all : (s : ℕ) → saved_before journal n s ≡ is_saved journal s = λ s. rw whole refl in
-    record {
-      marks = later_marks (omega arith) was.marks;
-      saved = λ s hit. sym (all s) ∙ was.saved s hit;
-      bytes = λ a hit.
-          small_byte (saved_in journal.saved (a / 4096)) (a % 4096)
-          (λ bytes told. was.bytes (a / 4096) bytes (rw whole told)) hit;
-      reads = was.reads ∙ end;
-      few = omega arith;
-      room = omega arith;
-      heard = was.looked.heard;
-      rested = was.looked.rested;
-      sent = λ honest. let sent = was.looked.sent honest in omega arith;
-      touched = λ is_open s.
-          let hit = was.touched is_open s in let before = all s in
-          let other = untouched_other journal old.chip.bytes s in
-          grind (arith, nat_tests);
-      raised = λ is_open s.
-          let hit = was.raised is_open s in let before = all s in
-          let other = unraised_other journal old.chip.bytes s in
-          grind (arith, nat_tests);
-    }
+    search (
+      arith,
+      is_chip_size-in_blocks,
+      later_marks,
+      least_within,
+      nat_tests,
+      saved_few,
+      small_byte,
+      take-all_sectors,
+      unraised_other,
+      untouched_other,
+    )

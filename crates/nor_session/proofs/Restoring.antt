@@ -37,9 +37,7 @@ use Rattle.nor_session.proofs.GivenBack.{looked_within, change_within, given_bac
 -- ---- what a refusal before any change tells
 
 pub looks_spend : (few most : ℕ) (old new : BusState) → few ≤ most → Looks few old new → Spends most old new
-looks_spend few most old new fits looks =
-    let more = looks_most few most old new fits looks in
-    record { nature = more.nature; falls = λ honest. (more.looked honest).falls }
+looks_spend few most old new fits looks = search (arith, looks_most)
 
 module _ (journal : Content) (most : ℕ) (old new : BusState) where
   pub prepare_answers : (refusal : Refusal) → PrepareTells journal most old new refusal → IsRestoreRefusal refusal
@@ -62,14 +60,7 @@ module _ (journal : Content) (most : ℕ) (old new : BusState) where
   prepare_tells refusal fits modelled tells = judged_verdict journal old.chip refusal (tells.verdict modelled)
 
   pub looks_leave : LooksHonest most old new → LeavesRestore journal old new
-  looks_leave looked =
-      let stays = looked.stays in
-      record {
-        config = stays.config;
-        bytes = λ calm a out. (stays.calm calm).bytes a;
-        fixed = λ calm. let same = stays.calm calm in kept_fixed old.chip new.chip (same.kept1, same.kept2);
-        worn = λ s spared. stays.worn s;
-      }
+  looks_leave looked = search (arith, kept_fixed)
 
 -- a chip that can be given back still can
 pub looks_back : (journal : Content) (first : Chip) (most : ℕ) (old new : BusState) → old.honest ≡ true → Looks most old new → CanGiveBack journal first old → CanGiveBack journal first new
@@ -94,27 +85,10 @@ changed_back journal first prepared old mid new are modelled can =
 
 module _ (journal : Content) (prepared : Prepared) (old mid new : BusState) where
   pub changed_spends : AreChanged journal prepared old mid new → Spends (most_of (length journal.saved)) old new
-  changed_spends are = record {
-    nature = nature_then old mid new are.leaves.spends.nature are.looks.nature;
-    falls = λ honest.
-        let before = (are.looks.looked honest).falls in
-        let after = are.leaves.spends.falls (are.looks.nature.honest ∙ honest) in
-        let few = are.is.few in let count = are.is.count in
-        omega arith;
-  }
+  changed_spends are = search (arith, nature_then)
 
   pub changed_leaves : AreChanged journal prepared old mid new → IsModelled old → LeavesRestore journal old new
-  changed_leaves are modelled =
-      let same = (are.is.rested modelled.honest).unchanged in
-      let for = are.is.modelled modelled in
-      let may = are.leaves.reached (are.looks.nature.honest ∙ modelled.honest) for.can in
-      record {
-        config = may.within.config ∙ same.same.config;
-        bytes = λ calm a out. may.within.bytes a (narrower (are.is.saved (a / 4096)) out) ∙ same.same.bytes a;
-        fixed = λ calm.
-            fixed_then _ _ _ (kept_fixed old.chip mid.chip (same.same.kept1, same.same.kept2)) may.within.fixed;
-        worn = λ s spared. may.worn s (for.raised s ∙ spared) ∙ same.worn s;
-      }
+  changed_leaves are modelled = search (arith, fixed_then, kept_fixed, narrower)
 
   -- ---- they weren't finished
 
@@ -220,7 +194,7 @@ module _ (journal : Content) (prepared : Prepared) (old mid new : BusState) (wor
             latch = λ set. rested.latch (applied.latch set);
           };
           reported = record {
-            worn = λ s. cc (rested.unchanged.worn s, applied.worn s, for.raised s);
+            worn = λ s. cc (rested.unchanged.worn s, applied.worn s);
             shown = for.shown;
             status1 = for.status1;
             told = for.told;

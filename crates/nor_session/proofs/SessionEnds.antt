@@ -52,24 +52,7 @@ module _ (request : Request) (image image' : List ℕ) (opening : Opening) (stat
       → HasSaved request opening code image image' mid new vault kept → ((a : ℕ) → slice_index image' a < 256)
       → old.chip.kept2 < 128 → ReadyChip request image image' opening code kept old new
   ready_chip new vault modelled looks opens is accepts keeps bytes small =
-      let opened = is_opening request opening old mid modelled opens in
-      let chip = keeps.chip old.chip opened (shows request opening old mid modelled looks opens) in
-      let again = keeps.scans.rested (looks.nature.honest ∙ modelled.honest) in
-      record {
-        honest = modelled.honest;
-        is = opened;
-        shown = opens.shown modelled.honest;
-        told = told_idle request.named opening old mid modelled.honest opens;
-        accepts = accepts opened;
-        idle = let less = again.unchanged.busy in let idle = opens.idle modelled.honest in omega arith;
-        rested = is.looked.rested modelled.honest;
-        touched = chip.touched;
-        raised = chip.raised;
-        scan = chip.accepts;
-        merged = chip.merged;
-        bytes = bytes;
-        kept2 = small;
-      }
+      search (arith, is_opening, named, shows, told_idle)
 
   -- ---- once the vault is sealed
 
@@ -127,7 +110,7 @@ module _ (request : Request) (image image' : List ℕ) (opening : Opening) (stat
           latch = λ set. of.rested.latch (applied.latch set);
         };
         reported = record {
-          worn = λ s. cc (of.rested.unchanged.worn s, applied.worn s, of.raised s);
+          worn = λ s. cc (of.rested.unchanged.worn s, applied.worn s);
           shown = of.shown;
           status1 = of.is.one;
           told = of.told;
