@@ -1,12 +1,13 @@
--- One sector alone: which it is, and that it counts for one.
-use Rattle.std.proofs.Common.{◌≡◌, ◌<◌, ◌≤◌, ◌+◌, ◌-◌, ◌∙◌, ℕ, Bool, true, false, refl, ap, sym, arith}
+-- One sector alone: which it is, which bytes it has, and that it counts for one.
+use Rattle.std.proofs.Common.{◌≡◌, ◌<◌, ◌≤◌, ◌+◌, ◌-◌, ◌*◌, ◌/◌, ◌∙◌, ℕ, Bool, true, false, List, slice_index, refl, ap, sym, arith}
 use Rattle.std.proofs.lemmas.Bool.Decides.{nat_tests}
 use Rattle.std.proofs.Math.Bool.{or-false}
 use Rattle.nor_count.specs.Below.{count_below}
 use Rattle.nor_count.specs.Counts.{sector_count}
 use Rattle.nor_count.proofs.Counting.{count_below-with, count_below-add, count_below-none}
 use Rattle.nor_count.proofs.Verdicts.{count_below-insert}
-use Rattle.nor_apply.specs.Change.{only}
+use Rattle.nor_driver.specs.Reads.{IsSectorOf}
+use Rattle.nor_apply.specs.Change.{only, byte_of}
 
 -- one that passes is counted in each bound above it
 pub count_below-next : (n k : ℕ) (test : ℕ → Bool) → k < n → test k ≡ true → count_below k test + 1 ≤ count_below n test
@@ -27,3 +28,14 @@ sector_count-only sector below =
     let none : (s : ℕ) → s < 4096 → false ≡ false = λ s under. refl in
     count_below-insert 4096 sector (λ _. false) (only sector) below refl (λ s. sym (or-false (only sector s)))
     ∙ ap (λ (n : ℕ). n + 1) (count_below-none 4096 (λ _. false) none)
+
+-- the byte at an address of a sector that has these bytes, and so the old one
+pub shown_byte : (sector a : ℕ) (bytes : List ℕ) (content : ℕ → ℕ) → a / 4096 ≡ sector
+    → ((i : ℕ) → i < 4096 → slice_index bytes i ≡ content (4096 * sector + i)) → byte_of sector bytes a ≡ content a
+shown_byte sector a bytes content in_sector shown =
+    let place : 4096 * sector + (a - 4096 * sector) ≡ a = omega arith in
+    shown (a - 4096 * sector) (omega arith) ∙ ap content place
+
+pub old_byte : (sector : ℕ) (old : List ℕ) (content : ℕ → ℕ) (a : ℕ) → a / 4096 ≡ sector → IsSectorOf content sector old
+    → content a ≡ slice_index old (a - 4096 * sector)
+old_byte sector old content a in_sector shown = sym (shown_byte sector a old content in_sector shown.byte)

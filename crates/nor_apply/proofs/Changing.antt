@@ -91,16 +91,6 @@ change_as {t} {t' = t'} {old} {new} more raised wanted change =
     let within = within_wider (places_of t) (places_of t') old.chip new (λ a. more (a / 4096)) change.within in
     grind (arith, within, raised, wanted, change.gentle, change.within.bytes, change.worn)
 
--- an operation that works on some places of the sectors
-pub operation_change : {t r : ℕ → Bool} {w : ℕ → ℕ} {old new : BusState} (places : ℕ → Bool) (v : ℕ → ℕ)
-    → new.chip.config ≡ old.chip.config → ChangesOnly old.steady places v old.chip.bytes new.chip.bytes
-    → ((a : ℕ) → places a ≡ true → t (a / 4096) ≡ true)
-    → ((a : ℕ) → r (a / 4096) ≡ false → places a ≡ true → (v a ≡ old.chip.bytes a) ⊎ (v a ≡ w a))
-    → KeptStay old.chip new.chip → (new.chip.busy ≢ 0 → WorksIn (places_of t) old.chip new.chip.running)
-    → ((s : ℕ) → r s ≡ false → new.worn s ≡ old.worn s) → MayChange t r w old new
-operation_change {old} {new} places v config bytes inside gentle kept runs worn =
-    grind (arith, bytes, inside, gentle, runs, worn, kept_fixed old.chip new.chip kept)
-
 -- a status write of a chip whose status may be written
 pub status_change : {t r : ℕ → Bool} {w : ℕ → ℕ} {code : ℕ} {old new : BusState} → is_writable old.chip ≡ true
     → MayWriteStatus code old new → MayChange t r w old new

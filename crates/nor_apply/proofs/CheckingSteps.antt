@@ -16,8 +16,7 @@ use Rattle.nor_apply.specs.Change.{only, byte_of}
 use Rattle.nor_apply.specs.Checking.{CanCheck, DoesChecks, CheckTells, NamesDifference}
 use Rattle.nor_apply.specs.declared.checks.CheckFault.{CheckFault}
 use Rattle.nor_apply.specs.declared.checks.CheckFault.TheVariants.{Stopped, Mismatch}
-use Rattle.nor_apply.proofs.Alone.{count_below-next, only-here, only-is, sector_count-only}
-use Rattle.nor_apply.proofs.ProgrammingSpans.{shown_byte, old_byte}
+use Rattle.nor_apply.proofs.Alone.{count_below-next, only-here, only-is, sector_count-only, shown_byte, old_byte}
 
 -- ---- a sector
 

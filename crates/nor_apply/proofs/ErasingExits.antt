@@ -29,7 +29,8 @@ use Rattle.nor_apply.specs.Change.{MayChange, HasChanged, blank}
 use Rattle.nor_apply.specs.Spending.{may_aim_at, NamesTimeoutIn}
 use Rattle.nor_apply.specs.Erasing.{CanEraseAll, LeavesErases, DoesErases}
 use Rattle.nor_apply.proofs.InTurn.{Listed, listed_none, listed_halted, listed_more, come_all, come_before, come_next, come_fewer, spends_ended}
-use Rattle.nor_apply.proofs.Changing.{narrower, can_after, operation_change, change_then, HasMade, changed_of, made_may, made_none, made_same, made_then}
+use Rattle.nor_apply.proofs.Kept.{kept_fixed}
+use Rattle.nor_apply.proofs.Changing.{can_after, change_then, HasMade, changed_of, made_may, made_none, made_same, made_then}
 use Rattle.nor_apply.proofs.Aiming.{unit_aims}
 
 -- An erase of a chip of so many sectors that lies in a set, and begins at a sector of it.
@@ -86,13 +87,7 @@ module _ {kinds : Kinds} {size : ℕ} {set done : ℕ → Bool} {unit : Erase} {
 
   erase_change : {new : BusState} → MayErase unit mid new → MayChange set set blank mid new
   erase_change {new} may =
-      operation_change (is_place_in_unit unit mid.chip) blank may.config may.bytes (λ a. erases_of_plan (a / 4096))
-      (λ a plain erased. absurd (true≢false (sym (erases_of_plan (a / 4096) erased) ∙ plain))) may.kept
-      (λ works. works_in (may.runs works)) (λ s spared. may.worn s (narrower (erases_of_plan s) spared))
-    where
-      works_in : new.chip.running ≡ Runs.Erase (4096 * unit.sector) (4096 * sectors_in (sectors_of mid.chip) unit.unit)
-          → WorksIn (places_of set) mid.chip new.chip.running
-      works_in is = rw is (grind (arith, nat_tests, erases_of_plan))
+      grind (arith, erases_of_plan, may.bytes, may.runs, may.worn, kept_fixed mid.chip new.chip may.kept, nat_tests)
 
   erased_unit : {new : BusState} → HasErased unit mid new → new.chip.busy ≡ 0
       → HasMade (λ a. erases_sector (size / 4096) (a / 4096) unit) blank

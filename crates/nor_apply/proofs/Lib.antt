@@ -5,7 +5,6 @@ pub mod Alone
 pub mod Aiming
 pub mod ErasingExits
 pub mod ProgrammingSpans
-pub mod ProgrammingExits
 pub mod ProgrammingWhole
 pub mod CheckingSteps
 pub mod ApplyingSteps

@@ -1,36 +1,40 @@
--- What the programs of some spans of a sector leave, one after another.
-use Rattle.std.proofs.Common.{◌≡◌, ◌<◌, ◌≤◌, ◌+◌, ◌-◌, ◌*◌, ◌/◌, ◌%◌, ◌⊎◌, inl, inr, ◌∙◌, ℕ, Bool, true, false, List, [], ◌∷◌, ◌++◌, length, take, drop, slice_index, refl, ap, sym, arith, length-take, length-drop, true≢false}
-use Rattle.std.specs.Prelude.{◌&&◌, ◌||◌, nat_le, nat_lt, bit_and, if◌then◌else◌}
+-- The spans of a sector: what their programs leave, one after another, how many there are, and what follows at each exit.
+use Rattle.std.proofs.Common.{◌≡◌, ◌<◌, ◌≤◌, ◌+◌, ◌-◌, ◌*◌, ◌/◌, ◌%◌, ◌⊎◌, inl, inr, ◌∙◌, ℕ, Bool, true, false, List, [], ◌∷◌, ◌++◌, length, take, drop, slice_index, refl, ap, sym, arith, length-take, length-drop, true≢false, ◌||◌, zero, suc}
+use Rattle.std.specs.Prelude.{◌&&◌, ◌||◌, nat_le, nat_lt, bit_and, if◌then◌else◌, ◌==◌, not, min, count_by}
 use Rattle.std.specs.Int.Bits.{and_self}
 use Rattle.std.proofs.lemmas.Nat.{and_comm}
 use Rattle.std.proofs.lemmas.List.{get_or-take, get_or-drop}
 use Rattle.std.proofs.lemmas.List.Folds.{list_any-append}
 use Rattle.std.proofs.lemmas.Bool.Decides.{nat_tests}
 use Rattle.std.proofs.lemmas.Bool.{cases_Bool, and_parts, eqb-true, leb-true, ltb-true}
-use Rattle.std.proofs.Math.Bool.{or-false, and-or_distrib_right}
+use Rattle.std.proofs.Math.Bool.{or-false, and-or_distrib_right, or_assoc}
 use Rattle.nor_chip.specs.declared.running.Running.TheVariants as Runs
 use Rattle.nor_chip.specs.Bus.{BusState}
-use Rattle.nor_driver.specs.Programs.{CanProgram, MayProgram, HasProgrammed, programmed, is_in_page}
+use Rattle.nor_driver.specs.Programs.{CanProgram, MayProgram, HasProgrammed, programmed, is_in_page, LeavesProgram, Programs, is_sector_of}
 use Rattle.nor_driver.specs.Reads.{IsSectorOf}
 use Rattle.nor_plan.specs.declared.page.Span.{Span}
 use Rattle.nor_plan.specs.SpanFacts.{IsSpan, AreSpans, is_within_span, spanned_by}
 use Rattle.nor_plan.specs.SectorSet.{none}
 use Rattle.nor_apply.specs.Within.{WorksIn, places_of}
 use Rattle.nor_apply.specs.Change.{MayChange, HasChanged, only, byte_of}
-use Rattle.nor_apply.specs.Programming.{CanProgramSpans}
-use Rattle.nor_apply.proofs.Alone.{only-here, only-is}
-use Rattle.nor_apply.proofs.Changing.{can_after, change_then, operation_change, HasMade, either_byte, made_may, made_then}
-
--- the byte at an address of a sector that has these bytes, and so the old one
-pub shown_byte : (sector a : ℕ) (bytes : List ℕ) (content : ℕ → ℕ) → a / 4096 ≡ sector
-    → ((i : ℕ) → i < 4096 → slice_index bytes i ≡ content (4096 * sector + i)) → byte_of sector bytes a ≡ content a
-shown_byte sector a bytes content in_sector shown =
-    let place : 4096 * sector + (a - 4096 * sector) ≡ a = omega arith in
-    shown (a - 4096 * sector) (omega arith) ∙ ap content place
-
-pub old_byte : (sector : ℕ) (old : List ℕ) (content : ℕ → ℕ) (a : ℕ) → a / 4096 ≡ sector → IsSectorOf content sector old
-    → content a ≡ slice_index old (a - 4096 * sector)
-old_byte sector old content a in_sector shown = sym (shown_byte sector a old content in_sector shown.byte)
+use Rattle.nor_apply.specs.Programming.{CanProgramSpans, LeavesSpans, DoesSpans, most_pages}
+use Rattle.nor_apply.proofs.Alone.{only-here, only-is, old_byte}
+use Rattle.nor_apply.proofs.Kept.{kept_fixed}
+use Rattle.nor_apply.proofs.Changing.{can_after, change_then, HasMade, either_byte, made_may, made_then, changed_may, made_none}
+use Rattle.std.specs.List.{list_any, range_with_len}
+use Rattle.nor_count.specs.Below.{any_below, count_below}
+use Rattle.nor_count.proofs.Counting.{any_below-zero, any_below-more, any_below-same, count_below-zero, count_below-more, count_below-most, count_below-same}
+use Rattle.nor_count.proofs.CountedRanges.{count_by-range}
+use Rattle.nor_driver.specs.declared.waits.Halt.{Halt}
+use Rattle.nor_driver.specs.declared.waits.Halt.TheVariants.{Stopped, Timeout}
+use Rattle.nor_driver.specs.Waits.{Halts, NamesTimeout}
+use Rattle.nor_driver.specs.Operations.{most_operation}
+use Rattle.nor_plan.specs.Content.{is_other, is_page_other}
+use Rattle.nor_plan.specs.Span.{page_differs, pages_changed, page_count, spans_of}
+use Rattle.nor_apply.specs.declared.tally.Tally.{Tally}
+use Rattle.nor_apply.specs.Spending.{NamesTimeoutIn}
+use Rattle.nor_apply.proofs.InTurn.{Listed, listed_none, listed_halted, listed_more, come_all, come_next, come_fewer, spends_ended}
+use Rattle.nor_apply.proofs.Aiming.{named_in}
 
 -- the places of some spans of a sector
 abbrev pub in_spans : ℕ → List Span → ℕ → Bool
@@ -42,7 +46,7 @@ HasFilled sector wanted spans old new = HasMade (in_spans sector spans) (byte_of
 
 -- ---- the bytes that are sent
 
-abbrev pub part : List ℕ → Span → List ℕ
+abbrev part : List ℕ → Span → List ℕ
 part wanted span = take (span.last + 1 - span.first) (drop span.first wanted)
 
 -- a span's program lets bits fall to the wanted ones, where they stand already too
@@ -57,13 +61,22 @@ page_inside : (sector first a : ℕ) → first < 4096 → is_in_page (4096 * sec
     → only sector (a / 4096) ≡ true
 page_inside sector first a below page = grind (arith, nat_tests)
 
-pub record Spanned (sector : ℕ) (old wanted : List ℕ) (span : Span) : Type 0 where
+record Spanned (sector : ℕ) (old wanted : List ℕ) (span : Span) : Type 0 where
   pub whole : length old ≡ 4096
   pub wanted_whole : length wanted ≡ 4096
   pub is : IsSpan old wanted span
 
+-- a program that may have been cut short, of bytes that stay or are made the wanted ones
+span_change : (sector at : ℕ) (sent : List ℕ) (wanted : ℕ → ℕ) (now new : BusState)
+    → ((a : ℕ) → is_in_page at a ≡ true → only sector (a / 4096) ≡ true)
+    → ((a : ℕ) → (programmed at sent now.chip.bytes a ≡ now.chip.bytes a)
+    ⊎ (programmed at sent now.chip.bytes a ≡ wanted a))
+    → MayProgram at sent now new → MayChange (only sector) none wanted now new
+span_change sector at sent wanted now new inside either may =
+    grind (arith, inside, either, may.bytes, may.runs, may.worn, kept_fixed now.chip new.chip may.kept)
+
 module _ {sector : ℕ} {old wanted : List ℕ} {span : Span} (spanned : Spanned sector old wanted span) where
-  pub below_end : span.last < 4096
+  below_end : span.last < 4096
   below_end = omega (arith, spanned.is.last.0, spanned.whole)
 
   length-part : length (part wanted span) ≡ span.last + 1 - span.first
@@ -86,7 +99,7 @@ module _ {sector : ℕ} {old wanted : List ℕ} {span : Span} (spanned : Spanned
   module _ (spans : List Span) {first now : BusState} (can : CanProgramSpans sector old wanted first.chip)
       (filled : HasFilled sector wanted spans first now) where
     -- the span's place is free
-    pub can_span : CanProgram (4096 * sector + span.first) (length (part wanted span)) now.chip
+    can_span : CanProgram (4096 * sector + span.first) (length (part wanted span)) now.chip
     can_span =
         let able = can_after now.chip (λ s is. is) can.can filled.config filled.kept filled.idle in
         let inside = able.inside sector (only-here refl) in
@@ -124,7 +137,7 @@ module _ {sector : ℕ} {old wanted : List ℕ} {span : Span} (spanned : Spanned
     ])
 
     module _ {new : BusState} where
-      pub span_filled : HasProgrammed (4096 * sector + span.first) (part wanted span) now new → new.chip.busy ≡ 0
+      span_filled : HasProgrammed (4096 * sector + span.first) (part wanted span) now new → new.chip.busy ≡ 0
           → HasFilled sector wanted (spans ++ span ∷ []) first new
       span_filled programs idle =
           let made : HasFilled sector wanted (span ∷ []) now new =
@@ -137,24 +150,16 @@ module _ {sector : ℕ} {old wanted : List ℕ} {span : Span} (spanned : Spanned
           made_then joined (λ s. refl) (λ a is. refl) filled made
 
       -- a program that was cut short, after some spans
-      pub span_may : now.steady ≡ first.steady → MayProgram (4096 * sector + span.first) (part wanted span) now new
+      span_may : now.steady ≡ first.steady → MayProgram (4096 * sector + span.first) (part wanted span) now new
           → MayChange (only sector) none (byte_of sector wanted) first new
       span_may steadily may =
-          let last = below_end in
-          let order = spanned.is.order in
-          let inside = λ (a : ℕ). page_inside sector span.first a (omega arith) in
-          let works : new.chip.running ≡ Runs.Program ((4096 * sector + span.first) / 256)
-          → WorksIn (places_of (only sector)) now.chip new.chip.running = λ is.
-          rw is (record { known = refl; inside = inside; status = λ one two runs. cc }) in
           change_then steadily (made_may (λ a is. (and_parts _ _ is).1) (λ s no. no) filled)
-          (operation_change (is_in_page (4096 * sector + span.first)) _ may.config may.bytes inside
-          (λ a plain page. either_byte (in_spans sector (span ∷ []) a) (span_bytes a)) may.kept
-          (λ runs. works (may.runs runs)) (λ s spared. may.worn s))
-
--- ---- the end
+          (span_change sector (4096 * sector + span.first) (part wanted span) (byte_of sector wanted) now new
+          (λ a. page_inside sector span.first a (omega (arith, below_end, spanned.is.order)))
+          (λ a. either_byte (in_spans sector (span ∷ []) a) (span_bytes a)) may)
 
 -- what lies in no span needs no program
-pub filled_all : {sector : ℕ} {old wanted : List ℕ} {spans : List Span} {first new : BusState} → length old ≡ 4096
+filled_all : {sector : ℕ} {old wanted : List ℕ} {spans : List Span} {first new : BusState} → length old ≡ 4096
     → AreSpans old wanted spans → CanProgramSpans sector old wanted first.chip → HasFilled sector wanted spans first new
     → HasChanged (only sector) (byte_of sector wanted) none first new
 filled_all {sector} {old} {wanted} {spans} {first} {new} whole are can filled =
@@ -171,3 +176,166 @@ filled_all {sector} {old} {wanted} {spans} {first} {new} whole are can filled =
       ])
     ] in
     assumption
+
+-- ---- how many there are
+
+-- the numbers of a range, behind those that were tested before
+any_of_range : (test : ℕ → Bool) (from m n at all : ℕ) → at ≡ from + m → all ≡ m + n
+    → (any_below m (λ i. test (from + i)) || list_any test (range_with_len at n)) ≡ any_below all (λ i. test (from + i))
+any_of_range test from m zero at all place sum =
+    or-false _ ∙ ap (λ (k : ℕ). any_below k (λ i. test (from + i))) (omega arith)
+any_of_range test from m (suc n) at all place sum =
+    let one_more : any_below (m + 1) (λ i. test (from + i)) ≡ (any_below m (λ i. test (from + i)) || test at) =
+    any_below-more m (λ i. test (from + i)) ∙ rw place refl in
+    sym (or_assoc (any_below m (λ i. test (from + i))) (test at) (list_any test (range_with_len (at + 1) n)))
+    ∙ rw (← one_more) (any_of_range test from (m + 1) n (at + 1) all (omega arith) (omega arith))
+
+-- the pages that differ in the sector's bytes are those that differ on the chip
+page_same : (content : ℕ → ℕ) (sector : ℕ) (old wanted : List ℕ) → length old ≡ 4096 → IsSectorOf content sector old
+    → (page : ℕ) → page < 16 → page_differs old wanted page
+    ≡ is_page_other content (byte_of sector wanted) (16 * sector + page)
+unfolding is_page_other
+page_same content sector old wanted whole shown page small =
+    let test : ℕ → Bool = λ k. not (slice_index old k == slice_index wanted k) in
+    let long : min 256 (length old - page * 256) ≡ 256 = omega arith in
+    ap (λ (n : ℕ). list_any test (range_with_len (page * 256) n)) long
+    ∙ ap (λ (b : Bool). b || list_any test (range_with_len (page * 256) 256)) (sym (any_below-zero _))
+    ∙ any_of_range test (page * 256) 0 256 (page * 256) 256 (omega arith) refl
+    ∙ any_below-same 256 (λ i. test (page * 256 + i))
+    (λ i. is_other (content (256 * (16 * sector + page) + i)) (byte_of sector wanted (256 * (16 * sector + page) + i)))
+    (λ i below.
+    let place : 4096 * sector + (page * 256 + i) ≡ 256 * (16 * sector + page) + i = omega arith in
+    let offset : page * 256 + i ≡ 256 * (16 * sector + page) + i - 4096 * sector = omega arith in
+    rw (shown.byte (page * 256 + i) (omega arith), place, ← offset) refl)
+
+pages_counted : (old wanted : List ℕ) → length old ≡ 4096 → pages_changed old wanted
+    ≡ count_below 16 (page_differs old wanted)
+pages_counted old wanted whole =
+    let pages : page_count old ≡ 16 = omega arith in
+    let test = page_differs old wanted in
+    ap (λ (n : ℕ). count_by test (range_with_len 0 n)) pages
+    ∙ count_by-range test (λ n. count_below n test)
+    (record { begins = count_below-zero test; goes = λ n. count_below-more n test }) 16
+
+pages_most : (old wanted : List ℕ) → length old ≡ 4096 → pages_changed old wanted ≤ 16
+pages_most old wanted whole =
+    omega (arith, pages_counted old wanted whole, count_below-most 16 (page_differs old wanted))
+
+pages_other : (content : ℕ → ℕ) (sector : ℕ) (old wanted : List ℕ) → length old ≡ 4096
+    → IsSectorOf content sector old
+    → pages_changed old wanted ≡ count_below 16 (λ page. is_page_other content (byte_of sector wanted)
+    (16 * sector + page))
+pages_other content sector old wanted whole shown =
+    pages_counted old wanted whole
+    ∙ count_below-same 16 (page_differs old wanted)
+    (λ page. is_page_other content (byte_of sector wanted) (16 * sector + page))
+    (page_same content sector old wanted whole shown)
+
+-- ---- one span after another
+
+-- These spans of a sector were programmed, and nothing else was sent; and those are left.
+pub record SpansSoFar (sector : ℕ) (old wanted : List ℕ) (spans left : List Span) (first now : BusState)
+    (tally : Tally) : Type 0 where
+  pub whole : length old ≡ 4096
+  pub wanted_whole : length wanted ≡ 4096
+  pub are : AreSpans old wanted (spans_of old wanted)
+  pub listed : Listed (spans_of old wanted) spans left (only sector) first now tally
+  pub done : first.honest ≡ true → CanProgramSpans sector old wanted first.chip
+      → HasFilled sector wanted spans first now
+
+pub spans_none : {sector : ℕ} {old wanted : List ℕ} {list left : List Span} (state : BusState) → length old ≡ 4096
+    → length wanted ≡ 4096 → list ≡ spans_of old wanted → AreSpans old wanted list → left ≡ list
+    → SpansSoFar sector old wanted [] left state state (record { count = 0; transactions = 0 })
+spans_none state whole wanted_whole same are all = record {
+  whole = whole;
+  wanted_whole = wanted_whole;
+  are = rw (← same) are;
+  listed = listed_none state (all ∙ same);
+  done = λ honest can. made_none state (λ a. refl) (λ s. refl) can.can.idle;
+}
+
+module _ {sector : ℕ} {old wanted : List ℕ} {spans left : List Span} {first now : BusState} {tally : Tally}
+    (so : SpansSoFar sector old wanted spans left first now tally) where
+  -- at the end
+  module _ (none : left ≡ []) where
+    pub does_ended : DoesSpans sector old wanted first now tally
+    does_ended =
+        let all = come_all so.listed none in
+        let counted : tally.count ≡ pages_changed old wanted = so.listed.count ∙ ap length all ∙ so.are.count in
+        record {
+          fewer = omega (arith, pages_most old wanted so.whole);
+          tallies = so.listed.ran.tallies;
+          done = λ honest can. filled_all so.whole (rw all so.are) can (so.done honest can);
+          counted = λ honest can. counted ∙ pages_other first.chip.bytes sector old wanted so.whole can.shown;
+        }
+
+    pub leaves_ended : LeavesSpans sector old wanted first now
+    leaves_ended = record {
+      spends = spends_ended so.listed.ran (omega (arith, does_ended.fewer));
+      aims = so.listed.ran.aims;
+      reached = λ honest can. changed_may (does_ended.done honest can);
+    }
+
+  -- the next one
+  module _ {span : Span} {rest : List Span} (next : left ≡ span ∷ rest) where
+    spanned : Spanned sector old wanted span
+    spanned = record {
+      whole = so.whole;
+      wanted_whole = so.wanted_whole;
+      is = come_next so.listed next (IsSpan old wanted) so.are.each;
+    }
+
+    -- fewer than 16 were programmed
+    pub few_spans : (tally.count ≤ 15) × (tally.transactions ≤ 983070)
+    few_spans = omega (arith, come_fewer so.listed next, so.are.count, pages_most old wanted so.whole)
+
+    aims_next : (s : ℕ) → is_sector_of (4096 * sector + span.first) s ≡ true → only sector s ≡ true
+    aims_next s named =
+        let last = below_end spanned in
+        let order = spanned.is.order in
+        let at = named_in 1 ((4096 * sector + span.first) / 4096) s (omega arith) (omega arith) named in
+        only-here (omega arith)
+
+    -- a timeout names a place of the sector
+    names_place : (halt : Halt) → NamesTimeout (4096 * sector + span.first) halt → NamesTimeoutIn (only sector) halt
+    names_place halt told =
+        let last = below_end spanned in
+        let order = spanned.is.order in
+        grind (arith, nat_tests)
+
+    module _ {new : BusState} (leaves : LeavesProgram (4096 * sector + span.first) (part wanted span) now new) where
+      pub spans_halted : {halt : Halt} → Halts most_operation now new halt
+          → NamesTimeout (4096 * sector + span.first) halt
+          → LeavesSpans sector old wanted first new × Halts most_pages first new halt
+          × NamesTimeoutIn (only sector) halt
+      spans_halted {halt} halts names =
+          let few = pages_most old wanted so.whole in
+          let exit = listed_halted so.listed next aims_next leaves.stirs most_pages leaves.falls halts
+          (omega (arith, so.are.count, few)) in (
+            record {
+              spends = exit.0;
+              aims = exit.1;
+              reached = λ honest can.
+                  let filled = so.done honest can in
+                  span_may spanned spans can filled so.listed.ran.nature.steady
+                  (leaves.reached (so.listed.ran.nature.honest ∙ honest) (can_span spanned spans can filled));
+            },
+            exit.2,
+            names_place halt names,
+          )
+
+      pub spans_more : {more : Tally} {sent : ℕ}
+          → Programs (4096 * sector + span.first) (part wanted span) now new sent
+          → more.count ≡ tally.count + 1 → more.transactions ≡ tally.transactions + sent
+          → SpansSoFar sector old wanted (spans ++ span ∷ []) rest first new more
+      spans_more programs count transactions = record {
+        whole = so.whole;
+        wanted_whole = so.wanted_whole;
+        are = so.are;
+        listed = listed_more so.listed next aims_next leaves.stirs programs.ends count transactions;
+        done = λ honest can.
+            let filled = so.done honest can in
+            let still = so.listed.ran.nature.honest ∙ honest in
+            span_filled spanned spans can filled (programs.done still (can_span spanned spans can filled))
+            (programs.ends.idle still);
+      }

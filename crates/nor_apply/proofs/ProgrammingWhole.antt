@@ -23,9 +23,8 @@ use Rattle.nor_apply.specs.Change.{only, byte_of}
 use Rattle.nor_apply.specs.Spending.{NamesTimeoutIn}
 use Rattle.nor_apply.specs.Programming.{CanProgramSpans, LeavesSpans, DoesSpans, CanProgramSector, Loads, LeavesSector, DoesSector, CanProgramAll, LeavesPrograms, DoesPrograms, most_sector}
 use Rattle.nor_apply.proofs.InTurn.{Ran, aims_after, ran_after, spends_after, ran_none, spends_ended, halts_after}
-use Rattle.nor_apply.proofs.Alone.{only-here, count_below-next, only-is}
+use Rattle.nor_apply.proofs.Alone.{only-here, count_below-next, only-is, shown_byte}
 use Rattle.nor_apply.proofs.Changing.{can_after, change_then, change_as, HasMade, made_of, changed_of, made_may, changed_may, made_none, made_same, made_then}
-use Rattle.nor_apply.proofs.ProgrammingSpans.{shown_byte}
 
 -- ---- a sector that is read, or known to be blank, and then programmed
 

@@ -1,7 +1,7 @@
 use Rattle.std.proofs.Common.{ℕ, ◌+◌, refl, ap, arith}
 use Rattle.std.proofs.lemmas.Grind.{common_steps}
 use Rattle.nor_plan.specs.Spans.{spans_left}
-use Rattle.nor_apply.proofs.ProgrammingExits.{spans_none, spans_more, few_spans, spans_halted, does_ended, leaves_ended}
+use Rattle.nor_apply.proofs.ProgrammingSpans.{spans_none, spans_more, few_spans, spans_halted, does_ended, leaves_ended}
 use Rattle.nor_apply.proofs.programs.program_spans.Goals as goal
 
 pub loop-span-init : goal.loop-span-init

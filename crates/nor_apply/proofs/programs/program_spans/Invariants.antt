@@ -1,5 +1,5 @@
 use Rattle.nor_plan.specs.Spans.{spans_left}
-use Rattle.nor_apply.proofs.ProgrammingExits.{SpansSoFar}
+use Rattle.nor_apply.proofs.ProgrammingSpans.{SpansSoFar}
 use Rattle.nor_apply.proofs.programs.program_spans.Given as goal
 
 -- the spans that have come are programmed, and with those that are left they are the sector's
