@@ -1,5 +1,5 @@
 -- Verifying, from the probe and the comparison after it.
-use Rattle.std.proofs.Common.{◌≡◌, ◌≢◌, ◌∙◌, ℕ, true, List, length, Option, Some, None, Result, Ok, Err, refl, sym}
+use Rattle.std.proofs.Common.{◌≡◌, ◌≢◌, ◌∙◌, ℕ, true, List, length, Option, Some, None, Result, Ok, Err}
 use Rattle.std.proofs.Common.{arith}
 use Rattle.std.specs.Prelude.{◌/◌}
 use Rattle.nor_chip.specs.Bus.{BusState}
@@ -54,12 +54,8 @@ module _ (named : Option ChipName) (included : Option (List Span)) (image : List
       (looks : Looks most_probe old mid) where
     pub other_size : length image ≢ probed.found.size
         → Verified named included image old mid (Err (ImageSize probed.found.size (length image)))
-    other_size differ = refused _ (sends_probe looks) tt found.rested (λ known. record {
-      is = has_name found looks known.honest;
-      of_chip = size_of found looks known;
-      of_image = refl;
-      differ = λ same. differ (same ∙ sym (size_of found looks known));
-    })
+    other_size differ = refused _ (sends_probe looks) tt found.rested (λ known.
+        let size = size_of found looks known in search (has_name found looks, rw size at differ))
 
     pub past : length image ≡ probed.found.size → ReachesPast included probed.found.size
         → Verified named included image old mid (Err RegionOutside)
@@ -85,12 +81,8 @@ module _ (named : Option ChipName) (included : Option (List Span)) (image : List
 
         pub mismatch : (address : ℕ) → compared.first ≡ Some address
             → Verified named included image old new (Err (Mismatch address))
-        mismatch address is = refused _ (sends_on found looks after) tt (rested_on found looks all.rested)
-            (λ known. record {
-              taken = is_taken found looks fits known;
-              whole = whole ∙ size_of found looks known;
-              first = first_before (Some address) is known;
-            })
+        mismatch address is = refused _ (sends_on found looks after) tt (rested_on found looks all.rested) (λ known.
+            search (is_taken found looks fits, whole ∙ size_of found looks known, first_before (Some address) is known))
 
         pub equal : compared.first ≡ None
             → Verified named included image old new (Ok (report_of probed compared.reads))

@@ -90,12 +90,7 @@ module _ (named : Option ChipName) where
           → locked ≡ is_lock_set bytes
           → HasTold named old new (Ok (record { range = range; locked = locked; size = probed.found.size }))
       told bytes range locked same scheme are places lock = record {
-        always = record {
-          looks = looks_all;
-          sized = found.is.part.sized;
-          refuses = tt;
-          heard = same ∙ found.heard;
-        };
+        always = search (looks_all, same ∙ found.heard);
         honest = λ honest.
             let rested = rested_on found looks (λ is. (reads.read is).rested) honest in
             let idle = found.idle honest in
@@ -108,14 +103,8 @@ module _ (named : Option ChipName) where
             let two : status2 ≡ old.chip.kept2 = reads.told (looks.nature.honest ∙ known.honest) ∙ was.kept2 in
             let protects : old.chip.config.scheme ≡ true = sym (found.is.config known).scheme ∙ scheme in
             let code : code_in bytes ≡ code_of old.chip = rw (are, one, two) refl in
-            record {
-              told = record {
-                scheme = protects;
-                guarded = range_read old.chip range protects (rw (code, size_of found looks known) at places);
-                lock = lock ∙ ap is_lock_set are
-                    ∙ lock_read probed.found.status1 status2 old.chip.kept1 old.chip.kept2 one two;
-                chip_size = size_of found looks known;
-              };
-              tells = tt;
-            };
+            let guarded = range_read old.chip range protects (rw (code, size_of found looks known) at places) in
+            let locks = lock ∙ ap is_lock_set are
+            ∙ lock_read probed.found.status1 status2 old.chip.kept1 old.chip.kept2 one two in
+            search (size_of found looks known);
       }

@@ -9,7 +9,6 @@ use Rattle.std.specs.Str.Pattern.{FindsTextPrefix, StripsPrefix}
 use Rattle.std.proofs.lemmas.Str.Pattern.{starts_text}
 use Rattle.nor_words.specs.Programmer.{are_settings, chip_named, is_programmer_text, said, settings_of}
 use Rattle.nor_words.specs.Text.{Text}
-use Rattle.nor_words.specs.declared.programmer.Emulated.{Emulated}
 
 pub stripped : (p s : List ℕ) (r : Option (Bor (List ℕ)))
     → MatchOption r (FindsTextPrefix p s None) (λ x. StripsPrefix (FindsTextPrefix p) s x.now)
@@ -27,11 +26,6 @@ is_programmer-unsound text unsound = grind arith
 pub is_programmer-unnamed : (text : Text) → option_and_then chip_named (said text (codes "emulate")) ≡ None
     → is_programmer_text text ≡ false
 is_programmer-unnamed text unnamed = grind arith
-
-pub is_programmer-sound : (text : Text) (chip : Emulated) → starts_with nat_eq text (codes "dummy:") ≡ true
-    → are_settings (settings_of text) ≡ true → option_and_then chip_named (said text (codes "emulate")) ≡ Some chip
-    → is_programmer_text text ≡ true
-is_programmer-sound text chip begins sound named = rw (begins, sound, named) refl
 
 -- a reading of a text that there may be
 pub and_then-read : {T : Type 0} (f : Text → Option T) (o : Option (Bor Text)) (r : Option T)

@@ -96,12 +96,9 @@ either true true c first more is = first refl refl
 either true false c first more is = more is
 either false b c first more is = more is
 
--- what a setting has by its key
-abbrev HasBy : Text → Type 0 → OfKey
-HasBy setting P T key is_value read place = has_key key setting ≡ true → is_value (value_of setting) ≡ true → P
-
 -- what holds of a setting, whichever key it has
-any-key : (setting : Text) (P : Type 0) → EachKey (HasBy setting P) → is_setting setting ≡ true → P
+any-key : (setting : Text) (P : Type 0) → EachKey (λ T key is_value read place. has_key key setting ≡ true
+    → is_value (value_of setting) ≡ true → P) → is_setting setting ≡ true → P
 any-key setting P each =
     either _ _ _ each.chip (either _ _ _ each.image (either _ _ _ each.status (either _ _ _ each.trace
     (either _ _ _ each.stop (either _ _ _ each.unique (either _ _ _ each.busy

@@ -1,5 +1,5 @@
 -- Numbers of digits, and a range of two.
-use Rattle.std.proofs.Common.{◌≡◌, ℕ, ◌^◌, ◌<◌, ◌≤◌, ◌==◌, ◌&&◌, Bool, true, false, [], ◌∷◌, Option, Some, None, Result}
+use Rattle.std.proofs.Common.{◌≡◌, ℕ, ◌^◌, ◌<◌, ◌≤◌, ◌==◌, ◌&&◌, Bool, true, [], ◌∷◌, Option, Some, None, Result}
 use Rattle.std.proofs.Common.{Ok, Err, length, cond, ap, sym, refl, arith, inl, inr, nat_lt, nat_le, option_map}
 use Rattle.std.specs.Prelude.{option_and_then}
 use Rattle.std.specs.Char.{digit_value, is_digit}
@@ -55,13 +55,7 @@ numeral-parsed radix most greatest text (Err e) low fits all short parses =
   where
     unread : (long small : Bool) (value : ℕ) → (long ≡ true → small ≡ true → ⊥)
         → cond (long && small) (Some value) None ≡ None
-    unread true true value none = absurd (none refl refl)
-    unread true false value none = refl
-    unread false small value none = refl
-
--- a start, with the length that there may be
-abbrev with_len : Option ℕ → ℕ → Option (ℕ × ℕ)
-with_len len start = option_map (λ len. (start, len)) len
+    unread long small value none = grind arith
 
 -- no range is without a comma
 pub range_of-uncut : (text : Text) → position_or_len (λ byte. byte == 44) text ≡ length text → range_of text ≡ None
@@ -69,6 +63,7 @@ range_of-uncut text uncut =
     let none : rest_of text ≡ [] = at_drop_all (λ (x : Text). x) text _ (omega (arith, uncut)) in
     rw none (empty (place_of (front_of text)))
   where
-    empty : (start : Option ℕ) → option_and_then (with_len (place_of [])) start ≡ None
+    empty : (start : Option ℕ)
+        → option_and_then {U = ℕ × ℕ} (λ start. option_map (λ len. (start, len)) (place_of [])) start ≡ None
     empty None = refl
     empty (Some x) = refl

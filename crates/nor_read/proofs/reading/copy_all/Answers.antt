@@ -1,13 +1,10 @@
-use Rattle.std.proofs.Common.{◌≡◌, ◌*◌, ◌/◌, length, option_copied, arith}
-use Rattle.std.proofs.lemmas.Grind.{common_steps}
+use Rattle.std.proofs.Common.{arith, rules}
 use Rattle.nor_chip.proofs.Sizes.{is_chip_size-in_blocks}
 use Rattle.nor_read.proofs.Copied.{copied_none, copied_more, copy_fails, copied_all}
 use Rattle.nor_read.proofs.reading.copy_all.Goals as goal
 
 pub loop-piece-init : goal.loop-piece-init
-loop-piece-init g c =
-    copied_none (option_copied c.args.included) c.args.size (g.B.Bus.state c.args.bus.now)
-    (g.V.Vault.state c.args.out.now)
+loop-piece-init g c = search (rules, copied_none)
 
 pub loop-piece-preserved : goal.loop-piece-preserved
 loop-piece-preserved g c = copied_more (omega arith) (omega arith) c.loop-piece.invariant c.read_piece.ensures.leaves
@@ -15,13 +12,10 @@ loop-piece-preserved g c = copied_more (omega arith) (omega arith) c.loop-piece.
 
 pub returns-in_err-put_piece-clause-tells : goal.returns-in_err-put_piece-clause-tells
 returns-in_err-put_piece-clause-tells g c =
-    let long : length c.read_piece.new.bytes ≡ 65536 = omega arith in
-    let before = copy_fails (omega arith) long c.loop-piece.invariant c.read_piece.ensures.leaves
+    let before = copy_fails (omega arith) (omega arith) c.loop-piece.invariant c.read_piece.ensures.leaves
     c.in_ok-reads.ensures.reads _ c.in_err-put_piece.field-0.0 c.in_err-put_piece.ensures.tells in
-    grind (arith, common_steps, before)
+    search (rules, before)
 
 pub returns-clause-reads : goal.returns-clause-reads
 returns-clause-reads g c =
-    let blocks = (is_chip_size-in_blocks c.args.size c.requires.sized).blocks in
-    let sectors : 16 * c.loop-piece.piece ≡ c.args.size / 4096 = omega arith in
-    copied_all (omega arith) c.loop-piece.invariant (rw sectors at c.loop-piece.invariant.counted)
+    let blocks = (is_chip_size-in_blocks c.args.size c.requires.sized).blocks in search (rules, copied_all)

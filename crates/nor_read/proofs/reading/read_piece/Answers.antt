@@ -1,22 +1,19 @@
-use Rattle.std.proofs.Common.{◌≡◌, ◌+◌, ◌-◌, ◌*◌, ◌∙◌, length, option_copied, arith}
+use Rattle.std.proofs.Common.{◌≡◌, ◌+◌, ◌-◌, ◌*◌, ◌∙◌, arith, rules}
 use Rattle.nor_plan.proofs.Parts.{part_long}
 use Rattle.nor_read.proofs.Pieces.{pieced_none, pieced_more, pieced_all}
 use Rattle.nor_read.proofs.reading.read_piece.Goals as goal
 
 pub loop-k-init : goal.loop-k-init
-loop-k-init g c =
-    pieced_none (option_copied c.args.included) c.args.piece c.args.bytes.now (g.B.Bus.state c.args.bus.now)
+loop-k-init g c = search (rules, pieced_none)
 
 pub loop-k-preserved : goal.loop-k-preserved
 loop-k-preserved g c =
     let k = c.loop-k.k in
     let width = 4096 * k + 4096 - 4096 * k in
     let exact : width ≡ 4096 = omega arith in
-    let whole : length c.loop-k.bytes ≡ 65536 = omega arith in
-    let part : length c.read_part.new.bytes ≡ 4096
-    = c.read_part.auto.bytes ∙ part_long c.loop-k.bytes (4096 * k) width exact (omega arith) in
-    pieced_more width (omega arith) exact whole part c.loop-k.invariant c.read_part.ensures.leaves
-    c.in_ok-reads.ensures.reads
+    pieced_more width (omega arith) exact (omega arith)
+    (c.read_part.auto.bytes ∙ part_long c.loop-k.bytes (4096 * k) width exact (omega arith)) c.loop-k.invariant
+    c.read_part.ensures.leaves c.in_ok-reads.ensures.reads
 
 pub returns-clause-reads : goal.returns-clause-reads
-returns-clause-reads g c = pieced_all (omega arith) c.loop-k.invariant
+returns-clause-reads g c = search (rules, pieced_all)

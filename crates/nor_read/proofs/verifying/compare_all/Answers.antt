@@ -1,10 +1,9 @@
-use Rattle.std.proofs.Common.{option_copied, arith}
+use Rattle.std.proofs.Common.{arith, rules}
 use Rattle.nor_read.proofs.Differing.{compared_none, compared_more}
 use Rattle.nor_read.proofs.verifying.compare_all.Goals as goal
 
 pub loop-sector-init : goal.loop-sector-init
-loop-sector-init g c =
-    compared_none (option_copied c.args.included) c.args.image.now c.args.size (g.B.Bus.state c.args.bus.now)
+loop-sector-init g c = search (rules, compared_none)
 
 pub loop-sector-preserved : goal.loop-sector-preserved
 loop-sector-preserved g c = rw c.or-first.ensures (compared_more (omega arith) c.loop-sector.invariant

@@ -1,16 +1,15 @@
-use Rattle.std.proofs.Common.{◌∙◌, List, Result, Ok, Err, IfOk, ap, ap₂, sym}
+use Rattle.std.proofs.Common.{◌∙◌, List, ap, ap₂, sym}
 use Rattle.std.proofs.lemmas.List.Folds.{fold-map}
+use Rattle.std.proofs.lemmas.Result.{IfOk-weaker}
 use Rattle.clap.specs.Words.{App, Rule, app_of, with_rule}
 use Rattle.nor_words.specs.Options.{chosen, most_rules, with_rules}
 use Rattle.nor_words.proofs.options.make_options.Goals as goal
 
-if_ok : {T E : Type 0} (P Q : T → Type 0) (result : Result T E) → ((x : T) → P x → Q x) → IfOk result P → IfOk result Q
-if_ok P Q (Ok x) step is = step x is
-if_ok P Q (Err e) step is = is
-
 pub returns : goal.returns
 returns c =
-    let mapped = c.in_ok-chosen.ensures ∙ sym (fold-map with_rule chosen (app_of c.new_command.result) c.choices.result.now) in
+    let mapped = c.in_ok-chosen.ensures
+    ∙ sym (fold-map with_rule chosen (app_of c.new_command.result) c.choices.result.now) in
     let listed = mapped ∙ ap (λ (rules : List Rule). with_rules (app_of c.new_command.result) rules) c.choices.ensures in
     let all = listed ∙ ap (λ (app : App). with_rules app most_rules) c.new_command.ensures in
-    if_ok _ _ c.arg.result (λ command adds. adds.shape c.help_option.ensures.local ∙ ap₂ with_rule all c.help_option.ensures.rule) c.arg.ensures
+    IfOk-weaker c.arg.result _ _ (λ command adds.
+    adds.shape c.help_option.ensures.local ∙ ap₂ with_rule all c.help_option.ensures.rule) c.arg.ensures

@@ -1,9 +1,9 @@
 use Rattle.std.proofs.Common.{◌∙◌, sym, arith}
+use Rattle.std.proofs.lemmas.Grind.{common_steps}
 use Rattle.std.proofs.lemmas.Iterator.Consumers.{YieldsList-turn, YieldsList-end}
 use Rattle.std.proofs.lemmas.List.{length_push}
 use Rattle.nor_words.specs.Text.{pieces_of}
 use Rattle.nor_words.proofs.InTurn.{yields_pieces, ended}
-use Rattle.nor_words.proofs.Listed.{not_pushed, was_pushed, pushed_is_ok}
 use Rattle.nor_words.proofs.Listed.{stops_of-with, stops-added, stops-ended, stops-full, stops-refused}
 use Rattle.nor_words.proofs.stops.read_stops.Goals as goal
 
@@ -21,22 +21,18 @@ loop-number-preserved c =
     let pieces = yields_pieces c.args.text.now c.into_iter-number-iterator.ensures.into_iter_gives
     c.split-number-items.ensures.text c.split-number-items.ensures.has_more c.split-number-items.ensures.pattern in
     let turn = YieldsList-turn pieces _ _ c.loop-number.yielded_by _ _ _ c.in-Some.is c.next.ensures.steps in
-    let pushed = sym c.ok.ensures.value ∙ c.in_ok-ok.was in
-    let items = was_pushed c.try_push.result _ _ c.try_push.ensures.ok pushed in
-    let room = c.try_push.ensures.variant.0 (pushed_is_ok c.try_push.result _ pushed) in
     let added = stops-added c.loop-number.stops.items _ _ _ turn _
     (sym c.read_number.ensures ∙ c.in_ok-read_number.was) in
     let longer = length_push c.loop-number.yielded c.in-Some.number in
     let longer2 = length_push c.loop-number.stops.items c.in_ok-read_number.field-0 in
-    (tt, tt, rw items (omega arith), rw (items, longer) (sym added ∙ c.loop-number.invariant.3))
+    (tt, tt, grind (arith, common_steps), rw longer (sym (grind (arith, common_steps))))
 
 pub returns-in_err-ok : goal.returns-in_err-ok
 returns-in_err-ok c =
     let pieces = yields_pieces c.args.text.now c.into_iter-number-iterator.ensures.into_iter_gives
     c.split-number-items.ensures.text c.split-number-items.ensures.has_more c.split-number-items.ensures.pattern in
     let turn = YieldsList-turn pieces _ _ c.loop-number.yielded_by _ _ _ c.in-Some.is c.next.ensures.steps in
-    let full = not_pushed c.try_push.result _ c.try_push.ensures.full (sym c.ok.ensures.value ∙ c.in_err-ok.was) in
-    let refused = stops-full c.loop-number.stops.items _ _ _ turn (omega arith) in
+    let refused = stops-full c.loop-number.stops.items _ _ _ turn (grind (arith, common_steps)) in
     rw c.from_residual-in_err-ok.ensures (sym refused ∙ c.loop-number.invariant.3 ∙ stops_of-with c.args.text.now)
 
 pub returns : goal.returns

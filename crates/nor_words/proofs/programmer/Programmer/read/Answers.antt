@@ -1,8 +1,8 @@
-use Rattle.std.proofs.Common.{◌∙◌, Some, codes, sym}
+use Rattle.std.proofs.Common.{◌≡◌, ◌∙◌, true, Some, codes}
 use Rattle.std.proofs.lemmas.Iterator.Consumers.{YieldsList-turn, YieldsList-end}
 use Rattle.std.proofs.lemmas.List.{length_push}
-use Rattle.nor_words.specs.Programmer.{settings_of}
-use Rattle.nor_words.proofs.Begins.{and_then-some, is_programmer-sound, is_programmer-unnamed, is_programmer-unsound}
+use Rattle.nor_words.specs.Programmer.{is_programmer_text, settings_of}
+use Rattle.nor_words.proofs.Begins.{and_then-some, is_programmer-unnamed, is_programmer-unsound}
 use Rattle.nor_words.proofs.Begins.{stripped}
 use Rattle.nor_words.proofs.Gathered.{gathered-last, gathered-next, gathered-refused}
 use Rattle.nor_words.proofs.InTurn.{yields_pieces}
@@ -49,14 +49,6 @@ returns c =
     let end = YieldsList-end pieces _ _ c.loop-setting.yielded_by _ _ c.in-None.is c.next.ensures.steps in
     let last = gathered-last (settings_of c.args.text.now) _ c.loop-setting.settings c.loop-setting.invariant.2 end.1 in
     let chip = last.1.chip ∙ c.in_ok-settings.was in
-    record {
-      sound = is_programmer-sound c.args.text.now c.in_ok-settings.field-0 begins.0 last.0 chip;
-      chip = chip;
-      image = sym (and_then-some _) ∙ last.1.image;
-      status = sym (and_then-some _) ∙ last.1.status;
-      trace = sym (and_then-some _) ∙ last.1.trace;
-      stop = last.1.stop;
-      unique = last.1.unique;
-      busy = last.1.busy;
-      power = last.1.power;
-    }
+    let sound : is_programmer_text c.args.text.now ≡ true = rw (begins.0, last.0, chip) in
+    let values = last.1 in
+    search (rw and_then-some at values.image, rw and_then-some at values.status, rw and_then-some at values.trace)
