@@ -1,7 +1,8 @@
 -- A sector's part of an image.
-use Rattle.std.proofs.Common.{◌≡◌, ◌≢◌, ◌<◌, ◌≤◌, ◌+◌, ◌-◌, ◌*◌, ◌/◌, ◌∙◌, ◌++◌, ℕ, List, length, take, drop, slice_index, ap, arith, inl, inr}
+use Rattle.std.proofs.Common.{◌≡◌, ◌≢◌, ◌<◌, ◌≤◌, ◌+◌, ◌*◌, ◌/◌, ◌∙◌, ℕ, List, length, take, drop, slice_index, subst, sym, ap, arith, inl, inr}
 use Rattle.std.proofs.lemmas.Bool.{cases_lt}
-use Rattle.std.proofs.lemmas.List.{get_or-take, get_or-drop, get_or_append_left, get_or-append_right, length-take-le, length-drop}
+use Rattle.std.proofs.lemmas.List.{get_or-take, get_or-drop, length-take-le, length-drop}
+use Rattle.std.proofs.lemmas.Simd.{put_chunk_is, get_or-put_chunk_at, get_or-put_chunk_below, get_or-put_chunk_above}
 use borrow.Rule.Slice.PartMut.{put_mid}
 
 -- The image after a sector's part of it was written: the part is new, and nothing else.
@@ -19,21 +20,12 @@ part_long image start k long fits = length-take-le k (drop start image) (let beh
 -- the part was put back
 pub put_back : (n k : ℕ) (image part : List ℕ) → k ≡ 4096 → length part ≡ 4096 → 4096 * n + 4096 ≤ length image → HasPart n part image (put_mid (4096 * n) k image part)
 put_back n k image part long whole fits =
-    let front : length (take (4096 * n) image) ≡ 4096 * n = length-take-le (4096 * n) image (omega arith) in
-    let rest = drop k (drop (4096 * n) image) in
-    record {
-      inside = λ i below.
-          get_or-append_right (take (4096 * n) image) _ (4096 * n) (4096 * n + i) 0 front (omega arith)
-          ∙ ap (λ (j : ℕ). slice_index (part ++ rest) j) (let e : 4096 * n + i - 4096 * n ≡ i = omega arith in e)
-          ∙ get_or_append_left part rest 0 i (omega arith);
-      outside = λ a other.
-          elim (cases_lt a (4096 * n)) [
-            | inl before ↦ get_or_append_left (take (4096 * n) image) _ 0 a (omega arith) ∙ get_or-take (4096 * n) image a 0 before
-            | inr after ↦
-                get_or-append_right (take (4096 * n) image) _ (4096 * n) a 0 front after
-                ∙ get_or-append_right part rest 4096 (a - 4096 * n) 0 whole (omega arith)
-                ∙ get_or-drop k (drop (4096 * n) image) (a - 4096 * n - 4096) 0
-                ∙ get_or-drop (4096 * n) image (k + (a - 4096 * n - 4096)) 0
-                ∙ ap (λ (j : ℕ). slice_index image j) (let e : 4096 * n + (k + (a - 4096 * n - 4096)) ≡ a = omega arith in e)
-          ];
-    }
+    let at = 4096 * n in
+    let put = put_chunk_is at image part (omega arith) ∙ ap (λ (j : ℕ). put_mid at j image part) (whole ∙ sym long) in
+    subst (HasPart n part image) put (record {
+      inside = λ i below. get_or-put_chunk_at at image part i 0 (omega arith) (omega arith);
+      outside = λ a other. elim (cases_lt a at) [
+        | inl before ↦ get_or-put_chunk_below at image part a 0 before
+        | inr after ↦ get_or-put_chunk_above at image part a 0 (omega arith)
+      ];
+    })

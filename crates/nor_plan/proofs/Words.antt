@@ -1,11 +1,10 @@
 -- A set of sectors by the bits of its 64 words.
 use Rattle.std.proofs.Common.{ℕ, zero, suc, ◌≡◌, ◌≢◌, ◌<◌, ◌≤◌, ◌+◌, ◌-◌, ◌*◌, ◌/◌, ◌%◌, ◌^◌, ◌==◌, Bool, false, nat_eq, ◌||◌, List, length, get_or, set, replicate, bit_or, get_or-set_other, refl, sym, ap, ◌∙◌, inl, inr, arith, w64}
 use Rattle.std.specs.Int.{bit_at, trailing_zeros}
-use Rattle.std.proofs.lemmas.Bool.{cases_lt, cases_eq}
+use Rattle.std.proofs.lemmas.Bool.{cases_lt, cases_eq, eq-eqb, ne_eqb}
 use Rattle.std.proofs.lemmas.List.{get_or-set_same, get_or_past}
 use Rattle.std.proofs.lemmas.Nat.{pow-add}
 use Rattle.std.proofs.Math.Nat.{div-div-eq-div-mul, div-le_self}
-use Rattle.std.proofs.lemmas.Bool.Decides.{nat_tests}
 use Rattle.std.proofs.lemmas.Nat.Bits.{bit_at-zero, bit_at_above, bit_at-trailing_zeros, bit_at_set_same, bit_at_set_other}
 use Rattle.nor_plan.specs.declared.set.SectorSet.{SectorSet}
 use Rattle.nor_plan.specs.SectorSet.{has, IsLeastFrom}
@@ -36,14 +35,14 @@ bit_of-with_bit words sector there s =
           elim (cases_eq (s % 64) (sector % 64)) [
             | inl column ↦
                 let same : s ≡ sector = omega arith in
-                rw (row, read, column, bit_at_set_same w64 old (sector % 64) within) (grind (arith, nat_tests))
+                rw (row, read, column, bit_at_set_same w64 old (sector % 64) within, eq-eqb s sector same)
             | inr column ↦
-                let other : s ≢ sector = λ same. column (ap (λ k. k % 64) same) in
-                rw (row, read, bit_at_set_other w64 old (sector % 64) within (s % 64) column) (grind (arith, nat_tests))
+                let other = ne_eqb s sector (λ same. column (ap (λ k. k % 64) same)) in
+                rw (row, read, bit_at_set_other w64 old (sector % 64) within (s % 64) column, other)
           ]
       | inr row ↦
-          let other : s ≢ sector = λ same. row (ap (λ k. k / 64) same) in
-          rw (get_or-set_other words (sector / 64) (s / 64) new 0 row) (grind (arith, nat_tests))
+          let other = ne_eqb s sector (λ same. row (ap (λ k. k / 64) same)) in
+          rw (get_or-set_other words (sector / 64) (s / 64) new 0 row, other)
     ]
 
 -- the bits of a word that is shifted
