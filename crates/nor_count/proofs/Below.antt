@@ -1,7 +1,7 @@
 -- Tests of the numbers below a bound.
 use Rattle.std.proofs.Common.{◌≡◌, ◌<◌, ◌≤◌, ◌+◌, ℕ, zero, suc, Bool, true, false, add-one, refl, sym, ap, ◌∙◌, inl, inr, arith}
 use Rattle.std.specs.Prelude.{MatchBool, if◌then◌else◌}
-use Rattle.std.proofs.lemmas.Bool.{cases_Bool, cases_eq, or_left, or_right, or_cases, both_ways}
+use Rattle.std.proofs.lemmas.Bool.{cases_Bool, cases_eq, or_left, or_right, or_cases, both_ways, false_from_ne_true}
 use Rattle.nor_count.specs.Below.{any_below, count_below}
 
 -- two tests of which each implies the other
@@ -35,10 +35,7 @@ any_below-cases n test =
     elim (cases_Bool (any_below n test)) [
       | inl some ↦ rw some (any_below-found n test some)
       | inr none ↦ rw none (λ k below.
-          elim (cases_Bool (test k)) [
-            | inl passes ↦ absurd (both_ways _ none (any_below-some n k test below passes))
-            | inr fails ↦ fails
-          ])
+          false_from_ne_true _ (λ passes. both_ways _ none (any_below-some n k test below passes)))
     ]
 
 -- a count goes up number by number
@@ -49,14 +46,6 @@ count_below-zero test = refl
 pub count_below-more : (n : ℕ) (test : ℕ → Bool) → count_below (n + 1) test ≡ count_below n test + (if test n then 1 else 0)
 unfolding count_below
 count_below-more n test = ap (λ (m : ℕ). count_below m test) (add-one n)
-
--- all of them pass
-pub count_below-all : (n : ℕ) (test : ℕ → Bool) → ((k : ℕ) → k < n → test k ≡ true) → count_below n test ≡ n
-unfolding count_below
-count_below-all zero test all = refl
-count_below-all (suc n) test all =
-    let rest : count_below n test ≡ n = count_below-all n test (λ k below. all k (omega arith)) in
-    rw (all n (omega arith)) (omega (arith, rest))
 
 pub count_below-most : (n : ℕ) (test : ℕ → Bool) → count_below n test ≤ n
 unfolding count_below

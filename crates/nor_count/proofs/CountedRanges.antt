@@ -1,5 +1,5 @@
 -- What passes a test among the numbers below one is counted.
-use Rattle.std.proofs.Common.{ℕ, zero, suc, ◌≡◌, ◌<◌, ◌+◌, Bool, cond, [], ◌∷◌, ◌++◌, refl, sym, ap, ◌∙◌, add-one, arith}
+use Rattle.std.proofs.Common.{ℕ, zero, suc, ◌≡◌, ◌+◌, Bool, cond, [], ◌∷◌, ◌++◌, sym, ap, ◌∙◌, add-one, arith}
 use Rattle.std.specs.Prelude.{count_by}
 use Rattle.std.specs.List.{range_with_len}
 use Rattle.std.proofs.lemmas.List.Sums.{sum_by_push}
@@ -21,12 +21,4 @@ count_by-more test n =
 pub count_by-range : (test : ℕ → Bool) (count : ℕ → ℕ) → IsCount test count → (n : ℕ) → count_by test (range_with_len 0 n) ≡ count n
 count_by-range test count is zero = sym is.begins
 count_by-range test count is (suc n) =
-    count_by-more test n ∙ ap (λ k. k + cond (test n) 1 0) (count_by-range test count is n)
-    ∙ sym (is.goes n) ∙ ap count (add-one n)
-
--- tests that agree below n
-pub count_by-same : (p q : ℕ → Bool) (n : ℕ) → ((k : ℕ) → k < n → p k ≡ q k) → count_by p (range_with_len 0 n) ≡ count_by q (range_with_len 0 n)
-count_by-same p q zero same = refl
-count_by-same p q (suc n) same =
-    count_by-more p n ∙ ap (λ k. k + cond (p n) 1 0) (count_by-same p q n (λ k below. same k (omega arith)))
-    ∙ ap (λ b. count_by q (range_with_len 0 n) + cond b 1 0) (same n (omega arith)) ∙ sym (count_by-more q n)
+    count_by-more test n ∙ rw (count_by-range test count is n, ← is.goes n) (ap count (add-one n))

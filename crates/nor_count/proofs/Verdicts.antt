@@ -21,13 +21,11 @@ count_below-insert (suc n) k p q below fails inserted =
       | inl same ↦
           let old : p n ≡ false = ap p (sym same) ∙ fails in
           let new : q n ≡ true = inserted n ∙ or_left (n == k) (p n) (eq-eqb n k (sym same)) in
-          let rest : count_below n q ≡ count_below n p = count_below-same n q p (λ s lower. inserted s ∙ ap (λ (b : Bool). b || p s) (ne_eqb s k (λ e. absurd (omega arith)))) in
-          ap (λ (b : Bool). count_below n q + (if b then 1 else 0)) new
-          ∙ (let e : count_below n q + 1 ≡ count_below n p + 0 + 1 = omega arith in e)
-          ∙ ap (λ (b : Bool). count_below n p + (if b then 1 else 0) + 1) (sym old)
+          let rest : count_below n q ≡ count_below n p =
+          count_below-same n q p (λ s lower. inserted s ∙ rw (ne_eqb s k (λ e. absurd (omega arith)))) in
+          rw (new, old, rest) (omega arith)
       | inr other ↦
           let rest : count_below n q ≡ count_below n p + 1 = count_below-insert n k p q (omega arith) fails inserted in
-          let here : q n ≡ p n = inserted n ∙ ap (λ (b : Bool). b || p n) (ne_eqb n k (λ e. other (sym e))) in
-          ap (λ (b : Bool). count_below n q + (if b then 1 else 0)) here
-          ∙ (let e : count_below n q + (if p n then 1 else 0) ≡ count_below n p + (if p n then 1 else 0) + 1 = omega arith in e)
+          let here : q n ≡ p n = inserted n ∙ rw (ne_eqb n k (λ e. other (sym e))) in
+          rw (here, rest) (omega arith)
     ]
