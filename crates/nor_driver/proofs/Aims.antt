@@ -1,11 +1,11 @@
 -- What was aimed at, over one transaction after another.
-use Rattle.std.proofs.Common.{◌≡◌, ◌≤◌, ◌+◌, ◌-◌, ◌^◌, ◌||◌, ◌∙◌, ◌⊎◌, ℕ, Bool, true, false, cond, List, [], ◌∷◌, ap, refl, arith, inl, inr}
+use Rattle.std.proofs.Common.{◌≡◌, ◌≤◌, ◌+◌, ◌-◌, ◌^◌, ℕ, Bool, true, false, cond, List, [], ◌∷◌, arith, inl, inr}
 use Rattle.std.specs.Prelude.{min}
 use Rattle.std.proofs.lemmas.Bool.{cases_Bool}
 use Rattle.std.proofs.lemmas.Bool.Decides.{nat_tests}
 use Rattle.std.proofs.Math.Bool.{or-false}
 use Rattle.nor_chip.specs.Command.{begins_change}
-use Rattle.nor_chip.specs.Sent.{aims, aim_none, is_in_aim, begins_status_write, is_aimed_at, is_stirred, status_writes_of}
+use Rattle.nor_chip.specs.Sent.{aims, aim_none, is_in_aim, begins_status_write, is_stirred, status_writes_of}
 use Rattle.nor_chip.specs.Bus.{BusState, Sends}
 use Rattle.nor_driver.specs.Operations.{AimsWithin, Stirs, writes_in}
 

@@ -1,20 +1,18 @@
 -- An operation is write enable, a command and a wait: what the three leave together.
-use Rattle.std.proofs.Common.{◌≡◌, ◌+◌, ◌⊎◌, ◌∙◌, ℕ, Bool, true, false, not, cond, List, [], ◌∷◌, length, sym, refl, subst, arith, inl, inr}
+use Rattle.std.proofs.Common.{◌≡◌, ◌+◌, ◌⊎◌, ℕ, true, false, not, List, [], ◌∷◌, length, arith, inl, inr}
 use Rattle.std.specs.Prelude.{◌==◌, if◌then◌else◌}
 use Rattle.std.proofs.lemmas.Bool.Decides.{eqb_tells, nat_tests}
 use Rattle.std.proofs.Math.Bool.{or-false}
-use Rattle.nor_chip.specs.declared.running.Running.{Running}
 use Rattle.nor_chip.specs.declared.command.Command.{Command}
-use Rattle.nor_chip.specs.declared.command.Command.TheVariants.{WriteEnable, WriteStatus, Program, Erase, Ignored}
+use Rattle.nor_chip.specs.declared.command.Command.TheVariants.{Ignored}
 use Rattle.nor_chip.specs.Chip.{Chip}
 use Rattle.nor_chip.specs.Power.{is_in_work, KeptStay, KeptCut}
-use Rattle.nor_chip.specs.Command.{command_of}
-use Rattle.nor_chip.specs.Step.{Does, is_idle, is_operation, is_carried_out, done_of, byte_after, kept1_after, kept2_after, running_after}
+use Rattle.nor_chip.specs.Step.{Does, is_idle, is_operation, done_of, byte_after, kept1_after, kept2_after, running_after}
 use Rattle.nor_chip.specs.Bus.{BusState, Carries}
 use Rattle.nor_chip.proofs.Steps.{done-agrees}
 use Rattle.nor_driver.specs.Looks.{Unchanged, Stays}
 use Rattle.nor_driver.specs.Waits.{HasWaited, latch_when_idle}
-use Rattle.nor_driver.specs.Operations.{operation_of, is_operation_or_none, AsksForOperation, MayOperate, HasOperated}
+use Rattle.nor_driver.specs.Operations.{operation_of, AsksForOperation, MayOperate, HasOperated}
 use Rattle.nor_driver.proofs.Readings.{Wore, no_operation}
 
 -- After write enable: an idle chip has its latch set, and nothing else changed.

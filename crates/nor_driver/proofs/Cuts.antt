@@ -1,12 +1,10 @@
 -- What a stop leaves, and what transactions leave that only read, one after another.
-use Rattle.std.proofs.Common.{◌≡◌, ◌≤◌, ◌⊎◌, ◌∙◌, ap, subst, arith, inl, inr}
-use Rattle.std.proofs.lemmas.Bool.{cases_eq}
+use Rattle.std.proofs.Common.{◌≡◌, arith}
 use Rattle.nor_chip.specs.declared.running.Running.{Running}
-use Rattle.nor_chip.specs.declared.running.Running.TheVariants.{StatusWrite, Unknown}
 use Rattle.nor_chip.specs.Chip.{Chip, IsSame}
-use Rattle.nor_chip.specs.Power.{is_in_work, KeptStay, KeptCut}
+use Rattle.nor_chip.specs.Power.{KeptStay, KeptCut}
 use Rattle.nor_chip.specs.Bus.{BusState, Stops}
-use Rattle.nor_driver.specs.Looks.{IsCalm, Unchanged, Stays}
+use Rattle.nor_driver.specs.Looks.{Unchanged, Stays}
 
 -- kept bits that stayed weren't cut off
 kept_cut-stay : (running : Running) (old new : Chip) → KeptStay old new → KeptCut running old new

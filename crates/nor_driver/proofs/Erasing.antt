@@ -1,5 +1,5 @@
 -- What the erase of a unit does, from what an operation does.
-use Rattle.std.proofs.Common.{◌≡◌, ◌<◌, ◌+◌, ◌*◌, ◌/◌, ◌&&◌, ◌∙◌, ℕ, Bool, true, false, not, cond, nat_lt, nat_le, List, [], ◌∷◌, drop, ap, refl, subst, arith}
+use Rattle.std.proofs.Common.{◌≡◌, ◌<◌, ◌+◌, ◌*◌, ◌/◌, ◌&&◌, ◌∙◌, ℕ, Bool, true, not, cond, nat_lt, nat_le, List, [], ◌∷◌, drop, ap, refl, arith}
 use Rattle.std.proofs.lemmas.Bool.{eqb-true}
 use Rattle.std.proofs.lemmas.Bool.Decides.{nat_tests}
 use Rattle.std.proofs.Math.Bool.{and-false}
@@ -10,7 +10,7 @@ use Rattle.nor_chip.specs.Chip.{Chip}
 use Rattle.nor_chip.specs.Guard.{is_unit_guarded}
 use Rattle.nor_chip.specs.Command.{address_of}
 use Rattle.nor_chip.specs.Step.{is_idle, is_carried_out}
-use Rattle.nor_chip.specs.Sent.{aims, is_in_aim, aim_unit}
+use Rattle.nor_chip.specs.Sent.{aims}
 use Rattle.nor_chip.specs.Bus.{BusState}
 use Rattle.nor_chip.proofs.Sizes.{sized_bounds}
 use Rattle.nor_driver.specs.declared.units.Erase.{Erase}
@@ -39,27 +39,23 @@ chip_bytes unit opcode x y z same is = cc
 
 pub other_bytes : (unit : EraseUnit) (opcode x y z : ℕ) → opcode ≡ opcode_of unit → (unit ≡ Units.Chip → ⊥)
     → opcode ∷ x ∷ y ∷ z ∷ [] ≡ erase_bytes unit x y z
-other_bytes Units.Chip opcode x y z same other = absurd (other refl)
-other_bytes _ opcode x y z same other = rw same refl
+other_bytes unit opcode x y z same other = grind arith
 
 -- they are aimed at the unit that the erase names
 named : (unit : EraseUnit) (sector x y z : ℕ) → 65536 * x + 256 * y + z ≡ 4096 * sector → sector < 4096
     → (s : ℕ) → aims (erase_bytes unit x y z) s ≡ true
     → is_sector_named (record { unit = unit; sector = sector }) s ≡ true
-named Units.Chip sector x y z names below s is =
-    let first : 0 ≡ sector / 4096 * 4096 = omega (arith, below) in
-    subst (λ (n : ℕ). (nat_le n s && nat_lt s (n + 4096)) ≡ true) first is
 named unit sector x y z names below s is =
     let same : (65536 * x + 256 * y + z) / 4096 ≡ sector = omega (arith, names) in
-    subst (λ (n : ℕ). is_in_aim (aim_unit (sectors_in 4096 unit) n) s ≡ true) same is
+    let first : 0 ≡ sector / 4096 * 4096 = omega (arith, below) in
+    grind (arith, nat_tests)
 
 -- what comes of an erase of places that the chip may have as a unit
 erased_where : (chip : Chip) (has : Bool) (start start' len len' : ℕ) → start ≡ start' → len ≡ len'
     → (let command = cond has (Commands.Erase start len) Commands.Ignored in
     cond (is_carried_out (record chip { latch = true }) command) command Commands.Ignored)
     ≡ cond (is_idle chip && has && not (is_unit_guarded chip start' len')) (Commands.Erase start' len') Commands.Ignored
-erased_where chip true start start' len len' same long = rw (same, long) refl
-erased_where chip false start start' len len' same long = rw (and-false (is_idle chip)) refl
+erased_where chip has start start' len len' same long = grind (arith, and-false)
 
 -- the first address of an aligned unit
 unit_start : (config : Config) (x y z sector len : ℕ) → 65536 * x + 256 * y + z ≡ 4096 * sector

@@ -1,7 +1,7 @@
 -- What an operation leaves wherever it ends: at its write enable or its command, in its wait, or well.
 use Rattle.std.proofs.Common.{◌≡◌, ◌+◌, ◌∙◌, ℕ, true, false, List, [], ◌∷◌, length, drop, ap, refl, subst, arith}
 use Rattle.nor_chip.specs.declared.command.Command.{Command}
-use Rattle.nor_chip.specs.Sent.{aims, is_stirred}
+use Rattle.nor_chip.specs.Sent.{aims}
 use Rattle.nor_chip.specs.Step.{Does, is_operation, done_of}
 use Rattle.nor_chip.specs.Bus.{BusState, Sends, Stops, Carries}
 use Rattle.nor_chip.proofs.Nature.{nature_then}
@@ -10,7 +10,7 @@ use Rattle.nor_driver.specs.Looks.{Unchanged, Stays, Falls, Looks}
 use Rattle.nor_driver.specs.Waits.{Waits}
 use Rattle.nor_driver.specs.Reads.{HasRead}
 use Rattle.nor_driver.specs.Operations.{operation_of, AsksForOperation, Stirs, writes_in, most_operation, LeavesOperation, Operates}
-use Rattle.nor_driver.proofs.Aims.{aims_none, aims_then, enable_aims, command_aims, still_stirred}
+use Rattle.nor_driver.proofs.Aims.{enable_aims, command_aims, still_stirred}
 use Rattle.nor_driver.proofs.Cuts.{stays_at_stop, stays_after, unchanged_then}
 use Rattle.nor_driver.proofs.Readings.{Wore, carried_ignored}
 use Rattle.nor_driver.proofs.Begun.{IsEnabled, enabled, then_done, operation-ignored, idle-takes, HasBegun, operation-begins, may-before, may-after, operated, latch-kept}
@@ -42,11 +42,9 @@ module _ (out : List ℕ) (asks : AsksForOperation out) (old : BusState) where
     -- the command itself was the last thing sent
     stirs-by : (new : BusState) → Sends out ready new → Stirs (aims out) (writes_in out) old new
     stirs-by new sends' =
-        search (
-          nature_then old ready new sends'.nature sends.nature,
-          command_aims out old ready new sends sends',
-          still_stirred out ready new (sends.sent.stirred refl) sends',
-        )
+        let nature = nature_then old ready new sends'.nature sends.nature in
+        let aimed = command_aims out old ready new sends sends' in
+        search (nature, aimed, still_stirred out ready new (sends.sent.stirred refl) sends')
 
     pub leaves-at_command : (new : BusState) → Sends out ready new → (ready.honest ≡ true → Stops ready new)
         → LeavesOperation out old new
@@ -84,21 +82,17 @@ module _ (out : List ℕ) (asks : AsksForOperation out) (old : BusState) where
           unchanged_then old ready begun (enabling honest).unchanged (was-read honest is).rested.unchanged
 
       pub leaves-at_wait : (new : BusState) → Looks 65536 begun new → LeavesOperation out old new
-      leaves-at_wait new looks = record {
-        stirs =
-            let nature = nature_then old begun new looks.nature stirs.nature in
-            grind (arith, nature, stirs.aims.aimed);
-        falls = λ honest. omega (
-          arith,
-          (looks.looked (stirs.nature.honest ∙ honest)).falls,
-          (enabling honest).count,
-          (carried honest).left,
-        );
-        reached = λ honest is. may-after (operation_of old.chip out) (drop 4 out) old begun new is stirs.nature.steady
-            (has-begun honest is) (looks.looked (stirs.nature.honest ∙ honest)).stays;
-        ignored = λ honest is. stays_after old begun new stirs.nature.steady (unchanged honest is)
-            (looks.looked (stirs.nature.honest ∙ honest)).stays;
-      }
+      leaves-at_wait new looks =
+          let nature = nature_then old begun new looks.nature stirs.nature in
+          let looked = λ (honest : old.honest ≡ true). looks.looked (stirs.nature.honest ∙ honest) in
+          record {
+            stirs = grind (arith, nature, stirs.aims.aimed);
+            falls = λ honest. omega (arith, (looked honest).falls, (enabling honest).count, (carried honest).left);
+            reached = λ honest is.
+                may-after _ _ old begun new is stirs.nature.steady (has-begun honest is) (looked honest).stays;
+            ignored = λ honest is.
+                stays_after old begun new stirs.nature.steady (unchanged honest is) (looked honest).stays;
+          }
 
       pub operates-with : (new : BusState) (waited : Waited) → Waits begun new waited
           → Operates out old new (waited.polls + 2)
@@ -106,11 +100,10 @@ module _ (out : List ℕ) (asks : AsksForOperation out) (old : BusState) where
           let wait = λ (honest : old.honest ≡ true). waits.done (stirs.nature.honest ∙ honest) in
           record {
             ends = grind (arith, waits.some, waits.few, waits.heard, wait, enabling, carried);
-            done = λ honest is. operated (operation_of old.chip out) (drop 4 out) old begun new waited
-                (has-begun honest is) (wait honest);
+            done = λ honest is. operated _ _ old begun new waited (has-begun honest is) (wait honest);
             ignored = λ honest is.
                 let same = unchanged_then old begun new (unchanged honest is) (wait honest).rested.unchanged in
                 let read = was-read honest is in
                 let kept = latch-kept old ready begun (enabling honest) read.latch read.busy in
-                record { same = same.same; worn = same.worn; latch = (wait honest).latch ∙ kept };
+                grind (arith, wait honest, same.same, same.worn, kept);
           }

@@ -1,5 +1,5 @@
 -- Calls that look, one after another, wherever the last of them ends.
-use Rattle.std.proofs.Common.{◌≤◌, ◌+◌, ◌∙◌, ℕ, arith, refl}
+use Rattle.std.proofs.Common.{◌≤◌, ◌+◌, ℕ, arith}
 use Rattle.nor_chip.specs.Bus.{BusState}
 use Rattle.nor_chip.proofs.Nature.{nature_refl, nature_then}
 use Rattle.nor_driver.specs.Looks.{Looks}

@@ -1,14 +1,13 @@
 -- What one transaction that reads leaves, and what it tells.
-use Rattle.std.proofs.Common.{◌≡◌, ◌≤◌, ◌+◌, ◌∙◌, ◌||◌, ℕ, Bool, true, false, cond, List, [], ◌∷◌, length, refl, ap, arith, inl, inr}
-use Rattle.std.specs.Prelude.{Result, Ok, Err, OnOk, OnErr}
+use Rattle.std.proofs.Common.{◌≡◌, ◌≤◌, ◌+◌, ◌||◌, ℕ, true, false, List, [], ◌∷◌, length, refl, ap, arith, inl, inr}
+use Rattle.std.specs.Prelude.{Result, OnOk, OnErr}
 use Rattle.std.proofs.lemmas.Bool.Decides.{eqb_tells}
 use Rattle.std.proofs.Math.Bool.{or-false}
 use Rattle.nor_chip.specs.declared.config.Config.{Config}
 use Rattle.nor_chip.specs.declared.command.Command.{Command}
-use Rattle.nor_chip.specs.declared.command.Command.TheVariants.{WriteStatus, Program, Erase, Ignored}
+use Rattle.nor_chip.specs.declared.command.Command.TheVariants.{Ignored}
 use Rattle.nor_chip.specs.Chip.{Chip}
-use Rattle.nor_chip.specs.Command.{command_of}
-use Rattle.nor_chip.specs.Step.{Does, is_carried_out, is_operation, done_of, wears}
+use Rattle.nor_chip.specs.Step.{Does, is_operation, done_of, wears}
 use Rattle.nor_chip.specs.Bus.{BusState, Sends, Stops, Carries, Hears}
 use Rattle.nor_chip.specs.Heard.{is_poll}
 use Rattle.nor_chip.specs.declared.bus.Stopped.{Stopped}

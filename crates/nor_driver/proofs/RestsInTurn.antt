@@ -1,5 +1,5 @@
 -- Readings that follow one another and succeed, and the one that stops behind them.
-use Rattle.std.proofs.Common.{◌≡◌, ◌<◌, ◌≤◌, ◌+◌, ◌∙◌, ℕ, true, arith}
+use Rattle.std.proofs.Common.{◌≡◌, ◌<◌, ◌≤◌, ◌+◌, ℕ, true, arith}
 use Rattle.nor_chip.specs.Bus.{BusState, KeepsNature}
 use Rattle.nor_chip.proofs.Nature.{nature_refl, nature_then}
 use Rattle.nor_driver.specs.Looks.{Rested, Looks, RanOutIfHonest}

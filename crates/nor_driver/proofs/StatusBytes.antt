@@ -1,9 +1,9 @@
 -- What a status write does that sends the fixed bits as they are, from what an operation does.
-use Rattle.std.proofs.Common.{◌≡◌, ◌<◌, ◌+◌, ◌*◌, ◌/◌, ◌%◌, ◌∙◌, ℕ, Bool, true, false, cond, List, [], ◌∷◌, slice_index, ap, sym, refl, arith}
+use Rattle.std.proofs.Common.{◌≡◌, ◌<◌, ◌+◌, ◌*◌, ◌/◌, ◌%◌, ◌∙◌, ℕ, Bool, true, false, cond, List, [], ◌∷◌, length, slice_index, ap, sym, refl, arith}
 use Rattle.std.specs.Prelude.{◌==◌, bit_and, bit_or}
 use Rattle.std.specs.List.{list_all, range_with_len}
 use Rattle.std.proofs.lemmas.Bool.{eqb-true}
-use Rattle.std.proofs.lemmas.List.Folds.{list_all_at}
+use Rattle.std.proofs.lemmas.List.Sums.{AllPass-from_list_all}
 use Rattle.std.proofs.lemmas.List.FromFn.{get_or-range_with_len, length-range_with_len}
 use Rattle.std.proofs.lemmas.Nat.{and_assoc, and_mask}
 use Rattle.std.proofs.Math.Bool.{or-false, and-true}
@@ -30,13 +30,10 @@ held_as kept sent same =
 
 -- a test that is true of so many numbers is true of each
 every : (test : ℕ → Bool) (n i : ℕ) → list_all test (range_with_len 0 n) ≡ true → i < n → test i ≡ true
-every test n i all small = elim (test i) as (λ b. test i ≡ b → b ≡ true) [
-  | true ↦ λ _. refl
-  | false ↦ λ off.
-      let at = get_or-range_with_len 0 n i 0 small in
-      absurd (cc (list_all_at test (range_with_len 0 n) i 0 (omega (arith, length-range_with_len 0 n))
-      (ap test (omega (arith, at)) ∙ off)))
-] refl
+every test n i all small =
+    let at = get_or-range_with_len 0 n i 0 small in
+    let below : i < length (range_with_len 0 n) = omega (arith, length-range_with_len 0 n) in
+    ap test (omega (arith, at)) ∙ AllPass-from_list_all test (range_with_len 0 n) all i 0 below
 
 -- so the write leaves what is sent: of all seven bits, one by one
 written_as : (kept sent : ℕ) → sent < 128 → kept % 64 ≡ sent % 64 → written kept sent ≡ sent
