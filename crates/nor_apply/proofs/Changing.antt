@@ -1,15 +1,14 @@
 -- How the parts of a change follow one another: the relations of every exit and of the end compose.
-use Rattle.std.proofs.Common.{◌≡◌, ◌≢◌, ℕ, ◌/◌, ◌⊎◌, inl, inr, true, false, true≢false, arith, refl, ◌∙◌, sym, ap}
+use Rattle.std.proofs.Common.{◌≡◌, ℕ, ◌/◌, ◌⊎◌, inl, true, false, true≢false, arith, ◌∙◌, sym, ap}
 use Rattle.std.specs.Prelude.{Bool, ◌||◌, if◌then◌else◌}
-use Rattle.std.proofs.lemmas.Bool.{cases_Bool, false_from_ne_true}
+use Rattle.std.proofs.lemmas.Bool.{false_from_ne_true}
 use Rattle.std.proofs.Math.Bool.{or-false, or_assoc}
 use Rattle.nor_chip.specs.Chip.{Chip, IsSame}
 use Rattle.nor_chip.specs.Power.{KeptStay}
 use Rattle.nor_chip.specs.Bus.{BusState}
 use Rattle.nor_chip.proofs.Guarded.{is_guarded-same}
-use Rattle.nor_driver.specs.Operations.{ChangesOnly}
 use Rattle.nor_driver.specs.StatusWrites.{MayWriteStatus}
-use Rattle.nor_apply.specs.Within.{is_writable, WorksIn, IsWithin, places_of}
+use Rattle.nor_apply.specs.Within.{is_writable, IsWithin, places_of}
 use Rattle.nor_apply.specs.Change.{CanChange, MayChange, HasChanged}
 use Rattle.nor_apply.proofs.Kept.{fixed_then, kept_fixed, kept_then, writable_same}
 

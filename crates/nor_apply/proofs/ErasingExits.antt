@@ -1,7 +1,6 @@
 -- The erases of a set: one erase of the plan after others, what holds on the way, and what follows at each exit.
-use Rattle.std.proofs.Common.{ℕ, ◌≡◌, ◌<◌, ◌≤◌, ◌+◌, ◌*◌, ◌/◌, ◌-◌, ◌∙◌, ◌||◌, Bool, true, false, List, [], ◌∷◌, ◌++◌, length, inl, inr, refl, sym, ap, arith, true≢false}
-use Rattle.std.specs.List.{list_any}
-use Rattle.std.proofs.lemmas.Bool.{cases_lt, false_from_ne_true, and_parts, and_from, le-leb, lt-ltb, leb-true, ltb-true}
+use Rattle.std.proofs.Common.{ℕ, ◌≡◌, ◌<◌, ◌≤◌, ◌+◌, ◌*◌, ◌/◌, ◌-◌, ◌∙◌, ◌||◌, Bool, true, false, List, [], ◌∷◌, ◌++◌, length, inl, inr, refl, sym, ap, arith}
+use Rattle.std.proofs.lemmas.Bool.{cases_lt, false_from_ne_true, and_from, le-leb, lt-ltb}
 use Rattle.std.proofs.lemmas.Bool.Decides.{nat_tests}
 use Rattle.std.proofs.lemmas.List.Folds.{list_any-append}
 use Rattle.std.proofs.Math.Bool.{or-false, or-true}
@@ -9,23 +8,21 @@ use Rattle.nor_count.specs.Counts.{sector_count}
 use Rattle.nor_count.proofs.Counting.{count_below-none, count_below-most}
 use Rattle.nor_chip.specs.declared.config.Config.{Config}
 use Rattle.nor_chip.specs.declared.config.Kinds.{Kinds}
-use Rattle.nor_chip.specs.declared.running.Running.TheVariants as Runs
 use Rattle.nor_chip.specs.Chip.{Chip}
 use Rattle.nor_chip.specs.Guard.{is_guarded, is_unit_guarded}
 use Rattle.nor_chip.specs.Bus.{BusState}
 use Rattle.nor_driver.specs.declared.units.Erase.{Erase}
 use Rattle.nor_driver.specs.declared.units.EraseUnit.{EraseUnit}
 use Rattle.nor_driver.specs.declared.waits.Halt.{Halt}
-use Rattle.nor_driver.specs.declared.waits.Halt.TheVariants.{Stopped, Timeout}
 use Rattle.nor_driver.specs.Units.{sectors_in, erases_sector, has_unit}
 use Rattle.nor_driver.specs.Waits.{Halts, NamesTimeout}
 use Rattle.nor_driver.specs.Operations.{most_operation}
-use Rattle.nor_driver.specs.Erases.{sectors_of, is_sector_in_unit, is_place_in_unit, CanErase, MayErase, HasErased, is_sector_named, LeavesErase, Erases}
+use Rattle.nor_driver.specs.Erases.{sectors_of, is_sector_in_unit, CanErase, MayErase, HasErased, is_sector_named, LeavesErase, Erases}
 use Rattle.nor_plan.specs.Erase.{IsErase, Covers, is_offered, erased_by}
 use Rattle.nor_plan.specs.Planned.{planned}
 use Rattle.nor_apply.specs.declared.tally.Tally.{Tally}
-use Rattle.nor_apply.specs.Within.{WorksIn, places_of}
-use Rattle.nor_apply.specs.Change.{MayChange, HasChanged, blank}
+use Rattle.nor_apply.specs.Within.{places_of}
+use Rattle.nor_apply.specs.Change.{MayChange, blank}
 use Rattle.nor_apply.specs.Spending.{may_aim_at, NamesTimeoutIn}
 use Rattle.nor_apply.specs.Erasing.{CanEraseAll, LeavesErases, DoesErases}
 use Rattle.nor_apply.proofs.InTurn.{Listed, listed_none, listed_halted, listed_more, come_all, come_before, come_next, come_fewer, spends_ended}

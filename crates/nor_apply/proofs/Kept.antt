@@ -1,6 +1,6 @@
 -- Fixed and kept bits, on the way from one chip to another.
 use Rattle.std.proofs.Common.{◌≡◌, ℕ, ◌/◌, ◌%◌, arith, refl, ◌∙◌, ap}
-use Rattle.std.specs.Prelude.{◌&&◌, ◌||◌, ◌==◌, not}
+use Rattle.std.specs.Prelude.{◌||◌, ◌==◌}
 use Rattle.nor_chip.specs.Chip.{Chip, is_locked}
 use Rattle.nor_chip.specs.Power.{KeptStay}
 use Rattle.nor_driver.specs.StatusWrites.{KeepsFixed}

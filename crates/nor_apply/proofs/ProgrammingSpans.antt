@@ -1,21 +1,19 @@
 -- The spans of a sector: what their programs leave, one after another, how many there are, and what follows at each exit.
-use Rattle.std.proofs.Common.{◌≡◌, ◌<◌, ◌≤◌, ◌+◌, ◌-◌, ◌*◌, ◌/◌, ◌%◌, ◌⊎◌, inl, inr, ◌∙◌, ℕ, Bool, true, false, List, [], ◌∷◌, ◌++◌, length, take, drop, slice_index, refl, ap, sym, arith, length-take, length-drop, true≢false, ◌||◌, zero, suc}
+use Rattle.std.proofs.Common.{◌≡◌, ◌<◌, ◌≤◌, ◌+◌, ◌-◌, ◌*◌, ◌/◌, ◌⊎◌, inl, inr, ◌∙◌, ℕ, Bool, true, List, [], ◌∷◌, ◌++◌, length, take, drop, slice_index, refl, ap, sym, arith, length-take, length-drop, ◌||◌, zero, suc}
 use Rattle.std.specs.Prelude.{◌&&◌, ◌||◌, nat_le, nat_lt, bit_and, if◌then◌else◌, ◌==◌, not, min, count_by}
 use Rattle.std.specs.Int.Bits.{and_self}
 use Rattle.std.proofs.lemmas.Nat.{and_comm}
 use Rattle.std.proofs.lemmas.List.{get_or-take, get_or-drop}
 use Rattle.std.proofs.lemmas.List.Folds.{list_any-append}
 use Rattle.std.proofs.lemmas.Bool.Decides.{nat_tests}
-use Rattle.std.proofs.lemmas.Bool.{cases_Bool, and_parts, eqb-true, leb-true, ltb-true}
+use Rattle.std.proofs.lemmas.Bool.{cases_Bool, and_parts, leb-true, ltb-true}
 use Rattle.std.proofs.Math.Bool.{or-false, and-or_distrib_right, or_assoc}
-use Rattle.nor_chip.specs.declared.running.Running.TheVariants as Runs
 use Rattle.nor_chip.specs.Bus.{BusState}
 use Rattle.nor_driver.specs.Programs.{CanProgram, MayProgram, HasProgrammed, programmed, is_in_page, LeavesProgram, Programs, is_sector_of}
 use Rattle.nor_driver.specs.Reads.{IsSectorOf}
 use Rattle.nor_plan.specs.declared.page.Span.{Span}
 use Rattle.nor_plan.specs.SpanFacts.{IsSpan, AreSpans, is_within_span, spanned_by}
 use Rattle.nor_plan.specs.SectorSet.{none}
-use Rattle.nor_apply.specs.Within.{WorksIn, places_of}
 use Rattle.nor_apply.specs.Change.{MayChange, HasChanged, only, byte_of}
 use Rattle.nor_apply.specs.Programming.{CanProgramSpans, LeavesSpans, DoesSpans, most_pages}
 use Rattle.nor_apply.proofs.Alone.{only-here, only-is, old_byte}
@@ -26,7 +24,6 @@ use Rattle.nor_count.specs.Below.{any_below, count_below}
 use Rattle.nor_count.proofs.Counting.{any_below-zero, any_below-more, any_below-same, count_below-zero, count_below-more, count_below-most, count_below-same}
 use Rattle.nor_count.proofs.CountedRanges.{count_by-range}
 use Rattle.nor_driver.specs.declared.waits.Halt.{Halt}
-use Rattle.nor_driver.specs.declared.waits.Halt.TheVariants.{Stopped, Timeout}
 use Rattle.nor_driver.specs.Waits.{Halts, NamesTimeout}
 use Rattle.nor_driver.specs.Operations.{most_operation}
 use Rattle.nor_plan.specs.Content.{is_other, is_page_other}

@@ -11,7 +11,6 @@ use Rattle.nor_count.proofs.Counting.{any_below-same, count_below-same, count_be
 use Rattle.nor_chip.specs.Bus.{BusState}
 use Rattle.nor_chip.proofs.Sizes.{sized_bounds}
 use Rattle.nor_driver.specs.declared.waits.Halt.{Halt}
-use Rattle.nor_driver.specs.declared.waits.Halt.TheVariants.{Stopped, Timeout}
 use Rattle.nor_driver.specs.Reads.{IsSectorOf}
 use Rattle.nor_driver.specs.Waits.{Halts}
 use Rattle.nor_driver.proofs.Aims.{aims_none}
