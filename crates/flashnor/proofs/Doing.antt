@@ -1,48 +1,60 @@
--- What the calls of the jobs come to, with what is asked of them.
-use Rattle.std.proofs.Common.{◌≡◌, ℕ, List, Option, Result, subst}
+-- What the calls that change a chip come to, with what is asked of them.
+use Rattle.std.proofs.Common.{◌≡◌, ◌≤◌, ℕ, List, Option, Result, IsOk, MatchResult, arith, false, true}
 use Rattle.nor_chip.specs.Bus.{BusState}
-use Rattle.nor_journal.specs.Text.{Content as Journal, IsContent, text}
-use Rattle.nor_journal.specs.Vault.{IsFresh, VaultState}
+use Rattle.nor_chip.specs.Chip.{IsChip, IsSame}
+use Rattle.nor_driver.specs.Looks.{IsCalm, Looks}
+use Rattle.nor_journal.specs.Vault.{VaultState}
 use Rattle.nor_layout.specs.declared.ranges.Span.{Span}
+use Rattle.nor_probe.specs.Known.{IsModelled}
 use Rattle.nor_probe.specs.declared.table.ChipName.{ChipName}
+use Rattle.nor_call.specs.Refusal.{number_of}
 use Rattle.nor_call.specs.declared.refusal.Refusal.{Refusal}
+use Rattle.nor_call.specs.declared.refusal.Refusal.TheVariants as why
 use Rattle.nor_call.specs.declared.request.Request.{Request}
-use Rattle.nor_words.specs.Text.{Text}
+use Rattle.nor_session.specs.Bounds.{most_of}
+use Rattle.nor_session.specs.Session.{CanBeUndone, HonestTells}
+use Rattle.nor_session.proofs.WrittenBack.{same_over, session_over}
 use Rattle.nor_words.specs.declared.job.Change.{Change}
-use Rattle.nor_words.specs.declared.job.JournalUse.{JournalUse}
 use Rattle.nor_words.specs.declared.programmer.Emulated.{Emulated}
-use Rattle.flashnor.specs.Changes.{HasMadeChange, HasDone, HasRestored, IsKeptIn}
-use Rattle.flashnor.specs.Stored.{IsRead}
 use Rattle.nor_files.specs.Files.{FilesState, View}
+use Rattle.flashnor.specs.Changes.{GivesUp, HasKeptChange, HasMadeChange, TellsDone}
 use Rattle.flashnor.specs.Requests.{AreRangesOf, IsBufferOf, request_for}
-use Rattle.flashnor.specs.Run.{ChangesChip, DoesRestore}
+use Rattle.flashnor.specs.Run.{ChangesChip}
 use Rattle.flashnor.specs.declared.answers.Answer.{Answer}
 
 pub does_change : (view : View) (after : FilesState) (chip : Emulated) (named : Option ChipName) (change : Change) (request : Request)
     (ranges : Option (List Span)) (image : List ℕ) (old new : BusState) (outcome : Result Answer Refusal)
     → request ≡ request_for change named ranges → AreRangesOf view change.regions ranges → IsBufferOf view chip change.wanted image
     → HasMadeChange request image change.journal_use old new after outcome → ChangesChip view after chip named change old new outcome
-does_change view after chip named change request ranges image old new outcome same included buffer changed = record {
-  ranges = ranges;
-  included = included;
-  image = image;
-  buffer = buffer;
-  changed = subst (λ (r : Request). HasMadeChange r image change.journal_use old new after outcome) same changed;
-}
+does_change view after chip named change request ranges image old new outcome same included buffer changed =
+    record { ranges = ranges; included = included; image = image; buffer = buffer; changed = rw same at changed }
 
-pub changes : (request : Request) (image : List ℕ) (kept : JournalUse) (old new : BusState) (after : FilesState)
-    (vault vault' : VaultState) (outcome : Result Answer Refusal) → IsFresh vault → IsKeptIn kept vault vault' after
-    → HasDone request image kept old new vault vault' outcome
-    → HasMadeChange request image kept old new after outcome
-changes request image kept old new after vault vault' outcome fresh kept_in done =
-    record { vault = vault; vault' = vault'; fresh = fresh; kept_in = kept_in; done = done }
+-- after refusals from 1 to 11 the chip is as before
+pub stays : (old new : BusState) (refusal : Refusal)
+    → HonestTells (most_of 4096) (λ refusal. number_of refusal ≤ 11) old new refusal → number_of refusal ≤ 11
+    → IsSame old.chip new.chip
+stays old new why.Stopped tells early = absurd (omega arith)
+stays old new (why.Timeout address) tells early = absurd tells
+stays old new _ tells early = tells early
 
-pub does_restore : (view : View) (journal : Journal) (named : Option ChipName) (file : Text) (bytes : List ℕ)
-    (old new : BusState) (outcome : Result Answer Refusal) → IsContent journal → bytes ≡ text journal → IsRead view file 16793662 bytes
-    → HasRestored journal named old new outcome → DoesRestore view named file old new outcome
-does_restore view journal named file bytes old new outcome sound same read restored = record {
-  journal = journal;
-  sound = sound;
-  read = subst (IsRead view file 16793662) same read;
-  restored = restored;
-}
+module _ (request : Request) (image : List ℕ) (old new : BusState) (vault vault' : VaultState)
+    (looks : vault'.sealed ≡ false → Looks 69638 old new) (undo : vault'.sealed ≡ true → CanBeUndone request image old new vault')
+    (modelled : IsModelled old) (is : IsChip old.chip) (calm : IsCalm old) where
+  same : vault'.sealed ≡ false → IsSame old.chip new.chip
+  same unsealed = (((looks unsealed).looked modelled.honest).stays.calm calm)
+
+  -- a change keeps its journal from when that was sealed on, also where it gave up
+  pub kept : (outcome : Result Answer Refusal)
+      → MatchResult outcome (TellsDone request image old new) (GivesUp request image old new vault vault')
+      → (IsOk outcome → vault'.sealed ≡ true) → HasKeptChange request image old new vault vault' outcome
+  kept outcome told sealed = record {
+    told = told;
+    sealed = sealed;
+    same = same;
+    undo = undo;
+    over = λ opened written. record {
+      same = λ unsealed. same_over old.chip new.chip opened.chip (same unsealed) written;
+      back = λ sealed telling journal sound read.
+          session_over request image old new opened vault' journal modelled is telling (undo sealed) sound read written;
+    };
+  }

@@ -1,12 +1,11 @@
 -- What the reading of the chip's files leaves of all files.
-use Rattle.std.proofs.Common.{◌≡◌, ◌≢◌, ◌+◌, ◌⊎◌, ◌∙◌, ℕ, Bool, true, false, Option, None, Some, Ok, Err}
-use Rattle.std.proofs.Common.{ap, inl, inr, is_some, option_map, refl, sym, take}
-use Rattle.std.specs.Prelude.{IsSomeAnd, bytes_eq}
+use Rattle.std.proofs.Common.{◌≡◌, ◌≢◌, ◌+◌, ◌⊎◌, ◌∙◌, ℕ, Bool, Option, None, Some, Result, Ok, Err, IsSomeAnd, ap}
+use Rattle.std.proofs.Common.{bytes_eq, false, inl, inr, is_some, option_map, refl, sym, take, true}
 use Rattle.std.specs.Borrow.{Bor}
 use Rattle.std.proofs.lemmas.Bool.{cases_Bool, false≢true}
 use Rattle.std.proofs.lemmas.Slice.Eq.{bytes_eq-Decides}
-use Rattle.nor_files.specs.Calls.{Holds, IsPlaced, IsSynced, LeavesNoMore, Reads, WorksOn}
-use Rattle.nor_files.specs.Files.{AreAtRest, FilesState, Found, IsKnown, IsSettled, Name, OthersStay, Stays, is_lawful}
+use Rattle.nor_files.specs.Calls.{Holds, IsPlaced, IsSynced, LeavesNoMore, Places, Reads, WorksOn}
+use Rattle.nor_files.specs.Files.{AreAtRest, FilesState, Found, IsKnown, IsSettled, Name, is_lawful}
 use Rattle.nor_words.specs.Text.{Text}
 use Rattle.flashnor.specs.Files.{IsHoldingFault}
 use Rattle.flashnor.specs.Holding.{KnownStay, LeaveNoMore}
@@ -24,12 +23,16 @@ same_name one other = elim (cases_Bool (bytes_eq one other)) [
   | inr differ ↦ inr (λ is. false≢true (sym differ ∙ (bytes_eq-Decides one other).1 is))
 ]
 
--- those whose name is another stay as it is said, and that one as is shown
-of_one : {name : Name} {old new : FilesState} → (is_lawful old.view ≡ true → OthersStay name old new)
-    → (IsKnown name old.view → Stays name old new) → KnownStay old new
-of_one {name = name} others stays any known = elim (same_name any name) [
-  | inl same ↦ rw same (stays (rw same at known))
-  | inr differ ↦ others known.lawful any differ
+-- after a call on one file those whose name is another stay, and that one as is shown
+alone_stay : {T E : Type 0} {name : Name} {result : Result T E} {old new : FilesState}
+    → (is_lawful old.view ≡ true → WorksOn name result old new)
+    → (IsKnown name old.view → new.view.seen name ≡ old.view.seen name)
+    → (IsKnown name old.view → LeavesNoMore name old new) → KnownStay old new
+alone_stay {name = name} alone seen leaves any known = elim (same_name any name) [
+  | inl same ↦
+      let is = rw same at known in
+      rw same (record { out = (alone known.lawful).out; seen = seen is; leaves = leaves is })
+  | inr differ ↦ (alone known.lawful).others any differ
 ]
 
 module _ {T E : Type 0} {name : Name} {old new : FilesState} where
@@ -37,14 +40,11 @@ module _ {T E : Type 0} {name : Name} {old new : FilesState} where
   pub synced_stay : {one : T} → old.may_leave name (old.view.seen name)
       → (is_lawful old.view ≡ true → WorksOn {E = E} name (Ok one) old new)
       → (IsKnown name old.view → IsSynced name old new) → KnownStay old new
-  synced_stay may alone syncs = of_one (λ lawful. (alone lawful).others) (λ known. record {
-    out = (alone known.lawful).out;
-    seen = (syncs known).seen;
-    leaves = λ left can. elim ((syncs known).leaves left can) [
-      | inl is ↦ rw is may
-      | inr missing ↦ rw missing.0 missing.1
-    ];
-  })
+  synced_stay may alone syncs = alone_stay alone (λ known. (syncs known).seen)
+      (λ known left can. elim ((syncs known).leaves left can) [
+        | inl is ↦ rw is may
+        | inr missing ↦ rw missing.0 missing.1
+      ])
 
   pub unsynced_no_more : {error : E} → AreAtRest old
       → (is_lawful old.view ≡ true → WorksOn {T = T} name (Err error) old new)
@@ -54,18 +54,12 @@ module _ {T E : Type 0} {name : Name} {old new : FilesState} where
     | inr differ ↦ ((alone rest.lawful).others any differ).leaves
   ]
 
-  -- its folder is
-  pub placed_stay : {one : T} → (is_lawful old.view ≡ true → WorksOn {E = E} name (Ok one) old new)
-      → (IsKnown name old.view → IsPlaced name old new) → KnownStay old new
-  placed_stay alone places = of_one (λ lawful. (alone lawful).others) (λ known. record {
-    out = (alone known.lawful).out;
-    seen = (places known).seen;
-    leaves = λ left can. ((places known).leaves left can).0;
-  })
-
-  pub unplaced_stay : {error : E} → (is_lawful old.view ≡ true → WorksOn {T = T} name (Err error) old new)
-      → (IsKnown name old.view → Stays name old new) → KnownStay old new
-  unplaced_stay alone stays = of_one (λ lawful. (alone lawful).others) stays
+  -- its folder is, or not
+  pub placed_stay : (result : Result T E) → (is_lawful old.view ≡ true → WorksOn name result old new)
+      → (IsKnown name old.view → Places name result old new) → KnownStay old new
+  placed_stay (Ok _) alone places =
+      alone_stay alone (λ known. (places known).seen) (λ known left can. ((places known).leaves left can).0)
+  placed_stay (Err _) alone stays = alone_stay alone (λ known. (stays known).seen) (λ known. (stays known).leaves)
 
 -- ---- a file that isn't there
 
@@ -99,30 +93,16 @@ pub found_before : (name : Option (Bor Text)) (len : ℕ) (found : Found) (a b :
 found_before None len found a b same stay is = is
 found_before (Some name) len found a b same stay is = reads_before name.now (len + 1) found a b same stay is
 
-module _ (name : Text) (len : ℕ) (a b : FilesState) (same : b.view.nature ≡ a.view.nature) (stay : KnownStay a b) where
-  fault_before : (fault : Fault) → IsHoldingFault b.view name len fault → IsHoldingFault a.view name len fault
-  fault_before (end.File file.Read of) is = (
-    is.0,
-    elim is.1 [
-      | inl reads ↦ inl (reads_before name (len + 1) None a b same stay reads)
-      | inr happens ↦ inr (rw (sym same) happens)
-    ],
-  )
-  fault_before (end.File file.Length of) is =
-      (is.0, (is.1.0, reads_before name (len + 1) (Some is.1.0) a b same stay is.1.1, is.1.2))
-  fault_before (end.File file.Write of) is = (
-    is.0,
-    elim is.1 [
-      | inl happens ↦ inl (rw (sym same) happens)
-      | inr happens ↦ inr (rw (sym same) happens)
-    ],
-  )
-  fault_before (end.File file.Taken of) is = (is.0, rw (sym same) is.1)
-  fault_before _ is = is
-
 pub faults_before : (name : Option (Bor Text)) (len : ℕ) (fault : Fault) (a b : FilesState)
     → b.view.nature ≡ a.view.nature → KnownStay a b
     → IsSomeAnd name (λ given. IsHoldingFault b.view given.now len fault)
     → IsSomeAnd name (λ given. IsHoldingFault a.view given.now len fault)
 faults_before None len fault a b same stay is = is
-faults_before (Some name) len fault a b same stay is = fault_before name.now len a b same stay fault is
+faults_before (Some name) len (end.File file.Read of) a b same stay (is, inl reads) =
+    (is, inl (reads_before name.now (len + 1) None a b same stay reads))
+faults_before (Some name) len (end.File file.Read of) a b same stay (is, inr happens) = (is, inr (rw (← same) happens))
+faults_before (Some name) len (end.File file.Length of) a b same stay (is, (all, reads, other)) =
+    (is, (all, reads_before name.now (len + 1) (Some all) a b same stay reads, other))
+faults_before (Some name) len (end.File file.Write of) a b same stay is = rw (← same) is
+faults_before (Some name) len (end.File file.Taken of) a b same stay is = rw (← same) is
+faults_before (Some name) len _ a b same stay is = is

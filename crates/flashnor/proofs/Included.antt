@@ -1,27 +1,18 @@
 -- Why names include nothing of a layout's text.
-use Rattle.std.proofs.Common.{◌≡◌, ℕ, ◌+◌, false, ltb, eqb, List, [], ◌∷◌, length, Result, Ok, Err, inl, inr, refl}
-use Rattle.std.proofs.lemmas.Bool.{cases_Bool}
+use Rattle.std.proofs.Common.{◌≡◌, ℕ, ◌+◌, false, List, [], ◌∷◌, Result, Ok, Err, arith, refl}
 use Rattle.nor_layout.specs.declared.fault.LayoutFault.{LayoutFault}
 use Rattle.nor_layout.specs.declared.fault.LayoutFault.TheVariants as layout
 use Rattle.nor_layout.specs.declared.fault.LineFault.{LineFault}
 use Rattle.nor_layout.specs.declared.region.Region.{Region}
 use Rattle.nor_layout.specs.Grammar.{IsLayout}
 use Rattle.nor_layout.specs.Included.{are_known}
-use Rattle.nor_layout.specs.Line.{line_says}
-use Rattle.nor_layout.specs.Text.{◌>>=◌, AsksMemory, ReadsLayout, is_region_named, joins, joins_or_fault, layout_says, lines_of, lines_say, with_line}
+use Rattle.nor_layout.specs.Text.{◌>>=◌, AsksMemory, ReadsLayout, joins, joins_or_fault, layout_says, lines_of, lines_say, with_line}
 use Rattle.flashnor.specs.Requests.{IncludesNone}
 
 -- ---- a text has no fault of names
 
 joins_named : (regions : List Region) (n : ℕ) (region : Region) → joins regions n region ≡ Err layout.NoRegion → ⊥
-joins_named regions n region e =
-    elim (cases_Bool (is_region_named regions region.name.items)) [
-      | inl twice ↦ let f = rw twice at e in cc
-      | inr once ↦ elim (cases_Bool (ltb (length regions) 64)) [
-        | inl room ↦ let f = rw (once, room) at e in cc
-        | inr full ↦ let f = rw (once, full) at e in cc
-      ]
-    ]
+joins_named regions n region e = grind arith
 
 said_named : (regions : List Region) (n : ℕ) (said : Result Region LineFault) → joins_or_fault regions n said ≡ Err layout.NoRegion → ⊥
 said_named regions n (Ok region) e = joins_named regions n region e
@@ -29,11 +20,7 @@ said_named regions n (Err fault) e = cc
 
 line_named : (regions : List Region) (n : ℕ) (line : List ℕ) → with_line regions n line ≡ Err layout.NoRegion → ⊥
 unfolding with_line
-line_named regions n line e =
-    elim (cases_Bool (eqb (length line) 0)) [
-      | inl empty ↦ let f = rw empty at e in cc
-      | inr full ↦ said_named regions n (line_says line) (rw full at e)
-    ]
+line_named regions n line e = grind (arith, said_named)
 
 step_named : (said : Result (List Region) LayoutFault) (next : List Region → Result (List Region) LayoutFault)
     → (said ≡ Err layout.NoRegion → ⊥) → ((more : List Region) → next more ≡ Err layout.NoRegion → ⊥)

@@ -1,8 +1,7 @@
 -- What a run that changes a chip leaves of files, whatever its task.
-use Rattle.std.proofs.Common.{◌≡◌, ◌<◌, ◌+◌, ◌*◌, ◌/◌, ◌%◌, ◌==◌, ◌∙◌, ◌∷◌, [], ℕ, Bool, true, false, List, Option}
-use Rattle.std.proofs.Common.{None, Some}
-use Rattle.std.proofs.Common.{Result, ap, arith, inl, inr, length, refl, replicate, subst, sym, true≢false}
-use Rattle.std.specs.Prelude.{◌⊎◌, IfSome, if◌then◌else◌, slice_index, unwrap_or}
+use Rattle.std.proofs.Common.{◌≡◌, ◌<◌, ◌+◌, ◌*◌, ◌/◌, ◌%◌, ◌==◌, ◌∙◌, ◌∷◌, [], ℕ, Bool, List, Option, None, Some}
+use Rattle.std.proofs.Common.{Result, ◌⊎◌, IfSome, ap, arith, false, if◌then◌else◌, inl, inr, length, refl, replicate}
+use Rattle.std.proofs.Common.{slice_index, subst, sym, true, unwrap_or}
 use Rattle.std.specs.Borrow.{Bor}
 use Rattle.std.proofs.lemmas.Bool.{cases_Bool, cases_lt}
 use Rattle.std.proofs.lemmas.List.{get_or_past, length-replicate}
@@ -11,7 +10,7 @@ use Rattle.nor_chip.specs.Bus.{BusState}
 use Rattle.nor_chip.specs.Start.{status_of}
 use Rattle.nor_chip.specs.declared.config.Config.{Config}
 use Rattle.nor_probe.specs.declared.table.ChipName.{ChipName}
-use Rattle.nor_files.specs.Files.{AllStay, AreAtRest, FilesState, Found, Name, Stays, View, is_lawful}
+use Rattle.nor_files.specs.Files.{AllStay, AreAtRest, FilesState, Found, Stays, View, is_lawful}
 use Rattle.nor_journal.specs.Vault.{VaultState}
 use Rattle.nor_call.specs.declared.refusal.Refusal.{Refusal}
 use Rattle.nor_call.specs.declared.request.Request.{Request}
@@ -27,17 +26,17 @@ use Rattle.flashnor.specs.Changes.{HasMadeChange, IsKeptFile, IsKeptIn}
 use Rattle.flashnor.specs.Chips.{IsContentOf, OpensChip}
 use Rattle.flashnor.specs.Found.{emulated_part}
 use Rattle.flashnor.specs.Holding.{AreAmid, AreHeld, AreReady, IsAmid, IsReady, LeavesAmid, Settles, StandsFor, was}
-use Rattle.flashnor.specs.Left.{IsOpenedFrom, LeavesAsLong, MayLeave}
+use Rattle.flashnor.specs.Left.{IsOpenedFrom, LeavesAsLong, MayLeave, Opened}
 use Rattle.flashnor.specs.Roles.{HaveOneRole, named_by}
 use Rattle.flashnor.specs.Run.{DoesJob, IsViewBut, KeepsChange, KeepsFiles}
-use Rattle.flashnor.specs.Stored.{AreOfFile, AreTwo, IsNot}
+use Rattle.flashnor.specs.Stored.{AreOfFile, AreTwo}
 use Rattle.flashnor.specs.Tasks.{journal_of, keeps_journal, made_by, puts_back}
 use Rattle.flashnor.specs.declared.answers.Answer.{Answer}
 use Rattle.flashnor.specs.declared.holding.Held.{Held}
 use Rattle.flashnor.proofs.Before.{image_made, status_made}
 use Rattle.flashnor.proofs.Shown.{size_with}
-use Rattle.flashnor.proofs.Stays.{known_after, known_at_rest, lawful_after, lawful_before, not_that, rest_on}
-use Rattle.flashnor.proofs.Stays.{settled_after, stays_on}
+use Rattle.flashnor.proofs.Stays.{StayApart, known_after, known_at_rest, lawful_after, not_that, rest_on, settled_after}
+use Rattle.flashnor.proofs.Stays.{stays_on}
 use Rattle.flashnor.proofs.Traced.{reads_before}
 
 -- ---- as many bytes as a file is to have
@@ -53,9 +52,18 @@ many_of : (found : Found) (missing : List ℕ) (len : ℕ) → IfSome found (λ 
 many_of None missing len whole many = many
 many_of (Some all) missing len whole many = whole
 
-pub as_many : (view : View) (name : Option (Bor Text)) (len : ℕ) (missing bytes : List ℕ)
+as_many : (view : View) (name : Option (Bor Text)) (len : ℕ) (missing bytes : List ℕ)
     → AreOfFile view name len missing bytes → length missing ≡ len → length bytes ≡ len
 as_many view name len missing bytes are many = ap length are.same ∙ many_of are.found missing len are.whole many
+
+-- a chip that was opened has as many bytes as were read of it
+module _ {programmer : Programmer} {files : FilesState} (first : Opened programmer files) where
+  pub opened_size : first.bus.chip.config.size ≡ (emulated_part programmer.chip).size
+  opened_size = size_with programmer.chip programmer.unique first.bus.chip.config first.opens.ready.config
+
+  pub opened_many : length first.content.bytes.items ≡ first.bus.chip.config.size
+  opened_many =
+      as_many files.view programmer.image _ _ _ first.read.bytes (length-replicate {A = ℕ} _ 255) ∙ sym opened_size
 
 -- ---- what is opened from what may be left
 
@@ -122,7 +130,7 @@ setup_kept (uses.Journal file) request image old new after outcome keeps made =
       | inl sealed ↦ (made.done.undo sealed).changes.within.config
       | inr open' ↦ (made.done.same open').config
     ]
-setup_kept (uses.Rehearse stops) request image old new after outcome keeps made = absurd (true≢false (sym keeps))
+setup_kept (uses.Rehearse stops) request image old new after outcome keeps made = absurd cc
 
 pub setup_done : (done : Task) (amid : View) (after : FilesState) (programmer : Programmer) (named : Option ChipName)
     (old new : BusState) (outcome : Result Answer Refusal) → puts_back done ≡ true
@@ -130,16 +138,15 @@ pub setup_done : (done : Task) (amid : View) (after : FilesState) (programmer : 
 setup_done (task.Change change) amid after programmer named old new outcome puts does =
     setup_kept change.journal_use _ does.image old new after outcome puts does.changed
 setup_done (task.Restore journal) amid after programmer named old new outcome puts does = does.restored.config
-setup_done _ amid after programmer named old new outcome puts does = absurd (true≢false (sym puts))
+setup_done _ amid after programmer named old new outcome puts does = absurd cc
 
 -- and its journal is kept while the chip's files are written
 module _ (programmer : Programmer) (s2 s3 : FilesState) (nature : s3.view.nature ≡ s2.view.nature)
-    (last : is_lawful s2.view ≡ true → (any : Name) → IsNot programmer.image any → IsNot programmer.status any
-    → Stays any s2 s3) where
+    (last : is_lawful s2.view ≡ true → StayApart programmer.image programmer.status s2 s3) where
   kept_in_after : (kept : JournalUse) (vault vault' : VaultState) → AreTwo programmer.image (journal_of kept)
       → AreTwo programmer.status (journal_of kept) → IsKeptIn kept vault vault' s2 → IsKeptIn kept vault vault' s3
   kept_in_after (uses.Journal file) vault vault' one other before = λ lawful.
-      let was' = lawful_before nature lawful in
+      let was' = lawful_after (sym nature) lawful in
       kept_after (last was' file.now (not_that programmer.image file one) (not_that programmer.status file other))
       (before was')
   kept_in_after (uses.Rehearse stops) vault vault' one other before = before
@@ -162,59 +169,53 @@ module _ (programmer : Programmer) (s2 s3 : FilesState) (nature : s3.view.nature
     };
   }
   does_after (task.Restore journal) amid named old new outcome puts one other does = does
-  does_after _ amid named old new outcome puts one other does = absurd (true≢false (sym puts))
+  does_after _ amid named old new outcome puts one other does = absurd cc
 
 -- ---- the chip's files
-
-ready_named : {s1 s2 : FilesState} (name trace made : Option (Bor Text)) (there : Bool) (had put : List ℕ)
-    → s2.view.nature ≡ s1.view.nature → AreAtRest s1
-    → ((any : Name) → IsNot trace any → IsNot made any → Stays any s1 s2) → AreTwo name trace → AreTwo name made
-    → Settles name (was there had) s1 → length had ≡ length put → IsReady name there had put s2
-ready_named None trace made there had put nature rest stay traced other settled many = tt
-ready_named (Some name) trace made there had put nature rest stay traced other settled many =
-    let stays = stay name.now traced other in
-    record {
-      known = known_after nature stays (known_at_rest rest name.now);
-      settled = settled_after stays settled;
-      as_many = many;
-    }
 
 module _ (job : ChipJob) (held : Held) (s0 s1 s2 : FilesState) (bus bus' : BusState) (roles : HaveOneRole job)
     (read : IsContentOf s0.view job.programmer held.content) (opens : OpensChip job.programmer held.content bus)
     (rest : AreAtRest s0) (is_held : AreHeld job.programmer held s0 s1)
     (nature1 : s1.view.nature ≡ s0.view.nature) (nature2 : s2.view.nature ≡ s1.view.nature)
-    (stay : is_lawful s1.view ≡ true → (any : Name) → IsNot job.programmer.trace any → IsNot (made_by job.task) any
-    → Stays any s1 s2)
+    (stay : is_lawful s1.view ≡ true → StayApart job.programmer.trace (made_by job.task) s1 s2)
     (setup : bus'.chip.config ≡ bus.chip.config) where
   still : AreAtRest s1
   still = rest_on nature1 rest is_held.stay
 
-  size : bus.chip.config.size ≡ (emulated_part job.programmer.chip).size
-  size = size_with job.programmer.chip job.programmer.unique bus.chip.config opens.ready.config
-
-  image_many : length held.content.bytes.items ≡ bus.chip.config.size
-  image_many = as_many s0.view job.programmer.image _ _ _ read.bytes (length-replicate {A = ℕ} _ 255) ∙ sym size
+  abbrev first : Opened job.programmer s0
+  first = record { content = held.content; read = read; bus = bus; opens = opens }
 
   status_many : length held.content.status ≡ 2
   status_many = as_many s0.view job.programmer.status 2 _ _ read.status refl
 
-  -- both are ready to be written over with the chip that the call left
+  -- a file is ready to be written over that was held, and isn't the trace or the one that the task makes
+  ready : (name : Option (Bor Text)) (there : Bool) (had put : List ℕ) → AreTwo name job.programmer.trace
+      → AreTwo name (made_by job.task) → Settles name (was there had) s1 → length had ≡ length put
+      → IsReady name there had put s2
+  ready None there had put traced other settled many = tt
+  ready (Some name) there had put traced other settled many =
+      let stays = stay still.lawful name.now traced other in
+      record {
+        known = known_after nature2 stays (known_at_rest still name.now);
+        settled = settled_after stays settled;
+        as_many = many;
+      }
+
+  -- both are with the chip that the call left
   pub ready_both : AreReady job.programmer held.image_there held.status_there held.content.bytes.items
       held.content.status bus'.chip s2
   ready_both = record {
-    image = λ put are. ready_named job.programmer.image _ _ held.image_there _ put nature2 still (stay still.lawful)
-        roles.image_trace (image_made job roles) is_held.image
-        (image_many ∙ sym (ap (λ (c : Config). c.size) setup) ∙ sym are.len);
-    status = ready_named job.programmer.status _ _ held.status_there _ (status_of bus'.chip) nature2 still
-        (stay still.lawful) roles.status_trace (status_made job roles) is_held.status status_many;
+    image = λ put are. ready job.programmer.image held.image_there _ put roles.image_trace (image_made job roles)
+        is_held.image (opened_many first ∙ sym (ap (λ (c : Config). c.size) setup) ∙ sym are.len);
+    status = ready job.programmer.status held.status_there _ (status_of bus'.chip) roles.status_trace
+        (status_made job roles) is_held.status status_many;
   }
 
   -- ---- what they may be left as
 
   module _ (s3 : FilesState) (amid : View) (stands : StandsFor job.programmer held) (small : bus'.chip.kept2 < 128)
       (but : IsViewBut job.programmer.trace s0.view amid)
-      (last : is_lawful s2.view ≡ true → (any : Name) → IsNot job.programmer.image any
-      → IsNot job.programmer.status any → Stays any s2 s3)
+      (last : is_lawful s2.view ≡ true → StayApart job.programmer.image job.programmer.status s2 s3)
       (is_amid : AreAmid job.programmer held.image_there held.status_there held.content.bytes.items
       held.content.status bus'.chip s3) where
     put_len : length is_amid.put ≡ bus.chip.config.size
@@ -222,17 +223,13 @@ module _ (job : ChipJob) (held : Held) (s0 s1 s2 : FilesState) (bus bus' : BusSt
 
     image_whole : LeavesAsLong job.programmer.image s0 s3
     image_whole =
-        as_long job.programmer.image held.image_there held.content.bytes.items is_amid.put s0 s1 s3 is_held.stay
-        is_held.image (image_many ∙ sym put_len) is_amid.image
+        as_long job.programmer.image held.image_there _ _ s0 s1 s3 is_held.stay is_held.image
+        (opened_many first ∙ sym put_len) is_amid.image
 
     status_whole : LeavesAsLong job.programmer.status s0 s3
     status_whole =
-        as_long job.programmer.status held.status_there held.content.status (status_of bus'.chip) s0 s1 s3
-        is_held.stay is_held.status status_many is_amid.status
-
-    erased : held.content.bytes.items ≡ replicate (emulated_part job.programmer.chip).size 255
-        → held.content.bytes.items ≡ replicate bus.chip.config.size 255
-    erased is = is ∙ ap (λ (n : ℕ). replicate n 255) (sym size)
+        as_long job.programmer.status held.status_there _ _ s0 s1 s3 is_held.stay is_held.status status_many
+        is_amid.status
 
     -- each byte that is opened from what may be left is the old or the new chip's
     over : (image status : Found) (later : BusState) → MayLeave job.programmer.image image s3
@@ -241,8 +238,8 @@ module _ (job : ChipJob) (held : Held) (s0 s1 s2 : FilesState) (bus bus' : BusSt
     over image status later can can_status from =
         let holds = opens.holds in
         let byte = left_either held.content.bytes.items is_amid.put (replicate bus.chip.config.size 255)
-        job.programmer.image held.image_there s3 image (λ gone. erased (stands.image gone))
-        (λ none. erased (of_none s0.view job.programmer.image _ _ _ none read.bytes)) is_amid.image can
+        job.programmer.image held.image_there s3 image (λ gone. rw (opened_size first) (stands.image gone))
+        (λ none. rw (opened_size first) (of_none s0.view job.programmer.image _ _ _ none read.bytes)) is_amid.image can
         (subst (λ (n : ℕ). IfSome image (λ has. length has ≡ n)) (sym put_len) from.whole) in
         let bit = left_either held.content.status (status_of bus'.chip) (0 ∷ 0 ∷ []) job.programmer.status
         held.status_there s3 status stands.status
@@ -255,7 +252,7 @@ module _ (job : ChipJob) (held : Held) (s0 s1 s2 : FilesState) (bus bus' : BusSt
               | inl below ↦ inr (from.bytes a ∙ is
                   ∙ is_amid.are.at a (omega (arith, below, ap (λ (c : Config). c.size) setup)))
               | inr past ↦ inl (from.bytes a ∙ is ∙ get_or_past is_amid.put a 0 (omega (arith, put_len, past))
-                  ∙ sym (get_or_past held.content.bytes.items a 0 (omega (arith, image_many, past)))
+                  ∙ sym (get_or_past held.content.bytes.items a 0 (omega (arith, opened_many first, past)))
                   ∙ sym (holds.bytes a))
             ]
           ];
@@ -287,7 +284,7 @@ module _ (job : ChipJob) (held : Held) (s0 s1 s2 : FilesState) (bus bus' : BusSt
         inr (record {
           image = image_whole;
           status = status_whole;
-          first = record { content = held.content; read = read; bus = bus; opens = opens };
+          first = first;
           sealed = made.vault'.sealed;
           same = λ is i s later can can_s from. (made.done.over later (over i s later can can_s from)).same is;
           back = λ is.
@@ -301,10 +298,10 @@ module _ (job : ChipJob) (held : Held) (s0 s1 s2 : FilesState) (bus bus' : BusSt
                     saves.saves.is saves.is;
               };
         })
-    keeps_change (uses.Rehearse stops) request image outcome keeps one other made = absurd (true≢false (sym keeps))
+    keeps_change (uses.Rehearse stops) request image outcome keeps one other made = absurd cc
 
     pub keeps_files : (done : Task) (named : Option ChipName) (outcome : Result Answer Refusal) → puts_back done ≡ true
-        → ((any : Name) → IsNot job.programmer.trace any → IsNot (made_by done) any → Stays any s1 s2)
+        → StayApart job.programmer.trace (made_by done) s1 s2
         → AreTwo job.programmer.image (named_by done).journal → AreTwo job.programmer.status (named_by done).journal
         → AreTwo job.programmer.trace (named_by done).journal
         → DoesJob amid s2 job.programmer named done bus bus' outcome → KeepsFiles job.programmer done s0 s3
@@ -315,7 +312,7 @@ module _ (job : ChipJob) (held : Held) (s0 s1 s2 : FilesState) (bus bus' : BusSt
         inr (record {
           image = image_whole;
           status = status_whole;
-          found = record { content = held.content; read = read; bus = bus; opens = opens };
+          found = first;
           journal = does.journal;
           sound = does.sound;
           read = reads_before job.programmer.trace journal.now 16793662 _ s0.view amid not but does.read;
@@ -324,4 +321,4 @@ module _ (job : ChipJob) (held : Held) (s0 s1 s2 : FilesState) (bus bus' : BusSt
           back = λ chip can i s later left left_status from.
               does.restored.over chip later can (over i s later left left_status from);
         })
-    keeps_files _ named outcome puts stay' one other traced does = absurd (true≢false (sym puts))
+    keeps_files _ named outcome puts stay' one other traced does = absurd cc

@@ -1,8 +1,6 @@
 pub mod Shown
 pub mod Ready
-pub mod Reading
 pub mod Included
-pub mod Changed
 pub mod Doing
 pub mod Stays
 pub mod Unread
@@ -12,7 +10,6 @@ pub mod Kept
 pub mod Undone
 pub mod Ended
 pub mod Printed
-pub mod Held
 pub mod Made
 pub mod Holds
 pub mod WrittenBack

@@ -1,15 +1,97 @@
--- What is left of a file of the chip while it is made.
-use Rattle.std.proofs.Common.{◌≡◌, ◌+◌, ◌-◌, ◌∷◌, ◌⊎◌, ◌∙◌, ℕ, false, List, [], None, Some, Result, Ok, Err, true}
-use Rattle.std.proofs.Common.{ap, arith, drop, inl, inr, is_some, length, option_map, refl, sym}
-use Rattle.std.specs.Prelude.{OnOk}
+-- What is left of a file of the chip while it is written over, or made.
+use Rattle.std.proofs.Common.{◌≡◌, ◌+◌, ◌-◌, ◌∷◌, ◌⊎◌, ◌∙◌, ℕ, List, [], None, Some, Result, Ok, Err, OnOk, ap, arith}
+use Rattle.std.proofs.Common.{drop, false, inl, inr, is_some, length, option_map, refl, sym, true}
 use Rattle.std.proofs.lemmas.Bool.{false≢true}
-use Rattle.std.proofs.lemmas.List.{append-nil, length-append, length-drop, length-replicate}
+use Rattle.std.proofs.lemmas.List.{append-nil, length-append, length-drop, length-replicate, drop_all, take_all}
 use Rattle.std.proofs.lemmas.Option.{same_Some}
 use Rattle.std.proofs.Math.Seq.{take-append_seam, take-nil}
 use Rattle.nor_files.specs.Calls.{Makes, Places, SetsLength, Syncs, WorksOn, WritesOver, with_length, written_over}
-use Rattle.nor_files.specs.Files.{FilesState, Found, IsKnown, IsSettled, Name, is_lawful}
+use Rattle.nor_files.specs.Files.{FilesState, Found, IsKnown, IsSettled, Name, is_lawful, OthersStay}
 use Rattle.flashnor.specs.Holding.{IsReadyFile, LeavesFileAmid}
-use Rattle.flashnor.proofs.Held.{WorkOn, call, known_on, then_on}
+use Rattle.flashnor.proofs.Stays.{lawful_after, stays_on}
+
+-- ---- calls on one file
+
+-- Calls on that one file.
+pub record WorkOn (name : Name) (old new : FilesState) : Type 0 where
+  pub nature : new.view.nature ≡ old.view.nature
+  pub out : is_lawful old.view ≡ true → new.view.out name ≡ old.view.out name
+  pub others : is_lawful old.view ≡ true → OthersStay name old new
+
+pub call : {T E : Type 0} {name : Name} {result : Result T E} {old new : FilesState}
+    → new.view.nature ≡ old.view.nature → (is_lawful old.view ≡ true → WorksOn name result old new)
+    → WorkOn name old new
+call same works = record { nature = same; out = λ lawful. (works lawful).out; others = λ lawful. (works lawful).others }
+
+pub then_on : {name : Name} {old mid new : FilesState} → WorkOn name old mid → WorkOn name mid new → WorkOn name old new
+then_on one two = record {
+  nature = two.nature ∙ one.nature;
+  out = λ lawful. two.out (lawful_after one.nature lawful) ∙ one.out lawful;
+  others = λ lawful other differ.
+      stays_on (one.others lawful other differ) (two.others (lawful_after one.nature lawful) other differ);
+}
+
+pub known_on : {name : Name} {old new : FilesState} → WorkOn name old new → IsKnown name old.view
+    → IsKnown name new.view
+known_on work known = record {
+  lawful = lawful_after work.nature known.lawful;
+  in_store = work.out known.lawful ∙ known.in_store;
+}
+
+-- ---- lengths
+
+-- a file that has the length keeps its bytes
+with_its_length : (len : ℕ) (has : List ℕ) → length has ≡ len → with_length len has ≡ has
+with_its_length len has is =
+    let none : len - length has ≡ 0 = omega arith in
+    rw (take_all len has (omega arith), none) (append-nil has)
+
+-- as many bytes written over it are all that it has
+all_over : (had bytes : List ℕ) → length had ≡ length bytes → written_over bytes had ≡ bytes
+all_over had bytes as_many = rw (drop_all (length bytes) had (omega arith)) (append-nil bytes)
+
+-- ---- bytes written over as many
+
+module _ {T E : Type 0} {name : Name} {had bytes : List ℕ} {a b : FilesState} {one : T}
+    (ready : IsReadyFile name true had bytes a) (writes : WritesOver {E = E} name bytes (Ok one) a b) where
+  mixed : LeavesFileAmid name true had bytes b
+  mixed left can = elim (writes.leaves left can) [
+    | inl was ↦
+        (had, ready.settled.leaves left was, record { shortest = omega arith; longest = omega arith; each = λ i. inl refl })
+    | inr might ↦
+        let (first, was, becomes) = might in
+        let (has, same, mix) = becomes in
+        (has, same, rw (same_Some first had (ready.settled.leaves (Some first) was)) at mix)
+  ]
+
+  -- the length couldn't be set
+  pub amid_cut : {result : Result T E} {c : FilesState} → SetsLength name (length bytes) result b c
+      → LeavesFileAmid name true had bytes c
+  amid_cut sets left can = elim (sets.leaves left can) [
+    | inl was ↦ mixed left was
+    | inr cut ↦
+        let (first, was, is) = cut in
+        let (has, same, mix) = mixed (Some first) was in
+        let as_long : length has ≡ length bytes = omega (arith, mix.shortest, mix.longest, ready.as_many) in
+        let uncut = ap (with_length (length bytes)) (same_Some first has same) ∙ with_its_length _ has as_long in
+        (has, is ∙ ap Some uncut, mix)
+  ]
+
+  -- it was synced, or not
+  pub amid_over : {two : T} {c : FilesState} (d : FilesState) (result : Result T E)
+      → SetsLength {E = E} name (length bytes) (Ok two) b c → Syncs name result c d
+      → LeavesFileAmid name true had bytes d
+  amid_over {two = two} d (Ok _) sets synced left can = elim (synced.leaves left can) [
+    | inl is ↦ (
+      bytes,
+      is ∙ sets.seen two refl ∙ ap (option_map (with_length (length bytes))) (writes.seen one refl
+          ∙ ap (option_map (written_over bytes)) ready.settled.seen)
+          ∙ ap Some (ap (with_length (length bytes)) (all_over had bytes ready.as_many) ∙ with_its_length _ bytes refl),
+      record { shortest = omega (arith, ready.as_many); longest = omega arith; each = λ i. inr refl },
+    )
+    | inr missing ↦ let (has, is, mix) = amid_cut sets None missing.1 in absurd cc
+  ]
+  amid_over d (Err _) sets no_more left can = amid_cut sets left (no_more left can)
 
 -- ---- its bytes, one after another
 
@@ -67,37 +149,28 @@ pub record IsNew (name : Name) (bytes content : List ℕ) (old new : FilesState)
 
 -- What is known of a call on the file of this name: that it is made, gets another length, is written over, or synced.
 module _ {T E : Type 0} (F : Type 0) (name : Name) (result : Result T E) (old new : FilesState) where
+  abbrev Keeps : Type 0
+  Keeps = new.view.nature ≡ old.view.nature
+
+  abbrev Alone : Type 0
+  Alone = is_lawful old.view ≡ true → WorksOn name result old new
+
+  abbrev Known : Type 0
+  Known = IsKnown name old.view
+
   abbrev MakeCall : Type 0
-  MakeCall = record {
-    nature : new.view.nature ≡ old.view.nature;
-    alone : is_lawful old.view ≡ true → WorksOn name result old new;
-    makes : IsKnown name old.view → Makes name result old new;
-    fails : F;
-  }
+  MakeCall = record { nature : Keeps; alone : Alone; makes : Known → Makes name result old new; fails : F }
 
   abbrev LengthCall : ℕ → Type 0
-  LengthCall len = record {
-    nature : new.view.nature ≡ old.view.nature;
-    alone : is_lawful old.view ≡ true → WorksOn name result old new;
-    sets : IsKnown name old.view → SetsLength name len result old new;
-    fails : F;
-  }
+  LengthCall len =
+      record { nature : Keeps; alone : Alone; sets : Known → SetsLength name len result old new; fails : F }
 
   abbrev WriteCall : List ℕ → Type 0
-  WriteCall bytes = record {
-    nature : new.view.nature ≡ old.view.nature;
-    alone : is_lawful old.view ≡ true → WorksOn name result old new;
-    writes : IsKnown name old.view → WritesOver name bytes result old new;
-    fails : F;
-  }
+  WriteCall bytes =
+      record { nature : Keeps; alone : Alone; writes : Known → WritesOver name bytes result old new; fails : F }
 
   abbrev SyncCall : Type 0
-  SyncCall = record {
-    nature : new.view.nature ≡ old.view.nature;
-    alone : is_lawful old.view ≡ true → WorksOn name result old new;
-    syncs : IsKnown name old.view → Syncs name result old new;
-    fails : F;
-  }
+  SyncCall = record { nature : Keeps; alone : Alone; syncs : Known → Syncs name result old new; fails : F }
 
 pub made : {T E F : Type 0} {name : Name} {bytes : List ℕ} {one : T} {old new : FilesState}
     → MakeCall {E = E} F name (Ok one) old new → IsNew name bytes [] old new
@@ -127,13 +200,11 @@ sized {content = content} len whole is set = record {
   work = then_on is.work (call set.nature set.alone);
   amid = λ had ready left can. elim ((set.sets (known_on is.work ready.known)).leaves left can) [
     | inl before ↦ of_new is had ready left before
-    | inr cut ↦
-        let (first, before, becomes) = cut in
-        elim (is.leaves had ready (Some first) before) [
-          | inl missing ↦ absurd cc
-          | inr same ↦
-              inr (with_length len content, becomes ∙ ap Some (ap (with_length len) (same_Some first content same)), whole)
-        ]
+    | inr cut ↦ elim (is.leaves had ready (Some cut.0) cut.1) [
+      | inl missing ↦ absurd cc
+      | inr same ↦
+          inr (with_length len content, cut.2 ∙ ap Some (ap (with_length len) (same_Some cut.0 content same)), whole)
+    ]
   ];
   whole = whole;
   seen = λ one ok had ready. (set.sets (known_on is.work ready.known)).seen one ok
@@ -153,8 +224,7 @@ written {bytes = bytes} is write = record {
   amid = λ had ready left can. elim ((write.writes (known_on is.work ready.known)).leaves left can) [
     | inl before ↦ of_new is had ready left before
     | inr might ↦
-        let (first, before, becomes) = might in
-        let (has, same, mix) = becomes in
+        let (first, before, (has, same, mix)) = might in
         elim (is.leaves had ready (Some first) before) [
           | inl missing ↦ absurd cc
           | inr was ↦

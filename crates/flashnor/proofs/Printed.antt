@@ -1,11 +1,13 @@
 -- What writes print that follow one another.
-use Rattle.std.proofs.Common.{◌≡◌, ◌∙◌, ℕ, ◌+◌, ◌<◌, ◌≤◌, Bool, true, false, List, [], ◌∷◌, ◌++◌, Option, None, Some, Result, Ok, Err, IfSome, length, get_or, take, ap, append_assoc, append-nil, arith, add-one, refl, subst, sym}
+use Rattle.std.proofs.Common.{◌≡◌, ◌∙◌, ℕ, ◌+◌, ◌<◌, ◌≤◌, Bool, List, [], ◌∷◌, ◌++◌, Option, None, Some, Result, Ok}
+use Rattle.std.proofs.Common.{Err, IfSome, add-one, append-nil, arith, false, flat_map, get_or, length, refl, subst}
+use Rattle.std.proofs.Common.{sym, take, true}
 use Rattle.std.proofs.Math.Seq.{take-suc}
 use Rattle.std.proofs.lemmas.Grind.{flat_map-append}
 use Rattle.std.proofs.lemmas.List.{take_all}
-use Rattle.std.specs.Prelude.{flat_map}
 use Rattle.std.specs.Fmt.{option_append}
-use Rattle.std.specs.Io.KnownBytes.{Appends, Keeps}
+use Rattle.std.specs.Io.KnownBytes.{Appends}
+use Rattle.std.proofs.KnownBytes.{Appends-trans}
 use Rattle.nor_probe.specs.Table.{chips}
 use Rattle.nor_probe.specs.declared.table.Part.{Part}
 use Rattle.nor_words.specs.declared.words.UsageFault.TheVariants as usage
@@ -18,22 +20,9 @@ use Rattle.flashnor.specs.declared.messages.Fault.{Fault}
 use Rattle.flashnor.specs.declared.messages.Fault.TheVariants as end
 use Rattle.flashnor.specs.declared.printing.Ending.{Ending}
 
-pub appends_none : (a : Option (List ℕ)) → Appends a a []
-appends_none None = tt
-appends_none (Some old) = sym (append-nil old)
-
 pub appends_then : (a b c : Option (List ℕ)) (first second : List ℕ) → Appends a b first → Appends b c second
     → Appends a c (first ++ second)
-appends_then None b c first second one two = tt
-appends_then (Some x) None c first second one two = absurd one
-appends_then (Some x) (Some y) None first second one two = absurd two
-appends_then (Some x) (Some y) (Some z) first second one two = two ∙ ap (λ l. l ++ second) one ∙ append_assoc x first second
-
-pub appends_kept : (a b c : Option (List ℕ)) (text : List ℕ) → Appends a b text → Keeps b c → Appends a c text
-appends_kept None b c text one two = tt
-appends_kept (Some x) None c text one two = absurd one
-appends_kept (Some x) (Some y) None text one two = absurd two
-appends_kept (Some x) (Some y) (Some z) text one two = two ∙ one
+appends_then = Appends-trans
 
 -- ---- the table of chips
 

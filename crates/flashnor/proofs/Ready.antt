@@ -1,6 +1,5 @@
 -- A bus to the programmer's chip is one that promises are made for.
-use Rattle.std.proofs.Common.{◌≡◌, ◌∙◌, ◌<◌, ℕ, Option, None, Some, Ok, arith, inr, refl, subst, sym, true}
-use Rattle.std.specs.Prelude.{is_none}
+use Rattle.std.proofs.Common.{◌≡◌, ◌∙◌, ◌<◌, ℕ, Option, None, Some, Ok, arith, inr, is_none, refl, subst, sym, true}
 use Rattle.nor_chip.specs.Bus.{Allows, BusState}
 use Rattle.nor_chip.specs.Chip.{Chip, IsSame}
 use Rattle.nor_driver.specs.Looks.{IsCalm, Looks}

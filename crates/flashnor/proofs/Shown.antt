@@ -1,7 +1,6 @@
 -- What the emulated chips are, and show themselves as.
-use Rattle.std.proofs.Common.{◌≡◌, ◌∙◌, List, ℕ, [], ◌∷◌, Option, None, Some, Result, Ok, Err, ap, refl, replicate}
-use Rattle.std.proofs.Common.{subst, sym}
-use Rattle.std.specs.Prelude.{IsOk, if◌then◌else◌}
+use Rattle.std.proofs.Common.{◌≡◌, ◌∙◌, List, ℕ, [], ◌∷◌, Option, None, Some, Result, Ok, Err, IsOk, ap, if◌then◌else◌}
+use Rattle.std.proofs.Common.{refl, replicate, subst, sym}
 use Rattle.nor_chip.specs.declared.config.Config.{Config}
 use Rattle.nor_chip.specs.Makers.{all_kinds}
 use Rattle.nor_probe.specs.Known.{HasGeometry, IsKnown, chip_says, id_of, is_no_chip, listed_or, part_by_sfdp, shown_as}

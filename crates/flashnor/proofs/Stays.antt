@@ -25,15 +25,22 @@ pub not_that : (one : Option (Bor Text)) (file : Bor Text) → AreTwo one (Some 
 not_that None file two = tt
 not_that (Some name) file two = λ same. two (sym same)
 
+-- each file stays but these two, if they are named
+abbrev pub StayApart : (one other : Option (Bor Text)) → (old new : FilesState) → Type 0
+StayApart one other old new = (any : Name) → IsNot one any → IsNot other any → Stays any old new
+
+-- what holds where no file is named, and of each file that is neither of two, holds of a name that is neither
+pub apart : (Holds : Option (Bor Text) → Type 0) → Holds None
+    → (name one other : Option (Bor Text)) → AreTwo name one → AreTwo name other
+    → ((file : Bor Text) → IsNot one file.now → IsNot other file.now → Holds (Some file)) → Holds name
+apart Holds none None one other first second each = none
+apart Holds none (Some file) one other first second each = each file first second
+
 pub nothing_same : (name : Option (Bor Text)) (files : FilesState) → MakesNothing name files files
 nothing_same None files = tt
 nothing_same (Some name) files = λ known left can. inl can
 
 -- ---- what is known of a file still is
-
--- the files are lawful before where they are afterwards
-pub lawful_before : {old new : Nature} → new ≡ old → new.lawful ≡ true → old.lawful ≡ true
-lawful_before same is = sym (ap (λ (n : Nature). n.lawful) same) ∙ is
 
 pub lawful_after : {old new : Nature} → new ≡ old → old.lawful ≡ true → new.lawful ≡ true
 lawful_after same is = ap (λ (n : Nature). n.lawful) same ∙ is
@@ -77,7 +84,7 @@ module _ (name : Name) (old mid new : FilesState) (vault : VaultState)
 
   pub kept_file : is_lawful new.view ≡ true → IsKeptFile name vault new
   kept_file is =
-      let t = taken (lawful_before made (lawful_before back is)) in
+      let t = taken (lawful_after (sym (back ∙ made)) is) in
       record { telling = t.telling; seen = t.seen; settled = t.settled }
 
   pub others_stay : is_lawful old.view ≡ true → (any : Name) → any ≢ name → Stays any old new

@@ -1,23 +1,17 @@
 -- A job's call once its trace was made.
-use Rattle.std.proofs.Common.{◌≡◌, ◌∙◌, ℕ, Option, None, Some, Result, ap, inl, inr, subst, sym, take, true}
-use Rattle.std.specs.Prelude.{IsSomeAnd, option_map}
+use Rattle.std.proofs.Common.{◌≡◌, ◌∙◌, ℕ, Option, None, Some, IsSomeAnd, ap, inl, inr, option_map, sym, take, true}
 use Rattle.std.specs.Borrow.{Bor}
-use Rattle.nor_chip.specs.Bus.{BusState}
 use Rattle.nor_files.specs.Calls.{Reads}
-use Rattle.nor_files.specs.Files.{FilesState, Found, Nature, OthersStay, View, is_lawful}
-use Rattle.nor_files.specs.Files.Failure.{Unmade}
-use Rattle.nor_call.specs.declared.refusal.Refusal.{Refusal}
+use Rattle.nor_files.specs.Files.{FilesState, Found, OthersStay, View, is_lawful}
 use Rattle.nor_words.specs.Text.{Text}
 use Rattle.nor_words.specs.declared.job.ChipJob.{ChipJob}
-use Rattle.flashnor.specs.Chips.{IsReady}
 use Rattle.flashnor.specs.Holding.{KnownStay}
-use Rattle.flashnor.specs.Files.{IsLogging, IsMaking}
-use Rattle.flashnor.specs.Run.{DoesJob, DoesTraced, FailsTraced, IsViewBut}
+use Rattle.flashnor.specs.Files.{IsLogging}
+use Rattle.flashnor.specs.Run.{FailsTraced, IsViewBut}
 use Rattle.flashnor.specs.declared.messages.Fault.{Fault}
 use Rattle.flashnor.specs.declared.messages.Fault.TheVariants as end
 use Rattle.flashnor.specs.declared.messages.FileFault.TheVariants as file
 use Rattle.flashnor.specs.Stored.{IsNot, MakesNothing}
-use Rattle.flashnor.specs.declared.answers.Answer.{Answer}
 use Rattle.flashnor.proofs.Stays.{known_after, lawful_after}
 
 pub view_but : (trace : Option (Bor Text)) (name : Bor Text) (old mid : FilesState) → trace ≡ Some name
@@ -58,31 +52,13 @@ makes_nothing_before name (Some file) old mid new nature not others made = λ kn
     let stays = others known.lawful file.now (λ same. not (sym same)) in
     elim (made (known_after nature stays known) left may) [ inl was ↦ inl (stays.leaves left was) | inr empty ↦ inr empty ]
 
-pub traced_does : (files mid after : FilesState) (job : ChipJob) (old old' new new' : BusState) (outcome : Result Answer Refusal)
-    → IsViewBut job.programmer.trace files.view mid.view → old' ≡ old → new ≡ new'
-    → (IsReady job.programmer old' → DoesJob mid.view after job.programmer job.named job.task old' new' outcome)
-    → IsReady job.programmer old → DoesTraced files after job old new outcome
-traced_does files mid after job old old' new new' outcome but was is does ready =
-    (mid.view, but, rw (← was, is) (does (rw was ready)))
-
 -- ---- faults
-
-making_before : (name : Text) (fault : Fault) (old mid : View) → mid.nature ≡ old.nature → IsMaking mid name fault
-    → IsMaking old name fault
-making_before name (end.File file.Write of) old mid same fails =
-    (fails.0, subst (λ (n : Nature). n.fails (Unmade name) ≡ true) same fails.1)
-making_before name _ old mid same fails = absurd fails
-
-logging_before : (name : Text) (fault : Fault) (old mid : View) → mid.nature ≡ old.nature → IsLogging mid name fault
-    → IsLogging old name fault
-logging_before name (end.Refused refusal) old mid same fails = fails
-logging_before name (end.File kind of) old mid same fails = making_before name (end.File kind of) old mid same fails
-logging_before name _ old mid same fails = absurd fails
 
 trace_before : (trace : Option (Bor Text)) (fault : Fault) (old mid : View) → mid.nature ≡ old.nature
     → IsSomeAnd trace (λ name. IsLogging mid name.now fault) → IsSomeAnd trace (λ name. IsLogging old name.now fault)
 trace_before None fault old mid same fails = fails
-trace_before (Some name) fault old mid same fails = logging_before name.now fault old mid same fails
+trace_before (Some name) (end.File file.Write of) old mid same fails = rw (← same) fails
+trace_before (Some name) _ old mid same fails = fails
 
 pub fails_before : (job : ChipJob) (fault : Fault) (old mid : FilesState) → mid.view.nature ≡ old.view.nature
     → KnownStay old mid

@@ -1,27 +1,23 @@
 -- Runs one behind another: each restore leads back as its predecessors did, and one that ends has left the first chip.
 use mathlib.Core.HLevel.{is_prop→PathP}
 use Rattle.std.proofs.Common.{◌≡◌, ◌<◌, ◌+◌, ◌/◌, ◌%◌, ◌==◌, ◌∙◌, ◌++◌, [], ℕ, Bool, List, Option, None, Some, Result}
-use Rattle.std.proofs.Common.{Ok}
-use Rattle.std.proofs.Common.{ap, arith, drop, inl, inr, length, refl, replicate, subst, sym, take, true}
-use Rattle.std.specs.Prelude.{◌⊎◌, IfSome, IsTrue, option_map, slice_index, unwrap_or}
+use Rattle.std.proofs.Common.{Ok, ◌⊎◌, IfSome, IsTrue, ap, arith, drop, inl, inr, length, option_map, refl, replicate}
+use Rattle.std.proofs.Common.{slice_index, subst, sym, take, true, unwrap_or}
 use Rattle.std.specs.Borrow.{Bor}
 use Rattle.std.proofs.Math.Bool.{Bool-set}
 use Rattle.std.proofs.lemmas.Bool.{cases_lt}
-use Rattle.std.proofs.lemmas.List.{append-nil, get_or_past, length-replicate, length-take, take-append-drop, take_all}
+use Rattle.std.proofs.lemmas.List.{append-nil, get_or_past, length-take, take-append-drop, take_all}
 use Rattle.nor_chip.specs.Chip.{Chip, IsSame}
-use Rattle.nor_chip.specs.Bus.{BusState}
 use Rattle.nor_chip.specs.Makers.{HasParts}
 use Rattle.nor_chip.specs.Sim.{state_of}
 use Rattle.nor_chip.specs.Size.{is_chip_size}
 use Rattle.nor_chip.specs.Start.{status_of}
 use Rattle.nor_chip.specs.declared.config.Config.{Config}
 use Rattle.nor_chip.specs.declared.config.Kinds.{Kinds}
-use Rattle.nor_probe.specs.declared.table.ChipName.{ChipName}
 use Rattle.nor_files.specs.Calls.{LeavesNoMore}
-use Rattle.nor_files.specs.Files.{AreAtRest, FilesState, Found, Name, View, is_lawful}
+use Rattle.nor_files.specs.Files.{AreAtRest, FilesState, Found, Name, is_lawful}
 use Rattle.nor_journal.specs.Text.{Content as Journal, IsContent, text}
 use Rattle.nor_journal.proofs.OneForm.{one_text}
-use Rattle.nor_call.specs.declared.refusal.Refusal.{Refusal}
 use Rattle.nor_session.specs.Headline.{CanGiveBack}
 use Rattle.nor_words.specs.Programmer.{IsConfigOfEmulated}
 use Rattle.nor_words.specs.Text.{Text}
@@ -33,42 +29,33 @@ use Rattle.nor_words.specs.declared.programmer.Emulated.TheVariants.{Tiny64, W25
 use Rattle.nor_words.specs.declared.programmer.Programmer.{Programmer}
 use Rattle.flashnor.specs.Chips.{ArePutBack, IsConfigWith}
 use Rattle.flashnor.specs.Endings.{all_written}
-use Rattle.flashnor.specs.Found.{emulated_part}
 use Rattle.flashnor.specs.Left.{IsOpenedFrom, KeepsRestorable, LeadsBack, MayLeave, Opened}
-use Rattle.flashnor.specs.Roles.{named_by}
-use Rattle.flashnor.specs.Run.{DoesJob, DoesRestore, KeepsFiles}
-use Rattle.flashnor.specs.Stored.{ArePut, AreTwo, IsFileFound, IsNot, IsRead, LeavesNoMoreOf}
-use Rattle.flashnor.specs.Tasks.{puts_back}
+use Rattle.flashnor.specs.Stored.{ArePut, IsFileFound, IsRead, LeavesNoMoreOf}
 use Rattle.flashnor.specs.Undone.{HaveOneChip, LeavesFirst, NameOne, Restores, RestoresFirst}
 use Rattle.flashnor.specs.declared.answers.Answer.{Answer}
 use Rattle.flashnor.specs.declared.holding.Unwritten.{Unwritten}
 use Rattle.flashnor.specs.declared.messages.Fault.{Fault}
 use Rattle.flashnor.proofs.Before.{leaves_of}
-use Rattle.flashnor.proofs.Kept.{as_many, of_none, quarter}
-use Rattle.flashnor.proofs.Shown.{size_with}
+use Rattle.flashnor.proofs.Kept.{of_none, opened_many, opened_size, quarter}
 use Rattle.flashnor.proofs.Stays.{known_at_rest, lawful_after, not_that}
 use Rattle.flashnor.proofs.Traced.{reads_before}
 
 -- ---- a chip and its number have one configuration
 
-same_config : (one other : Config) → one.id ≡ other.id → one.size ≡ other.size → one.kinds ≡ other.kinds
-    → one.scheme ≡ other.scheme → one.unique ≡ other.unique → one.sfdp ≡ other.sfdp → one ≡ other
-same_config one other id size kinds scheme unique sfdp = λ i. record {
-  id = id i;
-  size = size i;
-  kinds = kinds i;
-  scheme = scheme i;
-  unique = unique i;
-  sfdp = sfdp i;
-  sized = is_prop→PathP (λ j. IsTrue (is_chip_size (size j))) (λ j. Bool-set (is_chip_size (size j)) true)
-      one.sized other.sized i;
-}
-
 same_parts : {i : List ℕ} {n : ℕ} {k : Kinds} {s : Bool} {f : List ℕ} {one other : Config} → HasParts i n k s f one
     → HasParts i n k s f other → one ≡ other
 same_parts {one = one} {other = other} a b =
-    same_config one other (a.id ∙ sym b.id) (a.size ∙ sym b.size) (a.kinds ∙ sym b.kinds)
-    (a.scheme ∙ sym b.scheme) (a.unique ∙ sym b.unique) (a.sfdp ∙ sym b.sfdp)
+    let size : one.size ≡ other.size = a.size ∙ sym b.size in
+    λ i. record {
+      id = (a.id ∙ sym b.id) i;
+      size = size i;
+      kinds = (a.kinds ∙ sym b.kinds) i;
+      scheme = (a.scheme ∙ sym b.scheme) i;
+      unique = (a.unique ∙ sym b.unique) i;
+      sfdp = (a.sfdp ∙ sym b.sfdp) i;
+      sized = is_prop→PathP (λ j. IsTrue (is_chip_size (size j))) (λ j. Bool-set (is_chip_size (size j)) true)
+          one.sized other.sized i;
+    }
 
 same_emulated : (chip : Emulated) (one other : Config) → IsConfigOfEmulated chip one → IsConfigOfEmulated chip other
     → one ≡ other
@@ -82,9 +69,7 @@ same_with chip None one other a b = same_emulated chip one other a b
 same_with chip (Some number) one other a b =
     let zeros = replicate 8 0 in
     let bare = same_emulated chip (record one { unique = zeros }) (record other { unique = zeros }) a.0 b.0 in
-    same_config one other (ap (λ (c : Config). c.id) bare) (ap (λ (c : Config). c.size) bare)
-    (ap (λ (c : Config). c.kinds) bare) (ap (λ (c : Config). c.scheme) bare) (a.1 ∙ sym b.1)
-    (ap (λ (c : Config). c.sfdp) bare)
+    λ i. record (bare i) { unique = (a.1 ∙ sym b.1) i }
 
 -- ---- what a run reads of a file is what may be left of it
 
@@ -105,16 +90,12 @@ left_seen files rest still (Some name) len found is whole =
 
 -- ---- names
 
-turned : (one other : Option (Bor Text)) → NameOne one other → NameOne other one
-turned None None same = tt
-turned (Some one) (Some other) same = sym same
-turned _ _ same = absurd same
-
+-- what may be left of one may be of the other
 left_one : (one other : Option (Bor Text)) (left : Found) (files : FilesState) → NameOne one other
-    → MayLeave other left files → MayLeave one left files
-left_one None None left files same can = can
-left_one (Some one) (Some other) left files same can = rw (← same) can
-left_one _ _ left files same can = absurd same
+    → (MayLeave other left files → MayLeave one left files) × (MayLeave one left files → MayLeave other left files)
+left_one None None left files same = (λ can. can, λ can. can)
+left_one (Some one) (Some other) left files same = (λ can. rw (← same) can, λ can. rw same can)
+left_one _ _ left files same = absurd same
 
 less_of : (one other : Option (Bor Text)) (left : Found) (old new : FilesState) → NameOne one other
     → LeavesNoMoreOf other old new → MayLeave one left new → MayLeave one left old
@@ -122,36 +103,12 @@ less_of None other left old new same less can = can
 less_of (Some one) (Some other) left old new same less can = rw (← same) (less left (rw same can))
 less_of (Some one) None left old new same less can = absurd same
 
--- no file is named in place of another
-none_one : (one other : Option (Bor Text)) → NameOne one other → other ≡ None → one ≡ None
-none_one None other same none = refl
-none_one (Some one) None same none = absurd same
-none_one (Some one) (Some other) same none = absurd cc
-
 -- ---- the task
 
-keeps_of : (programmer : Programmer) (file : Text) (done : Task) (old new : FilesState) → Restores file done
-    → KeepsFiles programmer done old new → KeepsRestorable programmer file old new
-keeps_of programmer file (task.Restore journal) old new is keeps =
-    subst (λ (f : Text). KeepsRestorable programmer f old new) is keeps
-keeps_of programmer file _ old new is keeps = absurd is
-
--- it writes the chip's files, and its trace isn't the journal
-record IsRestore (trace : Option (Bor Text)) (file : Text) (done : Task) : Type 1 where
-  pub puts : puts_back done ≡ true
-  pub apart : AreTwo trace (named_by done).journal → IsNot trace file
-  pub does : (view : View) (after : FilesState) (programmer : Programmer) (named : Option ChipName) (old new : BusState)
-      (outcome : Result Answer Refusal) → DoesJob view after programmer named done old new outcome
-      → DoesRestore view named file old new outcome
-
-is_restore : (trace : Option (Bor Text)) (file : Text) (done : Task) → Restores file done → IsRestore trace file done
-is_restore trace file (task.Restore journal) is = record {
-  puts = refl;
-  apart = λ two. subst (IsNot trace) is (not_that trace journal two);
-  does = λ view after programmer named old new outcome does.
-      subst (λ (f : Text). DoesRestore view named f old new outcome) is does;
-}
-is_restore trace file _ is = absurd is
+restores : (file : Text) (done : Task) → Restores file done
+    → (journal : Bor Text) × (done ≡ task.Restore journal) × (journal.now ≡ file)
+restores file (task.Restore journal) is = (journal, refl, is)
+restores file _ is = absurd is
 
 -- ---- the journal
 
@@ -198,8 +155,7 @@ module _ (programmer : Programmer) (file : Text) (start : FilesState) (first : O
 
       from : IsOpenedFrom found.read.bytes.found found.read.status.found first.bus.chip.config found.bus.chip
       from =
-          let size = sym (size_with other.chip other.unique found.bus.chip.config found.opens.ready.config)
-          ∙ ap (λ (c : Config). c.size) one_setup in
+          let size = sym (opened_size found) ∙ ap (λ (c : Config). c.size) one_setup in
           record {
             config = one_setup;
             whole = subst (λ (n : ℕ). IfSome found.read.bytes.found (λ all. length all ≡ n)) size found.read.bytes.whole;
@@ -216,9 +172,9 @@ module _ (programmer : Programmer) (file : Text) (start : FilesState) (first : O
           → CanGiveBack journal first.bus.chip found.bus
       can_back journal is reads =
           rw (one_journal journal is reads) (leads.back found.read.bytes.found found.read.status.found found.bus
-          (left_one programmer.image other.image _ mid same.image
+          ((left_one programmer.image other.image _ mid same.image).0
           (left_seen mid rest still other.image _ _ found.read.bytes.is_found found.read.bytes.whole))
-          (left_one programmer.status other.status _ mid same.status
+          ((left_one programmer.status other.status _ mid same.status).0
           (left_seen mid rest still other.status _ _ found.read.status.is_found found.read.status.whole)) from)
 
     -- at every exit of a restore
@@ -231,8 +187,8 @@ module _ (programmer : Programmer) (file : Text) (start : FilesState) (first : O
       back = λ i s opened can_i can_s is.
           subst (λ (j : Journal). CanGiveBack j first.bus.chip opened) (one_journal kept.journal kept.sound kept.read)
           (kept.back first.bus.chip (can_back kept.found kept.journal kept.sound kept.read) i s opened
-          (left_one other.image programmer.image i new (turned programmer.image other.image same.image) can_i)
-          (left_one other.status programmer.status s new (turned programmer.status other.status same.status) can_s)
+          ((left_one programmer.image other.image i new same.image).1 can_i)
+          ((left_one programmer.status other.status s new same.status).1 can_s)
           (rw (one_setup kept.found) is));
     }
 
@@ -248,21 +204,15 @@ module _ (programmer : Programmer) (file : Text) (start : FilesState) (first : O
     settled (Some name) (Some given) bytes left one has can = inr ((has lawful).leaves left (rw one can))
     settled None (Some given) bytes left one has can = absurd one
 
-    size : first.bus.chip.config.size ≡ (emulated_part programmer.chip).size
-    size = size_with programmer.chip programmer.unique first.bus.chip.config first.opens.ready.config
-
-    many : length first.content.bytes.items ≡ first.bus.chip.config.size
-    many = as_many start.view programmer.image _ _ _ first.read.bytes (length-replicate {A = ℕ} _ 255) ∙ sym size
-
     byte_of : (left : Found) (a : ℕ) → ((programmer.image ≡ None) × (left ≡ None)) ⊎ (left ≡ Some put.bytes)
         → slice_index (unwrap_or left (replicate first.bus.chip.config.size 255)) a ≡ first.bus.chip.bytes a
     byte_of left a (inl none) =
-        rw (none.1, size) (sym (first.opens.holds.bytes a
+        rw (none.1, opened_size first) (sym (first.opens.holds.bytes a
         ∙ ap (λ (l : List ℕ). slice_index l a) (of_none start.view programmer.image _ _ _ none.0 first.read.bytes)))
     byte_of left a (inr has) = rw has (elim (cases_lt a first.bus.chip.config.size) [
       | inl below ↦ put.are.at a (omega (arith, below, ap (λ (c : Config). c.size) is.config)) ∙ is.bytes a
       | inr past ↦ get_or_past put.bytes a 0 (omega (arith, put.are.len, ap (λ (c : Config). c.size) is.config, past))
-          ∙ sym (get_or_past first.content.bytes.items a 0 (omega (arith, many, past)))
+          ∙ sym (get_or_past first.content.bytes.items a 0 (omega (arith, opened_many first, past)))
           ∙ sym (first.opens.holds.bytes a)
     ])
 
@@ -301,24 +251,24 @@ module _ (programmer : Programmer) (file : Text) (start : FilesState) (first : O
       → RestoresFirst programmer file first.bus on_chip unwritten told old mid new
       → LeadsBack programmer file first.bus new
   leads_on unwritten told ran =
+      let (journal, task', named) = restores file on_chip.task ran.restores in
       leads_restored programmer file start first on_chip.programmer ran.same mid ran.follows.rest still
-      (leads_mid unwritten told ran) new
-      (keeps_of on_chip.programmer file on_chip.task mid new ran.restores (ran.answers.1 ran.follows.rest))
+      (leads_mid unwritten told ran) new (rw (task', named) at (ran.answers.1 ran.follows.rest))
 
   pub given_back : (answer : Answer)
       → RestoresFirst programmer file first.bus on_chip all_written (Ok answer) old mid new
       → LeavesFirst programmer first.bus new
   given_back answer ran =
       let called = ran.answers.0 in
-      let is = is_restore on_chip.programmer.trace file on_chip.task ran.restores in
+      let (journal, task', named) = restores file on_chip.task ran.restores in
       let (amid, but, job) = called.does in
-      let does = is.does amid new on_chip.programmer on_chip.named _ _ _ job in
-      let reads = reads_before on_chip.programmer.trace file 16793662 _ mid.view amid
-      (is.apart called.roles.trace_journal) but does.read in
+      let does = rw (task', named) at job in
+      let apart = rw named at (not_that on_chip.programmer.trace journal (rw task' at called.roles.trace_journal)) in
+      let reads = reads_before on_chip.programmer.trace file 16793662 _ mid.view amid apart but does.read in
       let can = can_back programmer file start first on_chip.programmer ran.same mid ran.follows.rest still
       (leads_mid all_written (Ok answer) ran)
       (record { content = called.content; read = called.read; bus = state_of called.bus; opens = called.started.opens })
       does.journal does.sound reads in
       leaves_first programmer file start first on_chip.programmer ran.same called.new.chip new
       (lawful_after called.nature ran.follows.rest.lawful) (does.restored.back first.bus.chip can)
-      (called.left ran.follows.rest is.puts)
+      (called.left ran.follows.rest (rw task' refl))

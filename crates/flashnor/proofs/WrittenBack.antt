@@ -1,16 +1,15 @@
 -- Both files of the chip, one after the other put back, and the names of those that couldn't be written.
-use Rattle.std.proofs.Common.{◌≡◌, ◌∙◌, ℕ, Bool, true, List, Option, None, Some, ap, refl}
-use Rattle.std.specs.Prelude.{IfSome}
+use Rattle.std.proofs.Common.{◌≡◌, ◌∙◌, ℕ, Bool, List, Option, None, Some, IfSome, refl, true}
 use Rattle.std.specs.Borrow.{Bor}
 use Rattle.nor_chip.specs.Chip.{Chip}
 use Rattle.nor_chip.specs.Start.{AreChipBytes, status_of}
-use Rattle.nor_files.specs.Files.{FilesState, Name, Nature, Stays, View, is_lawful}
+use Rattle.nor_files.specs.Files.{FilesState, Name, Stays, View, is_lawful}
 use Rattle.nor_files.specs.Files.Failure.{Unwritten}
 use Rattle.nor_words.specs.Text.{Text}
 use Rattle.nor_words.specs.declared.programmer.Programmer.{Programmer}
 use Rattle.flashnor.specs.Chips.{ArePutBack}
 use Rattle.flashnor.specs.Holding.{AreAmid, AreReady, IsReady, LeavesAmid, Settles}
-use Rattle.flashnor.specs.Stored.{ArePut, AreTwo, Happens, Has, IsNot, IsToldOf}
+use Rattle.flashnor.specs.Stored.{ArePut, AreTwo, Happens, IsNot, IsToldOf}
 use Rattle.flashnor.proofs.Stays.{known_after, lawful_after, not_that, settled_after}
 
 -- each file stays whose name isn't that one
@@ -42,33 +41,24 @@ ready_still one (Some name) there had bytes a b two same others ready =
       as_many = ready.as_many;
     }
 
-module _ (there : Bool) (had bytes : List ℕ) (a b c : FilesState) where
-  settled_still : (one other : Option (Bor Text)) → AreTwo one other → b.view.nature ≡ a.view.nature
-      → OthersOf other b c
-      → IsReady one there had bytes a → Settles one (Some bytes) b → Settles one (Some bytes) c
-  settled_still None other two same others ready is = tt
-  settled_still (Some name) other two same others ready is =
-      settled_after (others (lawful_after same ready.known.lawful) name.now two) is
-
-  amid_still : (one other : Option (Bor Text)) → AreTwo one other → b.view.nature ≡ a.view.nature → OthersOf other b c
-      → IsReady one there had bytes a → LeavesAmid one there had bytes b → LeavesAmid one there had bytes c
-  amid_still None other two same others ready amid = tt
-  amid_still (Some name) other two same others ready amid = λ left can.
-      amid left ((others (lawful_after same ready.known.lawful) name.now two).leaves left can)
+-- and so does what was put into it, or is left of it
+still : (there : Bool) (had bytes : List ℕ) (a b c : FilesState) (one other : Option (Bor Text)) → AreTwo one other
+    → b.view.nature ≡ a.view.nature → OthersOf other b c → IsReady one there had bytes a
+    → (Settles one (Some bytes) b → Settles one (Some bytes) c)
+    × (LeavesAmid one there had bytes b → LeavesAmid one there had bytes c)
+still there had bytes a b c None other two same others ready = (λ _. tt, λ _. tt)
+still there had bytes a b c (Some name) other two same others ready =
+    let stays = others (lawful_after same ready.known.lawful) name.now two in
+    (settled_after stays, λ amid left can. amid left (stays.leaves left can))
 
 -- ---- what is told of each
-
-has_these : (name : Option (Bor Text)) (bytes : List ℕ) (files : FilesState) → Settles name (Some bytes) files
-    → Has name bytes files
-has_these None bytes files is = tt
-has_these (Some name) bytes files is = λ lawful. is
 
 are_put : (name : Option (Bor Text)) (bytes : List ℕ) (failed : Option (Bor Text)) (old new : FilesState)
     → new.view.nature ≡ old.view.nature → IfSome failed (λ of. (name ≡ Some of) × Happens old.view (Unwritten of.now))
     → (failed ≡ None → Settles name (Some bytes) new) → ArePut name bytes failed new
-are_put name bytes None old new same fails put = has_these name bytes new (put refl)
-are_put name bytes (Some of) old new same fails put =
-    (fails.0, ap (λ (nature : Nature). nature.fails (Unwritten of.now)) same ∙ fails.1)
+are_put None bytes None old new same fails put = tt
+are_put (Some name) bytes None old new same fails put = λ _. put refl
+are_put name bytes (Some of) old new same fails put = (fails.0, rw same fails.1)
 
 pub told_of : (name failed : Option (Bor Text)) (view : View)
     → IfSome failed (λ is. (name ≡ Some is) × Happens view (Unwritten is.now)) → IsToldOf name failed view
@@ -92,9 +82,6 @@ module _ {programmer : Programmer} {image_there status_there : Bool} {had bits :
   second : PutsBack programmer.status status_there (status_of chip) status b c
   second = rw is at second'
 
-  ready_image : IsReady programmer.image image_there had bytes a
-  ready_image = ready.image bytes are
-
   ready_status : IsReady programmer.status status_there bits (status_of chip) b
   ready_status =
       ready_still programmer.image programmer.status status_there bits (status_of chip) a b two first.nature first.others
@@ -105,8 +92,8 @@ module _ {programmer : Programmer} {image_there status_there : Bool} {had bits :
     bytes = bytes;
     are = are;
     image_put = are_put programmer.image bytes image a c (second.nature ∙ first.nature) first.fails
-        (λ none. settled_still image_there had bytes a b c programmer.image programmer.status two first.nature
-        second.others ready_image (first.put none had ready_image));
+        (λ none. (still image_there had bytes a b c programmer.image programmer.status two first.nature second.others
+        (ready.image bytes are)).0 (first.put none had (ready.image bytes are)));
     status_put = are_put programmer.status (status_of chip) status b c second.nature second.fails
         (λ none. second.put none bits ready_status);
   }
@@ -115,7 +102,7 @@ module _ {programmer : Programmer} {image_there status_there : Bool} {had bits :
   both_amid = record {
     put = bytes;
     are = are;
-    image = amid_still image_there had bytes a b c programmer.image programmer.status two first.nature second.others
-        ready_image (first.amid had ready_image);
+    image = (still image_there had bytes a b c programmer.image programmer.status two first.nature second.others
+        (ready.image bytes are)).1 (first.amid had (ready.image bytes are));
     status = second.amid bits ready_status;
   }

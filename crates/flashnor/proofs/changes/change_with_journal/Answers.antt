@@ -1,17 +1,21 @@
 use Rattle.std.proofs.lemmas.Result.{err_from_is_err_and}
-use Rattle.flashnor.proofs.Changed.{kept_done, kept_refused}
+use Rattle.flashnor.proofs.Doing.{kept, stays}
 use Rattle.flashnor.proofs.changes.change_with_journal.Goals as goal
 
 pub returns-in_err-report : goal.returns-in_err-report
 returns-in_err-report g c = λ modelled calm.
     let p = err_from_is_err_and c.from_residual.result c.from_residual.ensures.1 in
-    let chip = g.met.B.Bus.reaches c.args.bus.now modelled.honest in
-    rw (p.1, p.2) (kept_refused _ _ _ _ _ _ c.in_err-report.ensures.always.looks (c.in_err-report.ensures.modelled modelled).undo modelled chip calm
-    _ (c.in_err-report.ensures.modelled modelled).tells (c.in_err-report.ensures.honest modelled.honest).gives_up
-    c.in_err-report.ensures.always.answers.unused)
+    let failed = c.in_err-report.ensures in
+    rw (p.1, p.2) (kept _ _ _ _ _ _ failed.always.looks (failed.modelled modelled).undo modelled
+    (g.met.B.Bus.reaches c.args.bus.now modelled.honest) calm _ (record {
+      refuses = (failed.modelled modelled).tells;
+      same = stays _ _ _ (failed.honest modelled.honest).gives_up;
+      unused = failed.always.answers.unused;
+    }) (λ ok. cc))
 
 pub returns : goal.returns
 returns g c = λ modelled calm.
+    let done = c.in_ok-report.ensures in
     let chip = g.met.B.Bus.reaches c.args.bus.now modelled.honest in
-    kept_done _ _ _ _ _ _ c.in_ok-report.ensures.always.looks (c.in_ok-report.ensures.modelled modelled).undo modelled chip calm
-    _ (c.in_ok-report.ensures.modelled modelled).done c.in_ok-report.ensures.always.ends.sealed
+    kept _ _ _ _ _ _ done.always.looks (done.modelled modelled).undo modelled chip calm _ (done.modelled modelled).done
+    (λ _. done.always.ends.sealed)

@@ -1,4 +1,4 @@
-use Rattle.flashnor.proofs.Holds.{missing_settled, placed_stay, unplaced_stay}
+use Rattle.flashnor.proofs.Holds.{missing_settled, placed_stay}
 use Rattle.flashnor.proofs.Stays.{known_at_rest, rest_on, stays_on}
 use Rattle.flashnor.proofs.holding.hold_whole.Goals as goal
 
@@ -21,16 +21,14 @@ returns-in_ok-read_held-in-Ok-true-clause-held g c = λ rest.
 
 pub returns-in_ok-read_held-in-Ok-true-clause-no_more :
     goal.returns-in_ok-read_held-in-Ok-true-clause-no_more
-returns-in_ok-read_held-in-Ok-true-clause-no_more g c = λ rest name left can.
-    let one = (c.in-Ok-true.ensures.holds rest.lawful).stay in
-    let held = rest_on c.in-Ok-true.ensures.nature rest one in
-    (one name).leaves left (c.in_ok-read_held-in-Ok-true.ensures.no_more held name left can)
+returns-in_ok-read_held-in-Ok-true-clause-no_more g c = λ rest name.
+    ((returns-in_ok-read_held-in-Ok-true-clause-held g c rest).stay name).leaves
 
 pub returns-in-Ok-clause-held : goal.returns-in-Ok-clause-held
 returns-in-Ok-clause-held g c = λ rest.
     let holds = c.in-Ok-false.ensures.holds rest.lawful in
     let held = rest_on c.in-Ok-false.ensures.nature rest holds.stay in
-    let two = placed_stay c.in-Ok.ensures.alone c.in-Ok.ensures.places in
+    let two = placed_stay _ c.in-Ok.ensures.alone c.in-Ok.ensures.places in
     record {
       stay = λ name. stays_on (holds.stay name) (two name (known_at_rest held name));
       settled = rw c.in-Some.is (missing_settled c.in-Ok-false.field-0-test (known_at_rest rest c.in-Some.name.now) holds
@@ -38,17 +36,13 @@ returns-in-Ok-clause-held g c = λ rest.
     }
 
 pub returns-in-Ok-clause-no_more : goal.returns-in-Ok-clause-no_more
-returns-in-Ok-clause-no_more g c = λ rest name.
-    let one = (c.in-Ok-false.ensures.holds rest.lawful).stay in
-    let held = rest_on c.in-Ok-false.ensures.nature rest one in
-    let two = placed_stay c.in-Ok.ensures.alone c.in-Ok.ensures.places in
-    (stays_on (one name) (two name (known_at_rest held name))).leaves
+returns-in-Ok-clause-no_more g c = λ rest name. ((returns-in-Ok-clause-held g c rest).stay name).leaves
 
 pub returns-in-Err-sync_folder-clause-no_more : goal.returns-in-Err-sync_folder-clause-no_more
 returns-in-Err-sync_folder-clause-no_more g c = λ rest name.
     let one = (c.in-Ok-false.ensures.holds rest.lawful).stay in
     let held = rest_on c.in-Ok-false.ensures.nature rest one in
-    let two = unplaced_stay c.in-Err-sync_folder.ensures.alone c.in-Err-sync_folder.ensures.places in
+    let two = placed_stay _ c.in-Err-sync_folder.ensures.alone c.in-Err-sync_folder.ensures.places in
     (stays_on (one name) (two name (known_at_rest held name))).leaves
 
 pub returns-in-Err-clause-no_more : goal.returns-in-Err-clause-no_more

@@ -1,4 +1,4 @@
-use Rattle.flashnor.proofs.Held.{amid_cut, amid_over, call, known_on, then_on}
+use Rattle.flashnor.proofs.Made.{amid_cut, amid_over, call, known_on, then_on}
 use Rattle.flashnor.proofs.holding.write_over.Goals as goal
 
 pub returns-in_err-write_over-clause-others : goal.returns-in_err-write_over-clause-others

@@ -1,5 +1,4 @@
-use Rattle.std.proofs.Common.{refl, rules}
-use Rattle.std.specs.Prelude.{flat_map}
+use Rattle.std.proofs.Common.{flat_map, refl, rules}
 use Rattle.flashnor.specs.AnswerLines.{range_line}
 use Rattle.flashnor.proofs.printing.print_ranges.Goals as goal
 

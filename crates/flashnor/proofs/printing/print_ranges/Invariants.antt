@@ -1,4 +1,4 @@
-use Rattle.std.specs.Prelude.{flat_map}
+use Rattle.std.proofs.Common.{flat_map}
 use Rattle.std.specs.Io.KnownBytes.{Appends}
 use Rattle.flashnor.specs.AnswerLines.{range_line}
 use Rattle.flashnor.proofs.printing.print_ranges.Given as goal

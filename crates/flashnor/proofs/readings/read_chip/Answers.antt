@@ -1,4 +1,3 @@
-use Rattle.flashnor.proofs.Reading.{does_read}
 use Rattle.flashnor.proofs.Stays.{kept_file, others_stay}
 use Rattle.flashnor.proofs.readings.read_chip.Goals as goal
 
@@ -8,12 +7,18 @@ returns-clause-others g c =
     c.empty.ensures.nature c.in_ok-out.ensures.lends c.hand_back.ensures.nature c.hand_back.ensures.takes
 
 pub returns-clause-ok : goal.returns-clause-ok
-returns-clause-ok g c =
-    does_read (g.R.Store.state c.args.rt.now).view (g.R.Store.state c.hand_back.new.self).view c.args.named c.args.file.now c.args.regions _ _
-    (g.B.Bus.state c.args.bus.now) (g.B.Bus.state c.read_into-outcome.new.bus) _ _ c.read_into-outcome.result
-    c.in_ok-included.ensures.ok c.as_ref.ensures.value c.in_ok-out.ensures.fresh c.read_into-outcome.ensures
-    (λ lawful.
-    let kept = kept_file c.args.file.now (g.R.Store.state c.args.rt.now) (g.R.Store.state c.empty.new.rt)
-    (g.R.Store.state c.hand_back.new.self) _
-    c.empty.ensures.nature c.in_ok-out.ensures.lends c.hand_back.ensures.nature c.hand_back.ensures.takes lawful in
-    (kept.telling, kept.seen))
+returns-clause-ok g c = record {
+  ranges = c.in_ok-included.included;
+  included = c.in_ok-included.ensures.ok;
+  read = record {
+    empty = _;
+    filled = _;
+    fresh = c.in_ok-out.ensures.fresh;
+    read = rw c.as_ref.ensures.value at c.read_into-outcome.ensures;
+    holds = λ lawful.
+        let kept = kept_file c.args.file.now (g.R.Store.state c.args.rt.now) (g.R.Store.state c.empty.new.rt)
+        (g.R.Store.state c.hand_back.new.self) _
+        c.empty.ensures.nature c.in_ok-out.ensures.lends c.hand_back.ensures.nature c.hand_back.ensures.takes lawful in
+        (kept.telling, kept.seen);
+  };
+}

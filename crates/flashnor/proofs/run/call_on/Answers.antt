@@ -2,7 +2,7 @@ use Rattle.std.proofs.Common.{inr}
 use Rattle.std.proofs.lemmas.Result.{err_from_is_err_and}
 use Rattle.flashnor.specs.Tasks.{journal_by}
 use Rattle.flashnor.proofs.Stays.{lawful_after}
-use Rattle.flashnor.proofs.Traced.{makes_nothing_before, traced_does, view_but}
+use Rattle.flashnor.proofs.Traced.{makes_nothing_before, view_but}
 use Rattle.flashnor.proofs.run.call_on.Goals as goal
 
 pub returns-in_err-create_log-clause-others : goal.returns-in_err-create_log-clause-others
@@ -27,7 +27,9 @@ returns-in_err-outcome-2-clause-unmade g c = λ lawful two.
     (rw c.in-Some.is at two) c.in_ok-create_log.ensures.others (c.in_err-outcome-2.ensures.unmade (lawful_after nature lawful)))
 
 pub returns-clause-ok : goal.returns-clause-ok
-returns-clause-ok g c =
-    rw c.of_traced.ensures.came (traced_does (g.R.Store.state c.args.rt.now) (g.R.Store.state c.create_log.new.rt) (g.R.Store.state c.do_task-2.new.rt)
-    c.args.job.now _ _ _ _ _ (view_but _ c.in-Some.name _ _ c.in-Some.is c.in_ok-create_log.ensures.nature c.in_ok-create_log.ensures.others)
-    c.new-traced.ensures.state c.of_traced.ensures.bus c.in_ok-outcome-2.ensures.ok)
+returns-clause-ok g c = λ ready. rw c.of_traced.ensures.came (
+  _,
+  view_but _ c.in-Some.name _ _ c.in-Some.is c.in_ok-create_log.ensures.nature c.in_ok-create_log.ensures.others,
+  rw (← c.new-traced.ensures.state, c.of_traced.ensures.bus)
+      (c.in_ok-outcome-2.ensures.ok (rw c.new-traced.ensures.state ready)),
+)

@@ -1,6 +1,7 @@
 use Rattle.std.proofs.Common.{◌∙◌, inr}
 use Rattle.std.proofs.lemmas.Result.{err_from_is_err_and}
 use Rattle.nor_chip.specs.Sim.{state_of}
+use Rattle.nor_files.specs.Files.{AreAtRest}
 use Rattle.flashnor.proofs.Ended.{ends_called}
 use Rattle.flashnor.proofs.Kept.{does_after, keeps_files, ready_both, setup_done}
 use Rattle.flashnor.proofs.Stays.{lawful_after}
@@ -25,47 +26,8 @@ returns-in_err-called-clause-keeps g c = λ rest.
     c.requires.changes (c.in_err-called.ensures.others lawful1)
     (c.in_err-called.ensures.unmade lawful1 (two_kept c.args.job.now.task _ c.requires.roles.trace_journal))
 
-pub returns-clause-ok : goal.returns-clause-ok
-returns-clause-ok g c =
-    let s0 = g.R.Store.state c.args.rt.now in
-    let s1 = g.R.Store.state c.hold_content.new.rt in
-    let s2 = g.R.Store.state c.call_on.new.rt in
-    let s3 = g.R.Store.state c.write_back.new.rt in
-    let job = c.args.job.now in
-    let roles = c.requires.roles in
-    let puts = c.requires.changes in
-    let held = c.in_ok-held.ensures in
-    let opens = c.start-bus.ensures.opens in
-    let called = c.in_ok-called.ensures in
-    let back = c.write_back.ensures in
-    let d = called.ok opens.ready in
-    ends_called s0 s3 job _ _ _ (record {
-      roles = roles;
-      nature = back.nature ∙ called.nature ∙ held.nature;
-      content = c.in_ok-held.held.content;
-      read = held.ok;
-      bus = c.start-bus.result;
-      started = c.start-bus.ensures;
-      new = _;
-      does = (
-        d.0,
-        view_before job.programmer.trace s0 s1 d.0 held.nature held.stay d.1,
-        does_after job.programmer s2 s3 back.nature back.others job.task d.0 job.named _ _ _ puts roles.image_journal
-            roles.status_journal d.2,
-      );
-      told_of = rw puts (
-        told_before _ _ s0.view s2.view (called.nature ∙ held.nature) back.fails.0,
-        told_before _ _ s0.view s2.view (called.nature ∙ held.nature) back.fails.1,
-      );
-      left = λ rest puts. back.put (roles.status puts) _ _
-          (ready_both job c.in_ok-held.held s0 s1 s2 (state_of c.start-bus.result) (state_of c.in_ok-called.called.bus)
-          roles held.ok opens rest (held.held rest) held.nature called.nature called.others
-          (setup_done job.task d.0 s2 job.programmer job.named _ _ _ puts d.2));
-      traced = called.lost;
-    }) c.told-answer.ensures
-
-pub returns-clause-keeps : goal.returns-clause-keeps
-returns-clause-keeps g c = λ rest.
+pub returns : goal.returns
+returns g c =
     let s0 = g.R.Store.state c.args.rt.now in
     let s1 = g.R.Store.state c.hold_content.new.rt in
     let s2 = g.R.Store.state c.call_on.new.rt in
@@ -80,13 +42,36 @@ returns-clause-keeps g c = λ rest.
     let called = c.in_ok-called.ensures in
     let back = c.write_back.ensures in
     let d = called.ok opens.ready in
-    let is_held = held.held rest in
+    let but = view_before job.programmer.trace s0 s1 d.0 held.nature held.stay d.1 in
     let setup = setup_done job.task d.0 s2 job.programmer job.named _ _ _ puts d.2 in
-    let ready = ready_both job c.in_ok-held.held s0 s1 s2 bus bus' roles held.ok opens rest is_held held.nature
-    called.nature called.others setup in
-    keeps_files job c.in_ok-held.held s0 s1 s2 bus bus' roles held.ok opens rest is_held held.nature called.nature
-    called.others setup s3 d.0 held.stands c.in_ok-called.called.bus.flash.kept2_in
-    (view_before job.programmer.trace s0 s1 d.0 held.nature held.stay d.1) back.others
-    (back.amid (roles.status puts) _ _ ready) job.task job.named _ puts
-    (called.others (lawful_after held.nature rest.lawful)) roles.image_journal roles.status_journal
-    roles.trace_journal d.2
+    let ready = λ (rest : AreAtRest s0). ready_both job c.in_ok-held.held s0 s1 s2 bus bus' roles held.ok opens rest
+    (held.held rest) held.nature called.nature called.others setup in
+    record {
+      ok = ends_called s0 s3 job _ _ _ (record {
+        roles = roles;
+        nature = back.nature ∙ called.nature ∙ held.nature;
+        content = c.in_ok-held.held.content;
+        read = held.ok;
+        bus = c.start-bus.result;
+        started = c.start-bus.ensures;
+        new = bus';
+        does = (
+          d.0,
+          but,
+          does_after job.programmer s2 s3 back.nature back.others job.task d.0 job.named _ _ _ puts roles.image_journal
+              roles.status_journal d.2,
+        );
+        told_of = rw puts (
+          told_before _ _ s0.view s2.view (called.nature ∙ held.nature) back.fails.0,
+          told_before _ _ s0.view s2.view (called.nature ∙ held.nature) back.fails.1,
+        );
+        left = λ rest puts. back.put (roles.status puts) _ _ (ready rest);
+        traced = called.lost;
+      }) c.told-answer.ensures;
+      err = tt;
+      keeps = λ rest. keeps_files job c.in_ok-held.held s0 s1 s2 bus bus' roles held.ok opens rest (held.held rest)
+          held.nature called.nature called.others setup s3 d.0 held.stands c.in_ok-called.called.bus.flash.kept2_in but
+          back.others (back.amid (roles.status puts) _ _ (ready rest)) job.task job.named _ puts
+          (called.others (lawful_after held.nature rest.lawful)) roles.image_journal roles.status_journal
+          roles.trace_journal d.2;
+    }

@@ -1,6 +1,6 @@
 use Rattle.std.proofs.Common.{◌∙◌, refl, sym, true≢false}
 use Rattle.flashnor.proofs.Ended.{ends_called}
-use Rattle.flashnor.proofs.Before.{stay_all, stays_but}
+use Rattle.flashnor.proofs.Before.{stays_but}
 use Rattle.flashnor.proofs.Stays.{stays_same}
 use Rattle.flashnor.proofs.run.look_at_files.Goals as goal
 
@@ -22,15 +22,12 @@ returns-clause-ok g c =
 
 pub returns-in_err-content-clause-keeps : goal.returns-in_err-content-clause-keeps
 returns-in_err-content-clause-keeps g c = λ lawful.
-    stay_all (g.R.Store.state c.args.rt.now) (g.R.Store.state c.args.rt.now) c.args.job.now.programmer _
-    (λ name. stays_same name (g.R.Store.state c.args.rt.now))
+    stays_but c.args.job.now c.requires.roles _ _ (λ name _ _. stays_same name (g.R.Store.state c.args.rt.now))
 
 pub returns-in_err-called-clause-keeps : goal.returns-in_err-called-clause-keeps
 returns-in_err-called-clause-keeps g c = λ lawful.
-    stays_but c.args.job.now c.requires.roles (g.R.Store.state c.args.rt.now) (g.R.Store.state c.call_on.new.rt)
-    (c.in_err-called.ensures.others lawful)
+    stays_but c.args.job.now c.requires.roles _ _ (c.in_err-called.ensures.others lawful)
 
 pub returns-clause-keeps : goal.returns-clause-keeps
 returns-clause-keeps g c = λ lawful.
-    stays_but c.args.job.now c.requires.roles (g.R.Store.state c.args.rt.now) (g.R.Store.state c.call_on.new.rt)
-    (c.in_ok-called.ensures.others lawful)
+    stays_but c.args.job.now c.requires.roles _ _ (c.in_ok-called.ensures.others lawful)
