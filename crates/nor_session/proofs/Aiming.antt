@@ -21,13 +21,7 @@ none_aimed journal old new same s = inl (ap (λ (sent : Sent). is_aimed_at sent 
 
 -- aimed at saved sectors alone, and then again
 pub aims_then : (journal : Content) (old mid new : BusState) → AimsAtSaved journal old mid → AimsAtSaved journal mid new → AimsAtSaved journal old new
-aims_then journal old mid new before after s = elim (after s) [
-  | inl same ↦ elim (before s) [
-    | inl here ↦ inl (same ∙ here)
-    | inr aimed ↦ inr aimed
-  ]
-  | inr aimed ↦ inr aimed
-]
+aims_then journal old mid new before after s = let earlier = before s in let later = after s in grind arith
 
 -- ---- behind what only looked
 

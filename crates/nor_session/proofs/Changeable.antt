@@ -57,11 +57,8 @@ module _ {journal : Content} {opening : Opening} {scanned : Scanned} {old mid ne
   marks_old modelled =
       let same = (read.opens.rested modelled.honest).unchanged.same in
       let is = opening_of modelled read.opens in
-      let is_open : IsOpen journal.size mid = record {
-        honest = read.looks.nature.honest ∙ modelled.honest;
-        idle = read.opens.idle modelled.honest;
-        same = ap (λ (config : Config). config.size) same.config ∙ sym is.config.size ∙ sym read.kind.size;
-      } in
+      let idle = read.opens.idle modelled.honest in
+      let is_open : IsOpen journal.size mid = search rules in
       let bytes : mid.chip.bytes ≡ old.chip.bytes = fun_ext same.bytes in
       (fun_ext (rw bytes at (read.scans.touched is_open)), fun_ext (rw bytes at (read.scans.raised is_open)))
 

@@ -7,7 +7,6 @@ use Rattle.nor_chip.specs.Chip.{Chip, is_locked}
 use Rattle.nor_chip.specs.Guard.{code_of, is_unit_guarded}
 use Rattle.nor_plan.specs.Content.{is_touched}
 use Rattle.nor_probe.specs.declared.table.ChipName.{ChipName}
-use Rattle.nor_probe.specs.declared.table.ChipName.TheVariants as Names
 use Rattle.nor_probe.specs.declared.table.Part.{Part}
 use Rattle.nor_probe.specs.declared.sfdp.Geometry.{Geometry}
 use Rattle.nor_probe.specs.declared.sfdp.SfdpFault.{SfdpFault}
@@ -42,11 +41,7 @@ part_shown false None with_id (Err fault) shown is there known = absurd (known f
 -- a name is wanted, or it isn't
 wanted_or_other : (named : Option ChipName) (name : ChipName) → IsWanted named name ⊎ (¬ IsWanted named name)
 wanted_or_other None name = inl tt
-wanted_or_other (Some Names.W25Q64FV) Names.W25Q64FV = inl refl
-wanted_or_other (Some Names.W25Q128FV) Names.W25Q128FV = inl refl
-wanted_or_other (Some Names.Sfdp) Names.Sfdp = inl refl
-wanted_or_other (Some Names.Other) Names.Other = inl refl
-wanted_or_other (Some _) _ = inr (λ same. absurd cc)
+wanted_or_other (Some wanted) name = grind arith
 
 -- its chip has the name that is wanted
 pub accepted_named : (request : Request) (image : List ℕ) (chip : Chip) → IsAccepted request image chip

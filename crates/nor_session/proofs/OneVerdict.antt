@@ -105,19 +105,12 @@ module _ {request : Request} {image : List ℕ} {chip : Chip} where
       → ¬ NeedsStatus request.what request.unlock code (is_touched_by request image chip) chip)
       → (10 < n → request.unlock ≡ false → NoneHeld (is_touched_by request image chip) chip)
       → IsClear request image chip n
-  scanned {code = code} named accepts writable free = record {
-    there = λ past none. cc;
-    known = λ past fault unknown. cc;
-    named = λ past. named;
-    image_size = λ past. accepts.fits.image_size;
-    regions = λ past. accepts.fits.regions;
-    scheme = λ past. accepts.protection.scheme;
-    defined = λ past. accepts.protection.defined;
-    offered = λ past none. none_or_code request.what chip code none accepts.is_wanted;
-    writable = λ past locked needs.
-        writable past locked (needs_same request.what _ needs.0 code _ chip needs.1 accepts.is_wanted needs.2);
-    free = free;
-  }
+  scanned {code = code} named accepts writable free =
+      let offered = λ (none : AsksForNone request.what chip).
+      none_or_code request.what chip code none accepts.is_wanted in
+      let same = λ (needs : NeedsStatusWrite request image chip).
+      needs_same request.what _ needs.0 code _ chip needs.1 accepts.is_wanted needs.2 in
+      search (rules, arith)
 
   pub scan_judged : {code : ℕ} (refusal : Refusal) → IsNamed request.named chip.config
       → OpeningAccepts request (length image) chip code

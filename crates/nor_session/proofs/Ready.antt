@@ -73,15 +73,8 @@ pub ready : {request : Request} {opening : Opening} {status : Status} {code most
     → bytes_of status ≡ status_read opening → (is_data request.what ≡ true → code ≡ code_in (status_read opening))
     → Ready request opening status code kept old new
 ready {opening = opening} {kept = kept} {old = old} {mid = mid} {new = new} looks opens more keeps is_status same_code =
-    let looked : HasLooked (opening.transactions + kept.scanned.reads) old new = record {
-      nature = nature_then old mid new more.nature looks.nature;
-      same_sent = more.sent ∙ looks.sent;
-      heard = λ _. keeps.scans.heard opens.heard;
-      rested = λ honest.
-          rested_then old mid new (opens.rested honest) (keeps.scans.rested (looks.nature.honest ∙ honest));
-      sent = λ honest.
-          let sent = opens.count honest in let again = keeps.scans.sent (looks.nature.honest ∙ honest) in omega arith;
-    } in
+    let looked : HasLooked (opening.transactions + kept.scanned.reads) old new
+    = grind (arith, nature_then old mid new more.nature looks.nature, rested_then old mid new) in
     search rules
 
 -- ---- how many sectors there are
