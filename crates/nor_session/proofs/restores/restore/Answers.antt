@@ -1,4 +1,5 @@
 use Rattle.std.proofs.Common.{◌+◌, length, sym, rules, arith}
+use Rattle.std.proofs.lemmas.Bool.{false_from_ne_true}
 use Rattle.std.proofs.lemmas.Result.{err_from_is_err_and}
 use Rattle.nor_save.specs.Opening.{most_opening}
 use Rattle.nor_session.specs.Bounds.{most_looked, most_of}
@@ -19,11 +20,8 @@ returns-in_err-prepared g c =
     let room = c.prepare.ensures.room in let looks = c.prepare.ensures.leaves in
     let told = prepare_tells journal most old new refusal (omega arith) in
     rw (p.1, p.2) (record {
-      gives_back = λ modelled. record {
-        within = λ first can. looks_back journal first most old new modelled.honest looks can;
-        back = search rules;
-        only_stops = λ first can. only_stopped journal first old new refusal can (told modelled tells);
-      };
+      gives_back = λ modelled.
+          let told = told modelled tells in let honest = modelled.honest in search (rules, looks_back, only_stopped);
       always =
           let spends = looks_spend most (most_of (length journal.saved)) old new (omega arith) looks in
           let looks = looks_most most (most_looked 4096) old new (omega arith) looks in
@@ -45,26 +43,18 @@ returns-in_err-work g c =
     let refusal = c.in_err-work.field-0.0 in let tells = c.in_err-work.ensures.tells in
     let p = err_from_is_err_and c.from_residual-in_err-work.result c.from_residual-in_err-work.ensures.1 in
     rw (p.1, p.2) (record {
-      gives_back = λ modelled. record {
-        within = λ first can. changed_back journal first prepared old mid new are modelled can;
-        back = search rules;
-        only_stops = λ first can. only_stopped journal first old new refusal can
-            (change_tells journal prepared old mid new refusal are modelled tells);
-      };
-      always = record {
-        spends = changed_spends journal prepared old mid new are;
-        aims = change_aims old are.looks.sent are.leaves journal (sym are.is.sized) are.is.saved;
-        writes = change_writes old are.looks.sent are.leaves (two_writes prepared.changes);
-        answers = change_answers prepared.changes _ mid new refusal tells;
-        names = change_names prepared.changes refusal are.is.saved c.in_err-work.ensures.names;
-        looks = λ first. absurd (change_not_judged prepared.changes _ mid new refusal tells first);
-        bounded = search rules;
-        heard = search rules;
-      };
-      honest = λ honest. record {
-        gives_up = change_gives_up journal prepared old mid new refusal are honest tells;
-        counted = search rules;
-      };
+      gives_back = λ modelled.
+          let told = change_tells journal prepared old mid new refusal are modelled tells in
+          search (rules, changed_back, only_stopped);
+      always =
+          let aims = change_aims old are.looks.sent are.leaves journal (sym are.is.sized) are.is.saved in
+          let writes = change_writes old are.looks.sent are.leaves (two_writes prepared.changes) in
+          let answers = change_answers prepared.changes _ mid new refusal tells in
+          let names = change_names prepared.changes refusal are.is.saved c.in_err-work.ensures.names in
+          let late = false_from_ne_true _ (change_not_judged prepared.changes _ mid new refusal tells) in
+          search (rules, changed_spends);
+      honest = λ honest.
+          let gives_up = change_gives_up journal prepared old mid new refusal are honest tells in search rules;
       modelled = λ modelled. record {
         tells = change_tells journal prepared old mid new refusal are modelled tells;
         leaves = changed_leaves journal prepared old mid new are modelled;
@@ -91,26 +81,18 @@ returns g c =
     let work = c.in_ok-work.work in let sent = prepared.transactions + work.transactions in
     let does = c.in_ok-work.ensures.does in
     record {
-      gives_back = λ modelled. record {
-        within = λ first can. changed_back journal first prepared old mid new are modelled can;
-        back = λ first can. restored_back journal first old new _ can
-            (restored_done journal prepared old mid new work sent are does modelled);
-        only_stops = search rules;
-      };
-      always = record {
-        spends = changed_spends journal prepared old mid new are;
-        aims = change_aims old are.looks.sent are.leaves journal (sym are.is.sized) are.is.saved;
-        writes = change_writes old are.looks.sent are.leaves (two_writes prepared.changes);
-        answers = search rules;
-        names = search rules;
-        looks = search rules;
-        bounded = restored_bounded journal prepared old mid new work sent are does (omega arith);
-        heard = does.heard are.is.heard;
-      };
-      honest = λ honest. record {
-        gives_up = search rules;
-        counted = restored_counted journal prepared old mid new work sent are does (omega arith) honest;
-      };
+      gives_back = λ modelled.
+          let done = restored_done journal prepared old mid new work sent are does modelled in
+          search (rules, changed_back, restored_back);
+      always =
+          let aims = change_aims old are.looks.sent are.leaves journal (sym are.is.sized) are.is.saved in
+          let writes = change_writes old are.looks.sent are.leaves (two_writes prepared.changes) in
+          let bounded = restored_bounded journal prepared old mid new work sent are does (omega arith) in
+          let heard = does.heard are.is.heard in
+          search (rules, changed_spends);
+      honest = λ honest.
+          let counted = restored_counted journal prepared old mid new work sent are does (omega arith) honest in
+          search rules;
       modelled = λ modelled. record {
         tells = search rules;
         leaves = changed_leaves journal prepared old mid new are modelled;

@@ -28,16 +28,14 @@ finish-requires-clause-sourced g c = λ s touched.
 
 pub returns-in_err-saved : goal.returns-in_err-saved
 returns-in_err-saved g c = λ first looks opens.
-    let request = c.args.self.request.now in let opening = c.args.self.opening in let image = c.args.self.image.now in
-    let mid = g.B.Bus.state c.args.self.bus.now in let new = g.B.Bus.state c.save.new.bus in
+    let request = c.args.self.request.now in let size = c.args.self.opening.found.size in
+    let new = g.B.Bus.state c.save.new.bus in let leaves = c.save.ensures.leaves in
     let vault = g.V.Vault.state c.args.self.vault.now in let vault' = g.V.Vault.state c.save.new.vault in
-    let refusal = c.in_err-saved.field-0.0 in let told = c.in_err-saved.ensures in let leaves = c.save.ensures.leaves in
-    let few = scanned_few request opening.found.size opens.part.at_most in
-    let most = opens.most in
+    let refusal = c.in_err-saved.field-0.0 in let told = c.in_err-saved.ensures in
+    let few = scanned_few request size opens.part.at_most in let most = opens.most in
     let looked_on : Looks (most_looked 4096) first new
-    = looks_after _ _ _ first mid new (omega arith) (has_opened looks opens) leaves in
-    let spent : Spends (most_of (scanned_sectors request opening.found.size)) first new
-    = spends_looks (omega arith) looked_on in
+    = looks_after _ _ _ _ _ _ (omega arith) (has_opened looks opens) leaves in
+    let spent : Spends (most_of (scanned_sectors request size)) first new = spends_looks (omega arith) looked_on in
     let puts = refused_puts refusal vault vault' told.puts in
     let unsealed : vault'.sealed ≡ false = puts.1 ∙ c.requires.fresh.unsealed in
     let p = err_from_is_err_and c.from_residual.result c.from_residual.ensures.1 in
@@ -45,54 +43,47 @@ returns-in_err-saved g c = λ first looks opens.
       always =
           let spends : Spends (most_of 4096) first new = spends_more (omega arith) spent in
           let writes = none_written (most_status_writes request.what request.unlock) first new looked_on.sent in
-          let names = save_names request opening c.args.self.code image mid new refusal told.tells in
+          let names = save_names _ _ _ _ _ _ refusal told.tells in
           search rules;
       honest = λ honest.
-          let tells = save_gives_up request image opening c.args.self.code _ first mid new refusal honest looks opens
-          leaves told.tells in
-          search rules;
+          let tells = save_gives_up _ _ _ _ _ _ _ _ refusal honest looks opens leaves told.tells in search rules;
       modelled = λ modelled.
           let opened = opening_of modelled opens in
-          let shown = shows request opening first mid modelled looks opens in
-          let tells = save_tells request image opening c.args.self.code first mid new vault vault' refusal
-          modelled looks opens (c.requires.judged.accepts first.chip opened) (search rules) told.tells in
+          let shown = shows request _ _ _ modelled looks opens in
+          let tells = save_tells _ _ _ _ _ _ _ vault vault' refusal modelled looks opens
+          (c.requires.judged.accepts first.chip opened) (search rules) told.tells in
           let falls = (spends_more (most_sized request (opens.genuine modelled)) spent).falls modelled.honest in
           let unwritten = none_written 0 first new looked_on.sent in
-          let is_named = named request opening first mid modelled opens in
+          let is_named = named request _ _ _ modelled opens in
           search (rules, inr, told.begins, told.cut);
     })
 
 pub returns-in_err-work : goal.returns-in_err-work
 returns-in_err-work g c = λ first looks opens.
-    let request = c.args.self.request.now in let opening = c.args.self.opening in let image = c.args.self.image.now in
-    let code = c.args.self.code in let saved = c.in_ok-saved.saved in let keeps = c.in_ok-saved.ensures.keeps in
-    let start = g.B.Bus.state c.args.self.bus.now in let mid = g.B.Bus.state c.save.new.bus in
-    let new = g.B.Bus.state c.finish.new.self.0 in let leaves = c.finish.ensures.leaves in
+    let request = c.args.self.request.now in let image = c.args.self.image.now in
+    let keeps = c.in_ok-saved.ensures.keeps in let leaves = c.finish.ensures.leaves in
     let vault = g.V.Vault.state c.args.self.vault.now in let vault' = g.V.Vault.state c.save.new.vault in
     let refusal = c.in_err-work.field-0.0 in let told = c.in_err-work.ensures in
     let is = ready looks opens c.save.ensures.leaves keeps c.status.ensures c.requires.judged.same_code in
-    let few = scanned_few request opening.found.size is.part.at_most in
-    let spent = spends_ready is leaves.spends in
+    let few = scanned_few request _ is.part.at_most in let spent = spends_ready is leaves.spends in
     let p = err_from_is_err_and c.from_residual-in_err-work.result c.from_residual-in_err-work.ensures.1 in
     rw (p.1, p.2) (record {
       always =
-          let spends : Spends (most_of 4096) first new = spends_more (omega arith) spent in
+          let spends : Spends (most_of 4096) first _ = spends_more (omega arith) spent in
           let writes = change_writes first is.looked.same_sent leaves (writes_few is) in
           let aims = λ (telling : vault'.telling ≡ true).
           change_aims_in first is.looked.same_sent leaves (c.in_ok-saved.ensures.saves telling) in
-          let names = work_names (changes_of opening saved c.status.result code) vault' refusal (search rules)
-          c.in_ok-saved.ensures.saves told.names in
+          let names = work_names (changes_of c.args.self.opening c.in_ok-saved.saved c.status.result c.args.self.code)
+          vault' refusal (search rules) c.in_ok-saved.ensures.saves told.names in
           search rules;
       honest = λ honest.
-          let tells = change_gives_up request opening _ code saved _ first mid new refusal honest is told.tells in
-          search rules;
+          let tells = change_gives_up _ _ _ _ _ _ _ _ _ refusal honest is told.tells in search rules;
       modelled = λ modelled.
           let small = (g.met.B.Bus.reaches c.args.self.bus.now (looks.nature.honest ∙ modelled.honest)).kept2 in
           let of = ready_chip _ _ _ _ _ _ _ _ _ _ _ modelled looks opens is
           (c.requires.judged.accepts first.chip) keeps (λ a. let fits = c.save.type_inv in search rules)
           (small_first modelled.honest opens small) in
-          let tells = change_tells request image _ opening _ code saved first mid new vault vault' refusal is of
-          told.tells in
+          let tells = change_tells _ _ _ _ _ _ _ _ _ _ vault vault' refusal is of told.tells in
           let falls = (spends_more (most_sized request (opens.genuine modelled)) spent).falls modelled.honest in
           let unwritten = λ (none : ¬ NeedsStatusWrite request image first.chip).
           change_writes first is.looked.same_sent leaves (never_written _ _ _ _ _ _ _ _ _ is of none) in
@@ -102,18 +93,14 @@ returns-in_err-work g c = λ first looks opens.
 
 pub returns : goal.returns
 returns g c = λ first looks opens.
-    let request = c.args.self.request.now in let opening = c.args.self.opening in let image = c.args.self.image.now in
-    let code = c.args.self.code in let saved = c.in_ok-saved.saved in let keeps = c.in_ok-saved.ensures.keeps in
-    let start = g.B.Bus.state c.args.self.bus.now in let mid = g.B.Bus.state c.save.new.bus in
-    let new = g.B.Bus.state c.finish.new.self.0 in let leaves = c.finish.ensures.leaves in
-    let vault' = g.V.Vault.state c.save.new.vault in let work = c.in_ok-work.work in
-    let does = c.in_ok-work.ensures.does in
+    let request = c.args.self.request.now in let image = c.args.self.image.now in
+    let keeps = c.in_ok-saved.ensures.keeps in let leaves = c.finish.ensures.leaves in
+    let vault' = g.V.Vault.state c.save.new.vault in let does = c.in_ok-work.ensures.does in
     let is = ready looks opens c.save.ensures.leaves keeps c.status.ensures c.requires.judged.same_code in
-    let few = scanned_few request opening.found.size is.part.at_most in
-    let spent = spends_ready is leaves.spends in
+    let few = scanned_few request _ is.part.at_most in let spent = spends_ready is leaves.spends in
     record {
       always =
-          let spends : Spends (most_of 4096) first new = spends_more (omega arith) spent in
+          let spends : Spends (most_of 4096) first _ = spends_more (omega arith) spent in
           let writes = change_writes first is.looked.same_sent leaves (writes_few is) in
           let aims = λ (telling : vault'.telling ≡ true).
           change_aims_in first is.looked.same_sent leaves (c.in_ok-saved.ensures.saves telling) in
