@@ -11,7 +11,7 @@ use borrow.Rule.Slice.PartMut.{put_mid, same_len_mid}
 use Rattle.nor_journal.specs.Number.{number_text, number_at}
 use Rattle.nor_journal.specs.Text.{magic, head}
 use Rattle.nor_journal.specs.Fault.{head_length}
-use Rattle.nor_journal.proofs.Numbers.{IsBytes, IsBytes-drop, number_text-number_at}
+use Rattle.nor_journal.proofs.SectorRecords.{IsBytes, IsBytes-drop, number_text-number_at}
 use Rattle.std.proofs.Math.Seq.{take-add}
 use Rattle.std.proofs.lemmas.Grind.{elements}
 

@@ -1,10 +1,8 @@
-pub mod Numbers
 pub mod Heads
 pub mod SectorRecords
 pub mod Places
 pub mod Beginnings
 pub mod Saved
-pub mod Sought
 pub mod Saves
 pub mod WholeJournals
 pub mod OneForm

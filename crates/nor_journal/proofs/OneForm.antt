@@ -1,8 +1,8 @@
--- What tells the parts of a journal apart, numbers, records, heads, and the fronts that they make: so a journal says
--- one thing. And which fault bytes have, as a function of them: so they have one at most, and a journal has none.
+-- What tells the parts of a journal apart: numbers, records, heads, and the fronts that they make. So a journal says
+-- one thing and has no fault, and other bytes have one fault at most.
 use Rattle.std.proofs.Common.{◌≡◌, ℕ, ◌+◌, ◌-◌, ◌/◌, ◌^◌, ◌<◌, ◌≤◌, true, List, [], ◌∷◌, ◌++◌, length, take, drop}
-use Rattle.std.proofs.Common.{Option, Some, None, refl, sym, ap, ◌∙◌, append_assoc, arith, inl, inr, ◌≢◌}
-use Rattle.std.specs.Prelude.{IfSome, if◌then◌else◌, nat_lt, false, Result, Ok, Err, IfOk, IfErr, OnOk, IsOkAnd}
+use Rattle.std.proofs.Common.{Option, refl, sym, ap, ◌∙◌, append_assoc, arith, inl, inr}
+use Rattle.std.specs.Prelude.{IfSome, Result, Ok, Err, IfOk, IfErr, OnOk, IsOkAnd}
 use Rattle.std.specs.Option.{unwrap_or}
 use Rattle.std.proofs.lemmas.List.{length-append, append-nil, take_at, drop_at, length-take, length-drop}
 use Rattle.std.proofs.lemmas.List.{append_cancel_left, take-append-drop}
@@ -14,14 +14,9 @@ use Rattle.nor_journal.specs.Text.{SavedSector, Content, IsContent, IsSectorBelo
 use Rattle.nor_journal.specs.Text.{record_text, records_text, front, body, text, end_mark, least_after, next_number}
 use Rattle.nor_journal.specs.Fault.{head_length, HasFault, HeadFault, NextFault}
 use Rattle.nor_journal.specs.Reading.{BeginsRecord}
-use Rattle.nor_journal.proofs.Numbers.{length-number_text, number_at-number_text, number_at-take}
-use Rattle.std.specs.Str.{bytes_eq}
-use Rattle.std.proofs.lemmas.Bool.{cases_lt, lt-ltb, le-ltb, false_from_ne_true}
-use Rattle.std.proofs.lemmas.Option.{same_Some}
-use Rattle.std.proofs.lemmas.Slice.Eq.{bytes_eq-Decides}
+use Rattle.nor_journal.proofs.SectorRecords.{length-number_text, number_at-number_text, number_at-take}
 use Rattle.sha2.proofs.Facts256.{length-sha256}
 use Rattle.nor_journal.specs.declared.fault.JournalFault.{JournalFault}
-use Rattle.nor_journal.specs.declared.fault.JournalFault.TheVariants.{Short, Magic, Size, Place, Order, Long, Digest}
 
 -- two lists that go on differently, after parts of one length
 pub same_parts : (a b : List ℕ) {x y : List ℕ} → length a ≡ length b → a ++ x ≡ b ++ y → (a ≡ b) × (x ≡ y)
@@ -163,37 +158,14 @@ same_fronts c d x y c-is d-is no_x no_y e =
       records.1,
     )
 
-equal : (xs ys : List ℕ) → xs ≡ ys → bytes_eq xs ys ≡ true
-equal xs ys e = (bytes_eq-Decides xs ys).1 e
-
-unequal : (xs ys : List ℕ) → xs ≢ ys → bytes_eq xs ys ≡ false
-unequal xs ys ne = false_from_ne_true _ (λ e. ne ((bytes_eq-Decides xs ys).0 e))
-
--- ---- in the head
-
--- of a head of this length
-abbrev size_fault : (len : ℕ) → List ℕ → Option JournalFault
-size_fault len bytes =
-    if nat_lt (length bytes) len then Some Short
-    else if is_chip_size (number_at (drop (len - 4) bytes)) then None
-    else Some Size
-
-abbrev head_fault : List ℕ → Option JournalFault
-head_fault bytes =
-    if nat_lt (length bytes) 8 then Some Short
-    else if bytes_eq (take 8 bytes) (magic None) then size_fault 17 bytes
-    else if bytes_eq (take 8 bytes) (magic (Some [])) then size_fault 25 bytes
-    else Some Magic
-
-behind_magic : (u : Option (List ℕ)) (bytes : List ℕ) → 8 ≤ length bytes → take 8 bytes ≡ magic u
-    → head_fault bytes ≡ size_fault (head_length u) bytes
-behind_magic None bytes long begins = rw (le-ltb _ _ long, equal (take 8 bytes) _ begins)
-behind_magic (Some u) bytes long begins =
-    let other : take 8 bytes ≢ magic None = λ e. absurd (omega (arith, same_format None (Some u) (sym e ∙ begins))) in
-    rw (le-ltb _ _ long, unequal (take 8 bytes) _ other, equal (take 8 bytes) _ begins)
+-- ---- which fault it is
 
 least_head : (u : Option (List ℕ)) → 17 ≤ head_length u
 least_head u = grind arith
+
+-- the head has one at most
+one_in_head : (bytes : List ℕ) (f g : JournalFault) → HeadFault bytes f → HeadFault bytes g → f ≡ g
+one_in_head bytes f g p q = grind (arith, same_format, least_head)
 
 -- its last four bytes are the size
 head_number : (c : Content) (x : List ℕ) → IsContent c
@@ -206,92 +178,29 @@ head_number c x is =
     rw (append_assoc before (number_text c.size) x, drop_at before (number_text c.size ++ x) _ len)
     (number_at-number_text c.size x (omega (arith, few_sectors c.size is.size)))
 
-head_fault-is : (bytes : List ℕ) (f : JournalFault) → HeadFault bytes f → head_fault bytes ≡ Some f
-head_fault-is bytes Short (inl short) = rw (lt-ltb _ _ short)
-head_fault-is bytes Short (inr (u, begins, cut)) = elim (cases_lt (length bytes) 8) [
-  | inl below ↦ rw (lt-ltb _ _ below)
-  | inr long ↦ behind_magic u bytes long begins ∙ rw (lt-ltb _ _ cut)
-]
-head_fault-is bytes Magic (long, other) =
-    rw (le-ltb _ _ long, unequal (take 8 bytes) _ (other None), unequal (take 8 bytes) _ (other (Some [])))
-head_fault-is bytes Size (u, begins, whole, wrong) =
-    behind_magic u bytes (omega (arith, least_head u)) begins ∙ rw (le-ltb _ _ whole, wrong)
-head_fault-is bytes _ never = absurd never
-
 -- the head of a content has none
-pub head_fault-none : (c : Content) (x : List ℕ) → IsContent c → head_fault (head c ++ x) ≡ None
-head_fault-none c x is =
+none_in_head : (c : Content) (x : List ℕ) (f : JournalFault) → IsContent c → HeadFault (head c ++ x) f → ⊥
+none_in_head c x f is found =
     let begins = ap (take 8) (head_opened c x) ∙ take_at _ _ _ (length-magic c.unique) in
-    let whole : head_length c.unique ≤ length (head c ++ x) =
-    omega (arith, length-append (head c) x, length-head c is) in
-    behind_magic c.unique (head c ++ x) (omega (arith, least_head c.unique)) begins
-    ∙ rw (le-ltb _ _ whole, head_number c x is, is.size)
+    grind (arith, begins, same_format, least_head, length-append (head c) x, length-head c is, head_number c x is,
+    is.size)
 
--- ---- behind the front of a content
+-- what stands behind a content has one at most, ..
+one_behind : (c : Content) (rest : List ℕ) (f g : JournalFault) → IsContent c → NextFault c rest f → NextFault c rest g
+    → f ≡ g
+one_behind c rest f g is p q =
+    grind (arith, number_at-marked rest, few_sectors c.size is.size, length-take 4 rest, length-end_mark)
 
-abbrev end_fault : Content → List ℕ → Option JournalFault
-end_fault c rest =
-    if nat_lt (length rest) 36 then Some Short
-    else if nat_lt 36 (length rest) then Some Long
-    else if bytes_eq (drop 4 rest) (sha256 (front c ++ end_mark)) then None
-    else Some Digest
-
-abbrev sector_fault : Content → List ℕ → Option JournalFault
-sector_fault c rest =
-    if nat_lt (number_at rest) (next_number c) then Some Order
-    else if nat_lt (length rest) 4100 then Some Short
-    else None
-
-abbrev next_fault : Content → List ℕ → Option JournalFault
-next_fault c rest =
-    if nat_lt (length rest) 4 then Some Short
-    else if bytes_eq (take 4 rest) end_mark then end_fault c rest
-    else if nat_lt (number_at rest) (c.size / 4096) then sector_fault c rest
-    else Some Place
-
-at_mark : (c : Content) (rest : List ℕ) → take 4 rest ≡ end_mark → next_fault c rest ≡ end_fault c rest
-at_mark c rest mark =
-    let long : 4 ≤ length rest = omega (arith, ap length mark, length-end_mark, length-take 4 rest) in
-    rw (le-ltb _ _ long, equal _ _ mark)
-
--- the number of a sector isn't the end mark
-at_sector : (c : Content) (rest : List ℕ) → IsContent c → 4 ≤ length rest → number_at rest < c.size / 4096
-    → next_fault c rest ≡ sector_fault c rest
-at_sector c rest is long place =
-    let other : take 4 rest ≢ end_mark = λ mark.
-    omega (arith, number_at-marked rest mark, few_sectors c.size is.size) in
-    rw (le-ltb _ _ long, unequal _ _ other, lt-ltb _ _ place)
-
-next_fault-is : (c : Content) (rest : List ℕ) (f : JournalFault) → IsContent c → NextFault c rest f
-    → next_fault c rest ≡ Some f
-next_fault-is c rest Short is (inl (inl short)) = rw (lt-ltb _ _ short)
-next_fault-is c rest Short is (inl (inr (rises, place, short))) = elim (cases_lt (length rest) 4) [
-  | inl below ↦ rw (lt-ltb _ _ below)
-  | inr long ↦ at_sector c rest is long place ∙ rw (le-ltb _ _ rises, lt-ltb _ _ short)
-]
-next_fault-is c rest Place is (inl (long, other, place)) =
-    rw (le-ltb _ _ long, unequal _ _ other, le-ltb _ _ place)
-next_fault-is c rest Order is (inl (long, place, falls)) =
-    at_sector c rest is long place ∙ rw (lt-ltb _ _ falls)
-next_fault-is c rest Short is (inr (mark, short)) = at_mark c rest mark ∙ rw (lt-ltb _ _ short)
-next_fault-is c rest Long is (inr (mark, long)) =
-    at_mark c rest mark ∙ rw (le-ltb (length rest) 36 (omega arith), lt-ltb _ _ long)
-next_fault-is c rest Digest is (inr (mark, whole, other)) =
-    at_mark c rest mark
-    ∙ rw (le-ltb (length rest) 36 (omega arith), le-ltb 36 (length rest) (omega arith), unequal _ _ other)
-next_fault-is c rest _ is (inl never) = absurd never
-next_fault-is c rest _ is (inr never) = absurd never
-
--- the end has none
-next_fault-end : (c : Content) → next_fault c (end_mark ++ sha256 (body c)) ≡ None
+-- .. the end of a journal has none, ..
+none_at_end : (c : Content) (f : JournalFault) → IsContent c → NextFault c (end_mark ++ sha256 (body c)) f → ⊥
 unfolding body
-next_fault-end c =
-    let len : length (end_mark ++ sha256 (body c)) ≡ 36 =
-    simp (length-append, length-end_mark, length-sha256) in
-    at_mark c _ (take_at end_mark _ 4 length-end_mark)
-    ∙ rw (len, equal _ _ (drop_at end_mark (sha256 (body c)) 4 length-end_mark))
+none_at_end c f is found =
+    let digest = sha256 (body c) in
+    grind (arith, number_at-marked (end_mark ++ digest), few_sectors c.size is.size, length-end_mark,
+    take_at end_mark digest 4 length-end_mark, drop_at end_mark digest 4 length-end_mark,
+    length-append end_mark digest, length-sha256 (body c))
 
--- behind a fault no record is next
+-- .. and what has one is no record that may be next
 faulty : (c : Content) (rest : List ℕ) (f : JournalFault) → IsContent c → NextFault c rest f
     → NoRecord (c.size / 4096) (next_number c) rest
 faulty c rest f is found begins = grind (arith, number_at-marked rest, few_sectors c.size is.size)
@@ -302,9 +211,7 @@ faulty c rest f is found begins = grind (arith, number_at-marked rest, few_secto
 not_in_head : (bytes : List ℕ) (f : JournalFault) (c : Content) (rest : List ℕ) → IsContent c
     → bytes ≡ front c ++ rest → HeadFault bytes f → ⊥
 not_in_head bytes f c rest is split found =
-    let none = head_fault-none c (records_text c.saved ++ rest) is in
-    let some = head_fault-is bytes f found in
-    cc (none, some, split, front_opened c rest)
+    none_in_head c (records_text c.saved ++ rest) f is (rw (split ∙ front_opened c rest) at found)
 
 -- a record begins no end
 no_record : (c : Content) (behind : List ℕ) → IsContent c
@@ -314,15 +221,13 @@ no_record c behind is begins =
     omega (arith, begins.place, number_at-marked (end_mark ++ behind) mark, few_sectors c.size is.size)
 
 pub one_fault : (bytes : List ℕ) (f g : JournalFault) → HasFault bytes f → HasFault bytes g → f ≡ g
-one_fault bytes f g (inl p) (inl q) = same_Some f g (sym (head_fault-is bytes f p) ∙ head_fault-is bytes g q)
+one_fault bytes f g (inl p) (inl q) = one_in_head bytes f g p q
 one_fault bytes f g (inl p) (inr q) = absurd (not_in_head bytes f q.content q.rest q.is_content q.split p)
 one_fault bytes f g (inr p) (inl q) = absurd (not_in_head bytes g p.content p.rest p.is_content p.split q)
 one_fault bytes f g (inr p) (inr q) =
     let same = same_fronts p.content q.content p.rest q.rest p.is_content q.is_content
     (faulty _ _ f p.is_content p.next) (faulty _ _ g q.is_content q.next) (sym p.split ∙ q.split) in
-    let first = next_fault-is p.content p.rest f p.is_content p.next in
-    let second = next_fault-is q.content q.rest g q.is_content q.next in
-    same_Some f g (cc (first, second, same.0, same.1))
+    one_behind p.content p.rest f g p.is_content p.next (rw (same.0, same.1) q.next)
 
 -- a journal has no fault
 pub faultless : (c : Content) (bytes : List ℕ) (fault : JournalFault) → IsContent c → bytes ≡ text c → HasFault bytes fault → ⊥
@@ -331,7 +236,7 @@ faultless c bytes fault is e (inl found) =
 faultless c bytes fault is e (inr found) =
     let same = same_fronts c found.content _ found.rest is found.is_content (no_record c _ is)
     (faulty _ _ fault found.is_content found.next) (sym (text_opened c) ∙ sym e ∙ found.split) in
-    cc (next_fault-end c, same.0, same.1, next_fault-is _ _ fault found.is_content found.next)
+    none_at_end c fault is (rw (same.1, same.0) found.next)
 
 -- ---- each journal says one thing, and none begins another
 

@@ -9,9 +9,8 @@ use Rattle.nor_journal.specs.declared.head.Head.{Head}
 use Rattle.nor_journal.specs.Text.{Content, IsContent, head, front, body, text, end_mark}
 use Rattle.nor_journal.specs.Fault.{FaultBehindFront, NextFault, EndFault}
 use Rattle.nor_journal.specs.Reading.{headed, content_at, IsHead, HasRecords}
-use Rattle.nor_journal.proofs.Numbers.{IsBytes}
+use Rattle.nor_journal.proofs.SectorRecords.{IsBytes, records_text-sectors_in, with_mark}
 use Rattle.nor_journal.proofs.OneForm.{length-end_mark}
-use Rattle.nor_journal.proofs.SectorRecords.{records_text-sectors_in, with_mark}
 
 -- what stands behind some bytes are bytes too
 IsBytes-behind : (before rest bytes : List ℕ) → bytes ≡ before ++ rest → IsBytes bytes → IsBytes rest

@@ -1,12 +1,12 @@
 -- Which sectors a journal saves, as it is written and as it is read.
-use Rattle.std.proofs.Common.{◌≡◌, ℕ, ◌+◌, ◌*◌, ◌/◌, ◌%◌, ◌<◌, ◌≤◌, cond, eqb, Bool, true, false, List, [], refl, sym}
-use Rattle.std.proofs.Common.{subst, ◌∙◌, arith, Option, Some, None, inl, inr}
-use Rattle.std.specs.Prelude.{IsSomeAnd, Result, Ok, Err, IsOkAnd}
-use Rattle.std.proofs.lemmas.Bool.Decides.{eqb_tells, nat_tests}
+use Rattle.std.proofs.Common.{◌≡◌, ℕ, ◌+◌, ◌*◌, ◌/◌, ◌%◌, ◌<◌, ◌≤◌, Bool, true, false, List, [], refl, sym, subst, ◌∙◌}
+use Rattle.std.proofs.Common.{arith, Option}
+use Rattle.std.specs.Prelude.{Result, Ok, Err, IsOkAnd}
+use Rattle.std.proofs.lemmas.Bool.Decides.{nat_tests}
 use Rattle.nor_journal.specs.declared.writer.Writer.{Writer}
 use Rattle.nor_journal.specs.Vault.{VaultState}
 use Rattle.nor_journal.specs.Text.{Content, IsContent, SameHead, MayFollow, empty_content, with_sector}
-use Rattle.nor_journal.specs.Saved.{IsWholeSector, Saves, HasOneMore, JournalSaves, saved_in, is_saved, saved_byte}
+use Rattle.nor_journal.specs.Saved.{IsWholeSector, Saves, HasOneMore, JournalSaves, is_saved, saved_byte}
 use Rattle.nor_journal.specs.declared.fault.JournalFault.{JournalFault}
 use Rattle.nor_journal.specs.Writer.{HasWritten, HasPutSectors}
 use Rattle.nor_journal.proofs.Saved.{saved_in-with_sector, saved_in-nil, next_number-empty_content}
@@ -28,19 +28,11 @@ Saves-same chip saved other c same saves = record {
 pub Saves-more : (chip : ℕ → ℕ) (saved more : ℕ → Bool) (c : Content) (number : ℕ) (bytes : List ℕ) → Saves chip saved c → MayFollow c number → IsWholeSector chip number bytes → HasOneMore saved number more → Saves chip more (with_sector c number bytes)
 Saves-more chip saved more c number bytes saves follows sector one = record {
   is = IsContent-with_sector c number bytes saves.is follows sector.whole;
-  sectors = λ s is. subst (λ (o : Option (List ℕ)). IsSomeAnd o (IsWholeSector chip s)) (sym (saved_in-with_sector c number bytes s saves.is follows)) (of_sector s is);
-  others = λ s is. saved_in-with_sector c number bytes s saves.is follows ∙ of_other s is;
+  sectors = λ s is. rw (saved_in-with_sector c number bytes s saves.is follows)
+      (grind (arith, nat_tests, sector, one.others s, saves.sectors s));
+  others = λ s is. rw (saved_in-with_sector c number bytes s saves.is follows)
+      (grind (arith, nat_tests, one.here, one.others s, saves.others s));
 }
-  where
-    of_sector : (s : ℕ) → more s ≡ true → IsSomeAnd (cond (eqb number s) (Some bytes) (saved_in c.saved s)) (IsWholeSector chip s)
-    of_sector s is =
-        elim (eqb_tells number s) [
-          | inl hit ↦ rw (hit.0, ← hit.1) sector
-          | inr miss ↦ rw miss.0 (saves.sectors s (sym (one.others s (λ e. miss.1 (sym e))) ∙ is))
-        ]
-
-    of_other : (s : ℕ) → more s ≡ false → cond (eqb number s) (Some bytes) (saved_in c.saved s) ≡ None
-    of_other s is = grind (arith, nat_tests, one.here, one.others s, saves.others s)
 
 -- the set is that of the saved sectors
 pub Saves-set : (chip : ℕ → ℕ) (saved : ℕ → Bool) (c : Content) (s : ℕ) → Saves chip saved c → saved s ≡ is_saved c s

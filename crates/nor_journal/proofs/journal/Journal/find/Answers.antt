@@ -1,5 +1,5 @@
 use Rattle.std.proofs.Common.{arith}
-use Rattle.nor_journal.proofs.Sought.{sought_above, sought_below, sought_none}
+use Rattle.nor_journal.proofs.Saved.{sought_above, sought_below, sought_none}
 use Rattle.nor_journal.proofs.journal.Journal.find.Goals as goal
 
 pub loop-low-preserved-then-number-sector-2 : goal.loop-low-preserved-then-number-sector-2

@@ -1,5 +1,5 @@
 use Rattle.std.proofs.Common.{◌-◌}
-use Rattle.nor_journal.proofs.Sought.{IsSought}
+use Rattle.nor_journal.proofs.Saved.{IsSought}
 use Rattle.nor_journal.proofs.journal.Journal.find.Given as goal
 
 abbrev pub invariant-loop-low : goal.invariant-loop-low
