@@ -68,8 +68,8 @@ module _ (old target : List ℕ) where
           | inr later ↦ or_right _ _ (rest.complete k (omega arith) (omega arith) differ)
         ];
         rising = AllPairs-cons (λ s t. s.last / 256 < t.first / 256) span spans
-            (All-weaker (SpanFrom (page + 1)) (λ t. span.last / 256 < t.first / 256) (λ s is. omega arith) spans
-            rest.each) rest.rising;
+            (All-weaker (SpanFrom (page + 1)) (λ t. span.last / 256 < t.first / 256) (λ s is. omega arith)
+            spans rest.each) rest.rising;
       }
 
   tell : (page count : ℕ) → Tell page count (spans_in old target page count)

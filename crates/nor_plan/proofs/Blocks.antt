@@ -52,8 +52,8 @@ module _ (a b : List ℕ) where
       let ys : List ℕ = chunk at 32 b in
       let a_long : length (chunk at 32 a) ≡ 32 = length-chunk at 32 a a_room in
       let b_long : length (chunk at 32 b) ≡ 32 = length-chunk at 32 b b_room in
-      let bits : (i : ℕ) → i < 32 → get_or (zip2 bit_xor xs ys) i 0 ≡ bit_xor (get_or a (at + i) 0)
-      (get_or b (at + i) 0) =
+      let bits : (i : ℕ) → i < 32
+      → get_or (zip2 bit_xor xs ys) i 0 ≡ bit_xor (get_or a (at + i) 0) (get_or b (at + i) 0) =
       λ i lane. get_or-zip2 bit_xor xs ys i 0 0 0 (omega arith) (omega arith)
       ∙ rw (get_or-chunk at 32 a i 0 lane, get_or-chunk at 32 b i 0 lane) in
       record {
@@ -86,8 +86,8 @@ module _ (a b : List ℕ) where
       record {
         long = length-zip2 bit_or xs ys (long ∙ sym same) ∙ long;
         none = λ zeros k low high.
-            let parts = λ (i : ℕ) (lane : i < 32). or_zero (get_or xs i 0) (get_or ys i 0)
-            (sym (bits i lane) ∙ zeros i lane) in
+            let parts = λ (i : ℕ) (lane : i < 32).
+            or_zero (get_or xs i 0) (get_or ys i 0) (sym (bits i lane) ∙ zeros i lane) in
             elim (cases_lt k from) [
               | inl near ↦ first.none (λ i lane. (parts i lane).0) k low (omega arith)
               | inr far ↦ second.none (λ i lane. (parts i lane).1) k far (omega arith)
@@ -109,7 +109,7 @@ module _ (a b : List ℕ) where
   TellsChanges-tested count end xs tells within =
       elim (cases_eq (fold_l bit_or 0 xs) 0) [
         | inl nothing ↦ rw nothing (λ k low high. TellsChanges-none 0 count xs tells nothing k low (omega arith))
-        | inr something ↦ rw (ne_eqb (fold_l bit_or 0 xs) 0 something) (some_lane (SomeDiffer a b) 0 xs
-            (λ some. absurd (some (omega arith))) (λ i lane other. tells.some i (omega (arith, tells.long)) other)
-            something)
+        | inr something ↦ rw (ne_eqb (fold_l bit_or 0 xs) 0 something)
+            (some_lane (SomeDiffer a b) 0 xs (λ some. absurd (some (omega arith)))
+            (λ i lane other. tells.some i (omega (arith, tells.long)) other) something)
       ]

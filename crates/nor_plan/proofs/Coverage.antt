@@ -45,12 +45,10 @@ module _ (whole : Bool) (kinds : Kinds) (total : ℕ) (set : ℕ → Bool) (can 
 
   largest_within : (q : ℕ) → set q ≡ true → (unit : EraseUnit) → IsLargest whole kinds set q unit
       → (s : ℕ) → first_of unit q ≤ s → s < first_of unit q + sectors_in total unit → set s ≡ true
-  largest_within q member Sector largest s low high = let same : s ≡ q = omega arith in rw same member
-  largest_within q member Block32 largest s low high = holds_run-at set (q - q % 8) 8 (and_parts _ _ largest.2).1 s low
-      high
-  largest_within q member Block64 largest s low high = holds_run-at set (q - q % 16) 16 (and_parts _ _ largest.1).1 s
-      low high
-  largest_within q member Chip largest s low high = holds_run-at set 0 total (sym can.whole_is ∙ largest) s low high
+  largest_within q member Sector largest s = λ low high. let same : s ≡ q = omega arith in rw same member
+  largest_within q member Block32 largest s = holds_run-at set (q - q % 8) 8 (and_parts _ _ largest.2).1 s
+  largest_within q member Block64 largest s = holds_run-at set (q - q % 16) 16 (and_parts _ _ largest.1).1 s
+  largest_within q member Chip largest s = holds_run-at set 0 total (sym can.whole_is ∙ largest) s
 
   -- so does a planned one
   unit_within : (q : ℕ) → begins_unit whole kinds set q ≡ true
@@ -71,16 +69,18 @@ module _ (whole : Bool) (kinds : Kinds) (total : ℕ) (set : ℕ → Bool) (can 
         let here : q < total = can.below q (begins_in whole kinds set q begins) in
         let count = sectors_in total (planned_unit whole kinds set q) in
         elim (cases_lt 0 count) [
-          | inl some ↦ let last = can.below (q + (count - 1))
-              (unit_within q begins (q + (count - 1)) (omega arith) (omega arith)) in omega arith
+          | inl some ↦
+              let last = q + (count - 1) in
+              let below = can.below last (unit_within q begins last (omega arith) (omega arith)) in
+              omega arith
           | inr none ↦ omega arith
         ];
   }
 
   -- each sector of the set is within the unit that begins at some sector
   unit_begins : (s : ℕ) → set s ≡ true
-      → (q : ℕ) × (begins_unit whole kinds set q ≡ true) × (q ≤ s) × (s < q + sectors_in total
-      (planned_unit whole kinds set q))
+      → (q : ℕ) × (begins_unit whole kinds set q ≡ true)
+      × (q ≤ s) × (s < q + sectors_in total (planned_unit whole kinds set q))
   unit_begins s member =
       let unit = planned_unit whole kinds set s in
       let largest = planned_unit-largest whole kinds set s in
@@ -116,7 +116,6 @@ module _ (whole : Bool) (kinds : Kinds) (total : ℕ) (set : ℕ → Bool) (can 
   planned_Covers from start = record {
     units = All-map (IsErase kinds total) (erase_at whole kinds set) _
         (All-weaker (λ q. begins_unit whole kinds set q ≡ true) (λ q. IsErase kinds total (erase_at whole kinds set q))
-        planned_IsErase _
-        (filter_passes (begins_unit whole kinds set) (range_with_len from (4096 - from))));
+        planned_IsErase _ (filter_passes (begins_unit whole kinds set) (range_with_len from (4096 - from))));
     union = planned_union from start;
   }

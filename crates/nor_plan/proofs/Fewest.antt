@@ -40,8 +40,8 @@ sector erase = erase.sector
 module _ (whole : Bool) (kinds : Kinds) (total : ℕ) (set : ℕ → Bool) (can : IsPlannable whole total set) where
   -- a unit within the set is fit
   within_fit : (unit : EraseUnit) (q : ℕ) → is_offered kinds unit ≡ true
-      → ((s : ℕ) → first_of unit q ≤ s → s < first_of unit q + sectors_in total unit → set s ≡ true) → is_fit whole
-      kinds set q unit ≡ true
+      → ((s : ℕ) → first_of unit q ≤ s → s < first_of unit q + sectors_in total unit → set s ≡ true)
+      → is_fit whole kinds set q unit ≡ true
   within_fit Sector q offered inside = refl
   within_fit Block32 q offered inside = and_from _ _ offered (holds_run-from set (q - q % 8) 8 inside)
   within_fit Block64 q offered inside = and_from _ _ offered (holds_run-from set (q - q % 16) 16 inside)
@@ -50,8 +50,8 @@ module _ (whole : Bool) (kinds : Kinds) (total : ℕ) (set : ℕ → Bool) (can 
   -- if it holds a sector at which a planned unit begins, it begins there
   begins_alike : (q : ℕ) → begins_unit whole kinds set q ≡ true → (unit : EraseUnit) (first : ℕ)
       → is_offered kinds unit ≡ true → is_aligned unit first ≡ true
-      → ((s : ℕ) → first ≤ s → s < first + sectors_in total unit → set s ≡ true) → first ≤ q → q < first + sectors_in
-      total unit → q ≡ first
+      → ((s : ℕ) → first ≤ s → s < first + sectors_in total unit → set s ≡ true)
+      → first ≤ q → q < first + sectors_in total unit → q ≡ first
   begins_alike q begins unit first offered aligned inside low high =
       let start = first_of-once total unit first q aligned low high in
       let fit = within_fit unit q offered (λ s from to. inside s (omega arith) (omega arith)) in
@@ -62,16 +62,16 @@ module _ (whole : Bool) (kinds : Kinds) (total : ℕ) (set : ℕ → Bool) (can 
   some_begins : (others : List Erase) → Covers kinds total others set → (q : ℕ) → begins_unit whole kinds set q ≡ true
       → list_any (nat_eq q) (map sector others) ≡ true
   some_begins others covers q begins =
-      let found = Any-from_list_any (erases_sector total q) others
-      (covers.union q ∙ begins_in whole kinds set q begins) in
+      let erased = covers.union q ∙ begins_in whole kinds set q begins in
+      let found = Any-from_list_any (erases_sector total q) others erased in
       let erase = get_or others found.0 found.1 in
       let is = covers.units found.0 found.1 found.2 in
       let holds = and_parts _ _ (ap (erases_sector total q) found.3 ∙ found.4) in
       let inside = λ (s : ℕ) (low : erase.sector ≤ s) (high : s < erase.sector + sectors_in total erase.unit).
       sym (covers.union s) ∙ list_any_at (erases_sector total s) others found.0 found.1 found.2
       (and_from _ _ (le-leb _ _ low) (lt-ltb _ _ high)) in
-      let same = begins_alike q begins erase.unit erase.sector is.offered is.aligned inside (leb-true _ _ holds.0)
-      (ltb-true _ _ holds.1) in
+      let same = begins_alike q begins erase.unit erase.sector is.offered is.aligned inside
+      (leb-true _ _ holds.0) (ltb-true _ _ holds.1) in
       list_any_at (nat_eq q) (map sector others) found.0 q (omega (arith, length-map others sector, found.2))
       (eq-eqb _ _ (same ∙ sym (get_or-map sector others found.0 found.1 q found.2)))
 
@@ -95,14 +95,10 @@ unfolding planned_from members_from
 planned_few whole kinds set from =
     let sectors : List ℕ = range_with_len from (4096 - from) in
     let begins : ℕ → Bool = begins_unit whole kinds (has set) in
-    omega (
-      arith,
-      length-map (filter begins sectors) (erase_at whole kinds (has set)),
-      length-filter begins sectors,
-      length-filter (has set) sectors,
-      sum_by-le-sum_by (λ s. cond (begins s) 1 0) (λ s. cond (has set s) 1 0) sectors
-          (λ s. both_le (has set s) (is_aligned (planned_unit whole kinds (has set) s) s)),
-    )
+    let fewer = sum_by-le-sum_by (λ s. cond (begins s) 1 0) (λ s. cond (has set s) 1 0) sectors
+    (λ s. both_le (has set s) (is_aligned (planned_unit whole kinds (has set) s) s)) in
+    let listed = length-map (filter begins sectors) (erase_at whole kinds (has set)) in
+    omega (arith, listed, length-filter begins sectors, length-filter (has set) sectors, fewer)
   where
     both_le : (a b : Bool) → cond (a && b) 1 0 ≤ cond a 1 0
     both_le true true = omega arith

@@ -25,18 +25,19 @@ module _ (old target : List ℕ) where
       let count = min 256 (length old - page * 256) in
       ends_like (Passes (other old target) from count) (DiffersOn page) (page_span old target page)
       (λ k passes. (omega arith, (omega arith, other_from_test _ _ passes.2)))
-      (λ k differs. let within : k < length
-      old = differs.1.0 in (omega arith, omega arith, test_from_other _ _ differs.1.1))
+      (λ k differs.
+      let within : k < length old = differs.1.0 in
+      (omega arith, omega arith, test_from_other _ _ differs.1.1))
       (ends_of (other old target) from count)
 
   -- bytes that agree in a part of the slices
   same_in_part : (start count k : ℕ) → start ≤ k → k < start + count
-      → get_or (chunk start count old) (k - start) 0 ≡ get_or (chunk start count target) (k - start) 0 → get_or old k
-      0 ≡ get_or target k 0
+      → get_or (chunk start count old) (k - start) 0 ≡ get_or (chunk start count target) (k - start) 0
+      → get_or old k 0 ≡ get_or target k 0
   same_in_part start count k low high same =
       let place : start + (k - start) ≡ k = omega arith in
-      let part = λ (bytes : List ℕ). get_or-chunk start count bytes (k - start) 0 (omega arith)
-      ∙ ap (λ j. get_or bytes j 0) place in
+      let part = λ (bytes : List ℕ).
+      get_or-chunk start count bytes (k - start) 0 (omega arith) ∙ ap (λ j. get_or bytes j 0) place in
       sym (part old) ∙ same ∙ part target
 
   pub agreed_page : (page count : ℕ) → count ≡ min 256 (length old - page * 256) → page * 256 + count ≤ length old
@@ -46,8 +47,8 @@ module _ (old target : List ℕ) where
       ends_once (DiffersOn page) None (page_span old target page)
       (λ k differs.
       let within : k < length old = differs.1.0 in
-      differs.1.1 (same_in_part (page * 256) count k (omega arith) (omega arith)
-      (agree (k - page * 256) (omega arith))))
+      let same = agree (k - page * 256) (omega arith) in
+      differs.1.1 (same_in_part (page * 256) count k (omega arith) (omega arith) same))
       (page_ends page)
 
   pub bounded_page : (page count first last : ℕ) → count ≡ min 256 (length old - page * 256)
@@ -58,8 +59,7 @@ module _ (old target : List ℕ) where
   bounded_page page count first last size room f l =
       let long = length-chunk (page * 256) count old room in
       let start = page * 256 in
-      let differ = λ (k : ℕ) (within : k < count).
-      λ (same : get_or old (page * 256 + k) 0 ≡ get_or target (page * 256 + k) 0).
+      let differ = λ (k : ℕ) (within : k < count) (same : get_or old (start + k) 0 ≡ get_or target (start + k) 0).
       get_or-chunk (page * 256) count old k 0 within ∙ same ∙ sym (get_or-chunk (page * 256) count target k 0 within) in
       let in_first : first < count = omega (arith, f.within) in
       let in_last : last < count = omega (arith, l.within) in
@@ -86,15 +86,16 @@ module _ (old target : List ℕ) where
   spans_from-end page past = let none : page_count old - page ≡ 0 = omega arith in rw none
 
   -- and else the span of this page, where it has one, stands before the others
+  pages_left : (page : ℕ) → page < page_count old → page_count old - page ≡ suc (page_count old - (page + 1))
+  pages_left page there = omega arith
+
   pub spans_from-none : (page : ℕ) → page < page_count old → page_span old target page ≡ None
       → spans_from old target (page + 1) ≡ spans_from old target page
-  spans_from-none page there none = let more : page_count old - page ≡ suc
-      (page_count old - (page + 1)) = omega arith in rw (more, none)
+  spans_from-none page there none = rw (pages_left page there, none)
 
   pub spans_from-some : (page : ℕ) (span : Span) → page < page_count old → page_span old target page ≡ Some span
       → spans_from old target page ≡ span ∷ spans_from old target (page + 1)
-  spans_from-some page span there some = let more : page_count old - page ≡ suc
-      (page_count old - (page + 1)) = omega arith in rw (more, some)
+  spans_from-some page span there some = rw (pages_left page there, some)
 
 -- a page that is counted begins within the slice
 pub page_within : (length page : ℕ) → page < div_ceil length 256 → page * 256 < length

@@ -22,9 +22,12 @@ pub none-set : (sector : ℕ) → bit_of (replicate 64 0) sector ≡ false
 none-set sector = rw (zeros 64 (sector / 64), bit_at-zero)
 
 -- the words with one bit more
+abbrev pub with_bit : List ℕ → ℕ → List ℕ
+with_bit words sector =
+    set words (sector / 64) (bit_or (get_or words (sector / 64) 0) (1 * 2 ^ (sector % 64) % 2 ^ 64))
+
 pub bit_of-with_bit : (words : List ℕ) (sector : ℕ) → sector / 64 < length words → (s : ℕ)
-    → bit_of (set words (sector / 64) (bit_or (get_or words (sector / 64) 0) (1 * 2 ^ (sector % 64) % 2 ^ 64)))
-    s ≡ (nat_eq s sector || bit_of words s)
+    → bit_of (with_bit words sector) s ≡ (nat_eq s sector || bit_of words s)
 bit_of-with_bit words sector there s =
     let old = get_or words (sector / 64) 0 in
     let new = bit_or old (1 * 2 ^ (sector % 64) % 2 ^ 64) in
