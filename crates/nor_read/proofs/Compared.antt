@@ -10,7 +10,7 @@ use Rattle.nor_probe.specs.declared.table.ChipName.{ChipName}
 use Rattle.nor_probe.specs.declared.probes.Probed.{Probed}
 use Rattle.nor_probe.specs.Found.{most_probe}
 use Rattle.nor_call.specs.declared.refusal.Refusal.{Refusal}
-use Rattle.nor_call.specs.declared.refusal.Refusal.TheVariants.{ImageSize, RegionOutside, Stopped, Timeout, Mismatch}
+use Rattle.nor_call.specs.declared.refusal.Refusal.TheVariants.{ImageSize, RegionOutside, Stopped, Mismatch}
 use Rattle.nor_call.specs.declared.report.Report.{Report}
 use Rattle.nor_call.specs.Tells.{OpeningTells}
 use Rattle.nor_read.specs.declared.verifying.Compared.{Compared}
@@ -39,7 +39,6 @@ module _ (named : Option ChipName) (included : Option (List Span)) (image : List
   unfound_tells : (old new : BusState) (refusal : Refusal) → OpeningTells most_probe named old new refusal
       → IsVerifyRefusal refusal × (IsModelled old → VerifyTells named included image old new refusal)
   unfound_tells old new Stopped tells = (tt, λ known. let ran = tells known.honest in omega arith)
-  unfound_tells old new (Timeout address) tells = (tells.0, λ known. tt)
   unfound_tells old new _ tells = search
 
   pub unfound : {old new : BusState} (refusal : Refusal) → Looks most_probe old new
@@ -88,7 +87,6 @@ module _ (named : Option ChipName) (included : Option (List Span)) (image : List
             → Verified named included image old new (Ok (report_of probed compared.reads))
         equal none =
             let sends = sends_on found looks after in
-            let looked = has_looked after all.rested all.fell all.heard in
-            let reports = reported found looks looked all.counted in
+            let reports = reported found looks (has_looked after all.rested all.fell all.heard) all.counted in
             let first = first_before None none in
             search (sends.own, reports.reads, reports.config)

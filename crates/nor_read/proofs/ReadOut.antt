@@ -1,16 +1,16 @@
 -- Reading out, from the probe and the copy after it.
-use Rattle.std.proofs.Common.{◌≡◌, ℕ, true, List, Option, Result, Ok, Err, refl, arith}
+use Rattle.std.proofs.Common.{◌≡◌, ℕ, true, List, Option, Result, Ok, Err, arith}
 use Rattle.std.specs.Prelude.{◌/◌}
 use Rattle.nor_chip.specs.Bus.{BusState}
 use Rattle.nor_driver.specs.Looks.{Looks}
-use Rattle.nor_journal.specs.Vault.{VaultState, Accepted}
+use Rattle.nor_journal.specs.Vault.{VaultState}
 use Rattle.nor_layout.specs.declared.ranges.Span.{Span}
 use Rattle.nor_layout.specs.Sectors.{FitsInto, ReachesPast}
 use Rattle.nor_probe.specs.declared.table.ChipName.{ChipName}
 use Rattle.nor_probe.specs.declared.probes.Probed.{Probed}
 use Rattle.nor_probe.specs.Found.{most_probe}
 use Rattle.nor_call.specs.declared.refusal.Refusal.{Refusal}
-use Rattle.nor_call.specs.declared.refusal.Refusal.TheVariants.{RegionOutside, Stopped, Timeout, Output}
+use Rattle.nor_call.specs.declared.refusal.Refusal.TheVariants.{RegionOutside, Stopped, Output}
 use Rattle.nor_call.specs.declared.report.Report.{Report}
 use Rattle.nor_call.specs.Tells.{OpeningTells}
 use Rattle.nor_read.specs.Finding.{IsModelled, HasFound, ReadingTells, most_read}
@@ -27,10 +27,6 @@ pub record HasReadOut (named : Option ChipName) (included : Option (List Span)) 
   pub honest : old.honest ≡ true → ReadOutHonest named included old new result
   pub modelled : IsModelled old → ReadOutModelled named included old new vault vault' result
 
--- nothing was put
-accepted_none : (vault : VaultState) → Accepted vault vault
-accepted_none vault = record { telling = refl; sealed = refl; failures = refl }
-
 module _ (named : Option ChipName) (included : Option (List Span)) (vault : VaultState) where
   refused : {old new : BusState} {vault' : VaultState} (refusal : Refusal) → Sends old new
       → IsReadRefusal vault vault' refusal
@@ -42,10 +38,8 @@ module _ (named : Option ChipName) (included : Option (List Span)) (vault : Vaul
   -- no chip is found
   unfound_tells : (old new : BusState) (refusal : Refusal) → OpeningTells most_probe named old new refusal
       → IsReadRefusal vault vault refusal × (IsModelled old → ReadOutTells named included old new vault vault refusal)
-  unfound_tells old new Stopped tells =
-      ((tt, accepted_none vault), λ known. let ran = tells known.honest in omega arith)
-  unfound_tells old new (Timeout address) tells = ((tells.0, accepted_none vault), λ known. tt)
-  unfound_tells old new _ tells = let none = accepted_none vault in search
+  unfound_tells old new Stopped tells = ((tt, assumption), λ known. let ran = tells known.honest in omega arith)
+  unfound_tells old new _ tells = search
 
   pub unfound : {old new : BusState} (refusal : Refusal) → Looks most_probe old new
       → OpeningTells most_probe named old new refusal → HasReadOut named included old new vault vault (Err refusal)
@@ -59,8 +53,7 @@ module _ (named : Option ChipName) (included : Option (List Span)) (vault : Vaul
       (looks : Looks most_probe old mid) where
     pub past : ReachesPast included probed.found.size
         → HasReadOut named included old mid vault vault (Err RegionOutside)
-    past reaches =
-        refused RegionOutside (sends_probe looks) (accepted_none vault) found.rested (is_passed found looks reaches)
+    past reaches = refused RegionOutside (sends_probe looks) (assumption) found.rested (is_passed found looks reaches)
 
     module _ {new : BusState} {vault' : VaultState} (fits : FitsInto included probed.found.size)
         (after : Looks (probed.found.size / 4096) mid new) where
@@ -85,8 +78,7 @@ module _ (named : Option ChipName) (included : Option (List Span)) (vault : Vaul
           → HasReadOut named included old new vault vault' (Ok (report_of probed reads))
       copied_whole all =
           let sends = sends_on found looks after in
-          let looked = has_looked after all.rested all.fell all.heard in
-          let reports = reported found looks looked all.counted in
+          let reports = reported found looks (has_looked after all.rested all.fell all.heard) all.counted in
           let took = all.took in
           let copy : IsModelled old → vault.telling ≡ true
           → Copies included old.chip.bytes old.chip.config.size vault vault'
