@@ -1,6 +1,6 @@
 -- How a restore leads back to a chip that the journal saves.
-use Rattle.std.proofs.Common.{◌&&◌, ◌≡◌, ◌<◌, ◌+◌, ◌-◌, ◌*◌, ◌/◌, ◌%◌, ◌∙◌, ◌⊎◌, ℕ, Bool, true, false, true≢false, List, ap, sym, subst, refl, arith, inl, inr}
-use Rattle.std.specs.Prelude.{not, ◌≢◌, ◌==◌, Option, Some, None, IfSome, IsSomeAnd}
+use Rattle.std.proofs.Common.{◌&&◌, ◌≡◌, ◌<◌, ◌+◌, ◌-◌, ◌*◌, ◌/◌, ◌%◌, ◌∙◌, ◌⊎◌, ℕ, Bool, true, false, true≢false, List, ap, sym, refl, arith, inl, inr}
+use Rattle.std.specs.Prelude.{not, ◌≢◌, Option, Some, None, IfSome, IsSomeAnd}
 use Rattle.std.proofs.lemmas.Bool.{cases_Bool, cases_lt, and_left, and_parts, or_cases, both_ways, eqb-true, true_from_ne_false}
 use Rattle.std.proofs.lemmas.Bool.Decides.{nat_tests}
 use Rattle.std.proofs.Math.Bool.{and-false}
@@ -32,7 +32,7 @@ use Rattle.nor_apply.proofs.Changing.{within_then, within_wider, narrower}
 use Rattle.nor_call.specs.declared.refusal.Refusal.{Refusal}
 use Rattle.nor_call.specs.declared.refusal.Refusal.TheVariants.{NoChip, UnknownChip, StatusLocked, Stopped, OtherChip, OtherUnit, StatusDiffers}
 use Rattle.nor_save.specs.Saving.{SomeHeld}
-use Rattle.nor_session.specs.Headline.{IsOfKind, SavesChip, open_places, CanGiveBack}
+use Rattle.nor_session.specs.Headline.{SavesChip, open_places, CanGiveBack}
 use Rattle.nor_session.specs.Restore.{restored, is_touched_from, FitsStatus, RestoreTells}
 use Rattle.nor_session.proofs.Rescanned.{restored_saved, restored_other}
 use Rattle.nor_session.proofs.SavedBytes.{sector_at}
@@ -89,10 +89,7 @@ looked_within p first most old new steady looked within =
 
 -- a chip of the table has 256 KiB in whole numbers
 scheme_size_at : (config : Config) (row : Option Part) → part_with_id (id_of config) ≡ row → IsGenuine config → config.scheme ≡ true → config.size % 262144 ≡ 0
-scheme_size_at config (Some part) is genuine scheme =
-    let size = (genuine.listed part is).0.size in
-    let whole = eqb-true (part.size % 262144) 0 (row_has (λ p. p.size % 262144 == 0) (id_of config) part refl is) in
-    omega arith
+scheme_size_at config (Some part) is genuine scheme = search (arith, eqb-true, row_has)
 scheme_size_at config None is genuine scheme = absurd (both_ways config.scheme (genuine.unlisted is) scheme)
 
 guarded_within : (chip : Chip) (a b : ℕ) → IsGenuine chip.config → chip.config.scheme ≡ true → a / 4096 ≡ b / 4096 → a < chip.config.size → b < chip.config.size → is_guarded chip a ≡ is_guarded chip b
@@ -106,29 +103,23 @@ guarded_within chip a b genuine scheme sector below_a below_b =
 
 guarded_same : (chip : Chip) (a b : ℕ) → IsGenuine chip.config → a / 4096 ≡ b / 4096 → is_guarded chip a ≡ is_guarded chip b
 guarded_same chip a b genuine sector =
-    let blocks = (sized_bounds chip.config).blocks in
-    elim (cases_Bool chip.config.scheme) [
-      | inl scheme ↦ elim (cases_lt a chip.config.size) [
-        | inl below ↦ guarded_within chip a b genuine scheme sector below (omega arith)
-        | inr past ↦ is_guarded-past chip a past ∙ sym (is_guarded-past chip b (omega arith))
-      ]
-      | inr bare ↦ is_guarded-no_scheme chip a bare ∙ sym (is_guarded-no_scheme chip b bare)
-    ]
+    search (arith, cases_Bool, cases_lt, guarded_within, is_guarded-no_scheme, is_guarded-past, sized_bounds)
 
 -- ---- a touched sector may differ from the first chip
 
 pub touched_open : (journal : Content) (first chip : Chip) (a : ℕ) → IsKnown first.config → SavesChip journal first → ((b : ℕ) → open_places journal first b ≡ false → chip.bytes b ≡ first.bytes b)
     → is_touched_from journal chip (a / 4096) ≡ true → open_places journal first a ≡ true
 touched_open journal first chip a known saves same touched =
-    let s = a / 4096 in
-    let (k, below, other) = touched_byte chip.bytes (restored journal chip.bytes) s touched in
-    let b = 4096 * s + k in
-    let sector = sector_at s k below in
-    let saved = touched_saved journal chip.bytes s touched in
-    let here = true_from_ne_false (open_places journal first b) (λ shut. other (same b shut
-    ∙ sym (saved_byte-is first.bytes (is_saved journal) journal b saves.sectors (rw sector saved))
-    ∙ sym (restored_saved journal chip.bytes b (rw sector saved)))) in
-    rw (← sector, guarded_same first a b known.genuine (sym sector)) here
+    search (
+      arith,
+      guarded_same,
+      restored_saved,
+      saved_byte-is,
+      sector_at,
+      touched_byte,
+      touched_saved,
+      true_from_ne_false,
+    )
 
 -- changes of such sectors keep a chip within
 pub change_within : (journal : Content) (first : Chip) (touched raised : ℕ → Bool) (wanted : ℕ → ℕ) (old mid new : BusState) → CanGiveBack journal first old → IsWithin (open_places journal first) first mid
@@ -179,13 +170,9 @@ pub only_stopped : (journal : Content) (first : Chip) (old new : BusState) (refu
 only_stopped journal first old new Stopped can tells = refl
 only_stopped journal first old new NoChip can tells = cc
 only_stopped journal first old new (UnknownChip fault) can tells = cc
-only_stopped journal first old new OtherChip can tells =
-    absurd (tells.holds (subst (IsOfKind journal) (sym can.within.config) can.saves.kind))
-only_stopped journal first old new OtherUnit can tells =
-    absurd (unit_not _ _ can.saves.unit (rw can.within.config at tells.holds))
-only_stopped journal first old new StatusDiffers can tells =
-    let within = can.within in
-    absurd (tells.holds (fixed_told journal first old.chip can.saves.bits within.config within.fixed within.kept))
+only_stopped journal first old new OtherChip can tells = search arith
+only_stopped journal first old new OtherUnit can tells = search (arith, unit_not)
+only_stopped journal first old new StatusDiffers can tells = search (arith, fixed_told)
 only_stopped journal first old new StatusLocked can tells =
     let locked : is_locked first ≡ true = sym (locked_same first old.chip can.within.fixed) ∙ tells.holds.0 in
     let stay = can.within.kept (rw locked (and-false first.config.scheme)) in

@@ -1,5 +1,5 @@
 -- What sessions and restores that follow one another come to.
-use Rattle.std.proofs.Common.{◌≡◌, ◌+◌, ◌*◌, ◌/◌, ◌∙◌, ℕ, false, List, [], sym, arith, inl, inr}
+use Rattle.std.proofs.Common.{◌≡◌, ◌/◌, ◌∙◌, ℕ, false, List, [], sym, arith, inl, inr}
 use Rattle.std.proofs.lemmas.Bool.{and_left, and_parts, both_ways}
 use Rattle.nor_chip.specs.Chip.{Chip, IsSame}
 use Rattle.nor_chip.specs.Bus.{BusState}
@@ -25,19 +25,14 @@ as_saved : (journal : Content) (first chip : Chip) (a : ℕ) → SavesChip journ
 as_saved journal first chip a saves same = search (arith, saved_byte-is)
 
 none_touched : (journal : Content) (first chip : Chip) (s : ℕ) → SavesChip journal first → IsSame first chip → is_touched_from journal chip s ≡ false
-none_touched journal first chip s saves same =
-    untouched chip.bytes (restored journal chip.bytes) s (λ i below. as_saved journal first chip (4096 * s + i) saves same)
+none_touched journal first chip s saves same = search (arith, as_saved, untouched)
 
 none_raised : (journal : Content) (first chip : Chip) (s : ℕ) → SavesChip journal first → IsSame first chip → is_raised_from journal chip s ≡ false
-none_raised journal first chip s saves same =
-    unraised chip.bytes (restored journal chip.bytes) s (λ i below. as_saved journal first chip (4096 * s + i) saves same)
+none_raised journal first chip s saves same = search (arith, as_saved, unraised)
 
 never_needed : (journal : Content) (first chip : Chip) → SavesChip journal first → IsSame first chip → ¬ NeedsStatusFrom journal (is_touched_from journal chip) chip
-never_needed journal first chip saves same (inl differs) =
-    let one = saves.bits.one in let two = saves.bits.two in let low = same.kept1 in let high = same.kept2 in
-    differs (omega arith)
-never_needed journal first chip saves same (inr held) =
-    both_ways _ (none_touched journal first chip held.sector saves same) (and_parts _ _ held.held).0
+never_needed journal first chip saves same (inl differs) = search arith
+never_needed journal first chip saves same (inr held) = search (arith, and_parts, both_ways, none_touched)
 
 pub changes_nothing : (journal : Content) (first : Chip) (old new : BusState) (report : Report) → SavesChip journal first → IsSame first old.chip → IsRestored journal old new report
     → ChangesNothing journal old new report
@@ -79,18 +74,12 @@ leads_same journal first new taken leads same = search (arith, fixed_then, kept_
 -- and from what a session left, where another run takes it up
 left_taken : (request : Request) (image : List ℕ) (old new taken : BusState) (journal : Content) → LeavesJournal request image old new journal → IsTakenUp old.chip new.chip taken.chip
     → LeadsTo journal old.chip taken.chip
-left_taken request image old new taken journal left (inl same) =
-    leads_same journal old.chip new.chip taken.chip (leads_to journal old.chip new
-    (read_back request image old new left.vault journal left.modelled left.is left.telling left.undone left.whole
-    left.same)) same
-left_taken request image old new taken journal left (inr over) = leads_to journal old.chip taken
-    (session_over request image old new taken left.vault journal left.modelled left.is left.telling left.undone
-    left.whole left.same over)
+left_taken request image old new taken journal left (inl same) = search (arith, leads_same, leads_to, read_back)
+left_taken request image old new taken journal left (inr over) = search (arith, leads_to, session_over)
 
 -- a restore gets there
 led_back : (journal : Content) (first : Chip) (old new : BusState) (report : Report) → LeadsTo journal first old.chip → IsRestored journal old new report → IsSame first new.chip
-led_back journal first old new report leads done =
-    given_back journal first old.chip new.chip leads.saves leads.config leads.fixed leads.bytes done.made.config done.made.bytes done.made.fixed done.code
+led_back journal first old new report leads done = search (arith, given_back)
 
 pub both_undone : (request later : Request) (image aim : List ℕ) (old mid mid' new new' back back' end : BusState) (journal other : Content) (report last : Report)
     → LeavesJournal request image old mid journal → IsTakenUp old.chip mid.chip mid'.chip → LeavesJournal later aim mid' new other → IsTakenUp mid'.chip new.chip new'.chip

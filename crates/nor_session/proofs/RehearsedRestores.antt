@@ -39,17 +39,7 @@ allow_leaves : {n : ℕ} (journal : Content) (old new : BusState) → Allows n o
 allow_leaves journal old new allows = record {
   nature = allows.nature;
   modelled = modelled_at old new allows.nature.honest (ap (λ (chip : Chip). chip.config) allows.chip);
-  can = λ modelled first can. let within = can.within in record {
-    known = can.known;
-    saves = can.saves;
-    within = record {
-      config = rw allows.chip within.config;
-      bytes = rw allows.chip within.bytes;
-      fixed = rw allows.chip within.fixed;
-      kept = rw allows.chip within.kept;
-      runs = rw (allows.chip, allows.nature.steady) within.runs;
-    };
-  };
+  can = λ modelled first can. let within = can.within in search (arith, allows.chip, allows.nature.steady);
   worn = λ modelled s other. allows.worn s;
   aims = none_aimed journal old new allows.sent;
   writes = none_written 0 old new allows.sent;

@@ -129,31 +129,7 @@ module _ {n : ℕ} {old mid : BusState} (allows : Allows n old mid) where
         → (mid.honest ≡ true → SessionHonest mid new (Err refusal))
         → (IsModelled mid → SessionModelled request image mid new before after (Err refusal))
         → (refusal ≡ Stopped → n ≡ most_of 4096) → RefusesSession request image old new before after refusal
-    session_refuses refusal always told_of promise all =
-        let gives_up = λ (honest : old.honest ≡ true). (told_of (allows.nature.honest ∙ honest)).gives_up in
-        let never : old.honest ≡ true → refusal ≡ Stopped → ⊥ = λ honest stopped.
-        let left = allows.left honest in let most = all stopped in
-        let below = (rw stopped at (gives_up honest)).below in omega arith in
-        let tells = λ (modelled : IsModelled old).
-        let is = modelled_mid modelled in
-        told request image mid new before after refusal (never modelled.honest) (promise is).tells in
-        record {
-          answers = always.answers;
-          names = always.names;
-          halts = λ honest.
-              no_halt (most_of 4096) (λ r. number_of r ≤ 11) mid new refusal (never honest) (gives_up honest);
-          tells = λ modelled. rw allows.chip at (tells modelled);
-          leaves = λ modelled.
-              let (few, same) = early request image mid new before after refusal (tells modelled) in
-              let looks = always.looks (always.answers.unsealed few) in
-              let looked = looks.looked (modelled_mid modelled).honest in
-              record {
-                same = rw allows.chip at (same (gives_up modelled.honest));
-                latch = λ set. rw allows.chip at (looked.latch set);
-                still = looks.sent ∙ allows.sent;
-                unsealed = always.answers.unsealed few;
-              };
-        }
+    session_refuses refusal always told_of promise all = search (arith, early, no_halt, told)
 
 -- where there are no stops as many transactions are allowed as any call needs
 pub unlimited : (stops : List ℕ) → length stops ≡ 0 → first_allowance stops ≡ most_of 4096

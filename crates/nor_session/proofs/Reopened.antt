@@ -48,14 +48,9 @@ same_unit journal config unique is same other = (rw is at other) same
 -- the probe's
 pub probe_tells : (journal : Content) (old new : BusState) (fault : ProbeFault) → BlamesName None fault → (old.honest ≡ true → Tells None old new fault) → PrepareTells journal most_opening old new (of_probe fault)
 probe_tells journal old new Probes.OtherName blames tells = absurd blames
-probe_tells journal old new Probes.Stopped blames tells = λ honest.
-    let ran = tells honest in record { none_left = ran.0.none_left; below = omega arith }
+probe_tells journal old new Probes.Stopped blames tells = search arith
 probe_tells journal old new Probes.Timeout blames tells = (refl, tells)
-probe_tells journal old new _ blames tells = record {
-  judged = refl;
-  same = λ honest. (tells honest).1.rested.unchanged.same;
-  verdict = λ modelled. (tells modelled.honest).0;
-}
+probe_tells journal old new _ blames tells = search arith
 
 -- those of the unit
 pub unit_tells : (journal : Content) (most : ℕ) (old new : BusState) (refusal : Refusal) → IsUnitRefusal refusal → (old.honest ≡ true → IsSame old.chip new.chip)

@@ -1,5 +1,5 @@
 -- Touched and raised sectors, by the bytes that a journal saved.
-use Rattle.std.proofs.Common.{◌≡◌, ◌<◌, ◌+◌, ◌*◌, ◌/◌, ◌%◌, ◌&&◌, ℕ, Bool, true, false, ap, sym, arith, bit_and}
+use Rattle.std.proofs.Common.{◌≡◌, ◌<◌, ◌+◌, ◌*◌, ◌/◌, ◌%◌, ◌&&◌, ℕ, Bool, true, false, sym, arith, bit_and}
 use Rattle.std.specs.Prelude.{if◌then◌else◌}
 use Rattle.std.proofs.lemmas.Bool.{eqb-true, eq-eqb, both_ways, not-false, not_from_true, true_from_ne_false}
 use Rattle.nor_count.specs.Below.{any_below, count_below}
@@ -37,22 +37,16 @@ untouched_unraised content aim s none =
 -- a touched one has another byte
 pub touched_byte : (content aim : ℕ → ℕ) (s : ℕ) → is_touched content aim s ≡ true → (k : ℕ) × (k < 4096) × ¬ (content (4096 * s + k) ≡ aim (4096 * s + k))
 unfolding is_touched
-touched_byte content aim s some =
-    let (k, below, other) = any_below-found 4096 (λ i. is_other (content (4096 * s + i)) (aim (4096 * s + i))) some in
-    (k, below, λ same. both_ways _ (not_from_true _ (eq-eqb _ _ same)) other)
+touched_byte content aim s some = search (arith, any_below-found, both_ways, eq-eqb, not_from_true)
 
 -- a touched sector is saved
 pub touched_saved : (journal : Content) (content : ℕ → ℕ) (s : ℕ) → is_touched content (restored journal content) s ≡ true → is_saved journal s ≡ true
-touched_saved journal content s some =
-    true_from_ne_false (is_saved journal s) (λ none. both_ways _ (untouched_other journal content s none) some)
+touched_saved journal content s some = search (arith, both_ways, true_from_ne_false, untouched_other)
 
 -- what was written where sectors were touched is what was to be restored
 pub written_restored : (journal : Content) (old mid new : ℕ → ℕ) (touched : ℕ → Bool) (a : ℕ) → ((s : ℕ) → touched s ≡ is_touched old (restored journal old) s) → mid a ≡ old a
     → new a ≡ (if touched (a / 4096) then saved_byte journal a else mid a) → new a ≡ restored journal old a
-written_restored journal old mid new touched a right same is =
-    let hit = touched_saved journal old (a / 4096) in let none = untouched_byte old (restored journal old) a in
-    let marked = right (a / 4096) in
-    grind arith
+written_restored journal old mid new touched a right same is = search (arith, touched_saved, untouched_byte)
 
 -- ---- pages
 
@@ -63,9 +57,4 @@ and_same b x y same = grind arith
 pub pages_same : (touched : ℕ → Bool) (old aim aim' : ℕ → ℕ) → ((a : ℕ) → touched (a / 4096) ≡ true → aim a ≡ aim' a)
     → count_below 65536 (is_programmed touched old aim) ≡ count_below 65536 (is_programmed touched old aim')
 unfolding is_page_other
-pages_same touched old aim aim' same =
-    count_below-same 65536 (is_programmed touched old aim) (is_programmed touched old aim')
-    (λ page below. and_same (touched (page / 16)) _ _ (λ hit.
-    any_below-same 256 _ _ (λ i inside.
-    let sector : (256 * page + i) / 4096 ≡ page / 16 = omega arith in
-    ap (is_other (old (256 * page + i))) (same (256 * page + i) (rw sector hit)))))
+pages_same touched old aim aim' same = search (arith, and_same, any_below-same, count_below-same)

@@ -95,10 +95,7 @@ module _ (journal : Content) (prepared : Prepared) (old mid new : BusState) wher
   pub change_gives_up : (refusal : Refusal) → AreChanged journal prepared old mid new → old.honest ≡ true
       → ChangeTells prepared.changes (saved_byte journal) mid new refusal
       → HonestTells (most_of (length journal.saved)) IsJudgedFirst old new refusal
-  change_gives_up Stopped are honest tells =
-      let out = tells (are.looks.nature.honest ∙ honest) in let falls = (are.looks.looked honest).falls in
-      let few = are.is.few in let count = are.is.count in
-      omega arith
+  change_gives_up Stopped are honest tells = search arith
   change_gives_up (Timeout address) are honest tells = tells (are.looks.nature.honest ∙ honest)
   change_gives_up (Mismatch address) are honest tells = λ first. absurd (true≢false (sym first))
   change_gives_up _ are honest tells = absurd tells
@@ -139,11 +136,7 @@ module _ (journal : Content) (prepared : Prepared) (old mid new : BusState) (wor
   pub sum_fits : AreChanged journal prepared old mid new
       → DoesChange prepared.changes (saved_byte journal) true mid new work
       → prepared.transactions + work.transactions < 2 ^ 64
-  sum_fits are does =
-      let room = are.room in let most = are.is.most in let few = are.is.few in let count = are.is.count in
-      let erases = does.fewer_erases in let programs = does.fewer_programs in let sent = does.few in
-      let writes = two_writes prepared.changes in
-      omega arith
+  sum_fits are does = search (arith, two_writes)
 
   module _ (sent : ℕ) (are : AreChanged journal prepared old mid new)
       (does : DoesChange prepared.changes (saved_byte journal) true mid new work) where
@@ -151,11 +144,7 @@ module _ (journal : Content) (prepared : Prepared) (old mid new : BusState) (wor
     restored_within : (writes : ℕ) → sent ≡ prepared.transactions + work.transactions
         → status_writes prepared.changes ≤ writes
         → IsWithinBound (length journal.saved) writes true (report_of prepared work sent)
-    restored_within writes sum fits =
-        let most = are.is.most in let least = are.is.least in let few = are.is.few in let count = are.is.count in
-        let erases = does.fewer_erases in let programs = does.fewer_programs in
-        let most_sent = does.few in let least_sent = does.least in
-        omega arith
+    restored_within writes sum fits = search arith
 
     pub restored_bounded : sent ≡ prepared.transactions + work.transactions
         → IsWithinBound (length journal.saved) 2 true (report_of prepared work sent)
@@ -170,8 +159,7 @@ module _ (journal : Content) (prepared : Prepared) (old mid new : BusState) (wor
 
     pub restored_counted : sent ≡ prepared.transactions + work.transactions → old.honest ≡ true
         → old.left ≡ new.left + sent
-    restored_counted sum honest =
-        let before = are.is.sent honest in let after = does.sent (are.looks.nature.honest ∙ honest) in omega arith
+    restored_counted sum honest = search arith
 
     pub restored_done : IsModelled old → IsRestored journal old new (report_of prepared work sent)
     restored_done modelled =
@@ -218,5 +206,4 @@ module _ (journal : Content) (prepared : Prepared) (old mid new : BusState) (wor
 
 -- and it is the first chip again
 pub restored_back : (journal : Content) (first : Chip) (old new : BusState) (report : Report) → CanGiveBack journal first old → IsRestored journal old new report → IsSame first new.chip
-restored_back journal first old new report can done =
-    given_back journal first old.chip new.chip can.saves can.within.config can.within.fixed can.within.bytes done.made.config done.made.bytes done.made.fixed done.code
+restored_back journal first old new report can done = search (arith, given_back)

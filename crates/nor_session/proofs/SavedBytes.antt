@@ -1,5 +1,5 @@
 -- What a journal saved: its bytes, at the addresses of a chip, and how many sectors.
-use Rattle.std.proofs.Common.{◌≡◌, ℕ, ◌+◌, ◌*◌, ◌/◌, ◌%◌, ◌<◌, ◌≤◌, ◌∙◌, ◌||◌, Bool, true, false, length, List, [], ◌∷◌, slice_index, refl, sym, ap, arith, Some}
+use Rattle.std.proofs.Common.{◌≡◌, ℕ, ◌+◌, ◌*◌, ◌/◌, ◌<◌, ◌≤◌, ◌∙◌, ◌||◌, Bool, true, false, length, List, [], ◌∷◌, slice_index, refl, sym, ap, arith, Some}
 use Rattle.std.specs.Prelude.{◌==◌}
 use Rattle.std.specs.Option.{is_some}
 use Rattle.std.proofs.lemmas.Bool.{ne_eqb}
@@ -20,8 +20,7 @@ sector_at s i below = omega arith
 
 -- the bytes of a saved sector are those of its addresses
 pub byte_at : (journal : Content) (s : ℕ) (bytes : List ℕ) (i : ℕ) → saved_in journal.saved s ≡ Some bytes → i < 4096 → slice_index bytes i ≡ saved_byte journal (4096 * s + i)
-byte_at journal s bytes i is below =
-    let place : (4096 * s + i) % 4096 ≡ i = omega arith in rw (sector_at s i below, place, is) refl
+byte_at journal s bytes i is below = search (arith, sector_at)
 
 -- a sector with bytes is saved
 pub is_saved-some : (journal : Content) (s : ℕ) (bytes : List ℕ) → saved_in journal.saved s ≡ Some bytes → is_saved journal s ≡ true
@@ -29,8 +28,7 @@ is_saved-some journal s bytes is = ap is_some is
 
 -- a journal saves no more sectors than a chip can have
 pub saved_room : (journal : Content) → IsContent journal → length journal.saved ≤ 4096
-saved_room journal is =
-    let few = saved_few journal is in let most = (is_chip_size-in_blocks journal.size is.size).small in omega arith
+saved_room journal is = search (arith, is_chip_size-in_blocks, saved_few)
 
 -- ---- how many
 

@@ -18,7 +18,7 @@ use Rattle.nor_apply.proofs.Kept.{fixed_then, kept_fixed}
 use Rattle.nor_save.specs.declared.opening.Opening.{Opening}
 use Rattle.nor_save.specs.declared.saving.SavedScan.{SavedScan}
 use Rattle.nor_call.specs.declared.request.Request.{Request}
-use Rattle.nor_call.specs.Request.{is_data, wanted, scanned_sectors}
+use Rattle.nor_call.specs.Request.{wanted, scanned_sectors}
 use Rattle.nor_save.specs.Touched.{is_touched_by, is_raised_by}
 use Rattle.nor_save.specs.Opening.{Opens, most_opening}
 use Rattle.nor_save.specs.Saving.{IsOpening, OpeningAccepts}
@@ -37,12 +37,8 @@ use Rattle.nor_session.proofs.RestoredBytes.{untouched_byte, pages_same}
 
 -- in a sector that isn't touched all is as wanted
 wanted_untouched : (request : Request) (image : List ℕ) (chip : Chip) (a : ℕ) → chip.config.size % 65536 ≡ 0 → is_touched_by request image chip (a / 4096) ≡ false → wanted request image chip a ≡ chip.bytes a
-wanted_untouched request image chip a blocks alike = elim (cases_lt (a / 4096) (chip.config.size / 4096)) [
-  | inl inside ↦ sym (untouched_byte chip.bytes (wanted request image chip) a (rw (lt-ltb _ _ inside) at alike))
-  | inr outside ↦
-      let past = le-ltb a chip.config.size (omega arith) in
-      wanted-kept request image chip.config.size chip.bytes a (rw past (and-false (is_data request.what)))
-]
+wanted_untouched request image chip a blocks alike =
+    search (arith, and-false, cases_lt, le-ltb, lt-ltb, untouched_byte, wanted-kept)
 
 module _ (request : Request) (image image' : List ℕ) (opening : Opening) (status : Status) (code : ℕ)
     (kept : SavedScan) (old mid : BusState) where

@@ -1,5 +1,5 @@
 -- What is written over with a chip that can be given back can be given back at each moment.
-use Rattle.std.proofs.Common.{◌≡◌, ◌∙◌, ◌⊎◌, ◌/◌, ◌%◌, ℕ, Bool, List, [], true, refl, sym, inl, inr}
+use Rattle.std.proofs.Common.{arith, ◌≡◌, ◌∙◌, ◌⊎◌, ℕ, Bool, List, [], true, refl, sym, inl, inr}
 use Rattle.std.proofs.lemmas.List.{append-nil}
 use Rattle.nor_chip.specs.Bus.{BusState}
 use Rattle.nor_chip.specs.Chip.{Chip, IsChip, IsSame}
@@ -28,37 +28,16 @@ either P x y z (inr is) one two = rw is two
 -- both are within the same places of the first chip, so what was opened is
 pub within_both : (places : ℕ → Bool) (first : Chip) (old new opened : BusState) → IsWrittenOver old.chip new.chip opened.chip
     → IsWithin places first old → IsWithin places first new → IsWithin places first opened
-within_both places first old new opened over before after = record {
-  config = over.config ∙ before.config;
-  bytes = λ a out. either (λ b. b ≡ first.bytes a) _ _ _ (over.bytes a) (before.bytes a out) (after.bytes a out);
-  fixed = record {
-    one = either (λ k. k / 32 ≡ first.kept1 / 32) _ _ _ over.kept1 before.fixed.one after.fixed.one;
-    two = either (λ k. k % 64 ≡ first.kept2 % 64) _ _ _ over.kept2 before.fixed.two after.fixed.two;
-  };
-  kept = λ shut. (
-    either (λ k. k ≡ first.kept1) _ _ _ over.kept1 (before.kept shut).0 (after.kept shut).0,
-    either (λ k. k ≡ first.kept2) _ _ _ over.kept2 (before.kept shut).1 (after.kept shut).1,
-  );
-  runs = λ loses works. absurd (works over.idle);
-}
+within_both places first old new opened over before after = search (arith, either)
 
 -- so what can be given back before and after can be at each moment between
 pub restore_over : (journal : Content) (first : Chip) (old new opened : BusState) → CanGiveBack journal first old
     → CanGiveBack journal first new → IsWrittenOver old.chip new.chip opened.chip → CanGiveBack journal first opened
-restore_over journal first old new opened before after over = record {
-  known = after.known;
-  saves = after.saves;
-  within = within_both (open_places journal first) first old new opened over before.within after.within;
-}
+restore_over journal first old new opened before after over = search (arith, within_both)
 
 -- and where both are the same chip, so is what was opened
 pub same_over : (old new opened : Chip) → IsSame old new → IsWrittenOver old new opened → IsSame old opened
-same_over old new opened same over = record {
-  config = over.config;
-  bytes = λ a. either (λ b. b ≡ old.bytes a) _ _ _ (over.bytes a) refl (same.bytes a);
-  kept1 = either (λ k. k ≡ old.kept1) _ _ _ over.kept1 refl same.kept1;
-  kept2 = either (λ k. k ≡ old.kept2) _ _ _ over.kept2 refl same.kept2;
-}
+same_over old new opened same over = search (arith, either)
 
 -- ---- after a session
 
