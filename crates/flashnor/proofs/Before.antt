@@ -1,5 +1,5 @@
 -- What a run leaves of files that ends before its call, or whose task doesn't change the chip.
-use Rattle.std.proofs.Common.{◌≡◌, ◌∙◌, Option, None, Some, false, inl, inr, refl, sym, true, true≢false}
+use Rattle.std.proofs.Common.{◌≡◌, ◌∙◌, Option, None, Some, arith, false, inl, inr, refl, sym, true, true≢false}
 use Rattle.std.specs.Borrow.{Bor}
 use Rattle.nor_files.specs.Files.{AreAtRest, FilesState, Name}
 use Rattle.nor_files.specs.Calls.{LeavesNoMore}
@@ -30,10 +30,7 @@ same_of files (Some name) = stays_same name.now files
 
 two_made : (done : Task) (one : Option (Bor Text)) → AreTwo one (named_by done).output
     → AreTwo one (named_by done).journal → AreTwo one (made_by done)
-two_made (task.Change change) one output journal = journal
-two_made (task.Read file regions) one output journal = output
-two_made _ None output journal = tt
-two_made _ (Some one) output journal = tt
+two_made done one output journal = grind arith
 
 -- nor is the trace the journal that a change keeps
 pub two_kept : (done : Task) (one : Option (Bor Text)) → AreTwo one (named_by done).journal

@@ -1,28 +1,16 @@
 -- How calls and jobs end a run.
-use Rattle.std.proofs.Common.{◌≡◌, ◌≢◌, ℕ, Bool, List, Option, None, Some, Result, Ok, Err, IsSomeAnd, arith, false}
-use Rattle.std.proofs.Common.{inl, inr, refl, subst, true}
+use Rattle.std.proofs.Common.{◌≡◌, ◌≢◌, ℕ, List, Option, Result, Ok, Err, arith, inl, inr, refl, subst}
 use Rattle.nor_call.specs.declared.refusal.Refusal.{Refusal}
 use Rattle.nor_words.specs.Text.{Text}
 use Rattle.clap.specs.Words.{IsAmong}
 use Rattle.nor_words.specs.Words.{IsJob, IsRefused, refusals_of}
 use Rattle.nor_words.specs.declared.job.ChipJob.{ChipJob}
 use Rattle.nor_words.specs.declared.job.Job.TheVariants as job
-use Rattle.nor_words.specs.declared.job.JournalUse.{JournalUse}
-use Rattle.nor_words.specs.declared.job.JournalUse.TheVariants as uses
-use Rattle.nor_words.specs.declared.job.Regions.{Regions}
-use Rattle.nor_words.specs.declared.job.Task.{Task}
-use Rattle.nor_words.specs.declared.job.Task.TheVariants as task
-use Rattle.nor_words.specs.declared.job.Wanted.{Wanted}
-use Rattle.nor_words.specs.declared.job.Wanted.TheVariants as wanted
-use Rattle.nor_words.specs.declared.programmer.Programmer.{Programmer}
 use Rattle.nor_words.specs.declared.words.UsageFault.{UsageFault}
 use Rattle.nor_words.specs.declared.words.UsageFault.TheVariants as usage
 use Rattle.flashnor.specs.Endings.{HasPrinted, PrintsAnswer, all_written}
 use Rattle.nor_files.specs.Files.{AreAtRest, FilesState, View}
-use Rattle.flashnor.specs.Requests.{FailsToInclude}
-use Rattle.flashnor.specs.Run.{EndsJob, FailsBefore, FailsJob, FailsToKeep, FailsToRead, FailsToStart, AnswersWords}
-use Rattle.flashnor.specs.Run.{IsCalled, IsToldAs, IsStatus, KeepsFiles, Succeeds}
-use Rattle.flashnor.specs.Tasks.{puts_back}
+use Rattle.flashnor.specs.Run.{EndsJob, FailsJob, AnswersWords, IsCalled, IsToldAs, IsStatus, KeepsFiles, Succeeds}
 use Rattle.flashnor.proofs.Stays.{stays_same}
 use Rattle.flashnor.specs.declared.answers.Answer.{Answer}
 use Rattle.flashnor.specs.declared.holding.Unwritten.{Unwritten}
@@ -30,49 +18,11 @@ use Rattle.flashnor.specs.declared.messages.Fault.{Fault}
 use Rattle.flashnor.specs.declared.messages.Fault.TheVariants as end
 use Rattle.flashnor.specs.declared.printing.Ending.{Ending}
 
--- ---- no job ends with a usage fault
-
-none_of : {T : Type 0} (o : Option T) → IsSomeAnd o (λ _. ⊥) → ⊥
-none_of None fails = fails
-none_of (Some x) fails = fails
-
-module _ (fault : UsageFault) where
-  no_include : (view : View) (regions : Option Regions) → FailsToInclude view regions (end.Usage fault) → ⊥
-  no_include view None fails = fails
-  no_include view (Some regions) fails = elim fails [ inl f ↦ f | inr f ↦ f ]
-
-  no_read : (view : View) (what : Wanted) → FailsToRead view what (end.Usage fault) → ⊥
-  no_read view wanted.Erase fails = cc
-  no_read view _ fails = fails
-
-  no_keep : (view : View) (kept : JournalUse) → FailsToKeep view kept (end.Usage fault) → ⊥
-  no_keep view (uses.Journal file) fails = fails
-  no_keep view (uses.Rehearse stops) fails = fails
-
-  no_before : (view : View) (done : Task) → FailsBefore view done (end.Usage fault) → ⊥
-  no_before view (task.Read file regions) fails = elim fails [ inl f ↦ no_include view regions f | inr f ↦ f ]
-  no_before view (task.Verify file regions) fails = elim fails [ inl f ↦ no_include view regions f | inr f ↦ f ]
-  no_before view (task.Change change) (inl f) = no_include view change.regions f
-  no_before view (task.Change change) (inr (inl f)) = no_read view change.wanted f
-  no_before view (task.Change change) (inr (inr f)) = no_keep view change.journal_use f
-  no_before view _ fails = fails
-
-  no_start : (view : View) (changes : Bool) (programmer : Programmer)
-      → FailsToStart changes view programmer (end.Usage fault) → ⊥
-  no_start view true programmer (inl memory) = cc
-  no_start view true programmer (inr (inl image)) = none_of programmer.image image
-  no_start view true programmer (inr (inr status)) = none_of programmer.status status
-  no_start view false programmer (inl memory) = cc
-  no_start view false programmer (inr (inl image)) = none_of programmer.image image
-  no_start view false programmer (inr (inr status)) = none_of programmer.status status
-
-  no_usage : (view : View) (on_chip : ChipJob) → FailsJob view on_chip (end.Usage fault) → ⊥
-  no_usage view on_chip (inl twice) = twice.3
-  no_usage view on_chip (inr (inl starting)) = no_start view (puts_back on_chip.task) on_chip.programmer starting
-  no_usage view on_chip (inr (inr (inl trace))) = none_of on_chip.programmer.trace trace
-  no_usage view on_chip (inr (inr (inr before))) = no_before before.0 on_chip.task before.2
-
 -- ---- jobs
+
+-- none ends with a usage fault
+no_usage : (fault : UsageFault) (view : View) (on_chip : ChipJob) → FailsJob view on_chip (end.Usage fault) → ⊥
+no_usage fault view on_chip fails = grind arith
 
 module _ (files after : FilesState) (on_chip : ChipJob) (unwritten : Unwritten) where
   pub ends_called : (outcome : Result Answer Refusal) (told : Result Answer Fault)

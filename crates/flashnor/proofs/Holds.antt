@@ -1,6 +1,6 @@
 -- What the reading of the chip's files leaves of all files.
 use Rattle.std.proofs.Common.{◌≡◌, ◌≢◌, ◌+◌, ◌⊎◌, ◌∙◌, ℕ, Bool, Option, None, Some, Result, Ok, Err, IsSomeAnd, ap}
-use Rattle.std.proofs.Common.{bytes_eq, false, inl, inr, is_some, option_map, refl, sym, take, true}
+use Rattle.std.proofs.Common.{arith, bytes_eq, false, inl, inr, is_some, option_map, refl, sym, take, true}
 use Rattle.std.specs.Borrow.{Bor}
 use Rattle.std.proofs.lemmas.Bool.{cases_Bool, false≢true}
 use Rattle.std.proofs.lemmas.Slice.Eq.{bytes_eq-Decides}
@@ -64,8 +64,7 @@ module _ {T E : Type 0} {name : Name} {old new : FilesState} where
 -- ---- a file that isn't there
 
 missing : (found : Found) → is_some found ≡ false → found ≡ None
-missing None gone = refl
-missing (Some bytes) gone = absurd (false≢true (sym gone))
+missing found gone = grind arith
 
 pub missing_settled : {E : Type 0} {name : Name} {there : Bool} {old held new : FilesState} → there ≡ false
     → IsKnown name old.view → Holds {E = E} name (Ok there) old held → IsPlaced name held new

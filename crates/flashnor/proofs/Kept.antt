@@ -25,7 +25,7 @@ use Rattle.nor_words.specs.declared.programmer.Programmer.{Programmer}
 use Rattle.flashnor.specs.Changes.{HasMadeChange, IsKeptFile, IsKeptIn}
 use Rattle.flashnor.specs.Chips.{IsContentOf, OpensChip}
 use Rattle.flashnor.specs.Found.{emulated_part}
-use Rattle.flashnor.specs.Holding.{AreAmid, AreHeld, AreReady, IsAmid, IsReady, LeavesAmid, Settles, StandsFor, was}
+use Rattle.flashnor.specs.Holding.{AreAmid, AreHeld, AreReady, IsReady, LeavesAmid, Settles, StandsFor, was}
 use Rattle.flashnor.specs.Left.{IsOpenedFrom, LeavesAsLong, MayLeave, Opened}
 use Rattle.flashnor.specs.Roles.{HaveOneRole, named_by}
 use Rattle.flashnor.specs.Run.{DoesJob, IsViewBut, KeepsChange, KeepsFiles}
@@ -47,14 +47,11 @@ pub of_none : (view : View) (name : Option (Bor Text)) (len : ℕ) (missing byte
 of_none view None len missing bytes none are = are.same ∙ (rw are.is_found refl)
 of_none view (Some name) len missing bytes none are = cc
 
-many_of : (found : Found) (missing : List ℕ) (len : ℕ) → IfSome found (λ all. length all ≡ len) → length missing ≡ len
-    → length (unwrap_or found missing) ≡ len
-many_of None missing len whole many = many
-many_of (Some all) missing len whole many = whole
-
 as_many : (view : View) (name : Option (Bor Text)) (len : ℕ) (missing bytes : List ℕ)
     → AreOfFile view name len missing bytes → length missing ≡ len → length bytes ≡ len
-as_many view name len missing bytes are many = ap length are.same ∙ many_of are.found missing len are.whole many
+as_many view name len missing bytes are many = ap length are.same
+    ∙ (elim are.found as (λ f. IfSome f (λ all. length all ≡ len) → length (unwrap_or f missing) ≡ len)
+    [ None ↦ λ _. many | Some all ↦ λ whole. whole ]) are.whole
 
 -- a chip that was opened has as many bytes as were read of it
 module _ {programmer : Programmer} {files : FilesState} (first : Opened programmer files) where
@@ -71,31 +68,23 @@ module _ {programmer : Programmer} {files : FilesState} (first : Opened programm
 abbrev IsEither : (had bytes has : List ℕ) → Type 0
 IsEither had bytes has = (i : ℕ) → (slice_index has i ≡ slice_index had i) ⊎ (slice_index has i ≡ slice_index bytes i)
 
-one_of : (had bytes missing : List ℕ) (there : Bool) (left : Found) → (there ≡ false → had ≡ missing)
-    → IsAmid there had bytes left → IfSome left (λ has. length has ≡ length bytes)
-    → IsEither had bytes (unwrap_or left missing)
-one_of had bytes missing true left stood amid whole i = rw amid.1 (amid.2.each i)
-one_of had bytes missing false left stood (inl gone) whole i = inl (rw (gone, stood refl) refl)
-one_of had bytes missing false left stood (inr made) whole i =
-    let same : made.0 ≡ bytes = made.2 (rw made.1 at whole) in
-    inr (rw made.1 (ap (λ (l : List ℕ). slice_index l i) same))
-
 left_either : (had bytes missing : List ℕ) (named : Option (Bor Text)) (there : Bool) (files : FilesState) (left : Found)
     → (there ≡ false → had ≡ missing) → (named ≡ None → had ≡ missing) → LeavesAmid named there had bytes files
     → MayLeave named left files → IfSome left (λ has. length has ≡ length bytes)
     → IsEither had bytes (unwrap_or left missing)
-left_either had bytes missing None there files left stood unnamed amid can whole = λ i.
-    inl (rw (can, unnamed refl) refl)
-left_either had bytes missing (Some name) there files left stood unnamed amid can whole =
-    one_of had bytes missing there left stood (amid left can) whole
+left_either had bytes missing None there files left stood unnamed amid can whole i = inl (rw (can, unnamed refl) refl)
+left_either had bytes missing (Some name) true files left stood unnamed amid can whole i =
+    let (has, is, mix) = amid left can in
+    rw is (mix.each i)
+left_either had bytes missing (Some name) false files left stood unnamed amid can whole i = elim (amid left can) [
+  | inl gone ↦ inl (rw (gone, stood refl) refl)
+  | inr made ↦ inr (rw made.1 (ap (λ (l : List ℕ). slice_index l i) (made.2 (rw made.1 at whole))))
+]
 
 -- a status byte 1 tells the kept bits
 pub quarter : (kept : ℕ) (latch idle : Bool)
     → (4 * kept + (if latch then 2 else 0) + (if idle then 0 else 1)) / 4 ≡ kept
-quarter kept true true = omega arith
-quarter kept true false = omega arith
-quarter kept false true = omega arith
-quarter kept false false = omega arith
+quarter kept latch idle = grind arith
 
 -- a file that was there has all its bytes while it is written over
 as_long : (name : Option (Bor Text)) (there : Bool) (had put : List ℕ) (s0 s1 s3 : FilesState) → AllStay s0 s1
@@ -122,21 +111,21 @@ kept_after stays kept = record {
 }
 
 -- the chip that a change leaves has the same configuration
-setup_kept : (kept : JournalUse) (request : Request) (image : List ℕ) (old new : BusState) (after : FilesState)
-    (outcome : Result Answer Refusal) → keeps_journal kept ≡ true
+setup_kept : {request : Request} {image : List ℕ} {old new : BusState} {after : FilesState}
+    {outcome : Result Answer Refusal} (kept : JournalUse) → keeps_journal kept ≡ true
     → HasMadeChange request image kept old new after outcome → new.chip.config ≡ old.chip.config
-setup_kept (uses.Journal file) request image old new after outcome keeps made =
+setup_kept (uses.Journal file) keeps made =
     elim (cases_Bool made.vault'.sealed) [
       | inl sealed ↦ (made.done.undo sealed).changes.within.config
       | inr open' ↦ (made.done.same open').config
     ]
-setup_kept (uses.Rehearse stops) request image old new after outcome keeps made = absurd cc
+setup_kept (uses.Rehearse stops) keeps made = absurd cc
 
 pub setup_done : (done : Task) (amid : View) (after : FilesState) (programmer : Programmer) (named : Option ChipName)
     (old new : BusState) (outcome : Result Answer Refusal) → puts_back done ≡ true
     → DoesJob amid after programmer named done old new outcome → new.chip.config ≡ old.chip.config
 setup_done (task.Change change) amid after programmer named old new outcome puts does =
-    setup_kept change.journal_use _ does.image old new after outcome puts does.changed
+    setup_kept change.journal_use puts does.changed
 setup_done (task.Restore journal) amid after programmer named old new outcome puts does = does.restored.config
 setup_done _ amid after programmer named old new outcome puts does = absurd cc
 
@@ -275,11 +264,11 @@ module _ (job : ChipJob) (held : Held) (s0 s1 s2 : FilesState) (bus bus' : BusSt
         (not_that job.programmer.status file other)
 
     -- behind a session, whose journal is in its file
-    keeps_change : (kept : JournalUse) (request : Request) (image : List ℕ) (outcome : Result Answer Refusal)
+    keeps_change : {request : Request} {image : List ℕ} {outcome : Result Answer Refusal} (kept : JournalUse)
         → keeps_journal kept ≡ true → AreTwo job.programmer.image (journal_of kept)
         → AreTwo job.programmer.status (journal_of kept) → HasMadeChange request image kept bus bus' s2 outcome
         → KeepsChange job.programmer kept s0 s3
-    keeps_change (uses.Journal file) request image outcome keeps one other made =
+    keeps_change (uses.Journal file) keeps one other made =
         let in_file = kept_after (last_stays file one other) (made.kept_in (lawful_after nature2 still.lawful)) in
         inr (record {
           image = image_whole;
@@ -298,7 +287,7 @@ module _ (job : ChipJob) (held : Held) (s0 s1 s2 : FilesState) (bus bus' : BusSt
                     saves.saves.is saves.is;
               };
         })
-    keeps_change (uses.Rehearse stops) request image outcome keeps one other made = absurd cc
+    keeps_change (uses.Rehearse stops) keeps one other made = absurd cc
 
     pub keeps_files : (done : Task) (named : Option ChipName) (outcome : Result Answer Refusal) → puts_back done ≡ true
         → StayApart job.programmer.trace (made_by done) s1 s2
@@ -306,7 +295,7 @@ module _ (job : ChipJob) (held : Held) (s0 s1 s2 : FilesState) (bus bus' : BusSt
         → AreTwo job.programmer.trace (named_by done).journal
         → DoesJob amid s2 job.programmer named done bus bus' outcome → KeepsFiles job.programmer done s0 s3
     keeps_files (task.Change change) named outcome puts stay' one other traced does =
-        keeps_change change.journal_use _ does.image outcome puts one other does.changed
+        keeps_change change.journal_use puts one other does.changed
     keeps_files (task.Restore journal) named outcome puts stay' one other traced does =
         let not = not_that job.programmer.trace journal traced in
         inr (record {

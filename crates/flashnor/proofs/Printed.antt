@@ -1,14 +1,12 @@
 -- What writes print that follow one another.
-use Rattle.std.proofs.Common.{◌≡◌, ◌∙◌, ℕ, ◌+◌, ◌<◌, ◌≤◌, Bool, List, [], ◌∷◌, ◌++◌, Option, None, Some, Result, Ok}
-use Rattle.std.proofs.Common.{Err, IfSome, add-one, append-nil, arith, false, flat_map, get_or, length, refl, subst}
-use Rattle.std.proofs.Common.{sym, take, true}
+use Rattle.std.proofs.Common.{◌≡◌, ◌∙◌, ℕ, ◌+◌, ◌<◌, Bool, List, [], ◌∷◌, ◌++◌, Option, None, Some, Result, Ok, Err}
+use Rattle.std.proofs.Common.{IfSome, add-one, append-nil, arith, false, flat_map, get_or, length, refl, sym, take}
+use Rattle.std.proofs.Common.{true}
 use Rattle.std.proofs.Math.Seq.{take-suc}
 use Rattle.std.proofs.lemmas.Grind.{flat_map-append}
-use Rattle.std.proofs.lemmas.List.{take_all}
 use Rattle.std.specs.Fmt.{option_append}
 use Rattle.std.specs.Io.KnownBytes.{Appends}
 use Rattle.std.proofs.KnownBytes.{Appends-trans}
-use Rattle.nor_probe.specs.Table.{chips}
 use Rattle.nor_probe.specs.declared.table.Part.{Part}
 use Rattle.nor_words.specs.declared.words.UsageFault.TheVariants as usage
 use Rattle.flashnor.specs.AnswerLines.{chip_line}
@@ -33,12 +31,6 @@ pub chips_then : (a b c : Option (List ℕ)) (items : List Part) (i : ℕ) (none
 chips_then a b c items i none below one two =
     rw (add-one, take-suc items i none below, flat_map-append chip_line (take i items) (get_or items i none ∷ []), append-nil (chip_line (get_or items i none)))
     (appends_then a b c (flat_map chip_line (take i items)) (chip_line (get_or items i none)) one two)
-
--- those of all chips were
-pub chips_all : (a b : Option (List ℕ)) (items : List Part) (i : ℕ) → items ≡ chips → length items ≤ i
-    → Appends a b (flat_map chip_line (take i items)) → Appends a b (flat_map chip_line chips)
-chips_all a b items i same above printed =
-    subst (λ (parts : List Part). Appends a b (flat_map chip_line parts)) (take_all i items above ∙ same) printed
 
 -- ---- ends of runs
 

@@ -185,8 +185,8 @@ module _ (programmer : Programmer) (file : Text) (start : FilesState) (first : O
       sound = leads.sound;
       left = λ left may. leads.left left (kept.stays.leaves left may);
       back = λ i s opened can_i can_s is.
-          subst (λ (j : Journal). CanGiveBack j first.bus.chip opened) (one_journal kept.journal kept.sound kept.read)
-          (kept.back first.bus.chip (can_back kept.found kept.journal kept.sound kept.read) i s opened
+          rw (← one_journal kept.journal kept.sound kept.read) (kept.back first.bus.chip
+          (can_back kept.found kept.journal kept.sound kept.read) i s opened
           ((left_one programmer.image other.image i new same.image).1 can_i)
           ((left_one programmer.status other.status s new same.status).1 can_s)
           (rw (one_setup kept.found) is));

@@ -1,5 +1,5 @@
 -- A file that fails while it is read ends the run by its own fault, or for want of memory.
-use Rattle.std.proofs.Common.{ℕ, inr}
+use Rattle.std.proofs.Common.{ℕ, arith}
 use Rattle.nor_words.specs.Text.{Text}
 use Rattle.nor_files.specs.Files.{View}
 use Rattle.nor_files.specs.Files.Failure.{Unread}
@@ -11,9 +11,7 @@ use Rattle.flashnor.specs.declared.messages.FileFault.TheVariants as file
 
 module _ (view : View) (name : Text) (size : ℕ) (unread : Happens view (Unread name)) where
   pub unread_reading : (fault : Fault) → IsUnreadFault name fault → IsReadingFault view name size fault
-  unread_reading (end.File file.Read of) is = (is, inr unread)
-  unread_reading (end.File file.Length of) is = absurd is
-  unread_reading _ is = is
+  unread_reading fault is = grind arith
 
   pub unread_opening : (fault : Fault) → IsUnreadFault name fault → IsOpeningFault view name size fault
   unread_opening (end.File file.Read of) is = (is, unread)

@@ -1,5 +1,5 @@
 -- Both files of the chip, one after the other put back, and the names of those that couldn't be written.
-use Rattle.std.proofs.Common.{◌≡◌, ◌∙◌, ℕ, Bool, List, Option, None, Some, IfSome, refl, true}
+use Rattle.std.proofs.Common.{◌≡◌, ◌∙◌, ℕ, Bool, List, Option, None, Some, IfSome, arith, refl, true}
 use Rattle.std.specs.Borrow.{Bor}
 use Rattle.nor_chip.specs.Chip.{Chip}
 use Rattle.nor_chip.specs.Start.{AreChipBytes, status_of}
@@ -62,8 +62,7 @@ are_put name bytes (Some of) old new same fails put = (fails.0, rw same fails.1)
 
 pub told_of : (name failed : Option (Bor Text)) (view : View)
     → IfSome failed (λ is. (name ≡ Some is) × Happens view (Unwritten is.now)) → IsToldOf name failed view
-told_of name None view is = tt
-told_of name (Some failed) view is = is
+told_of name failed view is = grind arith
 
 pub told_before : (name failed : Option (Bor Text)) (old mid : View) → mid.nature ≡ old.nature
     → IsToldOf name failed mid

@@ -1,4 +1,5 @@
-use Rattle.flashnor.proofs.Printed.{chips_all, chips_then}
+use Rattle.std.proofs.lemmas.List.{take_all}
+use Rattle.flashnor.proofs.Printed.{chips_then}
 use Rattle.flashnor.proofs.printing.print_table.Goals as goal
 
 pub loop-part-preserved : goal.loop-part-preserved
@@ -8,5 +9,4 @@ loop-part-preserved g c =
 
 pub returns : goal.returns
 returns g c =
-    chips_all (g.W.Write.contents c.args.output.now) (g.W.Write.contents c.loop-part.output) c.chips-part-items.result.now
-    c.loop-part.part-index c.chips-part-items.ensures c.loop-part-test.false c.loop-part.invariant
+    rw (take_all c.loop-part.part-index _ c.loop-part-test.false, c.chips-part-items.ensures) at c.loop-part.invariant

@@ -31,7 +31,8 @@ returns-in-Verify g c = rw c.in-Verify.is (search (rules, stays_same))
 
 pub returns-in-Change : goal.returns-in-Change
 returns-in-Change g c =
-    rw c.in-Change.is (search (rules, modelled_ready, calm_ready, c.change_chip.ensures.ok, c.change_chip.ensures.others))
+    let change = c.change_chip.ensures in
+    rw c.in-Change.is (search (rules, modelled_ready, calm_ready, change.ok, change.others))
 
 pub returns-in-Restore : goal.returns-in-Restore
 returns-in-Restore g c =
