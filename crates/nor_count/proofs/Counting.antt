@@ -3,6 +3,7 @@ use Rattle.std.proofs.Common.{◌≡◌, ◌<◌, ◌≤◌, ◌+◌, ◌||◌, 
 use Rattle.std.specs.Prelude.{if◌then◌else◌}
 use Rattle.std.proofs.lemmas.Bool.{both_ways, false_from_ne_true}
 use Rattle.nor_count.specs.Below.{any_below, count_below}
+use Rattle.nor_count.proofs.Below.{any_below-found}
 pub use Rattle.nor_count.proofs.Below.{any_below-some, count_below-zero, count_below-more, count_below-most}
 
 -- how many there are with a number that passes, or with one that doesn't
@@ -30,9 +31,8 @@ any_below-false n test none k below =
 
 -- if each fails, there is none
 pub any_below-all : (n : ℕ) (test : ℕ → Bool) → ((k : ℕ) → k < n → test k ≡ false) → any_below n test ≡ false
-unfolding any_below
-any_below-all zero test each = refl
-any_below-all (suc n) test each = rw (any_below-all n test (λ k below. each k (omega arith)), each n (omega arith))
+any_below-all n test each = false_from_ne_true _ (λ some.
+    let found = any_below-found n test some in both_ways _ (each found.0 found.1) found.2)
 
 -- tests that agree below n
 pub any_below-same : (n : ℕ) (p q : ℕ → Bool) → ((k : ℕ) → k < n → p k ≡ q k) → any_below n p ≡ any_below n q

@@ -1,10 +1,10 @@
 -- What the sizes of chips have in common: they are the powers of two from 64 KiB to 16 MiB.
-use Rattle.std.proofs.Common.{ℕ, zero, suc, ◌+◌, ◌-◌, ◌*◌, ◌/◌, ◌%◌, ◌<◌, ◌≤◌, ◌^◌, ◌≡◌, ◌∙◌, refl, ap, sym, arith}
+use Rattle.std.proofs.Common.{ℕ, zero, suc, ◌+◌, ◌-◌, ◌*◌, ◌/◌, ◌%◌, ◌<◌, ◌≤◌, ◌^◌, ◌≡◌, ◌∙◌, ap, sym, arith}
 use Rattle.std.proofs.Common.{get_or, inl, inr}
 use Rattle.std.specs.Prelude.{true, ◌==◌}
 use Rattle.std.specs.Int.{is_power_of_two}
 use Rattle.std.specs.Int.RustNames.{count_ones}
-use Rattle.std.specs.List.{list_any, range_with_len}
+use Rattle.std.specs.List.{range_with_len}
 use Rattle.std.proofs.lemmas.List.Folds.{list_any_at, Any-from_list_any}
 use Rattle.std.proofs.lemmas.List.FromFn.{length-range_with_len, get_or-range_with_len}
 use Rattle.std.proofs.Math.Nat.{pow-suc}
@@ -86,13 +86,9 @@ pub is_chip_size-from : (size : ℕ) → is_power_of_two size ≡ true → 65536
 is_chip_size-from size power least most =
     let found = single_one 25 size (omega arith) (eqb-true (count_ones size) 1 power) in
     let same : size ≡ 2 ^ found.0 = found.1 in
-    elim (cases_lt found.0 16) [
-      | inl below ↦ absurd (omega (arith, pow_below found.0 16 below))
-      | inr from ↦ elim (cases_lt 24 found.0) [
-        | inl above ↦ absurd (omega (arith, pow_below 24 found.0 above))
-        | inr upto ↦ is_power size found.0 from (omega arith) same
-      ]
-    ]
+    let low : ¬ (found.0 < 16) = λ below. omega (arith, pow_below found.0 16 below) in
+    let high : ¬ (24 < found.0) = λ above. omega (arith, pow_below 24 found.0 above) in
+    is_power size found.0 (omega arith) (omega arith) same
 
 -- .. and there is no other.
 pub is_chip_size-power_of_two : (size : ℕ) → is_chip_size size ≡ true → is_power_of_two size ≡ true

@@ -1,6 +1,6 @@
 -- A verdict on the numbers below a bound, and their count when one more passes.
 use Rattle.std.proofs.Common.{◌≡◌, ◌<◌, ◌+◌, ◌||◌, ◌∙◌, ℕ, zero, suc, Bool, true, false, ap, sym, arith, inl, inr}
-use Rattle.std.specs.Prelude.{MatchBool, if◌then◌else◌, ◌==◌}
+use Rattle.std.specs.Prelude.{MatchBool, ◌==◌}
 use Rattle.std.proofs.lemmas.Bool.{cases_eq, or_left, ne_eqb, eq-eqb}
 use Rattle.nor_count.specs.Below.{any_below, count_below}
 use Rattle.nor_count.proofs.Below.{any_below-some}
