@@ -68,13 +68,10 @@ module _ (whole : Bool) (kinds : Kinds) (total : ℕ) (set : ℕ → Bool) (can 
     within =
         let here : q < total = can.below q (begins_in whole kinds set q begins) in
         let count = sectors_in total (planned_unit whole kinds set q) in
-        elim (cases_lt 0 count) [
-          | inl some ↦
-              let last = q + (count - 1) in
-              let below = can.below last (unit_within q begins last (omega arith) (omega arith)) in
-              omega arith
-          | inr none ↦ omega arith
-        ];
+        let last = q + (count - 1) in
+        let inside : 0 < count → q + (count - 1) < total =
+        λ some. can.below last (unit_within q begins last (omega arith) (omega arith)) in
+        elim (cases_lt 0 count) [ inl some ↦ omega (arith, inside some) | inr none ↦ omega arith ];
   }
 
   -- each sector of the set is within the unit that begins at some sector

@@ -1,5 +1,5 @@
 -- The first and the last of the places in a range that pass a test.
-use Rattle.std.proofs.Common.{ℕ, zero, suc, ◌≡◌, ◌<◌, ◌≤◌, ◌+◌, Bool, true, filter, List, [], ◌∷◌, Option, Some, None, refl, sym, ap, ◌∙◌, inl, inr, arith}
+use Rattle.std.proofs.Common.{ℕ, zero, suc, ◌≡◌, ◌<◌, ◌≤◌, ◌+◌, Bool, true, filter, List, [], ◌∷◌, Option, Some, None, refl, ap, ◌∙◌, inl, inr, arith}
 use Rattle.std.specs.Prelude.{MatchOption}
 use Rattle.std.specs.List.{range_with_len}
 use Rattle.std.proofs.lemmas.Bool.{cases_eq, cases_Bool, both_ways}
@@ -39,10 +39,7 @@ in_front : (test : ℕ → Bool) (from count : ℕ) (others : List ℕ) → test
 in_front test from count [] here none = (
   (omega arith, omega arith, here),
   (omega arith, omega arith, here),
-  λ k passes. elim (cases_eq from k) [
-    | inl same ↦ omega arith
-    | inr later ↦ absurd (none k (omega arith, omega arith, passes.2))
-  ],
+  λ k passes. let alone : ¬ (from < k) = λ later. none k (omega arith, omega arith, passes.2) in omega arith,
 )
 in_front test from count (j ∷ js) here are = (
   (omega arith, omega arith, here),
@@ -62,9 +59,8 @@ ends_of test from (suc count) =
       | inl here ↦ rw here (in_front test from count others here (ends_of test (from + 1) count))
       | inr fails ↦ rw fails (ends_like (Passes test (from + 1) count) (Passes test from (suc count)) (ends others)
           (λ k passes. (omega arith, omega arith, passes.2))
-          (λ k passes. elim (cases_eq from k) [
-            | inl same ↦ absurd (both_ways (test k) (ap test (sym same) ∙ fails) passes.2)
-            | inr later ↦ (omega arith, omega arith, passes.2)
-          ])
+          (λ k passes.
+          let later : ¬ (k ≡ from) = λ same. both_ways (test k) (ap test same ∙ fails) passes.2 in
+          (omega arith, omega arith, passes.2))
           (ends_of test (from + 1) count))
     ]

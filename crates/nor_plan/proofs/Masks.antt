@@ -59,10 +59,9 @@ module _ (f g : ℕ → ℕ) (at mask : ℕ) (is : IsMask mask (λ i. not (nat_e
 
   set_lane : (i : ℕ) → bit_at mask i ≡ 1 → (i < 32) × (f (at + i) ≢ g (at + i))
   set_lane i one =
-      elim (cases_lt i 32) [
-        | inl lane ↦ (lane, other_from_bit _ _ (sym (is.bits i lane) ∙ one))
-        | inr above ↦ absurd (omega (arith, one, bit_at_above mask 32 i is.lanes above))
-      ]
+      let inside : ¬ (32 ≤ i) = λ above. omega (arith, one, bit_at_above mask 32 i is.lanes above) in
+      let lane : i < 32 = omega arith in
+      (lane, other_from_bit _ _ (sym (is.bits i lane) ∙ one))
 
   -- at none of them,
   pub passed_block : mask ≡ 0 → (k : ℕ) → at ≤ k → k < at + 32 → f k ≡ g k

@@ -1,7 +1,7 @@
 -- The members of a set, one after the other.
 use Rattle.std.proofs.Common.{ℕ, zero, suc, ◌≡◌, ◌<◌, ◌≤◌, ◌+◌, ◌-◌, Bool, true, false, filter, [], ◌∷◌, length, refl, sym, ap, ◌∙◌, inl, inr, arith}
 use Rattle.std.specs.List.{range_with_len}
-use Rattle.std.proofs.lemmas.Bool.{cases_lt, cases_eq, both_ways, false_from_ne_true}
+use Rattle.std.proofs.lemmas.Bool.{cases_eq, both_ways, false_from_ne_true}
 use Rattle.std.proofs.lemmas.List.FromFn.{length-range_with_len}
 use Rattle.std.proofs.lemmas.List.Sums.{length-filter, count_by-le-length}
 use Rattle.nor_plan.specs.declared.set.SectorSet.{SectorSet}
@@ -49,10 +49,8 @@ length-members set from =
 
 -- the sectors of a set are few, since its words are
 pub has-small : (set : SectorSet) → length set.words ≡ 64 → LiesBelow set 4096
-has-small set long s member = elim (cases_lt s 4096) [
-  | inl small ↦ small
-  | inr past ↦ absurd (both_ways _ (none_past set long s past) member)
-]
+has-small set long s member =
+    let small : ¬ (4096 ≤ s) = λ past. both_ways _ (none_past set long s past) member in omega arith
 
 -- a count stays the same past all that pass
 count_past : (test : ℕ → Bool) (count : ℕ → ℕ) (end more : ℕ) → IsCount test count → ((s : ℕ) → test s ≡ true → s < end)

@@ -1,9 +1,8 @@
 -- From the bounds of a page, taken as a slice of its own, to its span.
-use Rattle.std.proofs.Common.{ℕ, ◌≡◌, ◌<◌, ◌≤◌, ◌+◌, ◌-◌, ◌*◌, ◌/◌, min, Bool, not, nat_eq, List, [], ◌∷◌, length, get_or, Some, None, inl, inr, sym, ap, ◌∙◌, arith, suc}
+use Rattle.std.proofs.Common.{ℕ, ◌≡◌, ◌<◌, ◌≤◌, ◌+◌, ◌-◌, ◌*◌, ◌/◌, min, Bool, not, nat_eq, List, [], ◌∷◌, length, get_or, Some, None, sym, ap, ◌∙◌, arith, suc}
 use lib.Lanes.{chunk}
 use Rattle.std.specs.Int.{div_ceil}
 use Rattle.std.proofs.lemmas.Simd.{length-chunk, get_or-chunk}
-use Rattle.std.proofs.lemmas.Bool.{cases_lt}
 use Rattle.nor_plan.specs.declared.page.Span.{Span}
 use Rattle.nor_plan.specs.Bytes.{AllAgree, DifferAt, IsFirstDifference, IsLastDifference}
 use Rattle.nor_plan.specs.Span.{page_span, spans_from, page_count}
@@ -68,16 +67,12 @@ module _ (old target : List ℕ) where
         (omega arith, (omega arith, λ same. l.differs (differ last in_last same))),
         λ k differs.
             let within : k < length old = differs.1.0 in
-            let same = same_in_part (page * 256) count k (omega arith) (omega arith) in (
-              elim (cases_lt k (page * 256 + first)) [
-                | inl before ↦ absurd (differs.1.1 (same (f.before (k - page * 256) (omega arith))))
-                | inr from ↦ from
-              ],
-              elim (cases_lt (page * 256 + last) k) [
-                | inl after ↦ absurd (differs.1.1 (same (l.after (k - page * 256) (omega arith) (omega arith))))
-                | inr upto ↦ upto
-              ],
-            ),
+            let same = same_in_part (page * 256) count k (omega arith) (omega arith) in
+            let from : ¬ (k < page * 256 + first) = λ before.
+            differs.1.1 (same (f.before (k - page * 256) (omega arith))) in
+            let upto : ¬ (page * 256 + last < k) = λ after.
+            differs.1.1 (same (l.after (k - page * 256) (omega arith) (omega arith))) in
+            omega arith,
       )
       (page_ends page)
 

@@ -1,5 +1,5 @@
 -- A set of sectors by the bits of its 64 words.
-use Rattle.std.proofs.Common.{ℕ, zero, suc, ◌≡◌, ◌≢◌, ◌<◌, ◌≤◌, ◌+◌, ◌-◌, ◌*◌, ◌/◌, ◌%◌, ◌^◌, ◌==◌, Bool, false, nat_eq, ◌||◌, List, length, get_or, set, replicate, bit_or, get_or-set_other, refl, sym, ap, ◌∙◌, inl, inr, arith, w64}
+use Rattle.std.proofs.Common.{ℕ, zero, suc, ◌≡◌, ◌<◌, ◌≤◌, ◌+◌, ◌-◌, ◌*◌, ◌/◌, ◌%◌, ◌^◌, ◌==◌, Bool, false, nat_eq, ◌||◌, List, length, get_or, set, replicate, bit_or, get_or-set_other, refl, sym, ap, ◌∙◌, inl, inr, arith, w64}
 use Rattle.std.specs.Int.{bit_at, trailing_zeros}
 use Rattle.std.proofs.lemmas.Bool.{cases_lt, cases_eq, eq-eqb, ne_eqb}
 use Rattle.std.proofs.lemmas.List.{get_or-set_same, get_or_past}
@@ -83,12 +83,9 @@ module _ (set : SectorSet) (from first index k bits : ℕ) (place : first ≡ in
       let word = get_or set.words index 0 in
       let t = trailing_zeros w64 bits in
       let lowest = bit_at-trailing_zeros w64 bits some (omega (arith, div-le_self word (2 ^ k))) in
-      let inside : k + trailing_zeros w64 bits < 64 = elim (cases_lt (k + t) 64) [
-        | inl inside ↦ inside
-        | inr past ↦
-            let none = bit_at_above word 64 (k + t) fits past in
-            absurd (omega (arith, none, bit_at-shifted word k t, ap (λ b. bit_at b t) shifted, lowest.1))
-      ] in
+      let inside : ¬ (64 ≤ k + trailing_zeros w64 bits) = λ past.
+      let none = bit_at_above word 64 (k + t) fits past in
+      omega (arith, none, bit_at-shifted word k t, ap (λ b. bit_at b t) shifted, lowest.1) in
       let here : first + t - first ≡ t = omega arith in
       record {
         after = omega arith;
