@@ -1,8 +1,6 @@
 -- What a scan has put into a journal so far, whatever the bus.
 use Rattle.std.proofs.Common.{◌≡◌, ◌≤◌, ◌<◌, ◌+◌, ◌/◌, ◌∙◌, ℕ, Bool, false, List, Option, refl, ap, sym, subst, arith}
-use Rattle.std.proofs.Common.{inl, inr}
-use Rattle.std.proofs.lemmas.Bool.{eq-eqb, ne_eqb}
-use Rattle.std.proofs.lemmas.Bool.Decides.{eqb_tells}
+use Rattle.std.proofs.lemmas.Bool.Decides.{nat_tests}
 use Rattle.std.specs.Prelude.{Result, Ok, Err, IfErr, IsErrAnd}
 use Rattle.std.specs.Option.{is_some}
 use Rattle.nor_journal.specs.declared.writer.Writer.{Writer}
@@ -71,71 +69,58 @@ with_none {id = id} {unique = unique} {status = status} {size = size} written = 
   saved = λ s. ap is_some (saved_in-empty_content id unique status size s);
 }
 
--- the same sectors, and a bound that is higher
-pub journalled_later : {V : Type 0} {state : V → VaultState} {old new : Writer V} {size n m : ℕ} {bus : BusState}
-    {saved other : ℕ → Bool} → n ≤ m → ((s : ℕ) → other s ≡ saved s) → HasJournalled state old new size bus saved n
-    → HasJournalled state old new size bus other m
-journalled_later {bus = bus} {saved = saved} {other = other} above same was = record {
-  same_vault = was.same_vault;
-  accepted = was.accepted;
-  added = λ first written sized next.
-      let before = was.added first written sized next in
-      record {
-        content = before.content;
-        written = before.written;
-        same = before.same;
-        next = let next = before.next in omega arith;
-        set = λ empty s. before.set empty s ∙ sym (same s);
-        saves = λ known saves.
-            Saves-same bus.chip.bytes saved other before.content same (before.saves known saves);
-      };
-}
-
--- one record more
-pub journalled_more : {V : Type 0} {state : V → VaultState} {old mid new : Writer V} {size n : ℕ} {bus : BusState}
-    {saved more : ℕ → Bool} {bytes : List ℕ} → n < size / 4096 → HasJournalled state old mid size bus saved n
-    → (vault_of new).ghost_name ≡ (vault_of mid).ghost_name → Accepted (vault_seen state mid) (vault_seen state new)
-    → ((content : Content) → HasWritten state mid content → MayFollow content n
-    → HasWritten state new (with_sector content n bytes))
-    → HasOneMore saved n more → (IsOpen size bus → IsWholeSector bus.chip.bytes n bytes)
-    → HasJournalled state old new size bus more (n + 1)
-journalled_more {n = n} {bus = bus} {saved = saved} {more = more} {bytes = bytes} below was same took writes one whole =
-    record {
-      same_vault = same ∙ was.same_vault;
-      accepted = record {
-        telling = took.telling ∙ was.accepted.telling;
-        sealed = took.sealed ∙ was.accepted.sealed;
-        failures = took.failures ∙ was.accepted.failures;
-      };
-      added = λ first written sized next.
-          let before = was.added first written sized next in
-          let head = before.same in
-          let follows : MayFollow before.content n = record {
-            rises = before.next;
-            place = subst (λ (k : ℕ). n < k / 4096) (sym sized ∙ size_of first before.content head) below;
-          } in
-          record {
-            content = with_sector before.content n bytes;
-            written = writes before.content before.written follows;
-            same = head;
-            next = omega (arith, next_number-with_sector before.content n bytes);
-            set = λ empty s.
-                ap is_some (saved_in-with_sector before.content n bytes s before.written.is follows)
-                ∙ elim (eqb_tells n s) [
-                  | inl hit ↦ rw (eq-eqb n s hit.1) (sym (ap more (sym hit.1) ∙ one.here))
-                  | inr miss ↦
-                      rw (ne_eqb n s miss.1) (before.set empty s ∙ sym (one.others s (λ e. miss.1 (sym e))))
-                ];
-            saves = λ known saves.
-                Saves-more bus.chip.bytes saved more before.content n bytes (before.saves known saves) follows
-                (whole known) one;
-          };
-    }
-
--- ---- what that makes of a journal that was begun
+-- ---- what follows from what was put
 
 module _ {V : Type 0} {state : V → VaultState} {old new : Writer V} {size n : ℕ} {bus : BusState} {saved : ℕ → Bool}
     (was : HasJournalled state old new size bus saved n) where
+  -- the same sectors, and a bound that is higher
+  pub journalled_later : {m : ℕ} {other : ℕ → Bool} → n ≤ m → ((s : ℕ) → other s ≡ saved s)
+      → HasJournalled state old new size bus other m
+  journalled_later {other = other} above same = record {
+    same_vault = was.same_vault;
+    accepted = was.accepted;
+    added = λ first written sized next.
+        let before = was.added first written sized next in
+        record {
+          content = before.content;
+          written = before.written;
+          same = before.same;
+          next = let next = before.next in omega arith;
+          set = λ empty s. before.set empty s ∙ sym (same s);
+          saves = λ known saves.
+              Saves-same bus.chip.bytes saved other before.content same (before.saves known saves);
+        };
+  }
+
+  -- one record more
+  pub journalled_more : {last : Writer V} {more : ℕ → Bool} {bytes : List ℕ} → n < size / 4096
+      → (vault_of last).ghost_name ≡ (vault_of new).ghost_name
+      → Accepted (vault_seen state new) (vault_seen state last)
+      → ((content : Content) → HasWritten state new content → MayFollow content n
+      → HasWritten state last (with_sector content n bytes))
+      → HasOneMore saved n more → (IsOpen size bus → IsWholeSector bus.chip.bytes n bytes)
+      → HasJournalled state old last size bus more (n + 1)
+  journalled_more {more = more} {bytes = bytes} below same took writes one whole = record {
+    same_vault = same ∙ was.same_vault;
+    accepted = record { telling = cc; sealed = cc; failures = cc };
+    added = λ first written sized next.
+        let before = was.added first written sized next in
+        let follows : MayFollow before.content n =
+        record { rises = before.next; place = omega (arith, size_of first before.content before.same) } in
+        record {
+          content = with_sector before.content n bytes;
+          written = writes before.content before.written follows;
+          same = before.same;
+          next = omega (arith, next_number-with_sector before.content n bytes);
+          set = λ empty s. rw (saved_in-with_sector before.content n bytes s before.written.is follows)
+              (grind (arith, nat_tests, one.here, one.others s, before.set empty s));
+          saves = λ known saves.
+              Saves-more bus.chip.bytes saved more before.content n bytes (before.saves known saves) follows
+              (whole known) one;
+        };
+  }
+
+  -- what that makes of a journal that was begun
   pub begun_on : HasBegun state old size 0 → HasBegun state new size n
   begun_on begun =
       let added = was.added begun.content begun.written begun.same begun.next in

@@ -1,28 +1,36 @@
--- What a vault has after a refusal: a beginning of the one journal.
-use Rattle.std.proofs.Common.{◌≡◌, ◌<◌, ◌≤◌, ◌+◌, ◌/◌, ◌&&◌, ℕ, Bool, true, false, List, [], length, refl, sym, ap}
-use Rattle.std.proofs.Common.{arith}
-use Rattle.std.specs.Prelude.{nat_lt}
+-- What a vault has of a chip's journal: the head, the records, and after a refusal a beginning of it.
+use Rattle.std.proofs.Common.{◌≡◌, ◌∙◌, ℕ, true, ◌*◌, ◌/◌, ◌%◌, ◌<◌, List, [], ◌∷◌, refl, ap, sym, arith, ◌≤◌, ◌+◌}
+use Rattle.std.proofs.Common.{◌&&◌, Bool, length}
+use mathlib.Core.Path.{fun_ext}
+use Rattle.std.specs.Prelude.{Some, nat_lt, ◌≢◌}
+use Rattle.nor_chip.specs.declared.config.Config.{Config}
+use Rattle.nor_chip.specs.Chip.{Chip, IsChip}
+use Rattle.nor_chip.specs.Bus.{BusState}
+use Rattle.nor_driver.specs.Looks.{IsOpen}
+use Rattle.nor_journal.specs.Text.{Content, empty_content, IsContent, front, with_sector}
+use Rattle.nor_journal.specs.declared.writer.Writer.{Writer}
+use Rattle.nor_journal.specs.Vault.{VaultState, HoldsBeginning}
+use Rattle.nor_journal.specs.Writer.{HasWritten, HasPutSectors, vault_seen}
+use Rattle.nor_journal.proofs.Saves.{HasKept-none, Saves-none, Saves-same, Saves-more, may_follow}
+use Rattle.nor_plan.specs.SectorSet.{has, none}
+use Rattle.nor_save.specs.declared.opening.Opening.{Opening}
+use Rattle.nor_save.specs.declared.scanning.Scanned.{Scanned}
+use Rattle.nor_call.specs.declared.request.Request.{Request}
+use Rattle.nor_call.specs.declared.refusal.Refusal.{Refusal}
+use Rattle.nor_call.specs.declared.refusal.Refusal.TheVariants.{StatusLocked, Protected, Vault}
+use Rattle.nor_save.specs.Touched.{is_touched_by, is_raised_by}
+use Rattle.nor_save.specs.Scanning.{Scans, AreRight, HoldsCut, HasKeptBelow, wanted_at}
+use Rattle.nor_save.specs.Saving.{IsOpening, Shows, ScanJudges, head_of}
+use Rattle.nor_save.specs.Judging.{IsScanRefusal}
+use Rattle.nor_save.specs.SavedScan.{SaveTells, SaveBegins, SaveCuts}
 use Rattle.std.specs.Io.{StartsWith}
 use Rattle.std.proofs.lemmas.List.{take_all, append-nil}
 use Rattle.std.proofs.lemmas.Bool.Decides.{nat_tests}
-use Rattle.nor_chip.specs.Chip.{Chip}
-use Rattle.nor_journal.specs.declared.writer.Writer.{Writer}
-use Rattle.nor_journal.specs.Text.{Content, IsContent, front, with_sector}
-use Rattle.nor_journal.specs.Vault.{VaultState, HoldsBeginning}
-use Rattle.nor_journal.specs.Saved.{IsWholeSector, BeginsText}
-use Rattle.nor_journal.specs.Writer.{vault_seen, HasWritten, HasPutSectors}
-use Rattle.nor_journal.proofs.Saved.{saved_in-empty_content, next_number-empty_content, next_number-with_sector}
-use Rattle.nor_journal.proofs.Saves.{Saves-same, Saves-more, may_follow}
+use Rattle.nor_journal.specs.Saved.{IsWholeSector}
+use Rattle.nor_journal.proofs.Saved.{next_number-empty_content, next_number-with_sector}
 use Rattle.nor_journal.proofs.WholeJournals.{one_more_below, begins_whole, front_begins}
 use Rattle.nor_plan.specs.Content.{is_touched}
-use Rattle.nor_plan.specs.SectorSet.{has}
 use Rattle.nor_call.specs.Request.{wanted}
-use Rattle.nor_call.specs.declared.request.Request.{Request}
-use Rattle.nor_save.specs.declared.scanning.Scanned.{Scanned}
-use Rattle.nor_save.specs.Scanning.{AreRight, HoldsCut, HasKeptBelow}
-use Rattle.nor_save.specs.SavedScan.{BeginsJournal}
-use Rattle.nor_save.specs.Saving.{head_of}
-use Rattle.nor_save.specs.Touched.{is_touched_by}
 
 -- ---- of a scan
 
@@ -72,62 +80,159 @@ cut_in_record {state = state} {writer = writer} {head = head} {chip = chip} {n =
     (may_follow state writer head chip _ n n kept (omega arith) inside) sector (one_more_below touched n is))
     (omega (arith, next_number-with_sector kept.content n bytes)) (omega arith) (holds tells))
 
--- ---- of a chip
+-- ---- of a chip, by what the opening and the scan tell
+
+-- the kept bits of the two status bytes that were read
+abbrev pub kept_read : Opening → List ℕ
+kept_read opening = opening.found.status1 / 4 * 4 ∷ opening.status2 % 128 ∷ []
+
+-- the head with these status bytes
+abbrev pub head_read : Opening → (status : List ℕ) → Content
+head_read opening status = empty_content opening.found.id (Some opening.unique) status opening.found.size
+
+module _ {chip : Chip} {opening : Opening} {old : BusState} (is : IsOpening chip opening) (shows : Shows chip old) where
+  -- the bytes of the chip that the bus has
+  pub same_bytes : old.chip.bytes ≡ chip.bytes
+  same_bytes = fun_ext shows.same.bytes
+
+  -- the bus's chip has the size that the opening told
+  pub is_open : IsOpen opening.found.size old
+  is_open = record {
+    honest = shows.honest;
+    idle = shows.idle;
+    same = ap (λ (config : Config). config.size) shows.same.config ∙ sym is.config.size;
+  }
+
+  -- the marks are those of the request on this chip
+  module _ {request : Request} {image image' : List ℕ} {new : BusState} {scanned : Scanned}
+      (scans : Scans request opening.found.size image image' old new scanned) where
+    pub touched_right : (s : ℕ) → has scanned.touched s ≡ is_touched_by request image chip s
+    touched_right s = rw (same_bytes, is.config.size) at ((scans.right is_open).touched s)
+
+    pub raised_right : (s : ℕ) → has scanned.raised s ≡ is_raised_by request image chip s
+    raised_right s = rw (same_bytes, is.config.size) at ((scans.right is_open).raised s)
+
+  -- the head that is written is the chip's
+  pub head_same : {status : List ℕ} → old.chip.kept2 < 128 → status ≡ kept_read opening
+      → head_read opening status ≡ head_of chip
+  head_same {status = status} small read =
+      let id = is.config.id in let unique = is.unique in let size = is.config.size in
+      let same = shows.same.kept2 in let two = is.two in let one = is.one in
+      let low : opening.found.status1 / 4 * 4 ≡ 4 * chip.kept1 = omega arith in
+      let high : opening.status2 % 128 ≡ chip.kept2 = omega arith in
+      cc
+
+-- Of each chip with this opening that the bus has, the head went in.
+abbrev pub PutsHead : {V : Type 0} → (V → VaultState) → Writer V → Opening → BusState → Type 0
+PutsHead state writer opening old = (chip : Chip) → IsOpening chip opening → Shows chip old
+    → HasPutSectors state writer (head_of chip) old.chip.bytes none 0
+
+pub head_put : {V : Type 0} {state : V → VaultState} {writer : Writer V} {status : List ℕ} (opening : Opening)
+    (old : BusState) → (old.honest ≡ true → IsChip old.chip) → status ≡ kept_read opening
+    → HasWritten state writer (head_read opening status) → PutsHead state writer opening old
+head_put {state = state} {writer = writer} opening old reaches read written = λ chip is shows.
+    rw (head_same is shows (reaches shows.honest).kept2 read) at
+    (HasKept-none state writer opening.found.id (Some opening.unique) _ opening.found.size old.chip.bytes none 0
+    written (λ s. refl))
+
+-- What holds behind every head of a chip of this size that went in.
+abbrev pub FromHead : {V : Type 0} → (V → VaultState) → Writer V → (size : ℕ) → BusState → (Content → Type 0) → Type 0
+FromHead state writer size old promise = IsOpen size old → (head : Content) → head.size ≡ size
+    → HasPutSectors state writer head old.chip.bytes none 0 → promise head
+
+-- It holds behind the chip's.
+pub from_head : {V : Type 0} {state : V → VaultState} {writer : Writer V} {opening : Opening} {old : BusState}
+    {promise : Content → Type 0} → PutsHead state writer opening old
+    → FromHead state writer opening.found.size old promise → (chip : Chip) → IsOpening chip opening → Shows chip old
+    → promise (head_of chip)
+from_head puts told chip is shows = told (is_open is shows) (head_of chip) (sym is.config.size) (puts chip is shows)
+
+-- a judgement of the scan tells of the touched sectors
+pub judged_tells : {request : Request} {opening : Opening} {image image' : List ℕ} {old new : BusState}
+    {scanned : Scanned} (code : ℕ) (refusal : Refusal) → Scans request opening.found.size image image' old new scanned
+    → IsScanRefusal refusal
+    → ((chip : Chip) → IsOpening chip opening → ScanJudges request code (has scanned.touched) chip refusal)
+    → SaveTells request opening code image old new refusal
+judged_tells code StatusLocked scans is judges =
+    λ chip opened shows. rw (fun_ext (touched_right opened shows scans)) at (judges chip opened)
+judged_tells code (Protected address) scans is judges =
+    λ chip opened shows. rw (fun_ext (touched_right opened shows scans)) at (judges chip opened)
+judged_tells code _ scans is judges = absurd is
+
+-- ---- what is cut of its journal
 
 -- within the head
-pub cut_in_head : (vault : VaultState) (chip : Chip) (touched : ℕ → Bool) → IsContent (head_of chip)
-    → HoldsBeginning vault (front (head_of chip)) → vault.telling ≡ true
-    → BeginsText (head_of chip) chip.bytes (λ s. nat_lt s (chip.config.size / 4096) && touched s) vault.bytes
-cut_in_head vault chip touched is holds tells =
+pub cut_in_head : (request : Request) (image : List ℕ) (seen vault : VaultState) {opening : Opening} {status : List ℕ}
+    {old : BusState} → (old.honest ≡ true → IsChip old.chip) → status ≡ kept_read opening
+    → IsContent (head_read opening status) → HoldsBeginning seen (front (head_read opening status)) → seen ≡ vault
+    → SaveCuts request opening image old vault
+cut_in_head request image seen vault reaches read content holds same =
+    rw (← same) (λ tells chip is shows.
     let head = head_of chip in
-    let first : (s : ℕ) → nat_lt s 0 ≡ false = λ s. grind (arith, nat_tests) in
-    begins_whole head chip.bytes touched head 0 vault.bytes
-    refl
-    (record {
-      is = is;
-      sectors = λ s below. absurd (let none = ap (λ (b : Bool). b && touched s) (first s) in cc);
-      others = λ s out. saved_in-empty_content head.id head.unique head.status head.size s;
-    }) (omega (arith, next_number-empty_content head.id head.unique head.status head.size)) (omega arith) (holds tells)
+    let e = head_same is shows (reaches shows.honest).kept2 read in
+    begins_whole head chip.bytes (is_touched chip.bytes (wanted request image chip)) head 0 seen.bytes refl
+    (Saves-none chip.bytes _ head (rw e at content) refl (λ s. grind (arith, nat_tests)))
+    (omega (arith, next_number-empty_content head.id head.unique head.status head.size)) (omega arith)
+    (rw e at (holds tells)))
 
-module _ {V : Type 0} {state : V → VaultState} {writer : Writer V} {n : ℕ} (request : Request) (image : List ℕ)
-    (chip : Chip) (kept : HasPutSectors state writer (head_of chip) chip.bytes (is_touched_by request image chip) n)
-    (tells : (vault_seen state writer).telling ≡ true) where
-  -- where the records end
-  pub cut_at_end
-      : BeginsText (head_of chip) chip.bytes (is_touched_by request image chip) (vault_seen state writer).bytes
-  cut_at_end = record {
-    content = kept.content;
-    same = kept.same;
-    saves = kept.saves;
-    begins = front_begins kept.content (front kept.content) [] (vault_seen state writer).bytes
-        (sym (append-nil (front kept.content))) (put_begins kept.written tells);
-  }
+module _ {V : Type 0} {state : V → VaultState} {first : Writer V} {opening : Opening} {old : BusState}
+    (request : Request) (image : List ℕ) (vault : VaultState) (puts : PutsHead state first opening old) where
+  -- within the scan
+  pub cut_in_scan : (seen : VaultState) → FromHead state first opening.found.size old (λ head.
+      HoldsCut seen head old.chip.bytes (is_touched old.chip.bytes (wanted_at request image opening.found.size
+      old.chip.bytes)) (opening.found.size / 4096)) → seen ≡ vault → SaveCuts request opening image old vault
+  cut_in_scan seen told same = rw (← same) (λ tells chip is shows.
+      rw (same_bytes is shows, is.config.size) at (from_head puts told chip is shows tells))
 
-  -- they are those of the touched sectors below the chip's end
-  pub begins_all
-      : BeginsJournal (head_of chip) chip.bytes (is_touched_by request image chip) (vault_seen state writer).bytes
-  begins_all = record {
-    content = kept.content;
-    bound = chip.config.size / 4096;
-    same = kept.same;
-    saves = Saves-same chip.bytes (is_touched_by request image chip) _ kept.content
-        (λ s. grind (arith, nat_tests)) kept.saves;
-    is = kept.written.put.told tells;
-  }
+  -- where the scan stops by itself
+  pub begins_scan : {last : Writer V} {refusal : Refusal} → FromHead state first opening.found.size old (λ head.
+      refusal ≢ Vault → HasKeptBelow state last head old.chip.bytes (is_touched old.chip.bytes (wanted_at request image
+      opening.found.size old.chip.bytes)) (opening.found.size / 4096)) → vault_seen state last ≡ vault
+      → SaveBegins request opening image old vault refusal
+  begins_scan told same = rw (← same) (λ other tells chip is shows.
+      let below = rw (same_bytes is shows, is.config.size) at (from_head puts told chip is shows other) in
+      let kept = below.kept in let inside = below.inside in
+      record {
+        content = kept.content;
+        bound = below.bound;
+        same = kept.same;
+        saves = Saves-same chip.bytes _ (λ s. nat_lt s below.bound && is_touched_by request image chip s) kept.content
+            (λ s. grind (arith, nat_tests)) kept.saves;
+        is = kept.written.put.told tells;
+      })
 
--- what was kept below a bound is a beginning too
-pub begins_of : {V : Type 0} {state : V → VaultState} {writer : Writer V} (request : Request) (image : List ℕ)
-    (chip : Chip)
-    → HasKeptBelow state writer (head_of chip) chip.bytes (is_touched chip.bytes (wanted request image chip))
-    (chip.config.size / 4096) → (vault_seen state writer).telling ≡ true
-    → BeginsJournal (head_of chip) chip.bytes (is_touched_by request image chip) (vault_seen state writer).bytes
-begins_of request image chip below tells =
-    let kept = below.kept in let inside = below.inside in
-    record {
-      content = kept.content;
-      bound = below.bound;
-      same = kept.same;
-      saves = Saves-same chip.bytes _ (λ s. nat_lt s below.bound && is_touched_by request image chip s) kept.content
-          (λ s. grind (arith, nat_tests)) kept.saves;
-      is = kept.written.put.told tells;
-    }
+-- once all was scanned
+module _ {V : Type 0} {state : V → VaultState} {first last : Writer V} {request : Request} {opening : Opening}
+    {image image' : List ℕ} {old new : BusState} {scanned : Scanned} (puts : PutsHead state first opening old)
+    (scans : Scans request opening.found.size image image' old new scanned)
+    (keeps : FromHead state first opening.found.size old (λ head. HasPutSectors state last head old.chip.bytes
+    (has scanned.touched) (opening.found.size / 4096))) where
+  -- the head and the records are those of the chip
+  pub all_put : (chip : Chip) → IsOpening chip opening → Shows chip old → HasPutSectors state last (head_of chip)
+      chip.bytes (is_touched_by request image chip) (opening.found.size / 4096)
+  all_put chip is shows = rw (same_bytes is shows, fun_ext (touched_right is shows scans)) at
+      (from_head puts keeps chip is shows)
+
+  pub cut_at_end : (vault : VaultState) → vault_seen state last ≡ vault → SaveCuts request opening image old vault
+  cut_at_end vault same = rw (← same) (λ tells chip is shows.
+      let kept = all_put chip is shows in
+      record {
+        content = kept.content;
+        same = kept.same;
+        saves = kept.saves;
+        begins = front_begins kept.content (front kept.content) [] (vault_seen state last).bytes
+            (sym (append-nil (front kept.content))) (put_begins kept.written tells);
+      })
+
+  pub begins_all : (vault : VaultState) {refusal : Refusal} → vault_seen state last ≡ vault
+      → SaveBegins request opening image old vault refusal
+  begins_all vault same = rw (← same) (λ other tells chip is shows.
+      let kept = all_put chip is shows in
+      record {
+        content = kept.content;
+        bound = chip.config.size / 4096;
+        same = kept.same;
+        saves = Saves-same chip.bytes (is_touched_by request image chip) _ kept.content
+            (λ s. grind (arith, nat_tests)) kept.saves;
+        is = kept.written.put.told tells;
+      })

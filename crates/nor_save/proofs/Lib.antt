@@ -3,4 +3,3 @@ pub mod Scans
 pub mod Begun
 pub mod Cuts
 pub mod Held
-pub mod KeptHeads

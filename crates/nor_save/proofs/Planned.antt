@@ -1,5 +1,6 @@
 -- What is wanted at an address, and what a sector's plan says.
-use Rattle.std.proofs.Common.{◌≡◌, ◌<◌, ◌≤◌, ◌+◌, ◌*◌, ◌∙◌, ℕ, Bool, true, false, ◌&&◌, List, length, slice_index, Option, ap, sym, subst, arith, refl, bit_and}
+use Rattle.std.proofs.Common.{◌≡◌, ◌<◌, ◌≤◌, ◌+◌, ◌*◌, ◌∙◌, ℕ, Bool, true, false, ◌&&◌, List, length, slice_index}
+use Rattle.std.proofs.Common.{Option, ap, sym, arith, refl, bit_and}
 use Rattle.std.specs.Int.Bits.{and_self}
 use Rattle.std.specs.Prelude.{if◌then◌else◌, ◌==◌, nat_lt}
 use Rattle.std.proofs.lemmas.Bool.{ne_eqb, eq-eqb, lt-ltb, not_from_false, not_from_true}
@@ -18,7 +19,7 @@ use Rattle.nor_call.specs.Request.{is_data, target, is_requested}
 use Rattle.nor_save.specs.Scanning.{wanted_at, ScansSector}
 use Rattle.nor_driver.specs.Looks.{IsOpen}
 use Rattle.nor_count.specs.Below.{any_below}
-use Rattle.nor_count.proofs.Counting.{any_below-all, any_below-same}
+use Rattle.nor_count.proofs.Counting.{any_below-all}
 use Rattle.nor_count.proofs.Verdicts.{any_below-decided}
 
 -- a request about bytes may change what it includes of the chip
@@ -31,10 +32,6 @@ may_change-included request size a about_bytes below =
 pub wanted-kept : (request : Request) (image : List ℕ) (size : ℕ) (content : ℕ → ℕ) (a : ℕ) → is_requested request size a ≡ false → wanted_at request image size content a ≡ content a
 wanted-kept request image size content a fixed = ap (λ (b : Bool). if b then target request.what image a else content a) fixed
 
--- the same content has the same wanted bytes
-pub wanted-same : (request : Request) (image : List ℕ) (size : ℕ) (old new : ℕ → ℕ) (a : ℕ) → new a ≡ old a → wanted_at request image size new a ≡ wanted_at request image size old a
-wanted-same request image size old new a same = ap (λ (b : ℕ). if is_requested request size a then target request.what image a else b) same
-
 other : (a b : ℕ) → (a ≡ b → ⊥) → is_other a b ≡ true
 other a b differ = not_from_false (a == b) (ne_eqb a b differ)
 
@@ -42,54 +39,31 @@ as_wanted : (a b : ℕ) → a ≡ b → is_other a b ≡ false
 as_wanted a b same = not_from_true (a == b) (eq-eqb a b same)
 
 -- the test of each place in a plan
+verdicts : (here aim : ℕ → ℕ) (plan : SectorPlan) → IsPlan here aim 4096 plan
+    → (plan.touched ≡ any_below 4096 (λ i. is_other (here i) (aim i)))
+    × (plan.raised ≡ any_below 4096 (λ i. must_rise (here i) (aim i)))
+verdicts here aim plan is = (
+  any_below-decided 4096 plan.touched (λ i. is_other (here i) (aim i)) (λ i. here i ≡ aim i → ⊥) (λ i. here i ≡ aim i)
+      (λ i. other (here i) (aim i)) (λ i. as_wanted (here i) (aim i)) is.touched,
+  any_below-decided 4096 plan.raised (λ i. must_rise (here i) (aim i)) (λ i. bit_and (aim i) (here i) ≡ aim i → ⊥)
+      (λ i. bit_and (aim i) (here i) ≡ aim i) (λ i. other (bit_and (aim i) (here i)) (aim i))
+      (λ i. as_wanted (bit_and (aim i) (here i)) (aim i)) is.raised,
+)
+
 pub planned : (content aim : ℕ → ℕ) (sector : ℕ) (plan : SectorPlan) → IsPlan (λ i. content (4096 * sector + i)) (λ i. aim (4096 * sector + i)) 4096 plan
     → (plan.touched ≡ is_touched content aim sector) × (plan.raised ≡ is_raised content aim sector)
 unfolding is_touched is_raised
-planned content aim sector plan is = (
-  any_below-decided 4096 plan.touched (λ i. is_other (content (4096 * sector + i)) (aim (4096 * sector + i)))
-      (λ i. content (4096 * sector + i) ≡ aim (4096 * sector + i) → ⊥) (λ i. content (4096 * sector + i) ≡ aim (4096 * sector + i))
-      (λ i differ. other (content (4096 * sector + i)) (aim (4096 * sector + i)) differ)
-      (λ i same. as_wanted (content (4096 * sector + i)) (aim (4096 * sector + i)) same) is.touched,
-  any_below-decided 4096 plan.raised (λ i. must_rise (content (4096 * sector + i)) (aim (4096 * sector + i)))
-      (λ i. bit_and (aim (4096 * sector + i)) (content (4096 * sector + i)) ≡ aim (4096 * sector + i) → ⊥)
-      (λ i. bit_and (aim (4096 * sector + i)) (content (4096 * sector + i)) ≡ aim (4096 * sector + i))
-      (λ i rises. other (bit_and (aim (4096 * sector + i)) (content (4096 * sector + i))) (aim (4096 * sector + i)) rises)
-      (λ i stays. as_wanted (bit_and (aim (4096 * sector + i)) (content (4096 * sector + i))) (aim (4096 * sector + i)) stays) is.raised,
-)
+planned content aim sector plan = verdicts (λ i. content (4096 * sector + i)) (λ i. aim (4096 * sector + i)) plan
 
 -- a sector in which all is as wanted has nothing to do
 pub untouched : (content aim : ℕ → ℕ) (sector : ℕ) → ((i : ℕ) → i < 4096 → aim (4096 * sector + i) ≡ content (4096 * sector + i)) → is_touched content aim sector ≡ false
 unfolding is_touched
-untouched content aim sector same =
-    any_below-all 4096 (λ i. is_other (content (4096 * sector + i)) (aim (4096 * sector + i)))
-    (λ i below. as_wanted (content (4096 * sector + i)) (aim (4096 * sector + i)) (sym (same i below)))
+untouched content aim sector same = any_below-all 4096 _ (λ i below. as_wanted _ _ (sym (same i below)))
 
 pub unraised : (content aim : ℕ → ℕ) (sector : ℕ) → ((i : ℕ) → i < 4096 → aim (4096 * sector + i) ≡ content (4096 * sector + i)) → is_raised content aim sector ≡ false
 unfolding is_raised
-unraised content aim sector same =
-    any_below-all 4096 (λ i. must_rise (content (4096 * sector + i)) (aim (4096 * sector + i)))
-    (λ i below. as_wanted (bit_and (aim (4096 * sector + i)) (content (4096 * sector + i))) (aim (4096 * sector + i))
-    (ap (bit_and (aim (4096 * sector + i))) (sym (same i below)) ∙ and_self (aim (4096 * sector + i))))
-
--- the content that a plan is made for may be read later, as long as it is the same
-any_later : (test : ℕ → ℕ → Bool) (request : Request) (image : List ℕ) (size : ℕ) (old new : ℕ → ℕ) (sector : ℕ) → ((a : ℕ) → new a ≡ old a)
-    → any_below 4096 (λ i. test (new (4096 * sector + i)) (wanted_at request image size new (4096 * sector + i)))
-    ≡ any_below 4096 (λ i. test (old (4096 * sector + i)) (wanted_at request image size old (4096 * sector + i)))
-any_later test request image size old new sector same =
-    any_below-same 4096 (λ i. test (new (4096 * sector + i)) (wanted_at request image size new (4096 * sector + i)))
-    (λ i. test (old (4096 * sector + i)) (wanted_at request image size old (4096 * sector + i)))
-    (λ i below. ap (λ (b : ℕ). test b (wanted_at request image size new (4096 * sector + i))) (same (4096 * sector + i))
-    ∙ ap (λ (b : ℕ). test (old (4096 * sector + i)) b) (wanted-same request image size old new (4096 * sector + i) (same (4096 * sector + i))))
-
-pub touched-later : (request : Request) (image : List ℕ) (size : ℕ) (old new : ℕ → ℕ) (sector : ℕ) → ((a : ℕ) → new a ≡ old a)
-    → is_touched new (wanted_at request image size new) sector ≡ is_touched old (wanted_at request image size old) sector
-unfolding is_touched
-touched-later = any_later is_other
-
-pub raised-later : (request : Request) (image : List ℕ) (size : ℕ) (old new : ℕ → ℕ) (sector : ℕ) → ((a : ℕ) → new a ≡ old a)
-    → is_raised new (wanted_at request image size new) sector ≡ is_raised old (wanted_at request image size old) sector
-unfolding is_raised
-raised-later = any_later must_rise
+unraised content aim sector same = any_below-all 4096 _
+    (λ i below. as_wanted _ _ (ap (bit_and (aim (4096 * sector + i))) (sym (same i below)) ∙ and_self _))
 
 -- the image's byte, or FFh, is the target
 pub target-write : (what : What) (image : List ℕ) (a : ℕ) → is_data what ≡ true → (what ≡ Erase → ⊥) → slice_index image a ≡ target what image a
@@ -109,13 +83,9 @@ scans_sector request size sector included part filled part' bytes old new plan a
     let shown = λ (is_open : IsOpen size old). reads.told is_open.honest is_open.idle (let s = is_open.same in omega arith) in
     let merged : IsOpen size old → (image : List ℕ) → ((i : ℕ) → i < 4096 → slice_index part i ≡ slice_index image (4096 * sector + i))
     → (i : ℕ) → i < 4096 → slice_index part' i ≡ wanted_at request image size old.chip.bytes (4096 * sector + i) =
-    λ is_open image same i below.
-    let a = 4096 * sector + i in
-    fills i below
-    ∙ ap (λ (o : Option (List Span)). if includes o a then slice_index filled i else slice_index bytes i) is_included
-    ∙ ap (λ (b : ℕ). if includes request.included a then b else slice_index bytes i) (aims image a i below (same i below))
-    ∙ ap (λ (b : ℕ). if includes request.included a then target request.what image a else b) ((shown is_open).byte i below)
-    ∙ ap (λ (b : Bool). if b then target request.what image a else old.chip.bytes a) (sym (may_change-included request size a about_bytes (omega arith))) in
+    λ is_open image same i below. fills i below
+    ∙ rw (is_included, aims image (4096 * sector + i) i below (same i below), (shown is_open).byte i below,
+    may_change-included request size (4096 * sector + i) about_bytes (omega arith)) refl in
     record {
       needed = needed;
       heard = heard;
@@ -123,8 +93,7 @@ scans_sector request size sector included part filled part' bytes old new plan a
       shown = shown;
       merged = merged;
       planned = λ is_open image same.
-          planned old.chip.bytes (wanted_at request image size old.chip.bytes) sector plan
-          (subst (λ (n : ℕ). IsPlan (λ i. old.chip.bytes (4096 * sector + i)) (λ i. wanted_at request image size old.chip.bytes (4096 * sector + i)) n plan) long
-          (plans (λ i. old.chip.bytes (4096 * sector + i)) (λ i. wanted_at request image size old.chip.bytes (4096 * sector + i))
+          planned old.chip.bytes (wanted_at request image size old.chip.bytes) sector plan (rw long at (plans
+          (λ i. old.chip.bytes (4096 * sector + i)) (λ i. wanted_at request image size old.chip.bytes (4096 * sector + i))
           (λ i below. (shown is_open).byte i (omega arith)) (λ i below. merged is_open image same i (omega arith))));
     }

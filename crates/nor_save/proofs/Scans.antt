@@ -1,6 +1,6 @@
 -- What a scan has found so far.
 use Rattle.std.proofs.Common.{◌≡◌, ◌<◌, ◌≤◌, ◌+◌, ◌-◌, ◌*◌, ◌/◌, ◌%◌, ◌&&◌, ◌||◌, ◌∙◌, ℕ, Bool, true, false, List}
-use Rattle.std.proofs.Common.{length, slice_index, refl, ap, sym, subst, arith, inl, inr}
+use Rattle.std.proofs.Common.{Option, take, drop, length, slice_index, refl, ap, sym, subst, arith, inl, inr}
 use Rattle.std.specs.Prelude.{if◌then◌else◌, ◌==◌, nat_lt}
 use Rattle.std.proofs.lemmas.Bool.{cases_eq, eq-eqb, ne_eqb, or_left, and_left, and_right, both_ways}
 use Rattle.std.proofs.lemmas.Bool.{false_from_ne_true}
@@ -23,10 +23,14 @@ use Rattle.nor_save.specs.Scanning.{wanted_at, AreMarks, AreRight, IsBlank, HasM
 use Rattle.nor_count.proofs.Counting.{count_below-zero, count_below-with, count_below-without, count_below-add}
 use Rattle.nor_count.proofs.Counting.{count_below-none, count_below-same}
 use Rattle.nor_count.proofs.Verdicts.{count_below-insert}
-use Rattle.nor_save.proofs.Planned.{may_change-included, wanted-kept, wanted-same, untouched, unraised, touched-later}
-use Rattle.nor_save.proofs.Planned.{raised-later}
+use Rattle.nor_save.proofs.Planned.{may_change-included, wanted-kept, untouched, unraised}
+use mathlib.Core.Path.{fun_ext}
 use Rattle.nor_driver.proofs.RestsInTurn.{HasLooked, has_looked-none, has_looked-more}
-use Rattle.nor_plan.proofs.Parts.{HasPart}
+use Rattle.nor_plan.proofs.Parts.{cut_out, put_back}
+use Rattle.nor_chip.specs.Size.{is_chip_size}
+use Rattle.nor_chip.proofs.Sizes.{is_chip_size-in_blocks}
+use Rattle.nor_layout.specs.declared.ranges.Span.{Span}
+use borrow.Rule.Slice.PartMut.{put_mid}
 
 -- The sectors below n were scanned, and no byte of the image from there on was changed.
 pub record HasScanned (request : Request) (size n : ℕ) (image image' : List ℕ) (old new : BusState)
@@ -42,9 +46,9 @@ pub record HasScanned (request : Request) (size n : ℕ) (image image' : List �
 -- ---- marks
 
 -- one number more was tested
-tested : (n s : ℕ) (test : ℕ → Bool) (verdict old new : Bool) → verdict ≡ test n → old ≡ (nat_lt s n && test s)
+tested : (n s : ℕ) (test : ℕ → Bool) {verdict old new : Bool} → verdict ≡ test n → old ≡ (nat_lt s n && test s)
     → new ≡ ((verdict && (s == n)) || old) → new ≡ (nat_lt s (n + 1) && test s)
-tested n s test verdict old new is was inserted = grind (arith, nat_tests)
+tested n s test {verdict} {old} {new} is was inserted = grind (arith, nat_tests)
 
 absent : (n : ℕ) (scanned : Scanned) → AreMarks n scanned → (s : ℕ) → n ≤ s → has scanned.touched s ≡ false
 absent n scanned are s above = false_from_ne_true _ (λ marked. let below = are.below s marked in absurd (omega arith))
@@ -92,6 +96,20 @@ pub record IsAt (request : Request) (size n : ℕ) (verdict : Bool) : Type 0 whe
   pub small : size ≤ 16777216
   pub included : has_in_sector (includes request.included) n ≡ verdict
 
+-- by the loop's bound and its test
+pub is_at : {request : Request} {size n sectors : ℕ} {included : Option (List Span)} {test verdict : Bool}
+    → is_chip_size size ≡ true → (0 < sectors → (is_data request.what ≡ true) × (sectors ≡ size / 4096))
+    → n < sectors → included ≡ request.included → test ≡ has_in_sector (includes included) n → test ≡ verdict
+    → IsAt request size n verdict
+is_at {size = size} sized aims within same is so =
+    let aim = aims (omega arith) in
+    record {
+      about_bytes = aim.0;
+      below = omega (arith, aim.1);
+      small = (is_chip_size-in_blocks size sized).small;
+      included = rw (← same) (sym is ∙ so);
+    }
+
 -- nothing was scanned yet
 pub nothing_scanned : (request : Request) (size : ℕ) (image : List ℕ) (state : BusState) (scanned : Scanned)
     → IsBlank scanned → HasScanned request size 0 image image state state scanned
@@ -111,35 +129,6 @@ nothing_scanned request size image state scanned blank = record {
   rest = λ a above. refl;
 }
 
--- a sector in which nothing may change was passed over
-pub skipped : {request : Request} {size n : ℕ} {image image' : List ℕ} {old new : BusState} {scanned : Scanned}
-    → IsAt request size n false → NoneInSector (includes request.included) n
-    → HasScanned request size n image image' old new scanned → HasScanned request size (n + 1) image image' old new scanned
-skipped {request = request} {size = size} {n = n} {image = image} {old = old} {scanned = scanned} at excluded was =
-    let content = old.chip.bytes in
-    let aim = wanted_at request image size content in
-    let kept : (i : ℕ) → i < 4096 → aim (4096 * n + i) ≡ content (4096 * n + i) = λ i below.
-    let within = at.below in
-    wanted-kept request image size content (4096 * n + i)
-    (may_change-included request size (4096 * n + i) at.about_bytes (omega arith) ∙ excluded i below) in
-    record {
-      marks = record {
-        below = λ s is. let below = was.marks.below s is in omega arith;
-        inside = was.marks.inside;
-        count = was.marks.count;
-      };
-      reads = was.reads ∙ sym (count_below-without n (has_in_sector (includes request.included)) at.included);
-      looked = was.looked;
-      right = λ is_open. record {
-        touched = λ s. tested n s (is_touched content aim) false (has scanned.touched s) (has scanned.touched s)
-            (sym (untouched content aim n kept)) ((was.right is_open).touched s) refl;
-        raised = λ s. tested n s (is_raised content aim) false (has scanned.raised s) (has scanned.raised s)
-            (sym (unraised content aim n kept)) ((was.right is_open).raised s) refl;
-      };
-      merged = was.merged;
-      rest = λ a above. was.rest a (omega arith);
-    }
-
 pub opened_later : (size reads : ℕ) (old mid : BusState) → IsOpen size old → HasLooked reads old mid → IsOpen size mid
 opened_later size reads old mid is_open looked =
     let was = (looked.rested is_open.honest).unchanged in let busy = was.busy in let idle = is_open.idle in
@@ -149,139 +138,158 @@ opened_later size reads old mid is_open looked =
       same = ap (λ (config : Config). config.size) was.same.config ∙ is_open.same;
     }
 
--- a sector of which a part of the image was cut out was read
-module _ {request : Request} {size n : ℕ} {image image' part part' bytes : List ℕ} {plan : SectorPlan}
-    {old mid new : BusState} {scanned : Scanned} (at : IsAt request size n true)
-    (was : HasScanned request size n image image' old mid scanned)
-    (scans : ScansSector request size n part part' bytes mid new plan)
-    (cut : (i : ℕ) → i < 4096 → slice_index part i ≡ slice_index image' (4096 * n + i)) where
-  of_image : (i : ℕ) → i < 4096 → slice_index part i ≡ slice_index image (4096 * n + i)
-  of_image i below = cut i below ∙ was.rest (4096 * n + i) (omega arith)
+-- ---- what follows from what was scanned
 
-  same_before : IsOpen size old → (a : ℕ) → mid.chip.bytes a ≡ old.chip.bytes a
-  same_before is_open = (was.looked.rested is_open.honest).unchanged.same.bytes
-
-  -- its plan is that of the chip as it was before the scan
-  pub planned_before : IsOpen size old
-      → (plan.touched ≡ is_touched old.chip.bytes (wanted_at request image size old.chip.bytes) n)
-      × (plan.raised ≡ is_raised old.chip.bytes (wanted_at request image size old.chip.bytes) n)
-  planned_before is_open =
-      let plans = scans.planned (opened_later size scanned.reads old mid is_open was.looked) image of_image in
-      let same = same_before is_open in (
-        plans.0 ∙ touched-later request image size old.chip.bytes mid.chip.bytes n same,
-        plans.1 ∙ raised-later request image size old.chip.bytes mid.chip.bytes n same,
-      )
-
-  -- so are its bytes
-  pub read_before : length bytes ≡ 4096 → IsOpen size old → IsWholeSector old.chip.bytes n bytes
-  read_before long is_open = record {
-    whole = long;
-    same = λ i below.
-        (scans.shown (opened_later size scanned.reads old mid is_open was.looked)).byte i below
-        ∙ same_before is_open (4096 * n + i);
-  }
-
-  -- a sector more was scanned
-  pub scanned_more : {image'' : List ℕ} {next : Scanned} → Looks 1 mid new → HasMarked n plan scanned next
-      → HasPart n part' image' image'' → HasScanned request size (n + 1) image image'' old new next
-  scanned_more {image'' = image''} {next = next} looks marked put =
-      let within = at.below in let small = at.small in
+module _ {request : Request} {size n : ℕ} {image image' : List ℕ} {old mid : BusState} {scanned : Scanned}
+    (was : HasScanned request size n image image' old mid scanned) where
+  -- a sector in which nothing may change was passed over
+  pub skipped : IsAt request size n false → NoneInSector (includes request.included) n
+      → HasScanned request size (n + 1) image image' old mid scanned
+  skipped at excluded =
       let content = old.chip.bytes in
       let aim = wanted_at request image size content in
+      let kept : (i : ℕ) → i < 4096 → aim (4096 * n + i) ≡ content (4096 * n + i) = λ i below.
+      let within = at.below in
+      wanted-kept request image size content (4096 * n + i)
+      (may_change-included request size (4096 * n + i) at.about_bytes (omega arith) ∙ excluded i below) in
       record {
-        marks = marks_more n plan scanned next (omega arith) scans.needed was.marks marked;
-        reads =
-            let next = count_below-with n (has_in_sector (includes request.included)) at.included in
-            omega (arith, was.reads, marked.reads);
-        looked = rw marked.reads (has_looked-more scanned.reads old mid new was.looked looks scans.read scans.heard);
-        right = λ is_open.
-            let plans = planned_before is_open in
-            record {
-              touched = λ s. tested n s (is_touched content aim) plan.touched (has scanned.touched s)
-                  (has next.touched s) plans.0 ((was.right is_open).touched s) (marked.touched s);
-              raised = λ s. tested n s (is_raised content aim) plan.raised (has scanned.raised s)
-                  (has next.raised s) plans.1 ((was.right is_open).raised s) (marked.raised s);
-            };
-        merged = λ is_open a is. elim (cases_eq (a / 4096) n) [
-          | inl here ↦
-              let place : 4096 * n + a % 4096 ≡ a = omega arith in
-              let below : a % 4096 < 4096 = omega arith in
-              subst (λ (k : ℕ). slice_index image'' k ≡ aim k) place
-              (put.inside (a % 4096) below
-              ∙ scans.merged (opened_later size scanned.reads old mid is_open was.looked) image of_image _ below
-              ∙ wanted-same request image size content mid.chip.bytes (4096 * n + a % 4096)
-              (same_before is_open (4096 * n + a % 4096)))
-          | inr other ↦
-              put.outside a other
-              ∙ was.merged is_open a
-              (sym (rw (ne_eqb (a / 4096) n other, and-false) at (marked.touched (a / 4096))) ∙ is)
-        ];
-        rest = λ a above. put.outside a (λ same. absurd (omega arith)) ∙ was.rest a (omega arith);
+        marks = record {
+          below = λ s is. let below = was.marks.below s is in omega arith;
+          inside = was.marks.inside;
+          count = was.marks.count;
+        };
+        reads = was.reads ∙ sym (count_below-without n (has_in_sector (includes request.included)) at.included);
+        looked = was.looked;
+        right = λ is_open. record {
+          touched = λ s. tested n s (is_touched content aim) (sym (untouched content aim n kept))
+              ((was.right is_open).touched s) refl;
+          raised = λ s. tested n s (is_raised content aim) (sym (unraised content aim n kept))
+              ((was.right is_open).raised s) refl;
+        };
+        merged = was.merged;
+        rest = λ a above. was.rest a (omega arith);
       }
 
--- a sector that is included is one of those that are scanned
-pub room : {request : Request} {size n : ℕ} {image image' : List ℕ} {old mid : BusState} {scanned : Scanned}
-    → IsAt request size n true → HasScanned request size n image image' old mid scanned
-    → scanned.reads < scanned_sectors request size
-room {request = request} {size = size} {n = n} at was =
-    let test = has_in_sector (includes request.included) in
-    let below = at.below in
-    let e : n + 1 + (size / 4096 - (n + 1)) ≡ size / 4096 = omega arith in
-    rw at.about_bytes (omega (
-      arith,
-      was.reads,
-      count_below-with n test at.included,
-      ap (λ (k : ℕ). count_below k test) e,
-      count_below-add (n + 1) (size / 4096 - (n + 1)) test,
-    ))
+  later : IsOpen size old → IsOpen size mid
+  later is_open = opened_later size scanned.reads old mid is_open was.looked
 
--- ---- the end
+  same_before : IsOpen size old → mid.chip.bytes ≡ old.chip.bytes
+  same_before is_open = fun_ext (was.looked.rested is_open.honest).unchanged.same.bytes
 
-scans_of : {request : Request} {size n : ℕ} {image image' : List ℕ} {old new : BusState} {scanned : Scanned}
-    → HasScanned request size n image image' old new scanned → scanned.count ≤ scanned.reads
-    → AreMarks (size / 4096) scanned → scanned.reads ≡ scanned_sectors request size
-    → (IsOpen size old
-    → AreRight (wanted_at request image size old.chip.bytes) old.chip.bytes (size / 4096) scanned)
-    → Scans request size image image' old new scanned
-scans_of was few marks reads right = record {
-  marks = marks;
-  reads = reads;
-  few = few;
-  heard = was.looked.heard;
-  rested = was.looked.rested;
-  sent = was.looked.sent;
-  right = right;
-  merged = was.merged;
-}
+  -- a sector of which a part of the image was cut out was read
+  module _ {width : ℕ} {part' bytes : List ℕ} {plan : SectorPlan} {new : BusState} (at : IsAt request size n true)
+      (scans : ScansSector request size n (take width (drop (4096 * n) image')) part' bytes mid new plan)
+      (exact : width ≡ 4096) where
+    of_image : (i : ℕ) → i < 4096
+        → slice_index (take width (drop (4096 * n) image')) i ≡ slice_index image (4096 * n + i)
+    of_image i below = cut_out image' (4096 * n) width i exact below ∙ was.rest (4096 * n + i) (omega arith)
 
--- a request about bytes was carried to the last sector
-pub all_scanned : {request : Request} {size n : ℕ} {image image' : List ℕ} {old new : BusState} {scanned : Scanned}
-    → is_data request.what ≡ true → n ≡ size / 4096 → scanned.count ≤ scanned.reads
-    → HasScanned request size n image image' old new scanned → Scans request size image image' old new scanned
-all_scanned about_bytes end few was =
-    scans_of was few (rw (← end) was.marks) (rw (about_bytes, ← end) was.reads)
-    (λ is_open. rw (← end) (was.right is_open))
+    -- its plan is that of the chip as it was before the scan
+    pub planned_before : IsOpen size old
+        → (plan.touched ≡ is_touched old.chip.bytes (wanted_at request image size old.chip.bytes) n)
+        × (plan.raised ≡ is_raised old.chip.bytes (wanted_at request image size old.chip.bytes) n)
+    planned_before is_open = rw (same_before is_open) at (scans.planned (later is_open) image of_image)
 
--- a request about protection has nothing to scan
-pub none_to_scan : {request : Request} {size n : ℕ} {image image' : List ℕ} {old new : BusState} {scanned : Scanned}
-    → is_data request.what ≡ false → n ≡ 0 → scanned.count ≤ scanned.reads
-    → HasScanned request size n image image' old new scanned → Scans request size image image' old new scanned
-none_to_scan {request = request} {size = size} {n = n} {image = image} {old = old} {scanned = scanned} other at_first
-    few was =
-    let content = old.chip.bytes in
-    let aim = wanted_at request image size content in
-    let kept : (a : ℕ) → aim a ≡ content a = λ a. wanted-kept request image size content a
-    (and_left (is_data request.what) (nat_lt a size && includes request.included a) other) in
-    let free : (s : ℕ) → has scanned.touched s ≡ false = λ s. absent n scanned was.marks s (omega arith) in
-    let flat : (s : ℕ) → has scanned.raised s ≡ false =
-    λ s. false_from_ne_true _ (λ is. absurd (both_ways _ (free s) (was.marks.inside s is))) in
-    scans_of was few (record {
-      below = λ s is. absurd (both_ways _ (free s) is);
-      inside = was.marks.inside;
-      count = was.marks.count;
-    }) (rw other (rw at_first at was.reads ∙ count_below-zero _)) (λ is_open. record {
-      touched = λ s. free s ∙ sym (and_right (nat_lt s (size / 4096)) _
-          (untouched content aim s (λ i below. kept (4096 * s + i))));
-      raised = λ s. flat s ∙ sym (and_right (nat_lt s (size / 4096)) _
-          (unraised content aim s (λ i below. kept (4096 * s + i))));
-    })
+    -- so are its bytes
+    pub read_before : length bytes ≡ 4096 → IsOpen size old → IsWholeSector old.chip.bytes n bytes
+    read_before long is_open = record {
+      whole = long;
+      same = rw (same_before is_open) at (scans.shown (later is_open)).byte;
+    }
+
+    -- a sector more was scanned
+    pub scanned_more : {next : Scanned} → Looks 1 mid new → HasMarked n plan scanned next → length part' ≡ 4096
+        → length image' ≡ size
+        → HasScanned request size (n + 1) image (put_mid (4096 * n) width image' part') old new next
+    scanned_more {next = next} looks marked whole long =
+        let within = at.below in let small = at.small in
+        let put = put_back n width image' part' exact whole (omega arith) in
+        let content = old.chip.bytes in
+        let aim = wanted_at request image size content in
+        record {
+          marks = marks_more n plan scanned next (omega arith) scans.needed was.marks marked;
+          reads =
+              let next = count_below-with n (has_in_sector (includes request.included)) at.included in
+              omega (arith, was.reads, marked.reads);
+          looked = rw marked.reads (has_looked-more scanned.reads old mid new was.looked looks scans.read scans.heard);
+          right = λ is_open.
+              let plans = planned_before is_open in
+              record {
+                touched = λ s.
+                    tested n s (is_touched content aim) plans.0 ((was.right is_open).touched s) (marked.touched s);
+                raised = λ s.
+                    tested n s (is_raised content aim) plans.1 ((was.right is_open).raised s) (marked.raised s);
+              };
+          merged = λ is_open a is. elim (cases_eq (a / 4096) n) [
+            | inl here ↦
+                let place : 4096 * n + a % 4096 ≡ a = omega arith in
+                let below : a % 4096 < 4096 = omega arith in
+                subst (λ (k : ℕ). slice_index (put_mid (4096 * n) width image' part') k ≡ aim k) place
+                (put.inside (a % 4096) below ∙ rw (same_before is_open) at
+                (scans.merged (later is_open) image of_image _ below))
+            | inr other ↦
+                put.outside a other
+                ∙ was.merged is_open a
+                (sym (rw (ne_eqb (a / 4096) n other, and-false) at (marked.touched (a / 4096))) ∙ is)
+          ];
+          rest = λ a above. put.outside a (λ same. absurd (omega arith)) ∙ was.rest a (omega arith);
+        }
+
+  -- a sector that is included is one of those that are scanned
+  pub room : IsAt request size n true → scanned.reads < scanned_sectors request size
+  room at =
+      let test = has_in_sector (includes request.included) in
+      let below = at.below in
+      let e : n + 1 + (size / 4096 - (n + 1)) ≡ size / 4096 = omega arith in
+      rw at.about_bytes (omega (
+        arith,
+        was.reads,
+        count_below-with n test at.included,
+        ap (λ (k : ℕ). count_below k test) e,
+        count_below-add (n + 1) (size / 4096 - (n + 1)) test,
+      ))
+
+  -- the end
+  scans_of : scanned.count ≤ scanned.reads → AreMarks (size / 4096) scanned
+      → scanned.reads ≡ scanned_sectors request size → (IsOpen size old
+      → AreRight (wanted_at request image size old.chip.bytes) old.chip.bytes (size / 4096) scanned)
+      → Scans request size image image' old mid scanned
+  scans_of few marks reads right = record {
+    marks = marks;
+    reads = reads;
+    few = few;
+    heard = was.looked.heard;
+    rested = was.looked.rested;
+    sent = was.looked.sent;
+    right = right;
+    merged = was.merged;
+  }
+
+  -- a request about bytes was carried to the last sector
+  pub all_scanned : is_data request.what ≡ true → n ≡ size / 4096 → scanned.count ≤ scanned.reads
+      → Scans request size image image' old mid scanned
+  all_scanned about_bytes end few =
+      scans_of few (rw (← end) was.marks) (rw (about_bytes, ← end) was.reads)
+      (λ is_open. rw (← end) (was.right is_open))
+
+  -- a request about protection has nothing to scan
+  pub none_to_scan : is_data request.what ≡ false → n ≡ 0 → scanned.count ≤ scanned.reads
+      → Scans request size image image' old mid scanned
+  none_to_scan other at_first few =
+      let content = old.chip.bytes in
+      let aim = wanted_at request image size content in
+      let kept : (a : ℕ) → aim a ≡ content a = λ a. wanted-kept request image size content a
+      (and_left (is_data request.what) (nat_lt a size && includes request.included a) other) in
+      let free : (s : ℕ) → has scanned.touched s ≡ false = λ s. absent n scanned was.marks s (omega arith) in
+      let flat : (s : ℕ) → has scanned.raised s ≡ false =
+      λ s. false_from_ne_true _ (λ is. absurd (both_ways _ (free s) (was.marks.inside s is))) in
+      scans_of few (record {
+        below = λ s is. absurd (both_ways _ (free s) is);
+        inside = was.marks.inside;
+        count = was.marks.count;
+      }) (rw other (rw at_first at was.reads ∙ count_below-zero _)) (λ is_open. record {
+        touched = λ s. free s ∙ sym (and_right (nat_lt s (size / 4096)) _
+            (untouched content aim s (λ i below. kept (4096 * s + i))));
+        raised = λ s. flat s ∙ sym (and_right (nat_lt s (size / 4096)) _
+            (unraised content aim s (λ i below. kept (4096 * s + i))));
+      })

@@ -1,8 +1,8 @@
-use Rattle.std.proofs.Common.{◌≡◌, refl, sym, ap, subst, rules, true}
-use Rattle.std.specs.Prelude.{Bool, MatchOption, MatchBool}
+use Rattle.std.proofs.Common.{◌≡◌, refl, ap, rules, true}
+use Rattle.std.specs.Prelude.{MatchOption}
 use Rattle.nor_chip.specs.Code.{is_lock_set}
 use Rattle.nor_plan.specs.SectorSet.{has}
-use Rattle.nor_save.specs.Saving.{IsLeastHeld, NoneHeld, SomeHeld, NeedsStatus}
+use Rattle.nor_save.specs.Saving.{IsLeastHeld, NoneHeld, SomeHeld}
 use Rattle.nor_save.proofs.Held.{lock_same}
 use Rattle.nor_save.proofs.judging.judge_scan.Goals as goal
 use Rattle.nor_save.proofs.judging.judge_scan.Goals.{else-writes-via-then-writes+else-is_locked, else-writes-via-else-writes}
@@ -19,9 +19,10 @@ returns-in-Some-2-clause-tells c = λ chip is.
       first = refl;
       least = least;
       not_locked = λ locked. elim c.else-writes.branch [
-        | else-writes-via-then-writes+else-is_locked w ↦ let same = lock_same chip c.args.opening.now is in let read = ap is_lock_set w.status.ensures in absurd cc
-        | else-writes-via-else-writes w ↦ let is_some : c.is_some.result ≡ true = search rules in
-            let needs = c.needs_status-writes.ensures chip touched is (subst (λ (b : Bool). MatchBool b (SomeHeld touched chip) (NoneHeld touched chip)) (sym is_some) some) in
-            subst (λ (b : Bool). MatchBool b (NeedsStatus c.args.request.now.what c.args.request.now.unlock c.args.code touched chip) (¬ NeedsStatus c.args.request.now.what c.args.request.now.unlock c.args.code touched chip)) w.if-writes.false needs
+        | else-writes-via-then-writes+else-is_locked w ↦
+            let same = lock_same chip c.args.opening.now is in let read = ap is_lock_set w.status.ensures in absurd cc
+        | else-writes-via-else-writes w ↦
+            let is_some : c.is_some.result ≡ true = search rules in
+            rw w.if-writes.false at (c.needs_status-writes.ensures chip touched is (rw is_some some))
       ];
     }

@@ -1,16 +1,10 @@
-use Rattle.std.proofs.Common.{◌≡◌, refl, sym, subst, rules, arith}
+use Rattle.std.proofs.Common.{◌≡◌, refl, rules, arith}
 use mathlib.Core.Path.{fun_ext}
 use Rattle.std.proofs.lemmas.Grind.{common_steps}
-use Rattle.nor_journal.specs.Text.{Content, IsContent, front}
-use Rattle.nor_journal.specs.Vault.{HoldsBeginning}
 use Rattle.nor_journal.specs.Writer.{vault_seen}
-use Rattle.nor_plan.specs.Content.{is_touched}
-use Rattle.nor_call.specs.Request.{wanted}
 use Rattle.nor_save.specs.Saving.{head_of}
-use Rattle.nor_save.specs.SavedScan.{SaveBegins, SaveCuts}
-use Rattle.nor_save.proofs.KeptHeads.{same_bytes, is_open, touched_right, raised_right, all_put}
-use Rattle.nor_save.proofs.KeptHeads.{kept_read, head_same, head_put, judged_tells}
-use Rattle.nor_save.proofs.Cuts.{cut_in_head, cut_at_end, begins_of, begins_all}
+use Rattle.nor_save.proofs.Cuts.{same_bytes, is_open, touched_right, raised_right, kept_read, head_put, judged_tells}
+use Rattle.nor_save.proofs.Cuts.{cut_in_head, cut_in_scan, begins_scan, all_put, cut_at_end, begins_all}
 use Rattle.nor_save.proofs.Begun.{with_none, is_err}
 use Rattle.nor_save.proofs.saving.save.Goals as goal
 
@@ -32,11 +26,9 @@ returns-clause-keeps g c =
         accepts = rw (fun_ext (touched_right is shows scans)) at (c.in_ok-unlock.ensures.accepts chip is);
         merged = λ a marked. rw (same_bytes is shows, is.config.size) at (scans.merged (is_open is shows) a marked);
         journal = λ telling.
-            let read : c.bytes.result ≡ kept_read c.args.opening.now = grind (arith, common_steps) in
-            let kept = head_put is shows (g.met.B.Bus.reaches c.args.bus.now shows.honest).kept2 read
-            (c.in_ok-header.ensures.written c.on-writer.ensures.nothing) in
-            let all = all_put is shows scans
-            (c.in_ok-scanned.ensures.keeps (is_open is shows) (head_of chip) (sym is.config.size) kept) in
+            let head = head_put c.args.opening.now (g.B.Bus.state c.args.bus.now) (g.met.B.Bus.reaches c.args.bus.now)
+            (grind (arith, common_steps)) (c.in_ok-header.ensures.written c.on-writer.ensures.nothing) in
+            let all = all_put head scans c.in_ok-scanned.ensures.keeps chip is shows in
             let done = c.in_ok-end.ensures.kept (head_of chip) chip.bytes _ _ all in
             search rules;
       };
@@ -65,33 +57,20 @@ returns-clause-saves g c = λ telling.
 
 pub returns-in_err-scanned-clause-begins : goal.returns-in_err-scanned-clause-begins
 returns-in_err-scanned-clause-begins g c =
-    let request = c.args.request.now in let opening = c.args.opening.now in let image = c.args.image.now in
-    let old = g.B.Bus.state c.args.bus.now in
-    let vault = vault_seen g.V.Vault.state c.scan_all.new.writer in
-    let begins : SaveBegins request opening image old vault c.in_err-scanned.field-0.0 = λ other telling chip is shows.
-    let read : c.bytes.result ≡ kept_read c.args.opening.now = grind (arith, common_steps) in
-    let kept = head_put is shows (g.met.B.Bus.reaches c.args.bus.now shows.honest).kept2 read
-    (c.in_ok-header.ensures.written c.on-writer.ensures.nothing) in
-    begins_of request image chip (rw (same_bytes is shows, is.config.size) at
-    (c.in_err-scanned.ensures.begins (is_open is shows) (head_of chip) (sym is.config.size) kept other)) telling in
-    let same : vault ≡ g.V.Vault.state c.in_err-scanned.vault-in-Break-branch-2-1-own.given.0 = search rules in
-    rw (is_err _ _ c.from_residual-in_err-scanned.ensures.1, ← same) begins
+    let head = head_put c.args.opening.now (g.B.Bus.state c.args.bus.now) (g.met.B.Bus.reaches c.args.bus.now)
+    (grind (arith, common_steps)) (c.in_ok-header.ensures.written c.on-writer.ensures.nothing) in
+    rw (is_err _ _ c.from_residual-in_err-scanned.ensures.1)
+    (begins_scan c.args.request.now c.args.image.now
+    (g.V.Vault.state c.in_err-scanned.vault-in-Break-branch-2-1-own.given.0) head c.in_err-scanned.ensures.begins
+    (search rules))
 
 pub returns-in_err-unlock-clause-begins : goal.returns-in_err-unlock-clause-begins
 returns-in_err-unlock-clause-begins g c =
-    let request = c.args.request.now in let opening = c.args.opening.now in let image = c.args.image.now in
-    let old = g.B.Bus.state c.args.bus.now in
-    let scans = c.in_ok-scanned.ensures.scans in
-    let vault = vault_seen g.V.Vault.state c.scan_all.new.writer in
-    let begins : SaveBegins request opening image old vault c.in_err-unlock.field-0.0 = λ other telling chip is shows.
-    let read : c.bytes.result ≡ kept_read c.args.opening.now = grind (arith, common_steps) in
-    let kept = head_put is shows (g.met.B.Bus.reaches c.args.bus.now shows.honest).kept2 read
-    (c.in_ok-header.ensures.written c.on-writer.ensures.nothing) in
-    let all = all_put is shows scans
-    (c.in_ok-scanned.ensures.keeps (is_open is shows) (head_of chip) (sym is.config.size) kept) in
-    begins_all request image chip all telling in
-    let same : vault ≡ g.V.Vault.state c.in_err-unlock.vault-in-Break-branch-3-1-own.given.0 = search rules in
-    rw (is_err _ _ c.from_residual-in_err-unlock.ensures.1, ← same) begins
+    let head = head_put c.args.opening.now (g.B.Bus.state c.args.bus.now) (g.met.B.Bus.reaches c.args.bus.now)
+    (grind (arith, common_steps)) (c.in_ok-header.ensures.written c.on-writer.ensures.nothing) in
+    rw (is_err _ _ c.from_residual-in_err-unlock.ensures.1)
+    (begins_all head c.in_ok-scanned.ensures.scans c.in_ok-scanned.ensures.keeps
+    (g.V.Vault.state c.in_err-unlock.vault-in-Break-branch-3-1-own.given.0) (search rules))
 
 pub returns-in_err-end-clause-begins : goal.returns-in_err-end-clause-begins
 returns-in_err-end-clause-begins g c =
@@ -99,56 +78,34 @@ returns-in_err-end-clause-begins g c =
 
 pub returns-in_err-header-clause-cut : goal.returns-in_err-header-clause-cut
 returns-in_err-header-clause-cut g c =
-    let request = c.args.request.now in let opening = c.args.opening.now in let image = c.args.image.now in
-    let old = g.B.Bus.state c.args.bus.now in
-    let vault = vault_seen g.V.Vault.state c.header.new.self in
     let read : c.bytes.result ≡ kept_read c.args.opening.now = grind (arith, common_steps) in
-    let cut : SaveCuts request opening image old vault = λ tells chip is shows.
-    let head = head_same is shows (g.met.B.Bus.reaches c.args.bus.now shows.honest).kept2 read in
-    cut_in_head vault chip (is_touched chip.bytes (wanted request image chip))
-    (subst IsContent head c.in_err-header.ensures.content)
-    (subst (λ (h : Content). HoldsBeginning vault (front h)) head
-    (c.in_err-header.ensures.cut c.on-writer.ensures.nothing)) tells in
-    let same : vault ≡ g.V.Vault.state c.in_err-header.vault-1-own.given.0 = search rules in
-    rw (is_err _ _ c.from_residual.ensures.1, ← same) cut
+    rw (is_err _ _ c.from_residual.ensures.1)
+    (cut_in_head c.args.request.now c.args.image.now (vault_seen g.V.Vault.state c.header.new.self)
+    (g.V.Vault.state c.in_err-header.vault-1-own.given.0) (g.met.B.Bus.reaches c.args.bus.now) read
+    c.in_err-header.ensures.content (c.in_err-header.ensures.cut c.on-writer.ensures.nothing) (search rules))
 
 pub returns-in_err-scanned-clause-cut : goal.returns-in_err-scanned-clause-cut
 returns-in_err-scanned-clause-cut g c =
-    let request = c.args.request.now in let opening = c.args.opening.now in let image = c.args.image.now in
-    let old = g.B.Bus.state c.args.bus.now in
-    let vault = vault_seen g.V.Vault.state c.scan_all.new.writer in
-    let cut : SaveCuts request opening image old vault = λ tells chip is shows.
-    let read : c.bytes.result ≡ kept_read c.args.opening.now = grind (arith, common_steps) in
-    let kept = head_put is shows (g.met.B.Bus.reaches c.args.bus.now shows.honest).kept2 read
-    (c.in_ok-header.ensures.written c.on-writer.ensures.nothing) in
-    rw (same_bytes is shows, is.config.size) at
-    (c.in_err-scanned.ensures.cut (is_open is shows) (head_of chip) (sym is.config.size) kept tells) in
-    let same : vault ≡ g.V.Vault.state c.in_err-scanned.vault-in-Break-branch-2-1-own.given.0 = search rules in
-    rw (is_err _ _ c.from_residual-in_err-scanned.ensures.1, ← same) cut
+    let head = head_put c.args.opening.now (g.B.Bus.state c.args.bus.now) (g.met.B.Bus.reaches c.args.bus.now)
+    (grind (arith, common_steps)) (c.in_ok-header.ensures.written c.on-writer.ensures.nothing) in
+    rw (is_err _ _ c.from_residual-in_err-scanned.ensures.1)
+    (cut_in_scan c.args.request.now c.args.image.now
+    (g.V.Vault.state c.in_err-scanned.vault-in-Break-branch-2-1-own.given.0) head
+    (vault_seen g.V.Vault.state c.scan_all.new.writer) c.in_err-scanned.ensures.cut (search rules))
 
 pub returns-in_err-unlock-clause-cut : goal.returns-in_err-unlock-clause-cut
 returns-in_err-unlock-clause-cut g c =
-    let request = c.args.request.now in let opening = c.args.opening.now in let image = c.args.image.now in
-    let old = g.B.Bus.state c.args.bus.now in
-    let scans = c.in_ok-scanned.ensures.scans in
-    let vault = vault_seen g.V.Vault.state c.scan_all.new.writer in
-    let cut : SaveCuts request opening image old vault = λ tells chip is shows.
-    let read : c.bytes.result ≡ kept_read c.args.opening.now = grind (arith, common_steps) in
-    let kept = head_put is shows (g.met.B.Bus.reaches c.args.bus.now shows.honest).kept2 read
-    (c.in_ok-header.ensures.written c.on-writer.ensures.nothing) in
-    let all = all_put is shows scans
-    (c.in_ok-scanned.ensures.keeps (is_open is shows) (head_of chip) (sym is.config.size) kept) in
-    cut_at_end request image chip all tells in
-    let same : vault ≡ g.V.Vault.state c.in_err-unlock.vault-in-Break-branch-3-1-own.given.0 = search rules in
-    rw (is_err _ _ c.from_residual-in_err-unlock.ensures.1, ← same) cut
+    let head = head_put c.args.opening.now (g.B.Bus.state c.args.bus.now) (g.met.B.Bus.reaches c.args.bus.now)
+    (grind (arith, common_steps)) (c.in_ok-header.ensures.written c.on-writer.ensures.nothing) in
+    rw (is_err _ _ c.from_residual-in_err-unlock.ensures.1)
+    (cut_at_end head c.in_ok-scanned.ensures.scans c.in_ok-scanned.ensures.keeps
+    (g.V.Vault.state c.in_err-unlock.vault-in-Break-branch-3-1-own.given.0) (search rules))
 
 pub returns-in_err-end-clause-cut : goal.returns-in_err-end-clause-cut
-returns-in_err-end-clause-cut g c = rw (is_err _ _ c.from_residual-in_err-end.ensures.1) (λ tells chip is shows.
-    let scans = c.in_ok-scanned.ensures.scans in
-    let read : c.bytes.result ≡ kept_read c.args.opening.now = grind (arith, common_steps) in
-    let kept = head_put is shows (g.met.B.Bus.reaches c.args.bus.now shows.honest).kept2 read
-    (c.in_ok-header.ensures.written c.on-writer.ensures.nothing) in
-    let all = all_put is shows scans
-    (c.in_ok-scanned.ensures.keeps (is_open is shows) (head_of chip) (sym is.config.size) kept) in
+returns-in_err-end-clause-cut g c =
+    let head = head_put c.args.opening.now (g.B.Bus.state c.args.bus.now) (g.met.B.Bus.reaches c.args.bus.now)
+    (grind (arith, common_steps)) (c.in_ok-header.ensures.written c.on-writer.ensures.nothing) in
+    rw (is_err _ _ c.from_residual-in_err-end.ensures.1) (λ tells chip is shows.
+    let all = all_put head c.in_ok-scanned.ensures.scans c.in_ok-scanned.ensures.keeps chip is shows in
     let holds = c.in_err-end.ensures.cut all.content all.written in
     record { content = all.content; same = all.same; saves = all.saves; begins = search rules })
