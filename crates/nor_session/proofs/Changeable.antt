@@ -7,7 +7,6 @@ use Rattle.nor_chip.specs.declared.config.Config.{Config}
 use Rattle.nor_chip.specs.Chip.{Chip}
 use Rattle.nor_chip.specs.Bus.{BusState}
 use Rattle.nor_chip.proofs.Sizes.{sized_bounds}
-use Rattle.nor_chip.proofs.Guarded.{is_guarded-same}
 use Rattle.nor_driver.specs.Looks.{Looks, Rested, IsOpen}
 use Rattle.nor_journal.specs.Text.{Content}
 use Rattle.nor_journal.specs.Saved.{is_saved, saved_byte}
@@ -16,7 +15,6 @@ use Rattle.nor_plan.specs.declared.set.SectorSet.{SectorSet}
 use Rattle.nor_apply.specs.declared.changes.Changes.{Changes}
 use Rattle.nor_count.specs.Counts.{sector_count}
 use Rattle.nor_apply.specs.Applying.{CanApply, writes_code}
-use Rattle.nor_apply.proofs.Kept.{writable_same, kept_fixed}
 use Rattle.nor_save.specs.declared.opening.Opening.{Opening}
 use Rattle.nor_save.specs.declared.scanning.Scanned.{Scanned}
 use Rattle.nor_call.specs.declared.refusal.Refusal.TheVariants.{StatusLocked}
@@ -131,17 +129,14 @@ module _ {journal : Content} {opening : Opening} {scanned : Scanned} {changes : 
             let b = below s hit in let now = ap (λ (config : Config). config.size) same.config in
             let blocks = (sized_bounds old.chip.config).blocks in
             omega arith;
-        free = λ plain a hit.
-            is_guarded-same old.chip new.chip same.config same.kept1 same.kept2 a
-            ∙ elim may.free [
-              | inl lifted ↦ absurd (both_ways changes.unlock plain lifted)
-              | inr none ↦
-                  let b = below (a / 4096) hit in
-                  free_place _ old.chip a none (sym (touched (a / 4096)) ∙ hit) (omega arith)
-            ];
+        free = λ plain a hit. elim may.free [
+          | inl lifted ↦ absurd (both_ways changes.unlock plain lifted)
+          | inr none ↦
+              let b = below (a / 4096) hit in
+              free_place same _ a none (sym (touched (a / 4096)) ∙ hit) (omega arith)
+        ];
         writable = λ writes.
-            writable_same old.chip new.chip same.config (kept_fixed old.chip new.chip (same.kept1, same.kept2))
-            ∙ writable_for old.chip (scheme_for journal _ old.chip fits (needed writes))
+            writable_for same (scheme_for journal _ old.chip fits (needed writes))
             (λ locked. may.not_locked locked (needed writes));
         raised = rises_touched;
         bytes = λ a hit. read.scans.bytes a (saved (a / 4096) hit);

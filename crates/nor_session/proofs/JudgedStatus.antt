@@ -1,10 +1,10 @@
 -- What the judgement of a restore on the status tells.
-use Rattle.std.proofs.Common.{◌≡◌, ◌<◌, ◌+◌, ◌-◌, ◌*◌, ◌/◌, ◌⊎◌, ℕ, Bool, true, false, refl, inl, inr}
+use Rattle.std.proofs.Common.{◌≡◌, ◌<◌, ◌+◌, ◌-◌, ◌*◌, ◌/◌, ◌∙◌, ◌⊎◌, ℕ, Bool, true, false, refl, inl, inr}
 use Rattle.std.specs.Prelude.{not, Option, Some, None, MatchOption}
 use Rattle.std.specs.Option.{is_some}
 use Rattle.std.proofs.lemmas.Bool.{true_from_ne_false, false_from_ne_true, and_parts, and_from, not_from_false, or_from, both_ways}
-use Rattle.nor_chip.proofs.Guarded.{is_guarded-sector, is_guarded-no_scheme}
-use Rattle.nor_chip.specs.Chip.{Chip, is_locked}
+use Rattle.nor_chip.proofs.Guarded.{is_guarded-same, is_guarded-sector, is_guarded-no_scheme}
+use Rattle.nor_chip.specs.Chip.{Chip, IsSame, is_locked}
 use Rattle.nor_chip.specs.Guard.{code_of, is_guarded, is_unit_guarded}
 use Rattle.nor_chip.specs.Code.{code_in}
 use Rattle.nor_journal.specs.Text.{Content}
@@ -12,6 +12,7 @@ use Rattle.nor_save.specs.declared.opening.Opening.{Opening}
 use Rattle.nor_save.specs.Opening.{status_read}
 use Rattle.nor_save.specs.Saving.{IsOpening, IsLeastHeld, NoneHeld, SomeHeld, is_held}
 use Rattle.nor_apply.specs.Within.{is_writable}
+use Rattle.nor_apply.proofs.Kept.{writable_same, kept_fixed}
 use Rattle.nor_session.specs.Restore.{NeedsStatusFrom}
 
 pub some_held : (found : Option ℕ) (touched : ℕ → Bool) (chip : Chip) → MatchOption found (NoneHeld touched chip) (IsLeastHeld touched chip) → is_some found ≡ true → SomeHeld touched chip
@@ -43,14 +44,17 @@ held_scheme touched chip some = true_from_ne_false chip.config.scheme (λ none.
     (or_from _ _ (is_guarded-no_scheme chip (4096 * s) none) (is_guarded-no_scheme chip (4096 * s + 4096 - 1) none))
     (and_parts (touched s) (is_unit_guarded chip (4096 * s) 4096) some.held).1)
 
--- no place of a touched sector that isn't held is guarded
-pub free_place : (touched : ℕ → Bool) (chip : Chip) (a : ℕ) → NoneHeld touched chip → touched (a / 4096) ≡ true
-    → a < chip.config.size → is_guarded chip a ≡ false
-free_place touched chip a none hit below =
-    let free = none (a / 4096) in is_guarded-sector chip a below (rw hit at free)
+module _ {old new : Chip} (same : IsSame old new) where
+  -- no place of a touched sector that isn't held is guarded
+  pub free_place : (touched : ℕ → Bool) (a : ℕ) → NoneHeld touched old → touched (a / 4096) ≡ true
+      → a < old.config.size → is_guarded new a ≡ false
+  free_place touched a none hit below =
+      let free = none (a / 4096) in
+      is_guarded-same old new same.config same.kept1 same.kept2 a ∙ is_guarded-sector old a below (rw hit at free)
 
--- where the status isn't locked it can be written
-pub writable_for : (chip : Chip) → chip.config.scheme ≡ true → (is_locked chip ≡ true → ⊥) → is_writable chip ≡ true
-writable_for chip scheme unlocked =
-    and_from chip.config.scheme (not (is_locked chip)) scheme
-    (not_from_false (is_locked chip) (false_from_ne_true (is_locked chip) unlocked))
+  -- where the status isn't locked it can be written
+  pub writable_for : old.config.scheme ≡ true → ¬ (is_locked old ≡ true) → is_writable new ≡ true
+  writable_for scheme unlocked =
+      writable_same old new same.config (kept_fixed old new (same.kept1, same.kept2))
+      ∙ and_from old.config.scheme (not (is_locked old)) scheme
+      (not_from_false (is_locked old) (false_from_ne_true (is_locked old) unlocked))

@@ -10,13 +10,11 @@ use Rattle.nor_chip.specs.Code.{code_in}
 use Rattle.nor_chip.specs.Chip.{Chip, status1_of}
 use Rattle.nor_chip.specs.Guard.{code_of}
 use Rattle.nor_chip.specs.Bus.{BusState}
-use Rattle.nor_chip.proofs.Guarded.{is_guarded-same}
 use Rattle.nor_driver.specs.Looks.{Rested}
 use Rattle.nor_plan.specs.SectorSet.{has}
 use Rattle.nor_apply.specs.Within.{is_writable}
 use Rattle.nor_apply.specs.Applying.{CanApply, status_writes, writes_code}
 use Rattle.nor_journal.specs.Vault.{VaultState}
-use Rattle.nor_apply.proofs.Kept.{kept_fixed, writable_same}
 use Rattle.nor_save.specs.declared.opening.Opening.{Opening}
 use Rattle.nor_save.specs.declared.saving.SavedScan.{SavedScan}
 use Rattle.nor_call.specs.declared.request.Request.{Request}
@@ -90,10 +88,10 @@ module _ (request : Request) (image image' : List ℕ) (opening : Opening) (stat
   never_written none =
       no_write (changes_of opening kept status code) (λ writes. none (code, of.accepts.is_wanted, needs writes))
 
-  writable : (kept.unlock || writes_code (changes_of opening kept status code)) ≡ true → is_writable old.chip ≡ true
+  writable : (kept.unlock || writes_code (changes_of opening kept status code)) ≡ true → is_writable mid.chip ≡ true
   writable writes =
       let need = needs writes in
-      writable_for old.chip
+      writable_for of.rested.unchanged.same
       (scheme_needed request.what request.unlock code _ old.chip of.accepts.protection.scheme need)
       (λ locked. of.scan.not_locked locked need)
 
@@ -118,11 +116,8 @@ module _ (request : Request) (image image' : List ℕ) (opening : Opening) (stat
         inside = λ s touched. let below = is.marks.below s touched in omega arith;
         free = λ off a touched.
             let below = is.marks.below (a / 4096) touched in
-            is_guarded-same old.chip mid.chip same.config same.kept1 same.kept2 a
-            ∙ free_place _ old.chip a (of.scan.free off) (sym (of.touched (a / 4096)) ∙ touched) (omega arith);
-        writable = λ writes.
-            writable_same old.chip mid.chip same.config (kept_fixed old.chip mid.chip (same.kept1, same.kept2))
-            ∙ writable writes;
+            free_place same _ a (of.scan.free off) (sym (of.touched (a / 4096)) ∙ touched) (omega arith);
+        writable = writable;
         raised = is.marks.inside;
         bytes = λ a touched. of.bytes a;
         falls = λ a touched low.
