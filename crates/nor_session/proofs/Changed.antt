@@ -1,5 +1,5 @@
 -- What the changes came to, once they were checked.
-use Rattle.std.proofs.Common.{◌≡◌, ◌<◌, ◌≤◌, ◌%◌, ◌/◌, ◌∙◌, ◌||◌, ℕ, Bool, true, false, ap, sym, subst, arith}
+use Rattle.std.proofs.Common.{◌≡◌, ◌<◌, ◌≤◌, ◌/◌, ◌||◌, ℕ, Bool, true, false, sym, subst, arith}
 use Rattle.std.specs.Prelude.{◌≢◌}
 use Rattle.std.proofs.lemmas.Bool.Decides.{nat_tests}
 use Rattle.nor_chip.specs.Code.{code_in}
@@ -59,37 +59,13 @@ fewest_at config sectors count below is =
 rest_applied : (changes : Changes) (wanted : ℕ → ℕ) (old mid new : BusState) → HasApplied changes wanted old mid → Rested mid new → HasApplied changes wanted old new
 rest_applied changes wanted old mid new applied rested =
     let same = rested.unchanged.same in
-    record {
-      config = same.config ∙ applied.config;
-      bytes = λ a. same.bytes a ∙ applied.bytes a;
-      fixed = fixed_then _ _ _ applied.fixed (kept_fixed mid.chip new.chip (same.kept1, same.kept2));
-      has_code = record {
-        low = ap (λ (k : ℕ). k % 32) same.kept1 ∙ applied.has_code.low;
-        high = ap (λ (k : ℕ). k / 64) same.kept2 ∙ applied.has_code.high;
-      };
-      worn = λ s. rested.unchanged.worn s ∙ applied.worn s;
-      latch = λ set. applied.latch (rested.latch set);
-      idle = omega arith;
-    }
+    let fixed = fixed_then _ _ _ applied.fixed (kept_fixed mid.chip new.chip (same.kept1, same.kept2)) in
+    grind (arith, same.bytes, rested.unchanged.worn)
 
 pub checked : (changes : Changes) (wanted : ℕ → ℕ) (verify : Bool) (old mid new : BusState) (written work : Work) → ((s : ℕ) → raised_in changes s ≡ true → touched_in changes s ≡ true)
     → LeavesApply changes wanted old mid → DoesApply changes wanted old mid written → DoesCheck changes wanted verify written mid new work
     → DoesChange changes wanted verify old new work
 checked changes wanted verify old mid new written work inside leaves does checking =
     let raised = raised_few changes inside in
-    let honest_still = leaves.spends.nature.honest in
-    record {
-      erases = checking.erases ∙ does.erases;
-      fewer_erases = omega arith;
-      fewer_programs = omega arith;
-      few = omega arith;
-      least = omega arith;
-      heard = λ ready. checking.heard (does.heard ready);
-      sent = λ honest.
-          let sent = does.sent honest in let again = checking.sent (honest_still ∙ honest) in
-          omega arith;
-      still = λ none. checking.still ∙ does.still none;
-      done = λ honest can.
-          rest_applied changes wanted old mid new (does.done honest can) (checking.rested (honest_still ∙ honest));
-      programs = λ honest can. checking.programs ∙ does.programs honest can;
-    }
+    let still = leaves.spends.nature.honest in
+    grind (arith, rest_applied changes wanted old mid new)

@@ -13,10 +13,7 @@ returns-clause-accepts c = λ chip is.
     let told : c.is_some-unlock.result ≡ is_some c.first_held.result = search rules in
     record {
       lifts = λ hit. some_held c.first_held.result touched chip held (sym told ∙ hit);
-      free = elim (some_or_none c.first_held.result touched chip held) [
-        | inl hit ↦ inl (told ∙ hit)
-        | inr none ↦ inr none
-      ];
+      free = rw told (some_or_none c.first_held.result touched chip held);
       not_locked = λ locked. elim c.else-writes.branch [
         | else-writes-via-then-writes+else-is_locked w ↦ let same = lock_same chip c.args.opening.now is in absurd cc
         | else-writes-via-else-writes w ↦ elim c.if-unlock.branch [
