@@ -1,7 +1,8 @@
 -- Where the parts of a change aim, on every bus.
-use Rattle.std.proofs.Common.{◌≡◌, ◌<◌, ◌≤◌, ◌+◌, ◌*◌, ◌/◌, ◌%◌, ◌⊎◌, ℕ, Bool, true, inl, inr, refl, arith}
+use Rattle.std.proofs.Common.{◌≡◌, ◌<◌, ◌≤◌, ◌+◌, ◌/◌, ◌%◌, ◌⊎◌, ℕ, Bool, true, inl, inr, refl, arith}
 use Rattle.std.specs.Prelude.{◌&&◌, nat_le}
-use Rattle.std.proofs.lemmas.Bool.{cases_Bool, cases_lt, and_parts, and_from, le-leb, leb-true, ltb-true, eqb-true}
+use Rattle.std.proofs.lemmas.Bool.{cases_Bool, cases_lt, and_parts, and_from, le-leb, leb-true, eqb-true}
+use Rattle.std.proofs.lemmas.Bool.Decides.{nat_tests}
 use Rattle.std.proofs.Math.Bool.{or-true}
 use Rattle.nor_chip.specs.Sent.{aim_unit, is_in_aim}
 use Rattle.nor_driver.specs.declared.units.EraseUnit.{EraseUnit}
@@ -35,21 +36,15 @@ aim_split sectors size s may = elim (cases_Bool (sectors s)) [
 -- a set that is wider
 pub aim_wider : (sectors more : ℕ → Bool) (size s : ℕ) → ((k : ℕ) → sectors k ≡ true → more k ≡ true)
     → may_aim_at sectors size s ≡ true → may_aim_at more size s ≡ true
-aim_wider sectors more size s wider may = elim (aim_split sectors size s may) [
-  | inl is ↦ aim_here more size s (wider s is)
-  | inr behind ↦ aim_behind more size s behind.0 (λ k below. wider k (behind.1 k below))
-]
+aim_wider sectors more size s wider may =
+    grind (arith, aim_split sectors size s may, wider, aim_here more size s, aim_behind more size s)
 
 -- ---- units
 
 -- an aligned unit names its own sectors
 pub named_in : (n sector s : ℕ) → 1 ≤ n → sector % n ≡ 0 → is_in_aim (aim_unit n sector) s ≡ true
     → (sector ≤ s) × (s < sector + n)
-named_in n sector s some aligned named =
-    let parts = and_parts _ _ named in
-    let low : sector / n * n ≤ s = leb-true _ _ parts.0 in
-    let high : s < sector / n * n + n = ltb-true _ _ parts.1 in
-    (omega arith, omega arith)
+named_in n sector s some aligned named = grind (arith, nat_tests)
 
 -- one that lies in the set, on a chip of this size, names no other sectors
 pub unit_aims : (unit : EraseUnit) (sector size : ℕ) (set : ℕ → Bool) (s : ℕ) → is_aligned unit sector ≡ true

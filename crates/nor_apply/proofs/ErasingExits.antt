@@ -6,7 +6,6 @@ use Rattle.std.proofs.lemmas.List.Folds.{list_any-append}
 use Rattle.std.proofs.Math.Bool.{or-false, or-true}
 use Rattle.nor_count.specs.Counts.{sector_count}
 use Rattle.nor_count.proofs.Counting.{count_below-none, count_below-most}
-use Rattle.nor_chip.specs.declared.config.Config.{Config}
 use Rattle.nor_chip.specs.declared.config.Kinds.{Kinds}
 use Rattle.nor_chip.specs.Chip.{Chip}
 use Rattle.nor_chip.specs.Guard.{is_guarded, is_unit_guarded}
@@ -14,11 +13,11 @@ use Rattle.nor_chip.specs.Bus.{BusState}
 use Rattle.nor_driver.specs.declared.units.Erase.{Erase}
 use Rattle.nor_driver.specs.declared.units.EraseUnit.{EraseUnit}
 use Rattle.nor_driver.specs.declared.waits.Halt.{Halt}
-use Rattle.nor_driver.specs.Units.{sectors_in, erases_sector, has_unit}
+use Rattle.nor_driver.specs.Units.{sectors_in, erases_sector}
 use Rattle.nor_driver.specs.Waits.{Halts, NamesTimeout}
 use Rattle.nor_driver.specs.Operations.{most_operation}
 use Rattle.nor_driver.specs.Erases.{sectors_of, is_sector_in_unit, CanErase, MayErase, HasErased, is_sector_named, LeavesErase, Erases}
-use Rattle.nor_plan.specs.Erase.{IsErase, Covers, is_offered, erased_by}
+use Rattle.nor_plan.specs.Erase.{IsErase, Covers, erased_by}
 use Rattle.nor_plan.specs.Planned.{planned}
 use Rattle.nor_apply.specs.declared.tally.Tally.{Tally}
 use Rattle.nor_apply.specs.Within.{places_of}
@@ -37,9 +36,6 @@ record IsOfPlan (kinds : Kinds) (total : ℕ) (set : ℕ → Bool) (unit : Erase
   pub inside : (s : ℕ) → erases_sector total s unit ≡ true → set s ≡ true
 
 -- ---- what an erase needs
-
-has_offered : (unit : EraseUnit) (config : Config) → is_offered config.kinds unit ≡ true → has_unit config unit ≡ true
-has_offered unit config is = grind arith
 
 some_sectors : (total : ℕ) (unit : EraseUnit) → 1 ≤ total → 1 ≤ sectors_in total unit
 some_sectors total unit some = grind arith
@@ -70,12 +66,10 @@ module _ {kinds : Kinds} {size : ℕ} {set done : ℕ → Bool} {unit : Erase} {
       let able = can_after mid.chip (λ s is. is) can.can has.config has.kept has.idle in
       let free = free_unit mid.chip unit.sector (sectors_in (size / 4096) unit.unit) plan.some
       (λ a low high. able.free a (plan.inside (a / 4096) (in_unit (size / 4096) (a / 4096) unit low high))) in
-      record {
-        on_chip = record { aligned = plan.is.aligned; within = rw sectors_same plan.is.within };
-        idle = has.idle;
-        offered = has_offered unit.unit mid.chip.config (rw (has.config, can.sized.same_kinds) plan.is.offered);
-        free = rw sectors_same free;
-      }
+      let same = sectors_same in
+      let kinds_same : mid.chip.config.kinds ≡ kinds = rw has.config can.sized.same_kinds in
+      let is = plan.is in
+      grind arith
 
   -- ---- what it leaves at every exit, and at its end
 

@@ -58,11 +58,6 @@ page_inside : (sector first a : ℕ) → first < 4096 → is_in_page (4096 * sec
     → only sector (a / 4096) ≡ true
 page_inside sector first a below page = grind (arith, nat_tests)
 
-record Spanned (sector : ℕ) (old wanted : List ℕ) (span : Span) : Type 0 where
-  pub whole : length old ≡ 4096
-  pub wanted_whole : length wanted ≡ 4096
-  pub is : IsSpan old wanted span
-
 -- a program that may have been cut short, of bytes that stay or are made the wanted ones
 span_change : (sector at : ℕ) (sent : List ℕ) (wanted : ℕ → ℕ) (now new : BusState)
     → ((a : ℕ) → is_in_page at a ≡ true → only sector (a / 4096) ≡ true)
@@ -72,18 +67,17 @@ span_change : (sector at : ℕ) (sent : List ℕ) (wanted : ℕ → ℕ) (now ne
 span_change sector at sent wanted now new inside either may =
     grind (arith, inside, either, may.bytes, may.runs, may.worn, kept_fixed now.chip new.chip may.kept)
 
+record Spanned (sector : ℕ) (old wanted : List ℕ) (span : Span) : Type 0 where
+  pub whole : length old ≡ 4096
+  pub wanted_whole : length wanted ≡ 4096
+  pub is : IsSpan old wanted span
+
 module _ {sector : ℕ} {old wanted : List ℕ} {span : Span} (spanned : Spanned sector old wanted span) where
   below_end : span.last < 4096
   below_end = omega (arith, spanned.is.last.0, spanned.whole)
 
   length-part : length (part wanted span) ≡ span.last + 1 - span.first
-  length-part =
-      omega (
-        arith,
-        length-take (span.last + 1 - span.first) (drop span.first wanted),
-        length-drop span.first wanted,
-        below_end,
-      )
+  length-part = omega (arith, length-take {A = ℕ}, length-drop {A = ℕ}, below_end)
 
   -- the places to which the bytes are sent are the span's
   sent_places : (a : ℕ) → (nat_le (4096 * sector + span.first) a

@@ -1,6 +1,6 @@
 -- A sector that is read, unless it was erased, and programmed; and the loop over all sectors: what holds after those
 -- below a number, and what follows at each exit.
-use Rattle.std.proofs.Common.{◌≡◌, ◌<◌, ◌≤◌, ◌+◌, ◌-◌, ◌*◌, ◌/◌, ◌∙◌, ℕ, Bool, true, false, List, slice_index, refl, ap, sym, arith, inl, inr, Ok, true≢false}
+use Rattle.std.proofs.Common.{◌≡◌, ◌<◌, ◌≤◌, ◌+◌, ◌*◌, ◌/◌, ◌∙◌, ℕ, Bool, true, false, List, slice_index, refl, ap, sym, arith, inl, inr, Ok, true≢false}
 use Rattle.std.specs.Prelude.{◌&&◌, ◌||◌, nat_lt}
 use Rattle.std.proofs.lemmas.Bool.{cases_Bool, and_parts, lt-ltb, le-ltb}
 use Rattle.std.proofs.lemmas.Bool.Decides.{nat_tests}
@@ -31,19 +31,10 @@ module _ {sector : ℕ} {erased : Bool} {bytes bytes' : List ℕ} {reads : ℕ} 
     (loads : Loads sector erased bytes bytes' (Ok reads) first mid) where
   -- at most one transaction was sent
   loads_ran : Ran (only sector) 0 1 first mid (record { count = 0; transactions = reads })
-  loads_ran = record {
-    nature = loads.looks.nature;
-    aims = aims_none _ _ _ _ loads.looks.sent;
-    tallies = record {
-      least = omega arith;
-      few = rw loads.ends.reads_once (grind arith);
-      heard = λ ready. loads.ends.heard ∙ ready;
-      sent = λ honest. elim (cases_Bool erased) [
-        | inl is ↦ rw (loads.ends.reads_once, is, (loads.ends.kept is).1) (omega arith)
-        | inr is ↦ rw (loads.ends.reads_once, is) (loads.ends.read is honest).count
-      ];
-    };
-  }
+  loads_ran =
+      let ends = loads.ends in
+      let aims = aims_none (only sector) 0 first mid loads.looks.sent in
+      grind (arith, loads.looks.nature, aims, ends.reads_once, ends.heard, ends.kept, ends.read)
 
   module _ {wanted : List ℕ} (blank : (i : ℕ) → i < 4096 → slice_index bytes i ≡ 255) (honest : first.honest ≡ true)
       (can : CanProgramSector sector wanted erased first.chip) where
@@ -72,14 +63,8 @@ module _ {sector : ℕ} {erased : Bool} {bytes bytes' : List ℕ} {reads : ℕ} 
     can_spans : CanProgramSpans sector bytes' wanted mid.chip
     can_spans =
         let loaded = has_loaded in
-        record {
-          can = can_after mid.chip (λ s is. is) can.can loaded.0.config loaded.0.kept loaded.0.idle;
-          shown = loaded.1;
-          falls = λ i small.
-              let offset : 4096 * sector + i - 4096 * sector ≡ i = omega arith in
-              let fall = rw offset at (can.falls (4096 * sector + i) (only-here (omega arith))) in
-              rw (loaded.1.byte i small, loaded.0.bytes (4096 * sector + i)) fall;
-        }
+        let able = can_after mid.chip (λ s is. is) can.can loaded.0.config loaded.0.kept loaded.0.idle in
+        grind (arith, loaded.1.byte, loaded.0.bytes, can.falls, nat_tests)
 
   module _ {wanted : List ℕ} {new : BusState} (blank : (i : ℕ) → i < 4096 → slice_index bytes i ≡ 255)
       (leaves : LeavesSpans sector bytes' wanted mid new) where
