@@ -105,8 +105,7 @@ line_says-taken line region is =
 -- what is cut or read is there where the line gives a region
 some_of : {A : Type 0} (P : A → Type 0) (o : Option A) (gives : Option A → Result Region LineFault) (region : Region)
     → IfSome o P → ¬ (gives None ≡ Ok region) → gives o ≡ Ok region → (x : A) × P x × (gives (Some x) ≡ Ok region)
-some_of P None gives region is none e = absurd (none e)
-some_of P (Some x) gives region is none e = (x, is, e)
+some_of P o gives region is none e = grind arith
 
 pub line_says-found : (line : List ℕ) (region : Region) → line_says line ≡ Ok region → IsLine line region
 line_says-found line region e =

@@ -1,15 +1,15 @@
 -- What a text says, line by line: regions exactly where the grammar has them.
-use Rattle.std.proofs.Common.{◌≡◌, ◌≢◌, ◌∙◌, ℕ, ◌+◌, ◌<◌, ◌≤◌, Bool, false, not, ltb, eqb, List, [], ◌∷◌, ◌++◌, length}
+use Rattle.std.proofs.Common.{◌≡◌, ◌≢◌, ◌∙◌, ℕ, ◌+◌, ◌<◌, ◌≤◌, Bool, false, not, eqb, List, [], ◌∷◌, ◌++◌, length}
 use Rattle.std.proofs.Common.{filter, append_assoc, Result, Ok, Err, refl, sym, ap, inl, inr, arith}
 use Rattle.std.specs.Str.{bytes_eq}
 use Rattle.std.specs.List.{AllByRecursion, AllZip}
-use Rattle.std.proofs.lemmas.Bool.{cases_Bool, ltb-true, lt-ltb}
-use Rattle.std.proofs.lemmas.Bool.Decides.{same_from_decides, Decides-like}
+use Rattle.std.proofs.lemmas.Bool.{cases_Bool}
 use Rattle.std.proofs.lemmas.List.{length-append, append-nil}
 use Rattle.std.proofs.lemmas.List.Folds.{list_any-append}
 use Rattle.std.proofs.lemmas.List.Sums.{count_by-le-length}
 use Rattle.std.proofs.lemmas.List.Splits.{length-slice_split}
 use Rattle.std.proofs.lemmas.Slice.Eq.{bytes_eq-Decides}
+use Rattle.std.proofs.lemmas.Bool.Decides.{nat_tests}
 use Rattle.nor_layout.specs.declared.region.Region.{Region}
 use Rattle.nor_layout.specs.declared.fault.LineFault.{LineFault}
 use Rattle.nor_layout.specs.declared.fault.LayoutFault.{LayoutFault}
@@ -24,8 +24,7 @@ use Rattle.nor_layout.proofs.LineLaws.{line_says-taken, line_says-found}
 -- ---- regions of one name
 
 bytes_eq-swap : (a b : List ℕ) → bytes_eq a b ≡ bytes_eq b a
-bytes_eq-swap a b =
-    same_from_decides _ _ (bytes_eq-Decides a b) (Decides-like (bytes_eq b a) sym sym (bytes_eq-Decides b a))
+bytes_eq-swap a b = grind (arith, bytes_eq-Decides a b, bytes_eq-Decides b a)
 
 push_apart : (regions : List Region) (region : Region) → AreNamedApart regions
     → is_region_named regions region.name.items ≡ false → AreNamedApart (regions ++ region ∷ [])
@@ -59,14 +58,7 @@ joined : (regions all : List Region) (n : ℕ) (said : Result Region LineFault)
     (follows : List Region → Result (List Region) LayoutFault) → joins_or_fault regions n said >>= follows ≡ Ok all
     → (region : Region) × (said ≡ Ok region) × (is_region_named regions region.name.items ≡ false)
     × (length regions < 64) × (follows (regions ++ region ∷ []) ≡ Ok all)
-joined regions all n (Err fault) follows e = absurd (cc)
-joined regions all n (Ok region) follows e = elim (cases_Bool (is_region_named regions region.name.items)) [
-  | inl twice ↦ absurd (let fault = rw twice at e in cc)
-  | inr once ↦ elim (cases_Bool (ltb (length regions) 64)) [
-    | inl room ↦ (region, refl, once, ltb-true _ _ room, rw (once, room) at e)
-    | inr full ↦ absurd (let fault = rw (once, full) at e in cc)
-  ]
-]
+joined regions all n said follows e = grind (arith, nat_tests)
 
 abbrev is_full : List ℕ → Bool
 is_full line = not (eqb (length line) 0)
@@ -117,22 +109,15 @@ lines_say-taken : (all : List Region) → length all ≤ 64 → AreNamedApart al
 unfolding lines_say with_line
 lines_say-taken all few apart [] regions [] n are is = rw (is, append-nil) refl
 lines_say-taken all few apart [] regions (region ∷ rest) n are is = absurd are
-lines_say-taken all few apart (line ∷ lines) regions [] n are is = elim (cases_Bool (eqb (length line) 0)) [
-  | inl empty ↦ rw empty (lines_say-taken all few apart lines regions [] (n + 1) (rw empty at are) is)
-  | inr full ↦ absurd (rw full at are)
-]
+lines_say-taken all few apart (line ∷ lines) regions [] n are is =
+    grind (arith, lines_say-taken all few apart lines regions [] (n + 1))
 lines_say-taken all few apart (line ∷ lines) regions (region ∷ rest) n are is =
-    elim (cases_Bool (eqb (length line) 0)) [
-      | inl empty ↦ rw empty (lines_say-taken all few apart lines regions (region ∷ rest) (n + 1) (rw empty at are) is)
-      | inr full ↦
-          let both = rw full at are in
-          let says = line_says-taken line region both.0 in
-          let once = named_before regions region rest (rw is at apart) in
-          let room = lt-ltb (length regions) 64
-          (omega (arith, few, ap length is, length-append regions (region ∷ rest))) in
-          rw (full, says, once, room) (lines_say-taken all few apart lines (regions ++ region ∷ []) rest (n + 1) both.1
-          (is ∙ sym (append_assoc regions (region ∷ []) rest)))
-    ]
+    let says = line_says-taken line region in
+    let once = named_before regions region rest (rw is at apart) in
+    let room = length-append regions (region ∷ rest) in
+    let more = append_assoc regions (region ∷ []) rest in
+    let behind = lines_say-taken all few apart lines (regions ++ region ∷ []) rest (n + 1) in
+    grind (arith, nat_tests, lines_say-taken all few apart lines regions (region ∷ rest) (n + 1))
 
 -- an answer is what the text says: so regions in its grammar, or want of memory
 pub reads_taken : (text : List ℕ) (result : Result (List Region) LayoutFault) → ReadsLayout result (layout_says text)
