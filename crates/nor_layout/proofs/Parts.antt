@@ -1,6 +1,5 @@
 -- The parts of spans in a sector.
-use Rattle.std.proofs.Common.{◌≡◌, ℕ, ◌+◌, ◌-◌, ◌*◌, ◌/◌, ◌<◌, ◌≤◌, ◌||◌, ltb, List, [], ◌∷◌, refl, ap, ◌∙◌, arith}
-use Rattle.std.proofs.Common.{Bool}
+use Rattle.std.proofs.Common.{◌≡◌, ℕ, ◌+◌, ◌-◌, ◌*◌, ◌/◌, ◌<◌, ◌≤◌, ◌||◌, ltb, List, [], ◌∷◌, refl, arith, Bool}
 use Rattle.std.specs.List.{cons_option}
 use Rattle.std.proofs.lemmas.Bool.{cond_both}
 use Rattle.std.proofs.lemmas.Bool.Decides.{nat_tests}
@@ -26,8 +25,7 @@ is_covered-parts : (sector : ℕ) (spans : List Span) (at : ℕ) → at < 4096
     → is_covered (parts_in_sector sector spans) at ≡ contains spans (4096 * sector + at)
 is_covered-parts sector [] at lt = refl
 is_covered-parts sector (span ∷ spans) at lt =
-    is_covered-cons sector span (parts_in_sector sector spans) at lt
-    ∙ ap (λ b. is_in_span span (4096 * sector + at) || b) (is_covered-parts sector spans at lt)
+    grind (arith, is_covered-cons sector span (parts_in_sector sector spans) at lt, is_covered-parts sector spans at lt)
 
 -- ---- the parts rise
 

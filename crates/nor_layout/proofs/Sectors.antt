@@ -3,7 +3,7 @@ use Rattle.std.proofs.Common.{◌≡◌, ◌∙◌, ℕ, ◌+◌, ◌*◌, ◌/�
 use Rattle.std.proofs.Common.{Some, ap, inl, inr, arith}
 use Rattle.std.specs.Prelude.{MatchBool}
 use Rattle.std.specs.List.{list_any}
-use Rattle.std.proofs.lemmas.Bool.{cases_Bool, both_ways, leb-true, or_left, or_right, or_cases}
+use Rattle.std.proofs.lemmas.Bool.{cases_Bool, both_ways, leb-true}
 use Rattle.std.proofs.lemmas.Bool.Decides.{nat_tests}
 use Rattle.nor_layout.specs.declared.ranges.Span.{Span}
 use Rattle.nor_layout.specs.Ranges.{is_in_span, contains, AreApart}
@@ -15,10 +15,7 @@ any_span : (test : Span → Bool) (Kind : ℕ → Type 0)
     → ((span : Span) → span.first ≤ span.last → test span ≡ true → (a : ℕ) × Kind a × (is_in_span span a ≡ true))
     → (spans : List Span) → AreApart spans → list_any test spans ≡ true → (a : ℕ) × Kind a × (contains spans a ≡ true)
 any_span test Kind has [] apart h = absurd (cc)
-any_span test Kind has (span ∷ spans) apart h = elim (or_cases (test span) (list_any test spans) h) [
-  | inl here ↦ let a = has span apart.0 here in (a.0, a.1, or_left _ _ a.2)
-  | inr later ↦ let a = any_span test Kind has spans apart.2 later in (a.0, a.1, or_right (is_in_span span a.0) _ a.2)
-]
+any_span test Kind has (span ∷ spans) apart h = grind (arith, has span apart.0, any_span test Kind has spans apart.2)
 
 -- .. and where each span with an address passes, one does if the set has the address
 some_span : (test : Span → Bool) (a : ℕ) → ((span : Span) → is_in_span span a ≡ true → test span ≡ true)

@@ -37,11 +37,10 @@ module _ (low limit : ℕ) (s : Span) (ss : List Span) (b : Span) (bs : List Spa
 
   -- and where it doesn't, none of the spans has an address of the first of the others
   without : contains bs s.first ≡ true → AreCut low limit (s ∷ ss) bs
-  without later = record {
-    within = cut.within;
-    into = λ a holds. grind (arith, nat_tests, cut.into a, above b bs s.first apart_b later, above s ss a apart);
-    from = λ a least most holds. grind (arith, nat_tests, cut.from a);
-  }
+  without later =
+      let high = λ (a : ℕ). above s ss a apart in
+      let past = above b bs s.first apart_b later in
+      grind (arith, nat_tests)
 
 length_cut : (low limit : ℕ) (few many : List Span) → AreApart few → AreApart many → AreCut low limit few many
     → length few ≤ length many
@@ -61,9 +60,5 @@ length_cut low limit (s ∷ ss) (b ∷ bs) apart apart_many cut =
 pub none_has : (spans all : List Span) (done : ℕ) → AreApart all → 64 < length all
     → ((a : ℕ) → contains all a ≡ (ltb a done && contains spans a)) → (set : List Span) → ¬ IsSetOf spans set
 none_has spans all done apart many same set is =
-    let cut : AreCut 0 done all set = record {
-      within = λ a holds. grind (arith, nat_tests, same a);
-      into = λ a holds. grind (arith, nat_tests, same a, is.same a);
-      from = λ a least most holds. grind (arith, nat_tests, same a, is.same a);
-    } in
+    let cut : AreCut 0 done all set = grind (arith, nat_tests) in
     absurd (omega (arith, many, is.ranges.few, length_cut 0 done all set apart is.ranges.apart cut))

@@ -1,4 +1,4 @@
-use Rattle.std.proofs.Common.{◌≡◌, ℕ, ◌≤◌, ◌||◌, ◌∷◌, ◌∙◌, arith}
+use Rattle.std.proofs.Common.{◌≡◌, ℕ, ◌≤◌, ◌||◌, ◌∷◌, arith}
 use Rattle.std.proofs.lemmas.Bool.Decides.{nat_tests}
 use Rattle.nor_layout.specs.Places.{is_in_places, is_covered, AreRisingFrom, places_left}
 use Rattle.nor_layout.proofs.Fills.{is_covered-below}
@@ -16,11 +16,5 @@ loop-part-preserved c =
     let left : (at : ℕ) → done ≤ at → (is_in_places part at || is_covered more at) ≡ is_covered all at
     = λ at le. rw steps at (kept.left at le) in
     let copied = c.copy_part.ensures in
-    record {
-      reached = rising.2;
-      rising = rising.3;
-      left = λ at le. grind (arith, nat_tests, left at);
-      filled = λ at lt. grind (arith, nat_tests, left at, is_covered-below part.end more at rising.3);
-      others = λ at le. copied.above at (omega (arith, le, rising.1))
-          ∙ kept.others at (omega (arith, le, rising.0, rising.1));
-    }
+    let none = λ (at : ℕ). is_covered-below part.end more at rising.3 in
+    grind (arith, nat_tests)
