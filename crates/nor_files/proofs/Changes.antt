@@ -56,12 +56,8 @@ file_writes {bytes} {had} {result} {content} {change} {old} {new} most is was wi
 pub file_sets : {T E : Type 0} {len : ℕ} {result : Result T E} {content : Content} {had : List ℕ} {old new : Stored}
     → IsChanged content (Cut len) old new → Some had ≡ found_in old.content → bytes_in content ≡ with_length len had
     → FileSets len result old new
-file_sets {len} {content} {had} {old} {new} is was has = record {
-  name = is.name;
-  out = ap (λ file. file.out) is.file;
-  seen = λ any ok. ap (λ file. file.seen) is.file ∙ ap Some has ∙ ap (option_map (with_length len)) was;
-  leaves = λ left may.
-      let before : MayBe old.steps.items (found_in old.content) (Some had) =
-      rw was (seen_may_be old.steps.items (found_in old.content)) in
-      file_leaves content (Cut len) had old new is (sym was) (had, before, ap Some has) left may;
-}
+file_sets {len} {content} {had} {old} {new} is was has =
+    let before : MayBe old.steps.items (found_in old.content) (Some had) =
+    rw was (seen_may_be old.steps.items (found_in old.content)) in
+    let leaves = file_leaves content (Cut len) had old new is (sym was) (had, before, ap Some has) in
+    grind arith

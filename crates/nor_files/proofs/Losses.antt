@@ -8,7 +8,6 @@ use Rattle.nor_files.specs.Named.{file_of, is_name, is_named}
 use Rattle.nor_files.specs.Stored.{File, FileLoses, MayBe, MayLeave, file_in, found_in}
 use Rattle.nor_files.specs.declared.stored.Step.{Step}
 use Rattle.nor_files.specs.declared.stored.Stored.{Stored}
-use Rattle.nor_files.proofs.Works.{settled}
 
 -- ---- one file
 
@@ -60,5 +59,5 @@ are_left old now {len} whole kept each =
     rw (take_at now (drop (length now) old) len whole) (record {
       at_rest = record { lawful = refl; in_store = λ name. ap (λ its. its.out) (lost name).file };
       allowed = λ name. (lost name).allowed;
-      settled = λ name. settled now _ (lost name).file;
+      settled = λ name. let file = (lost name).file in grind arith;
     })

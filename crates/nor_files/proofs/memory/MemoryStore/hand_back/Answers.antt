@@ -1,8 +1,6 @@
-use Rattle.std.proofs.Common.{◌≡◌, ◌∙◌, None, Some, ap, option_map, position, refl, rules, sym, true}
-use Rattle.nor_journal.specs.MemVault.{held_by}
+use Rattle.std.proofs.Common.{◌≡◌, ◌∙◌, None, Some, position, rules, sym, true, arith}
 use Rattle.nor_files.specs.Named.{is_named, is_there}
 use Rattle.nor_files.proofs.Places.{not_there, updated}
-use Rattle.nor_files.proofs.Works.{takes_back}
 use Rattle.nor_files.proofs.memory.MemoryStore.hand_back.Goals as goal
 
 pub returns-in-Some-place-clause-takes : goal.returns-in-Some-place-clause-takes
@@ -10,10 +8,9 @@ returns-in-Some-place-clause-takes c lawful name lent =
     let was : c.args.self.now.lent ≡ Some c.in-Some.name = sym c.replace.ensures.value ∙ c.in-Some.is in
     let named : c.in-Some.name.items ≡ name = search (rules, was, lent) in
     let at : position (is_named name) c.args.self.now.files.items ≡ Some c.in-Some-place.at = search (rules, named) in
-    takes_back
-    (updated _ _ _ c.take_back.new.self c.index_mut.ensures.value c.take_back.ensures.name name at)
-    (held_by c.args.vault) refl
-    (ap (option_map (λ text. text.items)) c.replace.ensures.after) c.take_back.ensures
+    let is = updated c.args.self.now.files.items c.in-Some-place.at c.index_mut.result.now c.take_back.new.self
+    c.index_mut.ensures.value c.take_back.ensures.name name at in
+    grind arith
 
 pub returns-in-None-clause-takes : goal.returns-in-None-clause-takes
 returns-in-None-clause-takes c lawful name lent =
