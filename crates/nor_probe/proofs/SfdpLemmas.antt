@@ -4,7 +4,7 @@ use Rattle.std.specs.Prelude.{◌==◌, ◌&&◌, nat_le}
 use Rattle.std.specs.Int.{is_power_of_two}
 use Rattle.std.specs.Int.RustNames.{count_ones}
 use Rattle.std.proofs.lemmas.Nat.{pow_below, ones_cat, ones_le_self, zero_from_ones}
-use Rattle.std.proofs.lemmas.Bool.{cases_lt, and_parts, and_from, eqb-true, eq-eqb, leb-true}
+use Rattle.std.proofs.lemmas.Bool.{cases_lt, and_parts, and_from, eqb-true, eq-eqb}
 use Rattle.std.proofs.lemmas.Bool.Decides.{nat_tests}
 use Rattle.nor_chip.specs.Size.{is_chip_size}
 use Rattle.nor_chip.proofs.Sizes.{alike, is_chip_size-from, is_chip_size-in_blocks, is_chip_size-power_of_two}
@@ -59,7 +59,4 @@ bits_of_size bits is =
 
 pub in_bits : (bits : ℕ)
     → is_chip_size_in_bits bits ≡ (is_power_of_two bits && nat_le (2 ^ 19) bits && nat_le bits (2 ^ 27))
-in_bits bits = alike _ _ (bits_of_size bits) (λ is.
-    let bounds = and_parts (is_power_of_two bits && nat_le (2 ^ 19) bits) (nat_le bits (2 ^ 27)) is in
-    let parts = and_parts (is_power_of_two bits) (nat_le (2 ^ 19) bits) bounds.0 in
-    size_of_power bits parts.0 (leb-true (2 ^ 19) bits parts.1) (leb-true bits (2 ^ 27) bounds.1))
+in_bits bits = alike _ _ (bits_of_size bits) (λ is. let power = size_of_power bits in grind (arith, nat_tests))
