@@ -106,10 +106,6 @@ module _ {journal : Content} {opening : Opening} {scanned : Scanned} {changes : 
       = λ s. ap (λ (set : ℕ → Bool). set s) (ap has are.raised ∙ marks.1) in
       let may = rw marks.0 at (judged old.chip is) in
       let same = (rested_all read modelled.honest).unchanged.same in
-      let size : changes.size ≡ old.chip.config.size = are.size ∙ is.config.size in
-      let kinds : changes.kinds ≡ old.chip.config.kinds = are.kinds ∙ is.config.kinds in
-      let one : changes.status.one.0 / 4 ≡ old.chip.kept1 = ap (λ (n : ℕ). n / 4) are.one ∙ is.one in
-      let two : changes.status.two.0 ≡ old.chip.kept2 = are.two ∙ is.two in
       let needed : (changes.unlock || writes_code changes) ≡ true
       → NeedsStatusFrom journal (is_touched_from journal old.chip) old.chip
       = λ writes. elim (cases_Bool changes.unlock) [
@@ -124,7 +120,7 @@ module _ {journal : Content} {opening : Opening} {scanned : Scanned} {changes : 
             let rested = read.scans.rested (read.looks.nature.honest ∙ modelled.honest) in
             omega arith;
         sized = record { same = cc; same_kinds = cc };
-        kept = record { one = one ∙ sym same.kept1; two = omega arith };
+        kept = record { one = ap (λ (n : ℕ). n / 4) are.one ∙ is.one ∙ sym same.kept1; two = omega arith };
         inside = λ s hit.
             let b = below s hit in let now = ap (λ (config : Config). config.size) same.config in
             let blocks = (sized_bounds old.chip.config).blocks in
