@@ -10,12 +10,9 @@ use Rattle.std.proofs.lemmas.Str.Pattern.{starts_text}
 use Rattle.nor_words.specs.Programmer.{are_settings, chip_named, is_programmer_text, said, settings_of}
 use Rattle.nor_words.specs.Text.{Text}
 
-pub stripped : (p s : List ℕ) (r : Option (Bor (List ℕ)))
-    → MatchOption r (FindsTextPrefix p s None) (λ x. StripsPrefix (FindsTextPrefix p) s x.now)
-    → MatchOption r (starts_with nat_eq s p ≡ false)
-    (λ x. (starts_with nat_eq s p ≡ true) × (x.now ≡ drop (length p) s))
-stripped p s None h = sym (starts_text false p s h)
-stripped p s (Some x) h =
+pub stripped : (p s rest : List ℕ) → StripsPrefix (FindsTextPrefix p) s rest
+    → (starts_with nat_eq s p ≡ true) × (rest ≡ drop (length p) s)
+stripped p s rest h =
     (sym (starts_text true p s (h.0, h.1, rw h.1.0 h.1.2)), h.2 ∙ ap (λ n. drop n s) h.1.0)
 
 -- ---- whose text is a programmer's

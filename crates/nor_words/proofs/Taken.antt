@@ -1,5 +1,5 @@
 -- What a parse of the program's options gives.
-use Rattle.std.proofs.Common.{◌≡◌, [], true, List, Ok, refl, subst}
+use Rattle.std.proofs.Common.{◌≡◌, [], true, List, Ok, refl}
 use Rattle.clap.specs.Words.{App, FailsBy, HasMatchesOf, fault_of, found_of, is_simple, is_simple_and_free, matches_of}
 use Rattle.clap.specs.Words.{rows_of}
 use Rattle.clap.specs.declared.parser.matches.ArgMatches.{ArgMatches}
@@ -20,10 +20,9 @@ options_are_simple = refl
 -- words that are taken aren't refused
 pub refusals_of-taken : (app : App) → app ≡ options → (words : List Text) (m : ArgMatches)
     → (is_simple_and_free app ≡ true → FailsBy (fault_of app words) (Ok m)) → refusals_of words ≡ []
-refusals_of-taken app same words m fails =
-    subst (λ a. is_simple_and_free a ≡ true → FailsBy (fault_of a words) (Ok m)) same fails options_are_free
+refusals_of-taken app same words m fails = let free = rw same at fails in free options_are_free
 
 -- the rows of the matches are those that the words give
 pub rows-taken : (app : App) → app ≡ options → (words : List Text) (m : ArgMatches) → HasMatchesOf app words m
     → rows_of (found_of m) ≡ matches_of options words
-rows-taken app same words m matches = (subst (λ a. HasMatchesOf a words m) same matches options_are_simple).0
+rows-taken app same words m matches = let simple = rw same at matches in (simple options_are_simple).0

@@ -1,4 +1,4 @@
-use Rattle.std.proofs.Common.{◌≡◌, ◌∙◌, true, Some, codes}
+use Rattle.std.proofs.Common.{◌≡◌, ◌∙◌, true, codes}
 use Rattle.std.proofs.lemmas.Iterator.Consumers.{YieldsList-turn, YieldsList-end}
 use Rattle.std.proofs.lemmas.List.{length_push}
 use Rattle.nor_words.specs.Programmer.{is_programmer_text, settings_of}
@@ -10,7 +10,7 @@ use Rattle.nor_words.proofs.programmer.Programmer.read.Goals as goal
 
 pub loop-setting-preserved : goal.loop-setting-preserved
 loop-setting-preserved c =
-    let begins = stripped (codes "dummy:") _ (Some c.in_ok-strip_prefix.field-0) c.in_ok-strip_prefix.ensures.cases in
+    let begins = stripped (codes "dummy:") _ _ c.in_ok-strip_prefix.ensures.cases in
     let split = c.split-setting-items.ensures in
     let pieces = yields_pieces _ c.into_iter-setting-iterator.ensures.into_iter_gives (split.text ∙ begins.1)
     split.has_more split.pattern in
@@ -21,7 +21,7 @@ loop-setting-preserved c =
 
 pub returns-in_err-take_in : goal.returns-in_err-take_in
 returns-in_err-take_in c =
-    let begins = stripped (codes "dummy:") _ (Some c.in_ok-strip_prefix.field-0) c.in_ok-strip_prefix.ensures.cases in
+    let begins = stripped (codes "dummy:") _ _ c.in_ok-strip_prefix.ensures.cases in
     let split = c.split-setting-items.ensures in
     let pieces = yields_pieces _ c.into_iter-setting-iterator.ensures.into_iter_gives (split.text ∙ begins.1)
     split.has_more split.pattern in
@@ -31,7 +31,7 @@ returns-in_err-take_in c =
 
 pub returns-in_err-settings : goal.returns-in_err-settings
 returns-in_err-settings c =
-    let begins = stripped (codes "dummy:") _ (Some c.in_ok-strip_prefix.field-0) c.in_ok-strip_prefix.ensures.cases in
+    let begins = stripped (codes "dummy:") _ _ c.in_ok-strip_prefix.ensures.cases in
     let split = c.split-setting-items.ensures in
     let pieces = yields_pieces _ c.into_iter-setting-iterator.ensures.into_iter_gives (split.text ∙ begins.1)
     split.has_more split.pattern in
@@ -42,7 +42,7 @@ returns-in_err-settings c =
 
 pub returns : goal.returns
 returns c =
-    let begins = stripped (codes "dummy:") _ (Some c.in_ok-strip_prefix.field-0) c.in_ok-strip_prefix.ensures.cases in
+    let begins = stripped (codes "dummy:") _ _ c.in_ok-strip_prefix.ensures.cases in
     let split = c.split-setting-items.ensures in
     let pieces = yields_pieces _ c.into_iter-setting-iterator.ensures.into_iter_gives (split.text ∙ begins.1)
     split.has_more split.pattern in
