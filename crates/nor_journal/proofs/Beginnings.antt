@@ -68,8 +68,8 @@ pub after_refused : (old new : VaultState) (before piece : List ℕ) (kept : ℕ
     → PutRefused old piece kept new → HoldsBeginning new (before ++ piece)
 after_refused old new before piece kept told refused tells =
     let before_tells = sym refused.refused.telling ∙ tells in
-    rw (refused.bytes before_tells, told before_tells, length-append before (take kept piece), take-append-add,
-    length-take kept piece, take_min) refl
+    rw (refused.bytes before_tells, told before_tells)
+    (rw (length-append before (take kept piece), take-append-add, length-take kept piece, take_min) refl)
 
 -- what holds anyway holds after an error
 pub err_any : {T E P : Type 0} (r : Result T E) → P → OnErr r P

@@ -32,8 +32,8 @@ said k bytes magic unique status fits long begins is two =
     let rest = drop (11 + k + 2) bytes in
     let number = number_text-number_at rest (IsBytes-drop (11 + k + 2) bytes fits)
     (omega (arith, length-drop (11 + k + 2) bytes)) in
-    rw (← begins, ← is, ← two, ← id, number, ← take-add 8 3 bytes, ← take-add 11 k bytes, ← take-add (11 + k) 2 bytes,
-    ← take-add (11 + k + 2) 4 bytes) (sym (take-append-drop (11 + k + 2 + 4) bytes))
+    rw (← begins, ← is, ← two, ← id, number, ← take-add 8 3 bytes, ← take-add 11 k bytes)
+    (rw (← take-add (11 + k) 2 bytes, ← take-add (11 + k + 2) 4 bytes) (sym (take-append-drop (11 + k + 2 + 4) bytes)))
 
 -- Eight bytes are a unique ID, and any other number is none.
 abbrev IsUnique : (part : List ℕ) → Option (List ℕ) → Type 0

@@ -182,8 +182,8 @@ head_number c x is =
 none_in_head : (c : Content) (x : List ℕ) (f : JournalFault) → IsContent c → HeadFault (head c ++ x) f → ⊥
 none_in_head c x f is found =
     let begins = ap (take 8) (head_opened c x) ∙ take_at _ _ _ (length-magic c.unique) in
-    grind (arith, begins, same_format, least_head, length-append (head c) x, length-head c is, head_number c x is,
-    is.size)
+    let long = length-append (head c) x in let len = length-head c is in let number = head_number c x is in
+    grind (arith, begins, long, len, number, is.size, same_format, least_head)
 
 -- what stands behind a content has one at most, ..
 one_behind : (c : Content) (rest : List ℕ) (f g : JournalFault) → IsContent c → NextFault c rest f → NextFault c rest g
@@ -196,9 +196,10 @@ none_at_end : (c : Content) (f : JournalFault) → IsContent c → NextFault c (
 unfolding body
 none_at_end c f is found =
     let digest = sha256 (body c) in
-    grind (arith, number_at-marked (end_mark ++ digest), few_sectors c.size is.size, length-end_mark,
-    take_at end_mark digest 4 length-end_mark, drop_at end_mark digest 4 length-end_mark,
-    length-append end_mark digest, length-sha256 (body c))
+    let mark = take_at end_mark digest 4 length-end_mark in let last = drop_at end_mark digest 4 length-end_mark in
+    let long = length-append end_mark digest in let len = length-sha256 (body c) in
+    let few = few_sectors c.size is.size in
+    grind (arith, number_at-marked (end_mark ++ digest), length-end_mark, mark, last, long, len, few)
 
 -- .. and what has one is no record that may be next
 faulty : (c : Content) (rest : List ℕ) (f : JournalFault) → IsContent c → NextFault c rest f

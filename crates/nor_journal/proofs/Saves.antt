@@ -90,4 +90,3 @@ HasKept-more state old new head chip saved more n number bytes kept follows sect
   saves = Saves-more chip saved more kept.content number bytes kept.saves follows sector one;
   next = omega (arith, next_number-with_sector kept.content number bytes);
 }
-

@@ -13,8 +13,8 @@ written : (magic left id unique status size : List ℕ) → length magic ≡ 8 �
 written magic left id unique status size eight three more two =
     let one = length-append magic id in let other = length-append (magic ++ id) unique in
     let last = length-append ((magic ++ id) ++ unique) status in
-    rw (put_behind 8 3 magic left id eight, put_behind 11 8 (magic ++ id) _ unique (omega arith),
-    put_behind 19 2 ((magic ++ id) ++ unique) _ status (omega arith)) (put_behind 21 4 _ _ size (omega arith))
+    rw (put_behind 8 3 magic left id eight, put_behind 11 8 (magic ++ id) _ unique (omega arith))
+    (rw (put_behind 19 2 ((magic ++ id) ++ unique) _ status (omega arith)) (put_behind 21 4 _ _ size (omega arith)))
 
 two_long : (magic left id unique : List ℕ) → length magic ≡ 8 → length left ≡ 17 → length id ≡ 3 → length unique ≡ 8
     → length (put_mid 11 8 (put_mid 8 3 (magic ++ left) id) unique) ≡ 25
@@ -44,5 +44,5 @@ returns c =
     (omega (arith, ap length c.copy_from_slice-2.ensures.after))
     (omega (arith, ap length c.copy_from_slice-3.ensures.after))
     (omega (arith, ap length c.copy_from_slice-4.ensures.after))
-    ∙ rw (c.copy_from_slice.ensures.after, c.copy_from_slice-2.ensures.after, c.copy_from_slice-3.ensures.after,
-    c.copy_from_slice-4.ensures.after, c.copy_from_slice-5.ensures.after, c.number_bytes.ensures) (append-nil _)
+    ∙ rw (c.copy_from_slice.ensures.after, c.copy_from_slice-2.ensures.after, c.copy_from_slice-3.ensures.after)
+    (rw (c.copy_from_slice-4.ensures.after, c.copy_from_slice-5.ensures.after, c.number_bytes.ensures) (append-nil _))

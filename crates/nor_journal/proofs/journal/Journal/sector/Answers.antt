@@ -6,13 +6,8 @@ use Rattle.nor_journal.proofs.journal.Journal.sector.Goals as goal
 
 pub record_at-requires : goal.record_at-requires
 record_at-requires c =
-    omega (
-      arith,
-      c.requires,
-      ap (λ (j : Content). length j.saved) c.self.view_is,
-      length-sectors_in c.self.inside.count c.self.inside.records.now,
-      c.self.invariant.1.within,
-    )
+    let count = length-sectors_in c.self.inside.count c.self.inside.records.now in
+    omega (arith, ap (λ (j : Content). length j.saved) c.self.view_is, c.self.invariant.1.within)
 
 -- what was answered is the sector at the index
 pub returns : goal.returns
