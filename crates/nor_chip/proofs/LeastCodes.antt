@@ -20,8 +20,11 @@ guards-alike size code start len start' len' guards alike a =
 pub alike-guards : (size code start len start' len' : ℕ) → GuardsExactly size code start len
     → GuardsExactly size code start' len' → AreAlike start len start' len'
 alike-guards size code start len start' len' guards guards' =
-    grind (arith, guards start, guards' start, guards (start + len - 1), guards' (start + len - 1), guards start',
-    guards' start', guards (start' + len' - 1), guards' (start' + len' - 1))
+    let first = guards start in let first' = guards' start in
+    let last = guards (start + len - 1) in let last' = guards' (start + len - 1) in
+    let begin = guards start' in let begin' = guards' start' in
+    let end = guards (start' + len' - 1) in let end' = guards' (start' + len' - 1) in
+    grind (arith, first, first', last, last', begin, begin', end, end')
 
 -- a set has one least code: that of the places of a code that is a least one is that very code
 pub least_found : (size code start len start' len' : ℕ) (found : Option ℕ) → IfSome found (IsLeastCode size start' len')
