@@ -45,9 +45,8 @@ other_from_bit x y e same = grind (arith, nat_tests)
 -- the bit that the logarithm names is set
 highest_bit : (n r : ℕ) → 2 ^ r ≤ n → n < 2 * 2 ^ r → bit_at n r ≡ 1
 highest_bit n r least most =
-    let above : 1 ≤ n / 2 ^ r = le-div 1 n (2 ^ r) (pow_pos r) (omega (arith, least)) in
-    let below : n / 2 ^ r < 2 = div_below n (2 ^ r) 2 (pow_pos r) most in
-    let one : n / 2 ^ r ≡ 1 = omega arith in
+    let above = le-div 1 n (2 ^ r) (pow_pos r) (omega (arith, least)) in
+    let one : n / 2 ^ r ≡ 1 = omega (arith, above, div_below n (2 ^ r) 2 (pow_pos r) most) in
     ap (λ x. x % 2) one
 
 -- where a mask tells at which of 32 places from `at` on two functions differ, they differ
