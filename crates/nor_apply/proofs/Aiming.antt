@@ -1,14 +1,9 @@
 -- Where the parts of a change aim, on every bus.
-use Rattle.std.proofs.Common.{◌≡◌, ◌<◌, ◌≤◌, ◌+◌, ◌/◌, ◌%◌, ◌⊎◌, ℕ, Bool, true, inl, inr, refl, arith}
-use Rattle.std.specs.Prelude.{◌&&◌, nat_le}
-use Rattle.std.proofs.lemmas.Bool.{cases_Bool, cases_lt, and_parts, and_from, le-leb, leb-true, eqb-true}
+use Rattle.std.proofs.Common.{◌≡◌, ◌<◌, ◌≤◌, ◌+◌, ◌/◌, ◌%◌, ◌⊎◌, ℕ, Bool, true, refl, arith}
 use Rattle.std.proofs.lemmas.Bool.Decides.{nat_tests}
-use Rattle.std.proofs.Math.Bool.{or-true}
 use Rattle.nor_chip.specs.Sent.{aim_unit, is_in_aim}
 use Rattle.nor_driver.specs.declared.units.EraseUnit.{EraseUnit}
-use Rattle.nor_driver.specs.declared.units.EraseUnit.TheVariants.{Sector, Block32, Block64, Chip}
 use Rattle.nor_driver.specs.Units.{sectors_in, is_aligned}
-use Rattle.nor_plan.specs.Planned.{holds_run}
 use Rattle.nor_plan.proofs.Units.{holds_run-at, holds_run-from}
 use Rattle.nor_apply.specs.Spending.{may_aim_at}
 
@@ -20,18 +15,11 @@ aim_here sectors size s is = rw is refl
 aim_behind : (sectors : ℕ → Bool) (size s : ℕ) → size / 4096 ≤ s → ((k : ℕ) → k < size / 4096 → sectors k ≡ true)
     → may_aim_at sectors size s ≡ true
 aim_behind sectors size s behind whole =
-    let run = holds_run-from sectors 0 (size / 4096) (λ k low high. whole k (omega arith)) in
-    rw (and_from _ _ (le-leb (size / 4096) s behind) run) (or-true (sectors s))
+    grind (arith, holds_run-from sectors 0 (size / 4096), whole, nat_tests)
 
 pub aim_split : (sectors : ℕ → Bool) (size s : ℕ) → may_aim_at sectors size s ≡ true
     → (sectors s ≡ true) ⊎ ((size / 4096 ≤ s) × ((k : ℕ) → k < size / 4096 → sectors k ≡ true))
-aim_split sectors size s may = elim (cases_Bool (sectors s)) [
-  | inl is ↦ inl is
-  | inr out ↦
-      let behind : (nat_le (size / 4096) s && holds_run sectors 0 (size / 4096)) ≡ true = rw out at may in
-      let parts = and_parts _ _ behind in
-      inr (leb-true _ _ parts.0, λ k below. holds_run-at sectors 0 (size / 4096) parts.1 k (omega arith) (omega arith))
-]
+aim_split sectors size s may = grind (arith, holds_run-at sectors 0 (size / 4096), nat_tests)
 
 -- a set that is wider
 pub aim_wider : (sectors more : ℕ → Bool) (size s : ℕ) → ((k : ℕ) → sectors k ≡ true → more k ≡ true)
@@ -50,15 +38,7 @@ named_in n sector s some aligned named = grind (arith, nat_tests)
 pub unit_aims : (unit : EraseUnit) (sector size : ℕ) (set : ℕ → Bool) (s : ℕ) → is_aligned unit sector ≡ true
     → ((k : ℕ) → sector ≤ k → k < sector + sectors_in (size / 4096) unit → set k ≡ true)
     → is_in_aim (aim_unit (sectors_in 4096 unit) sector) s ≡ true → may_aim_at set size s ≡ true
-unit_aims Sector sector size set s aligned inside named =
-    let is = named_in 1 sector s (omega arith) (omega arith) named in aim_here set size s (inside s is.0 is.1)
-unit_aims Block32 sector size set s aligned inside named =
-    let is = named_in 8 sector s (omega arith) (eqb-true _ _ aligned) named in aim_here set size s (inside s is.0 is.1)
-unit_aims Block64 sector size set s aligned inside named =
-    let is = named_in 16 sector s (omega arith) (eqb-true _ _ aligned) named in aim_here set size s (inside s is.0 is.1)
-unit_aims Chip sector size set s aligned inside named =
-    let first : sector ≡ 0 = eqb-true _ _ aligned in
-    elim (cases_lt s (size / 4096)) [
-      | inl below ↦ aim_here set size s (inside s (omega arith) (omega arith))
-      | inr behind ↦ aim_behind set size s behind (λ k below. inside k (omega arith) (omega arith))
-    ]
+unit_aims unit sector size set s aligned inside named =
+    let behind = aim_behind set size s in
+    let here = aim_here set size s in
+    grind (arith, nat_tests, inside s, inside)

@@ -35,13 +35,8 @@ module _ {sector : ℕ} {bytes : List ℕ} {old new : BusState} (long : length b
 
   pub agrees : (wanted : List ℕ) → sector < 4096 → StaysReady old new → AllAgree bytes wanted
       → DoesChecks (only sector) (byte_of sector wanted) old new 1
-  agrees wanted below heard agree = record {
-    reads = sym (sector_count-only sector below);
-    heard = heard;
-    count = λ honest. (reads.read honest).count;
-    rested = λ honest. (reads.read honest).rested;
-    same = λ honest can a is. let read = read_at honest can in grind (arith, read, agree, nat_tests);
-  }
+  agrees wanted below heard agree =
+      grind (arith, sector_count-only sector below, heard, reads.read, read_at, agree, nat_tests)
 
   pub differs : (wanted : List ℕ) {first : ℕ} → IsFirstDifference bytes wanted first
       → CheckTells (only sector) (byte_of sector wanted) old new (Mismatch (4096 * sector + first))
