@@ -83,9 +83,10 @@ scans_sector request size sector included part filled part' bytes old new plan a
     let shown = λ (is_open : IsOpen size old). reads.told is_open.honest is_open.idle (let s = is_open.same in omega arith) in
     let merged : IsOpen size old → (image : List ℕ) → ((i : ℕ) → i < 4096 → slice_index part i ≡ slice_index image (4096 * sector + i))
     → (i : ℕ) → i < 4096 → slice_index part' i ≡ wanted_at request image size old.chip.bytes (4096 * sector + i) =
-    λ is_open image same i below. fills i below
-    ∙ rw (is_included, aims image (4096 * sector + i) i below (same i below), (shown is_open).byte i below,
-    may_change-included request size (4096 * sector + i) about_bytes (omega arith)) refl in
+    λ is_open image same i below.
+    let may = may_change-included request size (4096 * sector + i) about_bytes (omega arith) in
+    let aim = aims image (4096 * sector + i) i below (same i below) in
+    fills i below ∙ rw (is_included, aim, (shown is_open).byte i below, may) refl in
     record {
       needed = needed;
       heard = heard;

@@ -2,8 +2,7 @@
 use Rattle.std.proofs.Common.{◌≡◌, ◌<◌, ◌≤◌, ◌+◌, ◌-◌, ◌*◌, ◌/◌, ◌%◌, ◌&&◌, ◌||◌, ◌∙◌, ℕ, Bool, true, false, List}
 use Rattle.std.proofs.Common.{Option, take, drop, length, slice_index, refl, ap, sym, subst, arith, inl, inr}
 use Rattle.std.specs.Prelude.{if◌then◌else◌, ◌==◌, nat_lt}
-use Rattle.std.proofs.lemmas.Bool.{cases_eq, eq-eqb, ne_eqb, or_left, and_left, and_right, both_ways}
-use Rattle.std.proofs.lemmas.Bool.{false_from_ne_true}
+use Rattle.std.proofs.lemmas.Bool.{cases_eq, eq-eqb, ne_eqb, or_left, and_left, both_ways, false_from_ne_true}
 use Rattle.std.proofs.lemmas.Bool.Decides.{nat_tests}
 use Rattle.std.proofs.Math.Bool.{and-false}
 use Rattle.nor_chip.specs.declared.config.Config.{Config}
@@ -57,9 +56,9 @@ counted : (n : ℕ) (plan : SectorPlan) (old new : Scanned) (verdict : Bool) →
     → AreMarks n old → HasMarked n plan old new
     → old.count + (if verdict then 1 else 0) ≡ sector_count (has new.touched)
 counted n plan old new true is below are marked =
-    ap (λ (k : ℕ). k + 1) are.count
-    ∙ sym (count_below-insert 4096 n (has old.touched) (has new.touched) below (absent n old are n (omega arith))
-    (λ s. rw is at (marked.touched s)))
+    let one = count_below-insert 4096 n (has old.touched) (has new.touched) below (absent n old are n (omega arith))
+    (λ s. rw is at (marked.touched s)) in
+    omega (arith, are.count)
 counted n plan old new false is below are marked =
     let same : (s : ℕ) → s < 4096 → has old.touched s ≡ has new.touched s =
     λ s low. sym (rw is at (marked.touched s)) in
@@ -288,8 +287,6 @@ module _ {request : Request} {size n : ℕ} {image image' : List ℕ} {old mid :
         inside = was.marks.inside;
         count = was.marks.count;
       }) (rw other (rw at_first at was.reads ∙ count_below-zero _)) (λ is_open. record {
-        touched = λ s. free s ∙ sym (and_right (nat_lt s (size / 4096)) _
-            (untouched content aim s (λ i below. kept (4096 * s + i))));
-        raised = λ s. flat s ∙ sym (and_right (nat_lt s (size / 4096)) _
-            (unraised content aim s (λ i below. kept (4096 * s + i))));
+        touched = λ s. rw (free s, untouched content aim s (λ i below. kept (4096 * s + i)), and-false) refl;
+        raised = λ s. rw (flat s, unraised content aim s (λ i below. kept (4096 * s + i)), and-false) refl;
       })

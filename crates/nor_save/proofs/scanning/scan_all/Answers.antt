@@ -41,11 +41,9 @@ loop-sector-preserved g c =
           let part = w.scan_sector.auto.part ∙ part_long c.loop-sector.image (4096 * sector) _ width (omega arith) in
           record {
             aims = here.aims;
-            few = rw w.scanned-is (
-                let one = at_most_one plan.touched in
-                let count = w.mark.ensures.count in let reads = w.mark.ensures.reads in let few = here.few in
-                omega arith);
-            below = rw w.scanned-is (let reads = w.mark.ensures.reads in let below = here.below in omega arith);
+            few = rw w.scanned-is
+                (omega (arith, at_most_one plan.touched, w.mark.ensures.count, w.mark.ensures.reads, here.few));
+            below = rw w.scanned-is (omega (arith, w.mark.ensures.reads, here.below));
             scanned = rw (w.image-is, w.bus-is, w.scanned-is)
                 (scanned_more here.scanned at w.in_ok-plan.ensures.scans width w.scan_sector.ensures.leaves
                 w.mark.ensures part image);
@@ -67,7 +65,7 @@ loop-sector-preserved g c =
           record {
             aims = here.aims;
             few = rw w.scanned-is here.few;
-            below = rw w.scanned-is (let below = here.below in omega arith);
+            below = rw w.scanned-is (omega (arith, here.below));
             scanned = rw (w.image-is, w.bus-is, w.scanned-is) (skipped here.scanned at none);
             journal = rw (w.writer-is, w.scanned-is) (journalled_later here.journal (omega arith) (λ s. refl));
           }
