@@ -35,9 +35,7 @@ two_made done one output journal = grind arith
 -- nor is the trace the journal that a change keeps
 pub two_kept : (done : Task) (one : Option (Bor Text)) → AreTwo one (named_by done).journal
     → AreTwo one (journal_by done)
-two_kept (task.Change change) one two = two
-two_kept _ None two = tt
-two_kept _ (Some one) two = tt
+two_kept done one two = grind arith
 
 module _ (job : ChipJob) (roles : HaveOneRole job) where
   pub image_made : AreTwo job.programmer.image (made_by job.task)

@@ -9,7 +9,6 @@ use Rattle.nor_probe.specs.Known.{IsModelled}
 use Rattle.nor_probe.specs.declared.table.ChipName.{ChipName}
 use Rattle.nor_call.specs.Refusal.{number_of}
 use Rattle.nor_call.specs.declared.refusal.Refusal.{Refusal}
-use Rattle.nor_call.specs.declared.refusal.Refusal.TheVariants as why
 use Rattle.nor_call.specs.declared.request.Request.{Request}
 use Rattle.nor_session.specs.Bounds.{most_of}
 use Rattle.nor_session.specs.Session.{CanBeUndone, HonestTells}
@@ -33,9 +32,7 @@ does_change view after chip named change request ranges image old new outcome sa
 pub stays : (old new : BusState) (refusal : Refusal)
     → HonestTells (most_of 4096) (λ refusal. number_of refusal ≤ 11) old new refusal → number_of refusal ≤ 11
     → IsSame old.chip new.chip
-stays old new why.Stopped tells early = absurd (omega arith)
-stays old new (why.Timeout address) tells early = absurd tells
-stays old new _ tells early = tells early
+stays old new refusal tells early = grind arith
 
 module _ (request : Request) (image : List ℕ) (old new : BusState) (vault vault' : VaultState)
     (looks : vault'.sealed ≡ false → Looks 69638 old new) (undo : vault'.sealed ≡ true → CanBeUndone request image old new vault')

@@ -2,31 +2,22 @@
 use Rattle.std.proofs.Common.{◌≡◌, ℕ, ◌+◌, false, List, [], ◌∷◌, Result, Ok, Err, arith, refl}
 use Rattle.nor_layout.specs.declared.fault.LayoutFault.{LayoutFault}
 use Rattle.nor_layout.specs.declared.fault.LayoutFault.TheVariants as layout
-use Rattle.nor_layout.specs.declared.fault.LineFault.{LineFault}
 use Rattle.nor_layout.specs.declared.region.Region.{Region}
 use Rattle.nor_layout.specs.Grammar.{IsLayout}
 use Rattle.nor_layout.specs.Included.{are_known}
-use Rattle.nor_layout.specs.Text.{◌>>=◌, AsksMemory, ReadsLayout, joins, joins_or_fault, layout_says, lines_of, lines_say, with_line}
+use Rattle.nor_layout.specs.Text.{◌>>=◌, AsksMemory, ReadsLayout, layout_says, lines_of, lines_say, with_line}
 use Rattle.flashnor.specs.Requests.{IncludesNone}
 
 -- ---- a text has no fault of names
 
-joins_named : (regions : List Region) (n : ℕ) (region : Region) → joins regions n region ≡ Err layout.NoRegion → ⊥
-joins_named regions n region e = grind arith
-
-said_named : (regions : List Region) (n : ℕ) (said : Result Region LineFault) → joins_or_fault regions n said ≡ Err layout.NoRegion → ⊥
-said_named regions n (Ok region) e = joins_named regions n region e
-said_named regions n (Err fault) e = cc
-
 line_named : (regions : List Region) (n : ℕ) (line : List ℕ) → with_line regions n line ≡ Err layout.NoRegion → ⊥
 unfolding with_line
-line_named regions n line e = grind (arith, said_named)
+line_named regions n line e = grind arith
 
 step_named : (said : Result (List Region) LayoutFault) (next : List Region → Result (List Region) LayoutFault)
     → (said ≡ Err layout.NoRegion → ⊥) → ((more : List Region) → next more ≡ Err layout.NoRegion → ⊥)
     → (said >>= next) ≡ Err layout.NoRegion → ⊥
-step_named (Ok more) next now later e = later more e
-step_named (Err fault) next now later e = now e
+step_named said next now later e = grind arith
 
 lines_named : (lines : List (List ℕ)) (regions : List Region) (n : ℕ) → lines_say regions n lines ≡ Err layout.NoRegion → ⊥
 unfolding lines_say

@@ -44,8 +44,7 @@ use Rattle.flashnor.proofs.Traced.{reads_before}
 -- where no file is named the missing bytes stand for it
 pub of_none : (view : View) (name : Option (Bor Text)) (len : ℕ) (missing bytes : List ℕ) → name ≡ None
     → AreOfFile view name len missing bytes → bytes ≡ missing
-of_none view None len missing bytes none are = are.same ∙ (rw are.is_found refl)
-of_none view (Some name) len missing bytes none are = cc
+of_none view name len missing bytes none are = grind arith
 
 as_many : (view : View) (name : Option (Bor Text)) (len : ℕ) (missing bytes : List ℕ)
     → AreOfFile view name len missing bytes → length missing ≡ len → length bytes ≡ len

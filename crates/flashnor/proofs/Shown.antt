@@ -1,6 +1,6 @@
 -- What the emulated chips are, and show themselves as.
-use Rattle.std.proofs.Common.{◌≡◌, ◌∙◌, List, ℕ, [], ◌∷◌, Option, None, Some, Result, Ok, Err, IsOk, ap, if◌then◌else◌}
-use Rattle.std.proofs.Common.{refl, replicate, subst, sym}
+use Rattle.std.proofs.Common.{◌≡◌, ◌∙◌, List, ℕ, [], ◌∷◌, Option, None, Some, Result, Ok, Err, IsOk, ap, arith}
+use Rattle.std.proofs.Common.{if◌then◌else◌, refl, replicate, subst, sym}
 use Rattle.nor_chip.specs.declared.config.Config.{Config}
 use Rattle.nor_chip.specs.Makers.{all_kinds}
 use Rattle.nor_probe.specs.Known.{HasGeometry, IsKnown, chip_says, id_of, is_no_chip, listed_or, part_by_sfdp, shown_as}
@@ -23,8 +23,7 @@ known_by W25q64fv config is = w25q64fv_known config is
 known_by W25q128fv config is = w25q128fv_known config is
 
 size_by : (chip : Emulated) (config : Config) → IsConfigOfEmulated chip config → config.size ≡ (emulated_part chip).size
-size_by Tiny64 config is = is.size
-size_by _ config is = is.size
+size_by chip config is = grind arith
 
 -- what a geometry makes of TINY64, where it is that of the chip
 by_geometry : (config : Config) → config.size ≡ 65536 → config.kinds ≡ all_kinds → (says : Result Geometry SfdpFault)

@@ -1,5 +1,5 @@
 -- Files that stay as they were, over several calls.
-use Rattle.std.proofs.Common.{◌≡◌, ◌≢◌, ◌∙◌, Option, None, Some, ap, inl, refl, sym, true}
+use Rattle.std.proofs.Common.{◌≡◌, ◌≢◌, ◌∙◌, Option, None, Some, ap, arith, inl, refl, sym, true}
 use Rattle.std.specs.Borrow.{Bor}
 use Rattle.nor_files.specs.Calls.{Lends, TakesBack}
 use Rattle.nor_files.specs.Files.{AllStay, AreAtRest, FilesState, Found, IsKnown, IsSettled, Name, Nature, Stays}
@@ -22,8 +22,7 @@ stays_on one other = record {
 
 -- the other way round
 pub not_that : (one : Option (Bor Text)) (file : Bor Text) → AreTwo one (Some file) → IsNot one file.now
-not_that None file two = tt
-not_that (Some name) file two = λ same. two (sym same)
+not_that one file two = grind arith
 
 -- each file stays but these two, if they are named
 abbrev pub StayApart : (one other : Option (Bor Text)) → (old new : FilesState) → Type 0

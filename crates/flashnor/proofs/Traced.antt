@@ -1,5 +1,5 @@
 -- A job's call once its trace was made.
-use Rattle.std.proofs.Common.{◌≡◌, ◌∙◌, ℕ, Option, None, Some, IsSomeAnd, ap, inl, inr, option_map, sym, take, true}
+use Rattle.std.proofs.Common.{◌≡◌, ◌∙◌, ℕ, Option, None, Some, IsSomeAnd, ap, arith, inl, inr, option_map, sym, take, true}
 use Rattle.std.specs.Borrow.{Bor}
 use Rattle.nor_files.specs.Calls.{Reads}
 use Rattle.nor_files.specs.Files.{FilesState, Found, OthersStay, View, is_lawful}
@@ -9,8 +9,6 @@ use Rattle.flashnor.specs.Holding.{KnownStay}
 use Rattle.flashnor.specs.Files.{IsLogging}
 use Rattle.flashnor.specs.Run.{FailsTraced, IsViewBut}
 use Rattle.flashnor.specs.declared.messages.Fault.{Fault}
-use Rattle.flashnor.specs.declared.messages.Fault.TheVariants as end
-use Rattle.flashnor.specs.declared.messages.FileFault.TheVariants as file
 use Rattle.flashnor.specs.Stored.{IsNot, MakesNothing}
 use Rattle.flashnor.proofs.Stays.{known_after, lawful_after}
 
@@ -56,9 +54,7 @@ makes_nothing_before name (Some file) old mid new nature not others made = λ kn
 
 trace_before : (trace : Option (Bor Text)) (fault : Fault) (old mid : View) → mid.nature ≡ old.nature
     → IsSomeAnd trace (λ name. IsLogging mid name.now fault) → IsSomeAnd trace (λ name. IsLogging old name.now fault)
-trace_before None fault old mid same fails = fails
-trace_before (Some name) (end.File file.Write of) old mid same fails = rw (← same) fails
-trace_before (Some name) _ old mid same fails = fails
+trace_before trace fault old mid same fails = grind arith
 
 pub fails_before : (job : ChipJob) (fault : Fault) (old mid : FilesState) → mid.view.nature ≡ old.view.nature
     → KnownStay old mid

@@ -76,10 +76,7 @@ same_with chip (Some number) one other a b =
 -- a file that has just so many bytes was read as it is
 whole_seen : (len : ℕ) (seen found : Found) → found ≡ option_map (take (len + 1)) seen
     → IfSome found (λ all. length all ≡ len) → found ≡ seen
-whole_seen len None found is whole = is
-whole_seen len (Some all) found is whole =
-    let some = subst (λ (f : Found). IfSome f (λ has. length has ≡ len)) is whole in
-    is ∙ ap Some (take_all (len + 1) all (omega (arith, some, length-take (len + 1) all)))
+whole_seen len seen found is whole = grind (arith, take_all, length-take)
 
 left_seen : (files : FilesState) → AreAtRest files → ((name : Name) → files.may_leave name (files.view.seen name))
     → (name : Option (Bor Text)) (len : ℕ) (found : Found) → IsFileFound files.view name len found
@@ -92,16 +89,15 @@ left_seen files rest still (Some name) len found is whole =
 
 -- what may be left of one may be of the other
 left_one : (one other : Option (Bor Text)) (left : Found) (files : FilesState) → NameOne one other
-    → (MayLeave other left files → MayLeave one left files) × (MayLeave one left files → MayLeave other left files)
-left_one None None left files same = (λ can. can, λ can. can)
-left_one (Some one) (Some other) left files same = (λ can. rw (← same) can, λ can. rw same can)
-left_one _ _ left files same = absurd same
+    → MayLeave other left files → MayLeave one left files
+left_one one other left files same can = grind arith
+
+turned : (one other : Option (Bor Text)) → NameOne one other → NameOne other one
+turned one other same = grind arith
 
 less_of : (one other : Option (Bor Text)) (left : Found) (old new : FilesState) → NameOne one other
     → LeavesNoMoreOf other old new → MayLeave one left new → MayLeave one left old
-less_of None other left old new same less can = can
-less_of (Some one) (Some other) left old new same less can = rw (← same) (less left (rw same can))
-less_of (Some one) None left old new same less can = absurd same
+less_of one other left old new same less can = grind arith
 
 -- ---- the task
 
@@ -172,9 +168,9 @@ module _ (programmer : Programmer) (file : Text) (start : FilesState) (first : O
           → CanGiveBack journal first.bus.chip found.bus
       can_back journal is reads =
           rw (one_journal journal is reads) (leads.back found.read.bytes.found found.read.status.found found.bus
-          ((left_one programmer.image other.image _ mid same.image).0
+          (left_one programmer.image other.image _ mid same.image
           (left_seen mid rest still other.image _ _ found.read.bytes.is_found found.read.bytes.whole))
-          ((left_one programmer.status other.status _ mid same.status).0
+          (left_one programmer.status other.status _ mid same.status
           (left_seen mid rest still other.status _ _ found.read.status.is_found found.read.status.whole)) from)
 
     -- at every exit of a restore
@@ -187,8 +183,8 @@ module _ (programmer : Programmer) (file : Text) (start : FilesState) (first : O
       back = λ i s opened can_i can_s is.
           rw (← one_journal kept.journal kept.sound kept.read) (kept.back first.bus.chip
           (can_back kept.found kept.journal kept.sound kept.read) i s opened
-          ((left_one programmer.image other.image i new same.image).1 can_i)
-          ((left_one programmer.status other.status s new same.status).1 can_s)
+          (left_one other.image programmer.image i new (turned programmer.image other.image same.image) can_i)
+          (left_one other.status programmer.status s new (turned programmer.status other.status same.status) can_s)
           (rw (one_setup kept.found) is));
     }
 

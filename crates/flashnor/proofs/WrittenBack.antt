@@ -67,8 +67,7 @@ told_of name failed view is = grind arith
 pub told_before : (name failed : Option (Bor Text)) (old mid : View) → mid.nature ≡ old.nature
     → IsToldOf name failed mid
     → IsToldOf name failed old
-told_before name None old mid same is = tt
-told_before name (Some failed) old mid same is = (is.0, rw (← same) is.1)
+told_before name failed old mid same is = grind arith
 
 -- ---- both
 
