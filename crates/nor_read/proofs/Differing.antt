@@ -25,21 +25,17 @@ in_sector Holds sector each a above below =
     let at : 4096 * sector + i ≡ a = omega arith in
     subst Holds at (each i (omega arith))
 
--- What a comparison is made of: a sector's bytes, with those of the image where none is included.
-pub record IsFilled (included : Option (List Span)) (image : List ℕ) (sector : ℕ)
-    (bytes filled part : List ℕ) : Type 0 where
-  pub long : length filled ≡ 4096
-  pub cut : (i : ℕ) → i < 4096 → slice_index part i ≡ slice_index image (4096 * sector + i)
-  pub fills : (i : ℕ) → i < 4096 → slice_index filled i
-      ≡ (if includes included (4096 * sector + i) then slice_index bytes i else slice_index part i)
-
-module _ {included : Option (List Span)} {image : List ℕ} {sector : ℕ} {bytes filled part : List ℕ}
-    (is : IsFilled included image sector bytes filled part)
+-- what a comparison is made of: a sector's bytes, with those of the image where none is included
+module _ (included : Option (List Span)) (image : List ℕ) (sector : ℕ) (bytes filled part : List ℕ)
+    (long : length filled ≡ 4096)
+    (cut : (i : ℕ) → i < 4096 → slice_index part i ≡ slice_index image (4096 * sector + i))
+    (fills : (i : ℕ) → i < 4096 → slice_index filled i
+    ≡ (if includes included (4096 * sector + i) then slice_index bytes i else slice_index part i))
     (content : ℕ → ℕ) (read : AreOfSector content sector bytes) where
   -- an included byte is the one that was read
   filled_in : (i : ℕ) → i < 4096 → includes included (4096 * sector + i) ≡ true
       → slice_index filled i ≡ content (4096 * sector + i)
-  filled_in i small inside = rw inside at (is.fills i small) ∙ read i small
+  filled_in i small inside = rw inside at (fills i small) ∙ read i small
 
   -- so far the bytes agree
   agree_to : (most : ℕ) → ((i : ℕ) → i < 4096 → i < most → slice_index filled i ≡ slice_index part i) → (a : ℕ)
@@ -47,23 +43,23 @@ module _ {included : Option (List Span)} {image : List ℕ} {sector : ℕ} {byte
       → slice_index image a ≡ content a
   agree_to most agree = in_sector
       (λ a. a < 4096 * sector + most → includes included a ≡ true → slice_index image a ≡ content a) sector
-      (λ i small below inside. sym (is.cut i small) ∙ sym (agree i small (omega arith)) ∙ filled_in i small inside)
+      (λ i small below inside. sym (cut i small) ∙ sym (agree i small (omega arith)) ∙ filled_in i small inside)
 
   pub part_agrees : AllAgree filled part → AgreeIn included image content (4096 * sector) (4096 * (sector + 1))
   part_agrees agree a above below =
-      agree_to 4096 (λ i small low. agree i (omega (arith, is.long))) a above below (omega arith)
+      agree_to 4096 (λ i small low. agree i (omega arith)) a above below (omega arith)
 
   pub part_differs : (first : ℕ) → IsFirstDifference filled part first
       → IsFirstOther included image content (4096 * sector) (4096 * (sector + 1)) (4096 * sector + first)
   part_differs first difference =
-      let small : first < 4096 = omega (arith, is.long, difference.within) in
+      let small : first < 4096 = omega (arith, difference.within) in
       let inside : includes included (4096 * sector + first) ≡ true
-      = let fills = is.fills first small in grind (arith, difference.differs) in
+      = let filling = fills first small in grind (arith, difference.differs) in
       record {
         above = omega arith;
         below = omega arith;
         is_included = inside;
-        differs = λ same. difference.differs (filled_in first small inside ∙ sym same ∙ sym (is.cut first small));
+        differs = λ same. difference.differs (filled_in first small inside ∙ sym same ∙ sym (cut first small));
         before = λ a above below.
             agree_to first (λ i low before. difference.before i before) a above (omega arith) below;
       }
