@@ -1,7 +1,7 @@
 -- How a restore leads back to a chip that the journal saves.
 use Rattle.std.proofs.Common.{◌&&◌, ◌≡◌, ◌<◌, ◌+◌, ◌-◌, ◌*◌, ◌/◌, ◌%◌, ◌∙◌, ◌⊎◌, ℕ, Bool, true, false, true≢false, List, ap, sym, refl, arith, inl, inr}
 use Rattle.std.specs.Prelude.{not, ◌≢◌, Option, Some, None, IfSome, IsSomeAnd}
-use Rattle.std.proofs.lemmas.Bool.{cases_Bool, cases_lt, and_left, and_parts, or_cases, both_ways, eqb-true, true_from_ne_false}
+use Rattle.std.proofs.lemmas.Bool.{cases_Bool, cases_lt, and_left, and_parts, or_cases, both_ways, eqb-true}
 use Rattle.std.proofs.lemmas.Bool.Decides.{nat_tests}
 use Rattle.std.proofs.Math.Bool.{and-false}
 use Rattle.nor_chip.specs.Code.{code_in}
@@ -35,7 +35,6 @@ use Rattle.nor_save.specs.Saving.{SomeHeld}
 use Rattle.nor_session.specs.Headline.{SavesChip, open_places, CanGiveBack}
 use Rattle.nor_session.specs.Restore.{restored, is_touched_from, FitsStatus, RestoreTells}
 use Rattle.nor_session.proofs.Rescanned.{restored_saved, restored_other}
-use Rattle.nor_session.proofs.SavedBytes.{sector_at}
 use Rattle.nor_session.proofs.RestoredBytes.{touched_byte, touched_saved}
 
 -- ---- readings keep a chip within
@@ -64,25 +63,11 @@ looked_within p first most old new steady looked within =
     let runs : new.steady ≡ false → new.chip.busy ≢ 0 → WorksIn p first new.chip.running = λ loses works.
     rw (stays.running works) (within.runs (sym steady ∙ loses) (λ idle. works (omega arith))) in
     elim (calm_or_not old) [
-      | inl calm ↦
-          let same = stays.calm calm in
-          record {
-            config = stays.config ∙ within.config;
-            bytes = λ a out. same.bytes a ∙ within.bytes a out;
-            fixed = fixed_then _ _ _ within.fixed (kept_fixed old.chip new.chip (same.kept1, same.kept2));
-            kept = λ shut. kept_then first old.chip new.chip (within.kept shut) (same.kept1, same.kept2);
-            runs = runs;
-          }
+      | inl calm ↦ let same = stays.calm calm in search (arith, fixed_then, kept_fixed, kept_then)
       | inr shaky ↦
           let works = within.runs shaky.0 shaky.1 in
           let cut = cut_kept p first old.chip new.chip old.chip.running stays.kept works within.fixed in
-          record {
-            config = stays.config ∙ within.config;
-            bytes = λ a out. stays.bytes a (narrower (works.inside a) out) ∙ within.bytes a out;
-            fixed = cut.0;
-            kept = λ shut. cut.1 shut (within.kept shut);
-            runs = runs;
-          }
+          search (arith, narrower)
     ]
 
 -- ---- guarded places are whole sectors
@@ -110,16 +95,7 @@ guarded_same chip a b genuine sector =
 pub touched_open : (journal : Content) (first chip : Chip) (a : ℕ) → IsKnown first.config → SavesChip journal first → ((b : ℕ) → open_places journal first b ≡ false → chip.bytes b ≡ first.bytes b)
     → is_touched_from journal chip (a / 4096) ≡ true → open_places journal first a ≡ true
 touched_open journal first chip a known saves same touched =
-    search (
-      arith,
-      guarded_same,
-      restored_saved,
-      saved_byte-is,
-      sector_at,
-      touched_byte,
-      touched_saved,
-      true_from_ne_false,
-    )
+    search (arith, guarded_same, saved_byte-is, touched_byte, touched_saved)
 
 -- changes of such sectors keep a chip within
 pub change_within : (journal : Content) (first : Chip) (touched raised : ℕ → Bool) (wanted : ℕ → ℕ) (old mid new : BusState) → CanGiveBack journal first old → IsWithin (open_places journal first) first mid

@@ -1,5 +1,5 @@
 -- What one restore under a stop comes to, restores in turn, and restores from a text.
-use Rattle.std.proofs.Common.{◌≡◌, ◌<◌, ◌≤◌, ◌+◌, ◌∙◌, ℕ, Bool, List, length, slice_index, true, false, refl, ap, sym, arith, inl, inr}
+use Rattle.std.proofs.Common.{◌≡◌, ◌<◌, ◌≤◌, ◌+◌, ◌∙◌, ℕ, Bool, List, length, slice_index, true, false, refl, sym, arith, inl, inr}
 use Rattle.std.specs.Prelude.{Ok, Err, Result}
 use Rattle.std.proofs.lemmas.Bool.{cases_eq}
 use Rattle.nor_chip.specs.Chip.{Chip}
@@ -17,7 +17,7 @@ use Rattle.nor_call.specs.declared.refusal.Refusal.TheVariants.{Stopped, Timeout
 use Rattle.nor_save.specs.Saving.{head_of}
 use Rattle.nor_session.specs.Bounds.{most_of}
 use Rattle.nor_session.specs.Headline.{CanGiveBack, GivesBack}
-use Rattle.nor_session.specs.Restore.{IsJudgedFirst, RestoreAlways, RestoreHonest, RestoreModelled}
+use Rattle.nor_session.specs.Restore.{RestoreAlways, RestoreHonest, RestoreModelled}
 use Rattle.nor_session.specs.Session.{HonestTells}
 use Rattle.nor_session.specs.Rehearsal.{IsNoHalt}
 use Rattle.nor_session.specs.Rehearsing.{LeadsBack, LeavesRestores, ShowsRestore, ShowsRestores, StopsRestores, Undoes, WearsSaved, AimsAtText, RefusesUndo}
@@ -36,14 +36,8 @@ modelled_at old new honest config modelled =
 
 -- an allowance leaves what can be given back
 allow_leaves : {n : ℕ} (journal : Content) (old new : BusState) → Allows n old new → LeavesRestores journal 0 old new
-allow_leaves journal old new allows = record {
-  nature = allows.nature;
-  modelled = modelled_at old new allows.nature.honest (ap (λ (chip : Chip). chip.config) allows.chip);
-  can = λ modelled first can. let within = can.within in search (arith, allows.chip, allows.nature.steady);
-  worn = λ modelled s other. allows.worn s;
-  aims = none_aimed journal old new allows.sent;
-  writes = none_written 0 old new allows.sent;
-}
+allow_leaves journal old new allows =
+    search (arith, modelled_at, none_aimed, none_written, allows.chip, allows.nature.steady)
 
 pub restores_then : (journal : Content) (m n most : ℕ) (old mid new : BusState) → m + n ≤ most → LeavesRestores journal m old mid → LeavesRestores journal n mid new → LeavesRestores journal most old new
 restores_then journal m n most old mid new fits before after = search (arith, aims_then, nature_then)
@@ -61,32 +55,14 @@ module _ {n : ℕ} {journal : Content} {old mid new : BusState} (allows : Allows
       → RestoreAlways journal mid new result → (IsModelled mid → RestoreModelled journal mid new result)
       → LeavesRestores journal 1 old new
   under_leaves gives always promise =
-      restores_then journal 0 1 1 old mid new (omega arith) (allow_leaves journal old mid allows) record {
-        nature = always.spends.nature;
-        modelled = λ now. modelled_at mid new always.spends.nature.honest (promise now).leaves.config now;
-        can = λ modelled. (gives modelled).within;
-        worn = λ modelled s other. (promise modelled).leaves.worn s (unraised_other journal mid.chip.bytes s other);
-        aims = always.aims;
-        writes = always.writes;
-      }
+      restores_then journal 0 1 1 old mid new (omega arith) (allow_leaves journal old mid allows)
+      (search (arith, modelled_at, unraised_other))
 
   -- it ended
   pub under_ends : (report : Report) → (IsModelled mid → GivesBack journal mid new (Ok report))
       → RestoreAlways journal mid new (Ok report)
       → (mid.honest ≡ true → RestoreHonest journal mid new (Ok report)) → ShowsRestore journal n old new true
-  under_ends report gives always told =
-      let leaves = allow_leaves journal old mid allows in
-      record {
-        back = λ modelled ended first can.
-            (gives (leaves.modelled modelled)).back first (leaves.can modelled first can);
-        enough = λ modelled ended.
-            let left = allows.left modelled.honest in
-            let sent = (told (leaves.modelled modelled).honest).counted in
-            let least = always.bounded.least in
-            omega arith;
-        none_left = λ honest never. absurd cc;
-        below = λ modelled never. absurd cc;
-      }
+  under_ends report gives always told = let leaves = allow_leaves journal old mid allows in search arith
 
   -- it was refused
   pub under_refuses : (refusal : Refusal) → (IsModelled mid → GivesBack journal mid new (Err refusal))
@@ -94,15 +70,7 @@ module _ {n : ℕ} {journal : Content} {old mid new : BusState} (allows : Allows
       → (mid.honest ≡ true → RestoreHonest journal mid new (Err refusal)) → (refusal ≡ Stopped → ⊥)
       → StopsRestores journal old refusal
   under_refuses refusal gives always told never =
-      let leaves = allow_leaves journal old mid allows in
-      record {
-        answers = always.answers;
-        names = always.names;
-        halts = λ room honest. no_halt (most_of (length journal.saved)) IsJudgedFirst mid new refusal never
-            (told (allows.nature.honest ∙ honest)).gives_up;
-        never = λ modelled first can.
-            never ((gives (leaves.modelled modelled)).only_stops first (leaves.can modelled first can));
-      }
+      let leaves = allow_leaves journal old mid allows in search (arith, no_halt)
 
 -- ---- restores in turn
 

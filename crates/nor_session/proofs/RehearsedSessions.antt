@@ -4,7 +4,6 @@ use Rattle.std.specs.Prelude.{max, Ok, Err, Result}
 use Rattle.std.proofs.lemmas.Bool.{true≢false, cases_Bool}
 use Rattle.nor_chip.specs.Chip.{Chip, IsChip, IsSame}
 use Rattle.nor_chip.specs.Bus.{BusState, Allows}
-use Rattle.nor_chip.specs.Sent.{status_writes_of}
 use Rattle.nor_chip.proofs.Nature.{nature_then}
 use Rattle.nor_journal.specs.Vault.{VaultState}
 use Rattle.nor_call.specs.declared.request.Request.{Request}
@@ -70,13 +69,9 @@ module _ {n : ℕ} {old mid : BusState} (allows : Allows n old mid) where
         → LeavesSession request image old new after
     session_leaves telling reaches keeps always promise = record {
       nature = nature_then old mid new always.spends.nature allows.nature;
-      same = λ modelled calm unsealed. rw allows.chip at
-          (keeps.same unsealed (modelled_mid modelled).honest (rw (allows.nature.steady, allows.chip) calm));
-      back = λ modelled sealed.
-          let is = modelled_mid modelled in
-          rw allows.chip at
-          (leads_back request image mid new after (reaches is.honest) is.genuine telling ((promise is).undo sealed));
-      accepted = λ modelled sealed. rw allows.chip at ((promise (modelled_mid modelled)).undo sealed).accepted;
+      same = λ modelled calm unsealed. let is = modelled_mid modelled in search (arith, allows.chip, allows.nature.steady);
+      back = λ modelled sealed. let is = modelled_mid modelled in search (arith, ← allows.chip, leads_back);
+      accepted = λ modelled sealed. let is = modelled_mid modelled in search (arith, allows.chip);
       wears = λ modelled s other.
           let is = modelled_mid modelled in
           elim (cases_Bool after.sealed) [
@@ -85,11 +80,11 @@ module _ {n : ℕ} {old mid : BusState} (allows : Allows n old mid) where
                 (untouched_unraised_by request image mid.chip s (rw allows.chip other)) ∙ allows.worn s
             | inr unsealed ↦ ((always.looks unsealed).looked is.honest).stays.worn s ∙ allows.worn s
           ];
-      still = λ unsealed. keeps.still unsealed ∙ allows.sent;
+      still = search arith;
       aims = λ sealed.
           let (journal, aimed) = always.aims sealed telling in
           (journal, aims_then journal.content old mid new (none_aimed journal.content old mid allows.sent) aimed);
-      writes = (let same = ap status_writes_of allows.sent in omega (arith, same, always.writes));
+      writes = search arith;
     }
 
     -- it ended
@@ -149,9 +144,7 @@ module _ {request : Request} {image text later : List ℕ} {old mid new : BusSta
     (is : text ≡ vault.bytes) (undone : LeavesUndo text later mid new result) where
   -- the bus is modelled still, and the text leads back
   pub led : IsModelled old → IsModelled mid × LeadsBack (is_touched_by request image old.chip) old.chip text mid
-  led modelled =
-      let leads = session.back modelled sealed in
-      (modelled_at old mid session.nature.honest leads.within.config modelled, rw is leads)
+  led modelled = search (arith, modelled_at)
 
   -- both wear what the session touches alone
   pub both_wear : IsModelled old → (s : ℕ) → is_touched_by request image old.chip s ≡ false → new.worn s ≡ old.worn s

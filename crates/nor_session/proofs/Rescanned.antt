@@ -141,15 +141,5 @@ small_byte o k small is = grind (arith, nat_tests)
 pub all_rescanned : {journal : Content} {n : ℕ} {old new : BusState} {scanned : Scanned} → IsContent journal
     → n ≡ length journal.saved → HasRescanned journal n old new scanned → ScansSaved journal old new scanned
 all_rescanned {journal = journal} {n = n} {old = old} {scanned = scanned} is end was =
-    search (
-      arith,
-      is_chip_size-in_blocks,
-      later_marks,
-      least_within,
-      nat_tests,
-      saved_few,
-      small_byte,
-      take-all_sectors,
-      unraised_other,
-      untouched_other,
-    )
+    let few = saved_few journal is in let most = (is_chip_size-in_blocks journal.size is.size).small in
+    search (arith, nat_tests, later_marks, least_within, small_byte, take-all_sectors, unraised_other, untouched_other)

@@ -1,8 +1,8 @@
 -- What a session leaves once the vault is sealed, and at its end.
-use Rattle.std.proofs.Common.{subst, ◌≡◌, ◌<◌, ◌+◌, ◌/◌, ◌%◌, ◌∙◌, ℕ, Bool, false, List, length, ap, sym, arith, inl, inr}
+use Rattle.std.proofs.Common.{subst, ◌≡◌, ◌<◌, ◌+◌, ◌/◌, ◌%◌, ◌∙◌, ℕ, Bool, false, List, length, ap, sym, arith}
 use mathlib.Core.Path.{fun_ext}
 use Rattle.std.specs.Prelude.{slice_index}
-use Rattle.std.proofs.lemmas.Bool.{cases_Bool, cases_lt, le-ltb, lt-ltb, ltb-true, and_parts}
+use Rattle.std.proofs.lemmas.Bool.{cases_lt, le-ltb, lt-ltb, ltb-true, and_parts}
 use Rattle.std.proofs.Math.Bool.{and-false}
 use Rattle.nor_chip.specs.declared.status.Status.{Status}
 use Rattle.nor_chip.specs.Chip.{Chip}
@@ -27,6 +27,7 @@ use Rattle.nor_save.proofs.Planned.{wanted-kept}
 use Rattle.nor_probe.specs.Known.{IsModelled}
 use Rattle.nor_session.specs.Changing.{LeavesChange, DoesChange}
 use Rattle.nor_session.specs.Session.{IsWithinBound, IsDone, CanBeUndone}
+use Rattle.nor_session.specs.Made.{IsMade}
 use Rattle.nor_session.specs.Verdict.{NeedsStatusWrite}
 use Rattle.nor_session.proofs.Changed.{no_write, fewest_at}
 use Rattle.nor_session.proofs.Ready.{Ready, changes_of, bounded_by}
@@ -87,24 +88,15 @@ module _ (request : Request) (image image' : List ℕ) (opening : Opening) (stat
       let can = can_apply request image image' opening status code kept old mid is of in
       let applied = does.done honest can in
       let same = of.rested.unchanged.same in
+      let blocks = is.part.in_blocks in let size = of.is.config.size in
+      let made : IsMade (wanted request image old.chip) old.chip new.chip
+      = search (arith, fixed_then, kept_fixed, wanted_untouched) in
       let aim = wanted request image old.chip in
       let touched : has kept.scanned.touched ≡ is_touched_by request image old.chip = fun_ext of.touched in
       let raised : has kept.scanned.raised ≡ is_raised_by request image old.chip = fun_ext of.raised in
       let bytes : mid.chip.bytes ≡ old.chip.bytes = fun_ext same.bytes in
       record {
-        made = record {
-          config = applied.config ∙ same.config;
-          bytes = λ a. elim (cases_Bool (has kept.scanned.touched (a / 4096))) [
-            | inl hit ↦ rw hit at (applied.bytes a) ∙ of.merged a hit
-            | inr other ↦
-                let blocks = is.part.in_blocks in let size = of.is.config.size in
-                rw other at (applied.bytes a) ∙ same.bytes a
-                ∙ sym (wanted_untouched request image old.chip a (omega arith) (sym (of.touched (a / 4096)) ∙ other))
-          ];
-          fixed = fixed_then old.chip mid.chip new.chip (kept_fixed old.chip mid.chip (same.kept1, same.kept2)) applied.fixed;
-          idle = applied.idle;
-          latch = λ set. of.rested.latch (applied.latch set);
-        };
+        made = made;
         reported = record {
           worn = λ s. cc (of.rested.unchanged.worn s, applied.worn s);
           shown = of.shown;

@@ -14,19 +14,13 @@ returns-in_err-restores g c =
     let refuses = c.in_err-restores.ensures.refuses in
     let never = λ (modelled : IsModelled (g.B.Bus.state c.args.bus.now)).
     let (still, leads) = led session sealed is undone modelled in refuses.never still _ _ leads in
+    let told = undo_refused session sealed is undone (held_by c.args.vault.now) _ refuses in
+    let aims = both_aim session sealed is undone in
+    let writes = both_write session sealed is undone c.args.stops.now c.later.ensures in
     let p = err_from_is_err_and c.from_residual-in_err-restores.result c.from_residual-in_err-restores.ensures.1 in
     rw (p.1, p.2) (record {
       gives_back = λ modelled calm. absurd (never modelled);
-      always = record {
-        nature = search rules;
-        counts = search rules;
-        answers = (undo_refused session sealed is undone _ _ refuses).0;
-        names = (undo_refused session sealed is undone (held_by c.args.vault.now) _ refuses).1;
-        heard = search rules;
-        still = λ unsealed. absurd (true≢false (sym sealed ∙ unsealed));
-        aims = λ again. both_aim session sealed is undone;
-        writes = both_write session sealed is undone c.args.stops.now c.later.ensures;
-      };
+      always = search rules;
       honest = λ honest. refuses.halts (session.nature.honest ∙ honest);
       modelled = λ modelled. absurd (never modelled);
     })
@@ -61,16 +55,7 @@ returns g c =
       modelled = λ modelled.
           let (still, leads) = led modelled in
           let wears = both_wear session sealed is undone modelled in
-          record {
-            wears = wears;
-            refuses = search rules;
-            tells = search rules;
-            accepts = search rules;
-            saves = search rules;
-            ended = search rules;
-            stopped = search rules;
-            seal = search rules;
-            restores = λ again. rw c.later.ensures at (undoes.are still _ _ leads);
-            last = λ again. rw c.later.ensures at (undoes.last still _ _ leads);
-          };
+          let are = rw c.later.ensures at (undoes.are still _ _ leads) in
+          let last = rw c.later.ensures at (undoes.last still _ _ leads) in
+          search rules;
     }

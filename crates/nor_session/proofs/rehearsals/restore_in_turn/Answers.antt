@@ -3,17 +3,10 @@ use Rattle.nor_session.proofs.RehearsedRestores.{leaves_more, stopped_more, ende
 use Rattle.nor_session.proofs.rehearsals.restore_in_turn.Goals as goal
 
 pub loop-stop-preserved : goal.loop-stop-preserved
-loop-stop-preserved g c =
-    let here = c.loop-stop.invariant in let step = c.in_ok-ends_under.ensures in
-    record {
-      restores = (let same = here.restores in omega arith);
-      stopped = stopped_more here.stopped _ step.leaves (rw c.if-branch.false at step.shows);
-    }
+loop-stop-preserved g c = search (rules, arith, stopped_more)
 
 pub returns-clause-refuses : goal.returns-clause-refuses
-returns-clause-refuses g c =
-    refuses_before _ c.loop-stop.invariant.stopped.leaves
-    (last_ends c.most_needed.ensures (rw c.if-branch-2.false at c.in_ok-ends_under-2.ensures.shows))
+returns-clause-refuses g c = search (rules, refuses_before, last_ends)
 
 pub returns-in_err-ends_under-clause-refuses : goal.returns-in_err-ends_under-clause-refuses
 returns-in_err-ends_under-clause-refuses g c =
@@ -22,13 +15,10 @@ returns-in_err-ends_under-clause-refuses g c =
     search rules
 
 pub returns-then-branch-clause-leaves : goal.returns-then-branch-clause-leaves
-returns-then-branch-clause-leaves g c =
-    leaves_more c.loop-stop.invariant.stopped _ (omega arith) c.in_ok-ends_under.ensures.leaves
+returns-then-branch-clause-leaves g c = search (rules, arith, leaves_more)
 
 pub returns-then-branch-clause-shows : goal.returns-then-branch-clause-shows
-returns-then-branch-clause-shows g c =
-    let here = c.loop-stop.invariant in let same = here.restores in
-    ended_at here.stopped _ _ (omega arith) (omega arith) (rw c.if-branch.true at c.in_ok-ends_under.ensures.shows)
+returns-then-branch-clause-shows g c = search (rules, arith, ended_at)
 
 pub returns-in_err-ends_under-2-clause-refuses : goal.returns-in_err-ends_under-2-clause-refuses
 returns-in_err-ends_under-2-clause-refuses g c =
@@ -37,17 +27,13 @@ returns-in_err-ends_under-2-clause-refuses g c =
     search rules
 
 pub returns-clause-leaves : goal.returns-clause-leaves
-returns-clause-leaves g c =
-    leaves_more c.loop-stop.invariant.stopped _ (omega arith) c.in_ok-ends_under-2.ensures.leaves
+returns-clause-leaves g c = search (rules, arith, leaves_more)
 
 pub returns-in_err-ends_under-clause-leaves : goal.returns-in_err-ends_under-clause-leaves
-returns-in_err-ends_under-clause-leaves g c =
-    leaves_more c.loop-stop.invariant.stopped _ (omega arith) c.in_err-ends_under.ensures.leaves
+returns-in_err-ends_under-clause-leaves g c = search (rules, arith, leaves_more)
 
 pub returns-in_err-ends_under-2-clause-leaves : goal.returns-in_err-ends_under-2-clause-leaves
-returns-in_err-ends_under-2-clause-leaves g c =
-    leaves_more c.loop-stop.invariant.stopped _ (omega arith) c.in_err-ends_under-2.ensures.leaves
+returns-in_err-ends_under-2-clause-leaves g c = search (rules, arith, leaves_more)
 
 pub returns-then-branch-2-clause-leaves : goal.returns-then-branch-2-clause-leaves
-returns-then-branch-2-clause-leaves g c =
-    leaves_more c.loop-stop.invariant.stopped _ (omega arith) c.in_ok-ends_under-2.ensures.leaves
+returns-then-branch-2-clause-leaves g c = search (rules, arith, leaves_more)

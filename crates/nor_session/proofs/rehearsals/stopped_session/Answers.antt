@@ -1,13 +1,11 @@
-use Rattle.std.proofs.Common.{rules, ◌≡◌, ◌∙◌, length, refl, sym}
+use Rattle.std.proofs.Common.{rules, ◌≡◌, ◌∙◌, length, sym}
 use Rattle.std.proofs.lemmas.Bool.{true≢false}
 use Rattle.nor_session.proofs.RehearsedSessions.{session_ends, session_leaves, session_refuses, unlimited}
 use Rattle.nor_session.proofs.rehearsals.stopped_session.Goals as goal
 use Rattle.nor_session.proofs.rehearsals.stopped_session.Goals.{then-is_stopped+else-not-is_empty, else-is_stopped}
 
 pub returns-in-Ok-clause-leaves : goal.returns-in-Ok-clause-leaves
-returns-in-Ok-clause-leaves g c =
-    let ran = c.session.ensures in
-    session_leaves c.allow.ensures _ _ _ refl (g.met.B.Bus.reaches c.allow.new.self) ran.keeps ran.always ran.modelled
+returns-in-Ok-clause-leaves g c = search (rules, session_leaves, g.met.B.Bus.reaches)
 
 pub returns-in-Ok-clause-shows : goal.returns-in-Ok-clause-shows
 returns-in-Ok-clause-shows g c =
@@ -16,14 +14,10 @@ returns-in-Ok-clause-shows g c =
     ran.always ran.honest ran.modelled)
 
 pub returns-in-Err-clause-leaves : goal.returns-in-Err-clause-leaves
-returns-in-Err-clause-leaves g c =
-    let ran = c.session.ensures in
-    session_leaves c.allow.ensures _ _ _ refl (g.met.B.Bus.reaches c.allow.new.self) ran.keeps ran.always ran.modelled
+returns-in-Err-clause-leaves g c = search (rules, session_leaves, g.met.B.Bus.reaches)
 
 pub returns-in-Err-2-clause-leaves : goal.returns-in-Err-2-clause-leaves
-returns-in-Err-2-clause-leaves g c =
-    let ran = c.session.ensures in
-    session_leaves c.allow.ensures _ _ _ refl (g.met.B.Bus.reaches c.allow.new.self) ran.keeps ran.always ran.modelled
+returns-in-Err-2-clause-leaves g c = search (rules, session_leaves, g.met.B.Bus.reaches)
 
 pub returns-in-Err-2-clause-refuses : goal.returns-in-Err-2-clause-refuses
 returns-in-Err-2-clause-refuses g c =
