@@ -59,11 +59,6 @@ pub looked_then : (m n : ℕ) (old mid new : BusState) → mid.steady ≡ old.st
 looked_then m n old mid new steady first second =
     grind (arith, stays_then old mid new steady first.stays second.stays)
 
-pub looked_after : (old mid new : BusState) (m n : ℕ) → mid.steady ≡ old.steady → Rested old mid
-    → old.left ≡ mid.left + m → LooksHonest n mid new → LooksHonest (m + n) old new
-looked_after old mid new m n steady rested count looked =
-    looked_then m n old mid new steady (looked_by old mid m rested count) looked
-
 pub looked_more : (old new : BusState) (m n : ℕ) → m ≤ n → LooksHonest m old new → LooksHonest n old new
 looked_more old new m n fits looked = search arith
 
