@@ -12,7 +12,8 @@ use Rattle.nor_probe.specs.declared.table.Part.{Part}
 use Rattle.nor_probe.specs.declared.probes.Found.{Found}
 use Rattle.nor_probe.specs.declared.probes.ProbeFault.TheVariants.{NoChip}
 use Rattle.nor_probe.specs.Table.{chips, part_with_id}
-use Rattle.nor_probe.specs.Known.{is_no_chip, chip_says, sfdp_part, part_by_sfdp, listed_or, shown_as, IsGenuine, IsKnown}
+use Rattle.nor_probe.specs.Known.{is_no_chip, chip_says, sfdp_part, part_by_sfdp, listed_or, shown_as}
+use Rattle.nor_probe.specs.Known.{IsGenuine, IsKnown}
 use Rattle.nor_probe.specs.Found.{part_in, IsConfigOf}
 
 -- the part that a test finds passes it, and has what each part has
