@@ -2,7 +2,6 @@
 
 ghost use Rattle.std.specs.Prelude.{◌≡◌, ◌+◌, ◌*◌, ◌/◌, ◌^◌, ◌<◌, ◌≤◌, ℕ, Bool};
 ghost use Rattle.std.specs.Prelude.{true, List, length};
-ghost use Rattle.nor_driver.specs.Units.{is_aligned};
 ghost use Rattle.nor_chip.specs.declared.config.Kinds.{Kinds};
 ghost use Rattle.nor_count.specs.Counts.{IsCount};
 ghost use Rattle.nor_plan.specs.Erase.{Covers};
@@ -53,9 +52,12 @@ fn next_erase(set: &SectorSet, kinds: Kinds, whole: bool, from: u32) -> Option<(
     for sector in from..MOST_SECTORS {
         if set.contains(sector) {
             let unit = unit_of(set, kinds, whole, sector);
-            if begins_at(unit, sector) {
-                let sector = sector as u16;
-                return Some((Erase { unit, sector }, u32::from(sector) + 1));
+            let erase = Erase {
+                unit,
+                sector: sector as u16,
+            };
+            if erase.is_aligned() {
+                return Some((erase, sector + 1));
             }
         }
     }
@@ -76,18 +78,6 @@ fn unit_of(set: &SectorSet, kinds: Kinds, whole: bool, sector: u32) -> EraseUnit
         EraseUnit::Block32
     } else {
         EraseUnit::Sector
-    }
-}
-
-/// Whether a unit begins at a sector.
-fn begins_at(unit: EraseUnit, sector: u32) -> bool
-    ensures { result ≡ is_aligned unit sector }
-{
-    match unit {
-        EraseUnit::Sector => true,
-        EraseUnit::Block32 => sector % 8 == 0,
-        EraseUnit::Block64 => sector % 16 == 0,
-        EraseUnit::Chip => sector == 0,
     }
 }
 
