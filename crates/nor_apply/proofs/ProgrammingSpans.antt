@@ -11,7 +11,7 @@ use Rattle.std.proofs.Math.Bool.{or-false, and-or_distrib_right, or_assoc}
 use Rattle.nor_chip.specs.Bus.{BusState}
 use Rattle.nor_driver.specs.Programs.{CanProgram, MayProgram, HasProgrammed, programmed, is_in_page, LeavesProgram, Programs, is_sector_of}
 use Rattle.nor_driver.specs.Reads.{IsSectorOf}
-use Rattle.nor_plan.specs.declared.page.Span.{Span}
+use Rattle.nor_plan.specs.declared.page.PageSpan.{PageSpan}
 use Rattle.nor_plan.specs.SpanFacts.{IsSpan, AreSpans, is_within_span, spanned_by}
 use Rattle.nor_plan.specs.SectorSet.{none}
 use Rattle.nor_apply.specs.Change.{MayChange, HasChanged, only, byte_of}
@@ -34,16 +34,16 @@ use Rattle.nor_apply.proofs.InTurn.{Listed, listed_none, listed_halted, listed_m
 use Rattle.nor_apply.proofs.Aiming.{named_in}
 
 -- the places of some spans of a sector
-abbrev pub in_spans : ℕ → List Span → ℕ → Bool
+abbrev pub in_spans : ℕ → List PageSpan → ℕ → Bool
 in_spans sector spans a = spanned_by spans (a - 4096 * sector) && only sector (a / 4096)
 
 -- These spans were programmed.
-abbrev pub HasFilled : ℕ → List ℕ → List Span → (old new : BusState) → Type 0
+abbrev pub HasFilled : ℕ → List ℕ → List PageSpan → (old new : BusState) → Type 0
 HasFilled sector wanted spans old new = HasMade (in_spans sector spans) (byte_of sector wanted) none old new
 
 -- ---- the bytes that are sent
 
-abbrev part : List ℕ → Span → List ℕ
+abbrev part : List ℕ → PageSpan → List ℕ
 part wanted span = take (span.last + 1 - span.first) (drop span.first wanted)
 
 -- a span's program lets bits fall to the wanted ones, where they stand already too
@@ -67,12 +67,12 @@ span_change : (sector at : ℕ) (sent : List ℕ) (wanted : ℕ → ℕ) (now ne
 span_change sector at sent wanted now new inside either may =
     grind (arith, inside, either, may.bytes, may.runs, may.worn, kept_fixed now.chip new.chip may.kept)
 
-record Spanned (sector : ℕ) (old wanted : List ℕ) (span : Span) : Type 0 where
+record Spanned (sector : ℕ) (old wanted : List ℕ) (span : PageSpan) : Type 0 where
   pub whole : length old ≡ 4096
   pub wanted_whole : length wanted ≡ 4096
   pub is : IsSpan old wanted span
 
-module _ {sector : ℕ} {old wanted : List ℕ} {span : Span} (spanned : Spanned sector old wanted span) where
+module _ {sector : ℕ} {old wanted : List ℕ} {span : PageSpan} (spanned : Spanned sector old wanted span) where
   below_end : span.last < 4096
   below_end = omega (arith, spanned.is.last.0, spanned.whole)
 
@@ -87,7 +87,7 @@ module _ {sector : ℕ} {old wanted : List ℕ} {span : Span} (spanned : Spanned
       let last = below_end in
       rw length-part (grind (arith, nat_tests))
 
-  module _ (spans : List Span) {first now : BusState} (can : CanProgramSpans sector old wanted first.chip)
+  module _ (spans : List PageSpan) {first now : BusState} (can : CanProgramSpans sector old wanted first.chip)
       (filled : HasFilled sector wanted spans first now) where
     -- the span's place is free
     can_span : CanProgram (4096 * sector + span.first) (length (part wanted span)) now.chip
@@ -150,7 +150,7 @@ module _ {sector : ℕ} {old wanted : List ℕ} {span : Span} (spanned : Spanned
           (λ a. either_byte (in_spans sector (span ∷ []) a) (span_bytes a)) may)
 
 -- what lies in no span needs no program
-filled_all : {sector : ℕ} {old wanted : List ℕ} {spans : List Span} {first new : BusState} → length old ≡ 4096
+filled_all : {sector : ℕ} {old wanted : List ℕ} {spans : List PageSpan} {first new : BusState} → length old ≡ 4096
     → AreSpans old wanted spans → CanProgramSpans sector old wanted first.chip → HasFilled sector wanted spans first new
     → HasChanged (only sector) (byte_of sector wanted) none first new
 filled_all {sector} {old} {wanted} {spans} {first} {new} whole are can filled =
@@ -225,7 +225,7 @@ pages_other content sector old wanted whole shown =
 -- ---- one span after another
 
 -- These spans of a sector were programmed, and nothing else was sent; and those are left.
-pub record SpansSoFar (sector : ℕ) (old wanted : List ℕ) (spans left : List Span) (first now : BusState)
+pub record SpansSoFar (sector : ℕ) (old wanted : List ℕ) (spans left : List PageSpan) (first now : BusState)
     (tally : Tally) : Type 0 where
   pub whole : length old ≡ 4096
   pub wanted_whole : length wanted ≡ 4096
@@ -234,7 +234,7 @@ pub record SpansSoFar (sector : ℕ) (old wanted : List ℕ) (spans left : List 
   pub done : first.honest ≡ true → CanProgramSpans sector old wanted first.chip
       → HasFilled sector wanted spans first now
 
-pub spans_none : {sector : ℕ} {old wanted : List ℕ} {list left : List Span} (state : BusState) → length old ≡ 4096
+pub spans_none : {sector : ℕ} {old wanted : List ℕ} {list left : List PageSpan} (state : BusState) → length old ≡ 4096
     → length wanted ≡ 4096 → list ≡ spans_of old wanted → AreSpans old wanted list → left ≡ list
     → SpansSoFar sector old wanted [] left state state (record { count = 0; transactions = 0 })
 spans_none state whole wanted_whole same are all = record {
@@ -245,7 +245,7 @@ spans_none state whole wanted_whole same are all = record {
   done = λ honest can. made_none state (λ a. refl) (λ s. refl) can.can.idle;
 }
 
-module _ {sector : ℕ} {old wanted : List ℕ} {spans left : List Span} {first now : BusState} {tally : Tally}
+module _ {sector : ℕ} {old wanted : List ℕ} {spans left : List PageSpan} {first now : BusState} {tally : Tally}
     (so : SpansSoFar sector old wanted spans left first now tally) where
   -- at the end
   module _ (none : left ≡ []) where
@@ -268,7 +268,7 @@ module _ {sector : ℕ} {old wanted : List ℕ} {spans left : List Span} {first 
     }
 
   -- the next one
-  module _ {span : Span} {rest : List Span} (next : left ≡ span ∷ rest) where
+  module _ {span : PageSpan} {rest : List PageSpan} (next : left ≡ span ∷ rest) where
     spanned : Spanned sector old wanted span
     spanned = record {
       whole = so.whole;

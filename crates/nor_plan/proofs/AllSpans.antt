@@ -7,7 +7,7 @@ use Rattle.std.proofs.lemmas.List.Folds.{Any-from_list_any}
 use Rattle.std.proofs.lemmas.List.Sums.{sum_by-cons}
 use Rattle.std.proofs.lemmas.List.Elements.{All-nil, All-cons, All-weaker}
 use Rattle.std.proofs.lemmas.List.Kept.{AllPairs-cons}
-use Rattle.nor_plan.specs.declared.page.Span.{Span}
+use Rattle.nor_plan.specs.declared.page.PageSpan.{PageSpan}
 use Rattle.nor_plan.specs.Bytes.{DifferAt}
 use Rattle.nor_plan.specs.Span.{ends, page_span, page_differs, spans_in, spans_of, page_count}
 use Rattle.nor_plan.specs.SpanFacts.{IsSpan, AreSpans, spanned_by}
@@ -22,23 +22,23 @@ is_some-ends test (k ∷ ks) = elim (cases_Bool (test k)) [
   | inr fails ↦ rw fails (is_some-ends test ks)
 ]
 
-length-cons_option : (o : Option Span) (spans : List Span)
+length-cons_option : (o : Option PageSpan) (spans : List PageSpan)
     → length (cons_option o spans) ≡ cond (is_some o) 1 0 + length spans
 length-cons_option None spans = omega arith
 length-cons_option (Some s) spans = omega arith
 
 module _ (old target : List ℕ) where
   -- a span of the pages from this one on
-  abbrev SpanFrom : ℕ → Span → Type 0
+  abbrev SpanFrom : ℕ → PageSpan → Type 0
   SpanFrom page s = IsSpan old target s × (page ≤ s.first / 256)
 
   -- what the spans of so many pages tell
-  record Tell (page count : ℕ) (spans : List Span) : Type 0 where
+  record Tell (page count : ℕ) (spans : List PageSpan) : Type 0 where
     each : All (SpanFrom page) spans
     complete : (k : ℕ) → page ≤ k / 256 → k / 256 < page + count → DifferAt old target k → spanned_by spans k ≡ true
     rising : AllPairs (λ s t. s.last / 256 < t.first / 256) spans
 
-  tell_more : (page count : ℕ) (o : Option Span) (spans : List Span) → AreEnds (DiffersOn old target page) o
+  tell_more : (page count : ℕ) (o : Option PageSpan) (spans : List PageSpan) → AreEnds (DiffersOn old target page) o
       → Tell (page + 1) count spans → Tell page (suc count) (cons_option o spans)
   tell_more page count None spans none rest = record {
     each = All-weaker (SpanFrom (page + 1)) (SpanFrom page) (λ s is. (is.0, omega arith)) spans rest.each;

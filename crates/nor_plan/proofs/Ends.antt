@@ -3,27 +3,27 @@ use Rattle.std.proofs.Common.{ℕ, zero, suc, ◌≡◌, ◌<◌, ◌≤◌, ◌
 use Rattle.std.specs.Prelude.{MatchOption}
 use Rattle.std.specs.List.{range_with_len}
 use Rattle.std.proofs.lemmas.Bool.{cases_eq, cases_Bool, both_ways}
-use Rattle.nor_plan.specs.declared.page.Span.{Span}
+use Rattle.nor_plan.specs.declared.page.PageSpan.{PageSpan}
 use Rattle.nor_plan.specs.Span.{ends}
 
 -- the first and the last of some numbers, where there are any
-abbrev pub AreEnds : (ℕ → Type 0) → Option Span → Type 0
+abbrev pub AreEnds : (ℕ → Type 0) → Option PageSpan → Type 0
 AreEnds P o =
     MatchOption o ((k : ℕ) → ¬ P k) (λ s. P s.first × P s.last × ((k : ℕ) → P k → (s.first ≤ k) × (k ≤ s.last)))
 
 -- they have no others
-pub ends_once : (P : ℕ → Type 0) (o p : Option Span) → AreEnds P o → AreEnds P p → o ≡ p
+pub ends_once : (P : ℕ → Type 0) (o p : Option PageSpan) → AreEnds P o → AreEnds P p → o ≡ p
 ends_once P None None a b = refl
 ends_once P None (Some t) a b = absurd (a t.first b.0)
 ends_once P (Some s) None a b = absurd (b s.first a.0)
 ends_once P (Some s) (Some t) a b =
     let first : s.first ≡ t.first = omega (arith, a.2 t.first b.0, b.2 s.first a.0) in
     let last : s.last ≡ t.last = omega (arith, a.2 t.last b.1, b.2 s.last a.1) in
-    let span : ℕ → ℕ → Option Span = λ f l. Some (record { first = f; last = l }) in
+    let span : ℕ → ℕ → Option PageSpan = λ f l. Some (record { first = f; last = l }) in
     ap (λ f. span f s.last) first ∙ ap (span t.first) last
 
 -- and numbers of another description have the same
-pub ends_like : (P Q : ℕ → Type 0) (o : Option Span) → ((k : ℕ) → P k → Q k) → ((k : ℕ) → Q k → P k) → AreEnds P o
+pub ends_like : (P Q : ℕ → Type 0) (o : Option PageSpan) → ((k : ℕ) → P k → Q k) → ((k : ℕ) → Q k → P k) → AreEnds P o
     → AreEnds Q o
 ends_like P Q None to from none = λ k is. none k (from k is)
 ends_like P Q (Some s) to from are = (to s.first are.0, to s.last are.1, λ k is. are.2 k (from k is))

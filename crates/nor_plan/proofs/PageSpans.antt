@@ -3,7 +3,7 @@ use Rattle.std.proofs.Common.{ℕ, ◌≡◌, ◌<◌, ◌≤◌, ◌+◌, ◌-�
 use lib.Lanes.{chunk}
 use Rattle.std.specs.Int.{div_ceil}
 use Rattle.std.proofs.lemmas.Simd.{length-chunk, get_or-chunk}
-use Rattle.nor_plan.specs.declared.page.Span.{Span}
+use Rattle.nor_plan.specs.declared.page.PageSpan.{PageSpan}
 use Rattle.nor_plan.specs.Bytes.{AllAgree, DifferAt, IsFirstDifference, IsLastDifference}
 use Rattle.nor_plan.specs.Span.{page_span, spans_from, page_count}
 use Rattle.nor_plan.proofs.Masks.{other_from_test, test_from_other}
@@ -88,7 +88,7 @@ module _ (old target : List ℕ) where
       → spans_from old target (page + 1) ≡ spans_from old target page
   spans_from-none page there none = rw (pages_left page there, none)
 
-  pub spans_from-some : (page : ℕ) (span : Span) → page < page_count old → page_span old target page ≡ Some span
+  pub spans_from-some : (page : ℕ) (span : PageSpan) → page < page_count old → page_span old target page ≡ Some span
       → spans_from old target page ≡ span ∷ spans_from old target (page + 1)
   spans_from-some page span there some = rw (pages_left page there, some)
 

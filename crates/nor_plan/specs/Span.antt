@@ -2,7 +2,7 @@
 use Rattle.std.specs.Prelude.{ℕ, ◌≡◌, ◌==◌, ◌-◌, ◌*◌, min, not, Bool, List, [], ◌∷◌, Option, Some, None, MatchOption, length, filter, count_by, slice_index}
 use Rattle.std.specs.List.{filter_map, list_any, range_with_len}
 use Rattle.std.specs.Int.{div_ceil}
-use Rattle.nor_plan.specs.declared.page.Span.{Span}
+use Rattle.nor_plan.specs.declared.page.PageSpan.{PageSpan}
 
 -- the places at which the bytes differ, of the `count` places from `from` on
 abbrev pub differences : (old target : List ℕ) → (from count : ℕ) → List ℕ
@@ -15,16 +15,16 @@ last_of k [] = k
 last_of k (j ∷ js) = last_of j js
 
 -- the first and the last of some places
-abbrev pub ends : List ℕ → Option Span
+abbrev pub ends : List ℕ → Option PageSpan
 ends [] = None
 ends (k ∷ ks) = Some (record { first = k; last = last_of k ks })
 
 -- the span of a page, which is its first and its last difference; the last page may be a short one
-abbrev pub page_span : (old target : List ℕ) → ℕ → Option Span
+abbrev pub page_span : (old target : List ℕ) → ℕ → Option PageSpan
 page_span old target page = ends (differences old target (page * 256) (min 256 (length old - page * 256)))
 
 -- the spans of some pages
-abbrev pub spans_in : (old target : List ℕ) → (page count : ℕ) → List Span
+abbrev pub spans_in : (old target : List ℕ) → (page count : ℕ) → List PageSpan
 spans_in old target page count = filter_map (page_span old target) (range_with_len page count)
 
 -- how many pages the slice has
@@ -32,15 +32,15 @@ abbrev pub page_count : List ℕ → ℕ
 page_count old = div_ceil (length old) 256
 
 -- the spans of the pages from this one on
-abbrev pub spans_from : (old target : List ℕ) → ℕ → List Span
+abbrev pub spans_from : (old target : List ℕ) → ℕ → List PageSpan
 spans_from old target page = spans_in old target page (page_count old - page)
 
 -- the spans of all pages, in rising order
-abbrev pub spans_of : (old target : List ℕ) → List Span
+abbrev pub spans_of : (old target : List ℕ) → List PageSpan
 spans_of old target = spans_from old target 0
 
 -- the first of these spans, with the page from which the others are, where there is one
-abbrev pub HeadsSpans : (old target : List ℕ) → ℕ → Option (Span × ℕ) → Type 0
+abbrev pub HeadsSpans : (old target : List ℕ) → ℕ → Option (PageSpan × ℕ) → Type 0
 HeadsSpans old target page head =
     MatchOption head (spans_from old target page ≡ [])
     (λ h. spans_from old target page ≡ h.0 ∷ spans_from old target h.1)

@@ -2,12 +2,12 @@
 -- page. A page is 256 bytes.
 use Rattle.std.specs.Prelude.{ℕ, ◌≡◌, ◌<◌, ◌≤◌, ◌/◌, Bool, false, ◌&&◌, nat_le, List, length, slice_index, All, Any, AllPairs}
 use Rattle.std.specs.List.{list_any}
-use Rattle.nor_plan.specs.declared.page.Span.{Span}
+use Rattle.nor_plan.specs.declared.page.PageSpan.{PageSpan}
 use Rattle.nor_plan.specs.Bytes.{DifferAt}
 use Rattle.nor_plan.specs.Span.{pages_changed}
 
 -- the first and the last difference of a page
-pub record IsSpan (old target : List ℕ) (span : Span) : Type 0 where
+pub record IsSpan (old target : List ℕ) (span : PageSpan) : Type 0 where
   pub one_page : span.first / 256 ≡ span.last / 256
   pub order : span.first ≤ span.last
   pub first : DifferAt old target span.first
@@ -15,15 +15,15 @@ pub record IsSpan (old target : List ℕ) (span : Span) : Type 0 where
   pub outside : (k : ℕ) → k / 256 ≡ span.first / 256 → DifferAt old target k → (span.first ≤ k) × (k ≤ span.last)
 
 -- both ends belong to a span
-abbrev pub is_within_span : ℕ → Span → Bool
+abbrev pub is_within_span : ℕ → PageSpan → Bool
 is_within_span k span = nat_le span.first k && nat_le k span.last
 
 -- the place belongs to one of the spans
-abbrev pub spanned_by : List Span → ℕ → Bool
+abbrev pub spanned_by : List PageSpan → ℕ → Bool
 spanned_by spans k = list_any (is_within_span k) spans
 
 -- a span for each page with a difference, and no other, in rising order
-pub record AreSpans (old target : List ℕ) (spans : List Span) : Type 0 where
+pub record AreSpans (old target : List ℕ) (spans : List PageSpan) : Type 0 where
   pub each : All (IsSpan old target) spans
   pub complete : (k : ℕ) → DifferAt old target k → Any (λ span. (span.first ≤ k) × (k ≤ span.last)) spans
   pub rising : AllPairs (λ span later. span.last / 256 < later.first / 256) spans

@@ -2,14 +2,14 @@
 //! spans of its pages that have to be programmed. Nothing here takes memory.
 //!
 //! ```rust
-//! use nor_plan::{Span, raises, spans};
+//! use nor_plan::{PageSpan, raises, spans};
 //!
 //! let old = [0xFF; 1024];
 //! let mut wanted = old;
 //! wanted[5] = 0x00;
 //! assert!(rt; !raises(&old, &wanted) && raises(&wanted, &old));
 //! let mut list = spans(&old, &wanted);
-//! assert_eq!(rt; list.next(), Some(Span { first: 5, last: 5 }));
+//! assert_eq!(rt; list.next(), Some(PageSpan { first: 5, last: 5 }));
 //! assert_eq!(rt; list.next(), None);
 //! ```
 //!
@@ -24,6 +24,6 @@ pub mod set;
 
 pub use erase::{Erases, erases, fewest_is_least};
 pub use lanes::{bounds, differs, raises};
-pub use page::{Span, Spans, spans};
+pub use page::{PageSpan, Spans, spans};
 pub use plan::{Plan, SectorPlan};
 pub use set::{SectorSet, Sectors};

@@ -16,7 +16,7 @@ const PAGE: usize = 256;
 
 /// A run of bytes within one page, by the places of its first and its last byte.
 #[derive(Clone, Copy, Debug, PartialEq, Eq)]
-pub struct Span {
+pub struct PageSpan {
     pub first: usize,
     pub last: usize,
 }
@@ -33,7 +33,7 @@ pub fn spans<'a>(old: &'a [u8], target: &'a [u8]) -> Spans<'a>
 
 /// The first span from a page on, and the page after it.
 #[tactic(auto, using(crate::proofs::PageSpans::page_steps))]
-fn next_span(old: &[u8], target: &[u8], page: usize) -> Option<(Span, usize)>
+fn next_span(old: &[u8], target: &[u8], page: usize) -> Option<(PageSpan, usize)>
     requires { length old.now ≡ length target.now }
     ensures { HeadsSpans old.now target.now page result }
 {
@@ -46,7 +46,7 @@ fn next_span(old: &[u8], target: &[u8], page: usize) -> Option<(Span, usize)>
 }
 
 /// The span of a page.
-fn span_of(old: &[u8], target: &[u8], page: usize) -> Option<Span>
+fn span_of(old: &[u8], target: &[u8], page: usize) -> Option<PageSpan>
     requires same_length { length old.now ≡ length target.now }
     requires there { page * 256 < length old.now }
     ensures { result ≡ page_span old.now target.now page }
@@ -56,7 +56,7 @@ fn span_of(old: &[u8], target: &[u8], page: usize) -> Option<Span>
     let old = &old[start..start + count];
     let target = &target[start..start + count];
     let (first, last) = bounds(old, target)?;
-    Some(Span {
+    Some(PageSpan {
         first: start + first,
         last: start + last,
     })

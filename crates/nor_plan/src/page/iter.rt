@@ -3,7 +3,7 @@
 ghost use Rattle.std.specs.Prelude.{◌≡◌, length};
 ghost use Rattle.std.specs.Iterator.{YieldsFirst, item_count};
 
-use super::{Span, next_span};
+use super::{PageSpan, next_span};
 
 /// The spans of the pages that are left, in rising order.
 #[derive(Drop)]
@@ -34,14 +34,14 @@ impl<'a> Spans<'a> {
 impl Iterator for Spans<'_> {
     ghost use Rattle.nor_plan.specs.Spans.{spans_left};
 
-    type Item = Span;
+    type Item = PageSpan;
 
     ghost next_gives = { YieldsFirst spans_left };
 
     ghost remaining = { item_count spans_left };
 
     #[tactic(auto, unfolding(crate::specs::Spans::spans_left))]
-    fn next(&mut self) -> Option<Span> {
+    fn next(&mut self) -> Option<PageSpan> {
         let (span, page) = next_span(self.old, self.target, self.page)?;
         self.page = page;
         Some(span)
