@@ -5,8 +5,11 @@ use Rattle.flashnor.proofs.run.run.Goals as goal
 
 pub returns-in-Ok-List : goal.returns-in-Ok-List
 returns-in-Ok-List g c =
-    rw c.before-in-Ok-List.ensures.answer (_, rw c.in-Ok-List.field-0-is at c.in-Ok-List.ensures,
-    (c.before-in-Ok-List.ensures.none, λ name. stays_same name _))
+    rw c.before-in-Ok-List.ensures.answer (
+      _,
+      rw c.in-Ok-List.field-0-is at c.in-Ok-List.ensures,
+      (c.before-in-Ok-List.ensures.none, λ name. stays_same name _),
+    )
 
 pub returns-in-Ok : goal.returns-in-Ok
 returns-in-Ok g c =
