@@ -56,7 +56,7 @@ keeps it from ending (`only_stops`); and the one that ends has left the first ch
 # subject the order gives way.
 SUBJECTS = {
     "The chip": "nor_count: specs/Size nor_chip: src/config specs/Makers src/running specs/Sfdp specs/Chip",
-    "Guarded places": "nor_chip: specs/Code specs/Guard specs/Offer",
+    "Guarded places": "nor_chip: specs/Guard specs/Offer",
     "What a transaction asks for": "nor_chip: src/command specs/Command specs/Aim",
     "The chip's step": "nor_chip: specs/Step",
     "A stop, and a loss of power": "nor_chip: specs/Power",

@@ -1,13 +1,15 @@
 -- What a run that changes a chip leaves of files, whatever its task.
-use Rattle.std.proofs.Common.{◌≡◌, ◌<◌, ◌+◌, ◌*◌, ◌/◌, ◌%◌, ◌==◌, ◌∙◌, ◌∷◌, [], ℕ, Bool, List, Option, None, Some}
-use Rattle.std.proofs.Common.{Result, ◌⊎◌, IfSome, ap, arith, false, if◌then◌else◌, inl, inr, length, refl, replicate}
+use Rattle.std.proofs.Common.{◌≡◌, ◌<◌, ◌/◌, ◌%◌, ◌∙◌, ◌∷◌, [], ℕ, Bool, List, Option, None, Some}
+use Rattle.std.proofs.Common.{Result, ◌⊎◌, IfSome, ap, arith, false, inl, inr, length, refl, replicate}
 use Rattle.std.proofs.Common.{slice_index, subst, sym, true, unwrap_or}
 use Rattle.std.specs.Borrow.{Bor}
 use Rattle.std.proofs.lemmas.Bool.{cases_Bool, cases_lt}
 use Rattle.std.proofs.lemmas.List.{get_or_past, length-replicate}
 use Rattle.std.proofs.lemmas.Option.{same_Some}
 use Rattle.nor_chip.specs.Bus.{BusState}
+use Rattle.nor_chip.specs.Chip.{KeptBits}
 use Rattle.nor_chip.specs.Start.{status_of}
+use Rattle.nor_chip.proofs.Kept.{kept_told}
 use Rattle.nor_chip.specs.declared.config.Config.{Config}
 use Rattle.nor_probe.specs.declared.table.ChipName.{ChipName}
 use Rattle.nor_files.specs.Files.{AllStay, AreAtRest, FilesState, Found, Stays, View, is_lawful}
@@ -79,11 +81,6 @@ left_either had bytes missing (Some name) false files left stood unnamed amid ca
   | inl gone ↦ inl (rw (gone, stood refl) refl)
   | inr made ↦ inr (rw made.1 (ap (λ (l : List ℕ). slice_index l i) (made.2 (rw made.1 at whole))))
 ]
-
--- a status byte 1 tells the kept bits
-pub quarter : (kept : ℕ) (latch idle : Bool)
-    → (4 * kept + (if latch then 2 else 0) + (if idle then 0 else 1)) / 4 ≡ kept
-quarter kept latch idle = grind arith
 
 -- a file that was there has all its bytes while it is written over
 as_long : (name : Option (Bor Text)) (there : Bool) (had put : List ℕ) (s0 s1 s3 : FilesState) → AllStay s0 s1
@@ -201,7 +198,7 @@ module _ (job : ChipJob) (held : Held) (s0 s1 s2 : FilesState) (bus bus' : BusSt
 
   -- ---- what they may be left as
 
-  module _ (s3 : FilesState) (amid : View) (stands : StandsFor job.programmer held) (small : bus'.chip.kept2 < 128)
+  module _ (s3 : FilesState) (amid : View) (stands : StandsFor job.programmer held) (small : bus'.chip.kept.two < 128)
       (but : IsViewBut job.programmer.trace s0.view amid)
       (last : is_lawful s2.view ≡ true → StayApart job.programmer.image job.programmer.status s2 s3)
       (is_amid : AreAmid job.programmer held.image_there held.status_there held.content.bytes.items
@@ -232,6 +229,7 @@ module _ (job : ChipJob) (held : Held) (s0 s1 s2 : FilesState) (bus bus' : BusSt
         let bit = left_either held.content.status (status_of bus'.chip) (0 ∷ 0 ∷ []) job.programmer.status
         held.status_there s3 status stands.status
         (λ none. of_none s0.view job.programmer.status _ _ _ none read.status) is_amid.status can_status from.two in
+        let one_of = λ (kept : KeptBits). kept.one in let two_of = λ (kept : KeptBits). kept.two in
         record {
           config = from.config;
           bytes = λ a. elim (byte a) [
@@ -244,14 +242,13 @@ module _ (job : ChipJob) (held : Held) (s0 s1 s2 : FilesState) (bus bus' : BusSt
                   ∙ sym (holds.bytes a))
             ]
           ];
-          kept1 = elim (bit 0) [
-            | inl is ↦ inl (from.kept1 ∙ ap (λ (b : ℕ). b / 4) is ∙ sym holds.kept1)
-            | inr is ↦ inr (from.kept1 ∙ ap (λ (b : ℕ). b / 4) is
-                ∙ quarter bus'.chip.kept1 bus'.chip.latch (bus'.chip.busy == 0))
+          one = elim (bit 0) [
+            | inl is ↦ inl (ap one_of from.kept ∙ ap (λ (b : ℕ). b / 4) is ∙ sym (ap one_of holds.kept))
+            | inr is ↦ inr (ap one_of from.kept ∙ ap (λ (b : ℕ). b / 4) is ∙ ap one_of (kept_told bus'.chip small))
           ];
-          kept2 = elim (bit 1) [
-            | inl is ↦ inl (from.kept2 ∙ ap (λ (b : ℕ). b % 128) is ∙ sym holds.kept2)
-            | inr is ↦ inr (from.kept2 ∙ ap (λ (b : ℕ). b % 128) is ∙ omega (arith, small))
+          two = elim (bit 1) [
+            | inl is ↦ inl (ap two_of from.kept ∙ ap (λ (b : ℕ). b % 128) is ∙ sym (ap two_of holds.kept))
+            | inr is ↦ inr (ap two_of from.kept ∙ ap (λ (b : ℕ). b % 128) is ∙ ap two_of (kept_told bus'.chip small))
           ];
           idle = from.idle;
         }

@@ -74,7 +74,7 @@ opens_held programmer content allowed first last held allowance allows = record 
     still = rw allows.sent held.still;
   };
   holds = rw allows.chip
-      (record { bytes = held.bytes; kept1 = held.kept1; kept2 = held.kept2; latch = held.latch });
+      (record { bytes = held.bytes; kept = held.kept; latch = held.latch });
 }
 
 -- ---- a probe before a restore
@@ -103,7 +103,7 @@ passes_probe named old new found modelled honest name finds = record {
 
 pub passes_none : (bus : BusState) → IsModelled bus → IsCalm bus → Passes None bus bus
 passes_none bus modelled calm = record {
-  same = record { config = refl; bytes = λ a. refl; kept1 = refl; kept2 = refl };
+  same = record { config = refl; bytes = λ a. refl; kept = refl };
   modelled = modelled;
   calm = calm;
   name = tt;

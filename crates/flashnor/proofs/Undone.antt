@@ -1,17 +1,18 @@
 -- Runs one behind another: each restore leads back as its predecessors did, and one that ends has left the first chip.
 use mathlib.Core.HLevel.{is_prop→PathP}
-use Rattle.std.proofs.Common.{◌≡◌, ◌<◌, ◌+◌, ◌/◌, ◌%◌, ◌==◌, ◌∙◌, ◌++◌, [], ℕ, Bool, List, Option, None, Some, Result}
+use Rattle.std.proofs.Common.{◌≡◌, ◌<◌, ◌+◌, ◌∙◌, ◌++◌, [], ℕ, Bool, List, Option, None, Some, Result}
 use Rattle.std.proofs.Common.{Ok, ◌⊎◌, IfSome, IsTrue, ap, arith, drop, inl, inr, length, option_map, refl, replicate}
 use Rattle.std.proofs.Common.{slice_index, subst, sym, take, true, unwrap_or}
 use Rattle.std.specs.Borrow.{Bor}
 use Rattle.std.proofs.Math.Bool.{Bool-set}
 use Rattle.std.proofs.lemmas.Bool.{cases_lt}
 use Rattle.std.proofs.lemmas.List.{append-nil, get_or_past, length-take, take-append-drop, take_all}
-use Rattle.nor_chip.specs.Chip.{Chip, IsSame}
+use Rattle.nor_chip.specs.Chip.{Chip, IsSame, kept_in}
 use Rattle.nor_chip.specs.Makers.{HasParts}
 use Rattle.nor_chip.specs.Sim.{state_of}
 use Rattle.nor_chip.specs.Size.{is_chip_size}
 use Rattle.nor_chip.specs.Start.{status_of}
+use Rattle.nor_chip.proofs.Kept.{kept_told}
 use Rattle.nor_chip.specs.declared.config.Config.{Config}
 use Rattle.nor_chip.specs.declared.config.Kinds.{Kinds}
 use Rattle.nor_files.specs.Calls.{LeavesNoMore}
@@ -36,7 +37,7 @@ use Rattle.flashnor.specs.declared.answers.Answer.{Answer}
 use Rattle.flashnor.specs.declared.holding.Unwritten.{Unwritten}
 use Rattle.flashnor.specs.declared.messages.Fault.{Fault}
 use Rattle.flashnor.proofs.Before.{leaves_of}
-use Rattle.flashnor.proofs.Kept.{of_none, opened_many, opened_size, quarter}
+use Rattle.flashnor.proofs.Kept.{of_none, opened_many, opened_size}
 use Rattle.flashnor.proofs.Stays.{known_at_rest, lawful_after, not_that}
 use Rattle.flashnor.proofs.Traced.{reads_before}
 
@@ -158,8 +159,7 @@ module _ (programmer : Programmer) (file : Text) (start : FilesState) (first : O
             two = found.read.status.whole;
             bytes = λ a. found.opens.holds.bytes a ∙ ap (λ (l : List ℕ). slice_index l a)
                 (found.read.bytes.same ∙ ap (λ (n : ℕ). unwrap_or found.read.bytes.found (replicate n 255)) size);
-            kept1 = found.opens.holds.kept1 ∙ ap (λ (l : List ℕ). slice_index l 0 / 4) found.read.status.same;
-            kept2 = found.opens.holds.kept2 ∙ ap (λ (l : List ℕ). slice_index l 1 % 128) found.read.status.same;
+            kept = found.opens.holds.kept ∙ ap kept_in found.read.status.same;
             idle = found.opens.ready.idle;
           }
 
@@ -215,19 +215,15 @@ module _ (programmer : Programmer) (file : Text) (start : FilesState) (first : O
     leaves_first : LeavesFirst programmer first.bus new
     leaves_first image status opened can can_status from' =
         let clear = λ (none : programmer.status ≡ None). of_none start.view programmer.status _ _ _ none first.read.status in
-        let small : chip.kept2 < 128 = omega (arith, is.kept2, first.opens.holds.kept2) in
+        let small : chip.kept.two < 128 = rw (is.kept ∙ first.opens.holds.kept) (omega arith) in
         let i = settled other.image programmer.image put.bytes image same.image put.image_put can in
         let s = settled other.status programmer.status (status_of chip) status same.status put.status_put can_status in
         record {
           config = from'.config;
           bytes = λ a. from'.bytes a ∙ byte_of image a i;
-          kept1 = from'.kept1 ∙ elim s [
-            | inl none ↦ rw none.1 (sym (first.opens.holds.kept1 ∙ ap (λ (l : List ℕ). slice_index l 0 / 4) (clear none.0)))
-            | inr has ↦ rw has (quarter chip.kept1 chip.latch (chip.busy == 0) ∙ is.kept1)
-          ];
-          kept2 = from'.kept2 ∙ elim s [
-            | inl none ↦ rw none.1 (sym (first.opens.holds.kept2 ∙ ap (λ (l : List ℕ). slice_index l 1 % 128) (clear none.0)))
-            | inr has ↦ rw has (omega (arith, small, is.kept2))
+          kept = from'.kept ∙ elim s [
+            | inl none ↦ rw none.1 (sym (first.opens.holds.kept ∙ ap kept_in (clear none.0)))
+            | inr has ↦ rw has (kept_told chip small ∙ is.kept)
           ];
         }
 

@@ -4,7 +4,7 @@ use Rattle.std.specs.Prelude.{is_none, replicate, slice_index, unwrap_or}
 use Rattle.std.specs.Borrow.{Bor}
 use Rattle.nor_chip.specs.Bus.{BusState}
 use Rattle.nor_chip.specs.Sent.{IsNothing}
-use Rattle.nor_chip.specs.Chip.{Chip}
+use Rattle.nor_chip.specs.Chip.{Chip, kept_in}
 use Rattle.nor_chip.specs.Sim.{fill_of, pace_of, state_of}
 use Rattle.nor_chip.specs.Start.{AreChipBytes, status_of}
 use Rattle.nor_chip.specs.declared.config.Config.{Config}
@@ -51,8 +51,7 @@ pub record IsContentOf (view : View) (programmer : Programmer) (content : Conten
 -- The chip has these bytes, and the kept bits and the latch of these status bytes.
 pub record HasContent (content : Content) (chip : Chip) : Type 0 where
   pub bytes : (a : ℕ) → chip.bytes a ≡ slice_index content.bytes.items a
-  pub kept1 : chip.kept1 ≡ slice_index content.status 0 / 4
-  pub kept2 : chip.kept2 ≡ slice_index content.status 1 % 128
+  pub kept : chip.kept ≡ kept_in content.status
   pub latch : chip.latch ≡ (slice_index content.status 0 / 2 % 2 == 1)
 
 -- The bus is ready, and the chip as its files tell it.
@@ -67,8 +66,7 @@ pub record HoldsFiles (programmer : Programmer) (content : Content) (bus : BusSt
   pub honest : bus.honest ≡ true
   pub still : IsNothing bus.sent
   pub bytes : (a : ℕ) → bus.chip.bytes a ≡ slice_index content.bytes.items a
-  pub kept1 : bus.chip.kept1 ≡ slice_index content.status 0 / 4
-  pub kept2 : bus.chip.kept2 ≡ slice_index content.status 1 % 128
+  pub kept : bus.chip.kept ≡ kept_in content.status
   pub latch : bus.chip.latch ≡ (slice_index content.status 0 / 2 % 2 == 1)
 
 -- A simulated bus that opens the chip: after each operation as many polls answer BUSY as `busy=` says, or none where it

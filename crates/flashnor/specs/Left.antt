@@ -1,9 +1,9 @@
 -- What a machine that is lost leaves of a chip's files and its journal, and what a later run opens from it.
-use Rattle.std.specs.Prelude.{◌≡◌, ◌≢◌, ◌⊎◌, ◌/◌, ◌%◌, ◌∷◌, [], ℕ, Bool, true, false, List, Option, None, Some}
+use Rattle.std.specs.Prelude.{◌≡◌, ◌≢◌, ◌⊎◌, ◌∷◌, [], ℕ, Bool, true, false, List, Option, None, Some}
 use Rattle.std.specs.Prelude.{IfSome, IsSomeAnd, length, replicate, slice_index, unwrap_or, ⊤}
 use Rattle.std.specs.Borrow.{Bor}
 use Rattle.nor_chip.specs.Bus.{BusState}
-use Rattle.nor_chip.specs.Chip.{Chip, IsSame}
+use Rattle.nor_chip.specs.Chip.{Chip, IsSame, kept_in}
 use Rattle.nor_chip.specs.declared.config.Config.{Config}
 use Rattle.nor_files.specs.Calls.{LeavesNoMore}
 use Rattle.nor_files.specs.Files.{FilesState, Found, Stays}
@@ -27,8 +27,7 @@ pub record IsOpenedFrom (image status : Found) (setup : Config) (chip : Chip) : 
   pub whole : IfSome image (λ bytes. length bytes ≡ setup.size)
   pub two : IfSome status (λ bits. length bits ≡ 2)
   pub bytes : (a : ℕ) → chip.bytes a ≡ slice_index (unwrap_or image (replicate setup.size 255)) a
-  pub kept1 : chip.kept1 ≡ slice_index (unwrap_or status (0 ∷ 0 ∷ [])) 0 / 4
-  pub kept2 : chip.kept2 ≡ slice_index (unwrap_or status (0 ∷ 0 ∷ [])) 1 % 128
+  pub kept : chip.kept ≡ kept_in (unwrap_or status (0 ∷ 0 ∷ []))
   pub idle : chip.busy ≡ 0
 
 -- whatever may be left of the chip's files, a run that opens them opens such a chip

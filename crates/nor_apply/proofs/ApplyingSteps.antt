@@ -1,17 +1,16 @@
 -- The steps of applying changes: lifting protection, erases, programs, and the status write at the end.
-use Rattle.std.proofs.Common.{ℕ, ◌≡◌, ◌<◌, ◌/◌, Bool, true, false, inl, inr, refl, ◌∙◌, arith}
+use Rattle.std.proofs.Common.{ℕ, ◌≡◌, ◌<◌, ◌/◌, Bool, true, false, inl, inr, refl, ap, sym, ◌∙◌, arith}
 use Rattle.std.specs.Prelude.{◌||◌, bit_and, if◌then◌else◌}
 use Rattle.std.proofs.lemmas.Nat.{and_mask}
 use Rattle.std.proofs.lemmas.Bool.{cases_Bool}
 use Rattle.std.proofs.lemmas.Bool.Decides.{nat_tests}
 use Rattle.std.proofs.Math.Bool.{or-false}
-use Rattle.nor_chip.specs.Code.{code_in}
 use Rattle.nor_chip.specs.Status.{bytes_of}
-use Rattle.nor_chip.specs.Chip.{Chip}
-use Rattle.nor_chip.specs.Guard.{is_guarded}
+use Rattle.nor_chip.specs.Chip.{Chip, kept_in}
+use Rattle.nor_chip.specs.Guard.{is_guarded, code_of}
 use Rattle.nor_chip.specs.Bus.{BusState}
 use Rattle.nor_chip.proofs.Guarded.{is_guarded-zero, is_guarded-same}
-use Rattle.nor_driver.specs.StatusWrites.{KeepsFixed, HasCode, CanWriteStatus}
+use Rattle.nor_driver.specs.StatusWrites.{fixed_of, with_code, CanWriteStatus}
 use Rattle.nor_apply.specs.declared.changes.Changes.{Changes}
 use Rattle.nor_plan.specs.Content.{once_erased}
 use Rattle.nor_apply.specs.Within.{is_writable}
@@ -21,12 +20,12 @@ use Rattle.nor_apply.specs.Protecting.{LeavesCode, DoesCode}
 use Rattle.nor_apply.specs.Erasing.{CanEraseAll}
 use Rattle.nor_apply.specs.Programming.{CanProgramAll}
 use Rattle.nor_apply.specs.Applying.{touched_in, raised_in, writes_code, CanApply, HasApplied}
-use Rattle.nor_apply.proofs.Kept.{fixed_refl, fixed_then, kept_fixed, locked_same, writable_same}
+use Rattle.nor_apply.proofs.Kept.{code_cleared, coded_again, fixed_coded, locked_same, told_coded, writable_same}
 use Rattle.nor_apply.proofs.Changing.{can_after, same_change, status_change}
 
 -- the code that was read, and the one once protection is lifted where that is asked
 abbrev pub code_read : Changes → ℕ
-code_read changes = code_in (bytes_of changes.status)
+code_read changes = code_of (kept_in (bytes_of changes.status))
 
 abbrev pub code_once : Changes → ℕ
 code_once changes = if changes.unlock then 0 else code_read changes
@@ -35,8 +34,7 @@ code_once changes = if changes.unlock then 0 else code_read changes
 pub record Stands (bytes : ℕ → ℕ) (worn : ℕ → Bool) (code : ℕ) (old new : BusState) : Type 0 where
   pub config : new.chip.config ≡ old.chip.config
   pub byte : (a : ℕ) → new.chip.bytes a ≡ bytes a
-  pub fixed : KeepsFixed old.chip new.chip
-  pub has_code : HasCode code new.chip
+  pub kept : new.chip.kept ≡ with_code code old.chip.kept
   pub wear : (s : ℕ) → new.worn s ≡ worn s
   pub idle : new.chip.busy ≡ 0
   pub latch : new.chip.latch ≡ true → old.chip.latch ≡ true
@@ -45,40 +43,43 @@ pub record Stands (bytes : ℕ → ℕ) (worn : ℕ → Bool) (code : ℕ) (old 
 pub stands_changed : {t e worn : ℕ → Bool} {w bytes : ℕ → ℕ} {code : ℕ} {old mid new : BusState}
     → Stands bytes worn code old mid → HasChanged t w e mid new
     → Stands (λ a. if t (a / 4096) then w a else bytes a) (λ s. worn s || e s) code old new
-stands_changed {old = old} {mid = mid} {new = new} is has =
-    let fixed = fixed_then old.chip mid.chip new.chip is.fixed (kept_fixed mid.chip new.chip has.kept) in
-    grind (arith, is.byte, has.bytes, is.wear, has.worn, fixed)
+stands_changed is has = grind (arith, is.byte, has.bytes, is.wear, has.worn)
 
 and_byte : (w : ℕ) → w < 256 → bit_and w 255 ≡ w
 and_byte w small = omega (arith, and_mask w 8)
 
-code_at_end : (changes : Changes) (chip : Chip) (writes : Bool) → writes_code changes ≡ writes
-    → HasCode (if writes then changes.code else code_once changes) chip → HasCode changes.code chip
-code_at_end changes chip writes is has = grind (arith, nat_tests)
+code_at_end : (changes : Changes) (writes : Bool) → writes_code changes ≡ writes
+    → (if writes then changes.code else code_once changes) ≡ changes.code
+code_at_end changes writes is = grind (arith, nat_tests)
 
-has_read : {changes : Changes} {wanted : ℕ → ℕ} {chip : Chip} → CanApply changes wanted chip
-    → HasCode (code_read changes) chip
-has_read can = grind (arith, can.kept.one, can.kept.two)
+-- the code that was read is the chip's
+kept_read : {changes : Changes} {wanted : ℕ → ℕ} {chip : Chip} → CanApply changes wanted chip
+    → with_code (code_read changes) chip.kept ≡ chip.kept
+kept_read {changes = changes} {chip = chip} can =
+    told_coded (bytes_of changes.status) chip.kept (ap fixed_of can.kept) ∙ sym can.kept
 
 module _ {changes : Changes} {wanted : ℕ → ℕ} {old : BusState} (can : CanApply changes wanted old.chip) where
   pub stands_first : Stands old.chip.bytes old.worn (code_read changes) old old
-  stands_first = search (fixed_refl old.chip, has_read can)
+  stands_first = let kept = kept_read can in search (refl, sym kept)
 
   -- ---- a status write, at the start or at the end
 
   module _ {code new_code : ℕ} {needed : Bool} {bytes : ℕ → ℕ} {worn : ℕ → Bool} {mid new : BusState}
       (writable : needed ≡ true → is_writable old.chip ≡ true) (is : Stands bytes worn code old mid)
       (honest : mid.honest ≡ true) (leaves : LeavesCode changes.status new_code needed mid new) where
+    fixed : fixed_of mid.chip.kept ≡ fixed_of old.chip.kept
+    fixed = ap fixed_of is.kept ∙ fixed_coded code old.chip.kept
+
     -- a chip that can be written, of these fixed bits, takes a status write
     can_write : needed ≡ true → CanWriteStatus changes.status mid.chip
     can_write writes =
-        let lock = locked_same old.chip mid.chip is.fixed in
-        grind (arith, lock, writable writes, can.kept.one, can.kept.two)
+        let lock = locked_same old.chip.kept mid.chip.kept fixed in
+        grind (arith, lock, writable writes, fixed ∙ ap fixed_of can.kept)
 
     pub code_change : MayChange (touched_in changes) (raised_in changes) wanted mid new
     code_change = elim (cases_Bool needed) [
       | inl writes ↦
-          status_change (writable_same old.chip mid.chip is.config is.fixed ∙ writable writes)
+          status_change (writable_same old.chip mid.chip is.config fixed ∙ writable writes)
           (leaves.reached writes honest (can_write writes))
       | inr spared ↦
           rw (leaves.still spared) (same_change (search) is.idle (λ s. refl))
@@ -90,8 +91,10 @@ module _ {changes : Changes} {wanted : ℕ → ℕ} {old : BusState} (can : CanA
       | inr spared ↦ rw (leaves.still spared, spared) is
       | inl writes ↦
           let has = does.done writes honest (can_write writes) in
-          let fixed = fixed_then old.chip mid.chip new.chip is.fixed has.fixed in
-          rw writes (grind (arith, has.bytes, is.byte, has.worn, is.wear, fixed, does.idle))
+          let again : with_code new_code mid.chip.kept ≡ with_code new_code old.chip.kept =
+          rw is.kept (coded_again code new_code old.chip.kept) in
+          let kept = has.written ∙ again in
+          rw writes (grind (arith, has.bytes, is.byte, has.worn, is.wear, kept, does.idle))
     ]
 
   -- ---- what erases and programs need
@@ -100,7 +103,7 @@ module _ {changes : Changes} {wanted : ℕ → ℕ} {old : BusState} (can : CanA
     -- once protection is lifted where that is asked, no touched place is guarded
     free : (a : ℕ) → touched_in changes (a / 4096) ≡ true → is_guarded mid.chip a ≡ false
     free a touched =
-        let before = has_read can in
+        let before = kept_read can in let cleared = code_cleared old.chip.kept in
         grind (arith, is_guarded-zero mid.chip a, is_guarded-same old.chip mid.chip is.config, can.free)
 
     can_touched : CanChange (touched_in changes) mid.chip
@@ -108,7 +111,7 @@ module _ {changes : Changes} {wanted : ℕ → ℕ} {old : BusState} (can : CanA
 
     pub can_erase_all : CanEraseAll (raised_in changes) changes.kinds changes.size mid.chip
     can_erase_all = record {
-      can = can_after mid.chip can.raised can_touched refl (refl, refl) is.idle;
+      can = can_after mid.chip can.raised can_touched refl refl is.idle;
       sized = record { same = rw is.config can.sized.same; same_kinds = rw is.config can.sized.same_kinds };
     }
 
@@ -125,5 +128,5 @@ module _ {changes : Changes} {wanted : ℕ → ℕ} {old : BusState} (can : CanA
       (λ s. (old.worn s || raised_in changes s) || none s) (if writes then changes.code else code_once changes) old new
       → HasApplied changes wanted old new
   applied {writes} {new} same is =
-      let code = code_at_end changes new.chip writes same is.has_code in
+      let code = code_at_end changes writes same in
       grind (arith, is.byte, can.raised, is.wear, or-false, code)

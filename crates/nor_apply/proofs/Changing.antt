@@ -4,13 +4,12 @@ use Rattle.std.specs.Prelude.{Bool, ◌||◌, if◌then◌else◌}
 use Rattle.std.proofs.lemmas.Bool.{false_from_ne_true}
 use Rattle.std.proofs.Math.Bool.{or-false, or_assoc}
 use Rattle.nor_chip.specs.Chip.{Chip, IsSame}
-use Rattle.nor_chip.specs.Power.{KeptStay}
 use Rattle.nor_chip.specs.Bus.{BusState}
 use Rattle.nor_chip.proofs.Guarded.{is_guarded-same}
-use Rattle.nor_driver.specs.StatusWrites.{MayWriteStatus}
+use Rattle.nor_driver.specs.StatusWrites.{MayWriteStatus, fixed_of}
 use Rattle.nor_apply.specs.Within.{is_writable, IsWithin, places_of}
 use Rattle.nor_apply.specs.Change.{CanChange, MayChange, HasChanged}
-use Rattle.nor_apply.proofs.Kept.{fixed_then, kept_fixed, kept_then, writable_same}
+use Rattle.nor_apply.proofs.Kept.{fixed_coded, writable_same}
 
 -- ---- within
 
@@ -21,8 +20,8 @@ within_then p first mid new before after =
     record {
       config = after.config ∙ before.config;
       bytes = λ a out. after.bytes a out ∙ before.bytes a out;
-      fixed = fixed_then _ _ _ before.fixed after.fixed;
-      kept = λ shut. kept_then first mid.chip new.chip (before.kept shut) (after.kept (writable ∙ shut));
+      fixed = after.fixed ∙ before.fixed;
+      kept = λ shut. after.kept (writable ∙ shut) ∙ before.kept shut;
       runs = λ loses works.
           let runs = after.runs loses works in
           record {
@@ -30,7 +29,7 @@ within_then p first mid new before after =
             inside = runs.inside;
             status = λ one two is.
                 let told = runs.status one two is in
-                (sym writable ∙ told.0, told.1 ∙ before.fixed.one, told.2 ∙ before.fixed.two);
+                (sym writable ∙ told.0, told.1 ∙ before.fixed);
           };
     }
 
@@ -51,21 +50,21 @@ within_wider p q first state wider within = record {
 
 -- an idle chip, and so the same one, is within another
 pub idle_within : {p : ℕ → Bool} {first : Chip} {state : BusState} → state.chip.config ≡ first.config
-    → ((a : ℕ) → p a ≡ false → state.chip.bytes a ≡ first.bytes a) → KeptStay first state.chip → state.chip.busy ≡ 0
+    → ((a : ℕ) → p a ≡ false → state.chip.bytes a ≡ first.bytes a) → state.chip.kept ≡ first.kept → state.chip.busy ≡ 0
     → IsWithin p first state
-idle_within {first} {state} config bytes kept idle = grind (arith, kept_fixed first state.chip kept)
+idle_within {first} {state} config bytes kept idle = grind (arith, ap fixed_of kept)
 
 pub same_within : (p : ℕ → Bool) (first : Chip) (state : BusState) → IsSame first state.chip → state.chip.busy ≡ 0
     → IsWithin p first state
-same_within p first state same idle = idle_within same.config (λ a out. same.bytes a) (same.kept1, same.kept2) idle
+same_within p first state same idle = idle_within same.config (λ a out. same.bytes a) same.kept idle
 
 -- ---- what can be changed
 
 -- a part of the sectors can be changed where all of them can, as long as all but bytes stays
 pub can_after : {t t' : ℕ → Bool} {old : Chip} (new : Chip) → ((s : ℕ) → t' s ≡ true → t s ≡ true) → CanChange t old
-    → new.config ≡ old.config → KeptStay old new → new.busy ≡ 0 → CanChange t' new
+    → new.config ≡ old.config → new.kept ≡ old.kept → new.busy ≡ 0 → CanChange t' new
 can_after {old} new within can config kept idle =
-    grind (arith, within, can.inside, can.free, is_guarded-same old new config kept.0 kept.1)
+    grind (arith, within, can.inside, can.free, is_guarded-same old new config kept)
 
 -- ---- every exit
 
@@ -93,7 +92,8 @@ change_as {t} {t' = t'} {old} {new} more raised wanted change =
 -- a status write of a chip whose status may be written
 pub status_change : {t r : ℕ → Bool} {w : ℕ → ℕ} {code : ℕ} {old new : BusState} → is_writable old.chip ≡ true
     → MayWriteStatus code old new → MayChange t r w old new
-status_change writable wrote = grind (arith, wrote.bytes, wrote.runs, wrote.worn)
+status_change {code = code} {old = old} writable wrote =
+    grind (arith, wrote.bytes, wrote.runs, wrote.worn, fixed_coded code old.chip.kept)
 
 -- ---- the end
 
@@ -102,7 +102,7 @@ status_change writable wrote = grind (arith, wrote.bytes, wrote.runs, wrote.worn
 pub record HasMade (places : ℕ → Bool) (wanted : ℕ → ℕ) (erased : ℕ → Bool) (old new : BusState) : Type 0 where
   pub config : new.chip.config ≡ old.chip.config
   pub bytes : (a : ℕ) → new.chip.bytes a ≡ (if places a then wanted a else old.chip.bytes a)
-  pub kept : KeptStay old.chip new.chip
+  pub kept : new.chip.kept ≡ old.chip.kept
   pub worn : (s : ℕ) → new.worn s ≡ (old.worn s || erased s)
   pub idle : new.chip.busy ≡ 0
   pub latch : new.chip.latch ≡ true → old.chip.latch ≡ true
@@ -123,7 +123,7 @@ either_byte b is = grind arith
 pub made_may : {p t r e : ℕ → Bool} {w : ℕ → ℕ} {old new : BusState} → ((a : ℕ) → p a ≡ true → t (a / 4096) ≡ true)
     → ((s : ℕ) → e s ≡ true → r s ≡ true) → HasMade p w e old new → MayChange t r w old new
 made_may {old} {new} inside raised has =
-    grind (arith, inside, raised, has.bytes, has.worn, or-false, kept_fixed old.chip new.chip has.kept)
+    grind (arith, inside, raised, has.bytes, has.worn, or-false, ap fixed_of has.kept)
 
 pub changed_may : {t e : ℕ → Bool} {w : ℕ → ℕ} {old new : BusState} → HasChanged t w e old new → MayChange t e w old new
 changed_may has = made_may (λ a is. is) (λ s is. is) (made_of has)

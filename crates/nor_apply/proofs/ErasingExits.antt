@@ -16,6 +16,7 @@ use Rattle.nor_driver.specs.declared.waits.Halt.{Halt}
 use Rattle.nor_driver.specs.Units.{sectors_in, erases_sector}
 use Rattle.nor_driver.specs.Waits.{Halts, NamesTimeout}
 use Rattle.nor_driver.specs.Operations.{most_operation}
+use Rattle.nor_driver.specs.StatusWrites.{fixed_of}
 use Rattle.nor_driver.specs.Erases.{sectors_of, is_sector_in_unit, CanErase, MayErase, HasErased, is_sector_named, LeavesErase, Erases}
 use Rattle.nor_plan.specs.Erase.{IsErase, Covers, erased_by}
 use Rattle.nor_plan.specs.Planned.{planned}
@@ -25,7 +26,6 @@ use Rattle.nor_apply.specs.Change.{MayChange, blank}
 use Rattle.nor_apply.specs.Spending.{may_aim_at, NamesTimeoutIn}
 use Rattle.nor_apply.specs.Erasing.{CanEraseAll, LeavesErases, DoesErases}
 use Rattle.nor_apply.proofs.InTurn.{Listed, listed_none, listed_halted, listed_more, come_all, come_before, come_next, come_fewer, spends_ended}
-use Rattle.nor_apply.proofs.Kept.{kept_fixed}
 use Rattle.nor_apply.proofs.Changing.{can_after, change_then, HasMade, changed_of, made_may, made_none, made_same, made_then}
 use Rattle.nor_apply.proofs.Aiming.{unit_aims}
 
@@ -78,7 +78,7 @@ module _ {kinds : Kinds} {size : ℕ} {set done : ℕ → Bool} {unit : Erase} {
 
   erase_change : {new : BusState} → MayErase unit mid new → MayChange set set blank mid new
   erase_change {new} may =
-      grind (arith, erases_of_plan, may.bytes, may.runs, may.worn, kept_fixed mid.chip new.chip may.kept, nat_tests)
+      grind (arith, erases_of_plan, may.bytes, may.runs, may.worn, ap fixed_of may.kept, nat_tests)
 
   erased_unit : {new : BusState} → HasErased unit mid new → new.chip.busy ≡ 0
       → HasMade (λ a. erases_sector (size / 4096) (a / 4096) unit) blank

@@ -1,29 +1,47 @@
--- Fixed and kept bits, on the way from one chip to another.
-use Rattle.std.proofs.Common.{◌≡◌, ℕ, ◌/◌, ◌%◌, arith, refl, ◌∙◌, ap}
+-- Kept bits, their fixed ones and their code, on the way from one chip to another.
+use Rattle.std.proofs.Common.{◌≡◌, ◌+◌, ◌*◌, ◌/◌, ◌%◌, ℕ, List, slice_index, arith, ◌∙◌, ap, refl}
 use Rattle.std.specs.Prelude.{◌||◌, ◌==◌}
-use Rattle.nor_chip.specs.Chip.{Chip, is_locked}
-use Rattle.nor_chip.specs.Power.{KeptStay}
-use Rattle.nor_driver.specs.StatusWrites.{KeepsFixed}
+use Rattle.nor_chip.specs.Chip.{Chip, KeptBits, is_locked, kept_in}
+use Rattle.nor_chip.specs.Guard.{code_of}
+use Rattle.nor_driver.specs.StatusWrites.{fixed_of, with_code}
 use Rattle.nor_apply.specs.Within.{is_writable}
 
-pub fixed_refl : (x : Chip) → KeepsFixed x x
-fixed_refl x = record { one = refl; two = refl }
+-- ---- another code
 
-pub fixed_then : (x y z : Chip) → KeepsFixed x y → KeepsFixed y z → KeepsFixed x z
-fixed_then x y z first second = record { one = second.one ∙ first.one; two = second.two ∙ first.two }
+pub fixed_coded : (code : ℕ) (kept : KeptBits) → fixed_of (with_code code kept) ≡ fixed_of kept
+fixed_coded code kept =
+    let low : (32 * (kept.one / 32) + code % 32) / 32 ≡ kept.one / 32 = omega arith in
+    let high : (64 * (code / 32) + kept.two % 64) % 64 ≡ kept.two % 64 = omega arith in
+    rw (low, high) refl
 
-pub kept_fixed : (x y : Chip) → KeptStay x y → KeepsFixed x y
-kept_fixed x y kept = record { one = ap (λ (n : ℕ). n / 32) kept.0; two = ap (λ (n : ℕ). n % 64) kept.1 }
+pub coded_again : (code later : ℕ) (kept : KeptBits) → with_code later (with_code code kept) ≡ with_code later kept
+coded_again code later kept =
+    let low : (32 * (kept.one / 32) + code % 32) / 32 ≡ kept.one / 32 = omega arith in
+    let high : (64 * (code / 32) + kept.two % 64) % 64 ≡ kept.two % 64 = omega arith in
+    rw (low, high) refl
 
-pub kept_then : (x y z : Chip) → KeptStay x y → KeptStay y z → KeptStay x z
-kept_then x y z first second = (second.0 ∙ first.0, second.1 ∙ first.1)
+-- the code 0 is in none of the bits of another
+pub code_cleared : (kept : KeptBits) → code_of (with_code 0 kept) ≡ 0
+code_cleared kept = omega arith
+
+-- bits of the same fixed ones have the code that two status bytes tell where they are those
+pub told_coded : (status : List ℕ) (kept : KeptBits) → fixed_of kept ≡ fixed_of (kept_in status)
+    → with_code (code_of (kept_in status)) kept ≡ kept_in status
+told_coded status kept fixed =
+    let one = ap (λ (f : ℕ × ℕ). f.0) fixed in let two = ap (λ (f : ℕ × ℕ). f.1) fixed in
+    let low : 32 * (kept.one / 32) + code_of (kept_in status) % 32 ≡ slice_index status 0 / 4 = omega arith in
+    let high : 64 * (code_of (kept_in status) / 32) + kept.two % 64 ≡ slice_index status 1 % 128 = omega arith in
+    rw (low, high) refl
+
+-- ---- the lock
 
 -- the lock bits are fixed bits
-pub locked_same : (x y : Chip) → KeepsFixed x y → is_locked y ≡ is_locked x
+pub locked_same : (x y : KeptBits) → fixed_of y ≡ fixed_of x → is_locked y ≡ is_locked x
 locked_same x y fixed =
-    let low : y.kept2 % 2 ≡ x.kept2 % 2 = let two = fixed.two in omega arith in
-    let high : y.kept1 / 32 % 2 ≡ x.kept1 / 32 % 2 = ap (λ (n : ℕ). n % 2) fixed.one in
-    ap (λ (n : ℕ). n == 1 || y.kept2 % 2 == 1) high ∙ ap (λ (n : ℕ). x.kept1 / 32 % 2 == 1 || n == 1) low
+    let two = ap (λ (f : ℕ × ℕ). f.1) fixed in
+    let low : y.two % 2 ≡ x.two % 2 = omega arith in
+    let high : y.one / 32 % 2 ≡ x.one / 32 % 2 = ap (λ (f : ℕ × ℕ). f.0 % 2) fixed in
+    ap (λ (n : ℕ). n == 1 || y.two % 2 == 1) high ∙ ap (λ (n : ℕ). x.one / 32 % 2 == 1 || n == 1) low
 
-pub writable_same : (x y : Chip) → y.config ≡ x.config → KeepsFixed x y → is_writable y ≡ is_writable x
-writable_same x y config fixed = grind (arith, locked_same x y fixed)
+pub writable_same : (x y : Chip) → y.config ≡ x.config → fixed_of y.kept ≡ fixed_of x.kept → is_writable y ≡ is_writable x
+writable_same x y config fixed = grind (arith, locked_same x.kept y.kept fixed)

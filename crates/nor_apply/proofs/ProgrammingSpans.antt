@@ -11,13 +11,13 @@ use Rattle.std.proofs.Math.Bool.{or-false, and-or_distrib_right, or_assoc}
 use Rattle.nor_chip.specs.Bus.{BusState}
 use Rattle.nor_driver.specs.Programs.{CanProgram, MayProgram, HasProgrammed, programmed, is_in_page, LeavesProgram, Programs, is_sector_of}
 use Rattle.nor_driver.specs.Reads.{IsSectorOf}
+use Rattle.nor_driver.specs.StatusWrites.{fixed_of}
 use Rattle.nor_plan.specs.declared.page.PageSpan.{PageSpan}
 use Rattle.nor_plan.specs.SpanFacts.{IsSpan, AreSpans, is_within_span, spanned_by}
 use Rattle.nor_plan.specs.SectorSet.{none}
 use Rattle.nor_apply.specs.Change.{MayChange, HasChanged, only, byte_of}
 use Rattle.nor_apply.specs.Programming.{CanProgramSpans, LeavesSpans, DoesSpans, most_pages}
 use Rattle.nor_apply.proofs.Alone.{only-here, only-is, old_byte}
-use Rattle.nor_apply.proofs.Kept.{kept_fixed}
 use Rattle.nor_apply.proofs.Changing.{can_after, change_then, HasMade, either_byte, made_may, made_then, changed_may, made_none}
 use Rattle.std.specs.List.{list_any, range_with_len}
 use Rattle.nor_count.specs.Below.{any_below, count_below}
@@ -65,7 +65,7 @@ span_change : (sector at : ℕ) (sent : List ℕ) (wanted : ℕ → ℕ) (now ne
     ⊎ (programmed at sent now.chip.bytes a ≡ wanted a))
     → MayProgram at sent now new → MayChange (only sector) none wanted now new
 span_change sector at sent wanted now new inside either may =
-    grind (arith, inside, either, may.bytes, may.runs, may.worn, kept_fixed now.chip new.chip may.kept)
+    grind (arith, inside, either, may.bytes, may.runs, may.worn, ap fixed_of may.kept)
 
 record Spanned (sector : ℕ) (old wanted : List ℕ) (span : PageSpan) : Type 0 where
   pub whole : length old ≡ 4096

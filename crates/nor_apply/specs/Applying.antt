@@ -1,13 +1,12 @@
 -- What the whole of the changes of a session or restore leaves: unlock, erases, programs, the status.
 use Rattle.std.specs.Prelude.{◌≡◌, ◌≤◌, ◌<◌, ◌+◌, ◌*◌, ◌/◌, ◌||◌, ◌⊎◌, ◌==◌, ℕ, Bool, true, false, not, length, bit_and, if◌then◌else◌, ⊤}
-use Rattle.nor_chip.specs.Code.{code_in}
 use Rattle.nor_chip.specs.Status.{bytes_of}
-use Rattle.nor_chip.specs.Chip.{Chip}
-use Rattle.nor_chip.specs.Guard.{is_guarded}
+use Rattle.nor_chip.specs.Chip.{Chip, kept_in}
+use Rattle.nor_chip.specs.Guard.{is_guarded, code_of}
 use Rattle.nor_chip.specs.Bus.{BusState}
 use Rattle.nor_driver.specs.declared.waits.Halt.{Halt}
 use Rattle.nor_driver.specs.declared.waits.Halt.TheVariants.{Stopped, Timeout}
-use Rattle.nor_driver.specs.StatusWrites.{KeepsFixed, HasCode, HasKeptBits}
+use Rattle.nor_driver.specs.StatusWrites.{with_code}
 use Rattle.nor_driver.specs.Ready.{StaysReady}
 use Rattle.nor_driver.specs.Operations.{AimsWithin, most_operation}
 use Rattle.nor_plan.specs.Planned.{planned}
@@ -31,7 +30,7 @@ raised_in changes = has changes.raised
 -- the status is written at the end: the code bits of the status that was read, none where protection was lifted,
 -- aren't the wanted ones
 abbrev pub writes_code : Changes → Bool
-writes_code changes = not ((if changes.unlock then 0 else code_in (bytes_of changes.status)) == changes.code)
+writes_code changes = not ((if changes.unlock then 0 else code_of (kept_in (bytes_of changes.status))) == changes.code)
 
 -- how many status writes there are
 abbrev pub status_writes : Changes → ℕ
@@ -44,7 +43,7 @@ status_writes changes = (if changes.unlock then 1 else 0) + (if writes_code chan
 pub record CanApply (changes : Changes) (wanted : ℕ → ℕ) (chip : Chip) : Type 0 where
   pub idle : chip.busy ≡ 0
   pub sized : IsSized changes.size changes.kinds chip
-  pub kept : HasKeptBits (bytes_of changes.status) chip
+  pub kept : chip.kept ≡ kept_in (bytes_of changes.status)
   pub inside : (s : ℕ) → touched_in changes s ≡ true → 4096 * s + 4096 ≤ chip.config.size
   pub free : changes.unlock ≡ false → (a : ℕ) → touched_in changes (a / 4096) ≡ true → is_guarded chip a ≡ false
   pub writable : (changes.unlock || writes_code changes) ≡ true → is_writable chip ≡ true
@@ -58,8 +57,7 @@ pub record CanApply (changes : Changes) (wanted : ℕ → ℕ) (chip : Chip) : T
 pub record HasApplied (changes : Changes) (wanted : ℕ → ℕ) (old new : BusState) : Type 0 where
   pub config : new.chip.config ≡ old.chip.config
   pub bytes : (a : ℕ) → new.chip.bytes a ≡ (if touched_in changes (a / 4096) then wanted a else old.chip.bytes a)
-  pub fixed : KeepsFixed old.chip new.chip
-  pub has_code : HasCode changes.code new.chip
+  pub kept : new.chip.kept ≡ with_code changes.code old.chip.kept
   pub worn : (s : ℕ) → new.worn s ≡ (old.worn s || raised_in changes s)
   pub idle : new.chip.busy ≡ 0
   pub latch : new.chip.latch ≡ true → old.chip.latch ≡ true

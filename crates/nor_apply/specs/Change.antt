@@ -3,7 +3,6 @@
 use Rattle.std.specs.Prelude.{◌≡◌, ◌≤◌, ◌+◌, ◌-◌, ◌*◌, ◌/◌, ◌==◌, ◌||◌, ◌⊎◌, ℕ, Bool, true, false, List, slice_index, bit_and, if◌then◌else◌}
 use Rattle.nor_chip.specs.Chip.{Chip}
 use Rattle.nor_chip.specs.Guard.{is_guarded}
-use Rattle.nor_chip.specs.Power.{KeptStay}
 use Rattle.nor_chip.specs.Bus.{BusState}
 use Rattle.nor_chip.specs.declared.config.Kinds.{Kinds}
 use Rattle.nor_apply.specs.Within.{IsWithin, places_of}
@@ -37,7 +36,7 @@ pub record MayChange (touched raised : ℕ → Bool) (wanted : ℕ → ℕ) (old
 pub record HasChanged (sectors : ℕ → Bool) (wanted : ℕ → ℕ) (erased : ℕ → Bool) (old new : BusState) : Type 0 where
   pub config : new.chip.config ≡ old.chip.config
   pub bytes : (a : ℕ) → new.chip.bytes a ≡ (if sectors (a / 4096) then wanted a else old.chip.bytes a)
-  pub kept : KeptStay old.chip new.chip
+  pub kept : new.chip.kept ≡ old.chip.kept
   pub worn : (s : ℕ) → new.worn s ≡ (old.worn s || erased s)
   pub idle : new.chip.busy ≡ 0
   pub latch : new.chip.latch ≡ true → old.chip.latch ≡ true

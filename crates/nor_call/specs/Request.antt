@@ -38,4 +38,4 @@ scanned_sectors request size = if is_data request.what then sectors_included req
 -- The wanted protection code: for a range the least that guards exactly it, else the one that the chip has.
 abbrev pub IsWantedCode : What → Chip → (code : ℕ) → Type 0
 IsWantedCode (WpRange start len) chip code = IsLeastCode chip.config.size start len code
-IsWantedCode _ chip code = code ≡ code_of chip
+IsWantedCode _ chip code = code ≡ code_of chip.kept

@@ -18,8 +18,8 @@ with_scheme false size test ends = ends_at 0 (omega arith) (inl (λ a below. sym
 
 pub is_guarded-end : (chip : Chip) → LieAtAnEnd chip.config.size (is_guarded chip)
 is_guarded-end chip =
-    with_scheme chip.config.scheme chip.config.size (guarded_by chip.config.size (code_of chip))
-    (guarded_by-end chip.config.size (code_of chip) (sized_bounds chip.config))
+    with_scheme chip.config.scheme chip.config.size (guarded_by chip.config.size (code_of chip.kept))
+    (guarded_by-end chip.config.size (code_of chip.kept) (sized_bounds chip.config))
 
 -- No address of a sector that isn't guarded is guarded.
 pub is_guarded-sector : (chip : Chip) (a : ℕ) → a < chip.config.size
@@ -33,7 +33,7 @@ is_guarded-sector chip a below free =
 
 -- Nothing is guarded past the chip's end, ..
 pub is_guarded-past : (chip : Chip) (a : ℕ) → chip.config.size ≤ a → is_guarded chip a ≡ false
-is_guarded-past chip a past = rw (guarded_by-past chip.config.size (code_of chip) a past) (and-false chip.config.scheme)
+is_guarded-past chip a past = rw (guarded_by-past chip.config.size (code_of chip.kept) a past) (and-false chip.config.scheme)
 
 -- .. nor on a chip without a scheme, ..
 pub is_guarded-no_scheme : (chip : Chip) (a : ℕ) → chip.config.scheme ≡ false → is_guarded chip a ≡ false
@@ -44,10 +44,10 @@ guarded_by-zero : (size a : ℕ) → guarded_by size 0 a ≡ false
 unfolding guarded_by
 guarded_by-zero size a = grind (arith, nat_tests)
 
-pub is_guarded-zero : (chip : Chip) (a : ℕ) → code_of chip ≡ 0 → is_guarded chip a ≡ false
+pub is_guarded-zero : (chip : Chip) (a : ℕ) → code_of chip.kept ≡ 0 → is_guarded chip a ≡ false
 is_guarded-zero chip a zeros = rw (zeros, guarded_by-zero chip.config.size a) (and-false chip.config.scheme)
 
 -- Two chips of one configuration and the same kept bits guard the same places.
-pub is_guarded-same : (old new : Chip) → new.config ≡ old.config → new.kept1 ≡ old.kept1 → new.kept2 ≡ old.kept2
-    → (a : ℕ) → is_guarded new a ≡ is_guarded old a
-is_guarded-same old new config kept1 kept2 a = cc
+pub is_guarded-same : (old new : Chip) → new.config ≡ old.config → new.kept ≡ old.kept → (a : ℕ)
+    → is_guarded new a ≡ is_guarded old a
+is_guarded-same old new config kept a = cc

@@ -1,5 +1,6 @@
 pub mod Guarded
 pub mod GuardedPlaces
+pub mod Kept
 pub mod LeastCodes
 pub mod Lines
 pub mod Nature

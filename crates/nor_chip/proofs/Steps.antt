@@ -9,8 +9,7 @@ use Rattle.nor_chip.specs.Step.{is_carried_out, done_of}
 -- Two chips that agree in all but their bytes.
 pub record Agrees (x y : Chip) : Type 0 where
   pub config : y.config ≡ x.config
-  pub kept1 : y.kept1 ≡ x.kept1
-  pub kept2 : y.kept2 ≡ x.kept2
+  pub kept : y.kept ≡ x.kept
   pub latch : y.latch ≡ x.latch
   pub busy : y.busy ≡ x.busy
 

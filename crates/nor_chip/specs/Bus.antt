@@ -78,8 +78,7 @@ unknown_bus sent heard = record {
       sized = refl;
     };
     bytes = λ a. 0;
-    kept1 = 0;
-    kept2 = 0;
+    kept = record { one = 0; two = 0 };
     latch = false;
     busy = 0;
     running = Unknown;

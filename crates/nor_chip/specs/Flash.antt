@@ -4,7 +4,7 @@ use Rattle.nor_chip.specs.declared.command.Command.{Command}
 use Rattle.nor_chip.specs.declared.running.Running.{Running}
 use Rattle.nor_chip.specs.declared.sim.flash.Flash.{Flash}
 use Rattle.nor_chip.specs.Chip.{Chip}
-use Rattle.nor_chip.specs.Power.{is_known_running, is_in_work, kept1_before, kept2_before}
+use Rattle.nor_chip.specs.Power.{is_known_running, is_in_work, kept_before}
 use Rattle.nor_chip.specs.Step.{is_operation}
 
 -- the chip that it simulates
@@ -12,8 +12,7 @@ abbrev pub chip_of : Flash → Chip
 chip_of flash = record {
   config = flash.config;
   bytes = λ a. slice_index flash.bytes.items a;
-  kept1 = flash.kept.one.0 / 4;
-  kept2 = flash.kept.two.0;
+  kept = record { one = flash.kept.one.0 / 4; two = flash.kept.two.0 };
   latch = flash.latch;
   busy = flash.busy;
   running = flash.running;
@@ -23,8 +22,7 @@ chip_of flash = record {
 pub record Begins (runs : Running) (polls : ℕ) (old new : Chip) : Type 0 where
   pub config : new.config ≡ old.config
   pub bytes : (a : ℕ) → new.bytes a ≡ old.bytes a
-  pub kept1 : new.kept1 ≡ old.kept1
-  pub kept2 : new.kept2 ≡ old.kept2
+  pub kept : new.kept ≡ old.kept
   pub busy : new.busy ≡ polls
   pub running : new.running ≡ runs
   pub latch : new.latch ≡ not (new.busy == 0)
@@ -34,8 +32,7 @@ pub record CutsOff (fill : ℕ) (old new : Chip) : Type 0 where
   pub config : new.config ≡ old.config
   pub bytes : (a : ℕ)
       → new.bytes a ≡ (if is_known_running old.running && is_in_work old.running a then fill else old.bytes a)
-  pub kept1 : new.kept1 ≡ (if fill % 2 == 0 then kept1_before old else old.kept1)
-  pub kept2 : new.kept2 ≡ (if fill % 2 == 0 then kept2_before old else old.kept2)
+  pub kept : new.kept ≡ (if fill % 2 == 0 then kept_before old else old.kept)
 
 -- how long operations take stays as it is, and after an operation the chip is busy for as long
 pub record Paces (command : Command) (old new : Flash) : Type 0 where

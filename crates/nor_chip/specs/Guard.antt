@@ -1,11 +1,11 @@
 -- Guarded places: which places the block protection bits keep from programs and erases.
 -- (Written after the status register protection tables of the W25Q64FV and W25Q128FV datasheets.)
 use Rattle.std.specs.Prelude.{◌+◌, ◌-◌, ◌*◌, ◌/◌, ◌%◌, ◌^◌, ◌==◌, ◌&&◌, ◌||◌, ℕ, Bool, not, nat_lt, nat_le, if◌then◌else◌}
-use Rattle.nor_chip.specs.Chip.{Chip}
+use Rattle.nor_chip.specs.Chip.{Chip, KeptBits}
 
 -- The protection code, one number below 64: CMP, SEC, TB, BP2, BP1, BP0 from the high end.
-abbrev pub code_of : Chip → ℕ
-code_of chip = 32 * (chip.kept2 / 64 % 2) + chip.kept1 % 32
+abbrev pub code_of : KeptBits → ℕ
+code_of kept = 32 * (kept.two / 64 % 2) + kept.one % 32
 
 -- BP2, BP1 and BP0 of a code, as a number: how many bytes it names
 abbrev pub bp_of : (code : ℕ) → ℕ
@@ -53,7 +53,7 @@ guarded_by size code a =
 
 -- the place `a` of this chip is guarded; on a chip without a scheme none is
 abbrev pub is_guarded : Chip → (a : ℕ) → Bool
-is_guarded chip a = chip.config.scheme && guarded_by chip.config.size (code_of chip) a
+is_guarded chip a = chip.config.scheme && guarded_by chip.config.size (code_of chip.kept) a
 
 -- some place of a unit is guarded, so many places from `start` on: its first or its last, since guarded places lie at
 -- one end of the chip

@@ -14,7 +14,6 @@ pub mod Flash
 pub mod Sim
 pub mod Start
 pub mod Makers
-pub mod Code
 pub mod Units
 pub mod Status
 pub mod Offer

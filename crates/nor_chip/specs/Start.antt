@@ -3,7 +3,7 @@ use Rattle.std.specs.Prelude.{◌≡◌, ◌<◌, ◌/◌, ◌%◌, ◌==◌, []
 use Rattle.nor_chip.specs.declared.config.Config.{Config}
 use Rattle.nor_chip.specs.declared.sim.Delays.{Delays}
 use Rattle.nor_chip.specs.declared.running.Running.TheVariants.{Unknown}
-use Rattle.nor_chip.specs.Chip.{Chip, status1_of, status2_of}
+use Rattle.nor_chip.specs.Chip.{Chip, status1_of, status2_of, kept_in}
 use Rattle.nor_chip.specs.Sent.{IsNothing}
 use Rattle.nor_chip.specs.Bus.{BusState}
 
@@ -13,8 +13,7 @@ use Rattle.nor_chip.specs.Bus.{BusState}
 pub record Starts (setup : Config) (image flags : List ℕ) (delays : Delays) (state : BusState) : Type 0 where
   pub config : state.chip.config ≡ setup
   pub bytes : (a : ℕ) → state.chip.bytes a ≡ slice_index image a
-  pub kept1 : state.chip.kept1 ≡ slice_index flags 0 / 4
-  pub kept2 : state.chip.kept2 ≡ slice_index flags 1 % 128
+  pub kept : state.chip.kept ≡ kept_in flags
   pub latch : state.chip.latch ≡ (slice_index flags 0 / 2 % 2 == 1)
   pub busy : state.chip.busy ≡ delays.now
   pub running : state.chip.running ≡ Unknown

@@ -6,7 +6,7 @@ use Rattle.nor_chip.specs.declared.command.Command.{Command}
 use Rattle.nor_chip.specs.declared.command.Command.TheVariants.{WriteEnable, WriteDisable, Poll, ReadStatus2, WriteStatus, Program, Erase, ReadData, ReadId, ReadSfdp, ReadUnique, Ignored}
 use Rattle.nor_chip.specs.declared.running.Running.{Running}
 use Rattle.nor_chip.specs.declared.running.Running.TheVariants as Runs
-use Rattle.nor_chip.specs.Chip.{Chip, status1_of, status2_of, is_locked, sfdp_byte}
+use Rattle.nor_chip.specs.Chip.{Chip, KeptBits, status1_of, status2_of, is_locked, sfdp_byte}
 use Rattle.nor_chip.specs.Guard.{is_guarded, is_unit_guarded}
 use Rattle.nor_chip.specs.Command.{command_of}
 
@@ -21,7 +21,7 @@ is_idle chip = chip.busy == 0
 abbrev pub is_carried_out : Chip → Command → Bool
 is_carried_out chip Poll = true
 is_carried_out chip ReadStatus2 = true
-is_carried_out chip (WriteStatus one two) = is_idle chip && chip.latch && not (is_locked chip)
+is_carried_out chip (WriteStatus one two) = is_idle chip && chip.latch && not (is_locked chip.kept)
 is_carried_out chip (Program at) = is_idle chip && chip.latch && not (is_guarded chip at)
 is_carried_out chip (Erase start len) = is_idle chip && chip.latch && not (is_unit_guarded chip start len)
 is_carried_out chip Ignored = false
@@ -64,17 +64,14 @@ byte_after chip (Program at) sent a =
 byte_after chip (Erase start len) sent a = if nat_le start a && nat_lt a (start + len) then 255 else chip.bytes a
 byte_after chip _ sent a = chip.bytes a
 
--- The kept bits of status 1 afterwards: a status write sets BP, TB, SEC and SRP0 as sent.
-abbrev pub kept1_after : Chip → Command → ℕ
-kept1_after chip (WriteStatus one two) = one / 4
-kept1_after chip _ = chip.kept1
-
--- Those of status 2: it sets SRP1, QE and CMP as sent; an LB bit stays set once it is, and the reserved bit is not
--- written.
-abbrev pub kept2_after : Chip → Command → ℕ
-kept2_after chip (WriteStatus one two) =
-    bit_or (bit_and two 0b1000011) (bit_or (bit_and chip.kept2 0b0111100) (bit_and two 0b0111000))
-kept2_after chip _ = chip.kept2
+-- The kept bits afterwards. A status write sets BP, TB, SEC, SRP0, SRP1, QE and CMP as sent; an LB bit stays set once it
+-- is, and the reserved bit is not written.
+abbrev pub kept_after : Chip → Command → KeptBits
+kept_after chip (WriteStatus one two) = record {
+  one = one / 4;
+  two = bit_or (bit_and two 0b1000011) (bit_or (bit_and chip.kept.two 0b0111100) (bit_and two 0b0111000));
+}
+kept_after chip _ = chip.kept
 
 -- the command is an operation, after which the chip is busy for a while
 abbrev pub is_operation : Command → Bool
@@ -103,7 +100,7 @@ latch_after chip _ busy = chip.latch
 
 -- what runs afterwards: the operation, or what ran before
 abbrev pub running_after : Chip → Command → Running
-running_after chip (WriteStatus one two) = Runs.StatusWrite chip.kept1 chip.kept2
+running_after chip (WriteStatus one two) = Runs.StatusWrite chip.kept.one chip.kept.two
 running_after chip (Program at) = Runs.Program (at / 256)
 running_after chip (Erase start len) = Runs.Erase start len
 running_after chip _ = chip.running
@@ -113,8 +110,7 @@ pub record Does (command : Command) (sent : List ℕ) (old : Chip) (answer : Lis
   pub replies : (i : ℕ) → i < length answer → slice_index answer i ≡ reply_byte old command i
   pub config : new.config ≡ old.config
   pub bytes : (a : ℕ) → new.bytes a ≡ byte_after old command sent a
-  pub kept1 : new.kept1 ≡ kept1_after old command
-  pub kept2 : new.kept2 ≡ kept2_after old command
+  pub kept : new.kept ≡ kept_after old command
   pub busy : BusyAfter old command new.busy
   pub latch : new.latch ≡ latch_after old command new.busy
   pub running : new.running ≡ running_after old command

@@ -1,9 +1,9 @@
 //! Which places the block protection bits keep from programs and erases. (W25Q64FV and W25Q128FV datasheets,
 //! status register memory protection.)
 ghost use Rattle.std.specs.Prelude.{◌≡◌, ◌≤◌, ◌<◌, ◌+◌, ◌-◌, ◌*◌, ◌/◌, ◌%◌, ◌==◌, ◌||◌, ◌↔◌, ℕ, true, false, if◌then◌else◌, IsTrue, IfSome, IfNone, MatchOption};
+ghost use Rattle.nor_chip.specs.Chip.{kept_in};
 ghost use Rattle.nor_chip.specs.Size.{is_chip_size};
-ghost use Rattle.nor_chip.specs.Code.{code_in};
-ghost use Rattle.nor_chip.specs.Guard.{guarded_by, is_place_named, named_length, is_bottom, names_sectors, is_complement, is_undefined};
+ghost use Rattle.nor_chip.specs.Guard.{guarded_by, is_place_named, named_length, is_bottom, names_sectors, is_complement, is_undefined, code_of};
 ghost use Rattle.nor_chip.specs.Status.{bytes_of};
 ghost use Rattle.nor_chip.specs.Units.{LieAtAnEnd, HoldsSomewhere};
 ghost use Rattle.nor_chip.specs.Offer.{GuardsExactly, IsRangeOf, IsLeastCode, IsNotOffered};
@@ -96,10 +96,10 @@ pub(crate) fn is_guarded(size: u32, code: u8, at: u32) -> bool
 /// of a guarded one is guarded whole, so a program that begins there is ignored.
 pub fn protected(status: [u8; 2], size: u32, at: u32) -> bool
     requires { IsTrue (is_chip_size size) }
-    ensures value { result ≡ guarded_by size (code_in status) at }
-    ensures ends { LieAtAnEnd size (guarded_by size (code_in status)) }
+    ensures value { result ≡ guarded_by size (code_of (kept_in status)) at }
+    ensures ends { LieAtAnEnd size (guarded_by size (code_of (kept_in status))) }
     ensures page { at < size
-        → (IsTrue result ↔ HoldsSomewhere (guarded_by size (code_in status)) (at / 256 * 256) 256) }
+        → (IsTrue result ↔ HoldsSomewhere (guarded_by size (code_of (kept_in status))) (at / 256 * 256) 256) }
 {
     is_guarded(size, Status::of(status).code(), at)
 }
@@ -113,8 +113,8 @@ pub fn unit_protected(status: [u8; 2], size: u32, start: u32, len: u32) -> bool
     requires some { 0 < len }
     requires inside { start + len ≤ size }
     ensures borders { result
-        ≡ (guarded_by size (code_in status) start || guarded_by size (code_in status) (start + len - 1)) }
-    ensures somewhere { IsTrue result ↔ HoldsSomewhere (guarded_by size (code_in status)) start len }
+        ≡ (guarded_by size (code_of (kept_in status)) start || guarded_by size (code_of (kept_in status)) (start + len - 1)) }
+    ensures somewhere { IsTrue result ↔ HoldsSomewhere (guarded_by size (code_of (kept_in status))) start len }
 {
     protected(status, size, start) || protected(status, size, start + len - 1)
 }
@@ -157,8 +157,8 @@ fn places_of(size: u32, code: u8) -> Places
 /// `size` is one that a chip may have.
 pub fn guarded_range(status: Status, size: u32) -> Option<(u32, u32)>
     requires { IsTrue (is_chip_size size) }
-    ensures { MatchOption result (is_undefined (code_in (bytes_of status)) ≡ true)
-        (λ places. IsRangeOf size (code_in (bytes_of status)) places.0 places.1) }
+    ensures { MatchOption result (is_undefined (code_of (kept_in (bytes_of status))) ≡ true)
+        (λ places. IsRangeOf size (code_of (kept_in (bytes_of status))) places.0 places.1) }
 {
     let code = status.code();
     if is_undefined(code) {

@@ -1,7 +1,7 @@
 //! The status bits by their names. (W25Q64FV datasheet, status registers.)
 ghost use Rattle.std.specs.Prelude.{⊤, ◌≡◌, ◌+◌, ◌*◌, ◌/◌, ◌%◌, ◌<◌, [], ◌∷◌, codes, bit_and, bit_or, if◌then◌else◌};
-ghost use Rattle.nor_chip.specs.Code.{code_in, is_lock_set};
-ghost use Rattle.nor_chip.specs.Guard.{is_undefined};
+ghost use Rattle.nor_chip.specs.Chip.{kept_in, is_locked};
+ghost use Rattle.nor_chip.specs.Guard.{is_undefined, code_of};
 
 use crate::guard;
 use bitflags::{Flag, Flags, bitflag_items};
@@ -180,7 +180,7 @@ impl Status {
     /// The protection code: CMP, SEC, TB, BP2, BP1 and BP0 as a number, from the high end.
     #[tactic(auto, using(crate::proofs::StatusBits::code_bits))]
     pub fn code(self) -> u8
-        ensures { result ≡ code_in (bytes_of self) }
+        ensures { result ≡ code_of (kept_in (bytes_of self)) }
     {
         let low = self.one.intersection(Status1::CODE);
         let high = self.two.intersection(Status2::CODE);
@@ -216,7 +216,7 @@ impl Status {
 
     /// The datasheets don't define the protection code, and every place is guarded.
     pub fn is_undefined(self) -> bool
-        ensures { result ≡ is_undefined (code_in (bytes_of self)) }
+        ensures { result ≡ is_undefined (code_of (kept_in (bytes_of self))) }
     {
         guard::is_undefined(self.code())
     }
@@ -250,7 +250,7 @@ impl Status {
 
     /// SRP0 or SRP1 is set, so that the status isn't written.
     pub fn is_locked(self) -> bool
-        ensures { result ≡ is_lock_set (bytes_of self) }
+        ensures { result ≡ is_locked (kept_in (bytes_of self)) }
     {
         self.one.contains(Status1::SRP0) || self.two.contains(Status2::SRP1)
     }

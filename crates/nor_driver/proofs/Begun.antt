@@ -5,9 +5,9 @@ use Rattle.std.proofs.lemmas.Bool.Decides.{eqb_tells, nat_tests}
 use Rattle.std.proofs.Math.Bool.{or-false}
 use Rattle.nor_chip.specs.declared.command.Command.{Command}
 use Rattle.nor_chip.specs.declared.command.Command.TheVariants.{Ignored}
-use Rattle.nor_chip.specs.Chip.{Chip}
-use Rattle.nor_chip.specs.Power.{is_in_work, KeptStay, KeptCut}
-use Rattle.nor_chip.specs.Step.{Does, is_idle, is_operation, done_of, byte_after, kept1_after, kept2_after, running_after}
+use Rattle.nor_chip.specs.Chip.{Chip, KeptBits}
+use Rattle.nor_chip.specs.Power.{is_in_work, KeptCut}
+use Rattle.nor_chip.specs.Step.{Does, is_idle, is_operation, done_of, byte_after, kept_after, running_after}
 use Rattle.nor_chip.specs.Bus.{BusState, Carries}
 use Rattle.nor_chip.proofs.Steps.{done-agrees}
 use Rattle.nor_driver.specs.Looks.{Unchanged, Stays}
@@ -51,8 +51,7 @@ idle-takes chip out asks is = grind (arith, asks chip.config, nat_tests)
 pub record HasBegun (command : Command) (sent : List ℕ) (old new : BusState) : Type 0 where
   pub config : new.chip.config ≡ old.chip.config
   pub bytes : (a : ℕ) → new.chip.bytes a ≡ byte_after old.chip command sent a
-  pub kept1 : new.chip.kept1 ≡ kept1_after old.chip command
-  pub kept2 : new.chip.kept2 ≡ kept2_after old.chip command
+  pub kept : new.chip.kept ≡ kept_after old.chip command
   pub running : new.chip.running ≡ running_after old.chip command
   pub latch : new.chip.latch ≡ not (new.chip.busy == 0)
   pub worn : Wore command old new
@@ -69,11 +68,10 @@ outside-work : (chip : Chip) (command : Command) (sent : List ℕ) (a : ℕ)
 outside-work chip command sent a out is = grind arith
 
 -- the kept bits of an operation that is cut off
-kept-cut : (command : Command) (old begun new : Chip) → is_operation command ≡ true
-    → begun.kept1 ≡ kept1_after old command → begun.kept2 ≡ kept2_after old command
-    → KeptCut (running_after old command) begun new
-    → KeptStay old new ⊎ ((new.kept1 ≡ kept1_after old command) × (new.kept2 ≡ kept2_after old command))
-kept-cut command old begun new is kept1 kept2 cut = grind arith
+kept-cut : (command : Command) (old : Chip) (begun new : KeptBits) → is_operation command ≡ true
+    → begun ≡ kept_after old command → KeptCut (running_after old command) begun new
+    → (new ≡ old.kept) ⊎ (new ≡ kept_after old command)
+kept-cut command old begun new is kept cut = grind arith
 
 -- where the operation hadn't begun
 pub may-before : (command : Command) (sent : List ℕ) (old new : BusState) → old.chip.busy ≡ 0 → Stays old new
@@ -85,7 +83,7 @@ pub may-after : (command : Command) (sent : List ℕ) (old begun new : BusState)
     → begun.steady ≡ old.steady → HasBegun command sent old begun → Stays begun new → MayOperate command sent old new
 may-after command sent old begun new is steady has stays =
     let outside = outside-work old.chip command sent in
-    let kept = kept-cut command old.chip begun.chip new.chip is has.kept1 has.kept2 in
+    let kept = kept-cut command old.chip begun.chip.kept new.chip.kept is has.kept in
     grind (arith, stays.calm, has.bytes, stays.bytes, outside, stays.worn, has.worn, or-false, kept)
 
 pub operated : (command : Command) (sent : List ℕ) (old begun new : BusState) (waited : _)

@@ -1,17 +1,17 @@
 -- What a stop leaves, and what transactions leave that only read, one after another.
 use Rattle.std.proofs.Common.{◌≡◌, arith}
 use Rattle.nor_chip.specs.declared.running.Running.{Running}
-use Rattle.nor_chip.specs.Chip.{Chip, IsSame}
-use Rattle.nor_chip.specs.Power.{KeptStay, KeptCut}
+use Rattle.nor_chip.specs.Chip.{Chip, IsSame, KeptBits}
+use Rattle.nor_chip.specs.Power.{KeptCut}
 use Rattle.nor_chip.specs.Bus.{BusState, Stops}
 use Rattle.nor_driver.specs.Looks.{Unchanged, Stays}
 
 -- kept bits that stayed weren't cut off
-kept_cut-stay : (running : Running) (old new : Chip) → KeptStay old new → KeptCut running old new
+kept_cut-stay : (running : Running) (old new : KeptBits) → new ≡ old → KeptCut running old new
 kept_cut-stay running old new stay = grind arith
 
 -- kept bits of what was cut off already
-cut_again : (running : Running) (old mid new : Chip) → KeptCut running old mid → KeptCut running mid new
+cut_again : (running : Running) (old mid new : KeptBits) → KeptCut running old mid → KeptCut running mid new
     → KeptCut running old new
 cut_again running old mid new first second = grind arith
 
@@ -27,19 +27,19 @@ unchanged_then old mid new first second = grind arith
 pub unchanged_stays : (old new : BusState) → Unchanged old new → Stays old new
 unchanged_stays old new unchanged =
     let same = unchanged.same in
-    let kept = kept_cut-stay old.chip.running old.chip new.chip (same.kept1, same.kept2) in
+    let kept = kept_cut-stay old.chip.running old.chip.kept new.chip.kept same.kept in
     search same.bytes
 
 -- a stop leaves what ran before, or what is left of it without power
 pub stays_at_stop : (old new : BusState) → Stops old new → Stays old new
 stays_at_stop old new stops =
-    grind (arith, stops.worn, kept_cut-stay old.chip.running old.chip new.chip)
+    grind (arith, stops.worn, kept_cut-stay old.chip.running old.chip.kept new.chip.kept)
 
 -- where what ran was cut off, the rest is a reading of an idle chip
 pub stays_then : (old mid new : BusState) → mid.steady ≡ old.steady → Stays old mid → Stays mid new → Stays old new
 stays_then old mid new steady first second =
-    let cut = cut_again old.chip.running old.chip mid.chip new.chip first.kept in
-    let stay = kept_cut-stay old.chip.running mid.chip new.chip in
+    let cut = cut_again old.chip.running old.chip.kept mid.chip.kept new.chip.kept first.kept in
+    let stay = kept_cut-stay old.chip.running mid.chip.kept new.chip.kept in
     grind (arith, first.calm, second.calm, first.bytes, second.bytes, first.worn, second.worn, cut, stay)
 
 pub stays_after : (old mid new : BusState) → mid.steady ≡ old.steady → Unchanged old mid → Stays mid new → Stays old new

@@ -9,13 +9,13 @@ use Rattle.std.proofs.lemmas.Nat.{and_assoc, and_mask}
 use Rattle.std.proofs.Math.Bool.{or-false, and-true}
 use Rattle.nor_chip.specs.declared.command.Command.TheVariants.{WriteStatus, Ignored}
 use Rattle.nor_chip.specs.declared.status.Status.{Status}
-use Rattle.nor_chip.specs.Chip.{Chip}
+use Rattle.nor_chip.specs.Chip.{Chip, kept_in}
 use Rattle.nor_chip.specs.Status.{bytes_of, bytes_with_code}
 use Rattle.nor_chip.specs.Step.{is_idle}
 use Rattle.nor_chip.specs.Bus.{BusState}
 use Rattle.nor_chip.specs.Sent.{aims}
 use Rattle.nor_driver.specs.Operations.{operation_of, MayOperate, HasOperated, LeavesOperation, Operates}
-use Rattle.nor_driver.specs.StatusWrites.{KeepsFixed, HasCode, HasFixedBits, takes_status, MayWriteStatus, HasWrittenStatus, LeavesStatusWrite, WritesStatus}
+use Rattle.nor_driver.specs.StatusWrites.{fixed_of, with_code, takes_status, MayWriteStatus, HasWrittenStatus, LeavesStatusWrite, WritesStatus}
 use Rattle.nor_driver.proofs.Aims.{stirs_more, in_none}
 use Rattle.nor_driver.proofs.Taken.{may_taken, has_taken, may_refused, has_refused}
 
@@ -54,21 +54,26 @@ module _ (status : Status) (code : ℕ) (below : code < 64) where
   asked chip = rw (and-true (is_idle chip)) refl
 
   module _ (old new : BusState) where
-    module _ (fixed : HasFixedBits (bytes_of status) old.chip) where
+    module _ (fixed : fixed_of old.chip.kept ≡ fixed_of (kept_in (bytes_of status))) where
       -- the kept bits afterwards
-      code_there : new.chip.kept1 ≡ one / 4 → new.chip.kept2 ≡ written old.chip.kept2 two
-          → KeepsFixed old.chip new.chip × HasCode code new.chip
-      code_there kept1 kept2 =
-          let same1 : status.one.0 / 128 ≡ old.chip.kept1 / 32 = fixed.one in
-          let same2 : status.two.0 % 64 ≡ old.chip.kept2 % 64 = fixed.two in
-          let is : new.chip.kept2 ≡ two = kept2 ∙ written_as old.chip.kept2 two (omega arith) (omega arith) in
-          omega arith
+      code_there : new.chip.kept ≡ record { one = one / 4; two = written old.chip.kept.two two }
+          → new.chip.kept ≡ with_code code old.chip.kept
+      code_there kept =
+          let same1 : old.chip.kept.one / 32 ≡ status.one.0 / 128 =
+          ap (λ (f : ℕ × ℕ). f.0) fixed ∙ omega arith in
+          let same2 : old.chip.kept.two % 64 ≡ status.two.0 % 64 =
+          ap (λ (f : ℕ × ℕ). f.1) fixed ∙ omega arith in
+          let is : written old.chip.kept.two two ≡ two =
+          written_as old.chip.kept.two two (omega arith) (omega arith) in
+          let low : one / 4 ≡ 32 * (old.chip.kept.one / 32) + code % 32 = omega arith in
+          let high : two ≡ 64 * (code / 32) + old.chip.kept.two % 64 = omega arith in
+          rw (kept, is, low, high) refl
 
       may_write : MayOperate (WriteStatus one two) [] old new → MayWriteStatus code old new
       may_write may = grind (arith, code_there)
 
       has_written : HasOperated (WriteStatus one two) [] old new → HasWrittenStatus code old new
-      has_written has = let there = code_there has.kept1 has.kept2 in grind (arith, or-false)
+      has_written has = let there = code_there has.kept in grind (arith, or-false)
 
     module _ (bytes : List ℕ) (sent : bytes ≡ bytes_with_code status code) where
       abbrev out : List ℕ

@@ -2,7 +2,6 @@
 use Rattle.std.specs.Prelude.{◌≡◌, ◌≢◌, ◌≤◌, ◌+◌, ◌*◌, ◌/◌, ◌&&◌, ◌||◌, ℕ, Bool, true, false, not, if◌then◌else◌}
 use Rattle.nor_chip.specs.declared.running.Running.TheVariants as Runs
 use Rattle.nor_chip.specs.Chip.{Chip}
-use Rattle.nor_chip.specs.Power.{KeptStay}
 use Rattle.nor_chip.specs.Guard.{is_unit_guarded}
 use Rattle.nor_chip.specs.Step.{is_idle}
 use Rattle.nor_chip.specs.Sent.{is_in_aim, aim_unit}
@@ -54,7 +53,7 @@ is_sector_named erase s = is_in_aim (aim_unit (sectors_in 4096 erase.unit) erase
 pub record MayErase (erase : Erase) (old new : BusState) : Type 0 where
   pub config : new.chip.config ≡ old.chip.config
   pub bytes : ChangesOnly old.steady (is_place_in_unit erase old.chip) (λ _. 255) old.chip.bytes new.chip.bytes
-  pub kept : KeptStay old.chip new.chip
+  pub kept : new.chip.kept ≡ old.chip.kept
   pub runs : new.chip.busy ≢ 0 → new.chip.running ≡ Runs.Erase (4096 * erase.sector) (unit_length old.chip erase)
   pub worn : (s : ℕ) → is_sector_in_unit erase old.chip s ≡ false → new.worn s ≡ old.worn s
 
@@ -62,7 +61,7 @@ pub record MayErase (erase : Erase) (old new : BusState) : Type 0 where
 pub record HasErased (erase : Erase) (old new : BusState) : Type 0 where
   pub config : new.chip.config ≡ old.chip.config
   pub bytes : (a : ℕ) → new.chip.bytes a ≡ (if is_place_in_unit erase old.chip a then 255 else old.chip.bytes a)
-  pub kept : KeptStay old.chip new.chip
+  pub kept : new.chip.kept ≡ old.chip.kept
   pub worn : (s : ℕ) → new.worn s ≡ (old.worn s || is_sector_in_unit erase old.chip s)
   pub latch : new.chip.latch ≡ false
 

@@ -21,7 +21,7 @@ pub record Stays (old new : BusState) : Type 0 where
   pub config : new.chip.config ≡ old.chip.config
   pub calm : IsCalm old → IsSame old.chip new.chip
   pub bytes : (a : ℕ) → is_in_work old.chip.running a ≡ false → new.chip.bytes a ≡ old.chip.bytes a
-  pub kept : KeptCut old.chip.running old.chip new.chip
+  pub kept : KeptCut old.chip.running old.chip.kept new.chip.kept
   pub running : new.chip.busy ≢ 0 → new.chip.running ≡ old.chip.running
   pub busy : new.chip.busy ≤ old.chip.busy
   pub worn : (s : ℕ) → new.worn s ≡ old.worn s

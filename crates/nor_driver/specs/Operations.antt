@@ -4,10 +4,10 @@ use Rattle.nor_chip.specs.declared.config.Config.{Config}
 use Rattle.nor_chip.specs.declared.command.Command.{Command}
 use Rattle.nor_chip.specs.declared.command.Command.TheVariants.{WriteStatus, Program, Erase, Ignored}
 use Rattle.nor_chip.specs.Chip.{Chip, IsSame}
-use Rattle.nor_chip.specs.Power.{is_in_work, KeptStay}
+use Rattle.nor_chip.specs.Power.{is_in_work}
 use Rattle.nor_chip.specs.Command.{command_of}
 use Rattle.nor_chip.specs.Sent.{aims, begins_status_write, is_aimed_at, is_stirred, status_writes_of}
-use Rattle.nor_chip.specs.Step.{is_idle, is_operation, done_of, byte_after, kept1_after, kept2_after, running_after, wears}
+use Rattle.nor_chip.specs.Step.{is_idle, is_operation, done_of, byte_after, kept_after, running_after, wears}
 use Rattle.nor_chip.specs.Bus.{BusState, KeepsNature}
 use Rattle.nor_driver.specs.Looks.{Stays, Falls}
 
@@ -78,8 +78,7 @@ pub record MayOperate (command : Command) (sent : List ℕ) (old new : BusState)
   pub config : new.chip.config ≡ old.chip.config
   pub bytes : ChangesOnly old.steady (is_in_work (running_after old.chip command))
       (byte_after old.chip command sent) old.chip.bytes new.chip.bytes
-  pub kept : KeptStay old.chip new.chip
-      ⊎ ((new.chip.kept1 ≡ kept1_after old.chip command) × (new.chip.kept2 ≡ kept2_after old.chip command))
+  pub kept : (new.chip.kept ≡ old.chip.kept) ⊎ (new.chip.kept ≡ kept_after old.chip command)
   pub runs : new.chip.busy ≢ 0 → new.chip.running ≡ running_after old.chip command
   pub worn : (s : ℕ) → wears command s ≡ false → new.worn s ≡ old.worn s
 
@@ -87,8 +86,7 @@ pub record MayOperate (command : Command) (sent : List ℕ) (old new : BusState)
 pub record HasOperated (command : Command) (sent : List ℕ) (old new : BusState) : Type 0 where
   pub config : new.chip.config ≡ old.chip.config
   pub bytes : (a : ℕ) → new.chip.bytes a ≡ byte_after old.chip command sent a
-  pub kept1 : new.chip.kept1 ≡ kept1_after old.chip command
-  pub kept2 : new.chip.kept2 ≡ kept2_after old.chip command
+  pub kept : new.chip.kept ≡ kept_after old.chip command
   pub worn : (s : ℕ) → new.worn s ≡ (old.worn s || wears command s)
   pub latch : new.chip.latch ≡ false
 

@@ -2,7 +2,6 @@
 use Rattle.std.specs.Prelude.{◌≡◌, ◌≢◌, ◌≤◌, ◌<◌, ◌+◌, ◌-◌, ◌/◌, ◌==◌, ◌&&◌, ℕ, Bool, true, false, not, nat_le, nat_lt, List, length, slice_index, bit_and, if◌then◌else◌}
 use Rattle.nor_chip.specs.declared.running.Running.TheVariants as Runs
 use Rattle.nor_chip.specs.Chip.{Chip}
-use Rattle.nor_chip.specs.Power.{KeptStay}
 use Rattle.nor_chip.specs.Guard.{is_guarded}
 use Rattle.nor_chip.specs.Step.{is_idle}
 use Rattle.nor_chip.specs.Sent.{is_in_aim, aim_unit}
@@ -38,7 +37,7 @@ is_in_page at a = a / 256 == at / 256
 pub record MayProgram (at : ℕ) (sent : List ℕ) (old new : BusState) : Type 0 where
   pub config : new.chip.config ≡ old.chip.config
   pub bytes : ChangesOnly old.steady (is_in_page at) (programmed at sent old.chip.bytes) old.chip.bytes new.chip.bytes
-  pub kept : KeptStay old.chip new.chip
+  pub kept : new.chip.kept ≡ old.chip.kept
   pub runs : new.chip.busy ≢ 0 → new.chip.running ≡ Runs.Program (at / 256)
   pub worn : (s : ℕ) → new.worn s ≡ old.worn s
 
@@ -46,7 +45,7 @@ pub record MayProgram (at : ℕ) (sent : List ℕ) (old new : BusState) : Type 0
 pub record HasProgrammed (at : ℕ) (sent : List ℕ) (old new : BusState) : Type 0 where
   pub config : new.chip.config ≡ old.chip.config
   pub bytes : (a : ℕ) → new.chip.bytes a ≡ programmed at sent old.chip.bytes a
-  pub kept : KeptStay old.chip new.chip
+  pub kept : new.chip.kept ≡ old.chip.kept
   pub worn : (s : ℕ) → new.worn s ≡ old.worn s
   pub latch : new.chip.latch ≡ false
 

@@ -62,7 +62,7 @@ pub record ReadsId (old new : BusState) (id : List ℕ) : Type 0 where
 
 pub record ReadsStatus2 (old new : BusState) (status2 : ℕ) : Type 0 where
   pub read : old.honest ≡ true → HasRead old new
-  pub told : old.honest ≡ true → status2 ≡ old.chip.kept2
+  pub told : old.honest ≡ true → status2 ≡ old.chip.kept.two
 
 pub record ReadsUnique (old new : BusState) (unique : List ℕ) : Type 0 where
   pub read : old.honest ≡ true → HasRead old new

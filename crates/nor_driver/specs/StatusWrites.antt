@@ -1,62 +1,46 @@
 -- What a status write leaves that sends the fixed bits as they were read, and another protection code.
-use Rattle.std.specs.Prelude.{◌≡◌, ◌≢◌, ◌/◌, ◌%◌, ◌&&◌, ◌⊎◌, ℕ, Bool, true, false, not, List, slice_index}
+use Rattle.std.specs.Prelude.{◌≡◌, ◌≢◌, ◌+◌, ◌*◌, ◌/◌, ◌%◌, ◌&&◌, ◌⊎◌, ℕ, Bool, true, false, not}
 use Rattle.nor_chip.specs.declared.running.Running.TheVariants as Runs
 use Rattle.nor_chip.specs.declared.status.Status.{Status}
 use Rattle.nor_chip.specs.Status.{bytes_of}
-use Rattle.nor_chip.specs.Chip.{Chip, is_locked}
-use Rattle.nor_chip.specs.Power.{KeptStay}
+use Rattle.nor_chip.specs.Chip.{Chip, KeptBits, is_locked, kept_in}
 use Rattle.nor_chip.specs.Step.{is_idle}
 use Rattle.nor_chip.specs.Bus.{BusState}
 use Rattle.nor_driver.specs.Looks.{Stays, Falls}
 use Rattle.nor_driver.specs.Operations.{Stirs, EndsWaiting, HasIgnored, most_operation}
 
--- The fixed bits, all kept ones but those of the code, are as they were: SRP0; SRP1, QE, the reserved bit and the LB
--- bits.
-pub record KeepsFixed (old new : Chip) : Type 0 where
-  pub one : new.kept1 / 32 ≡ old.kept1 / 32
-  pub two : new.kept2 % 64 ≡ old.kept2 % 64
+-- the fixed bits, all kept ones but those of the protection code: SRP0; SRP1, QE, the reserved bit and the LB bits
+abbrev pub fixed_of : KeptBits → ℕ × ℕ
+fixed_of kept = (kept.one / 32, kept.two % 64)
 
--- The protection code is this one.
-pub record HasCode (code : ℕ) (chip : Chip) : Type 0 where
-  pub low : chip.kept1 % 32 ≡ code % 32
-  pub high : chip.kept2 / 64 ≡ code / 32
-
--- The chip has all kept bits that two status bytes tell.
-pub record HasKeptBits (status : List ℕ) (chip : Chip) : Type 0 where
-  pub one : slice_index status 0 / 4 ≡ chip.kept1
-  pub two : slice_index status 1 % 128 ≡ chip.kept2
-
--- The chip has the fixed bits that they tell.
-pub record HasFixedBits (status : List ℕ) (chip : Chip) : Type 0 where
-  pub one : slice_index status 0 / 128 ≡ chip.kept1 / 32
-  pub two : slice_index status 1 % 64 ≡ chip.kept2 % 64
+-- the same kept bits but for their protection code, which is this one
+abbrev pub with_code : (code : ℕ) → KeptBits → KeptBits
+with_code code kept = record { one = 32 * (kept.one / 32) + code % 32; two = 64 * (code / 32) + kept.two % 64 }
 
 -- The chip is idle, and its status, of these fixed bits, isn't locked.
 pub record CanWriteStatus (status : Status) (chip : Chip) : Type 0 where
   pub idle : chip.busy ≡ 0
-  pub open_to : is_locked chip ≡ false
-  pub fixed : HasFixedBits (bytes_of status) chip
+  pub open_to : is_locked chip.kept ≡ false
+  pub fixed : fixed_of chip.kept ≡ fixed_of (kept_in (bytes_of status))
 
 -- the chip carries a status write out
 abbrev pub takes_status : Chip → Bool
-takes_status chip = is_idle chip && not (is_locked chip)
+takes_status chip = is_idle chip && not (is_locked chip.kept)
 
--- On an honest bus, at every exit: bytes, worn sectors and fixed bits are as they were; the code is the old one or
--- the new one.
+-- On an honest bus, at every exit: bytes and worn sectors are as they were, and the kept bits too, or they have the new
+-- code.
 pub record MayWriteStatus (code : ℕ) (old new : BusState) : Type 0 where
   pub config : new.chip.config ≡ old.chip.config
   pub bytes : (a : ℕ) → new.chip.bytes a ≡ old.chip.bytes a
-  pub fixed : KeepsFixed old.chip new.chip
-  pub kept : KeptStay old.chip new.chip ⊎ HasCode code new.chip
-  pub runs : new.chip.busy ≢ 0 → new.chip.running ≡ Runs.StatusWrite old.chip.kept1 old.chip.kept2
+  pub kept : (new.chip.kept ≡ old.chip.kept) ⊎ (new.chip.kept ≡ with_code code old.chip.kept)
+  pub runs : new.chip.busy ≢ 0 → new.chip.running ≡ Runs.StatusWrite old.chip.kept.one old.chip.kept.two
   pub worn : (s : ℕ) → new.worn s ≡ old.worn s
 
 -- On an honest bus, the code was written, and nothing else changed.
 pub record HasWrittenStatus (code : ℕ) (old new : BusState) : Type 0 where
   pub config : new.chip.config ≡ old.chip.config
   pub bytes : (a : ℕ) → new.chip.bytes a ≡ old.chip.bytes a
-  pub fixed : KeepsFixed old.chip new.chip
-  pub written : HasCode code new.chip
+  pub written : new.chip.kept ≡ with_code code old.chip.kept
   pub worn : (s : ℕ) → new.worn s ≡ old.worn s
   pub latch : new.chip.latch ≡ false
 

@@ -1,11 +1,10 @@
 -- What the two status bytes tell of a chip that was found.
-use Rattle.std.proofs.Common.{◌≡◌, ◌∙◌, ℕ, ◌/◌, ◌%◌, Bool, true, false, List, [], ◌∷◌, Option, Some, None, Result, Ok}
-use Rattle.std.proofs.Common.{Err, ap, sym, refl, arith}
-use Rattle.std.specs.Prelude.{◌||◌, ◌==◌, MatchOption}
+use Rattle.std.proofs.Common.{◌≡◌, ◌∙◌, ℕ, ◌/◌, Bool, true, false, List, [], ◌∷◌, Option, Some, None, Result, Ok}
+use Rattle.std.proofs.Common.{Err, ap, sym, arith}
+use Rattle.std.specs.Prelude.{MatchOption}
 use Rattle.std.proofs.lemmas.Bool.Decides.{nat_tests}
-use Rattle.nor_chip.specs.Chip.{Chip, IsSame, status1_of}
+use Rattle.nor_chip.specs.Chip.{Chip, IsSame, KeptBits, status1_of, kept_in, is_locked}
 use Rattle.nor_chip.specs.Guard.{code_of, is_undefined}
-use Rattle.nor_chip.specs.Code.{code_in, is_lock_set}
 use Rattle.nor_chip.specs.Offer.{IsRangeOf}
 use Rattle.nor_chip.specs.Bus.{BusState}
 use Rattle.nor_driver.specs.Looks.{Looks, RanOutIfHonest}
@@ -29,19 +28,19 @@ pub record HasTold (named : Option ChipName) (old new : BusState) (result : Resu
   pub honest : old.honest ≡ true → ProtectionHonest named old new result
   pub modelled : IsModelled old → ProtectionModelled named old result
 
-lock_read : (one two k1 k2 : ℕ) → one / 4 ≡ k1 → two ≡ k2
-    → ((one / 128 % 2 == 1) || (two % 2 == 1)) ≡ (k1 / 32 % 2 == 1 || k2 % 2 == 1)
-lock_read one two k1 k2 low high = grind (arith, nat_tests)
+lock_read : (one two : ℕ) (kept : KeptBits) → one / 4 ≡ kept.one → two ≡ kept.two
+    → is_locked (kept_in (one ∷ two ∷ [])) ≡ is_locked kept
+lock_read one two kept low high = grind (arith, nat_tests)
 
 -- the kept bits of status 1 stand above BUSY, which an idle chip hasn't, and the latch
-kept1_read : (old mid : Chip) (one : ℕ) → one ≡ status1_of mid → IsSame old mid → mid.busy ≡ 0 → one / 4 ≡ old.kept1
-kept1_read old mid one is same idle = let kept = same.kept1 in grind (arith, nat_tests)
+kept1_read : (old mid : Chip) (one : ℕ) → one ≡ status1_of mid → IsSame old mid → mid.busy ≡ 0 → one / 4 ≡ old.kept.one
+kept1_read old mid one is same idle = let kept = ap (λ (bits : KeptBits). bits.one) same.kept in grind (arith, nat_tests)
 
 -- the chip's guarded places are the range of its code
 range_read : (chip : Chip) (range : Option (ℕ × ℕ)) → chip.config.scheme ≡ true
-    → MatchOption range (is_undefined (code_of chip) ≡ true)
-    (λ places. IsRangeOf chip.config.size (code_of chip) places.0 places.1)
-    → MatchOption range (is_undefined (code_of chip) ≡ true) (λ places. IsGuardedRange chip places.0 places.1)
+    → MatchOption range (is_undefined (code_of chip.kept) ≡ true)
+    (λ places. IsRangeOf chip.config.size (code_of chip.kept) places.0 places.1)
+    → MatchOption range (is_undefined (code_of chip.kept) ≡ true) (λ places. IsGuardedRange chip places.0 places.1)
 range_read chip None scheme undefined = undefined
 range_read chip (Some places) scheme is =
     record { defined = is.defined; exactly = λ a. rw scheme (is.exactly a); plain = is.plain }
@@ -85,9 +84,9 @@ module _ (named : Option ChipName) where
       -- it has
       pub told : (bytes : List ℕ) (range : Option (ℕ × ℕ)) (locked : Bool) → new.heard ≡ mid.heard
           → probed.found.scheme ≡ true → bytes ≡ probed.found.status1 ∷ status2 ∷ []
-          → MatchOption range (is_undefined (code_in bytes) ≡ true)
-          (λ places. IsRangeOf probed.found.size (code_in bytes) places.0 places.1)
-          → locked ≡ is_lock_set bytes
+          → MatchOption range (is_undefined (code_of (kept_in bytes)) ≡ true)
+          (λ places. IsRangeOf probed.found.size (code_of (kept_in bytes)) places.0 places.1)
+          → locked ≡ is_locked (kept_in bytes)
           → HasTold named old new (Ok (record { range = range; locked = locked; size = probed.found.size }))
       told bytes range locked same scheme are places lock = record {
         always = search (looks_all, same ∙ found.heard);
@@ -100,11 +99,12 @@ module _ (named : Option ChipName) where
             let was = (found.rested known.honest).unchanged.same in
             let one = kept1_read old.chip mid.chip probed.found.status1 (found.status1 known.honest) was
             (found.idle known.honest) in
-            let two : status2 ≡ old.chip.kept2 = reads.told (looks.nature.honest ∙ known.honest) ∙ was.kept2 in
+            let two : status2 ≡ old.chip.kept.two =
+            reads.told (looks.nature.honest ∙ known.honest) ∙ ap (λ (bits : KeptBits). bits.two) was.kept in
             let protects : old.chip.config.scheme ≡ true = sym (found.is.config known).scheme ∙ scheme in
-            let code : code_in bytes ≡ code_of old.chip = rw (are, one, two) refl in
+            let code : code_of (kept_in bytes) ≡ code_of old.chip.kept = rw (are, one, two) (omega arith) in
             let guarded = range_read old.chip range protects (rw (code, size_of found looks known) at places) in
-            let locks = lock ∙ ap is_lock_set are
-            ∙ lock_read probed.found.status1 status2 old.chip.kept1 old.chip.kept2 one two in
+            let locks = lock ∙ ap (λ (bytes : List ℕ). is_locked (kept_in bytes)) are
+            ∙ lock_read probed.found.status1 status2 old.chip.kept one two in
             search (size_of found looks known);
       }

@@ -14,7 +14,7 @@ use Rattle.nor_read.specs.Finding.{IsNamed, IsFindRefusal, ReadingTells, most_st
 
 -- The code is defined, and the guarded places are so many from `start` on. Where there are none, they start at 0.
 pub record IsGuardedRange (chip : Chip) (start len : ℕ) : Type 0 where
-  pub defined : is_undefined (code_of chip) ≡ false
+  pub defined : is_undefined (code_of chip.kept) ≡ false
   pub exactly : (a : ℕ) → (is_guarded chip a ≡ true) ↔ ((start ≤ a) × (a < start + len))
   pub plain : len ≡ 0 → start ≡ 0
 
@@ -22,9 +22,9 @@ pub record IsGuardedRange (chip : Chip) (start len : ℕ) : Type 0 where
 -- its status is locked or not; and its size.
 pub record IsProtection (chip : Chip) (protection : Protection) : Type 0 where
   pub scheme : chip.config.scheme ≡ true
-  pub guarded : MatchOption protection.range (is_undefined (code_of chip) ≡ true)
+  pub guarded : MatchOption protection.range (is_undefined (code_of chip.kept) ≡ true)
       (λ places. IsGuardedRange chip places.0 places.1)
-  pub lock : protection.locked ≡ is_locked chip
+  pub lock : protection.locked ≡ is_locked chip.kept
   pub chip_size : protection.size ≡ chip.config.size
 
 -- ---- what telling the protection promises

@@ -4,7 +4,7 @@ use Rattle.std.proofs.Common.{◌&&◌, Bool, length}
 use mathlib.Core.Path.{fun_ext}
 use Rattle.std.specs.Prelude.{Some, nat_lt, ◌≢◌}
 use Rattle.nor_chip.specs.declared.config.Config.{Config}
-use Rattle.nor_chip.specs.Chip.{Chip, IsChip}
+use Rattle.nor_chip.specs.Chip.{Chip, IsChip, KeptBits}
 use Rattle.nor_chip.specs.Bus.{BusState}
 use Rattle.nor_driver.specs.Looks.{IsOpen}
 use Rattle.nor_journal.specs.Text.{Content, empty_content, IsContent, front, with_sector}
@@ -113,13 +113,13 @@ module _ {chip : Chip} {opening : Opening} {old : BusState} (is : IsOpening chip
     raised_right s = rw (same_bytes, is.config.size) at ((scans.right is_open).raised s)
 
   -- the head that is written is the chip's
-  pub head_same : {status : List ℕ} → old.chip.kept2 < 128 → status ≡ kept_read opening
+  pub head_same : {status : List ℕ} → old.chip.kept.two < 128 → status ≡ kept_read opening
       → head_read opening status ≡ head_of chip
   head_same {status = status} small read =
       let id = is.config.id in let unique = is.unique in let size = is.config.size in
-      let same = shows.same.kept2 in let two = is.two in let one = is.one in
-      let low : opening.found.status1 / 4 * 4 ≡ 4 * chip.kept1 = omega arith in
-      let high : opening.status2 % 128 ≡ chip.kept2 = omega arith in
+      let same = ap (λ (kept : KeptBits). kept.two) shows.same.kept in let two = is.two in let one = is.one in
+      let low : opening.found.status1 / 4 * 4 ≡ 4 * chip.kept.one = omega arith in
+      let high : opening.status2 % 128 ≡ chip.kept.two = omega arith in
       cc
 
 -- Of each chip with this opening that the bus has, the head went in.

@@ -26,7 +26,7 @@ pub record ReadsRest (probed : Probed) (old new : BusState) (opening : Opening) 
   pub heard : StaysReady old new
   pub rested : old.honest ≡ true → Rested old new
   pub count : old.honest ≡ true → old.left ≡ new.left + 2
-  pub status2 : old.honest ≡ true → opening.status2 ≡ old.chip.kept2
+  pub status2 : old.honest ≡ true → opening.status2 ≡ old.chip.kept.two
   pub unique : old.honest ≡ true → old.chip.busy ≡ 0 → opening.unique ≡ unique_of old.chip.config
 
 -- The opening succeeded. Whatever the bus, the part is a row of the table or one by SFDP, with the name that is wanted,
@@ -43,6 +43,6 @@ pub record Opens (named : Option ChipName) (old new : BusState) (opening : Openi
   pub shown : old.honest ≡ true → shown_as old.chip.config ≡ Ok (part_in opening.found)
   pub genuine : IsModelled old → IsConfigOf old.chip.config opening.found
   pub status1 : old.honest ≡ true → opening.found.status1 ≡ status1_of new.chip
-  pub status2 : old.honest ≡ true → opening.status2 ≡ new.chip.kept2
+  pub status2 : old.honest ≡ true → opening.status2 ≡ new.chip.kept.two
   pub unique : old.honest ≡ true → opening.unique ≡ unique_of new.chip.config
   pub count : old.honest ≡ true → old.left ≡ new.left + opening.transactions

@@ -19,8 +19,8 @@ use Rattle.nor_call.specs.Request.{is_data, IsWantedCode}
 -- The opening has the configuration, the kept bits and the own number of a chip.
 pub record IsOpening (chip : Chip) (opening : Opening) : Type 0 where
   pub config : IsConfigOf chip.config opening.found
-  pub one : opening.found.status1 / 4 ≡ chip.kept1
-  pub two : opening.status2 ≡ chip.kept2
+  pub one : opening.found.status1 / 4 ≡ chip.kept.one
+  pub two : opening.status2 ≡ chip.kept.two
   pub unique : opening.unique ≡ unique_of chip.config
 
 -- The bus is honest, and has this chip, idle.
@@ -39,7 +39,7 @@ pub record FitsChip (request : Request) (image : ℕ) (chip : Chip) : Type 0 whe
 -- Where a protection range is asked for the chip has block protection, and if it has any its code is a defined one.
 pub record FitsProtection (request : Request) (chip : Chip) : Type 0 where
   pub scheme : is_data request.what ≡ false → chip.config.scheme ≡ true
-  pub defined : chip.config.scheme ≡ true → is_undefined (code_of chip) ≡ false
+  pub defined : chip.config.scheme ≡ true → is_undefined (code_of chip.kept) ≡ false
 
 -- a protection range is asked for that no code guards
 abbrev pub AsksForNone : What → Chip → Type 0
@@ -55,7 +55,7 @@ OpeningJudges request image chip RegionOutside =
     (is_data request.what ≡ true) × (image ≡ chip.config.size) × ReachesPast request.included chip.config.size
 OpeningJudges request image chip NoProtection = (is_data request.what ≡ false) × (chip.config.scheme ≡ false)
 OpeningJudges request image chip UndefinedProtection =
-    FitsChip request image chip × (chip.config.scheme ≡ true) × (is_undefined (code_of chip) ≡ true)
+    FitsChip request image chip × (chip.config.scheme ≡ true) × (is_undefined (code_of chip.kept) ≡ true)
 OpeningJudges request image chip RangeNotOffered = FitsProtection request chip × AsksForNone request.what chip
 OpeningJudges request image chip _ = ⊥
 
@@ -88,7 +88,7 @@ pub record SomeHeld (touched : ℕ → Bool) (chip : Chip) : Type 0 where
 
 -- A status write is needed: a range wants another code, or protection of a touched sector is to be lifted.
 abbrev pub NeedsStatus : What → (unlock : Bool) → (code : ℕ) → (touched : ℕ → Bool) → Chip → Type 0
-NeedsStatus (WpRange start len) unlock code touched chip = code ≢ code_of chip
+NeedsStatus (WpRange start len) unlock code touched chip = code ≢ code_of chip.kept
 NeedsStatus _ unlock code touched chip = (unlock ≡ true) × SomeHeld touched chip
 
 -- Protection isn't to be lifted, the address is the first of the least held sector, and a status that is locked isn't
@@ -98,12 +98,12 @@ pub record IsHeldAt (request : Request) (code : ℕ) (touched : ℕ → Bool) (c
   pub sector : ℕ
   pub first : address ≡ 4096 * sector
   pub least : IsLeastHeld touched chip sector
-  pub not_locked : is_locked chip ≡ true → ¬ NeedsStatus request.what request.unlock code touched chip
+  pub not_locked : is_locked chip.kept ≡ true → ¬ NeedsStatus request.what request.unlock code touched chip
 
 -- what each refusal tells that the scan judges, once the touched sectors are known
 abbrev pub ScanJudges : Request → (code : ℕ) → (touched : ℕ → Bool) → Chip → Refusal → Type 0
 ScanJudges request code touched chip StatusLocked =
-    (is_locked chip ≡ true) × NeedsStatus request.what request.unlock code touched chip
+    (is_locked chip.kept ≡ true) × NeedsStatus request.what request.unlock code touched chip
 ScanJudges request code touched chip (Protected address) = IsHeldAt request code touched chip address
 ScanJudges request code touched chip _ = ⊥
 
@@ -112,12 +112,12 @@ ScanJudges request code touched chip _ = ⊥
 pub record ScanAccepts (request : Request) (code : ℕ) (touched : ℕ → Bool) (chip : Chip) (unlock : Bool) : Type 0 where
   pub lifts : unlock ≡ true → (request.unlock ≡ true) × SomeHeld touched chip
   pub free : unlock ≡ false → NoneHeld touched chip
-  pub not_locked : is_locked chip ≡ true → ¬ NeedsStatus request.what request.unlock code touched chip
+  pub not_locked : is_locked chip.kept ≡ true → ¬ NeedsStatus request.what request.unlock code touched chip
 
 -- ---- what is saved
 
 -- the head of a chip's journal: ID, own number, kept bits, size
 abbrev pub head_of : Chip → Content
 head_of chip =
-    empty_content (id_of chip.config) (Some (unique_of chip.config)) ((4 * chip.kept1) ∷ chip.kept2 ∷ [])
+    empty_content (id_of chip.config) (Some (unique_of chip.config)) ((4 * chip.kept.one) ∷ chip.kept.two ∷ [])
     chip.config.size

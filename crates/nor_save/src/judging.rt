@@ -1,8 +1,7 @@
 //! Which requests are refused, and why.
 ghost use Rattle.std.specs.Prelude.{◌≡◌, ◌<◌, ◌≤◌, ◌*◌, ◌/◌, ◌==◌, ℕ, Bool, true, false, length, IfOk, IfErr, IfSome, IfNone, MatchOption, MatchBool, IsTrue};
-ghost use Rattle.nor_chip.specs.Chip.{Chip};
-ghost use Rattle.nor_chip.specs.Guard.{is_undefined, guarded_by};
-ghost use Rattle.nor_chip.specs.Code.{code_in};
+ghost use Rattle.nor_chip.specs.Chip.{Chip, kept_in};
+ghost use Rattle.nor_chip.specs.Guard.{is_undefined, guarded_by, code_of};
 ghost use Rattle.nor_chip.specs.Size.{is_chip_size};
 ghost use Rattle.nor_plan.specs.SectorSet.{has, LiesBelow};
 ghost use Rattle.nor_call.specs.Request.{is_data};
@@ -17,13 +16,14 @@ use nor_layout::reaches_past;
 use nor_plan::SectorSet;
 
 /// Judges a request by what the opening found, against an image of so many bytes. Answers the wanted protection code.
+#[tactic(auto, using(crate::proofs::Held::code_same))]
 pub fn judge_opening(request: &Request, opening: &Opening, image: usize) -> Result<u8, Refusal>
     requires { IsTrue (is_chip_size opening.now.found.size) }
     ensures six_bits { IfOk result (λ code. code < 64) }
     ensures sized { IfOk result (λ code. is_data request.now.what ≡ true → image ≡ opening.now.found.size) }
     ensures faults { IfErr result IsOpeningRefusal }
     ensures same_code { IfOk result (λ code. is_data request.now.what ≡ true
-        → code ≡ code_in (status_read opening.now)) }
+        → code ≡ code_of (kept_in (status_read opening.now))) }
     ensures accepts { AcceptsOpening request.now image opening.now result }
     ensures tells { RefusesOpening request.now image opening.now result }
 {
@@ -57,6 +57,7 @@ pub fn judge_opening(request: &Request, opening: &Opening, image: usize) -> Resu
 }
 
 /// The least sector of a set that holds a guarded place.
+#[tactic(auto, using(crate::proofs::Held::code_same))]
 pub fn first_held(touched: &SectorSet, opening: &Opening) -> Option<u32>
     requires sized { IsTrue (is_chip_size opening.now.found.size) }
     requires below { LiesBelow touched.now (opening.now.found.size / 4096) }

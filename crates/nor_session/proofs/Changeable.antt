@@ -4,7 +4,10 @@ use Rattle.std.specs.Prelude.{None}
 use Rattle.std.proofs.lemmas.Bool.{cases_Bool, both_ways, true_from_ne_false}
 use mathlib.Core.Path.{fun_ext}
 use Rattle.nor_chip.specs.declared.config.Config.{Config}
-use Rattle.nor_chip.specs.Chip.{Chip}
+use Rattle.nor_chip.specs.Chip.{Chip, kept_in}
+use Rattle.nor_chip.specs.Status.{bytes_of}
+use Rattle.nor_chip.specs.Guard.{code_of}
+use Rattle.nor_chip.proofs.Kept.{kept_same}
 use Rattle.nor_chip.specs.Bus.{BusState}
 use Rattle.nor_chip.proofs.Sizes.{sized_bounds}
 use Rattle.nor_driver.specs.Looks.{Looks, Rested, IsOpen}
@@ -25,6 +28,7 @@ use Rattle.nor_probe.specs.Known.{IsModelled}
 use Rattle.nor_session.specs.Changing.{touched_count}
 use Rattle.nor_session.specs.Restore.{restored, is_touched_from, is_raised_from, NeedsStatusFrom}
 use Rattle.nor_session.specs.Prepare.{Fits, IsOfKindFound, FitsOpening, PrepareTells, ScansSaved, AreChanges, MayChangeStatus, IsShut, IsPreparedFor, IsPrepared}
+use Rattle.nor_save.proofs.Held.{code_same}
 use Rattle.nor_session.proofs.Changed.{writes_other}
 use Rattle.nor_session.proofs.JudgedStatus.{held_scheme, free_place, writable_for}
 use Rattle.nor_session.proofs.ReadyChip.{told_idle, opening_of}
@@ -37,7 +41,7 @@ pub record AreRead (journal : Content) (opening : Opening) (scanned : Scanned) (
   pub opens : Opens None old mid opening
   pub kind : IsOfKindFound journal opening.found
   pub fits : FitsOpening journal opening
-  pub small : old.honest ≡ true → old.chip.kept2 < 128
+  pub small : old.honest ≡ true → old.chip.kept.two < 128
   pub scans : ScansSaved journal mid new scanned
 
 -- ---- a status that is locked
@@ -79,7 +83,7 @@ scheme_for : (journal : Content) (touched : ℕ → Bool) (chip : Chip) → Fits
     → NeedsStatusFrom journal touched chip → chip.config.scheme ≡ true
 scheme_for journal touched chip fits (inr some) = held_scheme touched chip some
 scheme_for journal touched chip fits (inl differs) =
-    true_from_ne_false chip.config.scheme (λ none. let bits = fits.fixed.all none in differs (omega arith))
+    true_from_ne_false chip.config.scheme (λ none. differs (ap code_of (fits.fixed.all none)))
 
 module _ {journal : Content} {opening : Opening} {scanned : Scanned} {changes : Changes} {old mid new : BusState}
     (read : AreRead journal opening scanned old mid new) (are : AreChanges journal opening scanned changes)
@@ -106,11 +110,13 @@ module _ {journal : Content} {opening : Opening} {scanned : Scanned} {changes : 
       = λ s. ap (λ (set : ℕ → Bool). set s) (ap has are.raised ∙ marks.1) in
       let may = rw marks.0 at (judged old.chip is) in
       let same = (rested_all read modelled.honest).unchanged.same in
+      let status : code_of (kept_in (bytes_of changes.status)) ≡ code_of old.chip.kept
+      = rw (are.one, are.two) (code_same is) in
       let needed : (changes.unlock || writes_code changes) ≡ true
       → NeedsStatusFrom journal (is_touched_from journal old.chip) old.chip
       = λ writes. elim (cases_Bool changes.unlock) [
         | inl lifted ↦ inr (may.lifts lifted)
-        | inr off ↦ inl (λ same. writes_other changes off writes (let code = are.code in cc))
+        | inr off ↦ inl (λ same. writes_other changes off writes (status ∙ same ∙ sym are.code))
       ] in
       let shown = read.opens.shown modelled.honest in
       let told = told_idle None opening old mid modelled.honest read.opens in
@@ -120,7 +126,8 @@ module _ {journal : Content} {opening : Opening} {scanned : Scanned} {changes : 
             let rested = read.scans.rested (read.looks.nature.honest ∙ modelled.honest) in
             omega arith;
         sized = record { same = cc; same_kinds = cc };
-        kept = record { one = ap (λ (n : ℕ). n / 4) are.one ∙ is.one ∙ sym same.kept1; two = omega arith };
+        kept = same.kept
+            ∙ kept_same old.chip.kept (kept_in (bytes_of changes.status)) (omega arith) (omega arith);
         inside = λ s hit.
             let b = below s hit in let now = ap (λ (config : Config). config.size) same.config in
             let blocks = (sized_bounds old.chip.config).blocks in

@@ -1,8 +1,9 @@
 -- What the changes came to, once they were checked.
-use Rattle.std.proofs.Common.{◌≡◌, ◌<◌, ◌≤◌, ◌/◌, ◌||◌, ℕ, Bool, true, false, sym, subst, arith}
+use Rattle.std.proofs.Common.{◌≡◌, ◌<◌, ◌≤◌, ◌/◌, ◌||◌, ◌∙◌, ℕ, Bool, true, false, sym, subst, arith}
 use Rattle.std.specs.Prelude.{◌≢◌}
 use Rattle.std.proofs.lemmas.Bool.Decides.{nat_tests}
-use Rattle.nor_chip.specs.Code.{code_in}
+use Rattle.nor_chip.specs.Guard.{code_of}
+use Rattle.nor_chip.specs.Chip.{kept_in}
 use Rattle.nor_chip.specs.Status.{bytes_of}
 use Rattle.nor_chip.specs.declared.config.Config.{Config}
 use Rattle.nor_chip.specs.Bus.{BusState}
@@ -14,7 +15,6 @@ use Rattle.nor_plan.proofs.Fewest.{fewest_least}
 use Rattle.nor_apply.specs.declared.changes.Changes.{Changes}
 use Rattle.nor_apply.specs.declared.changes.Work.{Work}
 use Rattle.nor_apply.specs.Applying.{touched_in, raised_in, status_writes, writes_code, most_applied, HasApplied, LeavesApply, DoesApply}
-use Rattle.nor_apply.proofs.Kept.{fixed_then, kept_fixed}
 use Rattle.nor_apply.proofs.ApplyingExits.{raised_few}
 use Rattle.nor_session.specs.Made.{AreFewestErases}
 use Rattle.nor_session.specs.Changing.{touched_count, DoesCheck, DoesChange}
@@ -33,7 +33,7 @@ pub write_once : (changes : Changes) → changes.unlock ≡ false → status_wri
 write_once changes off = grind (arith, nat_tests)
 
 pub writes_other : (changes : Changes) → changes.unlock ≡ false → (changes.unlock || writes_code changes) ≡ true
-    → code_in (bytes_of changes.status) ≢ changes.code
+    → code_of (kept_in (bytes_of changes.status)) ≢ changes.code
 writes_other changes off writes same = grind (arith, nat_tests)
 
 pub touched_most : (changes : Changes) → touched_count changes ≤ 4096
@@ -59,7 +59,7 @@ fewest_at config sectors count below is =
 rest_applied : (changes : Changes) (wanted : ℕ → ℕ) (old mid new : BusState) → HasApplied changes wanted old mid → Rested mid new → HasApplied changes wanted old new
 rest_applied changes wanted old mid new applied rested =
     let same = rested.unchanged.same in
-    let fixed = fixed_then _ _ _ applied.fixed (kept_fixed mid.chip new.chip (same.kept1, same.kept2)) in
+    let kept = same.kept ∙ applied.kept in
     grind (arith, same.bytes, rested.unchanged.worn)
 
 pub checked : (changes : Changes) (wanted : ℕ → ℕ) (verify : Bool) (old mid new : BusState) (written work : Work) → ((s : ℕ) → raised_in changes s ≡ true → touched_in changes s ≡ true)

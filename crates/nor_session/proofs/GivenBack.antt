@@ -4,20 +4,19 @@ use Rattle.std.specs.Prelude.{not, ◌≢◌, Option, Some, None, IfSome, IsSome
 use Rattle.std.proofs.lemmas.Bool.{cases_Bool, cases_lt, and_left, and_parts, or_cases, both_ways, eqb-true}
 use Rattle.std.proofs.lemmas.Bool.Decides.{nat_tests}
 use Rattle.std.proofs.Math.Bool.{and-false}
-use Rattle.nor_chip.specs.Code.{code_in}
 use Rattle.nor_chip.specs.declared.config.Config.{Config}
 use Rattle.nor_chip.specs.declared.running.Running.{Running}
 use Rattle.nor_chip.specs.declared.running.Running.TheVariants.{StatusWrite, Unknown}
-use Rattle.nor_chip.specs.Chip.{Chip, IsSame, is_locked}
+use Rattle.nor_chip.specs.Chip.{Chip, IsSame, KeptBits, is_locked, kept_in}
 use Rattle.nor_chip.specs.Guard.{code_of, is_guarded, is_unit_guarded}
 use Rattle.nor_chip.specs.Units.{LieAtAnEnd}
-use Rattle.nor_chip.specs.Power.{KeptStay, KeptCut}
+use Rattle.nor_chip.specs.Power.{KeptCut}
 use Rattle.nor_chip.specs.Bus.{BusState}
 use Rattle.nor_chip.proofs.Sizes.{sized_bounds}
 use Rattle.nor_chip.proofs.Guarded.{is_guarded-end, is_guarded-past, is_guarded-no_scheme, is_guarded-same}
 use Rattle.nor_driver.specs.Looks.{IsCalm, LooksHonest}
 use Rattle.nor_driver.specs.Reads.{id_of}
-use Rattle.nor_driver.specs.StatusWrites.{KeepsFixed, HasCode, HasKeptBits}
+use Rattle.nor_driver.specs.StatusWrites.{fixed_of}
 use Rattle.nor_journal.specs.Text.{Content}
 use Rattle.nor_journal.specs.Saved.{is_saved}
 use Rattle.nor_journal.proofs.Saves.{saved_byte-is}
@@ -27,7 +26,7 @@ use Rattle.nor_probe.specs.Known.{IsGenuine, IsKnown}
 use Rattle.nor_probe.proofs.Configs.{row_has}
 use Rattle.nor_apply.specs.Within.{is_writable, WorksIn, IsWithin, places_of}
 use Rattle.nor_apply.specs.Change.{MayChange}
-use Rattle.nor_apply.proofs.Kept.{fixed_then, kept_fixed, kept_then, locked_same}
+use Rattle.nor_apply.proofs.Kept.{locked_same}
 use Rattle.nor_apply.proofs.Changing.{within_then, within_wider, narrower}
 use Rattle.nor_call.specs.declared.refusal.Refusal.{Refusal}
 use Rattle.nor_call.specs.declared.refusal.Refusal.TheVariants.{NoChip, UnknownChip, StatusLocked, Stopped, OtherChip, OtherUnit, StatusDiffers}
@@ -43,18 +42,16 @@ calm_or_not : (state : BusState) → IsCalm state ⊎ ((state.steady ≡ false) 
 calm_or_not state = grind arith
 
 -- the kept bits that a cut leaves
-cut_kept : (p : ℕ → Bool) (first old new : Chip) (running : Running) → KeptCut running old new → WorksIn p first running → KeepsFixed first old
-    → KeepsFixed first new × (is_writable first ≡ false → KeptStay first old → KeptStay first new)
+cut_kept : (p : ℕ → Bool) (first : Chip) (old new : KeptBits) (running : Running) → KeptCut running old new
+    → WorksIn p first running → fixed_of old ≡ fixed_of first.kept
+    → (fixed_of new ≡ fixed_of first.kept) × (is_writable first ≡ false → old ≡ first.kept → new ≡ first.kept)
 cut_kept p first old new (StatusWrite one two) (inl stay) works fixed =
-    (fixed_then _ _ _ fixed (kept_fixed old new stay), λ shut before. kept_then first old new before stay)
+    (ap fixed_of stay ∙ fixed, λ shut before. stay ∙ before)
 cut_kept p first old new (StatusWrite one two) (inr back) works fixed =
-    let told = works.status one two refl in (
-      record { one = ap (λ (n : ℕ). n / 32) back.0 ∙ told.1; two = ap (λ (n : ℕ). n % 64) back.1 ∙ told.2 },
-      λ shut before. absurd (true≢false (sym told.0 ∙ shut)),
-    )
+    let told = works.status one two refl in
+    (ap fixed_of back ∙ told.1, λ shut before. absurd (true≢false (sym told.0 ∙ shut)))
 cut_kept p first old new Unknown kept works fixed = absurd (true≢false (sym works.known))
-cut_kept p first old new _ stay works fixed =
-    (fixed_then _ _ _ fixed (kept_fixed old new stay), λ shut before. kept_then first old new before stay)
+cut_kept p first old new _ stay works fixed = (ap fixed_of stay ∙ fixed, λ shut before. stay ∙ before)
 
 pub looked_within : (p : ℕ → Bool) (first : Chip) (most : ℕ) (old new : BusState) → new.steady ≡ old.steady → LooksHonest most old new → IsWithin p first old → IsWithin p first new
 looked_within p first most old new steady looked within =
@@ -63,10 +60,13 @@ looked_within p first most old new steady looked within =
     let runs : new.steady ≡ false → new.chip.busy ≢ 0 → WorksIn p first new.chip.running = λ loses works.
     rw (stays.running works) (within.runs (sym steady ∙ loses) (λ idle. works (omega arith))) in
     elim (calm_or_not old) [
-      | inl calm ↦ let same = stays.calm calm in search (arith, fixed_then, kept_fixed, kept_then)
+      | inl calm ↦
+          let same = stays.calm calm in let fixed = ap fixed_of same.kept ∙ within.fixed in
+          let kept = λ (shut : is_writable first ≡ false). same.kept ∙ within.kept shut in
+          search arith
       | inr shaky ↦
           let works = within.runs shaky.0 shaky.1 in
-          let cut = cut_kept p first old.chip new.chip old.chip.running stays.kept works within.fixed in
+          let cut = cut_kept p first old.chip.kept new.chip.kept old.chip.running stays.kept works within.fixed in
           search (arith, narrower)
     ]
 
@@ -107,31 +107,36 @@ change_within journal first touched raised wanted old mid new can within right c
 
 -- ---- the end gives it back
 
-pub given_back : (journal : Content) (first old new : Chip) → SavesChip journal first → old.config ≡ first.config → KeepsFixed first old → ((a : ℕ) → open_places journal first a ≡ false → old.bytes a ≡ first.bytes a)
-    → new.config ≡ old.config → ((a : ℕ) → new.bytes a ≡ restored journal old.bytes a) → KeepsFixed old new → HasCode (code_in journal.status) new → IsSame first new
-given_back journal first old new saves config fixed within config_now bytes fixed_now code =
+pub given_back : (journal : Content) (first old new : Chip) → SavesChip journal first → old.config ≡ first.config
+    → ((a : ℕ) → open_places journal first a ≡ false → old.bytes a ≡ first.bytes a) → new.config ≡ old.config
+    → ((a : ℕ) → new.bytes a ≡ restored journal old.bytes a) → new.kept ≡ kept_in journal.status → IsSame first new
+given_back journal first old new saves config within config_now bytes kept =
+    let same = kept ∙ sym saves.bits in
     search (arith, and_left, cases_Bool, restored_other, restored_saved, saved_byte-is)
 
 -- ---- such a chip is never refused
 
 -- the kept bits that the journal tells are fixed
-fixed_told : (journal : Content) (first chip : Chip) → HasKeptBits journal.status first → chip.config ≡ first.config → KeepsFixed first chip → (is_writable first ≡ false → KeptStay first chip) → FitsStatus journal chip
-fixed_told journal first chip bits config fixed kept = search arith
+fixed_told : (journal : Content) (first chip : Chip) → first.kept ≡ kept_in journal.status → chip.config ≡ first.config
+    → fixed_of chip.kept ≡ fixed_of first.kept → (is_writable first ≡ false → chip.kept ≡ first.kept) → FitsStatus journal chip
+fixed_told journal first chip bits config fixed kept =
+    let told = fixed ∙ ap fixed_of bits in let all = λ (shut : is_writable first ≡ false). kept shut ∙ bits in search arith
 
 -- the code of a locked chip is the journal's
-code_locked : (journal : Content) (first chip : Chip) → HasKeptBits journal.status first → KeptStay first chip → code_of chip ≡ code_in journal.status
-code_locked journal first chip bits stay = omega arith
+code_locked : (journal : Content) (first chip : Chip) → first.kept ≡ kept_in journal.status → chip.kept ≡ first.kept
+    → code_of chip.kept ≡ code_of (kept_in journal.status)
+code_locked journal first chip bits stay = ap code_of (stay ∙ bits)
 
 -- and none of its touched sectors is guarded
-free_held : (journal : Content) (first chip : Chip) → IsKnown first.config → SavesChip journal first → chip.config ≡ first.config → KeptStay first chip → is_locked first ≡ true
+free_held : (journal : Content) (first chip : Chip) → IsKnown first.config → SavesChip journal first → chip.config ≡ first.config → chip.kept ≡ first.kept → is_locked first.kept ≡ true
     → ((b : ℕ) → open_places journal first b ≡ false → chip.bytes b ≡ first.bytes b) → ¬ SomeHeld (is_touched_from journal chip) chip
 free_held journal first chip known saves config stay locked same some =
     let s = some.sector in
     let (touched, held) = and_parts (is_touched_from journal chip s) (is_unit_guarded chip (4096 * s) 4096) some.held in
     let shut : (a : ℕ) → a / 4096 ≡ s → is_guarded chip a ≡ true → ⊥ = λ a sector guarded.
     let is_open = touched_open journal first chip a known saves same (rw sector touched) in
-    let there = sym (is_guarded-same first chip config stay.0 stay.1 a) ∙ guarded in
-    let (saved, free) = and_parts (is_saved journal (a / 4096)) (not (is_locked first && is_guarded first a)) is_open in
+    let there = sym (is_guarded-same first chip config stay a) ∙ guarded in
+    let (saved, free) = and_parts (is_saved journal (a / 4096)) (not (is_locked first.kept && is_guarded first a)) is_open in
     true≢false (sym (rw (locked, there) at free)) in
     elim (or_cases (is_guarded chip (4096 * s)) (is_guarded chip (4096 * s + 4096 - 1)) held) [
       | inl front ↦ shut (4096 * s) (omega arith) front
@@ -150,7 +155,7 @@ only_stopped journal first old new OtherChip can tells = search arith
 only_stopped journal first old new OtherUnit can tells = search (arith, unit_not)
 only_stopped journal first old new StatusDiffers can tells = search (arith, fixed_told)
 only_stopped journal first old new StatusLocked can tells =
-    let locked : is_locked first ≡ true = sym (locked_same first old.chip can.within.fixed) ∙ tells.holds.0 in
+    let locked : is_locked first.kept ≡ true = sym (locked_same first.kept old.chip.kept can.within.fixed) ∙ tells.holds.0 in
     let stay = can.within.kept (rw locked (and-false first.config.scheme)) in
     absurd (elim tells.holds.1 [
       | inl differs ↦ differs (code_locked journal first old.chip can.saves.bits stay)

@@ -1,8 +1,9 @@
 -- A journal that a session kept can give its chip back.
-use Rattle.std.proofs.Common.{◌≡◌, ◌<◌, ◌/◌, ◌∙◌, ℕ, Bool, true, false, List, ap, sym, arith}
+use Rattle.std.proofs.Common.{◌≡◌, ◌<◌, ◌/◌, ◌∙◌, ℕ, Bool, true, false, List, [], ◌∷◌, ◌*◌, ap, sym, arith}
 use Rattle.std.specs.Prelude.{◌&&◌, not}
 use Rattle.std.proofs.lemmas.Bool.{and_parts, and_from, both_ways, false_from_ne_true, ltb-true}
-use Rattle.nor_chip.specs.Chip.{Chip, IsChip, is_locked}
+use Rattle.nor_chip.specs.Chip.{Chip, IsChip, is_locked, kept_in}
+use Rattle.nor_chip.proofs.Kept.{kept_same}
 use Rattle.nor_chip.specs.Guard.{is_guarded}
 use Rattle.nor_chip.specs.Bus.{BusState}
 use Rattle.nor_chip.proofs.Sizes.{sized_bounds}
@@ -24,11 +25,16 @@ use Rattle.nor_session.specs.Rehearsing.{LeadsBack}
 use Rattle.nor_session.proofs.JudgedAgain.{accepted_named, accepted_free}
 
 -- the head tells the kept bits, and what a chip is
-pub saves_chip : (first : Chip) (saved : ℕ → Bool) (journal : Content) → first.kept2 < 128 → SameHead (head_of first) journal → Saves first.bytes saved journal → SavesChip journal first
-saves_chip first saved journal small same saves = search arith
+pub saves_chip : (first : Chip) (saved : ℕ → Bool) (journal : Content) → first.kept.two < 128 → SameHead (head_of first) journal
+    → Saves first.bytes saved journal → SavesChip journal first
+saves_chip first saved journal small same saves =
+    let status : (4 * first.kept.one) ∷ first.kept.two ∷ [] ≡ journal.status = ap (λ (c : Content). c.status) same in
+    let bits : first.kept ≡ kept_in journal.status =
+    rw (← status) (kept_same first.kept (kept_in ((4 * first.kept.one) ∷ first.kept.two ∷ [])) (omega arith) (omega arith)) in
+    search arith
 
 -- where the status is locked none of the saved places is guarded
-saved_free : (saved : ℕ → Bool) (first : Chip) (text : List ℕ) (state : BusState) (a : ℕ) → LeadsBack saved first text state → saved (a / 4096) ≡ true → (is_locked first && is_guarded first a) ≡ false
+saved_free : (saved : ℕ → Bool) (first : Chip) (text : List ℕ) (state : BusState) (a : ℕ) → LeadsBack saved first text state → saved (a / 4096) ≡ true → (is_locked first.kept && is_guarded first a) ≡ false
 saved_free saved first text state a leads is = false_from_ne_true _ (λ both.
     let (locked, guarded) = and_parts _ _ both in
     let inside = leads.inside (a / 4096) is in let blocks = (sized_bounds first.config).blocks in
@@ -41,7 +47,7 @@ can_give_back saved first text state journal leads read = record {
   known = leads.known;
   saves = saves_chip first saved journal leads.is.kept2 read.0 read.1;
   within = within_wider (places_of saved) (open_places journal first) first state
-      (λ a is. and_from (is_saved journal (a / 4096)) (not (is_locked first && is_guarded first a))
+      (λ a is. and_from (is_saved journal (a / 4096)) (not (is_locked first.kept && is_guarded first a))
       (sym (Saves-set first.bytes saved journal (a / 4096) read.1) ∙ is)
       (ap not (saved_free saved first text state a leads is)))
       leads.within;

@@ -5,9 +5,7 @@ use Rattle.nor_chip.specs.Chip.{Chip, IsSame}
 use Rattle.nor_chip.specs.Bus.{BusState}
 use Rattle.nor_journal.specs.Text.{Content}
 use Rattle.nor_journal.proofs.Saves.{saved_byte-is}
-use Rattle.nor_driver.specs.StatusWrites.{KeepsFixed}
 use Rattle.nor_driver.proofs.LooksInTurn.{same_then}
-use Rattle.nor_apply.proofs.Kept.{fixed_then, kept_fixed}
 use Rattle.nor_count.proofs.Counting.{count_below-none}
 use Rattle.nor_call.specs.declared.report.Report.{Report}
 use Rattle.nor_call.specs.declared.request.Request.{Request}
@@ -61,15 +59,14 @@ changes_nothing journal first old new report saves same done =
 record LeadsTo (journal : Content) (first chip : Chip) : Type 0 where
   saves : SavesChip journal first
   config : chip.config ≡ first.config
-  fixed : KeepsFixed first chip
   bytes : (a : ℕ) → open_places journal first a ≡ false → chip.bytes a ≡ first.bytes a
 
 leads_to : (journal : Content) (first : Chip) (state : BusState) → CanGiveBack journal first state → LeadsTo journal first state.chip
-leads_to journal first state can = record { saves = can.saves; config = can.within.config; fixed = can.within.fixed; bytes = can.within.bytes }
+leads_to journal first state can = record { saves = can.saves; config = can.within.config; bytes = can.within.bytes }
 
 -- so it does from the same chip
 leads_same : (journal : Content) (first new taken : Chip) → LeadsTo journal first new → IsSame new taken → LeadsTo journal first taken
-leads_same journal first new taken leads same = search (arith, fixed_then, kept_fixed)
+leads_same journal first new taken leads same = search arith
 
 -- and from what a session left, where another run takes it up
 left_taken : (request : Request) (image : List ℕ) (old new taken : BusState) (journal : Content) → LeavesJournal request image old new journal → IsTakenUp old.chip new.chip taken.chip

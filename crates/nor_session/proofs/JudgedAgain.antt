@@ -75,13 +75,13 @@ touched_data request image chip s touched = true_from_ne_false (is_data request.
 -- bytes need a status write where protection of a touched sector is to be lifted
 needs_lift : (what : What) (unlock : Bool) (touched : ℕ → Bool) (chip : Chip) → is_data what ≡ true → unlock ≡ true
     → SomeHeld touched chip
-    → IsWantedCode what chip (code_of chip) × NeedsStatus what unlock (code_of chip) touched chip
+    → IsWantedCode what chip (code_of chip.kept) × NeedsStatus what unlock (code_of chip.kept) touched chip
 needs_lift (WpRange start len) unlock touched chip is lifts some = absurd cc
 needs_lift _ unlock touched chip is lifts some = (refl, (lifts, some))
 
 -- where the status is locked no touched sector is guarded
 pub accepted_free : (request : Request) (image : List ℕ) (chip : Chip) → IsAccepted request image chip
-    → is_locked chip ≡ true → NoneHeld (is_touched_by request image chip) chip
+    → is_locked chip.kept ≡ true → NoneHeld (is_touched_by request image chip) chip
 accepted_free request image chip accepted locked s =
     let touched = is_touched_by request image chip in
     none_least (is_held touched chip) (λ n held least.
@@ -91,5 +91,5 @@ accepted_free request image chip accepted locked s =
           let hit = (and_parts (touched n) (is_unit_guarded chip (4096 * n) 4096) held).0 in
           let needs = needs_lift request.what request.unlock touched chip (touched_data request image chip n hit) lifts
           (record { sector = n; held = held }) in
-          accepted StatusLocked (locked, (code_of chip, needs.0, needs.1))
+          accepted StatusLocked (locked, (code_of chip.kept, needs.0, needs.1))
     ]) (suc s) s (omega arith)

@@ -1,18 +1,16 @@
 -- What the judgement of a restore on the status tells.
-use Rattle.std.proofs.Common.{◌≡◌, ◌<◌, ◌+◌, ◌-◌, ◌*◌, ◌/◌, ◌∙◌, ◌⊎◌, ℕ, Bool, true, false, refl, inl, inr}
+use Rattle.std.proofs.Common.{◌≡◌, ◌<◌, ◌+◌, ◌-◌, ◌*◌, ◌/◌, ◌∙◌, ◌⊎◌, ℕ, Bool, true, false, ap, refl, inl, inr}
 use Rattle.std.specs.Prelude.{not, Option, Some, None, MatchOption}
 use Rattle.std.specs.Option.{is_some}
 use Rattle.std.proofs.lemmas.Bool.{true_from_ne_false, false_from_ne_true, and_parts, and_from, not_from_false, or_from, both_ways}
 use Rattle.nor_chip.proofs.Guarded.{is_guarded-same, is_guarded-sector, is_guarded-no_scheme}
-use Rattle.nor_chip.specs.Chip.{Chip, IsSame, is_locked}
+use Rattle.nor_chip.specs.Chip.{Chip, IsSame, is_locked, kept_in}
 use Rattle.nor_chip.specs.Guard.{code_of, is_guarded, is_unit_guarded}
-use Rattle.nor_chip.specs.Code.{code_in}
 use Rattle.nor_journal.specs.Text.{Content}
-use Rattle.nor_save.specs.declared.opening.Opening.{Opening}
-use Rattle.nor_save.specs.Opening.{status_read}
-use Rattle.nor_save.specs.Saving.{IsOpening, IsLeastHeld, NoneHeld, SomeHeld, is_held}
+use Rattle.nor_save.specs.Saving.{IsLeastHeld, NoneHeld, SomeHeld, is_held}
 use Rattle.nor_apply.specs.Within.{is_writable}
-use Rattle.nor_apply.proofs.Kept.{writable_same, kept_fixed}
+use Rattle.nor_driver.specs.StatusWrites.{fixed_of}
+use Rattle.nor_apply.proofs.Kept.{writable_same}
 use Rattle.nor_session.specs.Restore.{NeedsStatusFrom}
 
 pub some_held : (found : Option ℕ) (touched : ℕ → Bool) (chip : Chip) → MatchOption found (NoneHeld touched chip) (IsLeastHeld touched chip) → is_some found ≡ true → SomeHeld touched chip
@@ -25,16 +23,11 @@ some_or_none None touched chip held = inr held
 
 -- no status write is needed
 pub none_needed : (journal : Content) (touched : ℕ → Bool) (chip : Chip) (found : Option ℕ) → MatchOption found (NoneHeld touched chip) (IsLeastHeld touched chip) → is_some found ≡ false
-    → code_of chip ≡ code_in journal.status → ¬ NeedsStatusFrom journal touched chip
+    → code_of chip.kept ≡ code_of (kept_in journal.status) → ¬ NeedsStatusFrom journal touched chip
 none_needed journal touched chip (Some s) held is code needs = absurd cc
 none_needed journal touched chip None held is code (inl differs) = differs code
 none_needed journal touched chip None held is code (inr some) =
     both_ways (is_held touched chip some.sector) (held some.sector) some.held
-
--- the code that was read is the chip's
-pub code_opened : {chip : Chip} {opening : Opening} → IsOpening chip opening
-    → code_in (status_read opening) ≡ code_of chip
-code_opened is = let one = is.one in let two = is.two in cc
 
 -- a chip with a held sector has block protection
 pub held_scheme : (touched : ℕ → Bool) (chip : Chip) → SomeHeld touched chip → chip.config.scheme ≡ true
@@ -50,11 +43,11 @@ module _ {old new : Chip} (same : IsSame old new) where
       → a < old.config.size → is_guarded new a ≡ false
   free_place touched a none hit below =
       let free = none (a / 4096) in
-      is_guarded-same old new same.config same.kept1 same.kept2 a ∙ is_guarded-sector old a below (rw hit at free)
+      is_guarded-same old new same.config same.kept a ∙ is_guarded-sector old a below (rw hit at free)
 
   -- where the status isn't locked it can be written
-  pub writable_for : old.config.scheme ≡ true → ¬ (is_locked old ≡ true) → is_writable new ≡ true
+  pub writable_for : old.config.scheme ≡ true → ¬ (is_locked old.kept ≡ true) → is_writable new ≡ true
   writable_for scheme unlocked =
-      writable_same old new same.config (kept_fixed old new (same.kept1, same.kept2))
-      ∙ and_from old.config.scheme (not (is_locked old)) scheme
-      (not_from_false (is_locked old) (false_from_ne_true (is_locked old) unlocked))
+      writable_same old new same.config (ap fixed_of same.kept)
+      ∙ and_from old.config.scheme (not (is_locked old.kept)) scheme
+      (not_from_false (is_locked old.kept) (false_from_ne_true (is_locked old.kept) unlocked))

@@ -21,7 +21,7 @@ record IsClear (journal : Content) (chip : Chip) (n : ℕ) : Type 0 where
   kind : 2 < n → IsOfKind journal chip.config
   unit : 3 < n → ¬ IsOfOtherUnit journal chip.config
   fixed : 4 < n → FitsStatus journal chip
-  writable : 5 < n → is_locked chip ≡ true → ¬ NeedsStatusFrom journal (is_touched_from journal chip) chip
+  writable : 5 < n → is_locked chip.kept ≡ true → ¬ NeedsStatusFrom journal (is_touched_from journal chip) chip
 
 module _ {journal : Content} {chip : Chip} where
   none_before : {n : ℕ} (other : Refusal) → IsClear journal chip n → place_in judged_in_turn (number_of other) < n

@@ -53,9 +53,9 @@ pub record IsClear (request : Request) (image : List ℕ) (chip : Chip) (n : ℕ
   pub image_size : 4 < n → is_data request.what ≡ true → length image ≡ chip.config.size
   pub regions : 5 < n → is_data request.what ≡ true → ¬ ReachesPast request.included chip.config.size
   pub scheme : 6 < n → is_data request.what ≡ false → chip.config.scheme ≡ true
-  pub defined : 7 < n → chip.config.scheme ≡ true → is_undefined (code_of chip) ≡ false
+  pub defined : 7 < n → chip.config.scheme ≡ true → is_undefined (code_of chip.kept) ≡ false
   pub offered : 8 < n → ¬ AsksForNone request.what chip
-  pub writable : 9 < n → is_locked chip ≡ true → ¬ NeedsStatusWrite request image chip
+  pub writable : 9 < n → is_locked chip.kept ≡ true → ¬ NeedsStatusWrite request image chip
   pub free : 10 < n → request.unlock ≡ false → NoneHeld (is_touched_by request image chip) chip
 
 number_few : (refusal : Refusal) → number_of refusal < 21
@@ -101,7 +101,7 @@ module _ {request : Request} {image : List ℕ} {chip : Chip} where
 
   -- what is clear where the opening accepts the request
   scanned : {code n : ℕ} → IsNamed request.named chip.config → OpeningAccepts request (length image) chip code
-      → (9 < n → is_locked chip ≡ true
+      → (9 < n → is_locked chip.kept ≡ true
       → ¬ NeedsStatus request.what request.unlock code (is_touched_by request image chip) chip)
       → (10 < n → request.unlock ≡ false → NoneHeld (is_touched_by request image chip) chip)
       → IsClear request image chip n

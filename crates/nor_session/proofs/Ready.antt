@@ -3,9 +3,10 @@ use Rattle.std.proofs.Common.{◌≡◌, ◌≤◌, ◌+◌, ◌/◌, ◌∙◌,
 use Rattle.std.specs.Prelude.{if◌then◌else◌}
 use Rattle.std.proofs.lemmas.Bool.{true_from_ne_false, false_from_ne_true}
 use Rattle.std.proofs.lemmas.Bool.Decides.{nat_tests}
+use Rattle.nor_chip.specs.Guard.{code_of}
+use Rattle.nor_chip.specs.Chip.{kept_in}
 use Rattle.nor_chip.specs.declared.status.Status.{Status}
 use Rattle.nor_chip.specs.Status.{bytes_of}
-use Rattle.nor_chip.specs.Code.{code_in}
 use Rattle.nor_chip.specs.Bus.{BusState}
 use Rattle.nor_chip.proofs.Nature.{nature_then}
 use Rattle.nor_driver.specs.Looks.{Looks, RanOut}
@@ -58,7 +59,7 @@ pub record Ready (request : Request) (opening : Opening) (status : Status) (code
   pub fewer : kept.scanned.count ≤ kept.scanned.reads
   pub lifts : Lifts request kept.scanned.touched kept.unlock
   pub is_status : bytes_of status ≡ status_read opening
-  pub same_code : is_data request.what ≡ true → code ≡ code_in (status_read opening)
+  pub same_code : is_data request.what ≡ true → code ≡ code_of (kept_in (status_read opening))
 
 -- ---- the opening, and what is read after it
 
@@ -70,7 +71,7 @@ pub ready : {request : Request} {opening : Opening} {status : Status} {code most
     {vault : _} {kept : SavedScan} {old mid new : BusState} → Looks most_opening old mid
     → Opens request.named old mid opening → Looks most mid new
     → HasSaved request opening code image image' mid new vault kept
-    → bytes_of status ≡ status_read opening → (is_data request.what ≡ true → code ≡ code_in (status_read opening))
+    → bytes_of status ≡ status_read opening → (is_data request.what ≡ true → code ≡ code_of (kept_in (status_read opening)))
     → Ready request opening status code kept old new
 ready {opening = opening} {kept = kept} {old = old} {mid = mid} {new = new} looks opens more keeps is_status same_code =
     let looked : HasLooked (opening.transactions + kept.scanned.reads) old new
@@ -143,7 +144,7 @@ module _ {request : Request} {opening : Opening} {status : Status} {code : ℕ} 
       writes_by request.what request.unlock kept.unlock (status_writes changes) (two_writes changes)
       (λ lifted. (is.lifts lifted).0)
       (λ about_bytes off.
-      let same : code_in (bytes_of status) ≡ code = ap code_in is.is_status ∙ sym (is.same_code about_bytes) in
+      let same : code_of (kept_in (bytes_of status)) ≡ code = ap (λ (bytes : List ℕ). code_of (kept_in bytes)) is.is_status ∙ sym (is.same_code about_bytes) in
       grind (arith, nat_tests))
       (λ range. write_once changes (lifts_none range))
 

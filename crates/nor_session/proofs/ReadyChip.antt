@@ -3,7 +3,7 @@ use Rattle.std.proofs.Common.{◌≡◌, ◌<◌, ◌≤◌, ◌/◌, ◌∙◌,
 use Rattle.std.specs.Prelude.{Option, Err}
 use Rattle.std.proofs.lemmas.Bool.Decides.{nat_tests}
 use Rattle.nor_chip.specs.declared.config.Config.{Config}
-use Rattle.nor_chip.specs.Chip.{status1_of}
+use Rattle.nor_chip.specs.Chip.{KeptBits, status1_of}
 use Rattle.nor_chip.specs.Bus.{BusState}
 use Rattle.nor_driver.specs.Reads.{unique_of}
 use Rattle.nor_driver.specs.Looks.{Looks}
@@ -37,8 +37,8 @@ opening_of is opens =
     let same = (opens.rested is.honest).unchanged.same in
     record {
       config = opens.genuine is;
-      one = let read = opens.status1 is.honest in let kept = same.kept1 in grind (arith, nat_tests);
-      two = opens.status2 is.honest ∙ same.kept2;
+      one = let read = opens.status1 is.honest in let kept = ap (λ (bits : KeptBits). bits.one) same.kept in grind (arith, nat_tests);
+      two = opens.status2 is.honest ∙ ap (λ (bits : KeptBits). bits.two) same.kept;
       unique = opens.unique is.honest ∙ ap unique_of same.config;
     }
 
@@ -50,7 +50,7 @@ is_opening request opening old mid = opening_of
 pub told_idle : (named : Option ChipName) (opening : Opening) (old mid : BusState) → old.honest ≡ true → Opens named old mid opening → old.chip.busy ≡ 0 → opening.found.status1 ≡ status1_of old.chip
 told_idle named opening old mid honest opens idle =
     let rested = opens.rested honest in let latch = rested.idle_latch idle in
-    opens.status1 honest ∙ (let now = opens.idle honest in let same = rested.unchanged.same.kept1 in cc)
+    opens.status1 honest ∙ (let now = opens.idle honest in let same = ap (λ (bits : KeptBits). bits.one) rested.unchanged.same.kept in cc)
 
 pub shows : (request : Request) (opening : Opening) (old mid : BusState) → IsModelled old → Looks most_opening old mid → Opens request.named old mid opening → Shows old.chip mid
 shows request opening old mid is looks opens =
@@ -58,8 +58,9 @@ shows request opening old mid is looks opens =
 
 -- its own status byte is one that a chip has
 pub small_first : {named : Option ChipName} {opening : Opening} {old mid : BusState} → old.honest ≡ true
-    → Opens named old mid opening → mid.chip.kept2 < 128 → old.chip.kept2 < 128
-small_first honest opens small = let same = (opens.rested honest).unchanged.same.kept2 in omega arith
+    → Opens named old mid opening → mid.chip.kept.two < 128 → old.chip.kept.two < 128
+small_first honest opens small =
+    let same = ap (λ (bits : KeptBits). bits.two) (opens.rested honest).unchanged.same.kept in omega arith
 
 pub named : (request : Request) (opening : Opening) (old mid : BusState) → IsModelled old → Opens request.named old mid opening → IsNamed request.named old.chip.config
 named request opening old mid is opens = record { part = part_in opening.found; shown = opens.shown is.honest; wanted = opens.wanted }

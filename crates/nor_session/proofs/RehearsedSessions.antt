@@ -55,7 +55,7 @@ can_end request image n chip accepted erases fewest enough =
     record { accepted = accepted; erases = erases; fewest = fewest; enough = enough }
 
 wanted_bits : (request : Request) (image : List ℕ) (mid new : BusState) (report : Report) → IsDone request image mid new report → HasWantedBits request.what mid.chip new.chip
-wanted_bits request image mid new report done = record { fixed = done.made.fixed; code = done.code; is_wanted = done.is_wanted; has_code = done.has_code }
+wanted_bits request image mid new report done = record { code = done.code; is_wanted = done.is_wanted; kept = done.kept }
 
 -- a session that is allowed so many transactions, and what it leaves
 module _ {n : ℕ} {old mid : BusState} (allows : Allows n old mid) where

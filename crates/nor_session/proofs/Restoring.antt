@@ -4,7 +4,7 @@ use mathlib.Core.Path.{fun_ext}
 use Rattle.nor_chip.specs.Chip.{Chip, IsSame}
 use Rattle.nor_chip.specs.Bus.{BusState}
 use Rattle.nor_chip.proofs.Nature.{nature_then}
-use Rattle.nor_driver.specs.Looks.{LooksHonest, Looks}
+use Rattle.nor_driver.specs.Looks.{LooksHonest, Looks, IsCalm}
 pub use Rattle.nor_driver.proofs.LooksInTurn.{looks_more as looks_most}
 use Rattle.nor_journal.specs.Text.{Content}
 use Rattle.nor_journal.specs.Saved.{saved_byte}
@@ -14,7 +14,8 @@ use Rattle.nor_count.specs.Counts.{sector_count}
 use Rattle.nor_plan.specs.Content.{once_erased}
 use Rattle.nor_apply.specs.Spending.{Spends}
 use Rattle.nor_apply.specs.Applying.{touched_in, raised_in, status_writes}
-use Rattle.nor_apply.proofs.Kept.{fixed_then, kept_fixed}
+use Rattle.nor_driver.specs.StatusWrites.{fixed_of}
+use Rattle.nor_apply.proofs.Kept.{fixed_coded, told_coded}
 use Rattle.nor_apply.proofs.Changing.{narrower}
 use Rattle.nor_call.specs.declared.report.Report.{Report}
 use Rattle.nor_call.specs.declared.refusal.Refusal.{Refusal}
@@ -60,7 +61,8 @@ module _ (journal : Content) (most : ℕ) (old new : BusState) where
   prepare_tells refusal fits modelled tells = judged_verdict journal old.chip refusal (tells.verdict modelled)
 
   pub looks_leave : LooksHonest most old new → LeavesRestore journal old new
-  looks_leave looked = search (arith, kept_fixed)
+  looks_leave looked =
+      let fixed = λ (calm : IsCalm old). ap fixed_of (looked.stays.calm calm).kept in search arith
 
 -- a chip that can be given back still can
 pub looks_back : (journal : Content) (first : Chip) (most : ℕ) (old new : BusState) → old.honest ≡ true → Looks most old new → CanGiveBack journal first old → CanGiveBack journal first new
@@ -88,7 +90,11 @@ module _ (journal : Content) (prepared : Prepared) (old mid new : BusState) wher
   changed_spends are = search (arith, nature_then)
 
   pub changed_leaves : AreChanged journal prepared old mid new → IsModelled old → LeavesRestore journal old new
-  changed_leaves are modelled = search (arith, fixed_then, kept_fixed, narrower)
+  changed_leaves are modelled =
+      let may = are.leaves.reached (are.looks.nature.honest ∙ modelled.honest) (are.is.modelled modelled).can in
+      let stays = (are.looks.looked modelled.honest).stays in
+      let fixed = λ (calm : IsCalm old). may.within.fixed ∙ ap fixed_of (stays.calm calm).kept in
+      search (arith, narrower)
 
   -- ---- they weren't finished
 
@@ -177,7 +183,7 @@ module _ (journal : Content) (prepared : Prepared) (old mid new : BusState) (wor
             config = applied.config ∙ same.config;
             bytes = λ a. written_restored journal old.chip.bytes mid.chip.bytes new.chip.bytes (touched_in changes) a
                 for.touched (same.bytes a) (applied.bytes a);
-            fixed = fixed_then _ _ _ (kept_fixed old.chip mid.chip (same.kept1, same.kept2)) applied.fixed;
+            fixed = ap fixed_of applied.kept ∙ fixed_coded changes.code mid.chip.kept ∙ ap fixed_of same.kept;
             idle = applied.idle;
             latch = λ set. rested.latch (applied.latch set);
           };
@@ -198,7 +204,8 @@ module _ (journal : Content) (prepared : Prepared) (old mid new : BusState) (wor
                 (λ a hit. sym (restored_saved journal old.chip.bytes a (saved (a / 4096) hit))) in
                 cc);
           };
-          code = rw for.code at applied.has_code;
+          kept = applied.kept
+              ∙ rw (for.code, same.kept) (told_coded journal.status old.chip.kept for.accepted.fits.fixed.fixed);
           still = λ none never.
               let writes = no_write changes (λ needed. never (for.needed needed)) in let count = are.is.count in
               does.still (omega arith) ∙ are.looks.sent;

@@ -6,8 +6,8 @@ use Rattle.std.specs.Prelude.{Ok, ◌||◌, nat_lt, slice_index}
 use Rattle.std.proofs.lemmas.Bool.{true_from_ne_false, and_parts}
 use Rattle.nor_chip.specs.declared.status.Status.{Status}
 use Rattle.nor_chip.specs.Status.{bytes_of}
-use Rattle.nor_chip.specs.Code.{code_in}
-use Rattle.nor_chip.specs.Chip.{Chip, status1_of}
+use Rattle.nor_chip.proofs.Kept.{kept_same}
+use Rattle.nor_chip.specs.Chip.{Chip, status1_of, kept_in}
 use Rattle.nor_chip.specs.Guard.{code_of}
 use Rattle.nor_chip.specs.Bus.{BusState}
 use Rattle.nor_driver.specs.Looks.{Rested}
@@ -32,7 +32,8 @@ use Rattle.nor_session.specs.Changing.{ChangeTells}
 use Rattle.nor_session.specs.Session.{HonestTells, SessionTells}
 use Rattle.nor_session.specs.Verdict.{NeedsStatusWrite}
 use Rattle.nor_session.proofs.Changed.{no_write, writes_other}
-use Rattle.nor_session.proofs.JudgedStatus.{code_opened, held_scheme, free_place, writable_for}
+use Rattle.nor_save.proofs.Held.{code_same}
+use Rattle.nor_session.proofs.JudgedStatus.{held_scheme, free_place, writable_for}
 use Rattle.nor_session.proofs.RestoredBytes.{unraised_byte}
 use Rattle.nor_session.proofs.Ready.{Ready, changes_of, lifts_none, ran_out_ready, scanned_few}
 use Rattle.nor_session.proofs.ReadyChip.{most_sized}
@@ -51,13 +52,13 @@ pub record ReadyChip (request : Request) (image image' : List ℕ) (opening : Op
   pub scan : ScanAccepts request code (is_touched_by request image old.chip) old.chip kept.unlock
   pub merged : (a : ℕ) → has kept.scanned.touched (a / 4096) ≡ true → slice_index image' a ≡ wanted request image old.chip a
   pub bytes : (a : ℕ) → slice_index image' a < 256
-  pub kept2 : old.chip.kept2 < 128
+  pub small : old.chip.kept.two < 128
 
 -- ---- the status is written only where it can be
 
 needs_by : (what : What) (unlock lifted : Bool) (code : ℕ) (touched : ℕ → Bool) (chip : Chip)
     → (lifted ≡ true → (unlock ≡ true) × SomeHeld touched chip) → (is_data what ≡ false → lifted ≡ false)
-    → (is_data what ≡ true → code ≡ code_of chip) → (lifted ≡ false → code ≢ code_of chip)
+    → (is_data what ≡ true → code ≡ code_of chip.kept) → (lifted ≡ false → code ≢ code_of chip.kept)
     → NeedsStatus what unlock code touched chip
 needs_by (WpRange start len) unlock lifted code touched chip lifts off same other = other (off refl)
 needs_by _ unlock lifted code touched chip lifts off same other =
@@ -76,8 +77,8 @@ module _ (request : Request) (image image' : List ℕ) (opening : Opening) (stat
   pub needs : (kept.unlock || writes_code (changes_of opening kept status code)) ≡ true
       → NeedsStatus request.what request.unlock code (is_touched_by request image old.chip) old.chip
   needs writes =
-      let read : code_in (bytes_of status) ≡ code_in (status_read opening) = ap code_in is.is_status in
-      let chip = code_opened of.is in
+      let read : code_of (kept_in (bytes_of status)) ≡ code_of (kept_in (status_read opening)) = ap (λ (bytes : List ℕ). code_of (kept_in bytes)) is.is_status in
+      let chip = code_same of.is in
       needs_by request.what request.unlock kept.unlock code _ old.chip of.scan.lifts
       (lifts_none is) (λ about_bytes. is.same_code about_bytes ∙ chip)
       (λ off same. writes_other (changes_of opening kept status code) off writes (read ∙ chip ∙ sym same))
@@ -112,7 +113,7 @@ module _ (request : Request) (image image' : List ℕ) (opening : Opening) (stat
       record {
         idle = of.idle;
         sized = record { same = size; same_kinds = cc };
-        kept = record { one = ap (λ (n : ℕ). n / 4) one ∙ of.is.one ∙ sym same.kept1; two = omega arith };
+        kept = same.kept ∙ kept_same old.chip.kept (kept_in (bytes_of status)) (omega arith) (omega arith);
         inside = λ s touched. let below = is.marks.below s touched in omega arith;
         free = λ off a touched.
             let below = is.marks.below (a / 4096) touched in

@@ -14,7 +14,8 @@ use Rattle.nor_apply.specs.declared.changes.Work.{Work}
 use Rattle.nor_count.specs.Counts.{sector_count}
 use Rattle.nor_plan.specs.Content.{once_erased}
 use Rattle.nor_apply.proofs.Changing.{same_change, change_as, change_then}
-use Rattle.nor_apply.proofs.Kept.{fixed_then, kept_fixed}
+use Rattle.nor_driver.specs.StatusWrites.{fixed_of, with_code}
+use Rattle.nor_apply.proofs.Kept.{fixed_coded}
 use Rattle.nor_save.specs.declared.opening.Opening.{Opening}
 use Rattle.nor_save.specs.declared.saving.SavedScan.{SavedScan}
 use Rattle.nor_call.specs.declared.request.Request.{Request}
@@ -47,7 +48,7 @@ module _ (request : Request) (image image' : List ℕ) (opening : Opening) (stat
       → Opens request.named old mid opening → Ready request opening status code kept old new
       → (IsOpening old.chip opening → OpeningAccepts request (length image) old.chip code)
       → HasSaved request opening code image image' mid new vault kept → ((a : ℕ) → slice_index image' a < 256)
-      → old.chip.kept2 < 128 → ReadyChip request image image' opening code kept old new
+      → old.chip.kept.two < 128 → ReadyChip request image image' opening code kept old new
   ready_chip new vault modelled looks opens is accepts keeps bytes small =
       search (arith, is_opening, named, shows, told_idle)
 
@@ -89,8 +90,8 @@ module _ (request : Request) (image image' : List ℕ) (opening : Opening) (stat
       let applied = does.done honest can in
       let same = of.rested.unchanged.same in
       let blocks = is.part.in_blocks in let size = of.is.config.size in
-      let made : IsMade (wanted request image old.chip) old.chip new.chip
-      = search (arith, fixed_then, kept_fixed, wanted_untouched) in
+      let fixed = ap fixed_of applied.kept ∙ fixed_coded code mid.chip.kept ∙ ap fixed_of same.kept in
+      let made : IsMade (wanted request image old.chip) old.chip new.chip = search (arith, wanted_untouched) in
       let aim = wanted request image old.chip in
       let touched : has kept.scanned.touched ≡ is_touched_by request image old.chip = fun_ext of.touched in
       let raised : has kept.scanned.raised ≡ is_raised_by request image old.chip = fun_ext of.raised in
@@ -113,7 +114,7 @@ module _ (request : Request) (image image' : List ℕ) (opening : Opening) (stat
         };
         code = code;
         is_wanted = of.accepts.is_wanted;
-        has_code = applied.has_code;
+        kept = applied.kept ∙ ap (with_code code) same.kept;
         still = λ none never.
             let writes = no_write (changes_of opening kept status code) (λ needed. never (code, of.accepts.is_wanted, needs request image image' opening status code kept old mid is of needed)) in
             let count = is.marks.count in

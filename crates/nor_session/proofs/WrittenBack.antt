@@ -1,13 +1,15 @@
 -- What is written over with a chip that can be given back can be given back at each moment.
-use Rattle.std.proofs.Common.{arith, ◌≡◌, ◌∙◌, ◌⊎◌, ℕ, Bool, List, [], true, refl, sym, inl, inr}
+use Rattle.std.proofs.Common.{ap, arith, ◌/◌, ◌%◌, false, ◌≡◌, ◌∙◌, ◌⊎◌, ℕ, Bool, List, [], true, refl, sym, inl, inr}
 use Rattle.std.proofs.lemmas.List.{append-nil}
 use Rattle.nor_chip.specs.Bus.{BusState}
-use Rattle.nor_chip.specs.Chip.{Chip, IsChip, IsSame}
+use Rattle.nor_chip.specs.Chip.{Chip, IsChip, IsSame, KeptBits}
+use Rattle.nor_driver.specs.StatusWrites.{fixed_of}
+use Rattle.nor_chip.proofs.Kept.{kept_same}
 use Rattle.nor_journal.specs.Text.{Content, IsContent, SameHead, text}
 use Rattle.nor_journal.specs.Saved.{JournalSaves, Saves}
 use Rattle.nor_journal.specs.Vault.{VaultState}
 use Rattle.nor_journal.proofs.OneForm.{one_text}
-use Rattle.nor_apply.specs.Within.{IsWithin}
+use Rattle.nor_apply.specs.Within.{IsWithin, is_writable}
 use Rattle.nor_apply.proofs.Changing.{idle_within}
 use Rattle.nor_save.specs.Touched.{is_touched_by}
 use Rattle.nor_save.specs.Saving.{head_of}
@@ -25,10 +27,32 @@ pub either : (P : ℕ → Type 0) (x y z : ℕ) → (z ≡ x) ⊎ (z ≡ y) → 
 either P x y z (inl is) one two = rw is one
 either P x y z (inr is) one two = rw is two
 
+-- so bits that both have are had by the chip that was opened, and fixed ones likewise
+kept_over : {old new opened : Chip} (first : KeptBits) → IsWrittenOver old new opened → old.kept ≡ first
+    → new.kept ≡ first → opened.kept ≡ first
+kept_over {old} {new} {opened} first over before after =
+    kept_same opened.kept first
+    (either (λ n. n ≡ first.one) _ _ _ over.one (ap (λ (bits : KeptBits). bits.one) before)
+    (ap (λ (bits : KeptBits). bits.one) after))
+    (either (λ n. n ≡ first.two) _ _ _ over.two (ap (λ (bits : KeptBits). bits.two) before)
+    (ap (λ (bits : KeptBits). bits.two) after))
+
+fixed_over : {old new opened : Chip} (first : KeptBits) → IsWrittenOver old new opened
+    → fixed_of old.kept ≡ fixed_of first → fixed_of new.kept ≡ fixed_of first → fixed_of opened.kept ≡ fixed_of first
+fixed_over {old} {new} {opened} first over before after =
+    let one = either (λ n. n / 32 ≡ first.one / 32) old.kept.one new.kept.one opened.kept.one over.one
+    (ap (λ (f : ℕ × ℕ). f.0) before) (ap (λ (f : ℕ × ℕ). f.0) after) in
+    let two = either (λ n. n % 64 ≡ first.two % 64) old.kept.two new.kept.two opened.kept.two over.two
+    (ap (λ (f : ℕ × ℕ). f.1) before) (ap (λ (f : ℕ × ℕ). f.1) after) in
+    rw (one, two) refl
+
 -- both are within the same places of the first chip, so what was opened is
 pub within_both : (places : ℕ → Bool) (first : Chip) (old new opened : BusState) → IsWrittenOver old.chip new.chip opened.chip
     → IsWithin places first old → IsWithin places first new → IsWithin places first opened
-within_both places first old new opened over before after = search (arith, either)
+within_both places first old new opened over before after =
+    let fixed = fixed_over first.kept over before.fixed after.fixed in
+    let kept = λ (shut : is_writable first ≡ false). kept_over first.kept over (before.kept shut) (after.kept shut) in
+    search (arith, either)
 
 -- so what can be given back before and after can be at each moment between
 pub restore_over : (journal : Content) (first : Chip) (old new opened : BusState) → CanGiveBack journal first old
@@ -37,7 +61,7 @@ restore_over journal first old new opened before after over = search (arith, wit
 
 -- and where both are the same chip, so is what was opened
 pub same_over : (old new opened : Chip) → IsSame old new → IsWrittenOver old new opened → IsSame old opened
-same_over old new opened same over = search (arith, either)
+same_over old new opened same over = let kept = kept_over old.kept over refl same.kept in search (arith, either)
 
 -- ---- after a session
 
@@ -72,5 +96,5 @@ session_over request image old new opened vault journal modelled is telling undo
       known = after.known;
       saves = after.saves;
       within = within_both (open_places journal old.chip) old.chip (idle old) new opened (assumption over)
-          (idle_within refl (λ a out. refl) (refl, refl) refl) after.within;
+          (idle_within refl (λ a out. refl) refl refl) after.within;
     }

@@ -1,12 +1,11 @@
 -- What a session, a restore and a rehearsal promise before all else: the first chip can be had again.
 use Rattle.std.specs.Prelude.{◌≡◌, ◌/◌, ◌&&◌, ℕ, Bool, true, false, not, List, Result, IfErr, IfSome, OnOk}
 use Rattle.nor_chip.specs.declared.config.Config.{Config}
-use Rattle.nor_chip.specs.Chip.{Chip, IsSame, is_locked}
+use Rattle.nor_chip.specs.Chip.{Chip, IsSame, is_locked, kept_in}
 use Rattle.nor_chip.specs.Guard.{is_guarded}
 use Rattle.nor_chip.specs.Bus.{BusState}
 use Rattle.nor_driver.specs.Looks.{IsCalm}
 use Rattle.nor_driver.specs.Reads.{id_of, unique_of}
-use Rattle.nor_driver.specs.StatusWrites.{HasKeptBits}
 use Rattle.nor_journal.specs.Text.{Content}
 use Rattle.nor_journal.specs.Vault.{VaultState}
 use Rattle.nor_journal.specs.Saved.{Saves, is_saved}
@@ -28,13 +27,13 @@ pub record IsOfKind (journal : Content) (config : Config) : Type 0 where
 pub record SavesChip (journal : Content) (first : Chip) : Type 0 where
   pub kind : IsOfKind journal first.config
   pub unit : IfSome journal.unique (λ unique. unique ≡ unique_of first.config)
-  pub bits : HasKeptBits journal.status first
+  pub bits : first.kept ≡ kept_in journal.status
   pub sectors : Saves first.bytes (is_saved journal) journal
 
 -- the places at which a chip may differ from the first one: those of saved sectors, and where the first one's status is
 -- locked the ones that aren't guarded
 abbrev pub open_places : Content → Chip → ℕ → Bool
-open_places journal first a = is_saved journal (a / 4096) && not (is_locked first && is_guarded first a)
+open_places journal first a = is_saved journal (a / 4096) && not (is_locked first.kept && is_guarded first a)
 
 -- The bus's chip can be made the first one again: that is known and saved by the journal, and the chip is within it.
 pub record CanGiveBack (journal : Content) (first : Chip) (state : BusState) : Type 0 where

@@ -1,7 +1,7 @@
 -- What a session knows once its opening is judged, and from where its promises count.
 use Rattle.std.specs.Prelude.{◌≡◌, ◌≤◌, ◌<◌, ℕ, true, Option, List, Result}
-use Rattle.nor_chip.specs.Chip.{Chip}
-use Rattle.nor_chip.specs.Code.{code_in}
+use Rattle.nor_chip.specs.Guard.{code_of}
+use Rattle.nor_chip.specs.Chip.{Chip, kept_in}
 use Rattle.nor_chip.specs.Bus.{BusState}
 use Rattle.nor_driver.specs.Looks.{Looks}
 use Rattle.nor_probe.specs.declared.table.ChipName.{ChipName}
@@ -24,7 +24,7 @@ pub record IsJudged (request : Request) (image : ℕ) (opening : Opening) (code 
   pub few : opening.transactions ≤ most_opening
   pub six_bits : code < 64
   pub sized : is_data request.what ≡ true → image ≡ opening.found.size
-  pub same_code : is_data request.what ≡ true → code ≡ code_in (status_read opening)
+  pub same_code : is_data request.what ≡ true → code ≡ code_of (kept_in (status_read opening))
   pub accepts : (chip : Chip) → IsOpening chip opening → OpeningAccepts request image chip code
 
 -- this holds of every state of the bus from which the opening led to the one now

@@ -3,7 +3,7 @@ use Rattle.std.specs.Prelude.{◌≡◌, ◌/◌, ◌||◌, ℕ, Bool, true, Ok}
 use Rattle.nor_chip.specs.declared.config.Config.{Config}
 use Rattle.nor_chip.specs.Chip.{Chip, status1_of}
 use Rattle.nor_chip.specs.Bus.{BusState}
-use Rattle.nor_driver.specs.StatusWrites.{KeepsFixed}
+use Rattle.nor_driver.specs.StatusWrites.{fixed_of}
 use Rattle.nor_count.specs.Below.{count_below}
 use Rattle.nor_plan.specs.Planned.{IsLeastLength}
 use Rattle.nor_probe.specs.Known.{shown_as}
@@ -25,7 +25,7 @@ pages_of touched raised old wanted = count_below 65536 (is_programmed touched (o
 pub record IsMade (wanted : ℕ → ℕ) (old new : Chip) : Type 0 where
   pub config : new.config ≡ old.config
   pub bytes : (a : ℕ) → new.bytes a ≡ wanted a
-  pub fixed : KeepsFixed old new
+  pub fixed : fixed_of new.kept ≡ fixed_of old.kept
   pub idle : new.busy ≡ 0
   pub latch : new.latch ≡ true → old.latch ≡ true
 
@@ -35,7 +35,7 @@ pub record IsReported (wanted : ℕ → ℕ) (touched raised : ℕ → Bool) (ol
     (report : Report) : Type 0 where
   pub worn : (s : ℕ) → new.worn s ≡ (old.worn s || raised s)
   pub shown : shown_as old.chip.config ≡ Ok (part_in report.found)
-  pub status1 : report.found.status1 / 4 ≡ old.chip.kept1
+  pub status1 : report.found.status1 / 4 ≡ old.chip.kept.one
   pub told : old.chip.busy ≡ 0 → report.found.status1 ≡ status1_of old.chip
   pub sectors : report.touched ≡ sector_count touched
   pub erases : AreFewestErases old.chip.config raised report.erases

@@ -1,7 +1,7 @@
 -- What a restore finds of a chip before it changes anything.
 use Rattle.std.specs.Prelude.{◌≡◌, ◌<◌, ◌≤◌, ◌+◌, ◌/◌, ◌||◌, ◌⊎◌, ℕ, Bool, true, List, Result, None, Ok, Err, IfErr, OnOk, OnErr, IfOk, MatchBool, length, slice_index, ⊤}
-use Rattle.nor_chip.specs.Code.{code_in}
-use Rattle.nor_chip.specs.Chip.{Chip, IsSame, is_locked, status1_of}
+use Rattle.nor_chip.specs.Guard.{code_of}
+use Rattle.nor_chip.specs.Chip.{Chip, IsSame, is_locked, status1_of, kept_in}
 use Rattle.nor_chip.specs.Bus.{BusState}
 use Rattle.nor_driver.specs.Looks.{Rested, RanOutIfHonest, IsOpen}
 use Rattle.nor_driver.specs.Ready.{StaysReady}
@@ -50,13 +50,13 @@ RestoreJudges journal chip StatusDiffers =
     IsNamed None chip.config × IsOfKind journal chip.config × (¬ IsOfOtherUnit journal chip.config)
     × (¬ FitsStatus journal chip)
 RestoreJudges journal chip StatusLocked =
-    Fits journal chip × (is_locked chip ≡ true) × NeedsStatusFrom journal (is_touched_from journal chip) chip
+    Fits journal chip × (is_locked chip.kept ≡ true) × NeedsStatusFrom journal (is_touched_from journal chip) chip
 RestoreJudges journal chip _ = ⊥
 
 -- All is judged, and nothing refused.
 pub record RestoreAccepts (journal : Content) (chip : Chip) : Type 0 where
   pub fits : Fits journal chip
-  pub not_locked : is_locked chip ≡ true → ¬ NeedsStatusFrom journal (is_touched_from journal chip) chip
+  pub not_locked : is_locked chip.kept ≡ true → ¬ NeedsStatusFrom journal (is_touched_from journal chip) chip
 
 -- ---- the opening
 
@@ -73,21 +73,21 @@ IsUnitRefusal _ = ⊥
 
 -- an opening of a chip that the journal is of
 abbrev pub FitsOpening : Content → Opening → Type 0
-FitsOpening journal opening = (chip : Chip) → chip.kept2 < 128 → IsOpening chip opening → Fits journal chip
+FitsOpening journal opening = (chip : Chip) → chip.kept.two < 128 → IsOpening chip opening → Fits journal chip
 
 -- the fixed bits that an opening shows are those that the journal tells, on each chip that it is an opening of
 abbrev pub ShowsFixed : Content → Opening → Bool → Type 0
-ShowsFixed journal opening shown = (chip : Chip) → chip.kept2 < 128 → IsOpening chip opening
+ShowsFixed journal opening shown = (chip : Chip) → chip.kept.two < 128 → IsOpening chip opening
     → MatchBool shown (FitsStatus journal chip) (¬ FitsStatus journal chip)
 
 -- where the unit is accepted the journal is one of each such chip that has its ID and size
 abbrev pub AcceptsUnit : Content → Opening → Result Unit Refusal → Type 0
-AcceptsUnit journal opening judged = (chip : Chip) → chip.kept2 < 128 → IsOpening chip opening
+AcceptsUnit journal opening judged = (chip : Chip) → chip.kept.two < 128 → IsOpening chip opening
     → IsOfKind journal chip.config → OnOk judged (Fits journal chip)
 
 -- and where it is refused, all before that is accepted
 abbrev pub RefusesUnit : Content → Opening → Result Unit Refusal → Type 0
-RefusesUnit journal opening judged = (chip : Chip) → chip.kept2 < 128 → IsOpening chip opening
+RefusesUnit journal opening judged = (chip : Chip) → chip.kept.two < 128 → IsOpening chip opening
     → IsOfKind journal chip.config → IfErr judged (RestoreJudges journal chip)
 
 -- A refusal that was judged: nothing changed, and on a modelled bus that was judged of the chip.
@@ -140,18 +140,18 @@ pub record AreChanges (journal : Content) (opening : Opening) (scanned : Scanned
   pub size : changes.size ≡ opening.found.size
   pub one : changes.status.one.0 ≡ opening.found.status1
   pub two : changes.status.two.0 ≡ opening.status2
-  pub code : changes.code ≡ code_in journal.status
+  pub code : changes.code ≡ code_of (kept_in journal.status)
   pub six_bits : changes.code < 64
 
 -- Protection is lifted just where a touched sector is guarded, and a status that is locked isn't written.
 pub record MayChangeStatus (journal : Content) (touched : ℕ → Bool) (chip : Chip) (changes : Changes) : Type 0 where
   pub lifts : changes.unlock ≡ true → SomeHeld touched chip
   pub free : changes.unlock ≡ true ⊎ NoneHeld touched chip
-  pub not_locked : is_locked chip ≡ true → ¬ NeedsStatusFrom journal touched chip
+  pub not_locked : is_locked chip.kept ≡ true → ¬ NeedsStatusFrom journal touched chip
 
 -- The status is locked, and would have to be written.
 pub record IsShut (journal : Content) (touched : ℕ → Bool) (chip : Chip) : Type 0 where
-  pub locked : is_locked chip ≡ true
+  pub locked : is_locked chip.kept ≡ true
   pub needs : NeedsStatusFrom journal touched chip
 
 -- changes are only made where the status of each chip with this opening may be changed so
@@ -171,11 +171,11 @@ RefusesShut journal opening touched judged =
 pub record IsPreparedFor (journal : Content) (old new : Chip) (prepared : Prepared) : Type 0 where
   pub accepted : RestoreAccepts journal old
   pub shown : shown_as old.config ≡ Ok (part_in prepared.found)
-  pub status1 : prepared.found.status1 / 4 ≡ old.kept1
+  pub status1 : prepared.found.status1 / 4 ≡ old.kept.one
   pub told : old.busy ≡ 0 → prepared.found.status1 ≡ status1_of old
   pub kinds : prepared.changes.kinds ≡ old.config.kinds
   pub size : prepared.changes.size ≡ old.config.size
-  pub code : prepared.changes.code ≡ code_in journal.status
+  pub code : prepared.changes.code ≡ code_of (kept_in journal.status)
   pub touched : (s : ℕ) → has prepared.changes.touched s ≡ is_touched_from journal old s
   pub raised : (s : ℕ) → has prepared.changes.raised s ≡ is_raised_from journal old s
   pub can : CanApply prepared.changes (saved_byte journal) new

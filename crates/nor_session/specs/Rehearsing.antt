@@ -3,7 +3,7 @@ use Rattle.std.specs.Prelude.{◌≡◌, ◌≤◌, ◌<◌, ◌+◌, ◌*◌, �
 use Rattle.nor_chip.specs.Chip.{Chip, IsChip, IsSame, is_locked}
 use Rattle.nor_chip.specs.Bus.{BusState, KeepsNature}
 use Rattle.nor_driver.specs.Looks.{IsCalm}
-use Rattle.nor_driver.specs.StatusWrites.{KeepsFixed, HasCode}
+use Rattle.nor_driver.specs.StatusWrites.{with_code}
 use Rattle.nor_journal.specs.Text.{Content}
 use Rattle.nor_journal.specs.Vault.{VaultState}
 use Rattle.nor_journal.specs.Saved.{is_saved, JournalSaves}
@@ -34,7 +34,7 @@ pub record LeadsBack (saved : ℕ → Bool) (first : Chip) (text : List ℕ) (st
   pub known : IsKnown first.config
   pub journal : JournalSaves (head_of first) first.bytes saved text
   pub inside : (s : ℕ) → saved s ≡ true → s < first.config.size / 4096
-  pub free : is_locked first ≡ true → NoneHeld saved first
+  pub free : is_locked first.kept ≡ true → NoneHeld saved first
   pub within : IsWithin (places_of saved) first state
 
 -- At every exit of the session: where its vault isn't sealed the chip is as it was, and else that leads back, and the
@@ -51,12 +51,11 @@ pub record LeavesSession (request : Request) (image : List ℕ) (old new : BusSt
   pub aims : vault.sealed ≡ true → (journal : IsJournal vault.bytes) × AimsAtSaved journal.content old new
   pub writes : WritesStatusAtMost (most_status_writes request.what request.unlock) old new
 
--- The wanted kept bits: the fixed ones are as they were, and the code is the wanted one.
+-- The wanted kept bits: those of before with the wanted code.
 pub record HasWantedBits (what : What) (old new : Chip) : Type 0 where
-  pub fixed : KeepsFixed old new
   pub code : ℕ
   pub is_wanted : IsWantedCode what old code
-  pub has_code : HasCode code new
+  pub kept : new.kept ≡ with_code code old.kept
 
 -- It was allowed so many transactions, and ended, and the chip is the wanted one; or it was stopped, where none is
 -- left, since they were too few.

@@ -1,14 +1,13 @@
 -- What a restore wants of a chip, and what it promises.
 use Rattle.std.specs.Prelude.{◌≡◌, ◌≢◌, ◌<◌, ◌+◌, ◌/◌, ◌==◌, ◌⊎◌, ℕ, Bool, true, false, List, [], ◌∷◌, length, Result, IfOk, IfErr, IsSomeAnd, OnOk, Err, if◌then◌else◌}
 use Rattle.std.specs.List.{list_any}
-use Rattle.nor_chip.specs.Code.{code_in}
 use Rattle.nor_chip.specs.declared.config.Config.{Config}
-use Rattle.nor_chip.specs.Chip.{Chip, is_locked}
+use Rattle.nor_chip.specs.Chip.{Chip, is_locked, kept_in}
 use Rattle.nor_chip.specs.Guard.{code_of}
 use Rattle.nor_chip.specs.Bus.{BusState}
 use Rattle.nor_driver.specs.Looks.{IsCalm, Looks, RanOut}
 use Rattle.nor_driver.specs.Reads.{unique_of}
-use Rattle.nor_driver.specs.StatusWrites.{KeepsFixed, HasCode, HasKeptBits, HasFixedBits}
+use Rattle.nor_driver.specs.StatusWrites.{fixed_of}
 use Rattle.nor_journal.specs.Text.{Content}
 use Rattle.nor_journal.specs.Saved.{is_saved, saved_byte}
 use Rattle.nor_probe.specs.declared.probes.ProbeFault.TheVariants as Probes
@@ -47,12 +46,12 @@ IsOfOtherUnit journal config = IsSomeAnd journal.unique (λ unique. unique ≢ u
 
 -- No bit differs that a restore may not set: the fixed ones agree, and where there is no block protection all do.
 pub record FitsStatus (journal : Content) (chip : Chip) : Type 0 where
-  pub fixed : HasFixedBits journal.status chip
-  pub all : chip.config.scheme ≡ false → HasKeptBits journal.status chip
+  pub fixed : fixed_of chip.kept ≡ fixed_of (kept_in journal.status)
+  pub all : chip.config.scheme ≡ false → chip.kept ≡ kept_in journal.status
 
 -- a status write is needed: the code differs from the journal's, or one of these sectors is guarded
 abbrev pub NeedsStatusFrom : Content → (touched : ℕ → Bool) → Chip → Type 0
-NeedsStatusFrom journal touched chip = (code_of chip ≢ code_in journal.status) ⊎ SomeHeld touched chip
+NeedsStatusFrom journal touched chip = (code_of chip.kept ≢ code_of (kept_in journal.status)) ⊎ SomeHeld touched chip
 
 -- A refusal holds of a journal and a chip, whatever others do.
 abbrev pub RestoreHolds : Content → Chip → Refusal → Type 0
@@ -62,7 +61,7 @@ RestoreHolds journal chip OtherChip = ¬ IsOfKind journal chip.config
 RestoreHolds journal chip OtherUnit = IsOfOtherUnit journal chip.config
 RestoreHolds journal chip StatusDiffers = ¬ FitsStatus journal chip
 RestoreHolds journal chip StatusLocked =
-    (is_locked chip ≡ true) × NeedsStatusFrom journal (is_touched_from journal chip) chip
+    (is_locked chip.kept ≡ true) × NeedsStatusFrom journal (is_touched_from journal chip) chip
 RestoreHolds journal chip _ = ⊥
 
 -- these refusals, by their numbers, in the order in which they are judged
@@ -107,15 +106,15 @@ RestoreTells journal old new refusal = IsRestoreVerdict journal old.chip refusal
 pub record LeavesRestore (journal : Content) (old new : BusState) : Type 0 where
   pub config : new.chip.config ≡ old.chip.config
   pub bytes : IsCalm old → (a : ℕ) → is_saved journal (a / 4096) ≡ false → new.chip.bytes a ≡ old.chip.bytes a
-  pub fixed : IsCalm old → KeepsFixed old.chip new.chip
+  pub fixed : IsCalm old → fixed_of new.chip.kept ≡ fixed_of old.chip.kept
   pub worn : (s : ℕ) → is_raised_from journal old.chip s ≡ false → new.worn s ≡ old.worn s
 
--- At the end the chip is made what the journal wants, with its code; the report says so; and where nothing is to be
+-- At the end the chip is made what the journal wants, with its kept bits; the report says so; and where nothing is to be
 -- changed, nothing changing was sent.
 pub record IsRestored (journal : Content) (old new : BusState) (report : Report) : Type 0 where
   pub accepted : IsRestorable journal old.chip
   pub made : IsMade (restored journal old.chip.bytes) old.chip new.chip
-  pub code : HasCode (code_in journal.status) new.chip
+  pub kept : new.chip.kept ≡ kept_in journal.status
   pub reported : IsReported (restored journal old.chip.bytes) (is_touched_from journal old.chip)
       (is_raised_from journal old.chip) old new report
   pub still : report.touched ≡ 0 → (¬ NeedsStatusFrom journal (is_touched_from journal old.chip) old.chip)

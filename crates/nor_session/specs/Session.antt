@@ -4,7 +4,7 @@ use Rattle.nor_chip.specs.Chip.{Chip, IsSame}
 use Rattle.nor_chip.specs.Sent.{is_aimed_at, status_writes_of}
 use Rattle.nor_chip.specs.Bus.{BusState}
 use Rattle.nor_driver.specs.Looks.{Looks, Falls, RanOut}
-use Rattle.nor_driver.specs.StatusWrites.{HasCode}
+use Rattle.nor_driver.specs.StatusWrites.{with_code}
 use Rattle.nor_driver.specs.Operations.{most_operation}
 use Rattle.nor_journal.specs.Text.{Content}
 use Rattle.nor_journal.specs.Vault.{VaultState, Rose}
@@ -114,7 +114,7 @@ pub record IsDone (request : Request) (image : List ℕ) (old new : BusState) (r
   pub made : IsMade (wanted request image old.chip) old.chip new.chip
   pub code : ℕ
   pub is_wanted : IsWantedCode request.what old.chip code
-  pub has_code : HasCode code new.chip
+  pub kept : new.chip.kept ≡ with_code code old.chip.kept
   pub reported : IsReported (wanted request image old.chip) (is_touched_by request image old.chip)
       (is_raised_by request image old.chip) old new report
   pub still : report.touched ≡ 0 → ¬ NeedsStatusWrite request image old.chip → new.sent ≡ old.sent

@@ -32,9 +32,9 @@ RefusalHolds request image chip RegionOutside =
     (is_data request.what ≡ true) × ReachesPast request.included chip.config.size
 RefusalHolds request image chip NoProtection = (is_data request.what ≡ false) × (chip.config.scheme ≡ false)
 RefusalHolds request image chip UndefinedProtection =
-    (chip.config.scheme ≡ true) × (is_undefined (code_of chip) ≡ true)
+    (chip.config.scheme ≡ true) × (is_undefined (code_of chip.kept) ≡ true)
 RefusalHolds request image chip RangeNotOffered = AsksForNone request.what chip
-RefusalHolds request image chip StatusLocked = (is_locked chip ≡ true) × NeedsStatusWrite request image chip
+RefusalHolds request image chip StatusLocked = (is_locked chip.kept ≡ true) × NeedsStatusWrite request image chip
 RefusalHolds request image chip (Protected address) = (request.unlock ≡ false)
     × (sector : ℕ) × (address ≡ 4096 * sector) × IsLeastHeld (is_touched_by request image chip) chip sector
 RefusalHolds request image chip _ = ⊥

@@ -7,6 +7,6 @@ use Rattle.nor_chip.specs.Chip.{Chip}
 pub record IsWrittenOver (old new opened : Chip) : Type 0 where
   pub config : opened.config ≡ old.config
   pub bytes : (a : ℕ) → (opened.bytes a ≡ old.bytes a) ⊎ (opened.bytes a ≡ new.bytes a)
-  pub kept1 : (opened.kept1 ≡ old.kept1) ⊎ (opened.kept1 ≡ new.kept1)
-  pub kept2 : (opened.kept2 ≡ old.kept2) ⊎ (opened.kept2 ≡ new.kept2)
+  pub one : (opened.kept.one ≡ old.kept.one) ⊎ (opened.kept.one ≡ new.kept.one)
+  pub two : (opened.kept.two ≡ old.kept.two) ⊎ (opened.kept.two ≡ new.kept.two)
   pub idle : opened.busy ≡ 0

@@ -33,7 +33,7 @@ impl Flash {
     ghost use Rattle.nor_chip.specs.Aim.{IsAimed, IsUnit};
     ghost use Rattle.nor_chip.specs.Chip.{is_locked};
     ghost use Rattle.nor_chip.specs.Guard.{code_of, is_guarded, is_unit_guarded};
-    ghost use Rattle.nor_chip.specs.Step.{is_carried_out, done_of, reply_byte, Does, Step, kept2_after};
+    ghost use Rattle.nor_chip.specs.Step.{is_carried_out, done_of, reply_byte, Does, Step};
 
     // The status registers, as 05h and 35h reply them.
     pub(crate) fn status(&self) -> Status
@@ -47,7 +47,7 @@ impl Flash {
 
     // The status itself is locked.
     fn is_locked(&self) -> bool
-        ensures { result ≡ is_locked (chip_of self.now) }
+        ensures { result ≡ is_locked (chip_of self.now).kept }
     {
         self.kept.is_locked()
     }

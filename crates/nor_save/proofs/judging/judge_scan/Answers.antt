@@ -1,6 +1,6 @@
-use Rattle.std.proofs.Common.{◌≡◌, refl, ap, rules, true}
+use Rattle.std.proofs.Common.{◌≡◌, ℕ, List, refl, ap, rules, true}
 use Rattle.std.specs.Prelude.{MatchOption}
-use Rattle.nor_chip.specs.Code.{is_lock_set}
+use Rattle.nor_chip.specs.Chip.{kept_in, is_locked}
 use Rattle.nor_plan.specs.SectorSet.{has}
 use Rattle.nor_save.specs.Saving.{IsLeastHeld, NoneHeld, SomeHeld}
 use Rattle.nor_save.proofs.Held.{lock_same}
@@ -20,7 +20,8 @@ returns-in-Some-2-clause-tells c = λ chip is.
       least = least;
       not_locked = λ locked. elim c.else-writes.branch [
         | else-writes-via-then-writes+else-is_locked w ↦
-            let same = lock_same chip c.args.opening.now is in let read = ap is_lock_set w.status.ensures in absurd cc
+            let same = lock_same is in
+            let read = ap (λ (bytes : List ℕ). is_locked (kept_in bytes)) w.status.ensures in absurd cc
         | else-writes-via-else-writes w ↦
             let is_some : c.is_some.result ≡ true = search rules in
             rw w.if-writes.false at (c.needs_status-writes.ensures chip touched is (rw is_some some))

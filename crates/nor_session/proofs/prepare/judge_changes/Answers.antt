@@ -1,8 +1,8 @@
 use Rattle.std.proofs.Common.{◌≡◌, ◌≢◌, ◌∙◌, sym, inl, inr, rules}
 use Rattle.std.specs.Option.{is_some}
 use Rattle.nor_plan.specs.SectorSet.{has}
-use Rattle.nor_save.proofs.Held.{lock_same}
-use Rattle.nor_session.proofs.JudgedStatus.{some_held, some_or_none, none_needed, code_opened}
+use Rattle.nor_save.proofs.Held.{code_same, lock_same}
+use Rattle.nor_session.proofs.JudgedStatus.{some_held, some_or_none, none_needed}
 use Rattle.nor_session.proofs.prepare.judge_changes.Goals as goal
 use Rattle.nor_session.proofs.prepare.judge_changes.Goals.{then-unlock, else-unlock, else-writes-via-then-writes+else-is_locked, else-writes-via-else-writes}
 
@@ -15,11 +15,11 @@ returns-clause-accepts c = λ chip is.
       lifts = λ hit. some_held c.first_held.result touched chip held (sym told ∙ hit);
       free = rw told (some_or_none c.first_held.result touched chip held);
       not_locked = λ locked. elim c.else-writes.branch [
-        | else-writes-via-then-writes+else-is_locked w ↦ let same = lock_same chip c.args.opening.now is in absurd cc
+        | else-writes-via-then-writes+else-is_locked w ↦ let same = lock_same is in absurd cc
         | else-writes-via-else-writes w ↦ elim c.if-unlock.branch [
           | then-unlock v ↦ absurd (let hit = v.writes-is in let lifted = v.if-unlock.true in let none = w.if-writes.false in cc)
           | else-unlock v ↦
-              let opened = code_opened is in
+              let opened = code_same is in
               let same : v.code.result ≡ c.code-code.result
               = (let writes = v.writes-is in let none = w.if-writes.false in search rules) in
               none_needed c.args.journal.now touched chip c.first_held.result held (sym told ∙ v.if-unlock.false) cc
@@ -33,11 +33,11 @@ returns-then-is_locked-clause-tells c = λ chip is.
     let held = c.first_held.ensures.held chip is in
     let told : c.is_some-unlock.result ≡ is_some c.first_held.result = search rules in
     record {
-      locked = let same = lock_same chip c.args.opening.now is in cc;
+      locked = let same = lock_same is in cc;
       needs = elim c.if-unlock.branch [
         | then-unlock w ↦ inr (some_held c.first_held.result touched chip held (sym told ∙ w.if-unlock.true))
         | else-unlock v ↦
-            let opened = code_opened is in
+            let opened = code_same is in
             let other : v.code.result ≢ c.code-code.result
             = (let writes = v.writes-is in let some = c.if-writes.true in search rules) in
             inl (λ same. other cc)

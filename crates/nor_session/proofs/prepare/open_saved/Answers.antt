@@ -17,3 +17,7 @@ returns-in_err-judge_unit-clause-tells g c =
     c.in_err-judge_unit.ensures.tells old.chip (g.met.B.Bus.reaches c.args.bus.now modelled.honest).kept2 is
     (kind_of is.config c.in_ok-opening.ensures.kind)) in
     grind (arith, common_steps, told)
+
+pub returns-clause-fits : goal.returns-clause-fits
+returns-clause-fits g c =
+    λ chip small is. c.in_ok-judge_unit.ensures.fits chip small is (kind_of is.config c.in_ok-opening.ensures.kind)
