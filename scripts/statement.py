@@ -69,7 +69,7 @@ SUBJECTS = {
     "The most transactions": "nor_driver: specs/Operations nor_save: specs/Opening nor_session: specs/Bounds",
     "What a request includes": "nor_count: specs/Below nor_layout: src/ranges specs/Ranges specs/Sectors nor_call: src/request",
     "Touched and raised sectors": "nor_count: specs/Counts nor_plan: specs/Content",
-    "What a request wants": "nor_call: specs/Request nor_save: specs/Touched",
+    "What a request wants": "nor_call: specs/Request",
     "The vault": "nor_journal: src/vault specs/Vault src/mem_vault specs/MemVault",
     "The journal": "nor_journal: specs/Number specs/Text src/fault src/journal specs/Saved nor_save: specs/SavedScan",
     "The faults of a journal": "nor_journal: specs/Fault",

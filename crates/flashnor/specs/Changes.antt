@@ -8,11 +8,12 @@ use Rattle.nor_journal.specs.Saved.{JournalSaves}
 use Rattle.nor_journal.specs.Text.{Content as Journal, IsContent, text}
 use Rattle.nor_journal.specs.Vault.{IsFresh, VaultState}
 use Rattle.nor_count.specs.Counts.{sector_count}
+use Rattle.nor_call.specs.Request.{wanted}
+use Rattle.nor_plan.specs.Content.{is_touched}
 use Rattle.nor_probe.specs.Found.{Tells, most_probe}
 use Rattle.nor_probe.specs.declared.probes.ProbeFault.{ProbeFault}
 use Rattle.nor_probe.specs.declared.table.ChipName.{ChipName}
 use Rattle.nor_call.specs.Refusal.{number_of, of_probe}
-use Rattle.nor_save.specs.Touched.{is_touched_by}
 use Rattle.nor_save.specs.Saving.{head_of}
 use Rattle.nor_call.specs.declared.request.Request.{Request}
 use Rattle.nor_call.specs.declared.refusal.Refusal.{Refusal}
@@ -80,10 +81,10 @@ pub record IsRehearsed (request : Request) (image stops : List ℕ) (chip : Chip
   pub fits : SealFits request (first_allowance stops) chip rehearsal.sealed
   pub accepted : rehearsal.sealed ≡ true → IsAccepted request image chip
   pub saves : rehearsal.sealed ≡ true
-      → JournalSaves (head_of chip) chip.bytes (is_touched_by request image chip) vault.bytes
+      → JournalSaves (head_of chip) chip.bytes (is_touched chip.bytes (wanted request image chip)) vault.bytes
   -- The restores were run under the other stops in turn.
   pub restores : rehearsal.sealed ≡ true
-      → AreRestores (sector_count (is_touched_by request image chip)) (drop 1 stops) rehearsal.restores
+      → AreRestores (sector_count (is_touched chip.bytes (wanted request image chip))) (drop 1 stops) rehearsal.restores
 
 abbrev pub TellsRehearsed : Request → (image stops : List ℕ) → Chip → VaultState → Answer → Type 0
 TellsRehearsed request image stops chip vault (answer.Rehearsed rehearsal) =

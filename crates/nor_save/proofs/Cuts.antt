@@ -1,6 +1,6 @@
 -- What a vault has of a chip's journal: the head, the records, and after a refusal a beginning of it.
 use Rattle.std.proofs.Common.{◌≡◌, ◌∙◌, ℕ, true, ◌*◌, ◌/◌, ◌%◌, ◌<◌, List, [], ◌∷◌, refl, ap, sym, arith, ◌≤◌, ◌+◌}
-use Rattle.std.proofs.Common.{◌&&◌, Bool, length}
+use Rattle.std.proofs.Common.{◌&&◌, Bool, length, subst}
 use mathlib.Core.Path.{fun_ext}
 use Rattle.std.specs.Prelude.{Some, nat_lt, ◌≢◌}
 use Rattle.nor_chip.specs.declared.config.Config.{Config}
@@ -18,10 +18,11 @@ use Rattle.nor_save.specs.declared.scanning.Scanned.{Scanned}
 use Rattle.nor_call.specs.declared.request.Request.{Request}
 use Rattle.nor_call.specs.declared.refusal.Refusal.{Refusal}
 use Rattle.nor_call.specs.declared.refusal.Refusal.TheVariants.{StatusLocked, Protected, Vault}
-use Rattle.nor_save.specs.Touched.{is_touched_by, is_raised_by}
 use Rattle.nor_save.specs.Scanning.{Scans, AreRight, HoldsCut, HasKeptBelow, wanted_at}
 use Rattle.nor_save.specs.Saving.{IsOpening, Shows, ScanJudges, head_of}
 use Rattle.nor_save.specs.Judging.{IsScanRefusal}
+use Rattle.nor_save.proofs.Planned.{only_inside, touched_past, raised_past}
+use Rattle.nor_chip.proofs.Sizes.{sized_bounds}
 use Rattle.nor_save.specs.SavedScan.{SaveTells, SaveBegins, SaveCuts}
 use Rattle.std.specs.Io.{StartsWith}
 use Rattle.std.proofs.lemmas.List.{take_all, append-nil}
@@ -29,7 +30,8 @@ use Rattle.std.proofs.lemmas.Bool.Decides.{nat_tests}
 use Rattle.nor_journal.specs.Saved.{IsWholeSector}
 use Rattle.nor_journal.proofs.Saved.{next_number-empty_content, next_number-with_sector}
 use Rattle.nor_journal.proofs.WholeJournals.{one_more_below, begins_whole, front_begins}
-use Rattle.nor_plan.specs.Content.{is_touched}
+use Rattle.nor_journal.specs.Saved.{BeginsText}
+use Rattle.nor_plan.specs.Content.{is_touched, is_raised}
 use Rattle.nor_call.specs.Request.{wanted}
 
 -- ---- of a scan
@@ -82,6 +84,21 @@ cut_in_record {state = state} {writer = writer} {head = head} {chip = chip} {n =
 
 -- ---- of a chip, by what the opening and the scan tell
 
+-- its touched sectors are sectors of the chip
+abbrev touched_of : Request → (image : List ℕ) → Chip → (s : ℕ) → Bool
+touched_of request image chip = is_touched chip.bytes (wanted request image chip)
+
+only_touched : (request : Request) (image : List ℕ) (chip : Chip)
+    → (λ (s : ℕ). nat_lt s (chip.config.size / 4096) && touched_of request image chip s) ≡ touched_of request image chip
+only_touched request image chip = fun_ext (λ s. only_inside (touched_of request image chip) (chip.config.size / 4096) s
+    (touched_past request image chip.config.size chip.bytes s (sized_bounds chip.config).blocks))
+
+begins_touched : (request : Request) (image bytes : List ℕ) (chip : Chip)
+    → BeginsText (head_of chip) chip.bytes (λ s. nat_lt s (chip.config.size / 4096) && touched_of request image chip s) bytes
+    → BeginsText (head_of chip) chip.bytes (touched_of request image chip) bytes
+begins_touched request image bytes chip =
+    subst (λ (set : ℕ → Bool). BeginsText (head_of chip) chip.bytes set bytes) (only_touched request image chip)
+
 -- the kept bits of the two status bytes that were read
 abbrev pub kept_read : Opening → List ℕ
 kept_read opening = opening.found.status1 / 4 * 4 ∷ opening.status2 % 128 ∷ []
@@ -106,11 +123,14 @@ module _ {chip : Chip} {opening : Opening} {old : BusState} (is : IsOpening chip
   -- the marks are those of the request on this chip
   module _ {request : Request} {image image' : List ℕ} {new : BusState} {scanned : Scanned}
       (scans : Scans request opening.found.size image image' old new scanned) where
-    pub touched_right : (s : ℕ) → has scanned.touched s ≡ is_touched_by request image chip s
+    pub touched_right : (s : ℕ) → has scanned.touched s ≡ is_touched chip.bytes (wanted request image chip) s
     touched_right s = rw (same_bytes, is.config.size) at ((scans.right is_open).touched s)
+        ∙ ap (λ (set : ℕ → Bool). set s) (only_touched request image chip)
 
-    pub raised_right : (s : ℕ) → has scanned.raised s ≡ is_raised_by request image chip s
+    pub raised_right : (s : ℕ) → has scanned.raised s ≡ is_raised chip.bytes (wanted request image chip) s
     raised_right s = rw (same_bytes, is.config.size) at ((scans.right is_open).raised s)
+        ∙ only_inside (is_raised chip.bytes (wanted request image chip)) (chip.config.size / 4096) s
+        (raised_past request image chip.config.size chip.bytes s (sized_bounds chip.config).blocks)
 
   -- the head that is written is the chip's
   pub head_same : {status : List ℕ} → old.chip.kept.two < 128 → status ≡ kept_read opening
@@ -170,10 +190,11 @@ cut_in_head request image seen vault reaches read content holds same =
     rw (← same) (λ tells chip is shows.
     let head = head_of chip in
     let e = head_same is shows (reaches shows.honest).kept2 read in
-    begins_whole head chip.bytes (is_touched chip.bytes (wanted request image chip)) head 0 seen.bytes refl
+    begins_touched request image seen.bytes chip
+    (begins_whole head chip.bytes (touched_of request image chip) head 0 seen.bytes refl
     (Saves-none chip.bytes _ head (rw e at content) refl (λ s. grind (arith, nat_tests)))
     (omega (arith, next_number-empty_content head.id head.unique head.status head.size)) (omega arith)
-    (rw e at (holds tells)))
+    (rw e at (holds tells))))
 
 module _ {V : Type 0} {state : V → VaultState} {first : Writer V} {opening : Opening} {old : BusState}
     (request : Request) (image : List ℕ) (vault : VaultState) (puts : PutsHead state first opening old) where
@@ -182,7 +203,8 @@ module _ {V : Type 0} {state : V → VaultState} {first : Writer V} {opening : O
       HoldsCut seen head old.chip.bytes (is_touched old.chip.bytes (wanted_at request image opening.found.size
       old.chip.bytes)) (opening.found.size / 4096)) → seen ≡ vault → SaveCuts request opening image old vault
   cut_in_scan seen told same = rw (← same) (λ tells chip is shows.
-      rw (same_bytes is shows, is.config.size) at (from_head puts told chip is shows tells))
+      begins_touched request image seen.bytes chip
+      (rw (same_bytes is shows, is.config.size) at (from_head puts told chip is shows tells)))
 
   -- where the scan stops by itself
   pub begins_scan : {last : Writer V} {refusal : Refusal} → FromHead state first opening.found.size old (λ head.
@@ -196,7 +218,7 @@ module _ {V : Type 0} {state : V → VaultState} {first : Writer V} {opening : O
         content = kept.content;
         bound = below.bound;
         same = kept.same;
-        saves = Saves-same chip.bytes _ (λ s. nat_lt s below.bound && is_touched_by request image chip s) kept.content
+        saves = Saves-same chip.bytes _ (λ s. nat_lt s below.bound && is_touched chip.bytes (wanted request image chip) s) kept.content
             (λ s. grind (arith, nat_tests)) kept.saves;
         is = kept.written.put.told tells;
       })
@@ -209,7 +231,7 @@ module _ {V : Type 0} {state : V → VaultState} {first last : Writer V} {reques
     (has scanned.touched) (opening.found.size / 4096))) where
   -- the head and the records are those of the chip
   pub all_put : (chip : Chip) → IsOpening chip opening → Shows chip old → HasPutSectors state last (head_of chip)
-      chip.bytes (is_touched_by request image chip) (opening.found.size / 4096)
+      chip.bytes (is_touched chip.bytes (wanted request image chip)) (opening.found.size / 4096)
   all_put chip is shows = rw (same_bytes is shows, fun_ext (touched_right is shows scans)) at
       (from_head puts keeps chip is shows)
 
@@ -232,7 +254,7 @@ module _ {V : Type 0} {state : V → VaultState} {first last : Writer V} {reques
         content = kept.content;
         bound = chip.config.size / 4096;
         same = kept.same;
-        saves = Saves-same chip.bytes (is_touched_by request image chip) _ kept.content
-            (λ s. grind (arith, nat_tests)) kept.saves;
+        saves = Saves-same chip.bytes (is_touched chip.bytes (wanted request image chip)) _ kept.content
+            (λ s. ap (λ (set : ℕ → Bool). set s) (only_touched request image chip)) kept.saves;
         is = kept.written.put.told tells;
       })

@@ -1,9 +1,10 @@
 -- What is wanted at an address, and what a sector's plan says.
-use Rattle.std.proofs.Common.{◌≡◌, ◌<◌, ◌≤◌, ◌+◌, ◌*◌, ◌∙◌, ℕ, Bool, true, false, ◌&&◌, List, length, slice_index}
-use Rattle.std.proofs.Common.{Option, ap, sym, arith, refl, bit_and}
+use Rattle.std.proofs.Common.{◌≡◌, ◌<◌, ◌≤◌, ◌+◌, ◌*◌, ◌/◌, ◌%◌, ◌∙◌, ℕ, Bool, true, false, ◌&&◌, List, length, slice_index}
+use Rattle.std.proofs.Common.{Option, ap, sym, arith, inl, inr, refl, bit_and}
 use Rattle.std.specs.Int.Bits.{and_self}
 use Rattle.std.specs.Prelude.{if◌then◌else◌, ◌==◌, nat_lt}
-use Rattle.std.proofs.lemmas.Bool.{ne_eqb, eq-eqb, lt-ltb, not_from_false, not_from_true}
+use Rattle.std.proofs.Math.Bool.{and-false}
+use Rattle.std.proofs.lemmas.Bool.{both_ways, cases_lt, ne_eqb, eq-eqb, le-ltb, lt-ltb, not_from_false, not_from_true}
 use Rattle.nor_chip.specs.Bus.{BusState}
 use Rattle.nor_driver.specs.Ready.{StaysReady}
 use Rattle.nor_driver.specs.Reads.{ReadsSector}
@@ -64,6 +65,38 @@ pub unraised : (content aim : ℕ → ℕ) (sector : ℕ) → ((i : ℕ) → i <
 unfolding is_raised
 unraised content aim sector same = any_below-all 4096 _
     (λ i below. as_wanted _ _ (ap (bit_and (aim (4096 * sector + i))) (sym (same i below)) ∙ and_self _))
+
+-- past the end of a chip nothing is wanted otherwise, so a touched sector, or a raised one, is one of the chip
+past_kept : (request : Request) (image : List ℕ) (size : ℕ) (content : ℕ → ℕ) (s : ℕ) → size % 65536 ≡ 0 → size / 4096 ≤ s
+    → (i : ℕ) → i < 4096 → wanted_at request image size content (4096 * s + i) ≡ content (4096 * s + i)
+past_kept request image size content s blocks past i below =
+    let beyond = le-ltb (4096 * s + i) size (omega arith) in
+    wanted-kept request image size content (4096 * s + i) (rw beyond (and-false (is_data request.what)))
+
+pub only_inside : (marks : ℕ → Bool) (n s : ℕ) → (n ≤ s → marks s ≡ false) → (nat_lt s n && marks s) ≡ marks s
+only_inside marks n s past = elim (cases_lt s n) [
+  | inl below ↦ rw (lt-ltb s n below) refl
+  | inr beyond ↦ rw (past beyond) (and-false (nat_lt s n))
+]
+
+pub inside_from : (marks : ℕ → Bool) (n s : ℕ) → (n ≤ s → marks s ≡ false) → marks s ≡ true → s < n
+inside_from marks n s past hit = elim (cases_lt s n) [
+  | inl below ↦ below
+  | inr beyond ↦ absurd (both_ways (marks s) (past beyond) hit)
+]
+
+module _ (request : Request) (image : List ℕ) (size : ℕ) (content : ℕ → ℕ) (s : ℕ) (blocks : size % 65536 ≡ 0) where
+  pub touched_past : size / 4096 ≤ s → is_touched content (wanted_at request image size content) s ≡ false
+  touched_past past = untouched _ _ s (past_kept request image size content s blocks past)
+
+  pub raised_past : size / 4096 ≤ s → is_raised content (wanted_at request image size content) s ≡ false
+  raised_past past = unraised _ _ s (past_kept request image size content s blocks past)
+
+  pub touched_inside : is_touched content (wanted_at request image size content) s ≡ true → s < size / 4096
+  touched_inside = inside_from (is_touched content (wanted_at request image size content)) (size / 4096) s touched_past
+
+  pub raised_inside : is_raised content (wanted_at request image size content) s ≡ true → s < size / 4096
+  raised_inside = inside_from (is_raised content (wanted_at request image size content)) (size / 4096) s raised_past
 
 -- the image's byte, or FFh, is the target
 pub target-write : (what : What) (image : List ℕ) (a : ℕ) → is_data what ≡ true → (what ≡ Erase → ⊥) → slice_index image a ≡ target what image a

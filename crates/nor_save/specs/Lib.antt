@@ -1,4 +1,3 @@
-pub mod Touched
 pub mod Scanning
 pub mod Opening
 pub mod Judging

@@ -4,6 +4,7 @@ use Rattle.nor_journal.specs.Text.{Content, IsContent, SameHead, front, text}
 use Rattle.nor_chip.specs.Chip.{Chip}
 use Rattle.nor_chip.specs.Bus.{BusState}
 use Rattle.nor_driver.specs.Looks.{RanOutIfHonest}
+use Rattle.nor_plan.specs.Content.{is_touched, is_raised}
 use Rattle.nor_journal.specs.Saved.{Saves, JournalSaves, BeginsText, is_saved}
 use Rattle.nor_journal.specs.Vault.{VaultState, Refused, Completed, Accepted}
 use Rattle.nor_plan.specs.SectorSet.{has}
@@ -13,7 +14,6 @@ use Rattle.nor_call.specs.declared.request.Request.{Request}
 use Rattle.nor_call.specs.declared.refusal.Refusal.{Refusal}
 use Rattle.nor_call.specs.declared.refusal.Refusal.TheVariants.{StatusLocked, Protected, Vault, Stopped}
 use Rattle.nor_call.specs.Request.{wanted, scanned_sectors}
-use Rattle.nor_save.specs.Touched.{is_touched_by, is_raised_by}
 use Rattle.nor_save.specs.Scanning.{Scans}
 use Rattle.nor_save.specs.Judging.{Lifts}
 use Rattle.nor_save.specs.Saving.{IsOpening, Shows, ScanAccepts, ScanJudges, head_of}
@@ -48,13 +48,13 @@ HoldsJournal vault = vault.sealed ≡ true → vault.telling ≡ true → IsJour
 -- these.
 pub record HasSavedChip (request : Request) (code : ℕ) (image image' : List ℕ)
     (chip : Chip) (vault : VaultState) (saved : SavedScan) : Type 0 where
-  pub touched : (s : ℕ) → has saved.scanned.touched s ≡ is_touched_by request image chip s
-  pub raised : (s : ℕ) → has saved.scanned.raised s ≡ is_raised_by request image chip s
-  pub accepts : ScanAccepts request code (is_touched_by request image chip) chip saved.unlock
+  pub touched : (s : ℕ) → has saved.scanned.touched s ≡ is_touched chip.bytes (wanted request image chip) s
+  pub raised : (s : ℕ) → has saved.scanned.raised s ≡ is_raised chip.bytes (wanted request image chip) s
+  pub accepts : ScanAccepts request code (is_touched chip.bytes (wanted request image chip)) chip saved.unlock
   pub merged : (a : ℕ) → has saved.scanned.touched (a / 4096) ≡ true
       → slice_index image' a ≡ wanted request image chip a
   pub journal : vault.telling ≡ true
-      → JournalSaves (head_of chip) chip.bytes (is_touched_by request image chip) vault.bytes
+      → JournalSaves (head_of chip) chip.bytes (is_touched chip.bytes (wanted request image chip)) vault.bytes
 
 -- The touched sectors are known, may be changed, and stand in the journal.
 pub record HasSaved (request : Request) (opening : Opening) (code : ℕ) (image image' : List ℕ)
@@ -68,7 +68,7 @@ pub record HasSaved (request : Request) (opening : Opening) (code : ℕ) (image 
 abbrev pub JudgesChip : Request → Opening → ℕ → List ℕ → BusState → Refusal → Type 0
 JudgesChip request opening code image old refusal =
     (chip : Chip) → IsOpening chip opening → Shows chip old
-    → ScanJudges request code (is_touched_by request image chip) chip refusal
+    → ScanJudges request code (is_touched chip.bytes (wanted request image chip)) chip refusal
 
 abbrev pub SaveTells : Request → Opening → ℕ → List ℕ → (old new : BusState) → Refusal → Type 0
 SaveTells request opening code image old new Stopped =
@@ -92,10 +92,10 @@ pub record BeginsJournal (head : Content) (chip : ℕ → ℕ) (touched : ℕ �
 abbrev pub SaveCuts : Request → Opening → List ℕ → BusState → VaultState → Type 0
 SaveCuts request opening image old vault = vault.telling ≡ true
     → (chip : Chip) → IsOpening chip opening → Shows chip old
-    → BeginsText (head_of chip) chip.bytes (is_touched_by request image chip) vault.bytes
+    → BeginsText (head_of chip) chip.bytes (is_touched chip.bytes (wanted request image chip)) vault.bytes
 
 -- what a telling vault has after a refusal that isn't its own
 abbrev pub SaveBegins : Request → Opening → List ℕ → BusState → VaultState → Refusal → Type 0
 SaveBegins request opening image old vault refusal = refusal ≢ Vault → vault.telling ≡ true
     → (chip : Chip) → IsOpening chip opening → Shows chip old
-    → BeginsJournal (head_of chip) chip.bytes (is_touched_by request image chip) vault.bytes
+    → BeginsJournal (head_of chip) chip.bytes (is_touched chip.bytes (wanted request image chip)) vault.bytes

@@ -2,12 +2,13 @@
 use Rattle.std.proofs.Common.{◌≡◌, ◌∙◌, ℕ, List, sym, inl, inr}
 use Rattle.nor_chip.specs.Bus.{BusState}
 use Rattle.nor_chip.specs.Chip.{IsChip, IsSame}
+use Rattle.nor_call.specs.Request.{wanted}
+use Rattle.nor_plan.specs.Content.{is_touched}
 use Rattle.nor_journal.specs.Text.{Content, IsContent, text}
 use Rattle.nor_journal.proofs.WholeJournals.{never_empty, begins_all_of_it}
 use Rattle.nor_apply.proofs.Changing.{same_within}
 use Rattle.nor_call.specs.declared.request.Request.{Request}
 use Rattle.nor_probe.specs.Known.{IsModelled}
-use Rattle.nor_save.specs.Touched.{is_touched_by}
 use Rattle.nor_save.specs.Saving.{head_of}
 use Rattle.nor_session.specs.Headline.{CanGiveBack, open_places}
 use Rattle.nor_session.specs.Session.{HoldsBegun}
@@ -18,9 +19,9 @@ pub begun_back : (request : Request) (image : List ℕ) (old new : BusState) (by
     → IsContent journal → bytes ≡ text journal → IsSame old.chip new.chip → new.chip.busy ≡ 0 → CanGiveBack journal old.chip new
 begun_back request image old new bytes journal modelled chip (inl none) is read same idle = absurd (never_empty journal (sym read ∙ none))
 begun_back request image old new bytes journal modelled chip (inr begun) is read same idle =
-    let told = begins_all_of_it (head_of old.chip) old.chip.bytes (is_touched_by request image old.chip) bytes journal begun.1 is read in
+    let told = begins_all_of_it (head_of old.chip) old.chip.bytes (is_touched old.chip.bytes (wanted request image old.chip)) bytes journal begun.1 is read in
     record {
       known = record { genuine = modelled.genuine; shown = rw begun.0.shown };
-      saves = saves_chip old.chip (is_touched_by request image old.chip) journal chip.kept2 told.0 told.1;
+      saves = saves_chip old.chip (is_touched old.chip.bytes (wanted request image old.chip)) journal chip.kept2 told.0 told.1;
       within = same_within (open_places journal old.chip) old.chip new same idle;
     }

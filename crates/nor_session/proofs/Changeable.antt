@@ -24,10 +24,11 @@ use Rattle.nor_call.specs.declared.refusal.Refusal.TheVariants.{StatusLocked}
 use Rattle.nor_save.specs.Opening.{Opens, most_opening}
 use Rattle.nor_save.specs.Saving.{IsOpening}
 use Rattle.nor_driver.proofs.RestsInTurn.{rested_then}
+use Rattle.nor_plan.specs.Content.{is_touched, is_raised}
 use Rattle.nor_probe.specs.Known.{IsModelled}
 use Rattle.nor_session.specs.Changing.{touched_count}
-use Rattle.nor_session.specs.Restore.{restored, is_touched_from, is_raised_from, NeedsStatusFrom}
-use Rattle.nor_session.specs.Prepare.{Fits, IsOfKindFound, FitsOpening, PrepareTells, ScansSaved, AreChanges, MayChangeStatus, IsShut, IsPreparedFor, IsPrepared}
+use Rattle.nor_session.specs.Restore.{restored, NeedsStatusFrom}
+use Rattle.nor_session.specs.Prepare.{NeedsStatusWith, Fits, IsOfKindFound, FitsOpening, PrepareTells, ScansSaved, AreChanges, MayChangeStatus, IsShut, IsPreparedFor, IsPrepared}
 use Rattle.nor_save.proofs.Held.{code_same}
 use Rattle.nor_session.proofs.Changed.{writes_other}
 use Rattle.nor_session.proofs.JudgedStatus.{held_scheme, free_place, writable_for}
@@ -54,8 +55,8 @@ module _ {journal : Content} {opening : Opening} {scanned : Scanned} {old mid ne
 
   -- the marks are those of the chip as it was
   marks_old : IsModelled old
-      → (has scanned.touched ≡ is_touched_from journal old.chip)
-      × (has scanned.raised ≡ is_raised_from journal old.chip)
+      → (has scanned.touched ≡ is_touched old.chip.bytes (restored journal old.chip.bytes))
+      × (has scanned.raised ≡ is_raised old.chip.bytes (restored journal old.chip.bytes))
   marks_old modelled =
       let same = (read.opens.rested modelled.honest).unchanged.same in
       let is = opening_of modelled read.opens in
@@ -80,7 +81,7 @@ module _ {journal : Content} {opening : Opening} {scanned : Scanned} {old mid ne
 
 -- without block protection no status write is needed
 scheme_for : (journal : Content) (touched : ℕ → Bool) (chip : Chip) → Fits journal chip
-    → NeedsStatusFrom journal touched chip → chip.config.scheme ≡ true
+    → NeedsStatusWith journal touched chip → chip.config.scheme ≡ true
 scheme_for journal touched chip fits (inr some) = held_scheme touched chip some
 scheme_for journal touched chip fits (inl differs) =
     true_from_ne_false chip.config.scheme (λ none. differs (ap code_of (fits.fixed.all none)))
@@ -104,16 +105,16 @@ module _ {journal : Content} {opening : Opening} {scanned : Scanned} {changes : 
       let fits = read.fits old.chip (read.small modelled.honest) is in
       let content = old.chip.bytes in let aim = restored journal content in
       let marks = marks_old read modelled in
-      let touched : (s : ℕ) → has changes.touched s ≡ is_touched_from journal old.chip s
+      let touched : (s : ℕ) → has changes.touched s ≡ is_touched old.chip.bytes (restored journal old.chip.bytes) s
       = λ s. ap (λ (set : ℕ → Bool). set s) (ap has are.touched ∙ marks.0) in
-      let raised : (s : ℕ) → has changes.raised s ≡ is_raised_from journal old.chip s
+      let raised : (s : ℕ) → has changes.raised s ≡ is_raised old.chip.bytes (restored journal old.chip.bytes) s
       = λ s. ap (λ (set : ℕ → Bool). set s) (ap has are.raised ∙ marks.1) in
       let may = rw marks.0 at (judged old.chip is) in
       let same = (rested_all read modelled.honest).unchanged.same in
       let status : code_of (kept_in (bytes_of changes.status)) ≡ code_of old.chip.kept
       = rw (are.one, are.two) (code_same is) in
       let needed : (changes.unlock || writes_code changes) ≡ true
-      → NeedsStatusFrom journal (is_touched_from journal old.chip) old.chip
+      → NeedsStatusFrom journal old.chip
       = λ writes. elim (cases_Bool changes.unlock) [
         | inl lifted ↦ inr (may.lifts lifted)
         | inr off ↦ inl (λ same. writes_other changes off writes (status ∙ same ∙ sym are.code))

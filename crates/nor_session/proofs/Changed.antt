@@ -16,7 +16,6 @@ use Rattle.nor_apply.specs.declared.changes.Changes.{Changes}
 use Rattle.nor_apply.specs.declared.changes.Work.{Work}
 use Rattle.nor_apply.specs.Applying.{touched_in, raised_in, status_writes, writes_code, most_applied, HasApplied, LeavesApply, DoesApply}
 use Rattle.nor_apply.proofs.ApplyingExits.{raised_few}
-use Rattle.nor_session.specs.Made.{AreFewestErases}
 use Rattle.nor_session.specs.Changing.{touched_count, DoesCheck, DoesChange}
 
 -- ---- how much they take
@@ -48,7 +47,7 @@ fits_work changes wanted old new work inside does =
 
 -- as many as are planned are the fewest
 pub fewest_at : (config : Config) (sectors : ℕ → Bool) (count : ℕ) → ((s : ℕ) → sectors s ≡ true → s < config.size / 4096)
-    → count ≡ fewest_erases config.kinds (config.size / 4096) sectors → AreFewestErases config sectors count
+    → count ≡ fewest_erases config.kinds (config.size / 4096) sectors → IsLeastLength config.kinds (config.size / 4096) sectors count
 fewest_at config sectors count below is =
     let most = (sized_bounds config).small in
     subst (IsLeastLength config.kinds (config.size / 4096) sectors) (sym is) (fewest_least config.kinds (config.size / 4096) sectors (omega arith) below)

@@ -17,6 +17,8 @@ use Rattle.nor_chip.proofs.Guarded.{is_guarded-end, is_guarded-past, is_guarded-
 use Rattle.nor_driver.specs.Looks.{IsCalm, LooksHonest}
 use Rattle.nor_driver.specs.Reads.{id_of}
 use Rattle.nor_driver.specs.StatusWrites.{fixed_of}
+use Rattle.nor_call.specs.Request.{wanted}
+use Rattle.nor_plan.specs.Content.{is_touched}
 use Rattle.nor_journal.specs.Text.{Content}
 use Rattle.nor_journal.specs.Saved.{is_saved}
 use Rattle.nor_journal.proofs.Saves.{saved_byte-is}
@@ -32,7 +34,7 @@ use Rattle.nor_call.specs.declared.refusal.Refusal.{Refusal}
 use Rattle.nor_call.specs.declared.refusal.Refusal.TheVariants.{NoChip, UnknownChip, StatusLocked, Stopped, OtherChip, OtherUnit, StatusDiffers}
 use Rattle.nor_save.specs.Saving.{SomeHeld}
 use Rattle.nor_session.specs.Headline.{SavesChip, open_places, CanGiveBack}
-use Rattle.nor_session.specs.Restore.{restored, is_touched_from, FitsStatus, RestoreTells}
+use Rattle.nor_session.specs.Restore.{restored, FitsStatus, RestoreTells}
 use Rattle.nor_session.proofs.Rescanned.{restored_saved, restored_other}
 use Rattle.nor_session.proofs.RestoredBytes.{touched_byte, touched_saved}
 
@@ -93,13 +95,13 @@ guarded_same chip a b genuine sector =
 -- ---- a touched sector may differ from the first chip
 
 pub touched_open : (journal : Content) (first chip : Chip) (a : ℕ) → IsKnown first.config → SavesChip journal first → ((b : ℕ) → open_places journal first b ≡ false → chip.bytes b ≡ first.bytes b)
-    → is_touched_from journal chip (a / 4096) ≡ true → open_places journal first a ≡ true
+    → is_touched chip.bytes (restored journal chip.bytes) (a / 4096) ≡ true → open_places journal first a ≡ true
 touched_open journal first chip a known saves same touched =
     search (arith, guarded_same, saved_byte-is, touched_byte, touched_saved)
 
 -- changes of such sectors keep a chip within
 pub change_within : (journal : Content) (first : Chip) (touched raised : ℕ → Bool) (wanted : ℕ → ℕ) (old mid new : BusState) → CanGiveBack journal first old → IsWithin (open_places journal first) first mid
-    → ((s : ℕ) → touched s ≡ is_touched_from journal old.chip s) → MayChange touched raised wanted mid new → IsWithin (open_places journal first) first new
+    → ((s : ℕ) → touched s ≡ is_touched old.chip.bytes (restored journal old.chip.bytes) s) → MayChange touched raised wanted mid new → IsWithin (open_places journal first) first new
 change_within journal first touched raised wanted old mid new can within right change =
     within_then (open_places journal first) first mid new within
     (within_wider (places_of touched) (open_places journal first) mid.chip new
@@ -129,10 +131,10 @@ code_locked journal first chip bits stay = ap code_of (stay ∙ bits)
 
 -- and none of its touched sectors is guarded
 free_held : (journal : Content) (first chip : Chip) → IsKnown first.config → SavesChip journal first → chip.config ≡ first.config → chip.kept ≡ first.kept → is_locked first.kept ≡ true
-    → ((b : ℕ) → open_places journal first b ≡ false → chip.bytes b ≡ first.bytes b) → ¬ SomeHeld (is_touched_from journal chip) chip
+    → ((b : ℕ) → open_places journal first b ≡ false → chip.bytes b ≡ first.bytes b) → ¬ SomeHeld (is_touched chip.bytes (restored journal chip.bytes)) chip
 free_held journal first chip known saves config stay locked same some =
     let s = some.sector in
-    let (touched, held) = and_parts (is_touched_from journal chip s) (is_unit_guarded chip (4096 * s) 4096) some.held in
+    let (touched, held) = and_parts (is_touched chip.bytes (restored journal chip.bytes) s) (is_unit_guarded chip (4096 * s) 4096) some.held in
     let shut : (a : ℕ) → a / 4096 ≡ s → is_guarded chip a ≡ true → ⊥ = λ a sector guarded.
     let is_open = touched_open journal first chip a known saves same (rw sector touched) in
     let there = sym (is_guarded-same first chip config stay a) ∙ guarded in

@@ -1,14 +1,17 @@
 -- A journal that a session kept can give its chip back.
 use Rattle.std.proofs.Common.{◌≡◌, ◌<◌, ◌/◌, ◌∙◌, ℕ, Bool, true, false, List, [], ◌∷◌, ◌*◌, ap, sym, arith}
 use Rattle.std.specs.Prelude.{◌&&◌, not}
-use Rattle.std.proofs.lemmas.Bool.{and_parts, and_from, both_ways, false_from_ne_true, ltb-true}
+use Rattle.std.proofs.lemmas.Bool.{and_parts, and_from, both_ways, false_from_ne_true}
 use Rattle.nor_chip.specs.Chip.{Chip, IsChip, is_locked, kept_in}
 use Rattle.nor_chip.proofs.Kept.{kept_same}
 use Rattle.nor_chip.specs.Guard.{is_guarded}
 use Rattle.nor_chip.specs.Bus.{BusState}
+use Rattle.nor_save.proofs.Planned.{touched_inside}
 use Rattle.nor_chip.proofs.Sizes.{sized_bounds}
 use Rattle.nor_chip.proofs.Guarded.{is_guarded-sector}
 use Rattle.nor_driver.specs.Looks.{Looks}
+use Rattle.nor_call.specs.Request.{wanted}
+use Rattle.nor_plan.specs.Content.{is_touched}
 use Rattle.nor_journal.specs.Text.{Content, SameHead}
 use Rattle.nor_journal.specs.Vault.{VaultState}
 use Rattle.nor_journal.specs.Saved.{Saves, is_saved}
@@ -17,7 +20,6 @@ use Rattle.nor_probe.specs.Known.{IsGenuine, IsModelled}
 use Rattle.nor_apply.specs.Within.{places_of}
 use Rattle.nor_apply.proofs.Changing.{within_wider}
 use Rattle.nor_call.specs.declared.request.Request.{Request}
-use Rattle.nor_save.specs.Touched.{is_touched_by}
 use Rattle.nor_save.specs.Saving.{head_of}
 use Rattle.nor_session.specs.Headline.{SavesChip, open_places, CanGiveBack, KeepsFirst}
 use Rattle.nor_session.specs.Session.{CanBeUndone}
@@ -55,7 +57,7 @@ can_give_back saved first text state journal leads read = record {
 
 -- What a session leaves where its vault is sealed leads back.
 pub leads_back : (request : Request) (image : List ℕ) (old new : BusState) (vault : VaultState) → IsChip old.chip → IsGenuine old.chip.config → vault.telling ≡ true
-    → CanBeUndone request image old new vault → LeadsBack (is_touched_by request image old.chip) old.chip vault.bytes new
+    → CanBeUndone request image old new vault → LeadsBack (is_touched old.chip.bytes (wanted request image old.chip)) old.chip vault.bytes new
 leads_back request image old new vault is genuine telling undone = record {
   is = is;
   known = record {
@@ -63,7 +65,8 @@ leads_back request image old new vault is genuine telling undone = record {
     shown = rw (accepted_named request image old.chip undone.accepted).shown;
   };
   journal = undone.journal telling;
-  inside = λ s touched. ltb-true s _ (and_parts _ _ touched).0;
+  inside = λ s touched.
+      touched_inside request image old.chip.config.size old.chip.bytes s (sized_bounds old.chip.config).blocks touched;
   free = accepted_free request image old.chip undone.accepted;
   within = undone.changes.within;
 }

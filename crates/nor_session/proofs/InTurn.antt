@@ -7,11 +7,12 @@ use Rattle.nor_journal.specs.Text.{Content}
 use Rattle.nor_journal.proofs.Saves.{saved_byte-is}
 use Rattle.nor_driver.proofs.LooksInTurn.{same_then}
 use Rattle.nor_count.proofs.Counting.{count_below-none}
+use Rattle.nor_plan.specs.Content.{is_touched, is_raised}
 use Rattle.nor_call.specs.declared.report.Report.{Report}
 use Rattle.nor_call.specs.declared.request.Request.{Request}
 use Rattle.nor_save.proofs.Planned.{untouched, unraised}
 use Rattle.nor_session.specs.Headline.{SavesChip, open_places, CanGiveBack}
-use Rattle.nor_session.specs.Restore.{restored, is_touched_from, is_raised_from, NeedsStatusFrom, IsRestored}
+use Rattle.nor_session.specs.Restore.{restored, NeedsStatusFrom, IsRestored}
 use Rattle.nor_session.specs.InTurn.{LeavesJournal, IsTakenUp, ChangesNothing}
 use Rattle.nor_session.proofs.GivenBack.{given_back}
 use Rattle.nor_session.proofs.WrittenBack.{read_back, session_over}
@@ -22,13 +23,13 @@ use Rattle.nor_session.proofs.WrittenBack.{read_back, session_over}
 as_saved : (journal : Content) (first chip : Chip) (a : ℕ) → SavesChip journal first → IsSame first chip → restored journal chip.bytes a ≡ chip.bytes a
 as_saved journal first chip a saves same = search (arith, saved_byte-is)
 
-none_touched : (journal : Content) (first chip : Chip) (s : ℕ) → SavesChip journal first → IsSame first chip → is_touched_from journal chip s ≡ false
+none_touched : (journal : Content) (first chip : Chip) (s : ℕ) → SavesChip journal first → IsSame first chip → is_touched chip.bytes (restored journal chip.bytes) s ≡ false
 none_touched journal first chip s saves same = search (arith, as_saved, untouched)
 
-none_raised : (journal : Content) (first chip : Chip) (s : ℕ) → SavesChip journal first → IsSame first chip → is_raised_from journal chip s ≡ false
+none_raised : (journal : Content) (first chip : Chip) (s : ℕ) → SavesChip journal first → IsSame first chip → is_raised chip.bytes (restored journal chip.bytes) s ≡ false
 none_raised journal first chip s saves same = search (arith, as_saved, unraised)
 
-never_needed : (journal : Content) (first chip : Chip) → SavesChip journal first → IsSame first chip → ¬ NeedsStatusFrom journal (is_touched_from journal chip) chip
+never_needed : (journal : Content) (first chip : Chip) → SavesChip journal first → IsSame first chip → ¬ NeedsStatusFrom journal chip
 never_needed journal first chip saves same (inl differs) = search arith
 never_needed journal first chip saves same (inr held) = search (arith, and_parts, both_ways, none_touched)
 
@@ -49,7 +50,7 @@ changes_nothing journal first old new report saves same done =
       erases = omega arith;
       programs = done.reported.programs
           ∙ count_below-none 65536 _
-          (λ page below. and_left (is_touched_from journal old.chip (page / 16)) _ (untouched (page / 16)));
+          (λ page below. and_left (is_touched old.chip.bytes (restored journal old.chip.bytes) (page / 16)) _ (untouched (page / 16)));
       spares = never;
     }
 

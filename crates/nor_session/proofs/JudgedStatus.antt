@@ -11,7 +11,7 @@ use Rattle.nor_save.specs.Saving.{IsLeastHeld, NoneHeld, SomeHeld, is_held}
 use Rattle.nor_apply.specs.Within.{is_writable}
 use Rattle.nor_driver.specs.StatusWrites.{fixed_of}
 use Rattle.nor_apply.proofs.Kept.{writable_same}
-use Rattle.nor_session.specs.Restore.{NeedsStatusFrom}
+use Rattle.nor_session.specs.Prepare.{NeedsStatusWith}
 
 pub some_held : (found : Option ℕ) (touched : ℕ → Bool) (chip : Chip) → MatchOption found (NoneHeld touched chip) (IsLeastHeld touched chip) → is_some found ≡ true → SomeHeld touched chip
 some_held (Some s) touched chip held is = record { sector = s; held = held.is }
@@ -23,7 +23,7 @@ some_or_none None touched chip held = inr held
 
 -- no status write is needed
 pub none_needed : (journal : Content) (touched : ℕ → Bool) (chip : Chip) (found : Option ℕ) → MatchOption found (NoneHeld touched chip) (IsLeastHeld touched chip) → is_some found ≡ false
-    → code_of chip.kept ≡ code_of (kept_in journal.status) → ¬ NeedsStatusFrom journal touched chip
+    → code_of chip.kept ≡ code_of (kept_in journal.status) → ¬ NeedsStatusWith journal touched chip
 none_needed journal touched chip (Some s) held is code needs = absurd cc
 none_needed journal touched chip None held is code (inl differs) = differs code
 none_needed journal touched chip None held is code (inr some) =

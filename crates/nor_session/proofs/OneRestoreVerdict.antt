@@ -11,7 +11,7 @@ use Rattle.nor_call.specs.declared.refusal.Refusal.TheVariants.{NoChip, UnknownC
 use Rattle.nor_call.specs.Refusal.{number_of}
 use Rattle.nor_session.specs.Verdict.{IsNamed}
 use Rattle.nor_session.specs.Headline.{IsOfKind}
-use Rattle.nor_session.specs.Restore.{is_touched_from, IsOfOtherUnit, FitsStatus, NeedsStatusFrom, RestoreHolds, judged_in_turn, place_in, IsRestoreVerdict, IsRestorable}
+use Rattle.nor_session.specs.Restore.{IsOfOtherUnit, FitsStatus, NeedsStatusFrom, RestoreHolds, judged_in_turn, place_in, IsRestoreVerdict, IsRestorable}
 use Rattle.nor_session.specs.Prepare.{RestoreJudges, RestoreAccepts}
 
 -- None of the refusals before this place holds.
@@ -21,7 +21,7 @@ record IsClear (journal : Content) (chip : Chip) (n : ℕ) : Type 0 where
   kind : 2 < n → IsOfKind journal chip.config
   unit : 3 < n → ¬ IsOfOtherUnit journal chip.config
   fixed : 4 < n → FitsStatus journal chip
-  writable : 5 < n → is_locked chip.kept ≡ true → ¬ NeedsStatusFrom journal (is_touched_from journal chip) chip
+  writable : 5 < n → is_locked chip.kept ≡ true → ¬ NeedsStatusFrom journal chip
 
 module _ {journal : Content} {chip : Chip} where
   none_before : {n : ℕ} (other : Refusal) → IsClear journal chip n → place_in judged_in_turn (number_of other) < n

@@ -4,6 +4,7 @@ use Rattle.std.proofs.Common.{◌≡◌, ◌≢◌, ◌<◌, ◌∙◌, ℕ, Boo
 use Rattle.nor_chip.specs.Chip.{Chip, is_locked}
 use Rattle.nor_chip.specs.Guard.{code_of, is_undefined}
 use Rattle.nor_chip.specs.Offer.{IsLeastCode}
+use Rattle.nor_plan.specs.Content.{is_touched}
 use Rattle.nor_layout.specs.Sectors.{ReachesPast}
 use Rattle.nor_probe.specs.declared.probes.ProbeFault.TheVariants as Probes
 use Rattle.nor_probe.specs.declared.sfdp.SfdpFault.{SfdpFault}
@@ -14,8 +15,7 @@ use Rattle.nor_call.specs.declared.request.What.TheVariants.{WpRange}
 use Rattle.nor_call.specs.declared.refusal.Refusal.{Refusal}
 use Rattle.nor_call.specs.declared.refusal.Refusal.TheVariants.{NoChip, UnknownChip, OtherName, ImageSize, RegionOutside, NoProtection, UndefinedProtection, RangeNotOffered, StatusLocked, Protected}
 use Rattle.nor_call.specs.Refusal.{number_of}
-use Rattle.nor_call.specs.Request.{is_data, IsWantedCode}
-use Rattle.nor_save.specs.Touched.{is_touched_by}
+use Rattle.nor_call.specs.Request.{is_data, IsWantedCode, wanted}
 use Rattle.nor_save.specs.Saving.{OpeningJudges, OpeningAccepts, ScanJudges, ScanAccepts, AsksForNone, NeedsStatus, NoneHeld}
 use Rattle.nor_session.specs.Verdict.{IsNamed, NeedsStatusWrite, RefusalHolds, IsVerdict, IsAccepted}
 
@@ -56,7 +56,7 @@ pub record IsClear (request : Request) (image : List ℕ) (chip : Chip) (n : ℕ
   pub defined : 7 < n → chip.config.scheme ≡ true → is_undefined (code_of chip.kept) ≡ false
   pub offered : 8 < n → ¬ AsksForNone request.what chip
   pub writable : 9 < n → is_locked chip.kept ≡ true → ¬ NeedsStatusWrite request image chip
-  pub free : 10 < n → request.unlock ≡ false → NoneHeld (is_touched_by request image chip) chip
+  pub free : 10 < n → request.unlock ≡ false → NoneHeld (is_touched chip.bytes (wanted request image chip)) chip
 
 number_few : (refusal : Refusal) → number_of refusal < 21
 number_few NoChip = omega arith
@@ -102,8 +102,8 @@ module _ {request : Request} {image : List ℕ} {chip : Chip} where
   -- what is clear where the opening accepts the request
   scanned : {code n : ℕ} → IsNamed request.named chip.config → OpeningAccepts request (length image) chip code
       → (9 < n → is_locked chip.kept ≡ true
-      → ¬ NeedsStatus request.what request.unlock code (is_touched_by request image chip) chip)
-      → (10 < n → request.unlock ≡ false → NoneHeld (is_touched_by request image chip) chip)
+      → ¬ NeedsStatus request.what request.unlock code (is_touched chip.bytes (wanted request image chip)) chip)
+      → (10 < n → request.unlock ≡ false → NoneHeld (is_touched chip.bytes (wanted request image chip)) chip)
       → IsClear request image chip n
   scanned {code = code} named accepts writable free =
       let offered = λ (none : AsksForNone request.what chip).
@@ -114,7 +114,7 @@ module _ {request : Request} {image : List ℕ} {chip : Chip} where
 
   pub scan_judged : {code : ℕ} (refusal : Refusal) → IsNamed request.named chip.config
       → OpeningAccepts request (length image) chip code
-      → ScanJudges request code (is_touched_by request image chip) chip refusal → IsVerdict request image chip refusal
+      → ScanJudges request code (is_touched chip.bytes (wanted request image chip)) chip refusal → IsVerdict request image chip refusal
   scan_judged {code = code} StatusLocked named accepts judges =
       first_of StatusLocked (scanned named accepts (omega arith) (λ past. absurd (omega arith)))
       (judges.0, (code, accepts.is_wanted, judges.1))
@@ -128,7 +128,7 @@ never_lifted : (unlock lifted : Bool) → (lifted ≡ true → unlock ≡ true) 
 never_lifted unlock lifted asked off = grind arith
 
 pub scan_accepted : (request : Request) (image : List ℕ) (chip : Chip) (code : ℕ) (lifted : Bool) → IsNamed request.named chip.config → OpeningAccepts request (length image) chip code
-    → ScanAccepts request code (is_touched_by request image chip) chip lifted → IsAccepted request image chip
+    → ScanAccepts request code (is_touched chip.bytes (wanted request image chip)) chip lifted → IsAccepted request image chip
 scan_accepted request image chip code lifted named accepts scan refusal =
     none_below refusal (scanned named accepts (λ past. scan.not_locked)
     (λ past shut. scan.free (never_lifted request.unlock lifted (λ on. (scan.lifts on).0) shut))) (number_few refusal)

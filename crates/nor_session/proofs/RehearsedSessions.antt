@@ -5,6 +5,7 @@ use Rattle.std.proofs.lemmas.Bool.{true≢false, cases_Bool}
 use Rattle.nor_chip.specs.Chip.{Chip, IsChip, IsSame}
 use Rattle.nor_chip.specs.Bus.{BusState, Allows}
 use Rattle.nor_chip.proofs.Nature.{nature_then}
+use Rattle.nor_plan.specs.Content.{is_touched}
 use Rattle.nor_journal.specs.Vault.{VaultState}
 use Rattle.nor_call.specs.declared.request.Request.{Request}
 use Rattle.nor_call.specs.declared.report.Report.{Report}
@@ -12,7 +13,6 @@ use Rattle.nor_call.specs.declared.refusal.Refusal.{Refusal}
 use Rattle.nor_call.specs.declared.refusal.Refusal.TheVariants.{Vault, Stopped}
 use Rattle.nor_call.specs.Refusal.{number_of}
 use Rattle.nor_call.specs.Request.{wanted, scanned_sectors}
-use Rattle.nor_save.specs.Touched.{is_touched_by, is_raised_by}
 use Rattle.nor_save.specs.SavedScan.{IsJournal}
 use Rattle.nor_probe.specs.Known.{IsModelled}
 use Rattle.nor_probe.proofs.Configs.{shown_config}
@@ -30,11 +30,6 @@ use Rattle.nor_session.proofs.RehearsedRestores.{modelled_at, no_halt}
 
 -- ---- the session
 
--- a sector that isn't touched isn't raised
-untouched_unraised_by : (request : Request) (image : List ℕ) (chip : Chip) (s : ℕ) → is_touched_by request image chip s ≡ false → is_raised_by request image chip s ≡ false
-untouched_unraised_by request image chip s none =
-    let low = untouched_unraised chip.bytes (wanted request image chip) s in grind arith
-
 -- an answer of the session that isn't a stop is that of the rehearsal
 told : (request : Request) (image : List ℕ) (old new : BusState) (before after : VaultState) (refusal : Refusal) → (refusal ≡ Stopped → ⊥)
     → SessionTells request image old new before after refusal → RehearsalTells request image old.chip before after refusal
@@ -49,7 +44,7 @@ early request image old new before after Vault tells = (omega arith, λ same. sa
 early request image old new before after _ tells = search (arith, tells.holds)
 
 can_end : (request : Request) (image : List ℕ) (n : ℕ) (chip : Chip) → IsAccepted request image chip → (erases : ℕ)
-    → AreFewestErases chip.config (is_raised_by request image chip) erases → least_needed request image chip erases ≤ n
+    → AreFewestErases chip.config chip.bytes (wanted request image chip) erases → least_needed request image chip erases ≤ n
     → CanEnd request image n chip
 can_end request image n chip accepted erases fewest enough =
     record { accepted = accepted; erases = erases; fewest = fewest; enough = enough }
@@ -77,7 +72,7 @@ module _ {n : ℕ} {old mid : BusState} (allows : Allows n old mid) where
           elim (cases_Bool after.sealed) [
             | inl sealed ↦
                 ((promise is).undo sealed).changes.worn s
-                (untouched_unraised_by request image mid.chip s (rw allows.chip other)) ∙ allows.worn s
+                (untouched_unraised mid.chip.bytes (wanted request image mid.chip) s (rw allows.chip other)) ∙ allows.worn s
             | inr unsealed ↦ ((always.looks unsealed).looked is.honest).stays.worn s ∙ allows.worn s
           ];
       still = search arith;
@@ -143,11 +138,11 @@ module _ {request : Request} {image text later : List ℕ} {old mid new : BusSta
     {result : Result ℕ Refusal} (session : LeavesSession request image old mid vault) (sealed : vault.sealed ≡ true)
     (is : text ≡ vault.bytes) (undone : LeavesUndo text later mid new result) where
   -- the bus is modelled still, and the text leads back
-  pub led : IsModelled old → IsModelled mid × LeadsBack (is_touched_by request image old.chip) old.chip text mid
+  pub led : IsModelled old → IsModelled mid × LeadsBack (is_touched old.chip.bytes (wanted request image old.chip)) old.chip text mid
   led modelled = search (arith, modelled_at)
 
   -- both wear what the session touches alone
-  pub both_wear : IsModelled old → (s : ℕ) → is_touched_by request image old.chip s ≡ false → new.worn s ≡ old.worn s
+  pub both_wear : IsModelled old → (s : ℕ) → is_touched old.chip.bytes (wanted request image old.chip) s ≡ false → new.worn s ≡ old.worn s
   both_wear modelled s other =
       let (still, leads) = led modelled in undone.wears still _ _ leads s other ∙ session.wears modelled s other
 

@@ -19,7 +19,7 @@ use Rattle.nor_save.specs.Scanning.{AreMarks, IsBlank, HasMarked}
 use Rattle.nor_save.proofs.Planned.{planned, untouched, unraised}
 use Rattle.nor_driver.proofs.RestsInTurn.{HasLooked, has_looked-none, has_looked-more}
 use Rattle.nor_save.proofs.Scans.{marks_more, opened_later}
-use Rattle.nor_session.specs.Restore.{restored, is_touched_from, is_raised_from}
+use Rattle.nor_session.specs.Restore.{restored}
 use Rattle.nor_session.specs.Prepare.{PlansSaved, ScansSaved}
 use Rattle.nor_session.proofs.SavedBytes.{sector_at, byte_at, is_saved-some}
 
@@ -35,8 +35,8 @@ pub record HasRescanned (journal : Content) (i : ℕ) (old new : BusState) (scan
   pub looked : HasLooked i old new
   pub saved : (s : ℕ) → has scanned.touched s ≡ true → saved_before journal i s ≡ true
   pub bytes : (s : ℕ) (bytes : List ℕ) → saved_in (take i journal.saved) s ≡ Some bytes → (k : ℕ) → slice_index bytes k < 256
-  pub touched : IsOpen journal.size old → (s : ℕ) → has scanned.touched s ≡ (saved_before journal i s && is_touched_from journal old.chip s)
-  pub raised : IsOpen journal.size old → (s : ℕ) → has scanned.raised s ≡ (saved_before journal i s && is_raised_from journal old.chip s)
+  pub touched : IsOpen journal.size old → (s : ℕ) → has scanned.touched s ≡ (saved_before journal i s && is_touched old.chip.bytes (restored journal old.chip.bytes) s)
+  pub raised : IsOpen journal.size old → (s : ℕ) → has scanned.raised s ≡ (saved_before journal i s && is_raised old.chip.bytes (restored journal old.chip.bytes) s)
 
 -- ---- before the first
 
@@ -76,7 +76,7 @@ restored_at journal content s saved i is below = search (arith, byte_at, is_save
 -- what the plan of a sector says
 planned_from : (journal : Content) (s : ℕ) (saved bytes : List ℕ) (old mid new : BusState) (plan : SectorPlan) (i : ℕ) → saved_in journal.saved s ≡ Some saved → s < journal.size / 4096
     → length saved ≡ 4096 → IsOpen journal.size old → HasLooked i old mid → PlansSaved s saved bytes mid new plan
-    → (plan.touched ≡ is_touched_from journal old.chip s) × (plan.raised ≡ is_raised_from journal old.chip s)
+    → (plan.touched ≡ is_touched old.chip.bytes (restored journal old.chip.bytes) s) × (plan.raised ≡ is_raised old.chip.bytes (restored journal old.chip.bytes) s)
 planned_from journal s saved bytes old mid new plan i is place whole is_open looked plans =
     let long = plans.whole in
     let later = opened_later journal.size i old mid is_open looked in
@@ -119,10 +119,10 @@ rescanned_more {journal = journal} {i = i} {s = s} {saved = saved} {bytes = byte
           let small = plans.small k in
           grind (arith, nat_tests);
       touched = λ is_open t.
-          tested s t (is_touched_from journal old.chip) _ _ _ _ _ (plans_are is_open).0 (more t)
+          tested s t (is_touched old.chip.bytes (restored journal old.chip.bytes)) _ _ _ _ _ (plans_are is_open).0 (more t)
           (was.touched is_open t) (marked.touched t);
       raised = λ is_open t.
-          tested s t (is_raised_from journal old.chip) _ _ _ _ _ (plans_are is_open).1 (more t)
+          tested s t (is_raised old.chip.bytes (restored journal old.chip.bytes)) _ _ _ _ _ (plans_are is_open).1 (more t)
           (was.raised is_open t) (marked.raised t);
     }
 

@@ -11,10 +11,11 @@ use Rattle.nor_journal.specs.Saved.{saved_byte}
 use Rattle.nor_apply.specs.declared.changes.Changes.{Changes}
 use Rattle.nor_apply.specs.declared.changes.Work.{Work}
 use Rattle.nor_count.specs.Counts.{sector_count}
-use Rattle.nor_plan.specs.Content.{once_erased}
+use Rattle.nor_plan.specs.Content.{once_erased, is_touched, is_raised}
 use Rattle.nor_apply.specs.Spending.{Spends}
 use Rattle.nor_apply.specs.Applying.{touched_in, raised_in, status_writes}
 use Rattle.nor_driver.specs.StatusWrites.{fixed_of}
+use Rattle.nor_call.specs.Request.{wanted}
 use Rattle.nor_apply.proofs.Kept.{fixed_coded, told_coded}
 use Rattle.nor_apply.proofs.Changing.{narrower}
 use Rattle.nor_call.specs.declared.report.Report.{Report}
@@ -27,7 +28,7 @@ use Rattle.nor_session.specs.Bounds.{most_of}
 use Rattle.nor_session.specs.Session.{HonestTells, IsWithinBound}
 use Rattle.nor_session.specs.Changing.{LeavesChange, DoesChange, ChangeTells}
 use Rattle.nor_session.specs.Headline.{CanGiveBack}
-use Rattle.nor_session.specs.Restore.{restored, is_touched_from, is_raised_from, NeedsStatusFrom, IsJudgedFirst, IsRestoreRefusal, RestoreTells, LeavesRestore, IsRestored}
+use Rattle.nor_session.specs.Restore.{restored, NeedsStatusFrom, IsJudgedFirst, IsRestoreRefusal, RestoreTells, LeavesRestore, IsRestored}
 use Rattle.nor_session.specs.Prepare.{PrepareTells, IsPrepared}
 use Rattle.nor_session.proofs.OneRestoreVerdict.{judged_verdict, accepted_restorable}
 use Rattle.nor_session.proofs.Changed.{two_writes, no_write, fewest_at}
@@ -158,7 +159,7 @@ module _ (journal : Content) (prepared : Prepared) (old mid new : BusState) (wor
 
     -- where no status write is needed, there is none
     pub restored_sparing : sent ≡ prepared.transactions + work.transactions → IsModelled old
-        → ¬ NeedsStatusFrom journal (is_touched_from journal old.chip) old.chip
+        → ¬ NeedsStatusFrom journal old.chip
         → IsWithinBound (length journal.saved) 0 true (report_of prepared work sent)
     restored_sparing sum modelled none =
         restored_within 0 sum (no_write prepared.changes (λ writes. none ((are.is.modelled modelled).needed writes)))
@@ -174,8 +175,8 @@ module _ (journal : Content) (prepared : Prepared) (old mid new : BusState) (wor
         let for = are.is.modelled modelled in
         let changes = prepared.changes in
         let applied = does.done honest for.can in
-        let touched : touched_in changes ≡ is_touched_from journal old.chip = fun_ext for.touched in
-        let raised : raised_in changes ≡ is_raised_from journal old.chip = fun_ext for.raised in
+        let touched : touched_in changes ≡ is_touched old.chip.bytes (restored journal old.chip.bytes) = fun_ext for.touched in
+        let raised : raised_in changes ≡ is_raised old.chip.bytes (restored journal old.chip.bytes) = fun_ext for.raised in
         let bytes : mid.chip.bytes ≡ old.chip.bytes = fun_ext same.bytes in
         record {
           accepted = accepted_restorable journal old.chip for.accepted;
@@ -198,8 +199,8 @@ module _ (journal : Content) (prepared : Prepared) (old mid new : BusState) (wor
                 (let erases = does.erases in let kinds = for.kinds in let size = for.size in cc);
             programs = (let programs = does.programs honest for.can in
                 let saved = λ (s : ℕ). touched_saved journal old.chip.bytes s in
-                let merged = pages_same (is_touched_from journal old.chip)
-                (once_erased (is_raised_from journal old.chip) old.chip.bytes) (saved_byte journal)
+                let merged = pages_same (is_touched old.chip.bytes (restored journal old.chip.bytes))
+                (once_erased (is_raised old.chip.bytes (restored journal old.chip.bytes)) old.chip.bytes) (saved_byte journal)
                 (restored journal old.chip.bytes)
                 (λ a hit. sym (restored_saved journal old.chip.bytes a (saved (a / 4096) hit))) in
                 cc);

@@ -2,8 +2,8 @@
 use Rattle.std.proofs.Common.{◌≡◌, ◌≢◌, ◌<◌, ◌≤◌, ◌/◌, ◌∙◌, ℕ, Bool, true, false, List, length, ap, sym, refl, arith, bit_and}
 use Rattle.nor_probe.specs.Known.{shown_as}
 use Rattle.nor_probe.specs.Found.{part_in}
-use Rattle.std.specs.Prelude.{Ok, ◌||◌, nat_lt, slice_index}
-use Rattle.std.proofs.lemmas.Bool.{true_from_ne_false, and_parts}
+use Rattle.std.specs.Prelude.{Ok, ◌||◌, slice_index}
+use Rattle.std.proofs.lemmas.Bool.{true_from_ne_false}
 use Rattle.nor_chip.specs.declared.status.Status.{Status}
 use Rattle.nor_chip.specs.Status.{bytes_of}
 use Rattle.nor_chip.proofs.Kept.{kept_same}
@@ -11,6 +11,7 @@ use Rattle.nor_chip.specs.Chip.{Chip, status1_of, kept_in}
 use Rattle.nor_chip.specs.Guard.{code_of}
 use Rattle.nor_chip.specs.Bus.{BusState}
 use Rattle.nor_driver.specs.Looks.{Rested}
+use Rattle.nor_plan.specs.Content.{is_touched, is_raised}
 use Rattle.nor_plan.specs.SectorSet.{has}
 use Rattle.nor_apply.specs.Within.{is_writable}
 use Rattle.nor_apply.specs.Applying.{CanApply, status_writes, writes_code}
@@ -23,7 +24,6 @@ use Rattle.nor_call.specs.declared.request.What.TheVariants.{WpRange}
 use Rattle.nor_call.specs.declared.refusal.Refusal.{Refusal}
 use Rattle.nor_call.specs.declared.refusal.Refusal.TheVariants.{Stopped, Timeout, Mismatch}
 use Rattle.nor_call.specs.Request.{is_data, wanted}
-use Rattle.nor_save.specs.Touched.{is_touched_by, is_raised_by}
 use Rattle.nor_save.specs.Opening.{status_read}
 use Rattle.nor_call.specs.Refusal.{number_of}
 use Rattle.nor_session.specs.Bounds.{most_of}
@@ -47,9 +47,9 @@ pub record ReadyChip (request : Request) (image image' : List ℕ) (opening : Op
   pub accepts : OpeningAccepts request (length image) old.chip code
   pub idle : mid.chip.busy ≡ 0
   pub rested : Rested old mid
-  pub touched : (s : ℕ) → has kept.scanned.touched s ≡ is_touched_by request image old.chip s
-  pub raised : (s : ℕ) → has kept.scanned.raised s ≡ is_raised_by request image old.chip s
-  pub scan : ScanAccepts request code (is_touched_by request image old.chip) old.chip kept.unlock
+  pub touched : (s : ℕ) → has kept.scanned.touched s ≡ is_touched old.chip.bytes (wanted request image old.chip) s
+  pub raised : (s : ℕ) → has kept.scanned.raised s ≡ is_raised old.chip.bytes (wanted request image old.chip) s
+  pub scan : ScanAccepts request code (is_touched old.chip.bytes (wanted request image old.chip)) old.chip kept.unlock
   pub merged : (a : ℕ) → has kept.scanned.touched (a / 4096) ≡ true → slice_index image' a ≡ wanted request image old.chip a
   pub bytes : (a : ℕ) → slice_index image' a < 256
   pub small : old.chip.kept.two < 128
@@ -75,7 +75,7 @@ module _ (request : Request) (image image' : List ℕ) (opening : Opening) (stat
     (of : ReadyChip request image image' opening code kept old mid) where
   -- why the status is written
   pub needs : (kept.unlock || writes_code (changes_of opening kept status code)) ≡ true
-      → NeedsStatus request.what request.unlock code (is_touched_by request image old.chip) old.chip
+      → NeedsStatus request.what request.unlock code (is_touched old.chip.bytes (wanted request image old.chip)) old.chip
   needs writes =
       let read : code_of (kept_in (bytes_of status)) ≡ code_of (kept_in (status_read opening)) = ap (λ (bytes : List ℕ). code_of (kept_in bytes)) is.is_status in
       let chip = code_same of.is in
@@ -96,13 +96,10 @@ module _ (request : Request) (image image' : List ℕ) (opening : Opening) (stat
       (scheme_needed request.what request.unlock code _ old.chip of.accepts.protection.scheme need)
       (λ locked. of.scan.not_locked locked need)
 
-  falls : (a : ℕ) → is_touched_by request image old.chip (a / 4096) ≡ true
-      → is_raised_by request image old.chip (a / 4096) ≡ false
+  falls : (a : ℕ) → is_touched old.chip.bytes (wanted request image old.chip) (a / 4096) ≡ true
+      → is_raised old.chip.bytes (wanted request image old.chip) (a / 4096) ≡ false
       → bit_and (wanted request image old.chip a) (old.chip.bytes a) ≡ wanted request image old.chip a
-  falls a touched low =
-      let aim = wanted request image old.chip in let content = old.chip.bytes in
-      let below = (and_parts (nat_lt (a / 4096) (old.chip.config.size / 4096)) _ touched).0 in
-      unraised_byte content aim a (rw below at low)
+  falls a touched low = unraised_byte old.chip.bytes (wanted request image old.chip) a low
 
   pub can_apply : CanApply (changes_of opening kept status code) (λ a. slice_index image' a) mid.chip
   can_apply =

@@ -1,18 +1,15 @@
 -- What a session leaves once the vault is sealed, and at its end.
-use Rattle.std.proofs.Common.{subst, ◌≡◌, ◌<◌, ◌+◌, ◌/◌, ◌%◌, ◌∙◌, ℕ, Bool, false, List, length, ap, sym, arith}
+use Rattle.std.proofs.Common.{subst, ◌≡◌, ◌<◌, ◌+◌, ◌∙◌, ℕ, Bool, List, length, ap, sym, arith}
 use mathlib.Core.Path.{fun_ext}
 use Rattle.std.specs.Prelude.{slice_index}
-use Rattle.std.proofs.lemmas.Bool.{cases_lt, le-ltb, lt-ltb, ltb-true, and_parts}
-use Rattle.std.proofs.Math.Bool.{and-false}
 use Rattle.nor_chip.specs.declared.status.Status.{Status}
-use Rattle.nor_chip.specs.Chip.{Chip}
 use Rattle.nor_chip.specs.Bus.{BusState}
 use Rattle.nor_driver.specs.Looks.{Looks}
 use Rattle.nor_journal.specs.Vault.{VaultState}
 use Rattle.nor_plan.specs.SectorSet.{has}
 use Rattle.nor_apply.specs.declared.changes.Work.{Work}
 use Rattle.nor_count.specs.Counts.{sector_count}
-use Rattle.nor_plan.specs.Content.{once_erased}
+use Rattle.nor_plan.specs.Content.{once_erased, is_touched, is_raised}
 use Rattle.nor_apply.proofs.Changing.{same_change, change_as, change_then}
 use Rattle.nor_driver.specs.StatusWrites.{fixed_of, with_code}
 use Rattle.nor_apply.proofs.Kept.{fixed_coded}
@@ -20,11 +17,11 @@ use Rattle.nor_save.specs.declared.opening.Opening.{Opening}
 use Rattle.nor_save.specs.declared.saving.SavedScan.{SavedScan}
 use Rattle.nor_call.specs.declared.request.Request.{Request}
 use Rattle.nor_call.specs.Request.{wanted, scanned_sectors}
-use Rattle.nor_save.specs.Touched.{is_touched_by, is_raised_by}
 use Rattle.nor_save.specs.Opening.{Opens, most_opening}
 use Rattle.nor_save.specs.Saving.{IsOpening, OpeningAccepts}
 use Rattle.nor_save.specs.SavedScan.{HasSaved}
-use Rattle.nor_save.proofs.Planned.{wanted-kept}
+use Rattle.nor_chip.proofs.Sizes.{sized_bounds}
+use Rattle.nor_save.proofs.Planned.{raised_inside}
 use Rattle.nor_probe.specs.Known.{IsModelled}
 use Rattle.nor_session.specs.Changing.{LeavesChange, DoesChange}
 use Rattle.nor_session.specs.Session.{IsWithinBound, IsDone, CanBeUndone}
@@ -36,11 +33,6 @@ use Rattle.nor_session.proofs.ReadyChip.{is_opening, told_idle, shows, named}
 use Rattle.nor_session.proofs.SessionChanges.{ReadyChip, can_apply, needs}
 use Rattle.nor_session.proofs.OneVerdict.{scan_accepted}
 use Rattle.nor_session.proofs.RestoredBytes.{untouched_byte, pages_same}
-
--- in a sector that isn't touched all is as wanted
-wanted_untouched : (request : Request) (image : List ℕ) (chip : Chip) (a : ℕ) → chip.config.size % 65536 ≡ 0 → is_touched_by request image chip (a / 4096) ≡ false → wanted request image chip a ≡ chip.bytes a
-wanted_untouched request image chip a blocks alike =
-    search (arith, and-false, cases_lt, le-ltb, lt-ltb, untouched_byte, wanted-kept)
 
 module _ (request : Request) (image image' : List ℕ) (opening : Opening) (status : Status) (code : ℕ)
     (kept : SavedScan) (old mid : BusState) where
@@ -91,10 +83,10 @@ module _ (request : Request) (image image' : List ℕ) (opening : Opening) (stat
       let same = of.rested.unchanged.same in
       let blocks = is.part.in_blocks in let size = of.is.config.size in
       let fixed = ap fixed_of applied.kept ∙ fixed_coded code mid.chip.kept ∙ ap fixed_of same.kept in
-      let made : IsMade (wanted request image old.chip) old.chip new.chip = search (arith, wanted_untouched) in
+      let made : IsMade (wanted request image old.chip) old.chip new.chip = search (arith, untouched_byte) in
       let aim = wanted request image old.chip in
-      let touched : has kept.scanned.touched ≡ is_touched_by request image old.chip = fun_ext of.touched in
-      let raised : has kept.scanned.raised ≡ is_raised_by request image old.chip = fun_ext of.raised in
+      let touched : has kept.scanned.touched ≡ is_touched old.chip.bytes (wanted request image old.chip) = fun_ext of.touched in
+      let raised : has kept.scanned.raised ≡ is_raised old.chip.bytes (wanted request image old.chip) = fun_ext of.raised in
       let bytes : mid.chip.bytes ≡ old.chip.bytes = fun_ext same.bytes in
       record {
         made = made;
@@ -105,7 +97,8 @@ module _ (request : Request) (image image' : List ℕ) (opening : Opening) (stat
           told = of.told;
           sectors = is.marks.count ∙ ap sector_count touched;
           -- a raised sector lies inside the chip
-          erases = fewest_at old.chip.config _ work.erases (λ s hit. ltb-true s _ (and_parts _ _ hit).0)
+          erases = fewest_at old.chip.config _ work.erases
+              (λ s hit. raised_inside request image old.chip.config.size old.chip.bytes s (sized_bounds old.chip.config).blocks hit)
               (let erases = does.erases in let kinds = of.is.config.kinds in let size = of.is.config.size in cc);
           programs = (let programs = does.programs honest can in
               let merged = pages_same (has kept.scanned.touched)

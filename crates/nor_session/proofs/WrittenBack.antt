@@ -5,13 +5,14 @@ use Rattle.nor_chip.specs.Bus.{BusState}
 use Rattle.nor_chip.specs.Chip.{Chip, IsChip, IsSame, KeptBits}
 use Rattle.nor_driver.specs.StatusWrites.{fixed_of}
 use Rattle.nor_chip.proofs.Kept.{kept_same}
+use Rattle.nor_call.specs.Request.{wanted}
+use Rattle.nor_plan.specs.Content.{is_touched}
 use Rattle.nor_journal.specs.Text.{Content, IsContent, SameHead, text}
 use Rattle.nor_journal.specs.Saved.{JournalSaves, Saves}
 use Rattle.nor_journal.specs.Vault.{VaultState}
 use Rattle.nor_journal.proofs.OneForm.{one_text}
 use Rattle.nor_apply.specs.Within.{IsWithin, is_writable}
 use Rattle.nor_apply.proofs.Changing.{idle_within}
-use Rattle.nor_save.specs.Touched.{is_touched_by}
 use Rattle.nor_save.specs.Saving.{head_of}
 use Rattle.nor_call.specs.declared.request.Request.{Request}
 use Rattle.nor_probe.specs.Known.{IsModelled}
@@ -78,7 +79,7 @@ pub read_back : (request : Request) (image : List ℕ) (old new : BusState) (vau
     → IsModelled old → IsChip old.chip → vault.telling ≡ true → CanBeUndone request image old new vault
     → IsContent journal → vault.bytes ≡ text journal → CanGiveBack journal old.chip new
 read_back request image old new vault journal modelled is telling undone sound read =
-    can_give_back (is_touched_by request image old.chip) old.chip vault.bytes new journal
+    can_give_back (is_touched old.chip.bytes (wanted request image old.chip)) old.chip vault.bytes new journal
     (leads_back request image old new vault is modelled.genuine telling undone)
     (read_kept (head_of old.chip) old.chip.bytes _ journal vault.bytes (undone.journal telling) sound read)
 

@@ -8,7 +8,7 @@ use Rattle.nor_call.specs.declared.request.Request.{Request}
 use Rattle.nor_call.specs.declared.report.Report.{Report}
 use Rattle.nor_probe.specs.Known.{IsModelled}
 use Rattle.nor_session.specs.Session.{CanBeUndone}
-use Rattle.nor_session.specs.Restore.{NeedsStatusFrom, is_touched_from}
+use Rattle.nor_session.specs.Restore.{NeedsStatusFrom}
 use Rattle.nor_session.specs.WrittenOver.{IsWrittenOver}
 
 -- A session left this journal of the chip that it began on: its vault, a telling one, has it and was sealed. The
@@ -34,4 +34,4 @@ pub record ChangesNothing (journal : Content) (old new : BusState) (report : Rep
   pub touched : report.touched ≡ 0
   pub erases : report.erases ≡ 0
   pub programs : report.programs ≡ 0
-  pub spares : ¬ NeedsStatusFrom journal (is_touched_from journal old.chip) old.chip
+  pub spares : ¬ NeedsStatusFrom journal old.chip

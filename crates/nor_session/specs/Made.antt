@@ -1,5 +1,5 @@
 -- What a session or a restore makes of a chip, and what its report counts.
-use Rattle.std.specs.Prelude.{◌≡◌, ◌/◌, ◌||◌, ℕ, Bool, true, Ok}
+use Rattle.std.specs.Prelude.{◌≡◌, ◌/◌, ◌||◌, ℕ, true, Ok}
 use Rattle.nor_chip.specs.declared.config.Config.{Config}
 use Rattle.nor_chip.specs.Chip.{Chip, status1_of}
 use Rattle.nor_chip.specs.Bus.{BusState}
@@ -9,16 +9,18 @@ use Rattle.nor_plan.specs.Planned.{IsLeastLength}
 use Rattle.nor_probe.specs.Known.{shown_as}
 use Rattle.nor_probe.specs.Found.{part_in}
 use Rattle.nor_count.specs.Counts.{sector_count}
-use Rattle.nor_plan.specs.Content.{once_erased, is_programmed}
+use Rattle.nor_plan.specs.Content.{is_touched, is_raised, once_erased, is_programmed}
 use Rattle.nor_call.specs.declared.report.Report.{Report}
 
--- so many erases are the fewest: some list of them makes just these sectors of the chip FFh, and no shorter one does
-abbrev pub AreFewestErases : Config → (sectors : ℕ → Bool) → (erases : ℕ) → Type 0
-AreFewestErases config = IsLeastLength config.kinds (config.size / 4096)
+-- so many erases are the fewest: some list of them makes just the raised sectors of the chip FFh, and no shorter one
+-- does
+abbrev pub AreFewestErases : Config → (old wanted : ℕ → ℕ) → (erases : ℕ) → Type 0
+AreFewestErases config old wanted erases = IsLeastLength config.kinds (config.size / 4096) (is_raised old wanted) erases
 
--- how many pages need a program, once the raised sectors are erased
-abbrev pub pages_of : (touched raised : ℕ → Bool) → (old wanted : ℕ → ℕ) → ℕ
-pages_of touched raised old wanted = count_below 65536 (is_programmed touched (once_erased raised old) wanted)
+-- how many pages of touched sectors need a program, once the raised ones are erased
+abbrev pub pages_of : (old wanted : ℕ → ℕ) → ℕ
+pages_of old wanted =
+    count_below 65536 (is_programmed (is_touched old wanted) (once_erased (is_raised old wanted) old) wanted)
 
 -- The chip is made the wanted one: each byte is that, the fixed bits are as they were, it is idle, and its latch is set
 -- only where it was.
@@ -31,12 +33,11 @@ pub record IsMade (wanted : ℕ → ℕ) (old new : Chip) : Type 0 where
 
 -- Only the raised sectors were erased for it; and the report tells the chip, and counts what was done: the touched
 -- sectors, the erases, which are the fewest, and the programs.
-pub record IsReported (wanted : ℕ → ℕ) (touched raised : ℕ → Bool) (old new : BusState)
-    (report : Report) : Type 0 where
-  pub worn : (s : ℕ) → new.worn s ≡ (old.worn s || raised s)
+pub record IsReported (wanted : ℕ → ℕ) (old new : BusState) (report : Report) : Type 0 where
+  pub worn : (s : ℕ) → new.worn s ≡ (old.worn s || is_raised old.chip.bytes wanted s)
   pub shown : shown_as old.chip.config ≡ Ok (part_in report.found)
   pub status1 : report.found.status1 / 4 ≡ old.chip.kept.one
   pub told : old.chip.busy ≡ 0 → report.found.status1 ≡ status1_of old.chip
-  pub sectors : report.touched ≡ sector_count touched
-  pub erases : AreFewestErases old.chip.config raised report.erases
-  pub programs : report.programs ≡ pages_of touched raised old.chip.bytes wanted
+  pub sectors : report.touched ≡ sector_count (is_touched old.chip.bytes wanted)
+  pub erases : AreFewestErases old.chip.config old.chip.bytes wanted report.erases
+  pub programs : report.programs ≡ pages_of old.chip.bytes wanted

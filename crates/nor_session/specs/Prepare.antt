@@ -1,11 +1,12 @@
 -- What a restore finds of a chip before it changes anything.
-use Rattle.std.specs.Prelude.{◌≡◌, ◌<◌, ◌≤◌, ◌+◌, ◌/◌, ◌||◌, ◌⊎◌, ℕ, Bool, true, List, Result, None, Ok, Err, IfErr, OnOk, OnErr, IfOk, MatchBool, length, slice_index, ⊤}
+use Rattle.std.specs.Prelude.{◌≡◌, ◌≢◌, ◌<◌, ◌≤◌, ◌+◌, ◌/◌, ◌||◌, ◌⊎◌, ℕ, Bool, true, List, Result, None, Ok, Err, IfErr, OnOk, OnErr, IfOk, MatchBool, length, slice_index, ⊤}
 use Rattle.nor_chip.specs.Guard.{code_of}
 use Rattle.nor_chip.specs.Chip.{Chip, IsSame, is_locked, status1_of, kept_in}
 use Rattle.nor_chip.specs.Bus.{BusState}
 use Rattle.nor_driver.specs.Looks.{Rested, RanOutIfHonest, IsOpen}
 use Rattle.nor_driver.specs.Ready.{StaysReady}
 use Rattle.nor_driver.specs.Reads.{ReadsSector}
+use Rattle.nor_plan.specs.Content.{is_touched, is_raised}
 use Rattle.nor_journal.specs.Text.{Content}
 use Rattle.nor_journal.specs.Saved.{is_saved, saved_byte}
 use Rattle.nor_plan.specs.declared.plan.SectorPlan.{SectorPlan}
@@ -28,7 +29,7 @@ use Rattle.nor_session.specs.Bounds.{most_looked}
 use Rattle.nor_session.specs.Changing.{touched_count}
 use Rattle.nor_session.specs.Headline.{IsOfKind}
 use Rattle.nor_session.specs.Verdict.{IsNamed}
-use Rattle.nor_session.specs.Restore.{is_touched_from, is_raised_from, IsOfOtherUnit, FitsStatus, NeedsStatusFrom, IsJudgedFirst}
+use Rattle.nor_session.specs.Restore.{IsOfOtherUnit, FitsStatus, NeedsStatusFrom, IsJudgedFirst, restored}
 
 -- ---- what is judged, in the order of the code
 
@@ -49,14 +50,13 @@ RestoreJudges journal chip OtherUnit =
 RestoreJudges journal chip StatusDiffers =
     IsNamed None chip.config × IsOfKind journal chip.config × (¬ IsOfOtherUnit journal chip.config)
     × (¬ FitsStatus journal chip)
-RestoreJudges journal chip StatusLocked =
-    Fits journal chip × (is_locked chip.kept ≡ true) × NeedsStatusFrom journal (is_touched_from journal chip) chip
+RestoreJudges journal chip StatusLocked = Fits journal chip × (is_locked chip.kept ≡ true) × NeedsStatusFrom journal chip
 RestoreJudges journal chip _ = ⊥
 
 -- All is judged, and nothing refused.
 pub record RestoreAccepts (journal : Content) (chip : Chip) : Type 0 where
   pub fits : Fits journal chip
-  pub not_locked : is_locked chip.kept ≡ true → ¬ NeedsStatusFrom journal (is_touched_from journal chip) chip
+  pub not_locked : is_locked chip.kept ≡ true → ¬ NeedsStatusFrom journal chip
 
 -- ---- the opening
 
@@ -127,8 +127,8 @@ pub record ScansSaved (journal : Content) (old new : BusState) (scanned : Scanne
   pub heard : StaysReady old new
   pub rested : old.honest ≡ true → Rested old new
   pub sent : old.honest ≡ true → old.left ≡ new.left + length journal.saved
-  pub touched : IsOpen journal.size old → (s : ℕ) → has scanned.touched s ≡ is_touched_from journal old.chip s
-  pub raised : IsOpen journal.size old → (s : ℕ) → has scanned.raised s ≡ is_raised_from journal old.chip s
+  pub touched : IsOpen journal.size old → (s : ℕ) → has scanned.touched s ≡ is_touched old.chip.bytes (restored journal old.chip.bytes) s
+  pub raised : IsOpen journal.size old → (s : ℕ) → has scanned.raised s ≡ is_raised old.chip.bytes (restored journal old.chip.bytes) s
 
 -- ---- what is to be changed
 
@@ -143,16 +143,20 @@ pub record AreChanges (journal : Content) (opening : Opening) (scanned : Scanned
   pub code : changes.code ≡ code_of (kept_in journal.status)
   pub six_bits : changes.code < 64
 
+-- a status write is needed where these are the touched sectors
+abbrev pub NeedsStatusWith : Content → (touched : ℕ → Bool) → Chip → Type 0
+NeedsStatusWith journal touched chip = (code_of chip.kept ≢ code_of (kept_in journal.status)) ⊎ SomeHeld touched chip
+
 -- Protection is lifted just where a touched sector is guarded, and a status that is locked isn't written.
 pub record MayChangeStatus (journal : Content) (touched : ℕ → Bool) (chip : Chip) (changes : Changes) : Type 0 where
   pub lifts : changes.unlock ≡ true → SomeHeld touched chip
   pub free : changes.unlock ≡ true ⊎ NoneHeld touched chip
-  pub not_locked : is_locked chip.kept ≡ true → ¬ NeedsStatusFrom journal touched chip
+  pub not_locked : is_locked chip.kept ≡ true → ¬ NeedsStatusWith journal touched chip
 
 -- The status is locked, and would have to be written.
 pub record IsShut (journal : Content) (touched : ℕ → Bool) (chip : Chip) : Type 0 where
   pub locked : is_locked chip.kept ≡ true
-  pub needs : NeedsStatusFrom journal touched chip
+  pub needs : NeedsStatusWith journal touched chip
 
 -- changes are only made where the status of each chip with this opening may be changed so
 abbrev pub MakesChanges : Content → Opening → (ℕ → Bool) → Result Changes Refusal → Type 0
@@ -176,11 +180,11 @@ pub record IsPreparedFor (journal : Content) (old new : Chip) (prepared : Prepar
   pub kinds : prepared.changes.kinds ≡ old.config.kinds
   pub size : prepared.changes.size ≡ old.config.size
   pub code : prepared.changes.code ≡ code_of (kept_in journal.status)
-  pub touched : (s : ℕ) → has prepared.changes.touched s ≡ is_touched_from journal old s
-  pub raised : (s : ℕ) → has prepared.changes.raised s ≡ is_raised_from journal old s
+  pub touched : (s : ℕ) → has prepared.changes.touched s ≡ is_touched old.bytes (restored journal old.bytes) s
+  pub raised : (s : ℕ) → has prepared.changes.raised s ≡ is_raised old.bytes (restored journal old.bytes) s
   pub can : CanApply prepared.changes (saved_byte journal) new
   pub needed : (prepared.changes.unlock || writes_code prepared.changes) ≡ true
-      → NeedsStatusFrom journal (is_touched_from journal old) old
+      → NeedsStatusFrom journal old
 
 -- All is known that a restore has to know before it changes anything.
 pub record IsPrepared (journal : Content) (old new : BusState) (prepared : Prepared) : Type 0 where

@@ -6,12 +6,12 @@ use Rattle.nor_chip.specs.Bus.{BusState, KeepsNature}
 use Rattle.nor_journal.specs.Vault.{VaultState, Rose}
 use Rattle.nor_journal.specs.Saved.{JournalSaves}
 use Rattle.nor_count.specs.Counts.{sector_count}
+use Rattle.nor_plan.specs.Content.{is_touched}
 use Rattle.nor_call.specs.declared.request.Request.{Request}
 use Rattle.nor_call.specs.declared.refusal.Refusal.{Refusal}
 use Rattle.nor_call.specs.declared.refusal.Refusal.TheVariants.{Vault}
 use Rattle.nor_call.specs.Refusal.{number_of}
 use Rattle.nor_call.specs.Request.{wanted, scanned_sectors}
-use Rattle.nor_save.specs.Touched.{is_touched_by, is_raised_by}
 use Rattle.nor_save.specs.Saving.{head_of}
 use Rattle.nor_save.specs.SavedScan.{IsJournal}
 use Rattle.nor_session.specs.declared.rehearsals.Rehearsal.{Rehearsal}
@@ -39,14 +39,13 @@ pub record IsRehearsal (stops : ℕ) (vault : VaultState) (rehearsal : Rehearsal
 -- each erase and each program
 abbrev pub least_needed : Request → (image : List ℕ) → Chip → (erases : ℕ) → ℕ
 least_needed request image chip erases =
-    4 + scanned_sectors request chip.config.size + 3 * (erases + pages_of (is_touched_by request image chip)
-    (is_raised_by request image chip) chip.bytes (wanted request image chip))
+    4 + scanned_sectors request chip.config.size + 3 * (erases + pages_of chip.bytes (wanted request image chip))
 
 -- A session can end on the chip: it is accepted, and so many transactions may be enough, with the fewest erases.
 pub record CanEnd (request : Request) (image : List ℕ) (allowance : ℕ) (chip : Chip) : Type 0 where
   pub accepted : IsAccepted request image chip
   pub erases : ℕ
-  pub fewest : AreFewestErases chip.config (is_raised_by request image chip) erases
+  pub fewest : AreFewestErases chip.config chip.bytes (wanted request image chip) erases
   pub enough : least_needed request image chip erases ≤ allowance
 
 -- What the vault tells of the first allowance: where it was sealed that was enough for the shortest opening and the
@@ -115,7 +114,7 @@ pub record RehearsalAlways (request : Request) (stops : List ℕ) (old new : Bus
 pub record RehearsalModelled (request : Request) (image stops : List ℕ) (old new : BusState) (vault vault' : VaultState)
     (result : Result Rehearsal Refusal) : Type 0 where
   -- session and restores erase no sector but those that the session touches
-  pub wears : (s : ℕ) → is_touched_by request image old.chip s ≡ false → new.worn s ≡ old.worn s
+  pub wears : (s : ℕ) → is_touched old.chip.bytes (wanted request image old.chip) s ≡ false → new.worn s ≡ old.worn s
   -- after a refusal nothing changed, and the vault isn't sealed
   pub refuses : OnErr result (LeavesRefused old new vault')
   -- a refusal is the verdict on the session, or the vault failed
@@ -124,7 +123,7 @@ pub record RehearsalModelled (request : Request) (image stops : List ℕ) (old n
   pub accepts : vault'.sealed ≡ true → IsAccepted request image old.chip
   -- and has the journal of the starting chip, which saves just the touched sectors
   pub saves : vault'.sealed ≡ true
-      → JournalSaves (head_of old.chip) old.chip.bytes (is_touched_by request image old.chip) vault'.bytes
+      → JournalSaves (head_of old.chip) old.chip.bytes (is_touched old.chip.bytes (wanted request image old.chip)) vault'.bytes
   -- the session ends where it was allowed as many transactions as it takes at most
   pub ended : most_of (old.chip.config.size / 4096) ≤ first_allowance stops
       → IfOk result (λ rehearsal. rehearsal.ended ≡ true)
@@ -135,7 +134,7 @@ pub record RehearsalModelled (request : Request) (image stops : List ℕ) (old n
   pub seal : IfOk result (λ rehearsal. SealFits request (first_allowance stops) old.chip rehearsal.sealed)
   -- restores are run under the later stops, until one ends
   pub restores : IfOk result (λ rehearsal. rehearsal.sealed ≡ true
-      → AreRestores (sector_count (is_touched_by request image old.chip)) (drop 1 stops) rehearsal.restores)
+      → AreRestores (sector_count (is_touched old.chip.bytes (wanted request image old.chip))) (drop 1 stops) rehearsal.restores)
   -- and the last of them was allowed no more than its stop
   pub last : IfOk result (λ rehearsal. rehearsal.sealed ≡ true
-      → FitsLastStop (sector_count (is_touched_by request image old.chip)) (drop 1 stops) new.left rehearsal.restores)
+      → FitsLastStop (sector_count (is_touched old.chip.bytes (wanted request image old.chip))) (drop 1 stops) new.left rehearsal.restores)

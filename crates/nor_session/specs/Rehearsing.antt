@@ -9,12 +9,12 @@ use Rattle.nor_journal.specs.Vault.{VaultState}
 use Rattle.nor_journal.specs.Saved.{is_saved, JournalSaves}
 use Rattle.nor_probe.specs.Known.{IsKnown, IsModelled}
 use Rattle.nor_count.specs.Counts.{sector_count}
+use Rattle.nor_plan.specs.Content.{is_touched}
 use Rattle.nor_apply.specs.Within.{IsWithin, places_of}
 use Rattle.nor_call.specs.declared.request.Request.{Request}
 use Rattle.nor_call.specs.declared.request.What.{What}
 use Rattle.nor_call.specs.declared.refusal.Refusal.{Refusal}
 use Rattle.nor_call.specs.Request.{wanted, IsWantedCode}
-use Rattle.nor_save.specs.Touched.{is_touched_by}
 use Rattle.nor_save.specs.Saving.{head_of, NoneHeld}
 use Rattle.nor_save.specs.SavedScan.{IsJournal}
 use Rattle.nor_session.specs.Bounds.{most_of}
@@ -44,9 +44,9 @@ pub record LeavesSession (request : Request) (image : List ℕ) (old new : BusSt
   pub nature : KeepsNature old new
   pub same : IsModelled old → IsCalm old → vault.sealed ≡ false → IsSame old.chip new.chip
   pub back : IsModelled old → vault.sealed ≡ true
-      → LeadsBack (is_touched_by request image old.chip) old.chip vault.bytes new
+      → LeadsBack (is_touched old.chip.bytes (wanted request image old.chip)) old.chip vault.bytes new
   pub accepted : IsModelled old → vault.sealed ≡ true → IsAccepted request image old.chip
-  pub wears : IsModelled old → (s : ℕ) → is_touched_by request image old.chip s ≡ false → new.worn s ≡ old.worn s
+  pub wears : IsModelled old → (s : ℕ) → is_touched old.chip.bytes (wanted request image old.chip) s ≡ false → new.worn s ≡ old.worn s
   pub still : vault.sealed ≡ false → new.sent ≡ old.sent
   pub aims : vault.sealed ≡ true → (journal : IsJournal vault.bytes) × AimsAtSaved journal.content old new
   pub writes : WritesStatusAtMost (most_status_writes request.what request.unlock) old new

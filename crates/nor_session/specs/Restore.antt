@@ -1,5 +1,5 @@
 -- What a restore wants of a chip, and what it promises.
-use Rattle.std.specs.Prelude.{◌≡◌, ◌≢◌, ◌<◌, ◌+◌, ◌/◌, ◌==◌, ◌⊎◌, ℕ, Bool, true, false, List, [], ◌∷◌, length, Result, IfOk, IfErr, IsSomeAnd, OnOk, Err, if◌then◌else◌}
+use Rattle.std.specs.Prelude.{◌≡◌, ◌≢◌, ◌<◌, ◌+◌, ◌/◌, ◌==◌, ◌⊎◌, ℕ, true, false, List, [], ◌∷◌, length, Result, IfOk, IfErr, IsSomeAnd, OnOk, Err, if◌then◌else◌}
 use Rattle.std.specs.List.{list_any}
 use Rattle.nor_chip.specs.declared.config.Config.{Config}
 use Rattle.nor_chip.specs.Chip.{Chip, is_locked, kept_in}
@@ -30,14 +30,6 @@ use Rattle.nor_session.specs.Session.{NamesSector, IsWithinBound, AimsAtSaved, W
 abbrev pub restored : Content → (content : ℕ → ℕ) → (a : ℕ) → ℕ
 restored journal content a = if is_saved journal (a / 4096) then saved_byte journal a else content a
 
--- a sector of the chip is touched: some byte of it isn't the one that the journal wants
-abbrev pub is_touched_from : Content → Chip → (s : ℕ) → Bool
-is_touched_from journal chip = is_touched chip.bytes (restored journal chip.bytes)
-
--- a sector of the chip is raised: some bit of it has to go from 0 to 1 to make it what the journal wants
-abbrev pub is_raised_from : Content → Chip → (s : ℕ) → Bool
-is_raised_from journal chip = is_raised chip.bytes (restored journal chip.bytes)
-
 -- ---- the verdict
 
 -- the journal tells the own number of another unit; one of format 1 tells none
@@ -49,9 +41,10 @@ pub record FitsStatus (journal : Content) (chip : Chip) : Type 0 where
   pub fixed : fixed_of chip.kept ≡ fixed_of (kept_in journal.status)
   pub all : chip.config.scheme ≡ false → chip.kept ≡ kept_in journal.status
 
--- a status write is needed: the code differs from the journal's, or one of these sectors is guarded
-abbrev pub NeedsStatusFrom : Content → (touched : ℕ → Bool) → Chip → Type 0
-NeedsStatusFrom journal touched chip = (code_of chip.kept ≢ code_of (kept_in journal.status)) ⊎ SomeHeld touched chip
+-- a status write is needed: the code differs from the journal's, or a touched sector is guarded
+abbrev pub NeedsStatusFrom : Content → Chip → Type 0
+NeedsStatusFrom journal chip = (code_of chip.kept ≢ code_of (kept_in journal.status))
+    ⊎ SomeHeld (is_touched chip.bytes (restored journal chip.bytes)) chip
 
 -- A refusal holds of a journal and a chip, whatever others do.
 abbrev pub RestoreHolds : Content → Chip → Refusal → Type 0
@@ -60,8 +53,7 @@ RestoreHolds journal chip (UnknownChip fault) = shown_as chip.config ≡ Err (Pr
 RestoreHolds journal chip OtherChip = ¬ IsOfKind journal chip.config
 RestoreHolds journal chip OtherUnit = IsOfOtherUnit journal chip.config
 RestoreHolds journal chip StatusDiffers = ¬ FitsStatus journal chip
-RestoreHolds journal chip StatusLocked =
-    (is_locked chip.kept ≡ true) × NeedsStatusFrom journal (is_touched_from journal chip) chip
+RestoreHolds journal chip StatusLocked = (is_locked chip.kept ≡ true) × NeedsStatusFrom journal chip
 RestoreHolds journal chip _ = ⊥
 
 -- these refusals, by their numbers, in the order in which they are judged
@@ -107,7 +99,7 @@ pub record LeavesRestore (journal : Content) (old new : BusState) : Type 0 where
   pub config : new.chip.config ≡ old.chip.config
   pub bytes : IsCalm old → (a : ℕ) → is_saved journal (a / 4096) ≡ false → new.chip.bytes a ≡ old.chip.bytes a
   pub fixed : IsCalm old → fixed_of new.chip.kept ≡ fixed_of old.chip.kept
-  pub worn : (s : ℕ) → is_raised_from journal old.chip s ≡ false → new.worn s ≡ old.worn s
+  pub worn : (s : ℕ) → is_raised old.chip.bytes (restored journal old.chip.bytes) s ≡ false → new.worn s ≡ old.worn s
 
 -- At the end the chip is made what the journal wants, with its kept bits; the report says so; and where nothing is to be
 -- changed, nothing changing was sent.
@@ -115,10 +107,8 @@ pub record IsRestored (journal : Content) (old new : BusState) (report : Report)
   pub accepted : IsRestorable journal old.chip
   pub made : IsMade (restored journal old.chip.bytes) old.chip new.chip
   pub kept : new.chip.kept ≡ kept_in journal.status
-  pub reported : IsReported (restored journal old.chip.bytes) (is_touched_from journal old.chip)
-      (is_raised_from journal old.chip) old new report
-  pub still : report.touched ≡ 0 → (¬ NeedsStatusFrom journal (is_touched_from journal old.chip) old.chip)
-      → new.sent ≡ old.sent
+  pub reported : IsReported (restored journal old.chip.bytes) old new report
+  pub still : report.touched ≡ 0 → (¬ NeedsStatusFrom journal old.chip) → new.sent ≡ old.sent
 
 -- ---- the promises of a restore
 
@@ -157,7 +147,6 @@ pub record RestoreModelled (journal : Content) (old new : BusState) (result : Re
   -- at the end the chip is what the journal wants
   pub done : IfOk result (IsRestored journal old new)
   -- where no status write is needed, none was sent
-  pub unwritten : (¬ NeedsStatusFrom journal (is_touched_from journal old.chip) old.chip) → WritesStatusAtMost 0 old new
+  pub unwritten : (¬ NeedsStatusFrom journal old.chip) → WritesStatusAtMost 0 old new
   -- where no status write is needed, the report has no room for one
-  pub spares : (¬ NeedsStatusFrom journal (is_touched_from journal old.chip) old.chip)
-      → IfOk result (IsWithinBound (length journal.saved) 0 true)
+  pub spares : (¬ NeedsStatusFrom journal old.chip) → IfOk result (IsWithinBound (length journal.saved) 0 true)

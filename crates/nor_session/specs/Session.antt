@@ -6,6 +6,7 @@ use Rattle.nor_chip.specs.Bus.{BusState}
 use Rattle.nor_driver.specs.Looks.{Looks, Falls, RanOut}
 use Rattle.nor_driver.specs.StatusWrites.{with_code}
 use Rattle.nor_driver.specs.Operations.{most_operation}
+use Rattle.nor_plan.specs.Content.{is_touched, is_raised}
 use Rattle.nor_journal.specs.Text.{Content}
 use Rattle.nor_journal.specs.Vault.{VaultState, Rose}
 use Rattle.nor_journal.specs.Saved.{JournalSaves, BeginsText, is_saved}
@@ -19,7 +20,6 @@ use Rattle.nor_call.specs.declared.refusal.Refusal.{Refusal}
 use Rattle.nor_call.specs.declared.refusal.Refusal.TheVariants.{Vault, Stopped, Timeout, Mismatch}
 use Rattle.nor_call.specs.Refusal.{number_of}
 use Rattle.nor_call.specs.Request.{wanted, scanned_sectors, IsWantedCode}
-use Rattle.nor_save.specs.Touched.{is_touched_by, is_raised_by}
 use Rattle.nor_save.specs.Saving.{head_of}
 use Rattle.nor_save.specs.SavedScan.{IsJournal, BeginsJournal, HoldsJournal}
 use Rattle.nor_session.specs.Bounds.{most_looked, most_of}
@@ -115,8 +115,7 @@ pub record IsDone (request : Request) (image : List ℕ) (old new : BusState) (r
   pub code : ℕ
   pub is_wanted : IsWantedCode request.what old.chip code
   pub kept : new.chip.kept ≡ with_code code old.chip.kept
-  pub reported : IsReported (wanted request image old.chip) (is_touched_by request image old.chip)
-      (is_raised_by request image old.chip) old new report
+  pub reported : IsReported (wanted request image old.chip) old new report
   pub still : report.touched ≡ 0 → ¬ NeedsStatusWrite request image old.chip → new.sent ≡ old.sent
 
 -- Once the vault is sealed the request is accepted, so where the status is locked no touched sector is guarded; a
@@ -126,8 +125,8 @@ pub record IsDone (request : Request) (image : List ℕ) (old new : BusState) (r
 pub record CanBeUndone (request : Request) (image : List ℕ) (old new : BusState) (vault : VaultState) : Type 0 where
   pub accepted : IsAccepted request image old.chip
   pub journal : vault.telling ≡ true
-      → JournalSaves (head_of old.chip) old.chip.bytes (is_touched_by request image old.chip) vault.bytes
-  pub changes : MayChange (is_touched_by request image old.chip) (is_raised_by request image old.chip)
+      → JournalSaves (head_of old.chip) old.chip.bytes (is_touched old.chip.bytes (wanted request image old.chip)) vault.bytes
+  pub changes : MayChange (is_touched old.chip.bytes (wanted request image old.chip)) (is_raised old.chip.bytes (wanted request image old.chip))
       (wanted request image old.chip) old new
   pub spent : new.left + (4 + scanned_sectors request old.chip.config.size) ≤ old.left
 
@@ -136,7 +135,7 @@ pub record CanBeUndone (request : Request) (image : List ℕ) (old new : BusStat
 abbrev pub HoldsBegun : Request → (image : List ℕ) → Chip → (bytes : List ℕ) → Type 0
 HoldsBegun request image chip bytes = (bytes ≡ [])
     ⊎ (IsNamed request.named chip.config
-    × BeginsText (head_of chip) chip.bytes (is_touched_by request image chip) bytes)
+    × BeginsText (head_of chip) chip.bytes (is_touched chip.bytes (wanted request image chip)) bytes)
 
 -- ---- the promises of a session
 
@@ -193,7 +192,7 @@ pub record SessionModelled (request : Request) (image : List ℕ) (old new : Bus
   -- journal that it would have had
   pub begins : vault'.sealed ≡ false → vault'.telling ≡ true → IfErr result (λ refusal. refusal ≢ Vault
       → (vault'.bytes ≡ [])
-      ⊎ BeginsJournal (head_of old.chip) old.chip.bytes (is_touched_by request image old.chip) vault'.bytes)
+      ⊎ BeginsJournal (head_of old.chip) old.chip.bytes (is_touched old.chip.bytes (wanted request image old.chip)) vault'.bytes)
   -- after any refusal, the vault's own too, a telling vault that isn't sealed is empty, or has a beginning of that
   -- journal: so many bytes of its text
   pub cut : vault'.sealed ≡ false → vault'.telling ≡ true

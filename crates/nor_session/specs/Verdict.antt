@@ -3,6 +3,7 @@
 use Rattle.std.specs.Prelude.{◌≡◌, ◌≢◌, ◌<◌, ◌*◌, ℕ, true, false, List, length, Err}
 use Rattle.nor_chip.specs.Chip.{Chip, is_locked}
 use Rattle.nor_chip.specs.Guard.{code_of, is_undefined}
+use Rattle.nor_plan.specs.Content.{is_touched}
 use Rattle.nor_layout.specs.Sectors.{ReachesPast}
 use Rattle.nor_probe.specs.declared.probes.ProbeFault.TheVariants as Probes
 use Rattle.nor_probe.specs.Known.{shown_as}
@@ -12,14 +13,13 @@ use Rattle.nor_call.specs.declared.request.Request.{Request}
 use Rattle.nor_call.specs.declared.refusal.Refusal.{Refusal}
 use Rattle.nor_call.specs.declared.refusal.Refusal.TheVariants.{NoChip, UnknownChip, OtherName, ImageSize, RegionOutside, NoProtection, UndefinedProtection, RangeNotOffered, StatusLocked, Protected}
 use Rattle.nor_call.specs.Refusal.{number_of}
-use Rattle.nor_call.specs.Request.{is_data, IsWantedCode}
-use Rattle.nor_save.specs.Touched.{is_touched_by}
+use Rattle.nor_call.specs.Request.{is_data, IsWantedCode, wanted}
 use Rattle.nor_save.specs.Saving.{AsksForNone, NeedsStatus, IsLeastHeld}
 
 -- the request needs a status write on the chip
 abbrev pub NeedsStatusWrite : Request → (image : List ℕ) → Chip → Type 0
 NeedsStatusWrite request image chip = (code : ℕ) × IsWantedCode request.what chip code
-    × NeedsStatus request.what request.unlock code (is_touched_by request image chip) chip
+    × NeedsStatus request.what request.unlock code (is_touched chip.bytes (wanted request image chip)) chip
 
 -- A refusal holds of a request and a chip, whatever others do.
 abbrev pub RefusalHolds : Request → (image : List ℕ) → Chip → Refusal → Type 0
@@ -36,7 +36,7 @@ RefusalHolds request image chip UndefinedProtection =
 RefusalHolds request image chip RangeNotOffered = AsksForNone request.what chip
 RefusalHolds request image chip StatusLocked = (is_locked chip.kept ≡ true) × NeedsStatusWrite request image chip
 RefusalHolds request image chip (Protected address) = (request.unlock ≡ false)
-    × (sector : ℕ) × (address ≡ 4096 * sector) × IsLeastHeld (is_touched_by request image chip) chip sector
+    × (sector : ℕ) × (address ≡ 4096 * sector) × IsLeastHeld (is_touched chip.bytes (wanted request image chip)) chip sector
 RefusalHolds request image chip _ = ⊥
 
 -- The refusal is the verdict: it holds, and none with a lower number does.
