@@ -23,14 +23,14 @@ abbrev pub saved_byte : Content → (a : ℕ) → ℕ
 saved_byte content a = slice_index (unwrap_or (saved_in content.saved (a / 4096)) []) (a % 4096)
 
 -- The bytes are those of sector s, where each address of a chip has its byte.
-pub record IsWholeSector (chip : ℕ → ℕ) (s : ℕ) (bytes : List ℕ) : Type 0 where
+pub record IsWholeSector (old : ℕ → ℕ) (s : ℕ) (bytes : List ℕ) : Type 0 where
   pub whole : length bytes ≡ 4096
-  pub same : (i : ℕ) → i < 4096 → slice_index bytes i ≡ chip (4096 * s + i)
+  pub same : (i : ℕ) → i < 4096 → slice_index bytes i ≡ old (4096 * s + i)
 
 -- A content saves just these sectors, with the bytes that the chip has in them.
-pub record Saves (chip : ℕ → ℕ) (saved : ℕ → Bool) (content : Content) : Type 0 where
+pub record Saves (old : ℕ → ℕ) (saved : ℕ → Bool) (content : Content) : Type 0 where
   pub is : IsContent content
-  pub sectors : (s : ℕ) → saved s ≡ true → IsSomeAnd (saved_in content.saved s) (IsWholeSector chip s)
+  pub sectors : (s : ℕ) → saved s ≡ true → IsSomeAnd (saved_in content.saved s) (IsWholeSector old s)
   pub others : (s : ℕ) → saved s ≡ false → saved_in content.saved s ≡ None
 
 -- The second set is the first with this sector.
@@ -39,15 +39,15 @@ pub record HasOneMore (saved : ℕ → Bool) (sector : ℕ) (more : ℕ → Bool
   pub others : (s : ℕ) → s ≢ sector → more s ≡ saved s
 
 -- The bytes are a beginning of a journal with this head, which saves just these sectors.
-pub record BeginsText (head : Content) (chip : ℕ → ℕ) (saved : ℕ → Bool) (bytes : List ℕ) : Type 0 where
+pub record BeginsText (head : Content) (old : ℕ → ℕ) (saved : ℕ → Bool) (bytes : List ℕ) : Type 0 where
   pub content : Content
   pub same : SameHead head content
-  pub saves : Saves chip saved content
+  pub saves : Saves old saved content
   pub begins : StartsWith (text content) bytes
 
 -- The bytes are a journal with this head, and it saves just these sectors.
-pub record JournalSaves (head : Content) (chip : ℕ → ℕ) (saved : ℕ → Bool) (bytes : List ℕ) : Type 0 where
+pub record JournalSaves (head : Content) (old : ℕ → ℕ) (saved : ℕ → Bool) (bytes : List ℕ) : Type 0 where
   pub content : Content
   pub same : SameHead head content
-  pub saves : Saves chip saved content
+  pub saves : Saves old saved content
   pub is : bytes ≡ text content

@@ -27,9 +27,9 @@ pub record HasWritten {V : Type 0} (state : V → VaultState) (writer : Writer V
 
 -- The head went in, and of the chip just these sectors, all below n.
 pub record HasPutSectors {V : Type 0} (state : V → VaultState) (writer : Writer V) (head : Content)
-    (chip : ℕ → ℕ) (saved : ℕ → Bool) (n : ℕ) : Type 0 where
+    (old : ℕ → ℕ) (saved : ℕ → Bool) (n : ℕ) : Type 0 where
   pub content : Content
   pub written : HasWritten state writer content
   pub same : SameHead head content
-  pub saves : Saves chip saved content
+  pub saves : Saves old saved content
   pub next : next_number content ≤ n

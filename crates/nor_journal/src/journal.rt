@@ -46,9 +46,9 @@ impl<'a> Journal<'a> {
         ensures only { (c : Content) → IsContent c → bytes.now ≡ text c
             → IsOkAnd result (λ journal. journal ≡ c) }
         // What was kept is read.
-        ensures kept { (head : Content) (chip : ℕ → ℕ) (saved : ℕ → Bool)
-            → JournalSaves head chip saved bytes.now
-            → IsOkAnd result (λ journal. SameHead head journal × Saves chip saved journal) }
+        ensures kept { (head : Content) (old : ℕ → ℕ) (saved : ℕ → Bool)
+            → JournalSaves head old saved bytes.now
+            → IsOkAnd result (λ journal. SameHead head journal × Saves old saved journal) }
         // No proper beginning of a journal is a journal.
         ensures whole { OnOk result ((c : Content) (n : ℕ) → IsContent c → take n bytes.now ≡ text c
             → length bytes.now ≤ n) }

@@ -119,10 +119,10 @@ impl<'a, V: Vault> Writer<'a, V> {
         ensures vault { PutsOn (vault_seen V.state self.old) result (vault_seen V.state self.new) }
         ensures written { (c : Content) → HasWritten V.state self.old c → MayFollow c number
             → OnOk result (HasWritten V.state self.new (with_sector c number bytes.now)) }
-        ensures kept { (head : Content) (chip : ℕ → ℕ) (saved more : ℕ → Bool) (n : ℕ)
-            → HasPutSectors V.state self.old head chip saved n → n ≤ number → number < head.size / 4096
-            → IsWholeSector chip number bytes.now → HasOneMore saved number more
-            → OnOk result (HasPutSectors V.state self.new head chip more (number + 1)) }
+        ensures kept { (head : Content) (old : ℕ → ℕ) (saved more : ℕ → Bool) (n : ℕ)
+            → HasPutSectors V.state self.old head old saved n → n ≤ number → number < head.size / 4096
+            → IsWholeSector old number bytes.now → HasOneMore saved number more
+            → OnOk result (HasPutSectors V.state self.new head old more (number + 1)) }
         ensures cut { (c : Content) → HasWritten V.state self.old c
             → OnErr result (HoldsBeginning (vault_seen V.state self.new) (front (with_sector c number bytes.now))) }
     {
@@ -136,10 +136,10 @@ impl<'a, V: Vault> Writer<'a, V> {
         ensures written { (c : Content) → HasWritten V.state self.entry c
             → OnOk result ((V.state self.exit.0.now).telling ≡ true
             → (V.state self.exit.0.now).bytes ≡ text c) }
-        ensures kept { (head : Content) (chip : ℕ → ℕ) (saved : ℕ → Bool) (n : ℕ)
-            → HasPutSectors V.state self.entry head chip saved n
+        ensures kept { (head : Content) (old : ℕ → ℕ) (saved : ℕ → Bool) (n : ℕ)
+            → HasPutSectors V.state self.entry head old saved n
             → OnOk result ((V.state self.exit.0.now).telling ≡ true
-            → JournalSaves head chip saved (V.state self.exit.0.now).bytes) }
+            → JournalSaves head old saved (V.state self.exit.0.now).bytes) }
         ensures cut { (c : Content) → HasWritten V.state self.entry c
             → OnErr result (HoldsBeginning (V.state self.exit.0.now) (text c)) }
     {

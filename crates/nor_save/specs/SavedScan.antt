@@ -81,11 +81,11 @@ SaveTells request opening code image old new _ = ⊥
 
 -- A beginning of the journal of a chip in which these sectors are touched: its head, and the records of those that lie
 -- below some bound.
-pub record BeginsJournal (head : Content) (chip : ℕ → ℕ) (touched : ℕ → Bool) (bytes : List ℕ) : Type 0 where
+pub record BeginsJournal (head : Content) (old : ℕ → ℕ) (touched : ℕ → Bool) (bytes : List ℕ) : Type 0 where
   pub content : Content
   pub bound : ℕ
   pub same : SameHead head content
-  pub saves : Saves chip (λ s. nat_lt s bound && touched s) content
+  pub saves : Saves old (λ s. nat_lt s bound && touched s) content
   pub is : bytes ≡ front content
 
 -- what a telling vault has after any refusal, its own too: a beginning of the one journal of a chip with this opening

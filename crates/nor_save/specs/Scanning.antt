@@ -109,13 +109,13 @@ UnlessVault (Ok _) promise = promise
 UnlessVault (Err refusal) promise = refusal ≢ Vault → promise
 
 -- a telling vault has a beginning of the journal with this head that saves the chip's touched sectors, of so many
-abbrev pub HoldsCut : VaultState → (head : Content) → (chip : ℕ → ℕ) → (touched : ℕ → Bool) → (total : ℕ) → Type 0
-HoldsCut vault head chip touched total = vault.telling ≡ true
-    → BeginsText head chip (λ s. nat_lt s total && touched s) vault.bytes
+abbrev pub HoldsCut : VaultState → (head : Content) → (old : ℕ → ℕ) → (touched : ℕ → Bool) → (total : ℕ) → Type 0
+HoldsCut vault head old touched total = vault.telling ≡ true
+    → BeginsText head old (λ s. nat_lt s total && touched s) vault.bytes
 
 -- The head went in, and of the chip's touched sectors those below some bound, of so many sectors.
-pub record HasKeptBelow {V : Type 0} (state : V → VaultState) (writer : Writer V) (head : Content) (chip : ℕ → ℕ)
+pub record HasKeptBelow {V : Type 0} (state : V → VaultState) (writer : Writer V) (head : Content) (old : ℕ → ℕ)
     (touched : ℕ → Bool) (total : ℕ) : Type 0 where
   pub bound : ℕ
   pub inside : bound ≤ total
-  pub kept : HasPutSectors state writer head chip (λ s. nat_lt s bound && touched s) bound
+  pub kept : HasPutSectors state writer head old (λ s. nat_lt s bound && touched s) bound

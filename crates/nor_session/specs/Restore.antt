@@ -27,8 +27,8 @@ use Rattle.nor_session.specs.Session.{NamesSector, IsWithinBound, AimsAtSaved, W
 -- ---- what is wanted
 
 -- the byte that a journal wants at an address: in a saved sector the saved one, else what is there
-abbrev pub restored : Content → (content : ℕ → ℕ) → (a : ℕ) → ℕ
-restored journal content a = if is_saved journal (a / 4096) then saved_byte journal a else content a
+abbrev pub restored : Content → (old : ℕ → ℕ) → (a : ℕ) → ℕ
+restored journal old a = if is_saved journal (a / 4096) then saved_byte journal a else old a
 
 -- ---- the verdict
 
