@@ -74,7 +74,7 @@ SUBJECTS = {
     "The journal": "nor_journal: specs/Number specs/Text src/fault src/journal specs/Saved nor_save: specs/SavedScan",
     "The faults of a journal": "nor_journal: specs/Fault",
     "Refusals": "nor_call: src/refusal specs/Refusal",
-    "What each refusal says, and the verdict": "nor_save: specs/Saving specs/Judging nor_session: specs/Verdict",
+    "What each refusal says, and the verdict": "nor_save: specs/Saving specs/Judging specs/Verdict",
     "A chip that can be given back": "nor_apply: specs/Within nor_session: specs/Headline",
     "A chip on its way": "nor_apply: specs/Change nor_session: specs/Changing",
     "What a call makes of the chip": "nor_call: src/report nor_session: specs/Made",

@@ -19,7 +19,7 @@ use Rattle.nor_call.specs.declared.request.Request.{Request}
 use Rattle.nor_call.specs.declared.refusal.Refusal.{Refusal}
 use Rattle.nor_probe.specs.Known.{IsModelled}
 use Rattle.nor_session.specs.Bounds.{most_of}
-use Rattle.nor_session.specs.Verdict.{IsAccepted, IsNamed}
+use Rattle.nor_save.specs.Verdict.{IsAccepted, IsNamed}
 use Rattle.nor_session.specs.Session.{CanBeUndone, IsDone, SessionTells}
 use Rattle.nor_session.specs.Headline.{CanGiveBack}
 use Rattle.nor_session.specs.Restore.{IsRestored, RestoreTells, IsJudgedFirst}

@@ -19,8 +19,9 @@ use Rattle.nor_call.specs.declared.request.Request.{Request}
 use Rattle.nor_call.specs.declared.refusal.Refusal.{Refusal}
 use Rattle.nor_call.specs.declared.refusal.Refusal.TheVariants.{StatusLocked, Protected, Vault}
 use Rattle.nor_save.specs.Scanning.{Scans, AreRight, HoldsCut, HasKeptBelow, wanted_at}
-use Rattle.nor_save.specs.Saving.{IsOpening, Shows, ScanJudges, head_of}
-use Rattle.nor_save.specs.Judging.{IsScanRefusal}
+use Rattle.nor_save.specs.Saving.{IsOpening, Shows, head_of}
+use Rattle.nor_save.specs.Verdict.{IsVerdict}
+use Rattle.nor_save.specs.Judging.{IsScanRefusal, OfTouched}
 use Rattle.nor_save.proofs.Planned.{only_inside, touched_past, raised_past}
 use Rattle.nor_chip.proofs.Sizes.{sized_bounds}
 use Rattle.nor_save.specs.SavedScan.{SaveTells, SaveBegins, SaveCuts}
@@ -171,12 +172,12 @@ from_head puts told chip is shows = told (is_open is shows) (head_of chip) (sym 
 pub judged_tells : {request : Request} {opening : Opening} {image image' : List ℕ} {old new : BusState}
     {scanned : Scanned} (code : ℕ) (refusal : Refusal) → Scans request opening.found.size image image' old new scanned
     → IsScanRefusal refusal
-    → ((chip : Chip) → IsOpening chip opening → ScanJudges request code (has scanned.touched) chip refusal)
+    → OfTouched request opening code (has scanned.touched) (λ image chip. IsVerdict request image chip refusal)
     → SaveTells request opening code image old new refusal
-judged_tells code StatusLocked scans is judges =
-    λ chip opened shows. rw (fun_ext (touched_right opened shows scans)) at (judges chip opened)
-judged_tells code (Protected address) scans is judges =
-    λ chip opened shows. rw (fun_ext (touched_right opened shows scans)) at (judges chip opened)
+judged_tells {image = image} code StatusLocked scans is judges =
+    λ chip opened shows accepts. judges chip image opened accepts (touched_right opened shows scans)
+judged_tells {image = image} code (Protected address) scans is judges =
+    λ chip opened shows accepts. judges chip image opened accepts (touched_right opened shows scans)
 judged_tells code _ scans is judges = absurd is
 
 -- ---- what is cut of its journal

@@ -3,3 +3,4 @@ pub mod Scans
 pub mod Begun
 pub mod Cuts
 pub mod Held
+pub mod OneVerdict

@@ -1,13 +1,16 @@
 -- Which refusals are judged where, on every bus, and when protection is lifted.
-use Rattle.std.specs.Prelude.{◌≡◌, ℕ, Bool, true, Option, Result, IfOk, IfErr, MatchBool, MatchOption, ⊤}
+use Rattle.std.specs.Prelude.{◌≡◌, ℕ, Bool, true, List, length, Option, Result, IfOk, IfErr, MatchBool, MatchOption, ⊤}
 use Rattle.nor_chip.specs.Chip.{Chip}
 use Rattle.nor_plan.specs.declared.set.SectorSet.{SectorSet}
 use Rattle.nor_plan.specs.SectorSet.{HasSome}
+use Rattle.nor_plan.specs.Content.{is_touched}
+use Rattle.nor_call.specs.Request.{wanted}
 use Rattle.nor_save.specs.declared.opening.Opening.{Opening}
 use Rattle.nor_call.specs.declared.request.Request.{Request}
 use Rattle.nor_call.specs.declared.refusal.Refusal.{Refusal}
 use Rattle.nor_call.specs.declared.refusal.Refusal.TheVariants.{ImageSize, RegionOutside, NoProtection, UndefinedProtection, RangeNotOffered, StatusLocked, Protected}
-use Rattle.nor_save.specs.Saving.{IsOpening, OpeningJudges, OpeningAccepts, ScanJudges, ScanAccepts, IsLeastHeld, NoneHeld, SomeHeld, NeedsStatus}
+use Rattle.nor_save.specs.Saving.{IsOpening, IsLeastHeld, NoneHeld, SomeHeld, NeedsStatus}
+use Rattle.nor_save.specs.Verdict.{IsNamed, IsVerdict, OpeningAccepts, ScanAccepts}
 
 -- ---- on every bus
 
@@ -34,13 +37,13 @@ Lifts request touched unlock = unlock ≡ true → (request.unlock ≡ true) × 
 
 -- a request against an image of so many bytes is accepted with this code only where that is right
 abbrev pub AcceptsOpening : Request → ℕ → Opening → Result ℕ Refusal → Type 0
-AcceptsOpening request image opening judged =
-    (chip : Chip) → IsOpening chip opening → IfOk judged (OpeningAccepts request image chip)
+AcceptsOpening request len opening judged = (chip : Chip) (image : List ℕ) → IsOpening chip opening
+    → IsNamed request.named chip.config → length image ≡ len → IfOk judged (OpeningAccepts request image chip)
 
--- and refused only for what holds
+-- and a refusal is the verdict
 abbrev pub RefusesOpening : Request → ℕ → Opening → Result ℕ Refusal → Type 0
-RefusesOpening request image opening judged =
-    (chip : Chip) → IsOpening chip opening → IfErr judged (OpeningJudges request image chip)
+RefusesOpening request len opening judged = (chip : Chip) (image : List ℕ) → IsOpening chip opening
+    → IsNamed request.named chip.config → length image ≡ len → IfErr judged (IsVerdict request image chip)
 
 -- none of these sectors holds a guarded place, or this is the least that does
 abbrev pub FindsHeld : (ℕ → Bool) → Opening → Option ℕ → Type 0
@@ -54,12 +57,18 @@ FindsNeed request opening is_held code needed = (chip : Chip) (touched : ℕ →
     → MatchBool needed (NeedsStatus request.what request.unlock code touched chip)
     (¬ NeedsStatus request.what request.unlock code touched chip)
 
+-- of each such chip that has these touched sectors, and of which the opening was accepted with this code
+abbrev pub OfTouched : Request → Opening → ℕ → (ℕ → Bool) → (List ℕ → Chip → Type 0) → Type 0
+OfTouched request opening code touched promise = (chip : Chip) (image : List ℕ) → IsOpening chip opening
+    → OpeningAccepts request image chip code
+    → ((s : ℕ) → touched s ≡ is_touched chip.bytes (wanted request image chip) s) → promise image chip
+
 -- the touched sectors are accepted, and protection is lifted, only where that is right
 abbrev pub AcceptsScan : Request → Opening → ℕ → (ℕ → Bool) → Result Bool Refusal → Type 0
 AcceptsScan request opening code touched judged =
-    (chip : Chip) → IsOpening chip opening → IfOk judged (ScanAccepts request code touched chip)
+    OfTouched request opening code touched (λ image chip. IfOk judged (ScanAccepts request image chip))
 
--- and refused only for what holds
+-- and a refusal is the verdict
 abbrev pub RefusesScan : Request → Opening → ℕ → (ℕ → Bool) → Result Bool Refusal → Type 0
 RefusesScan request opening code touched judged =
-    (chip : Chip) → IsOpening chip opening → IfErr judged (ScanJudges request code touched chip)
+    OfTouched request opening code touched (λ image chip. IfErr judged (IsVerdict request image chip))

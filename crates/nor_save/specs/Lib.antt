@@ -3,3 +3,4 @@ pub mod Opening
 pub mod Judging
 pub mod Saving
 pub mod SavedScan
+pub mod Verdict

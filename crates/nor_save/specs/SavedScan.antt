@@ -16,7 +16,8 @@ use Rattle.nor_call.specs.declared.refusal.Refusal.TheVariants.{StatusLocked, Pr
 use Rattle.nor_call.specs.Request.{wanted, scanned_sectors}
 use Rattle.nor_save.specs.Scanning.{Scans}
 use Rattle.nor_save.specs.Judging.{Lifts}
-use Rattle.nor_save.specs.Saving.{IsOpening, Shows, ScanAccepts, ScanJudges, head_of}
+use Rattle.nor_save.specs.Saving.{IsOpening, Shows, head_of}
+use Rattle.nor_save.specs.Verdict.{IsVerdict, OpeningAccepts, ScanAccepts}
 
 -- What is left of the vault: sealed at the end; unsealed at a refusal, which is one more failure where it is the
 -- vault's.
@@ -50,7 +51,7 @@ pub record HasSavedChip (request : Request) (code : ℕ) (image image' : List �
     (chip : Chip) (vault : VaultState) (saved : SavedScan) : Type 0 where
   pub touched : (s : ℕ) → has saved.scanned.touched s ≡ is_touched chip.bytes (wanted request image chip) s
   pub raised : (s : ℕ) → has saved.scanned.raised s ≡ is_raised chip.bytes (wanted request image chip) s
-  pub accepts : ScanAccepts request code (is_touched chip.bytes (wanted request image chip)) chip saved.unlock
+  pub accepts : OpeningAccepts request image chip code → ScanAccepts request image chip saved.unlock
   pub merged : (a : ℕ) → has saved.scanned.touched (a / 4096) ≡ true
       → slice_index image' a ≡ wanted request image chip a
   pub journal : vault.telling ≡ true
@@ -64,11 +65,11 @@ pub record HasSaved (request : Request) (opening : Opening) (code : ℕ) (image 
   pub chip : (chip : Chip) → IsOpening chip opening → Shows chip old
       → HasSavedChip request code image image' chip vault saved
 
--- what a refusal tells, of the touched sectors of a chip with this opening
+-- a refusal is the verdict on each chip with this opening that the opening accepted
 abbrev pub JudgesChip : Request → Opening → ℕ → List ℕ → BusState → Refusal → Type 0
 JudgesChip request opening code image old refusal =
-    (chip : Chip) → IsOpening chip opening → Shows chip old
-    → ScanJudges request code (is_touched chip.bytes (wanted request image chip)) chip refusal
+    (chip : Chip) → IsOpening chip opening → Shows chip old → OpeningAccepts request image chip code
+    → IsVerdict request image chip refusal
 
 abbrev pub SaveTells : Request → Opening → ℕ → List ℕ → (old new : BusState) → Refusal → Type 0
 SaveTells request opening code image old new Stopped =

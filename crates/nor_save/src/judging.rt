@@ -16,7 +16,7 @@ use nor_layout::reaches_past;
 use nor_plan::SectorSet;
 
 /// Judges a request by what the opening found, against an image of so many bytes. Answers the wanted protection code.
-#[tactic(auto, using(crate::proofs::Held::code_same))]
+#[tactic(auto, using(crate::proofs::Held::code_same, crate::proofs::OneVerdict::opening_judged, crate::proofs::OneVerdict::opening_accepted))]
 pub fn judge_opening(request: &Request, opening: &Opening, image: usize) -> Result<u8, Refusal>
     requires { IsTrue (is_chip_size opening.now.found.size) }
     ensures six_bits { IfOk result (λ code. code < 64) }
@@ -90,6 +90,7 @@ fn needs_status(request: &Request, opening: &Opening, is_held: bool, code: u8) -
 }
 
 /// Judges a request by the touched sectors. Answers whether protection is to be lifted.
+#[tactic(auto, using(crate::proofs::OneVerdict::scan_judged, crate::proofs::OneVerdict::scan_accepted))]
 pub fn judge_scan(
     request: &Request,
     opening: &Opening,

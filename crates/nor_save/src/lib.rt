@@ -22,7 +22,7 @@
 //! assert!(rt; vault.is_sealed());
 //! ```
 //!
-//! What the opening tells stands in `specs/Opening.antt`, which requests are refused in `Judging`, and what is saved in
+//! What the opening tells stands in `specs/Opening.antt`, which requests are refused in `Verdict`, and what is saved in
 //! `SavedScan`.
 #![tactic(auto)]
 

@@ -1,7 +1,7 @@
 -- What an accepted request tells of its chip.
 use Rattle.std.proofs.Common.{◌≡◌, ◌≢◌, ◌<◌, ◌*◌, ◌⊎◌, ℕ, Bool, true, false, List, Option, None, Some, Result, Ok, Err, zero, suc, refl, arith, inl, inr}
 use Rattle.std.specs.Prelude.{if◌then◌else◌}
-use Rattle.std.proofs.lemmas.Bool.{cases_Bool, false_from_ne_true, true_from_ne_false, both_ways, and_parts}
+use Rattle.std.proofs.lemmas.Bool.{cases_Bool, false_from_ne_true, and_parts}
 use borrow.Author.Count.{below_more}
 use Rattle.nor_chip.specs.Chip.{Chip, is_locked}
 use Rattle.nor_chip.specs.Guard.{code_of, is_unit_guarded}
@@ -20,9 +20,9 @@ use Rattle.nor_call.specs.declared.request.What.{What}
 use Rattle.nor_call.specs.declared.request.What.TheVariants.{WpRange}
 use Rattle.nor_call.specs.declared.refusal.Refusal.TheVariants.{NoChip, UnknownChip, OtherName, StatusLocked, Protected}
 use Rattle.nor_call.specs.Request.{is_data, IsWantedCode, wanted}
+use Rattle.nor_save.proofs.OneVerdict.{touched_data}
 use Rattle.nor_save.specs.Saving.{NeedsStatus, NoneHeld, SomeHeld, is_held}
-use Rattle.nor_save.proofs.Planned.{untouched}
-use Rattle.nor_session.specs.Verdict.{IsNamed, IsAccepted}
+use Rattle.nor_save.specs.Verdict.{IsNamed, IsAccepted}
 
 -- ---- the part
 
@@ -62,14 +62,6 @@ none_least test never zero s below = absurd (omega arith)
 none_least test never (suc n) s below =
     let before = none_least test never n in
     below_more (λ k. test k ≡ false) n before (false_from_ne_true (test n) (λ hit. never n hit before)) s (omega arith)
-
--- a request that touches a sector is about bytes
-touched_data : (request : Request) (image : List ℕ) (chip : Chip) (s : ℕ) → is_touched chip.bytes (wanted request image chip) s ≡ true
-    → is_data request.what ≡ true
-unfolding is_touched
-touched_data request image chip s touched = true_from_ne_false (is_data request.what) (λ range.
-    both_ways (is_touched chip.bytes (wanted request image chip) s)
-    (rw range (untouched chip.bytes chip.bytes s (λ i below. refl))) touched)
 
 -- bytes need a status write where protection of a touched sector is to be lifted
 needs_lift : (what : What) (unlock : Bool) (touched : ℕ → Bool) (chip : Chip) → is_data what ≡ true → unlock ≡ true

@@ -1,5 +1,4 @@
 pub mod Changed
-pub mod OneVerdict
 pub mod JudgedAgain
 pub mod OneRestoreVerdict
 pub mod Ready

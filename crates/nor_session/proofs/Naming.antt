@@ -1,5 +1,5 @@
 -- Which address a refusal names, from the parts of a session or restore to its answer.
-use Rattle.std.proofs.Common.{ℕ, ◌≡◌, ◌/◌, ◌∙◌, true, List, inl, inr}
+use Rattle.std.proofs.Common.{ℕ, ◌≡◌, ◌≤◌, ◌/◌, ◌∙◌, true, List, arith, inl, inr}
 use Rattle.nor_chip.specs.Bus.{BusState}
 use Rattle.nor_journal.specs.Text.{Content, IsContent, text}
 use Rattle.nor_journal.specs.Saved.{is_saved}
@@ -9,7 +9,8 @@ use Rattle.nor_apply.specs.Applying.{touched_in}
 use Rattle.nor_save.specs.declared.opening.Opening.{Opening}
 use Rattle.nor_call.specs.declared.request.Request.{Request}
 use Rattle.nor_call.specs.declared.refusal.Refusal.{Refusal}
-use Rattle.nor_call.specs.declared.refusal.Refusal.TheVariants.{Timeout, Mismatch}
+use Rattle.nor_call.specs.declared.refusal.Refusal.TheVariants.{Stopped, StatusLocked, Protected, Timeout, Mismatch, Vault}
+use Rattle.nor_call.specs.Refusal.{number_of}
 use Rattle.nor_save.specs.SavedScan.{IsJournalOf, SaveTells}
 use Rattle.nor_save.specs.Judging.{IsOpeningRefusal}
 use Rattle.nor_session.specs.Changing.{NamesTouchedSector}
@@ -22,6 +23,15 @@ pub save_names : (request : Request) (opening : Opening) (code : ℕ) (image : L
 save_names request opening code image old new (Timeout address) tells = absurd tells
 save_names request opening code image old new (Mismatch address) tells = absurd tells
 save_names request opening code image old new _ tells = tt
+
+-- what it refuses is judged of the touched sectors, or the vault's, or a stop
+pub save_number : (request : Request) (opening : Opening) (code : ℕ) (image : List ℕ) (old new : BusState) (refusal : Refusal)
+    → SaveTells request opening code image old new refusal → (9 ≤ number_of refusal) × (number_of refusal ≤ 12)
+save_number request opening code image old new StatusLocked tells = (omega arith, omega arith)
+save_number request opening code image old new (Protected address) tells = (omega arith, omega arith)
+save_number request opening code image old new Vault tells = (omega arith, omega arith)
+save_number request opening code image old new Stopped tells = (omega arith, omega arith)
+save_number request opening code image old new _ tells = absurd tells
 
 -- its judgement needs no bus
 pub judged_names : (refusal : Refusal) → IsOpeningRefusal refusal → NamesSector (λ sector. ⊥) refusal

@@ -9,7 +9,7 @@ use Rattle.nor_probe.specs.Known.{shown_as}
 use Rattle.nor_call.specs.declared.refusal.Refusal.{Refusal}
 use Rattle.nor_call.specs.declared.refusal.Refusal.TheVariants.{NoChip, UnknownChip, StatusLocked, OtherChip, OtherUnit, StatusDiffers}
 use Rattle.nor_call.specs.Refusal.{number_of}
-use Rattle.nor_session.specs.Verdict.{IsNamed}
+use Rattle.nor_save.specs.Verdict.{IsNamed}
 use Rattle.nor_session.specs.Headline.{IsOfKind}
 use Rattle.nor_session.specs.Restore.{IsOfOtherUnit, FitsStatus, NeedsStatusFrom, RestoreHolds, judged_in_turn, place_in, IsRestoreVerdict, IsRestorable}
 use Rattle.nor_session.specs.Prepare.{RestoreJudges, RestoreAccepts}

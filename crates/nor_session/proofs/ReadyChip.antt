@@ -1,5 +1,5 @@
 -- What holds of a chip that is what it shows itself to be, once its touched sectors are saved.
-use Rattle.std.proofs.Common.{◌≡◌, ◌<◌, ◌≤◌, ◌/◌, ◌∙◌, ℕ, true, List, length, ap, refl, arith, rules, inr}
+use Rattle.std.proofs.Common.{◌≡◌, ◌<◌, ◌≤◌, ◌/◌, ◌∙◌, ℕ, true, List, ap, refl, arith, rules, inr}
 use Rattle.std.specs.Prelude.{Option, Err}
 use Rattle.std.proofs.lemmas.Bool.Decides.{nat_tests}
 use Rattle.nor_chip.specs.declared.config.Config.{Config}
@@ -20,13 +20,13 @@ use Rattle.nor_call.specs.Refusal.{number_of}
 use Rattle.nor_call.specs.Request.{scanned_sectors}
 use Rattle.nor_save.specs.Opening.{Opens, most_opening}
 use Rattle.nor_call.specs.Tells.{OpeningTells}
-use Rattle.nor_save.specs.Saving.{IsOpening, Shows, OpeningJudges, OpeningAccepts}
+use Rattle.nor_save.specs.Saving.{IsOpening, Shows}
 use Rattle.nor_save.specs.SavedScan.{SavePuts, SaveTells}
 use Rattle.nor_probe.specs.Known.{IsModelled}
 use Rattle.nor_session.specs.Bounds.{most_of}
-use Rattle.nor_session.specs.Verdict.{IsNamed}
+use Rattle.nor_save.specs.Verdict.{IsNamed, IsVerdict, OpeningAccepts}
 use Rattle.nor_session.specs.Session.{SessionTells, HonestTells}
-use Rattle.nor_session.proofs.OneVerdict.{first_of, opening_judged, scan_judged}
+use Rattle.nor_save.proofs.OneVerdict.{first_of}
 use Rattle.nor_session.proofs.Ready.{scanned_most, scanned_few}
 
 -- ---- the opening tells the starting chip
@@ -93,7 +93,7 @@ refused_puts Vault old new puts = (puts.telling, puts.sealed)
 refused_puts _ old new puts = (puts.telling, puts.sealed)
 
 pub save_tells : (request : Request) (image : List ℕ) (opening : Opening) (code : ℕ) (old mid new : BusState) (vault vault' : VaultState) (refusal : Refusal)
-    → IsModelled old → Looks most_opening old mid → Opens request.named old mid opening → OpeningAccepts request (length image) old.chip code
+    → IsModelled old → Looks most_opening old mid → Opens request.named old mid opening → OpeningAccepts request image old.chip code
     → (refusal ≡ Vault → Rose vault vault') → SaveTells request opening code image mid new refusal → SessionTells request image old new vault vault' refusal
 save_tells request image opening code old mid new vault vault' Vault is looks opens accepts rose tells = rose refl
 save_tells request image opening code old mid new vault vault' Stopped is looks opens accepts rose tells =
@@ -101,11 +101,9 @@ save_tells request image opening code old mid new vault vault' Stopped is looks 
     let most = scanned_most request opening.found.size in let size = (opens.genuine is).size in
     omega arith
 save_tells request image opening code old mid new vault vault' StatusLocked is looks opens accepts rose tells =
-    scan_judged StatusLocked (named request opening old mid is opens) accepts
-    (tells old.chip (opening_of is opens) (shows request opening old mid is looks opens))
+    tells old.chip (opening_of is opens) (shows request opening old mid is looks opens) accepts
 save_tells request image opening code old mid new vault vault' (Protected address) is looks opens accepts rose tells =
-    scan_judged (Protected address) (named request opening old mid is opens) accepts
-    (tells old.chip (opening_of is opens) (shows request opening old mid is looks opens))
+    tells old.chip (opening_of is opens) (shows request opening old mid is looks opens) accepts
 save_tells request image opening code old mid new vault vault' _ is looks opens accepts rose tells = absurd tells
 
 -- ---- where the opening refuses
@@ -124,8 +122,8 @@ open_tells request image old new vault vault' _ is tells = absurd tells
 
 -- and where its judgement does
 pub judge_tells : (request : Request) (image : List ℕ) (old new : BusState) (vault vault' : VaultState)
-    (refusal : Refusal) → IsNamed request.named old.chip.config → OpeningJudges request (length image) old.chip refusal
+    (refusal : Refusal) → IsVerdict request image old.chip refusal
     → SessionTells request image old new vault vault' refusal
-judge_tells request image old new vault vault' Vault is judges = absurd judges
-judge_tells request image old new vault vault' Stopped is judges = absurd judges
-judge_tells request image old new vault vault' refusal is judges = opening_judged refusal is judges
+judge_tells request image old new vault vault' Vault verdict = absurd verdict.holds
+judge_tells request image old new vault vault' Stopped verdict = absurd verdict.holds
+judge_tells request image old new vault vault' refusal verdict = verdict

@@ -18,7 +18,7 @@ use Rattle.nor_probe.specs.Known.{IsModelled}
 use Rattle.nor_probe.proofs.Configs.{shown_config}
 use Rattle.nor_session.specs.Bounds.{most_of}
 use Rattle.nor_session.specs.Made.{AreFewestErases}
-use Rattle.nor_session.specs.Verdict.{IsAccepted}
+use Rattle.nor_save.specs.Verdict.{IsAccepted}
 use Rattle.nor_session.specs.Headline.{KeepsFirst}
 use Rattle.nor_session.specs.Session.{SessionAlways, SessionHonest, SessionModelled, SessionTells, HonestTells, IsDone, NamesAddress, most_status_writes, AimsAtSaved, WritesStatusAtMost}
 use Rattle.nor_session.specs.Rehearsal.{CanEnd, IsRehearsalRefusal, RehearsalTells, first_allowance, least_needed}

@@ -16,7 +16,7 @@ use Rattle.nor_call.specs.declared.refusal.Refusal.{Refusal}
 use Rattle.nor_call.specs.declared.refusal.Refusal.TheVariants.{OtherUnit, StatusDiffers}
 use Rattle.nor_call.specs.Refusal.{of_probe}
 use Rattle.nor_save.specs.Opening.{most_opening}
-use Rattle.nor_session.specs.Verdict.{IsNamed}
+use Rattle.nor_save.specs.Verdict.{IsNamed}
 use Rattle.nor_session.specs.Headline.{IsOfKind}
 use Rattle.nor_session.specs.Restore.{IsOfOtherUnit}
 use Rattle.nor_session.specs.Prepare.{RestoreJudges, IsOfKindFound, IsUnitRefusal, PrepareTells}

@@ -1,5 +1,5 @@
 -- The changes of a session can be made, and what a refusal of them tells.
-use Rattle.std.proofs.Common.{◌≡◌, ◌≢◌, ◌<◌, ◌≤◌, ◌/◌, ◌∙◌, ℕ, Bool, true, false, List, length, ap, sym, refl, arith, bit_and}
+use Rattle.std.proofs.Common.{◌≡◌, ◌≢◌, ◌<◌, ◌≤◌, ◌/◌, ◌∙◌, ℕ, Bool, true, false, List, ap, sym, refl, arith, bit_and}
 use Rattle.nor_probe.specs.Known.{shown_as}
 use Rattle.nor_probe.specs.Found.{part_in}
 use Rattle.std.specs.Prelude.{Ok, ◌||◌, slice_index}
@@ -27,10 +27,11 @@ use Rattle.nor_call.specs.Request.{is_data, wanted}
 use Rattle.nor_save.specs.Opening.{status_read}
 use Rattle.nor_call.specs.Refusal.{number_of}
 use Rattle.nor_session.specs.Bounds.{most_of}
-use Rattle.nor_save.specs.Saving.{IsOpening, OpeningAccepts, ScanAccepts, SomeHeld, NeedsStatus}
+use Rattle.nor_save.specs.Saving.{IsOpening, SomeHeld, NeedsStatus}
+use Rattle.nor_call.specs.declared.refusal.Refusal.TheVariants.{NoProtection, StatusLocked}
 use Rattle.nor_session.specs.Changing.{ChangeTells}
 use Rattle.nor_session.specs.Session.{HonestTells, SessionTells}
-use Rattle.nor_session.specs.Verdict.{NeedsStatusWrite}
+use Rattle.nor_save.specs.Verdict.{NeedsStatusWrite, OpeningAccepts, ScanAccepts}
 use Rattle.nor_session.proofs.Changed.{no_write, writes_other}
 use Rattle.nor_save.proofs.Held.{code_same}
 use Rattle.nor_session.proofs.JudgedStatus.{held_scheme, free_place, writable_for}
@@ -44,12 +45,12 @@ pub record ReadyChip (request : Request) (image image' : List ℕ) (opening : Op
   pub is : IsOpening old.chip opening
   pub shown : shown_as old.chip.config ≡ Ok (part_in opening.found)
   pub told : old.chip.busy ≡ 0 → opening.found.status1 ≡ status1_of old.chip
-  pub accepts : OpeningAccepts request (length image) old.chip code
+  pub accepts : OpeningAccepts request image old.chip code
   pub idle : mid.chip.busy ≡ 0
   pub rested : Rested old mid
   pub touched : (s : ℕ) → has kept.scanned.touched s ≡ is_touched old.chip.bytes (wanted request image old.chip) s
   pub raised : (s : ℕ) → has kept.scanned.raised s ≡ is_raised old.chip.bytes (wanted request image old.chip) s
-  pub scan : ScanAccepts request code (is_touched old.chip.bytes (wanted request image old.chip)) old.chip kept.unlock
+  pub scan : ScanAccepts request image old.chip kept.unlock
   pub merged : (a : ℕ) → has kept.scanned.touched (a / 4096) ≡ true → slice_index image' a ≡ wanted request image old.chip a
   pub bytes : (a : ℕ) → slice_index image' a < 256
   pub small : old.chip.kept.two < 128
@@ -93,8 +94,10 @@ module _ (request : Request) (image image' : List ℕ) (opening : Opening) (stat
   writable writes =
       let need = needs writes in
       writable_for of.rested.unchanged.same
-      (scheme_needed request.what request.unlock code _ old.chip of.accepts.protection.scheme need)
-      (λ locked. of.scan.not_locked locked need)
+      (scheme_needed request.what request.unlock code _ old.chip
+      (λ range. true_from_ne_false old.chip.config.scheme (λ none. of.accepts.clear NoProtection (omega arith) (range, none)))
+      need)
+      (λ locked. of.scan.accepted StatusLocked (locked, (code, of.accepts.is_wanted, need)))
 
   falls : (a : ℕ) → is_touched old.chip.bytes (wanted request image old.chip) (a / 4096) ≡ true
       → is_raised old.chip.bytes (wanted request image old.chip) (a / 4096) ≡ false

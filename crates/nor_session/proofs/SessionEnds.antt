@@ -1,5 +1,5 @@
 -- What a session leaves once the vault is sealed, and at its end.
-use Rattle.std.proofs.Common.{subst, ◌≡◌, ◌<◌, ◌+◌, ◌∙◌, ℕ, Bool, List, length, ap, sym, arith}
+use Rattle.std.proofs.Common.{subst, ◌≡◌, ◌<◌, ◌+◌, ◌∙◌, ℕ, Bool, List, ap, sym, arith}
 use mathlib.Core.Path.{fun_ext}
 use Rattle.std.specs.Prelude.{slice_index}
 use Rattle.nor_chip.specs.declared.status.Status.{Status}
@@ -18,7 +18,7 @@ use Rattle.nor_save.specs.declared.saving.SavedScan.{SavedScan}
 use Rattle.nor_call.specs.declared.request.Request.{Request}
 use Rattle.nor_call.specs.Request.{wanted, scanned_sectors}
 use Rattle.nor_save.specs.Opening.{Opens, most_opening}
-use Rattle.nor_save.specs.Saving.{IsOpening, OpeningAccepts}
+use Rattle.nor_save.specs.Saving.{IsOpening}
 use Rattle.nor_save.specs.SavedScan.{HasSaved}
 use Rattle.nor_chip.proofs.Sizes.{sized_bounds}
 use Rattle.nor_save.proofs.Planned.{raised_inside}
@@ -26,19 +26,18 @@ use Rattle.nor_probe.specs.Known.{IsModelled}
 use Rattle.nor_session.specs.Changing.{LeavesChange, DoesChange}
 use Rattle.nor_session.specs.Session.{IsWithinBound, IsDone, CanBeUndone}
 use Rattle.nor_session.specs.Made.{IsMade}
-use Rattle.nor_session.specs.Verdict.{NeedsStatusWrite}
+use Rattle.nor_save.specs.Verdict.{NeedsStatusWrite, OpeningAccepts}
 use Rattle.nor_session.proofs.Changed.{no_write, fewest_at}
 use Rattle.nor_session.proofs.Ready.{Ready, changes_of, bounded_by}
 use Rattle.nor_session.proofs.ReadyChip.{is_opening, told_idle, shows, named}
 use Rattle.nor_session.proofs.SessionChanges.{ReadyChip, can_apply, needs}
-use Rattle.nor_session.proofs.OneVerdict.{scan_accepted}
 use Rattle.nor_session.proofs.RestoredBytes.{untouched_byte, pages_same}
 
 module _ (request : Request) (image image' : List ℕ) (opening : Opening) (status : Status) (code : ℕ)
     (kept : SavedScan) (old mid : BusState) where
   pub ready_chip : (new : BusState) (vault : VaultState) → IsModelled old → Looks most_opening old mid
       → Opens request.named old mid opening → Ready request opening status code kept old new
-      → (IsOpening old.chip opening → OpeningAccepts request (length image) old.chip code)
+      → (IsOpening old.chip opening → OpeningAccepts request image old.chip code)
       → HasSaved request opening code image image' mid new vault kept → ((a : ℕ) → slice_index image' a < 256)
       → old.chip.kept.two < 128 → ReadyChip request image image' opening code kept old new
   ready_chip new vault modelled looks opens is accepts keeps bytes small =
@@ -58,7 +57,7 @@ module _ (request : Request) (image image' : List ℕ) (opening : Opening) (stat
       let unchanged = of.rested.unchanged in
       let can = can_apply request image image' opening status code kept old ready is of in
       record {
-        accepted = scan_accepted request image old.chip code kept.unlock (named request opening old mid modelled opens) of.accepts of.scan;
+        accepted = of.scan.accepted;
         journal = chip.journal;
         -- the changes are on the way to the wanted chip
         changes = change_then is.looked.nature.steady (same_change unchanged.same of.idle unchanged.worn)

@@ -1,5 +1,5 @@
 -- What a session knows once its opening is judged, and from where its promises count.
-use Rattle.std.specs.Prelude.{◌≡◌, ◌≤◌, ◌<◌, ℕ, true, Option, List, Result}
+use Rattle.std.specs.Prelude.{◌≡◌, ◌≤◌, ◌<◌, ℕ, true, Option, List, Result, length}
 use Rattle.nor_chip.specs.Guard.{code_of}
 use Rattle.nor_chip.specs.Chip.{Chip, kept_in}
 use Rattle.nor_chip.specs.Bus.{BusState}
@@ -13,7 +13,8 @@ use Rattle.nor_call.specs.declared.refusal.Refusal.{Refusal}
 use Rattle.nor_journal.specs.Vault.{VaultState}
 use Rattle.nor_call.specs.Request.{is_data}
 use Rattle.nor_save.specs.Opening.{status_read, Opens, most_opening}
-use Rattle.nor_save.specs.Saving.{IsOpening, OpeningAccepts}
+use Rattle.nor_save.specs.Saving.{IsOpening}
+use Rattle.nor_save.specs.Verdict.{IsNamed, OpeningAccepts}
 use Rattle.nor_probe.specs.Known.{IsModelled}
 use Rattle.nor_session.specs.Session.{SessionAlways, SessionHonest, SessionModelled}
 
@@ -25,7 +26,8 @@ pub record IsJudged (request : Request) (image : ℕ) (opening : Opening) (code 
   pub six_bits : code < 64
   pub sized : is_data request.what ≡ true → image ≡ opening.found.size
   pub same_code : is_data request.what ≡ true → code ≡ code_of (kept_in (status_read opening))
-  pub accepts : (chip : Chip) → IsOpening chip opening → OpeningAccepts request image chip code
+  pub accepts : (chip : Chip) (bytes : List ℕ) → IsOpening chip opening → IsNamed request.named chip.config
+      → length bytes ≡ image → OpeningAccepts request bytes chip code
 
 -- this holds of every state of the bus from which the opening led to the one now
 abbrev pub SinceOpening : Option ChipName → Opening → BusState → (BusState → Type 0) → Type 0

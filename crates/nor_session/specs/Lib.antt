@@ -1,7 +1,6 @@
 pub mod Bounds
 pub mod Made
 pub mod Headline
-pub mod Verdict
 pub mod Changing
 pub mod Session
 pub mod Judged

@@ -28,7 +28,7 @@ use Rattle.nor_session.specs.declared.prepare.Prepared.{Prepared}
 use Rattle.nor_session.specs.Bounds.{most_looked}
 use Rattle.nor_session.specs.Changing.{touched_count}
 use Rattle.nor_session.specs.Headline.{IsOfKind}
-use Rattle.nor_session.specs.Verdict.{IsNamed}
+use Rattle.nor_save.specs.Verdict.{IsNamed}
 use Rattle.nor_session.specs.Restore.{IsOfOtherUnit, FitsStatus, NeedsStatusFrom, IsJudgedFirst, restored}
 
 -- ---- what is judged, in the order of the code

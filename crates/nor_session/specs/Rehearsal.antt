@@ -17,7 +17,7 @@ use Rattle.nor_save.specs.SavedScan.{IsJournal}
 use Rattle.nor_session.specs.declared.rehearsals.Rehearsal.{Rehearsal}
 use Rattle.nor_session.specs.Bounds.{most_looked, most_of}
 use Rattle.nor_session.specs.Made.{AreFewestErases, pages_of}
-use Rattle.nor_session.specs.Verdict.{IsVerdict, IsAccepted}
+use Rattle.nor_save.specs.Verdict.{IsVerdict, IsAccepted}
 use Rattle.nor_session.specs.Session.{AnswersSession, NamesAddress, most_status_writes, AimsAtSaved, WritesStatusAtMost}
 use Rattle.nor_session.specs.Restore.{IsRestoreRefusal}
 

@@ -18,7 +18,7 @@ use Rattle.nor_call.specs.Request.{wanted, IsWantedCode}
 use Rattle.nor_save.specs.Saving.{head_of, NoneHeld}
 use Rattle.nor_save.specs.SavedScan.{IsJournal}
 use Rattle.nor_session.specs.Bounds.{most_of}
-use Rattle.nor_session.specs.Verdict.{IsAccepted}
+use Rattle.nor_save.specs.Verdict.{IsAccepted}
 use Rattle.nor_session.specs.Session.{AnswersSession, SavesSector, NamesSector, NamesAddress, most_status_writes, AimsAtSaved, WritesStatusAtMost}
 use Rattle.nor_session.specs.Headline.{CanGiveBack}
 use Rattle.nor_session.specs.Restore.{IsRestoreRefusal}

@@ -24,7 +24,7 @@ use Rattle.nor_save.specs.Saving.{head_of}
 use Rattle.nor_save.specs.SavedScan.{IsJournal, BeginsJournal, HoldsJournal}
 use Rattle.nor_session.specs.Bounds.{most_looked, most_of}
 use Rattle.nor_session.specs.Made.{IsMade, IsReported}
-use Rattle.nor_session.specs.Verdict.{IsNamed, NeedsStatusWrite, IsVerdict, IsAccepted}
+use Rattle.nor_save.specs.Verdict.{IsNamed, NeedsStatusWrite, IsVerdict, IsAccepted}
 
 -- ---- on every bus
 

@@ -21,9 +21,10 @@
 //! assert_eq!(rt; bus.bytes(), before.as_slice());
 //! ```
 //!
-//! What each call promises stands in `specs/`: before all else `Headline.antt`, then `Verdict.antt`, `Session.antt`,
-//! `Restore.antt`, `Rehearsal.antt`, and of which buses `IsModelled` of nor_probe; what laws say of calls that follow
-//! one another in `InTurn.antt`, and of a chip that is kept in files in `WrittenOver.antt`.
+//! What each call promises stands in `specs/`: before all else `Headline.antt`, then `Session.antt`, `Restore.antt`,
+//! `Rehearsal.antt`, the verdict on a request by `IsVerdict` of nor_save, and of which buses `IsModelled` of nor_probe;
+//! what laws say of calls that follow one another in `InTurn.antt`, and of a chip that is kept in files in
+//! `WrittenOver.antt`.
 #![tactic(auto)]
 
 mod judged;

@@ -6,7 +6,7 @@ ghost use Rattle.nor_call.specs.declared.request.Request.{Request};
 ghost use Rattle.nor_call.specs.declared.refusal.Refusal.{Refusal};
 ghost use Rattle.nor_probe.specs.Known.{IsModelled};
 ghost use Rattle.nor_session.specs.Headline.{KeepsFirst};
-ghost use Rattle.nor_session.specs.Verdict.{IsVerdict, IsAccepted};
+ghost use Rattle.nor_save.specs.Verdict.{IsVerdict, IsAccepted};
 ghost use Rattle.nor_session.specs.Session.{SessionAlways, SessionHonest, SessionModelled};
 
 use crate::judged::Judged;
@@ -47,7 +47,7 @@ pub fn session<B: Bus, V: Vault>(
 }
 
 /// An accepted request has no refusal from 1 to 10.
-#[tactic(auto, using(crate::proofs::OneVerdict::accepted_only))]
+#[tactic(auto, using(nor_save::proofs::OneVerdict::accepted_only))]
 pub fn accepted_alone()
     ensures { (request : Request) (image : List ℕ) (chip : Chip) (refusal : Refusal)
         → IsAccepted request image chip → ¬ IsVerdict request image chip refusal }

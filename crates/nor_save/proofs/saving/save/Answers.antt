@@ -1,5 +1,4 @@
 use Rattle.std.proofs.Common.{◌≡◌, refl, rules, arith}
-use mathlib.Core.Path.{fun_ext}
 use Rattle.std.proofs.lemmas.Grind.{common_steps}
 use Rattle.nor_journal.specs.Writer.{vault_seen}
 use Rattle.nor_save.specs.Saving.{head_of}
@@ -23,7 +22,7 @@ returns-clause-keeps g c =
       chip = λ chip is shows. record {
         touched = touched_right is shows scans;
         raised = raised_right is shows scans;
-        accepts = rw (fun_ext (touched_right is shows scans)) at (c.in_ok-unlock.ensures.accepts chip is);
+        accepts = λ accepted. c.in_ok-unlock.ensures.accepts chip _ is accepted (touched_right is shows scans);
         merged = λ a marked. rw (same_bytes is shows, is.config.size) at (scans.merged (is_open is shows) a marked);
         journal = λ telling.
             let head = head_put c.args.opening.now (g.B.Bus.state c.args.bus.now) (g.met.B.Bus.reaches c.args.bus.now)

@@ -1,4 +1,4 @@
-use Rattle.std.proofs.Common.{rules}
+use Rattle.std.proofs.Common.{refl, rules}
 use Rattle.std.proofs.lemmas.Result.{err_from_is_err_and}
 use Rattle.nor_session.proofs.Naming.{judged_names}
 use Rattle.nor_session.proofs.Aiming.{none_written}
@@ -32,7 +32,7 @@ returns-in_err-code-clause-modelled g c = λ modelled.
     let vault = g.V.Vault.state c.args.vault.now in
     let request = c.args.request.now in let opens = c.in_ok-opening.ensures.opens in
     let tells = judge_tells request c.args.image.now old new vault vault c.in_err-code.field-0.0
-    (named request c.in_ok-opening.opening old new modelled opens)
-    (c.in_err-code.ensures.tells old.chip (opening_of modelled opens)) in
+    (c.in_err-code.ensures.tells old.chip c.args.image.now (opening_of modelled opens)
+    (named request c.in_ok-opening.opening old new modelled opens) refl) in
     let p = err_from_is_err_and c.from_residual-in_err-code.result c.from_residual-in_err-code.ensures.1 in
     rw (p.1, p.2) (search (rules, none_written))

@@ -1,5 +1,5 @@
-use Rattle.std.proofs.Common.{rules, arith, ◌≡◌, ◌∙◌, true, false, inr, ◌+◌, ◌*◌, length}
-use Rattle.std.proofs.lemmas.Bool.{lt-ltb}
+use Rattle.std.proofs.Common.{refl, rules, arith, ◌≡◌, ◌∙◌, true, false, inr, ◌+◌, ◌*◌, length}
+use Rattle.std.proofs.lemmas.Bool.{both_ways, lt-ltb}
 use Rattle.std.proofs.lemmas.Result.{err_from_is_err_and}
 use Rattle.nor_driver.specs.Looks.{Looks}
 use Rattle.nor_driver.proofs.RestsInTurn.{looks_after}
@@ -7,12 +7,12 @@ use Rattle.nor_call.specs.Request.{scanned_sectors}
 use Rattle.nor_apply.specs.Spending.{Spends}
 use Rattle.nor_session.specs.Bounds.{most_looked, most_of}
 use Rattle.nor_session.specs.Session.{most_status_writes}
-use Rattle.nor_session.specs.Verdict.{NeedsStatusWrite}
+use Rattle.nor_save.specs.Verdict.{NeedsStatusWrite}
 use Rattle.nor_session.proofs.Ready.{changes_of, has_opened, ready, scanned_few, spends_looks, spends_more, spends_ready, writes_few, bounded_by, touched_data}
 use Rattle.nor_session.proofs.ReadyChip.{small_first, opening_of, shows, named, most_sized, refused_puts, save_gives_up, save_tells}
 use Rattle.nor_session.proofs.SessionChanges.{never_written, change_gives_up, change_tells}
 use Rattle.nor_session.proofs.SessionEnds.{ready_chip, can_be_undone, done, spared}
-use Rattle.nor_session.proofs.Naming.{save_names, work_names}
+use Rattle.nor_session.proofs.Naming.{save_names, save_number, work_names}
 use Rattle.nor_session.proofs.Aiming.{none_written, change_writes, change_aims_in}
 use Rattle.nor_session.proofs.judged.Judged.answer.Goals as goal
 
@@ -44,17 +44,35 @@ returns-in_err-saved g c = λ first looks opens.
           let spends : Spends (most_of 4096) first new = spends_more (omega arith) spent in
           let writes = none_written (most_status_writes request.what request.unlock) first new looked_on.sent in
           let names = save_names _ _ _ _ _ _ refusal told.tells in
-          search rules;
+          let number = save_number _ _ _ _ _ _ refusal told.tells in
+          let never = λ (on : vault'.sealed ≡ true). both_ways vault'.sealed unsealed on in
+          record {
+            looks = λ off. looked_on;
+            spends = spends;
+            writes = writes;
+            telling = puts.0;
+            aims = λ on telling. absurd (never on);
+            holds = λ on telling. absurd (never on);
+            answers = record {
+              own = omega (arith, number.1);
+              vault = search rules;
+              unsealed = λ few. unsealed;
+              unused = λ few. absurd (omega (arith, number.0));
+            };
+            names = record { early = λ off. names; late = λ on telling. absurd (never on) };
+            ends = tt;
+            heard = tt;
+          };
       honest = λ honest.
           let tells = save_gives_up _ _ _ _ _ _ _ _ refusal honest looks opens leaves told.tells in search rules;
       modelled = λ modelled.
           let opened = opening_of modelled opens in
           let shown = shows request _ _ _ modelled looks opens in
+          let is_named = named request _ _ _ modelled opens in
           let tells = save_tells _ _ _ _ _ _ _ vault vault' refusal modelled looks opens
-          (c.requires.judged.accepts first.chip opened) (search rules) told.tells in
+          (c.requires.judged.accepts first.chip _ opened is_named refl) (search rules) told.tells in
           let falls = (spends_more (most_sized request (opens.genuine modelled)) spent).falls modelled.honest in
           let unwritten = none_written 0 first new looked_on.sent in
-          let is_named = named request _ _ _ modelled opens in
           search (rules, inr, told.begins, told.cut);
     })
 
@@ -81,7 +99,7 @@ returns-in_err-work g c = λ first looks opens.
       modelled = λ modelled.
           let small = (g.met.B.Bus.reaches c.args.self.bus.now (looks.nature.honest ∙ modelled.honest)).kept2 in
           let of = ready_chip _ _ _ _ _ _ _ _ _ _ _ modelled looks opens is
-          (c.requires.judged.accepts first.chip) keeps (λ a. let fits = c.save.type_inv in search rules)
+          (λ is. c.requires.judged.accepts first.chip _ is (named request _ _ _ modelled opens) refl) keeps (λ a. let fits = c.save.type_inv in search rules)
           (small_first modelled.honest opens small) in
           let tells = change_tells _ _ _ _ _ _ _ _ _ _ vault vault' refusal is of told.tells in
           let falls = (spends_more (most_sized request (opens.genuine modelled)) spent).falls modelled.honest in
@@ -111,7 +129,7 @@ returns g c = λ first looks opens.
       modelled = λ modelled.
           let small = (g.met.B.Bus.reaches c.args.self.bus.now (looks.nature.honest ∙ modelled.honest)).kept2 in
           let of = ready_chip _ _ _ _ _ _ _ _ _ _ _ modelled looks opens is
-          (c.requires.judged.accepts first.chip) keeps (λ a. let fits = c.save.type_inv in search rules)
+          (λ is. c.requires.judged.accepts first.chip _ is (named request _ _ _ modelled opens) refl) keeps (λ a. let fits = c.save.type_inv in search rules)
           (small_first modelled.honest opens small) in
           let falls = (spends_more (most_sized request (opens.genuine modelled)) spent).falls modelled.honest in
           let unwritten = λ (none : ¬ NeedsStatusWrite request image first.chip).

@@ -1,6 +1,6 @@
 -- The verdict on a request: of the refusals from 1 to 10 that hold of a chip the one with the least number, or that it
 -- is accepted.
-use Rattle.std.specs.Prelude.{◌≡◌, ◌≢◌, ◌<◌, ◌*◌, ℕ, true, false, List, length, Err}
+use Rattle.std.specs.Prelude.{◌≡◌, ◌≢◌, ◌<◌, ◌≤◌, ◌*◌, ℕ, Bool, true, false, List, length, Err}
 use Rattle.nor_chip.specs.Chip.{Chip, is_locked}
 use Rattle.nor_chip.specs.Guard.{code_of, is_undefined}
 use Rattle.nor_plan.specs.Content.{is_touched}
@@ -14,7 +14,7 @@ use Rattle.nor_call.specs.declared.refusal.Refusal.{Refusal}
 use Rattle.nor_call.specs.declared.refusal.Refusal.TheVariants.{NoChip, UnknownChip, OtherName, ImageSize, RegionOutside, NoProtection, UndefinedProtection, RangeNotOffered, StatusLocked, Protected}
 use Rattle.nor_call.specs.Refusal.{number_of}
 use Rattle.nor_call.specs.Request.{is_data, IsWantedCode, wanted}
-use Rattle.nor_save.specs.Saving.{AsksForNone, NeedsStatus, IsLeastHeld}
+use Rattle.nor_save.specs.Saving.{AsksForNone, NeedsStatus, IsLeastHeld, NoneHeld, SomeHeld}
 
 -- the request needs a status write on the chip
 abbrev pub NeedsStatusWrite : Request → (image : List ℕ) → Chip → Type 0
@@ -47,3 +47,21 @@ pub record IsVerdict (request : Request) (image : List ℕ) (chip : Chip) (refus
 -- the verdict is "accepted": no refusal holds
 abbrev pub IsAccepted : Request → (image : List ℕ) → Chip → Type 0
 IsAccepted request image chip = (refusal : Refusal) → ¬ RefusalHolds request image chip refusal
+
+-- none of the refusals up to this number holds
+abbrev pub NoneHoldsTo : (number : ℕ) → Request → (image : List ℕ) → Chip → Type 0
+NoneHoldsTo number request image chip =
+    (refusal : Refusal) → number_of refusal ≤ number → ¬ RefusalHolds request image chip refusal
+
+-- What the opening shows is accepted: none of the refusals holds that it judges, and the wanted code is this one.
+pub record OpeningAccepts (request : Request) (image : List ℕ) (chip : Chip) (code : ℕ) : Type 0 where
+  pub clear : NoneHoldsTo 8 request image chip
+  pub is_wanted : IsWantedCode request.what chip code
+
+-- So are the touched sectors: `unlock` tells whether protection is to be lifted, which the request must ask for and a
+-- held sector need, and where it isn't, no sector is held.
+pub record ScanAccepts (request : Request) (image : List ℕ) (chip : Chip) (unlock : Bool) : Type 0 where
+  pub accepted : IsAccepted request image chip
+  pub lifts : unlock ≡ true
+      → (request.unlock ≡ true) × SomeHeld (is_touched chip.bytes (wanted request image chip)) chip
+  pub free : unlock ≡ false → NoneHeld (is_touched chip.bytes (wanted request image chip)) chip
