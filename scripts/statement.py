@@ -1,11 +1,12 @@
 #!/usr/bin/env python3
 """scripts/statement.py [--check]: the page docs/STATEMENT.md, made from the sources.
 
-It prints all that three calls promise, and the laws that join them, in parts: each definition of specs/ and each type
-of src/ that the contracts of a part need and no part before it has, in an order in which each word is explained before
-it is used, and then these contracts. A definition by one equation has its signature in it. With --check it compares the page with what it would print, tells
-each difference, and ends with status 1 where there is one. It fails where a name is found nowhere, where SUBJECTS
-hasn't the file of a word, and where LEGEND doesn't explain a word of a library.
+It prints all that three calls promise, the laws that join them, and what a run leaves of files, in parts: each
+definition of specs/ and each type of src/ that the contracts of a part need and no part before it has, in an order in
+which each word is explained before it is used, and then these contracts. A definition by one equation has its signature
+in it. With --check it compares the page with what it would print, tells each difference, and ends with status 1 where
+there is one. It fails where a name is found nowhere, where SUBJECTS hasn't the file of a word, where LEGEND doesn't
+explain a word of a library, and where a part is too long.
 """
 import copy
 import difflib
@@ -18,8 +19,8 @@ sys.dont_write_bytecode = True  # nothing else is to be left in docs/
 from sources import TOP, Word, fail, source
 
 PAGE = "docs/STATEMENT.md"
-# The parts of the page, each a title, the contracts that it has and what these come to. Of a contract it has the
-# clauses that are named, or all that no part before it has; what a caller owes stands in each.
+# The parts of the page, each a title, the contracts that it has, what these come to, and how many lines it has at most.
+# Of a contract it has the clauses that are named, or all that no part before it has; what a caller owes stands in each.
 PARTS = {
     "what is given back": (
         {
@@ -33,6 +34,7 @@ PARTS = {
 stopped, the vault has a journal from which the chip can be made the first one (`leads_back`). Reading gives that journal
 (`only`). A restore from it leaves, wherever it is stopped, a chip of which that holds still (`within`); nothing but a stop
 keeps it from ending (`only_stops`); and the one that ends has left the first chip, each byte and each kept bit (`back`).""",
+        650,
     ),
     "what is promised beside it": (
         {
@@ -49,8 +51,21 @@ keeps it from ending (`only_stops`); and the one that ends has left the first ch
             "undone_in_turn": "nor_session/src/laws.rt",
         },
         "",
+        580,
+    ),
+    "what is left of files": (
+        {"work_on_chip": "flashnor/src/run.rt keeps"},
+        """`R: Store` is any store of files, `R.state` what contracts see of it, and `Store` in crates/nor_files/src/store.rt has the
+law that each of its calls keeps. This holds at every exit of a run's job, and since calls may fail from any one on (`left`)
+at each moment at which it is killed or its machine is lost. A change with a journal in a file leaves, until that journal is
+sealed, files that open to the first chip; and from then on one journal that gives the first chip back from whatever they
+open to (`LeavesWayBack`). A restore leaves its journal as it was, and what it could give back it still can
+(`LeavesRestorable`). `run_over` promises this of each job on a chip.""",
+        260,
     ),
 }
+# What the page leaves out: the trait of files with the law that each of its calls keeps, and what a run answers.
+ELSEWHERE = {"Store", "Work", "Fault"}
 
 # The subjects of the page in their order, and the files whose words each of them has. Where a word needs one of a later
 # subject the order gives way.
@@ -82,17 +97,22 @@ SUBJECTS = {
     "Restores": "nor_session: specs/Restore",
     "Rehearsals": "nor_session: src/rehearsals specs/Rehearsal",
     "Sessions one after the other, and files that are written over": "nor_session: specs/WrittenOver specs/InTurn",
+    "Files": "nor_files: specs/Files specs/Calls",
+    "What a run is asked for": "nor_words: specs/Text src/programmer specs/Programmer src/job",
+    "A chip in files": "flashnor: specs/Found src/chips specs/Stored specs/Chips specs/Tasks",
+    "What is left of them": "flashnor: specs/Left specs/Run src/run",
 }
 
 HEAD = """# The statement
 
-All that the calls `session`, `restore` and `rehearse` promise, and what joins them, in two parts: what is given back, for
-which this project is there, and what is promised beside it. In each part the contracts stand at the end, and before them
-each definition and type that these need and no part before it has, as its source has it, so that each word is explained
-before it is used. Of a contract a part has the clauses that belong there. (Only set closer: a definition by one equation
-has its arguments' types beside them, and not in a line above; that a word is a statement, `: Type 0`, is left out where
-its type has no `→`; and fields without a comment stand side by side.) `make statement` makes this page from the sources
-(`scripts/statement.py`), `make agree` compares it with them, and it has {told} without comments and blanks.
+All that the calls `session`, `restore` and `rehearse` promise, what joins them, and what a run of the program leaves of
+its files, in three parts: what is given back, for which this project is there; what is promised beside it; and the
+files. In each part the contracts stand at the end, and before them each definition and type that these need and no part
+before it has, as its source has it, so that each word is explained before it is used. Of a contract a part has the
+clauses that belong there. (Only set closer: a definition by one equation has its arguments' types beside them, and not
+in a line above; that a word is a statement, `: Type 0`, is left out where its type has no `→`; and fields without a
+comment stand side by side.) `make statement` makes this page from the sources (`scripts/statement.py`), `make agree`
+compares it with them, and it has {told} without comments and blanks.
 
 """
 
@@ -104,7 +124,8 @@ LEGEND = {
         "`false`; `List ℕ`) or a case of an `enum` or `data`. One in lower case is a value: a number, a test, a "
         "list. `f x y` is f of x and y, and `vault'` is just a name. Of equations the first that fits is meant; `_` "
         "fits anything. A case of which several kinds have one of that name is told by a word before it: "
-        "`Probes.NoChip` is that of a `ProbeFault`, `Runs.StatusWrite` that of a `Running`.",
+        "`Probes.NoChip` is that of a `ProbeFault`, `Runs.StatusWrite` that of a `Running`, `uses.Journal` that of a "
+        "`JournalUse` and `task.Change` that of a `Task`.",
     "record":
         "A `record` of statements holds where all its named fields hold. A field that is a value (`code : ℕ`) "
         "says that there is one, of which the fields behind it speak. A record of values (`Chip`) has these as its "
@@ -165,6 +186,10 @@ LEGEND = {
         "`little_bytes n x`: x in n bytes, the lowest first; `little_number n xs`: the number that the first n bytes are "
         "in this way, `little_from i n xs` the one that those from place i on are.",
     "sha256": "`sha256 xs`: the 32 bytes of their digest SHA-256.",
+    "Bor ArrayVec":
+        "A `Bor T` is a value of T that was lent, and its `now` is that value. An `ArrayVec` holds so many at most.",
+    "is_none option_map replicate":
+        "`is_none o` tests for a `None`, `option_map f o` is f of what a `Some` has, and `replicate n x` is x n times.",
 }
 
 
@@ -190,7 +215,7 @@ def needed():
     """Returns for each part of the page its contracts, each word that they need and no part before it has, with those
     that it uses; and the names of libraries."""
     parts, told, names, done = [], {}, set(), set()
-    for calls, _ in PARTS.values():
+    for calls, _, _ in PARTS.values():
         contracts, uses = [], {}
         for name, place in calls.items():
             path, *clauses = place.split()
@@ -206,7 +231,7 @@ def needed():
             word = todo.pop()
             found = word.source.used(word)
             names |= {use for use in found if isinstance(use, str)}
-            uses[word] = {use for use in found if isinstance(use, Word) and use is not word}
+            uses[word] = {use for use in found if isinstance(use, Word) and use is not word and use.name not in ELSEWHERE}
             todo += [use for use in uses[word] if use not in uses and use not in done]
         done |= set(uses)
         parts.append((contracts, uses))
@@ -284,7 +309,7 @@ def packed(word):
     """Returns the lines of a type of src as the page has them: fields that no comment parts stand side by side."""
     lines, free = [], False
     for line in word.code:
-        field = re.fullmatch(r"    (?!//).*,", line)
+        field = re.fullmatch(r"    (?![ }]|//).*,", line)
         if field and free and len(lines[-1]) + len(line) <= 120:
             lines[-1] += line[3:]
             continue
@@ -372,7 +397,9 @@ def page():
     if idle := sorted(explained - names):
         fail(f"LEGEND of scripts/statement.py explains {' '.join(idle)}, which the page doesn't have")
     numbers, done, seen, contents, lines = itertools.count(1), set(), set(), [], []
-    for (title, (_, end)), count_word, (contracts, uses) in zip(PARTS.items(), ("one", "two", "three"), parts):
+    for (title, (_, end, most)), count_word, (contracts, uses) in zip(PARTS.items(), ("one", "two", "three"), parts):
+        if count(uses) > most:
+            fail(f"part {count_word} has {count(uses)} lines: PARTS of scripts/statement.py has {most} as the most")
         groups = sections({word: uses[word] for word in uses if word not in contracts}, done)
         groups = [(subject + ", further" * (subject in seen), words) for subject, words in groups]
         seen |= {subject for subject, _ in groups}
