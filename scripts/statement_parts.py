@@ -35,7 +35,8 @@ keeps it from ending (`only_stops`); and the one that ends has left the first ch
     ),
     "what is left of files": (
         {"work_on_chip": "flashnor/src/run.rt keeps"},
-        """`R: Store` is any store of files, `R.state` what contracts see of it, and `Store` in crates/nor_files/src/store.rt has the
+        """In this part `Journal` is what a journal says, the `Content` of the parts before, and `Content` what a chip starts with.
+`R: Store` is any store of files, `R.state` what contracts see of it, and `Store` in crates/nor_files/src/store.rt has the
 law that each of its calls keeps. This holds at every exit of a run's job, and since calls may fail from any one on (`left`)
 at each moment at which it is killed or its machine is lost. A change with a journal in a file leaves, until that journal is
 sealed, files that open to the first chip; and from then on one journal that gives the first chip back from whatever they
@@ -110,7 +111,7 @@ LEGEND = {
         "A `record` of statements holds where all its named fields hold. A field that is a value (`code : ℕ`) "
         "says that there is one, of which the fields behind it speak. A record of values (`Chip`) has these as its "
         "parts: `chip.busy` is one, `record { busy = 0; .. }` is a whole, and `record c { busy = 0 }` is c with "
-        "another `busy`.",
+        "another `busy`. `Type 1` stands at one that has statements among its values.",
     "→":
         "`A → B`: where A holds B does, so `A → B → C` has two premises. `(a : ℕ) → ..`: for each a; `{T : Type 0} "
         "→ ..`: for any kind T; `.. → Type 0`: a statement about such values. Of kinds it is a function: `ℕ → ℕ` the "
