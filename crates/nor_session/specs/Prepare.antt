@@ -50,7 +50,8 @@ RestoreJudges journal chip OtherUnit =
 RestoreJudges journal chip StatusDiffers =
     IsNamed None chip.config × IsOfKind journal chip.config × (¬ IsOfOtherUnit journal chip.config)
     × (¬ FitsStatus journal chip)
-RestoreJudges journal chip StatusLocked = Fits journal chip × (is_locked chip.kept ≡ true) × NeedsStatusFrom journal chip
+RestoreJudges journal chip StatusLocked =
+    Fits journal chip × (is_locked chip.kept ≡ true) × NeedsStatusFrom journal chip
 RestoreJudges journal chip _ = ⊥
 
 -- All is judged, and nothing refused.
@@ -127,8 +128,10 @@ pub record ScansSaved (journal : Content) (old new : BusState) (scanned : Scanne
   pub heard : StaysReady old new
   pub rested : old.honest ≡ true → Rested old new
   pub sent : old.honest ≡ true → old.left ≡ new.left + length journal.saved
-  pub touched : IsOpen journal.size old → (s : ℕ) → has scanned.touched s ≡ is_touched old.chip.bytes (restored journal old.chip.bytes) s
-  pub raised : IsOpen journal.size old → (s : ℕ) → has scanned.raised s ≡ is_raised old.chip.bytes (restored journal old.chip.bytes) s
+  pub touched : IsOpen journal.size old → (s : ℕ)
+      → has scanned.touched s ≡ is_touched old.chip.bytes (restored journal old.chip.bytes) s
+  pub raised : IsOpen journal.size old → (s : ℕ)
+      → has scanned.raised s ≡ is_raised old.chip.bytes (restored journal old.chip.bytes) s
 
 -- ---- what is to be changed
 

@@ -123,7 +123,8 @@ pub record RehearsalModelled (request : Request) (image stops : List ℕ) (old n
   pub accepts : vault'.sealed ≡ true → IsAccepted request image old.chip
   -- and has the journal of the starting chip, which saves just the touched sectors
   pub saves : vault'.sealed ≡ true
-      → JournalSaves (head_of old.chip) old.chip.bytes (is_touched old.chip.bytes (wanted request image old.chip)) vault'.bytes
+      → JournalSaves (head_of old.chip) old.chip.bytes
+      (is_touched old.chip.bytes (wanted request image old.chip)) vault'.bytes
   -- the session ends where it was allowed as many transactions as it takes at most
   pub ended : most_of (old.chip.config.size / 4096) ≤ first_allowance stops
       → IfOk result (λ rehearsal. rehearsal.ended ≡ true)
@@ -134,7 +135,9 @@ pub record RehearsalModelled (request : Request) (image stops : List ℕ) (old n
   pub seal : IfOk result (λ rehearsal. SealFits request (first_allowance stops) old.chip rehearsal.sealed)
   -- restores are run under the later stops, until one ends
   pub restores : IfOk result (λ rehearsal. rehearsal.sealed ≡ true
-      → AreRestores (sector_count (is_touched old.chip.bytes (wanted request image old.chip))) (drop 1 stops) rehearsal.restores)
+      → AreRestores (sector_count (is_touched old.chip.bytes (wanted request image old.chip))) (drop 1 stops)
+      rehearsal.restores)
   -- and the last of them was allowed no more than its stop
   pub last : IfOk result (λ rehearsal. rehearsal.sealed ≡ true
-      → FitsLastStop (sector_count (is_touched old.chip.bytes (wanted request image old.chip))) (drop 1 stops) new.left rehearsal.restores)
+      → FitsLastStop (sector_count (is_touched old.chip.bytes (wanted request image old.chip))) (drop 1 stops)
+      new.left rehearsal.restores)

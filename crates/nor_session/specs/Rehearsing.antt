@@ -46,7 +46,8 @@ pub record LeavesSession (request : Request) (image : List ℕ) (old new : BusSt
   pub back : IsModelled old → vault.sealed ≡ true
       → LeadsBack (is_touched old.chip.bytes (wanted request image old.chip)) old.chip vault.bytes new
   pub accepted : IsModelled old → vault.sealed ≡ true → IsAccepted request image old.chip
-  pub wears : IsModelled old → (s : ℕ) → is_touched old.chip.bytes (wanted request image old.chip) s ≡ false → new.worn s ≡ old.worn s
+  pub wears : IsModelled old → (s : ℕ) → is_touched old.chip.bytes (wanted request image old.chip) s ≡ false
+      → new.worn s ≡ old.worn s
   pub still : vault.sealed ≡ false → new.sent ≡ old.sent
   pub aims : vault.sealed ≡ true → (journal : IsJournal vault.bytes) × AimsAtSaved journal.content old new
   pub writes : WritesStatusAtMost (most_status_writes request.what request.unlock) old new

@@ -101,8 +101,8 @@ pub record LeavesRestore (journal : Content) (old new : BusState) : Type 0 where
   pub fixed : IsCalm old → fixed_of new.chip.kept ≡ fixed_of old.chip.kept
   pub worn : (s : ℕ) → is_raised old.chip.bytes (restored journal old.chip.bytes) s ≡ false → new.worn s ≡ old.worn s
 
--- At the end the chip is made what the journal wants, with its kept bits; the report says so; and where nothing is to be
--- changed, nothing changing was sent.
+-- At the end the chip is made what the journal wants, with its kept bits; the report says so; and where nothing is to
+-- be changed, nothing changing was sent.
 pub record IsRestored (journal : Content) (old new : BusState) (report : Report) : Type 0 where
   pub accepted : IsRestorable journal old.chip
   pub made : IsMade (restored journal old.chip.bytes) old.chip new.chip

@@ -125,8 +125,10 @@ pub record IsDone (request : Request) (image : List ℕ) (old new : BusState) (r
 pub record CanBeUndone (request : Request) (image : List ℕ) (old new : BusState) (vault : VaultState) : Type 0 where
   pub accepted : IsAccepted request image old.chip
   pub journal : vault.telling ≡ true
-      → JournalSaves (head_of old.chip) old.chip.bytes (is_touched old.chip.bytes (wanted request image old.chip)) vault.bytes
-  pub changes : MayChange (is_touched old.chip.bytes (wanted request image old.chip)) (is_raised old.chip.bytes (wanted request image old.chip))
+      → JournalSaves (head_of old.chip) old.chip.bytes
+      (is_touched old.chip.bytes (wanted request image old.chip)) vault.bytes
+  pub changes : MayChange (is_touched old.chip.bytes (wanted request image old.chip))
+      (is_raised old.chip.bytes (wanted request image old.chip))
       (wanted request image old.chip) old new
   pub spent : new.left + (4 + scanned_sectors request old.chip.config.size) ≤ old.left
 
@@ -192,7 +194,8 @@ pub record SessionModelled (request : Request) (image : List ℕ) (old new : Bus
   -- journal that it would have had
   pub begins : vault'.sealed ≡ false → vault'.telling ≡ true → IfErr result (λ refusal. refusal ≢ Vault
       → (vault'.bytes ≡ [])
-      ⊎ BeginsJournal (head_of old.chip) old.chip.bytes (is_touched old.chip.bytes (wanted request image old.chip)) vault'.bytes)
+      ⊎ BeginsJournal (head_of old.chip) old.chip.bytes
+      (is_touched old.chip.bytes (wanted request image old.chip)) vault'.bytes)
   -- after any refusal, the vault's own too, a telling vault that isn't sealed is empty, or has a beginning of that
   -- journal: so many bytes of its text
   pub cut : vault'.sealed ≡ false → vault'.telling ≡ true
