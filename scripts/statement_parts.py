@@ -31,7 +31,7 @@ keeps it from ending (`only_stops`); and the one that ends has left the first ch
             "undone_in_turn": "nor_session/src/laws.rt",
         },
         "",
-        580,
+        585,
     ),
     "what is left of files": (
         {"work_on_chip": "flashnor/src/run.rt keeps"},
