@@ -8,11 +8,11 @@ ghost use Rattle.nor_journal.specs.Reading.{IsHead, headed};
 use crate::fault::JournalFault;
 use crate::number::{number_bytes, number_of};
 
-/// The first eight bytes of a journal of format 2, which tells the chip's unique ID.
-const MAGIC: [u8; 8] = *b"NORUNDO2";
+/// The first eight bytes of a journal of format 2, whose header contains the chip's unique ID.
+pub const MAGIC: [u8; 8] = *b"NORUNDO2";
 
-/// The first eight bytes of a journal of format 1, which is read and no more written.
-const FIRST_MAGIC: [u8; 8] = *b"NORUNDO1";
+/// The first eight bytes of a journal of format 1, which is read but no longer written.
+pub const FIRST_MAGIC: [u8; 8] = *b"NORUNDO1";
 
 /// The length of a head of format 2 in bytes.
 const HEAD: usize = 25;

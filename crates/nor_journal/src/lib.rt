@@ -31,6 +31,7 @@ pub use broken::BrokenVault;
 pub use fault::JournalFault;
 pub use file::VaultFile;
 pub use file_vault::FileVault;
+pub use head::{FIRST_MAGIC, MAGIC};
 pub use journal::{Journal, one_fault, one_record, one_text};
 pub use mem_vault::MemVault;
 pub use vault::{Vault, VaultFault};
