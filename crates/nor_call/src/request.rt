@@ -18,7 +18,7 @@ pub enum What {
 }
 
 /// A request for a session. `write`, `erase` and `protect` make one, and what it is to have besides is added:
-/// `Request::write().named(ChipName::Tiny64).verified()`.
+/// `Request::write().named(ChipName::W25Q64FV).verified()`.
 #[derive(Clone, Debug, Drop)]
 pub struct Request {
     pub what: What,
