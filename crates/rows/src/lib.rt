@@ -13,6 +13,8 @@ mod files;
 #[cfg(test)]
 mod held;
 #[cfg(test)]
+mod kernels;
+#[cfg(test)]
 mod lies;
 #[cfg(test)]
 mod once;
