@@ -59,6 +59,11 @@ pub record IsPlaced (name : Name) (old new : FilesState) : Type 0 where
 abbrev pub LeavesNoMore : Name → (old new : FilesState) → Type 0
 LeavesNoMore name old new = (left : Found) → new.may_leave name left → old.may_leave name left
 
+-- Nothing may be left of the file that could not be left before, except an empty file if it was missing.
+abbrev pub LeavesOrEmpty : Name → (old new : FilesState) → Type 0
+LeavesOrEmpty name old new = (left : Found) → new.may_leave name left
+    → old.may_leave name left ⊎ ((old.view.seen name ≡ None) × (left ≡ Some []))
+
 -- what a sync does; after one that failed it isn't known what a read gives
 abbrev pub Syncs : {T E : Type 0} → Name → Result T E → (old new : FilesState) → Type 0
 Syncs name (Ok _) old new = IsSynced name old new
@@ -123,11 +128,11 @@ pub record Lends (name : Name) (old new : FilesState) : Type 0 where
   pub out : new.view.out name ≡ true
   pub others : OthersStay name old new
 
--- A file couldn't be made for a vault: nothing may be left of it that couldn't be left before, but an empty file.
+-- No vault was handed out. Nothing may be left of the file that could not be left before, except an empty file if it
+-- was missing.
 pub record LendsNone (name : Name) (old new : FilesState) : Type 0 where
   pub fails : Fails old new
-  pub leaves : IsKnown name old.view → (left : Found) → new.may_leave name left
-      → old.may_leave name left ⊎ (left ≡ Some [])
+  pub leaves : IsKnown name old.view → LeavesOrEmpty name old new
 
 -- The vault was handed back, which tells its bytes: these are what the file has, and once the vault is sealed they stay
 -- there, whatever becomes of the machine.

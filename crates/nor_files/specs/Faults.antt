@@ -1,11 +1,11 @@
 -- When a call on a file may fail in which way.
-use Rattle.std.specs.Prelude.{◌≡◌, ◌≢◌, true}
-use Rattle.std.specs.declared.io.ErrorKind.{ErrorKind}
-use Rattle.std.specs.declared.io.ErrorKind.TheVariants.{AlreadyExists}
+use Rattle.std.specs.Prelude.{◌≡◌, true, ⊤}
 use Rattle.nor_files.specs.Files.{Name, Nature}
 use Rattle.nor_files.specs.Files.Failure.{Busy, There, Unheld, Unmade, Unread}
 use Rattle.nor_files.specs.declared.store.HoldFault.{HoldFault}
 use Rattle.nor_files.specs.declared.store.HoldFault.TheVariants as fault
+use Rattle.nor_files.specs.declared.store.MakeFault.{MakeFault}
+use Rattle.nor_files.specs.declared.store.MakeFault.TheVariants as make
 
 -- a file can't be held
 abbrev pub IsHoldFault : Nature → Name → HoldFault → Type 0
@@ -13,7 +13,9 @@ IsHoldFault nature name (fault.Unread error) = nature.fails (Unread name) ≡ tr
 IsHoldFault nature name fault.Unheld = nature.fails (Unheld name) ≡ true
 IsHoldFault nature name fault.Busy = nature.fails (Busy name) ≡ true
 
--- A new file can't be made: it is there already, where the error is of that kind.
-pub record IsMakeFault (nature : Nature) (name : Name) (kind : ErrorKind) : Type 0 where
-  pub exists : kind ≡ AlreadyExists → nature.fails (There name) ≡ true
-  pub fails : kind ≢ AlreadyExists → nature.fails (Unmade name) ≡ true
+-- a file can't be made or emptied
+abbrev pub IsMakeFault : Nature → Name → MakeFault → Type 0
+IsMakeFault nature name make.There = nature.fails (There name) ≡ true
+IsMakeFault nature name make.Busy = nature.fails (Busy name) ≡ true
+IsMakeFault nature name (make.Unmade error) = nature.fails (Unmade name) ≡ true
+IsMakeFault nature name make.Memory = ⊤

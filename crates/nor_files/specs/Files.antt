@@ -11,20 +11,22 @@ Found = Option (List ℕ)
 
 -- What may go wrong with a file of some name.
 pub data Failure : Type 0 where
-  -- it can't be opened or read
+  -- it can't be looked at, opened or read
   Unread : Name → Failure
-  -- it is there, and can't be opened to be written over
+  -- it is there, and can't be opened to be written over, or locked
   Unheld : Name → Failure
-  -- another run holds it
+  -- another process has locked it
   Busy : Name → Failure
   -- it can't be made or emptied
   Unmade : Name → Failure
-  -- it is there already when it is to be made
+  -- it is there already when it is to be made, or it is a journal that would be emptied
   There : Name → Failure
   -- it can't be written, cut or synced, or its folder can't
   Unwritten : Name → Failure
   -- it is the file of that other name too
   Shared : Name → Name → Failure
+  -- it is a regular file that the program prints to
+  Printed : Name → Failure
 
 -- What never changes of a store of files.
 pub record Nature : Type 0 where
@@ -70,6 +72,11 @@ pub record Stays (name : Name) (old new : FilesState) : Type 0 where
   pub out : new.view.out name ≡ old.view.out name
   pub seen : new.view.seen name ≡ old.view.seen name
   pub leaves : (left : Found) → new.may_leave name left → old.may_leave name left
+
+-- Reads give the same of each file, and nothing may be left that couldn't be left before.
+pub record AreUntouched (old new : FilesState) : Type 0 where
+  pub view : new.view ≡ old.view
+  pub leaves : (name : Name) (left : Found) → new.may_leave name left → old.may_leave name left
 
 -- each file is
 abbrev pub AllStay : (old new : FilesState) → Type 0

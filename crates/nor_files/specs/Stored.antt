@@ -142,9 +142,10 @@ abbrev pub FileMakes : {T E : Type 0} → Result T E → (old new : Stored) → 
 FileMakes (Ok _) old new = IsMadeNow old new
 FileMakes (Err _) old new = IsUnchanged old new
 
--- A vault or a log in it was handed out, and it is empty.
+-- A vault or a log in the file was handed out. The file is empty; if it had to be new, it was missing before.
 pub record IsLent (is_new : Bool) (old new : Stored) : Type 0 where
   pub name : new.name ≡ old.name
+  pub missing : is_new ≡ true → (file_in old).seen ≡ None
   pub file : file_in new ≡ record {
     seen = Some [];
     steps = record { before = old.content; change = Lent } ∷ old.steps.items;

@@ -1,42 +1,56 @@
 //! The files of the system.
 ghost use Rattle.std.specs.Prelude.{◌≡◌, IfOk, IfSome, take};
 
-use crate::folder::{folder_of, last_of, sync_folder};
-use crate::store::{HoldFault, Store};
+use crate::folder::sync_folder;
+use crate::held::{Held, hold_chip, hold_journal, mode_beside, sync_under, write_from_start};
+use crate::identity::{is_one_file, is_stream};
+use crate::locks::LockFile;
+use crate::making::{VaultedFile, make_empty, make_new};
+use crate::store::{HoldFault, MakeFault, Store};
 use nor_journal::{FileVault, Vault};
 use std::alloc::Global;
-use std::fs::{File, Metadata, OpenFile, OpenOptions, TryLockError};
-use std::io::{ErrorKind, Read, Write};
-use std::os::unix::fs::{FileTypeExt, MetadataExt};
+use std::fs::OpenFile;
+use std::io::{ErrorKind, Read, Seek};
+use std::os::unix::fs::FileTypeExt;
 use std::rt::Files;
 use std::{fs, io};
 
-/// A file that can be held against other runs.
-pub trait LockFile {
-    /// Whether another run holds it. Where the system knows no locks none does.
-    fn is_busy(&self) -> bool;
-}
-
-impl LockFile for File {
-    fn is_busy(&self) -> bool {
-        matches!(self.try_lock(), Err(TryLockError::WouldBlock))
-    }
-}
-
 /// The files of the runtime, of which nothing is known. That each call works on the file of the name that it is given,
 /// and keeps the law of a `Store`, is believed, and tested.
+///
+/// The files that a run holds are open until the store is let go: each later call on such a name works on the file
+/// that was opened and locked under it, even if the name refers to another file by then.
 #[derive(Drop)]
 pub struct Disk<'a, R: Files> {
     files: &'a R,
-    // Those that the run will write over.
-    held: Vec<R::File>,
+    held: Vec<Held<R::File>>,
+    // What was written last through a vault. It stays locked.
+    vaulted: Option<VaultedFile<'a, R>>,
 }
 
 impl<'a, R: Files + AllocGlobal> Disk<'a, R> {
     /// The files of this runtime.
     pub fn new(files: &'a R) -> Disk<'a, R> {
-        let held = Vec::new(files.alloc());
-        Disk { files, held }
+        Disk {
+            files,
+            held: Vec::new(files.alloc()),
+            vaulted: None,
+        }
+    }
+
+    // The file that is held under this name.
+    fn held(&self, name: &str) -> Option<&R::File> {
+        let held = self.held.iter().find(|held| held.name.as_str() == name)?;
+        held.file.as_ref()
+    }
+
+    // Holds a file until the store is let go. Returns whether it is there.
+    fn keep(&mut self, held: Held<R::File>) -> Result<bool, HoldFault> {
+        let there = held.file.is_some();
+        match self.held.push(held) {
+            Ok(()) => Ok(there),
+            Err(error) => Err(HoldFault::Unread(error.into())),
+        }
     }
 }
 
@@ -48,7 +62,7 @@ impl<R: Files + AllocGlobal> Alloc for Disk<'_, R> {
     }
 }
 
-impl<R: Files + AllocGlobal> Store for Disk<'_, R>
+impl<'a, R: Files + AllocGlobal> Store for Disk<'a, R>
 where
     R::File: LockFile,
 {
@@ -58,32 +72,41 @@ where
 
     ghost seen_may_stay = { λ _ _. tt };
 
-    type Filed = FileVault<R::File>;
+    type Filed = FileVault<VaultedFile<'a, R>>;
 
     type Log = R::File;
 
-    fn is_one_file(&self, one: &str, other: &str) -> bool {
+    fn is_one_file<'n>(&self, one: &'n str, other: &'n str) -> Result<bool, &'n str> {
         if one == other {
-            return true;
+            return Ok(true);
         }
-        match (
-            fs::metadata(self.files, one),
-            fs::metadata(self.files, other),
-        ) {
-            (Ok(one), Ok(other)) => is_same(&one, &other),
-            (Err(_), Err(_)) => self.will_be_one_file(one, other),
-            _ => false,
-        }
+        is_one_file(self.files, one, other)
+    }
+
+    fn is_stream<'n>(&self, name: &'n str) -> Result<bool, &'n str> {
+        is_stream(self.files, name)
+    }
+
+    fn is_there(&self, name: &str) -> bool {
+        fs::symlink_metadata(self.files, name).is_ok()
     }
 
     fn is_waiting(&self, name: &str) -> bool {
         match fs::metadata(self.files, name) {
-            Ok(metadata) => metadata.file_type().is_fifo(),
+            Ok(metadata) => {
+                let kind = metadata.file_type();
+                kind.is_fifo() || kind.is_char_device()
+            }
             Err(_) => false,
         }
     }
 
     fn read_named(&self, name: &str, most: u64) -> io::Result<Option<Vec<u8>>> {
+        if let Some(held) = self.held(name) {
+            let mut file = held.try_clone()?;
+            file.rewind()?;
+            return Ok(Some(read_up_to(self.alloc(), file, most)?));
+        }
         match fs::open(self.files, name) {
             Ok(file) => Ok(Some(read_up_to(self.alloc(), file, most)?)),
             Err(error) if error.kind() == ErrorKind::NotFound => Ok(None),
@@ -92,21 +115,21 @@ where
     }
 
     fn hold(&mut self, name: &str) -> Result<bool, HoldFault> {
-        if !is_there(self.files, name)? {
-            return Ok(false);
-        }
-        let file = open_both(self.files, name)?;
-        if file.is_busy() {
-            return Err(HoldFault::Busy);
-        }
-        match self.held.push(file) {
-            Ok(()) => Ok(true),
-            Err(error) => Err(HoldFault::Unread(error.into())),
-        }
+        let held = hold_chip(self.files, self.alloc(), name)?;
+        self.keep(held)
+    }
+
+    fn share(&mut self, name: &str) -> Result<(), HoldFault> {
+        let held = hold_journal(self.files, self.alloc(), name)?;
+        self.keep(held)?;
+        Ok(())
     }
 
     fn sync(&mut self, name: &str) -> io::Result<()> {
-        open_over(self.files, name)?.sync_all()
+        match self.held(name) {
+            Some(file) => sync_under(self.files, name, file),
+            None => Err(ErrorKind::NotFound.into()),
+        }
     }
 
     fn sync_folder(&mut self, name: &str) -> io::Result<()> {
@@ -114,96 +137,56 @@ where
     }
 
     fn write_over(&mut self, name: &str, bytes: &[u8]) -> io::Result<()> {
-        open_over(self.files, name)?.write_all(bytes)
+        for held in self.held.iter_mut() {
+            if held.name.as_str() == name
+                && let Some(file) = &mut held.file
+            {
+                return write_from_start(file, bytes);
+            }
+        }
+        Err(ErrorKind::NotFound.into())
     }
 
     fn set_len(&mut self, name: &str, len: u64) -> io::Result<()> {
-        open_over(self.files, name)?.set_len(len)
+        match self.held(name) {
+            Some(file) => file.set_len(len),
+            None => Err(ErrorKind::NotFound.into()),
+        }
     }
 
     fn make(&mut self, name: &str) -> io::Result<()> {
-        File::create_new(self.files, name)?;
-        Ok(())
+        let mode = mode_beside(&self.held);
+        for held in self.held.iter_mut() {
+            if held.name.as_str() == name {
+                held.file = Some(make_new(self.files, name, mode)?);
+                return Ok(());
+            }
+        }
+        Err(ErrorKind::NotFound.into())
     }
 
-    fn vault_in_new(&mut self, name: &str) -> io::Result<FileVault<R::File>> {
-        let file = File::create_new(self.files, name)?;
+    fn vault_in_new(&mut self, name: &str) -> Result<FileVault<VaultedFile<'a, R>>, MakeFault> {
+        let named = String::from_str(self.alloc(), name)?;
+        let file = make_new(self.files, name, mode_beside(&self.held))?;
         sync_folder(self.files, name)?;
-        Ok(FileVault::new(file))
+        let vaulted = VaultedFile::new(self.files, file, Some(named));
+        Ok(FileVault::new(vaulted))
     }
 
-    fn vault_in(&mut self, name: &str) -> io::Result<FileVault<R::File>> {
-        Ok(FileVault::new(fs::create(self.files, name)?))
+    fn vault_in(&mut self, name: &str) -> Result<FileVault<VaultedFile<'a, R>>, MakeFault> {
+        let file = make_empty(self.files, name)?;
+        Ok(FileVault::new(VaultedFile::new(self.files, file, None)))
     }
 
-    fn hand_back(&mut self, vault: FileVault<R::File>) -> bool {
-        vault.is_sealed()
+    fn hand_back(&mut self, vault: FileVault<VaultedFile<'a, R>>) -> bool {
+        let sealed = vault.is_sealed();
+        self.vaulted = Some(vault.into_inner());
+        sealed
     }
 
-    fn log_in(&mut self, name: &str) -> io::Result<R::File> {
-        fs::create(self.files, name)
+    fn log_in(&mut self, name: &str) -> Result<R::File, MakeFault> {
+        make_empty(self.files, name)
     }
-}
-
-impl<R: Files> Disk<'_, R> {
-    // Whether two files that aren't there will be one once they are made.
-    fn will_be_one_file(&self, one: &str, other: &str) -> bool {
-        if last_of(one) != last_of(other) {
-            return false;
-        }
-        let folders = (
-            fs::metadata(self.files, folder_of(one)),
-            fs::metadata(self.files, folder_of(other)),
-        );
-        match folders {
-            (Ok(one), Ok(other)) => is_same(&one, &other),
-            _ => false,
-        }
-    }
-}
-
-// The same device and inode.
-fn is_same(one: &Metadata, other: &Metadata) -> bool {
-    one.dev() == other.dev() && one.ino() == other.ino()
-}
-
-// Whether a regular file of this name is there. A folder can't be read; what is of another kind, or a link to nothing,
-// can't be held.
-fn is_there<R: Files>(files: &R, name: &str) -> Result<bool, HoldFault> {
-    match fs::metadata(files, name) {
-        Ok(metadata) if metadata.is_file() => Ok(true),
-        Ok(metadata) if metadata.is_dir() => {
-            Err(HoldFault::Unread(ErrorKind::IsADirectory.into()))
-        }
-        Ok(_) => Err(HoldFault::Unheld),
-        Err(error) if error.kind() == ErrorKind::NotFound => is_nowhere(files, name),
-        Err(error) => Err(HoldFault::Unread(error)),
-    }
-}
-
-// No file of this name is there, nor a link to one that isn't.
-fn is_nowhere<R: Files>(files: &R, name: &str) -> Result<bool, HoldFault> {
-    match fs::symlink_metadata(files, name) {
-        Err(error) if error.kind() == ErrorKind::NotFound => Ok(false),
-        _ => Err(HoldFault::Unheld),
-    }
-}
-
-// The file of this name, for reading and writing.
-fn open_both<R: Files>(files: &R, name: &str) -> Result<R::File, HoldFault> {
-    let opened = OpenOptions::new().read(true).write(true).open(files, name);
-    match opened {
-        Ok(file) => Ok(file),
-        Err(_) => match fs::open(files, name) {
-            Ok(_) => Err(HoldFault::Unheld),
-            Err(error) => Err(HoldFault::Unread(error)),
-        },
-    }
-}
-
-// The file of this name, which is there, for writing.
-fn open_over<R: Files>(files: &R, name: &str) -> io::Result<R::File> {
-    OpenOptions::new().write(true).open(files, name)
 }
 
 /// What the file has, of which at most so many bytes are read, into memory that is taken once where the file tells its

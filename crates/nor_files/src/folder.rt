@@ -1,4 +1,4 @@
-//! The folder that a file stands in.
+//! The folder that a file is in.
 
 use std::fs::{File, OpenFile};
 use std::io;
@@ -6,11 +6,14 @@ use std::io::ErrorKind;
 use std::path::Path;
 use std::rt::Files;
 
-/// Syncs the folder that the file of this name stands in, so that a file that was made there stays. A folder that can't
-/// be opened, or that is of a kind that can't be synced, is left as it is.
+/// Syncs the folder that the file of this name is in, so that a file that was made there stays, and one that is missing
+/// stays missing. A folder that is missing itself, that may not be opened for reading, or that is of a kind that can't
+/// be synced, is left as it is; any other failure is an error.
 pub fn sync_folder<R: Files>(files: &R, name: &str) -> io::Result<()> {
-    let Ok(folder) = File::open(files, folder_of(name)) else {
-        return Ok(());
+    let folder = match File::open(files, folder_of(name)) {
+        Ok(folder) => folder,
+        Err(error) if cannot_open(error.kind()) => return Ok(()),
+        Err(error) => return Err(error),
     };
     match folder.sync_all() {
         Err(error) if cannot_sync(error.kind()) => Ok(()),
@@ -18,7 +21,7 @@ pub fn sync_folder<R: Files>(files: &R, name: &str) -> io::Result<()> {
     }
 }
 
-/// The folder that the file of this name stands in.
+/// The folder that the file of this name is in.
 pub fn folder_of(name: &str) -> &str {
     match Path::new(name).parent() {
         Some(folder) if !folder.as_str().is_empty() => folder.as_str(),
@@ -31,7 +34,15 @@ pub fn last_of(name: &str) -> Option<&str> {
     Path::new(name).file_name()
 }
 
-// What the system says of a folder that isn't for syncing.
+// What the system says of a folder that isn't there, or that may not be opened.
+fn cannot_open(kind: ErrorKind) -> bool {
+    matches!(
+        kind,
+        ErrorKind::NotFound | ErrorKind::NotADirectory | ErrorKind::PermissionDenied
+    )
+}
+
+// What the system says of a folder that can't be synced.
 fn cannot_sync(kind: ErrorKind) -> bool {
     kind == ErrorKind::InvalidInput || kind == ErrorKind::Unsupported
 }

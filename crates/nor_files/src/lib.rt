@@ -21,13 +21,19 @@
 
 mod disk;
 mod folder;
+mod held;
+mod identity;
+mod locks;
+mod making;
 mod memory;
 mod store;
 mod stored;
 #[cfg(test)]
 mod tests;
 
-pub use disk::{Disk, LockFile};
+pub use disk::Disk;
+pub use locks::LockFile;
+pub use making::VaultedFile;
 pub use memory::Memory;
-pub use store::{HoldFault, Store};
+pub use store::{HoldFault, MakeFault, Store};
 pub use stored::Loss;

@@ -1,10 +1,10 @@
 //! Files in memory, which keep the law.
-ghost use Rattle.std.specs.Prelude.{◌≡◌, ◌+◌, true, OnErr, OnOk, IfOk, Some, option_map, position};
+ghost use Rattle.std.specs.Prelude.{◌≡◌, ◌+◌, true, None, OnErr, OnOk, IfOk, Some, option_map, position};
 ghost use Rattle.nor_files.specs.Files.{AllStay, AreAtRest, IsSettled, Name, OthersStay, Stays};
 ghost use Rattle.nor_files.specs.Calls.{Counts};
 ghost use Rattle.nor_files.specs.Named.{file_of, is_lent_there, is_named, is_there};
 
-use crate::store::{HoldFault, Store};
+use crate::store::{HoldFault, MakeFault, Store};
 use crate::stored::{Loss, Stored, copy};
 use nor_journal::MemVault;
 use std::alloc::{AllocError, Global};
@@ -134,6 +134,7 @@ impl Memory {
         ensures others { OthersStay name.now (memory_state self.old) (memory_state self.new) }
         ensures out { OnOk result ((file_of self.new.files.items name.now).out ≡ true) }
         ensures there { OnOk result (is_there self.new.files.items name.now ≡ true) }
+        ensures missing { is_new ≡ true → OnOk result ((file_of self.old.files.items name.now).seen ≡ None) }
         ensures lent { self.new.lent ≡ self.old.lent }
         ensures stays { OnErr result (Stays name.now (memory_state self.old) (memory_state self.new)) }
     {
@@ -175,8 +176,16 @@ impl Store for Memory {
 
     type Log = Sink;
 
-    fn is_one_file(&self, one: &str, other: &str) -> bool {
-        one == other
+    fn is_one_file<'n>(&self, one: &'n str, other: &'n str) -> Result<bool, &'n str> {
+        Ok(one == other)
+    }
+
+    fn is_stream<'n>(&self, _name: &'n str) -> Result<bool, &'n str> {
+        Ok(false)
+    }
+
+    fn is_there(&self, name: &str) -> bool {
+        self.bytes_of(name).is_some()
     }
 
     fn is_waiting(&self, _name: &str) -> bool {
@@ -198,6 +207,10 @@ impl Store for Memory {
             Ok(()) => Ok(self.bytes_of(name).is_some()),
             Err(error) => Err(HoldFault::Unread(error)),
         }
+    }
+
+    fn share(&mut self, _name: &str) -> Result<(), HoldFault> {
+        Ok(())
     }
 
     fn sync(&mut self, name: &str) -> io::Result<()> {
@@ -241,14 +254,14 @@ impl Store for Memory {
         self.files[at].make(self.alloc)
     }
 
-    fn vault_in_new(&mut self, name: &str) -> io::Result<MemVault> {
+    fn vault_in_new(&mut self, name: &str) -> Result<MemVault, MakeFault> {
         let lent = copy(self.alloc, name.as_bytes())?;
         self.lend(name, true)?;
         self.lent = Some(lent);
         Ok(MemVault::new(self.alloc))
     }
 
-    fn vault_in(&mut self, name: &str) -> io::Result<MemVault> {
+    fn vault_in(&mut self, name: &str) -> Result<MemVault, MakeFault> {
         let lent = copy(self.alloc, name.as_bytes())?;
         self.lend(name, false)?;
         self.lent = Some(lent);
@@ -269,7 +282,7 @@ impl Store for Memory {
         }
     }
 
-    fn log_in(&mut self, name: &str) -> io::Result<Sink> {
+    fn log_in(&mut self, name: &str) -> Result<Sink, MakeFault> {
         self.lend(name, false)?;
         Ok(io::sink())
     }

@@ -1,9 +1,9 @@
 //! What a run does with files.
 
 use nor_journal::Vault;
-use std::alloc::Global;
+use std::alloc::{AllocError, Global};
 use std::error::Error;
-use std::io::Write;
+use std::io::{ErrorKind, Write};
 use std::{fmt, io};
 
 /// Why a file can't be held.
@@ -11,9 +11,9 @@ use std::{fmt, io};
 pub enum HoldFault {
     /// It can't be opened or read.
     Unread(io::Error),
-    /// It is there, and can't be written over: it may be for reading alone, or is no regular file.
+    /// It is there, and can't be written over or locked: it may be read-only, or is no regular file.
     Unheld,
-    /// Another run holds it.
+    /// Another process has locked it.
     Busy,
 }
 
@@ -21,13 +21,67 @@ impl fmt::Display for HoldFault {
     fn fmt<W: fmt::Write>(&self, f: &mut fmt::Formatter<W>) -> fmt::Result {
         match self {
             HoldFault::Unread(why) => write!(f, "the file can't be opened or read: {why}"),
-            HoldFault::Unheld => f.write_str("the file can't be written over"),
-            HoldFault::Busy => f.write_str("another run holds the file"),
+            HoldFault::Unheld => f.write_str("the file can't be written over or locked"),
+            HoldFault::Busy => f.write_str("another process has locked the file"),
         }
     }
 }
 
 impl Error for HoldFault {}
+
+/// Why a file can't be made or emptied.
+#[derive(Debug, Drop)]
+pub enum MakeFault {
+    /// It is there already, or it is a journal, which is never emptied.
+    There,
+    /// Another process has locked it.
+    Busy,
+    /// It can't be made, emptied or locked, or its directory can't be synced.
+    Unmade(io::Error),
+    /// The program is out of memory.
+    Memory,
+}
+
+impl fmt::Display for MakeFault {
+    fn fmt<W: fmt::Write>(&self, f: &mut fmt::Formatter<W>) -> fmt::Result {
+        match self {
+            MakeFault::There => f.write_str("the file is there already, or is a journal"),
+            MakeFault::Busy => f.write_str("another process has locked the file"),
+            MakeFault::Unmade(why) => write!(f, "the file can't be made or emptied: {why}"),
+            MakeFault::Memory => f.write_str("out of memory"),
+        }
+    }
+}
+
+impl Error for MakeFault {}
+
+impl From<io::Error> for MakeFault {
+    ghost use Rattle.std.specs.Prelude.{◌≡◌};
+    ghost use Rattle.nor_files.specs.declared.store.MakeFault.TheVariants.{Unmade};
+
+    ghost from_gives = { λ error fault. fault ≡ Unmade error };
+
+    fn from(error: io::Error) -> MakeFault {
+        MakeFault::Unmade(error)
+    }
+}
+
+impl From<AllocError> for MakeFault {
+    fn from(_: AllocError) -> MakeFault {
+        MakeFault::Memory
+    }
+}
+
+impl From<MakeFault> for io::Error {
+    fn from(fault: MakeFault) -> io::Error {
+        match fault {
+            MakeFault::There => ErrorKind::AlreadyExists.into(),
+            MakeFault::Busy => ErrorKind::WouldBlock.into(),
+            MakeFault::Unmade(error) => error,
+            MakeFault::Memory => ErrorKind::OutOfMemory.into(),
+        }
+    }
+}
 
 /// The files of a run, by their names.
 ///
@@ -36,11 +90,10 @@ impl Error for HoldFault {}
 /// A promise over every lawful store speaks of each moment at which a run can be cut off, since a call with none left
 /// fails, and changes nothing.
 pub trait Store: AllocGlobal {
-    ghost use Rattle.std.specs.Prelude.{◌≡◌, true, IfErr, IfOk, OnErr, OnOk, option_map};
-    ghost use Rattle.std.specs.IoError.{error_kind};
+    ghost use Rattle.std.specs.Prelude.{◌≡◌, ◌⊎◌, true, None, IfErr, IfOk, Ok, OnErr, OnOk, option_map};
     ghost use Rattle.nor_journal.specs.Vault.{IsFresh};
-    ghost use Rattle.nor_files.specs.Files.{FilesState, IsKnown, Name, OthersStay, Stays, is_lawful};
-    ghost use Rattle.nor_files.specs.Files.Failure.{Shared, Unmade, Unread, Unwritten};
+    ghost use Rattle.nor_files.specs.Files.{AreUntouched, FilesState, IsKnown, Name, OthersStay, Stays, is_lawful};
+    ghost use Rattle.nor_files.specs.Files.Failure.{Printed, Shared, There, Unread, Unwritten};
     ghost use Rattle.nor_files.specs.Calls.{Fails, Holds, Lends, LendsNone, Makes, Places, Reads, SetsLength, Syncs, TakesBack};
     ghost use Rattle.nor_files.specs.Calls.{WorksOn, WritesOver};
     ghost use Rattle.nor_files.specs.Faults.{IsHoldFault, IsMakeFault};
@@ -54,12 +107,27 @@ pub trait Store: AllocGlobal {
     type Log: Write + Drop;
 
     /// Whether the two names are one file: the same text, the same file of the system, or the same name in the same
-    /// folder where no file is there yet.
-    fn is_one_file(&self, one: &str, other: &str) -> bool
-        ensures shared { result ≡ true → (state self.now).view.nature.fails (Shared one.now other.now) ≡ true }
-        ensures differs { one.now ≡ other.now → result ≡ true };
+    /// folder if no file is there yet. An error is the name that can't be looked at.
+    fn is_one_file<'n>(&self, one: &'n str, other: &'n str) -> Result<bool, &'n str>
+        ensures shared { IfOk result (λ is_one. is_one ≡ true
+            → (state self.now).view.nature.fails (Shared one.now other.now) ≡ true) }
+        ensures differs { one.now ≡ other.now → result ≡ Ok true }
+        ensures either { IfErr result (λ name. name.now ≡ one.now ⊎ name.now ≡ other.now) }
+        ensures unseen { IfErr result (λ name. (state self.now).view.nature.fails (Unread name.now) ≡ true) };
 
-    /// Whether a read of the file of this name would wait for another program, as that of a FIFO does.
+    /// Whether the file of this name is a regular file that the program prints to. An error is the name, if it can't
+    /// be looked at.
+    fn is_stream<'n>(&self, name: &'n str) -> Result<bool, &'n str>
+        ensures printed { IfOk result (λ is_stream. is_stream ≡ true
+            → (state self.now).view.nature.fails (Printed name.now) ≡ true) }
+        ensures unseen { IfErr result (λ unseen. (unseen.now ≡ name.now)
+            × ((state self.now).view.nature.fails (Unread name.now) ≡ true)) };
+
+    /// Whether there is a file of this name, or a link.
+    fn is_there(&self, name: &str) -> bool
+        ensures { result ≡ true → (state self.now).view.nature.fails (There name.now) ≡ true };
+
+    /// Whether a read of the file of this name may wait without end, as that of a FIFO or a terminal does.
     fn is_waiting(&self, name: &str) -> bool
         ensures { result ≡ true → (state self.now).view.nature.fails (Unread name.now) ≡ true };
 
@@ -75,6 +143,12 @@ pub trait Store: AllocGlobal {
         ensures nature { (state self.new).view.nature ≡ (state self.old).view.nature }
         ensures holds { is_lawful (state self.old).view ≡ true
             → Holds name.now result (state self.old) (state self.new) }
+        ensures fails { IfErr result (IsHoldFault (state self.old).view.nature name.now) };
+
+    /// Locks the file of this name, if it is there, for reading: until the store is let go no other run writes it. All
+    /// files are as they were.
+    fn share(&mut self, name: &str) -> Result<(), HoldFault>
+        ensures same { AreUntouched (state self.old) (state self.new) }
         ensures fails { IfErr result (IsHoldFault (state self.old).view.nature name.now) };
 
     /// Syncs what the file of this name has: its bytes and its length.
@@ -122,22 +196,23 @@ pub trait Store: AllocGlobal {
             → Makes name.now result (state self.old) (state self.new) }
         ensures fails { OnErr result ((state self.old).view.nature.fails (Unwritten name.now) ≡ true) };
 
-    /// A vault in the file of this name, which is made, and wasn't there before; and stays there, whatever becomes of
-    /// the machine, where its folder can be synced. It is to be handed back.
-    fn vault_in_new(&mut self, name: &str) -> io::Result<Self::Filed>
+    /// Creates the file of this name, and returns a vault in it. A file that is there is never opened or emptied: the
+    /// error is `There`. If the directory can be synced, the new file survives a crash. Return the vault by `hand_back`.
+    fn vault_in_new(&mut self, name: &str) -> Result<Self::Filed, MakeFault>
         ensures nature { (state self.new).view.nature ≡ (state self.old).view.nature }
         ensures fresh { IfOk result (λ vault. IsFresh (Self.Filed.state vault)) }
         ensures lends { is_lawful (state self.old).view ≡ true
             → OnOk result (Lends name.now (state self.old) (state self.new)) }
+        ensures missing { IsKnown name.now (state self.old).view
+            → OnOk result ((state self.old).view.seen name.now ≡ None) }
         ensures fails { is_lawful (state self.old).view ≡ true
             → OnErr result (LendsNone name.now (state self.old) (state self.new)) }
         ensures others { is_lawful (state self.old).view ≡ true
             → OthersStay name.now (state self.old) (state self.new) }
-        ensures unmade { IfErr result (λ error.
-            IsMakeFault (state self.old).view.nature name.now (error_kind error)) };
+        ensures unmade { IfErr result (IsMakeFault (state self.old).view.nature name.now) };
 
-    /// A vault in the file of this name, which is made or emptied. It is to be handed back.
-    fn vault_in(&mut self, name: &str) -> io::Result<Self::Filed>
+    /// A vault in the file of this name, which is made or emptied; a journal is never emptied. It is to be handed back.
+    fn vault_in(&mut self, name: &str) -> Result<Self::Filed, MakeFault>
         ensures nature { (state self.new).view.nature ≡ (state self.old).view.nature }
         ensures fresh { IfOk result (λ vault. IsFresh (Self.Filed.state vault)) }
         ensures lends { is_lawful (state self.old).view ≡ true
@@ -146,7 +221,7 @@ pub trait Store: AllocGlobal {
             → OnErr result (Fails (state self.old) (state self.new)) }
         ensures others { is_lawful (state self.old).view ≡ true
             → OthersStay name.now (state self.old) (state self.new) }
-        ensures unmade { OnErr result ((state self.old).view.nature.fails (Unmade name.now) ≡ true) };
+        ensures unmade { IfErr result (IsMakeFault (state self.old).view.nature name.now) };
 
     /// Takes the vault back that was handed out last, and answers whether it is sealed.
     fn hand_back(&mut self, vault: Self::Filed) -> bool
@@ -155,14 +230,14 @@ pub trait Store: AllocGlobal {
         ensures takes { is_lawful (state self.old).view ≡ true → (name : Name) → (state self.old).lent ≡ Some name
             → TakesBack name (Self.Filed.state vault) (state self.old) (state self.new) };
 
-    /// The file of this name, which is made or emptied.
-    fn log_in(&mut self, name: &str) -> io::Result<Self::Log>
+    /// The file of this name, which is made or emptied; a journal is never emptied.
+    fn log_in(&mut self, name: &str) -> Result<Self::Log, MakeFault>
         ensures nature { (state self.new).view.nature ≡ (state self.old).view.nature }
         ensures alone { is_lawful (state self.old).view ≡ true
             → OthersStay name.now (state self.old) (state self.new) }
         ensures fails { is_lawful (state self.old).view ≡ true
             → OnErr result (Fails (state self.old) (state self.new)) }
-        ensures unmade { OnErr result ((state self.old).view.nature.fails (Unmade name.now) ≡ true) };
+        ensures unmade { IfErr result (IsMakeFault (state self.old).view.nature name.now) };
 
     // A process that is killed leaves what is seen.
     ghost seen_may_stay: { (files : Self) (name : Name)

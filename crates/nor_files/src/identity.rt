@@ -1,0 +1,86 @@
+//! Which names refer to one file of the system.
+ghost use Rattle.std.specs.Prelude.{◌≡◌, ◌⊎◌, IfErr};
+
+use crate::folder::{folder_of, last_of};
+use std::fs;
+use std::fs::Metadata;
+use std::io::ErrorKind;
+use std::os::unix::fs::MetadataExt;
+use std::rt::Files;
+
+// Standard output and standard error of this process, by the names that Linux has for them.
+const STREAMS: [&str; 2] = ["/proc/self/fd/1", "/proc/self/fd/2"];
+
+/// Whether two names refer to one file, or will once a file is made under them. An error is the name that can't be
+/// looked at.
+pub fn is_one_file<'n, R: Files>(files: &R, one: &'n str, other: &'n str) -> Result<bool, &'n str>
+    ensures { IfErr result (λ name. name.now ≡ one.now ⊎ name.now ≡ other.now) }
+{
+    match (look(files, one, one)?, look(files, other, other)?) {
+        (Some(one), Some(other)) => Ok(is_same(&one, &other)),
+        (None, None) => will_be_one_file(files, one, other),
+        _ => Ok(false),
+    }
+}
+
+/// Whether the name refers to a regular file that is standard output or standard error. An error is the name, if it
+/// can't be looked at. A stream that can't be looked at, or is no regular file, is none; and if neither is one, the name
+/// isn't looked at.
+pub fn is_stream<'n, R: Files>(files: &R, name: &'n str) -> Result<bool, &'n str>
+    ensures { IfErr result (λ unseen. unseen.now ≡ name.now) }
+{
+    for stream in STREAMS {
+        let Some(stream) = regular(files, stream) else {
+            continue;
+        };
+        match look(files, name, name)? {
+            Some(file) if is_same(&file, &stream) => return Ok(true),
+            _ => {}
+        }
+    }
+    Ok(false)
+}
+
+// A regular file of this path, as the system describes it.
+fn regular<R: Files>(files: &R, path: &str) -> Option<Metadata> {
+    match fs::metadata(files, path) {
+        Ok(metadata) if metadata.is_file() => Some(metadata),
+        _ => None,
+    }
+}
+
+/// The same device and inode.
+pub fn is_same(one: &Metadata, other: &Metadata) -> bool {
+    one.dev() == other.dev() && one.ino() == other.ino()
+}
+
+// Whether two files that aren't there will be one once they are made.
+fn will_be_one_file<'n, R: Files>(files: &R, one: &'n str, other: &'n str) -> Result<bool, &'n str>
+    ensures { IfErr result (λ name. name.now ≡ one.now ⊎ name.now ≡ other.now) }
+{
+    if last_of(one) != last_of(other) {
+        return Ok(false);
+    }
+    match (
+        look(files, folder_of(one), one)?,
+        look(files, folder_of(other), other)?,
+    ) {
+        (Some(one), Some(other)) => Ok(is_same(&one, &other)),
+        _ => Ok(false),
+    }
+}
+
+// What the system says of a path: None if nothing is there. Any other failure is one of this name.
+fn look<'n, R: Files>(files: &R, path: &str, name: &'n str) -> Result<Option<Metadata>, &'n str>
+    ensures { IfErr result (λ unseen. unseen.now ≡ name.now) }
+{
+    match fs::metadata(files, path) {
+        Ok(metadata) => Ok(Some(metadata)),
+        Err(error) if is_missing(error.kind()) => Ok(None),
+        Err(_) => Err(name),
+    }
+}
+
+fn is_missing(kind: ErrorKind) -> bool {
+    kind == ErrorKind::NotFound || kind == ErrorKind::NotADirectory
+}

@@ -1,0 +1,46 @@
+//! Locks on files, which keep two runs from working on one file.
+
+use std::fs::{File, TryLockError};
+use std::io;
+use std::io::ErrorKind;
+
+/// A file that can be locked against other runs, until it is closed.
+pub trait LockFile {
+    /// Locks the file for this run alone. Returns false if another process has locked it. On a file system without
+    /// locks nothing is locked, and true is returned.
+    fn lock_alone(&self) -> io::Result<bool>;
+
+    /// As `lock_alone`, but shared with other runs that only read the file.
+    fn lock_shared(&self) -> io::Result<bool>;
+}
+
+impl LockFile for File {
+    fn lock_alone(&self) -> io::Result<bool> {
+        is_locked(self.try_lock())
+    }
+
+    fn lock_shared(&self) -> io::Result<bool> {
+        is_locked(self.try_lock_shared())
+    }
+}
+
+fn is_locked(outcome: Result<(), TryLockError>) -> io::Result<bool> {
+    match outcome {
+        Ok(()) => Ok(true),
+        Err(TryLockError::WouldBlock) => Ok(false),
+        Err(TryLockError::Error(error)) => {
+            if has_no_locks(&error) {
+                Ok(true)
+            } else {
+                Err(error)
+            }
+        }
+    }
+}
+
+// Linux's number of the error that no locks are to be had; it has no kind of its own.
+const ENOLCK: i32 = 37;
+
+fn has_no_locks(error: &io::Error) -> bool {
+    error.kind() == ErrorKind::Unsupported || error.raw_os_error() == Some(ENOLCK)
+}

@@ -1,0 +1,159 @@
+//! Files that a run makes, or empties.
+
+use crate::identity::is_same;
+use crate::locks::LockFile;
+use crate::store::MakeFault;
+use nor_journal::{FIRST_MAGIC, MAGIC};
+use std::fs::{Metadata, OpenFile, OpenOptions};
+use std::io::{ErrorKind, Read, Seek, Write};
+use std::os::unix::fs::OpenOptionsExt;
+use std::rt::Files;
+use std::{fs, io};
+
+/// Makes the file of this name, which must not be there, with these permissions, and locks it.
+pub fn make_new<R: Files>(files: &R, name: &str, mode: u32) -> Result<R::File, MakeFault>
+where
+    R::File: LockFile,
+{
+    let mut options = OpenOptions::new();
+    options.read(true).write(true).create_new(true).mode(mode);
+    let file = match options.open(files, name) {
+        Ok(file) => file,
+        Err(error) if error.kind() == ErrorKind::AlreadyExists => return Err(MakeFault::There),
+        Err(error) => return Err(MakeFault::Unmade(error)),
+    };
+    lock(&file)?;
+    Ok(file)
+}
+
+/// Makes the file of this name, or empties it: a regular file only after it was locked, and never a journal, which may
+/// be all that can restore a chip. What is no regular file is opened as it is.
+pub fn make_empty<R: Files>(files: &R, name: &str) -> Result<R::File, MakeFault>
+where
+    R::File: LockFile,
+{
+    if is_special(files, name) {
+        return match fs::create(files, name) {
+            Ok(file) => Ok(file),
+            Err(error) => Err(MakeFault::Unmade(error)),
+        };
+    }
+    let mut options = OpenOptions::new();
+    let opened = options
+        .read(true)
+        .write(true)
+        .create(true)
+        .open(files, name);
+    let mut file = match opened {
+        Ok(file) => file,
+        Err(error) => return Err(MakeFault::Unmade(error)),
+    };
+    lock(&file)?;
+    match is_journal(&mut file) {
+        Ok(false) => {}
+        Ok(true) => return Err(MakeFault::There),
+        Err(error) => return Err(MakeFault::Unmade(error)),
+    }
+    match empty(&mut file) {
+        Ok(()) => Ok(file),
+        Err(error) => Err(MakeFault::Unmade(error)),
+    }
+}
+
+// Whether something is there that is no regular file.
+fn is_special<R: Files>(files: &R, name: &str) -> bool {
+    match fs::metadata(files, name) {
+        Ok(metadata) => !metadata.is_file(),
+        Err(_) => false,
+    }
+}
+
+fn lock<F: LockFile>(file: &F) -> Result<(), MakeFault> {
+    match file.lock_alone() {
+        Ok(true) => Ok(()),
+        Ok(false) => Err(MakeFault::Busy),
+        Err(error) => Err(MakeFault::Unmade(error)),
+    }
+}
+
+// Whether the file begins as a journal does.
+fn is_journal<F: Read>(file: &mut F) -> io::Result<bool> {
+    let mut start = [0; MAGIC.len()];
+    match file.read_exact(&mut start) {
+        Ok(()) => Ok(start == MAGIC || start == FIRST_MAGIC),
+        Err(error) if error.kind() == ErrorKind::UnexpectedEof => Ok(false),
+        Err(error) => Err(error),
+    }
+}
+
+fn empty<F: OpenFile + Seek>(file: &mut F) -> io::Result<()> {
+    file.set_len(0)?;
+    file.rewind()
+}
+
+/// A file that a vault writes to. If it has a name, a sync also checks that the name still refers to it, and that it
+/// has all that was written.
+#[derive(Drop)]
+pub struct VaultedFile<'a, R: Files> {
+    files: &'a R,
+    file: R::File,
+    name: Option<String>,
+    written: u64,
+}
+
+impl<'a, R: Files> VaultedFile<'a, R> {
+    /// An empty file.
+    pub fn new(files: &'a R, file: R::File, name: Option<String>) -> VaultedFile<'a, R> {
+        VaultedFile {
+            files,
+            file,
+            name,
+            written: 0,
+        }
+    }
+
+    // Checks that what was written is what a later run finds under the name.
+    fn check(&self) -> io::Result<()> {
+        let Some(name) = &self.name else {
+            return Ok(());
+        };
+        let there = fs::metadata(self.files, name.as_str())?;
+        let file = self.file.metadata()?;
+        if is_same(&there, &file) && file.len() == self.written {
+            Ok(())
+        } else {
+            Err(ErrorKind::NotFound.into())
+        }
+    }
+}
+
+impl<R: Files> Write for VaultedFile<'_, R> {
+    fn write(&mut self, bytes: &[u8]) -> io::Result<usize> {
+        let taken = self.file.write(bytes)?;
+        self.written = self.written.saturating_add(taken as u64);
+        Ok(taken)
+    }
+
+    fn flush(&mut self) -> io::Result<()> {
+        self.file.flush()
+    }
+}
+
+impl<R: Files> OpenFile for VaultedFile<'_, R> {
+    fn metadata(&self) -> io::Result<Metadata> {
+        self.file.metadata()
+    }
+
+    fn set_len(&self, size: u64) -> io::Result<()> {
+        self.file.set_len(size)
+    }
+
+    fn sync_all(&self) -> io::Result<()> {
+        self.file.sync_all()?;
+        self.check()
+    }
+
+    fn sync_data(&self) -> io::Result<()> {
+        self.sync_all()
+    }
+}
