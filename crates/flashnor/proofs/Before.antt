@@ -1,8 +1,8 @@
 -- What a run leaves of files that ends before its call, or whose task doesn't change the chip.
 use Rattle.std.proofs.Common.{◌≡◌, ◌∙◌, Option, None, Some, arith, false, inl, inr, refl, sym, true, true≢false}
 use Rattle.std.specs.Borrow.{Bor}
-use Rattle.nor_files.specs.Files.{AreAtRest, FilesState, Name}
-use Rattle.nor_files.specs.Calls.{LeavesNoMore}
+use Rattle.nor_files.specs.Files.{AreAtRest, FilesState, Name, Stays}
+use Rattle.nor_files.specs.Calls.{LeavesNoMore, LeavesOrEmpty}
 use Rattle.nor_words.specs.Text.{Text}
 use Rattle.nor_words.specs.declared.job.ChipJob.{ChipJob}
 use Rattle.nor_words.specs.declared.job.JournalUse.{JournalUse}
@@ -11,9 +11,9 @@ use Rattle.nor_words.specs.declared.job.Task.{Task}
 use Rattle.nor_words.specs.declared.job.Task.TheVariants as task
 use Rattle.nor_words.specs.declared.programmer.Programmer.{Programmer}
 use Rattle.flashnor.specs.Holding.{KnownStay, LeaveNoMore}
-use Rattle.flashnor.specs.Roles.{HaveOneRole, named_by}
+use Rattle.flashnor.specs.Roles.{HasOwnTrace, HaveOneRole, named_by}
 use Rattle.flashnor.specs.Run.{KeepsChange, KeepsFiles, StayBut}
-use Rattle.flashnor.specs.Stored.{AreTwo, IsNot, LeavesNoMoreOf, LeavesOrEmpty, MakesNothing, StaysOf}
+use Rattle.flashnor.specs.Stored.{AreTwo, IsNot, LeavesNoMoreOf, MakesNothing, StaysOf}
 use Rattle.flashnor.specs.Tasks.{journal_by, journal_of, keeps_journal, made_by, puts_back}
 use Rattle.flashnor.proofs.Stays.{StayApart, apart, known_after, known_at_rest, not_that, stays_same}
 
@@ -94,6 +94,29 @@ keeps_still files programmer done =
     })
     (λ any _ _. (same any).leaves) (λ journal _. (same journal.now).leaves) (λ file _ left can. inl can)
 
+-- a session whose journal's file is there already, and that wrote nothing but its trace
+two_none : (one : Option (Bor Text)) → AreTwo one None
+two_none one = grind arith
+
+puts_journal : (done : Task) (file : Bor Text) → journal_by done ≡ Some file → puts_back done ≡ true
+puts_journal done file is = grind arith
+
+pub keeps_existing : (job : ChipJob) (old new : FilesState) (file : Bor Text) → journal_by job.task ≡ Some file
+    → HasOwnTrace job → ((any : Name) → IsNot job.programmer.trace any → Stays any old new)
+    → KeepsFiles job.programmer job.task old new
+keeps_existing job old new file is own stay =
+    let leave : (any : Name) → IsNot job.programmer.trace any → LeavesNoMore any old new =
+    λ any not. (stay any not).leaves in
+    keeps_unmade job.programmer old new
+    (apart (λ n. LeavesNoMoreOf n old new) tt job.programmer.image job.programmer.trace None own.image
+    (two_none job.programmer.image) (λ one not _. leave one.now not))
+    (apart (λ n. LeavesNoMoreOf n old new) tt job.programmer.status job.programmer.trace None own.status
+    (two_none job.programmer.status) (λ one not _. leave one.now not))
+    job.task (λ no. absurd (true≢false (sym (puts_journal job.task file is) ∙ no))) (λ any not _. leave any not)
+    (λ journal it. leave journal.now (not_that job.programmer.trace journal (rw it at own.journal)))
+    (λ journal it left can. inl (leave journal.now
+    (not_that job.programmer.trace journal (rw it at (two_kept job.task job.programmer.trace own.journal))) left can))
+
 module _ (old mid new : FilesState) (rest : AreAtRest old) (nature : mid.view.nature ≡ old.view.nature)
     (known : KnownStay old mid) (first : LeaveNoMore old mid) where
   -- a journal that isn't made leaves its file, or an empty one
@@ -101,9 +124,10 @@ module _ (old mid new : FilesState) (rest : AreAtRest old) (nature : mid.view.na
       → LeavesOrEmpty file.now old new
   or_empty named file is makes left can =
       let was = known_at_rest rest file.now in
+      let same = (known file.now was).seen in
       elim ((rw is at makes) (known_after nature (known file.now was) was) left can) [
         | inl before ↦ inl (first file.now left before)
-        | inr empty ↦ inr empty
+        | inr empty ↦ inr (sym same ∙ empty.0, empty.1)
       ]
 
   -- a call that wasn't made, for its trace or for the files of its task

@@ -24,7 +24,7 @@ use Rattle.flashnor.specs.declared.answers.Answer.{Answer}
 pub does_change : (view : View) (after : FilesState) (chip : Emulated) (named : Option ChipName) (change : Change) (request : Request)
     (ranges : Option (List Span)) (image : List ℕ) (old new : BusState) (outcome : Result Answer Refusal)
     → request ≡ request_for change named ranges → AreRangesOf view change.regions ranges → IsBufferOf view chip change.wanted image
-    → HasMadeChange request image change.journal_use old new after outcome → ChangesChip view after chip named change old new outcome
+    → HasMadeChange request image change.journal_use old new view after outcome → ChangesChip view after chip named change old new outcome
 does_change view after chip named change request ranges image old new outcome same included buffer changed =
     record { ranges = ranges; included = included; image = image; buffer = buffer; changed = rw same at changed }
 

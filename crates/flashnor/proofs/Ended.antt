@@ -1,5 +1,5 @@
 -- How calls and jobs end a run.
-use Rattle.std.proofs.Common.{◌≡◌, ◌≢◌, ℕ, List, Option, Result, Ok, Err, arith, inl, inr, refl, subst}
+use Rattle.std.proofs.Common.{◌≡◌, ◌≢◌, ℕ, List, Option, Result, Ok, Err, IfOk, arith, false, inl, inr, refl, subst}
 use Rattle.nor_call.specs.declared.refusal.Refusal.{Refusal}
 use Rattle.nor_words.specs.Text.{Text}
 use Rattle.clap.specs.Words.{IsAmong}
@@ -10,13 +10,22 @@ use Rattle.nor_words.specs.declared.words.UsageFault.{UsageFault}
 use Rattle.nor_words.specs.declared.words.UsageFault.TheVariants as usage
 use Rattle.flashnor.specs.Endings.{HasPrinted, PrintsAnswer, all_written}
 use Rattle.nor_files.specs.Files.{AreAtRest, FilesState, View}
-use Rattle.flashnor.specs.Run.{EndsJob, FailsJob, AnswersWords, IsCalled, IsToldAs, IsStatus, KeepsFiles, Succeeds}
+use Rattle.flashnor.specs.Run.{EndsJob, FailsJob, AnswersWords, HoldsChange, HoldsResult, HoldsTask, IsCalled, IsToldAs, IsStatus, KeepsFiles, Succeeds}
 use Rattle.flashnor.proofs.Stays.{stays_same}
 use Rattle.flashnor.specs.declared.answers.Answer.{Answer}
 use Rattle.flashnor.specs.declared.holding.Unwritten.{Unwritten}
 use Rattle.flashnor.specs.declared.messages.Fault.{Fault}
 use Rattle.flashnor.specs.declared.messages.Fault.TheVariants as end
 use Rattle.flashnor.specs.declared.printing.Ending.{Ending}
+use Rattle.flashnor.specs.declared.run.Work.{Work}
+use Rattle.flashnor.specs.Tasks.{keeps_journal, puts_back}
+use Rattle.nor_probe.specs.declared.table.ChipName.{ChipName}
+use Rattle.nor_words.specs.declared.job.Change.{Change}
+use Rattle.nor_words.specs.declared.job.JournalUse.{JournalUse}
+use Rattle.nor_words.specs.declared.job.JournalUse.TheVariants as uses
+use Rattle.nor_words.specs.declared.job.Task.{Task}
+use Rattle.nor_words.specs.declared.job.Task.TheVariants as task
+use Rattle.nor_words.specs.declared.programmer.Programmer.{Programmer}
 
 -- ---- jobs
 
@@ -38,14 +47,53 @@ module _ (files after : FilesState) (on_chip : ChipJob) (unwritten : Unwritten) 
 
   pub answer_ended : (words : List Text) (told : Result Answer Fault) → IsJob words (job.Chip on_chip)
       → (AreAtRest files → KeepsFiles on_chip.programmer on_chip.task files after)
+      → (AreAtRest files → HoldsResult on_chip unwritten told files after)
       → EndsJob files after on_chip unwritten told → AnswersWords files after words told unwritten
-  answer_ended words (Err (end.Usage fault)) asks keeps ends = absurd (no_usage fault files.view on_chip ends)
-  answer_ended words _ asks keeps ends = (job.Chip on_chip, asks, (ends, keeps))
+  answer_ended words (Err (end.Usage fault)) asks keeps holds ends = absurd (no_usage fault files.view on_chip ends)
+  answer_ended words _ asks keeps holds ends = (job.Chip on_chip, asks, (ends, keeps, holds))
 
   pub answer_failed : (words : List Text) (fault : Fault) → IsJob words (job.Chip on_chip)
       → (AreAtRest files → KeepsFiles on_chip.programmer on_chip.task files after) → FailsJob files.view on_chip fault
       → AnswersWords files after words (Err fault) unwritten
-  answer_failed words fault asks keeps fails = answer_ended words (Err fault) asks keeps (fails_ends fault fails)
+  answer_failed words fault asks keeps fails =
+      answer_ended words (Err fault) asks keeps (λ rest. tt) (fails_ends fault fails)
+
+-- ---- what the files hold
+
+-- nothing is said of a call that was refused
+pub holds_told : (on_chip : ChipJob) (unwritten : Unwritten) (outcome : Result Answer Refusal)
+    (told : Result Answer Fault) (old new : FilesState) → IsToldAs outcome told
+    → ((found : Answer) → outcome ≡ Ok found → unwritten ≡ all_written
+    → HoldsTask on_chip.programmer on_chip.named on_chip.task found old new)
+    → HoldsResult on_chip unwritten told old new
+holds_told on_chip unwritten (Ok found) told old new tells holds = rw tells (holds found refl)
+holds_told on_chip unwritten (Err refusal) told old new tells holds = rw tells tt
+
+-- nothing is said of a task that does not change the chip
+looked_kept : (programmer : Programmer) (named : Option ChipName) (change : Change) (kept : JournalUse)
+    (found : Answer) (old new : FilesState) → keeps_journal kept ≡ false
+    → HoldsChange programmer named change kept found old new
+looked_kept programmer named change (uses.Journal file) found old new looks = absurd cc
+looked_kept programmer named change (uses.Rehearse stops) found old new looks = tt
+
+looked_task : (programmer : Programmer) (named : Option ChipName) (done : Task) (found : Answer) (old new : FilesState)
+    → puts_back done ≡ false → HoldsTask programmer named done found old new
+looked_task programmer named (task.Change change) found old new looks =
+    looked_kept programmer named change change.journal_use found old new looks
+looked_task programmer named (task.Restore journal) found old new looks = absurd cc
+looked_task programmer named _ found old new looks = tt
+
+looked_told : (on_chip : ChipJob) (unwritten : Unwritten) (told : Result Answer Fault) (old new : FilesState)
+    → puts_back on_chip.task ≡ false → HoldsResult on_chip unwritten told old new
+looked_told on_chip unwritten (Ok found) old new looks =
+    λ _. looked_task on_chip.programmer on_chip.named on_chip.task found old new looks
+looked_told on_chip unwritten (Err fault) old new looks = tt
+
+pub holds_looked : (on_chip : ChipJob) (result : Result Work Fault) (old new : FilesState)
+    → puts_back on_chip.task ≡ false
+    → IfOk result (λ work. HoldsResult on_chip work.unwritten work.answer old new)
+holds_looked on_chip (Ok work) old new looks = looked_told on_chip work.unwritten work.answer old new looks
+holds_looked on_chip (Err fault) old new looks = tt
 
 -- ---- runs
 

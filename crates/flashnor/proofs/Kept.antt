@@ -1,6 +1,6 @@
 -- What a run that changes a chip leaves of files, whatever its task.
 use Rattle.std.proofs.Common.{◌≡◌, ◌<◌, ◌/◌, ◌%◌, ◌∙◌, ◌∷◌, [], ℕ, Bool, List, Option, None, Some}
-use Rattle.std.proofs.Common.{Result, ◌⊎◌, IfSome, ap, arith, false, inl, inr, length, refl, replicate}
+use Rattle.std.proofs.Common.{Result, Ok, ◌⊎◌, IfSome, ap, arith, false, inl, inr, length, refl, replicate}
 use Rattle.std.proofs.Common.{slice_index, subst, sym, true, unwrap_or}
 use Rattle.std.specs.Borrow.{Bor}
 use Rattle.std.proofs.lemmas.Bool.{cases_Bool, cases_lt}
@@ -12,12 +12,19 @@ use Rattle.nor_chip.specs.Start.{status_of}
 use Rattle.nor_chip.proofs.Kept.{kept_told}
 use Rattle.nor_chip.specs.declared.config.Config.{Config}
 use Rattle.nor_probe.specs.declared.table.ChipName.{ChipName}
-use Rattle.nor_files.specs.Files.{AllStay, AreAtRest, FilesState, Found, Stays, View, is_lawful}
+use Rattle.nor_files.specs.Files.{AllStay, AreAtRest, FilesState, Found, IsSettled, Stays, View, is_lawful}
+use Rattle.nor_journal.specs.Text.{text}
 use Rattle.nor_journal.specs.Vault.{VaultState}
 use Rattle.nor_call.specs.declared.refusal.Refusal.{Refusal}
 use Rattle.nor_call.specs.declared.request.Request.{Request}
 use Rattle.nor_session.specs.WrittenOver.{IsWrittenOver}
 use Rattle.nor_words.specs.Text.{Text}
+use Rattle.nor_layout.specs.declared.ranges.Span.{Span}
+use Rattle.nor_words.specs.declared.job.Change.{Change}
+use Rattle.nor_words.specs.declared.job.Regions.{Regions}
+use Rattle.nor_words.specs.declared.job.Wanted.{Wanted}
+use Rattle.nor_words.specs.declared.job.Wanted.TheVariants as wanted
+use Rattle.nor_words.specs.declared.programmer.Emulated.{Emulated}
 use Rattle.nor_words.specs.declared.job.ChipJob.{ChipJob}
 use Rattle.nor_words.specs.declared.job.JournalUse.{JournalUse}
 use Rattle.nor_words.specs.declared.job.JournalUse.TheVariants as uses
@@ -25,21 +32,24 @@ use Rattle.nor_words.specs.declared.job.Task.{Task}
 use Rattle.nor_words.specs.declared.job.Task.TheVariants as task
 use Rattle.nor_words.specs.declared.programmer.Programmer.{Programmer}
 use Rattle.flashnor.specs.Changes.{HasMadeChange, IsKeptFile, IsKeptIn}
-use Rattle.flashnor.specs.Chips.{IsContentOf, OpensChip}
+use Rattle.flashnor.specs.Chips.{ArePutBack, IsContentOf, OpensChip}
+use Rattle.flashnor.specs.Endings.{all_written}
 use Rattle.flashnor.specs.Found.{emulated_part}
-use Rattle.flashnor.specs.Holding.{AreAmid, AreHeld, AreReady, IsReady, LeavesAmid, Settles, StandsFor, was}
-use Rattle.flashnor.specs.Left.{IsOpenedFrom, LeavesAsLong, MayLeave, Opened}
-use Rattle.flashnor.specs.Roles.{HaveOneRole, named_by}
-use Rattle.flashnor.specs.Run.{DoesJob, IsViewBut, KeepsChange, KeepsFiles}
-use Rattle.flashnor.specs.Stored.{AreOfFile, AreTwo}
+use Rattle.flashnor.specs.Holding.{AreAmid, AreHeld, AreReady, IsAmid, IsReady, LeavesAmid, Settles, StandsFor, was}
+use Rattle.flashnor.specs.Left.{IsNoFileOf, IsOpenedFrom, LeadsBack, LeavesAsLong, MayFind, Opened}
+use Rattle.flashnor.specs.Requests.{AreRangesOf, IsBufferOf, request_for}
+use Rattle.flashnor.specs.Roles.{HaveOneRole, image_of, layout_of, named_by}
+use Rattle.flashnor.specs.Run.{DoesJob, HoldsChange, HoldsTask, IsViewBut, KeepsChange, KeepsFiles}
+use Rattle.flashnor.specs.Stored.{AreOfFile, AreTwo, IsNot}
 use Rattle.flashnor.specs.Tasks.{journal_of, keeps_journal, made_by, puts_back}
 use Rattle.flashnor.specs.declared.answers.Answer.{Answer}
 use Rattle.flashnor.specs.declared.holding.Held.{Held}
+use Rattle.flashnor.specs.declared.holding.Unwritten.{Unwritten}
 use Rattle.flashnor.proofs.Before.{image_made, status_made}
 use Rattle.flashnor.proofs.Shown.{size_with}
 use Rattle.flashnor.proofs.Stays.{StayApart, known_after, known_at_rest, lawful_after, not_that, rest_on, settled_after}
 use Rattle.flashnor.proofs.Stays.{stays_on}
-use Rattle.flashnor.proofs.Traced.{reads_before}
+use Rattle.flashnor.proofs.Traced.{missing_before, reads_before}
 
 -- ---- as many bytes as a file is to have
 
@@ -47,6 +57,11 @@ use Rattle.flashnor.proofs.Traced.{reads_before}
 pub of_none : (view : View) (name : Option (Bor Text)) (len : ℕ) (missing bytes : List ℕ) → name ≡ None
     → AreOfFile view name len missing bytes → bytes ≡ missing
 of_none view name len missing bytes none are = grind arith
+
+-- if the file that is named was not found, the missing bytes stand for it
+pub of_gone : {view : View} {name : Option (Bor Text)} {len : ℕ} {missing bytes : List ℕ}
+    → (are : AreOfFile view name len missing bytes) → are.found ≡ None → bytes ≡ missing
+of_gone {missing = missing} are gone = are.same ∙ ap (λ (found : Found). unwrap_or found missing) gone
 
 as_many : (view : View) (name : Option (Bor Text)) (len : ℕ) (missing bytes : List ℕ)
     → AreOfFile view name len missing bytes → length missing ≡ len → length bytes ≡ len
@@ -69,17 +84,25 @@ module _ {programmer : Programmer} {files : FilesState} (first : Opened programm
 abbrev IsEither : (had bytes has : List ℕ) → Type 0
 IsEither had bytes has = (i : ℕ) → (slice_index has i ≡ slice_index had i) ⊎ (slice_index has i ≡ slice_index bytes i)
 
-left_either : (had bytes missing : List ℕ) (named : Option (Bor Text)) (there : Bool) (files : FilesState) (left : Found)
-    → (there ≡ false → had ≡ missing) → (named ≡ None → had ≡ missing) → LeavesAmid named there had bytes files
-    → MayLeave named left files → IfSome left (λ has. length has ≡ length bytes)
+left_either : (had bytes missing : List ℕ) (there : Bool) (left : Found) → (there ≡ false → had ≡ missing)
+    → IsAmid there had bytes left → IfSome left (λ has. length has ≡ length bytes)
     → IsEither had bytes (unwrap_or left missing)
-left_either had bytes missing None there files left stood unnamed amid can whole i = inl (rw (can, unnamed refl) refl)
-left_either had bytes missing (Some name) true files left stood unnamed amid can whole i =
-    let (has, is, mix) = amid left can in
-    rw is (mix.each i)
-left_either had bytes missing (Some name) false files left stood unnamed amid can whole i = elim (amid left can) [
+left_either had bytes missing true left stood amid whole i = let (has, is, mix) = amid in rw is (mix.each i)
+left_either had bytes missing false left stood amid whole i = elim amid [
   | inl gone ↦ inl (rw (gone, stood refl) refl)
   | inr made ↦ inr (rw made.1 (ap (λ (l : List ℕ). slice_index l i) (made.2 (rw made.1 at whole))))
+]
+
+-- each byte of what a later run may find is the old or the new one, even if a file that was missing is moved aside
+found_either : (had bytes missing : List ℕ) (named : Option (Bor Text)) (there : Bool) (files : FilesState)
+    (was' left : Found) → (there ≡ false → had ≡ missing) → (named ≡ None → had ≡ missing)
+    → (was' ≡ None → had ≡ missing) → LeavesAmid named there had bytes files → MayFind named was' left files
+    → IfSome left (λ has. length has ≡ length bytes) → IsEither had bytes (unwrap_or left missing)
+found_either had bytes missing None there files was' left stood unnamed moved amid can whole i =
+    inl (rw (can, unnamed refl) refl)
+found_either had bytes missing (Some name) there files was' left stood unnamed moved amid can whole i = elim can [
+  | inl may ↦ left_either had bytes missing there left stood (amid left may) whole i
+  | inr aside ↦ inl (rw (aside.1, moved aside.0) refl)
 ]
 
 -- a file that was there has all its bytes while it is written over
@@ -108,20 +131,20 @@ kept_after stays kept = record {
 
 -- the chip that a change leaves has the same configuration
 setup_kept : {request : Request} {image : List ℕ} {old new : BusState} {after : FilesState}
-    {outcome : Result Answer Refusal} (kept : JournalUse) → keeps_journal kept ≡ true
-    → HasMadeChange request image kept old new after outcome → new.chip.config ≡ old.chip.config
-setup_kept (uses.Journal file) keeps made =
+    {outcome : Result Answer Refusal} (before : View) (kept : JournalUse) → keeps_journal kept ≡ true
+    → HasMadeChange request image kept old new before after outcome → new.chip.config ≡ old.chip.config
+setup_kept before (uses.Journal file) keeps made =
     elim (cases_Bool made.vault'.sealed) [
       | inl sealed ↦ (made.done.undo sealed).changes.within.config
       | inr open' ↦ (made.done.same open').config
     ]
-setup_kept (uses.Rehearse stops) keeps made = absurd cc
+setup_kept before (uses.Rehearse stops) keeps made = absurd cc
 
 pub setup_done : (done : Task) (amid : View) (after : FilesState) (programmer : Programmer) (named : Option ChipName)
     (old new : BusState) (outcome : Result Answer Refusal) → puts_back done ≡ true
     → DoesJob amid after programmer named done old new outcome → new.chip.config ≡ old.chip.config
 setup_done (task.Change change) amid after programmer named old new outcome puts does =
-    setup_kept change.journal_use puts does.changed
+    setup_kept amid change.journal_use puts does.changed
 setup_done (task.Restore journal) amid after programmer named old new outcome puts does = does.restored.config
 setup_done _ amid after programmer named old new outcome puts does = absurd cc
 
@@ -146,6 +169,7 @@ module _ (programmer : Programmer) (s2 s3 : FilesState) (nature : s3.view.nature
     image = does.image;
     buffer = does.buffer;
     changed = record {
+      missing = does.changed.missing;
       vault = does.changed.vault;
       vault' = does.changed.vault';
       fresh = does.changed.fresh;
@@ -155,6 +179,28 @@ module _ (programmer : Programmer) (s2 s3 : FilesState) (nature : s3.view.nature
   }
   does_after (task.Restore journal) amid named old new outcome puts one other does = does
   does_after _ amid named old new outcome puts one other does = absurd cc
+
+-- ---- what was read before the trace was made
+
+pub ranges_before : (trace : Option (Bor Text)) (old amid : View) (regions : Option Regions)
+    (ranges : Option (List Span)) → AreTwo trace (layout_of regions) → IsViewBut trace old amid
+    → AreRangesOf amid regions ranges → AreRangesOf old regions ranges
+ranges_before trace old amid None ranges two but are = are
+ranges_before trace old amid (Some regions) None two but are = absurd are
+ranges_before trace old amid (Some regions) (Some ranges) two but are = record {
+  text = are.text;
+  read = reads_before trace regions.layout.now 16777217 _ old amid (not_that trace regions.layout two) but are.read;
+  whole = are.whole;
+  included = are.included;
+}
+
+pub buffer_before : (trace : Option (Bor Text)) (old amid : View) (chip : Emulated) (what : Wanted)
+    (bytes : List ℕ) → AreTwo trace (image_of what) → IsViewBut trace old amid
+    → IsBufferOf amid chip what bytes → IsBufferOf old chip what bytes
+buffer_before trace old amid chip (wanted.Write image) bytes two but is =
+    reads_before trace image.now 16777217 _ old amid (not_that trace image two) but is
+buffer_before trace old amid chip wanted.Erase bytes two but is = is
+buffer_before trace old amid chip (wanted.Range start len) bytes two but is = is
 
 -- ---- the chip's files
 
@@ -217,18 +263,21 @@ module _ (job : ChipJob) (held : Held) (s0 s1 s2 : FilesState) (bus bus' : BusSt
         is_amid.status
 
     -- each byte that is opened from what may be left is the old or the new chip's
-    over : (image status : Found) (later : BusState) → MayLeave job.programmer.image image s3
-        → MayLeave job.programmer.status status s3 → IsOpenedFrom image status bus.chip.config later.chip
+    over : (image status : Found) (later : BusState) → MayFind job.programmer.image read.bytes.found image s3
+        → MayFind job.programmer.status read.status.found status s3 → IsOpenedFrom image status bus.chip.config later.chip
         → IsWrittenOver bus.chip bus'.chip later.chip
     over image status later can can_status from =
         let holds = opens.holds in
-        let byte = left_either held.content.bytes.items is_amid.put (replicate bus.chip.config.size 255)
-        job.programmer.image held.image_there s3 image (λ gone. rw (opened_size first) (stands.image gone))
-        (λ none. rw (opened_size first) (of_none s0.view job.programmer.image _ _ _ none read.bytes)) is_amid.image can
+        let byte = found_either held.content.bytes.items is_amid.put (replicate bus.chip.config.size 255)
+        job.programmer.image held.image_there s3 read.bytes.found image
+        (λ gone. rw (opened_size first) (stands.image gone))
+        (λ none. rw (opened_size first) (of_none s0.view job.programmer.image _ _ _ none read.bytes))
+        (λ none. rw (opened_size first) (of_gone read.bytes none)) is_amid.image can
         (subst (λ (n : ℕ). IfSome image (λ has. length has ≡ n)) (sym put_len) from.whole) in
-        let bit = left_either held.content.status (status_of bus'.chip) (0 ∷ 0 ∷ []) job.programmer.status
-        held.status_there s3 status stands.status
-        (λ none. of_none s0.view job.programmer.status _ _ _ none read.status) is_amid.status can_status from.two in
+        let bit = found_either held.content.status (status_of bus'.chip) (0 ∷ 0 ∷ []) job.programmer.status
+        held.status_there s3 read.status.found status stands.status
+        (λ none. of_none s0.view job.programmer.status _ _ _ none read.status) (λ none. of_gone read.status none)
+        is_amid.status can_status from.two in
         let one_of = λ (kept : KeptBits). kept.one in let two_of = λ (kept : KeptBits). kept.two in
         record {
           config = from.config;
@@ -253,37 +302,58 @@ module _ (job : ChipJob) (held : Held) (s0 s1 s2 : FilesState) (bus bus' : BusSt
           idle = from.idle;
         }
 
+    -- a file stays that is not the programmer's and is not made by the task
+    others_stay : (made : Option (Bor Text)) → StayApart job.programmer.trace made s1 s2 → (name : Text)
+        → IsNoFileOf job.programmer name → IsNot made name → Stays name s0 s3
+    others_stay made stay' name none other =
+        stays_on (is_held.stay name)
+        (stays_on (stay' name none.trace other) (last (lawful_after nature2 still.lawful) name none.image none.status))
+
     last_stays : (file : Bor Text) → AreTwo job.programmer.image (Some file) → AreTwo job.programmer.status (Some file)
         → Stays file.now s2 s3
     last_stays file one other =
         last (lawful_after nature2 still.lawful) file.now (not_that job.programmer.image file one)
         (not_that job.programmer.status file other)
 
+    -- a sealed journal restores the original chip, and stays in its file
+    leads_kept : {request : Request} {image : List ℕ} {outcome : Result Answer Refusal} (file : Bor Text)
+        → (made : HasMadeChange request image (uses.Journal file) bus bus' amid s2 outcome)
+        → IsKeptFile file.now made.vault' s3 → made.vault'.sealed ≡ true
+        → (leads : LeadsBack file.now first s3) × IsSettled file.now (Some (text leads.journal)) s3
+    leads_kept file made in_file is =
+        let saves = (made.done.undo is).journal in_file.telling in (
+          record {
+            journal = saves.content;
+            sound = saves.saves.is;
+            left = λ any can. (in_file.settled is).leaves any can ∙ ap Some saves.is;
+            back = λ i s later can can_s from.
+                (made.done.over later (over i s later can can_s from)).back is in_file.telling saves.content
+                saves.saves.is saves.is;
+          },
+          rw saves.is at (in_file.settled is),
+        )
+
     -- behind a session, whose journal is in its file
     keeps_change : {request : Request} {image : List ℕ} {outcome : Result Answer Refusal} (kept : JournalUse)
-        → keeps_journal kept ≡ true → AreTwo job.programmer.image (journal_of kept)
-        → AreTwo job.programmer.status (journal_of kept) → HasMadeChange request image kept bus bus' s2 outcome
+        → keeps_journal kept ≡ true → StayApart job.programmer.trace (journal_of kept) s1 s2
+        → AreTwo job.programmer.image (journal_of kept)
+        → AreTwo job.programmer.status (journal_of kept) → AreTwo job.programmer.trace (journal_of kept)
+        → HasMadeChange request image kept bus bus' amid s2 outcome
         → KeepsChange job.programmer kept s0 s3
-    keeps_change (uses.Journal file) keeps one other made =
+    keeps_change (uses.Journal file) keeps stay' one other traced made =
         let in_file = kept_after (last_stays file one other) (made.kept_in (lawful_after nature2 still.lawful)) in
+        let not = not_that job.programmer.trace file traced in
         inr (record {
+          missing = missing_before job.programmer.trace file s0.view amid not but made.missing (known_at_rest rest file.now);
+          others = others_stay (Some file) stay';
           image = image_whole;
           status = status_whole;
           first = first;
           sealed = made.vault'.sealed;
           same = λ is i s later can can_s from. (made.done.over later (over i s later can can_s from)).same is;
-          back = λ is.
-              let saves = (made.done.undo is).journal in_file.telling in
-              record {
-                journal = saves.content;
-                sound = saves.saves.is;
-                left = λ any can. (in_file.settled is).leaves any can ∙ ap Some saves.is;
-                back = λ i s later can can_s from.
-                    (made.done.over later (over i s later can can_s from)).back is in_file.telling saves.content
-                    saves.saves.is saves.is;
-              };
+          back = λ is. (leads_kept file made in_file is).0;
         })
-    keeps_change (uses.Rehearse stops) keeps one other made = absurd cc
+    keeps_change (uses.Rehearse stops) keeps stay' one other traced made = absurd cc
 
     pub keeps_files : (done : Task) (named : Option ChipName) (outcome : Result Answer Refusal) → puts_back done ≡ true
         → StayApart job.programmer.trace (made_by done) s1 s2
@@ -291,10 +361,11 @@ module _ (job : ChipJob) (held : Held) (s0 s1 s2 : FilesState) (bus bus' : BusSt
         → AreTwo job.programmer.trace (named_by done).journal
         → DoesJob amid s2 job.programmer named done bus bus' outcome → KeepsFiles job.programmer done s0 s3
     keeps_files (task.Change change) named outcome puts stay' one other traced does =
-        keeps_change change.journal_use puts one other does.changed
+        keeps_change change.journal_use puts stay' one other traced does.changed
     keeps_files (task.Restore journal) named outcome puts stay' one other traced does =
         let not = not_that job.programmer.trace journal traced in
         inr (record {
+          others = λ name none. others_stay None stay' name none tt;
           image = image_whole;
           status = status_whole;
           found = first;
@@ -307,3 +378,66 @@ module _ (job : ChipJob) (held : Held) (s0 s1 s2 : FilesState) (bus bus' : BusSt
               does.restored.over chip later can (over i s later left left_status from);
         })
     keeps_files _ named outcome puts stay' one other traced does = absurd cc
+
+    -- ---- what they hold at the end
+
+    module _ (unwritten : Unwritten) (all : unwritten ≡ all_written)
+        (put : ArePutBack job.programmer bus'.chip unwritten.image unwritten.status s3) where
+      put_all : ArePutBack job.programmer bus'.chip None None s3
+      put_all = rw all at put
+
+      holds_change : (change : Change) (named : Option ChipName) (found : Answer) (kept : JournalUse)
+          → keeps_journal kept ≡ true → AreTwo job.programmer.trace (layout_of change.regions)
+          → AreTwo job.programmer.trace (image_of change.wanted) → AreTwo job.programmer.image (journal_of kept)
+          → AreTwo job.programmer.status (journal_of kept) → (ranges : Option (List Span))
+          → AreRangesOf amid change.regions ranges → (image : List ℕ)
+          → IsBufferOf amid job.programmer.chip change.wanted image
+          → HasMadeChange (request_for change named ranges) image kept bus bus' amid s2 (Ok found)
+          → HoldsChange job.programmer named change kept found s0 s3
+      holds_change change named found (uses.Journal file) keeps two_layout two_image one other ranges are image is made =
+          let in_file = kept_after (last_stays file one other) (made.kept_in (lawful_after nature2 still.lawful)) in
+          let sealed = made.done.sealed refl in
+          let leads = leads_kept file made in_file sealed in
+          record {
+            first = first;
+            last = bus';
+            ranges = ranges;
+            included = ranges_before job.programmer.trace s0.view amid change.regions ranges two_layout but are;
+            image = image;
+            buffer = buffer_before job.programmer.trace s0.view amid job.programmer.chip change.wanted image two_image
+                but is;
+            target = made.done.told;
+            held = put_all;
+            leads = leads.0;
+            settled = leads.1;
+          }
+      holds_change change named found (uses.Rehearse stops) keeps two_layout two_image one other ranges are image is made =
+          absurd cc
+
+      pub holds_task : (done : Task) (named : Option ChipName) (found : Answer) → puts_back done ≡ true
+          → StayApart job.programmer.trace (made_by done) s1 s2
+          → AreTwo job.programmer.trace (named_by done).layout → AreTwo job.programmer.trace (named_by done).wanted
+          → AreTwo job.programmer.image (named_by done).journal → AreTwo job.programmer.status (named_by done).journal
+          → AreTwo job.programmer.trace (named_by done).journal
+          → DoesJob amid s2 job.programmer named done bus bus' (Ok found)
+          → HoldsTask job.programmer named done found s0 s3
+      holds_task (task.Change change) named found puts stay' two_layout two_image one other traced does =
+          holds_change change named found change.journal_use puts two_layout two_image one other does.ranges
+          does.included does.image does.buffer does.changed
+      holds_task (task.Restore journal) named found puts stay' two_layout two_image one other traced does =
+          let not = not_that job.programmer.trace journal traced in
+          record {
+            opened = first;
+            last = bus';
+            journal = does.journal;
+            sound = does.sound;
+            read = reads_before job.programmer.trace journal.now 16793662 _ s0.view amid not but does.read;
+            probed = does.restored.found;
+            same = does.restored.same;
+            target = does.restored.told;
+            back = does.restored.back;
+            held = put_all;
+            stays = stays_on (is_held.stay journal.now)
+                (stays_on (stay' journal.now not tt) (last_stays journal one other));
+          }
+      holds_task _ named found puts stay' two_layout two_image one other traced does = absurd cc

@@ -13,3 +13,5 @@ pub mod Printed
 pub mod Made
 pub mod Holds
 pub mod WrittenBack
+pub mod Present
+pub mod OneRole

@@ -2,14 +2,14 @@
 use Rattle.std.proofs.Common.{◌≡◌, ◌∙◌, ℕ, Option, None, Some, IsSomeAnd, ap, arith, inl, inr, option_map, sym, take, true}
 use Rattle.std.specs.Borrow.{Bor}
 use Rattle.nor_files.specs.Calls.{Reads}
-use Rattle.nor_files.specs.Files.{FilesState, Found, OthersStay, View, is_lawful}
+use Rattle.nor_files.specs.Files.{FilesState, Found, Name, OthersStay, Stays, View, is_lawful}
 use Rattle.nor_words.specs.Text.{Text}
 use Rattle.nor_words.specs.declared.job.ChipJob.{ChipJob}
 use Rattle.flashnor.specs.Holding.{KnownStay}
-use Rattle.flashnor.specs.Files.{IsLogging}
+use Rattle.flashnor.specs.Files.{IsMaking}
 use Rattle.flashnor.specs.Run.{FailsTraced, IsViewBut}
 use Rattle.flashnor.specs.declared.messages.Fault.{Fault}
-use Rattle.flashnor.specs.Stored.{IsNot, MakesNothing}
+use Rattle.flashnor.specs.Stored.{IsMissing, IsNot, MakesNothing}
 use Rattle.flashnor.proofs.Stays.{known_after, lawful_after}
 
 pub view_but : (trace : Option (Bor Text)) (name : Bor Text) (old mid : FilesState) → trace ≡ Some name
@@ -18,6 +18,15 @@ pub view_but : (trace : Option (Bor Text)) (name : Bor Text) (old mid : FilesSta
 view_but trace name old mid is nature others = record {
   nature = nature;
   stays = λ any not known. let stays = others known.lawful any (rw is at not) in (stays.out, stays.seen);
+}
+
+-- the same of a trace that may not be named
+pub view_apart : (trace : Option (Bor Text)) (old mid : FilesState) → mid.view.nature ≡ old.view.nature
+    → (is_lawful old.view ≡ true → (name : Name) → IsNot trace name → Stays name old mid)
+    → IsViewBut trace old.view mid.view
+view_apart trace old mid nature others = record {
+  nature = nature;
+  stays = λ any not known. let stays = others known.lawful any not in (stays.out, stays.seen);
 }
 
 -- files that were held before stay as they were
@@ -40,6 +49,13 @@ reads_before trace file most found old amid not but reads = λ known.
     reads (record { lawful = lawful_after but.nature known.lawful; in_store = same.0 ∙ known.in_store })
     ∙ ap (option_map (take most)) same.1
 
+-- a file that was missing once the trace was made was missing before
+pub missing_before : (trace : Option (Bor Text)) (file : Bor Text) (old amid : View) → IsNot trace file.now
+    → IsViewBut trace old amid → IsMissing (Some file) amid → IsMissing (Some file) old
+missing_before trace file old amid not but gone = λ known.
+    let same = but.stays file.now not known in
+    sym same.1 ∙ gone (record { lawful = lawful_after but.nature known.lawful; in_store = same.0 ∙ known.in_store })
+
 -- of a file that isn't the trace nothing may be left but what could be left before the trace was made
 pub makes_nothing_before : (name : Bor Text) (journal : Option (Bor Text)) (old mid new : FilesState)
     → mid.view.nature ≡ old.view.nature → IsNot journal name.now
@@ -48,12 +64,12 @@ pub makes_nothing_before : (name : Bor Text) (journal : Option (Bor Text)) (old 
 makes_nothing_before name None old mid new nature not others made = tt
 makes_nothing_before name (Some file) old mid new nature not others made = λ known left may.
     let stays = others known.lawful file.now (λ same. not (sym same)) in
-    elim (made (known_after nature stays known) left may) [ inl was ↦ inl (stays.leaves left was) | inr empty ↦ inr empty ]
+    elim (made (known_after nature stays known) left may) [ inl was ↦ inl (stays.leaves left was) | inr empty ↦ inr (sym stays.seen ∙ empty.0, empty.1) ]
 
 -- ---- faults
 
 trace_before : (trace : Option (Bor Text)) (fault : Fault) (old mid : View) → mid.nature ≡ old.nature
-    → IsSomeAnd trace (λ name. IsLogging mid name.now fault) → IsSomeAnd trace (λ name. IsLogging old name.now fault)
+    → IsSomeAnd trace (λ name. IsMaking mid name.now fault) → IsSomeAnd trace (λ name. IsMaking old name.now fault)
 trace_before trace fault old mid same fails = grind arith
 
 pub fails_before : (job : ChipJob) (fault : Fault) (old mid : FilesState) → mid.view.nature ≡ old.view.nature
@@ -61,5 +77,7 @@ pub fails_before : (job : ChipJob) (fault : Fault) (old mid : FilesState) → mi
     → FailsTraced mid.view job fault → FailsTraced old.view job fault
 fails_before job fault old mid same stay fails = elim fails [
   | inl trace ↦ inl (trace_before job.programmer.trace fault old.view mid.view same trace)
-  | inr before ↦ inr (before.0, view_before job.programmer.trace old mid before.0 same stay before.1, before.2)
+  | inr (inl roles) ↦ inr (inl (rw (← same) roles))
+  | inr (inr before) ↦
+      inr (inr (before.0, view_before job.programmer.trace old mid before.0 same stay before.1, before.2))
 ]

@@ -1,22 +1,24 @@
 -- Runs one behind another: each restore leads back as its predecessors did, and one that ends has left the first chip.
 use mathlib.Core.HLevel.{is_prop→PathP}
-use Rattle.std.proofs.Common.{◌≡◌, ◌<◌, ◌+◌, ◌∙◌, ◌++◌, [], ℕ, Bool, List, Option, None, Some, Result}
-use Rattle.std.proofs.Common.{Ok, ◌⊎◌, IfSome, IsTrue, ap, arith, drop, inl, inr, length, option_map, refl, replicate}
+use Rattle.std.proofs.Common.{◌≡◌, ◌<◌, ◌+◌, ◌∙◌, ◌++◌, ◌∷◌, [], ℕ, Bool, List, Option, None, Some, Result}
+use Rattle.std.proofs.Common.{Ok, ◌⊎◌, IfSome, IsSomeAnd, IsTrue, ap, arith, drop, inl, inr, length, option_map, refl, replicate}
 use Rattle.std.proofs.Common.{slice_index, subst, sym, take, true, unwrap_or}
 use Rattle.std.specs.Borrow.{Bor}
 use Rattle.std.proofs.Math.Bool.{Bool-set}
 use Rattle.std.proofs.lemmas.Bool.{cases_lt}
 use Rattle.std.proofs.lemmas.List.{append-nil, get_or_past, length-take, take-append-drop, take_all}
-use Rattle.nor_chip.specs.Chip.{Chip, IsSame, kept_in}
+use Rattle.nor_chip.specs.Bus.{BusState}
+use Rattle.nor_chip.specs.Chip.{Chip, IsSame, KeptBits, kept_in}
 use Rattle.nor_chip.specs.Makers.{HasParts}
 use Rattle.nor_chip.specs.Sim.{state_of}
 use Rattle.nor_chip.specs.Size.{is_chip_size}
 use Rattle.nor_chip.specs.Start.{status_of}
+use Rattle.nor_driver.specs.StatusWrites.{fixed_of}
 use Rattle.nor_chip.proofs.Kept.{kept_told}
 use Rattle.nor_chip.specs.declared.config.Config.{Config}
 use Rattle.nor_chip.specs.declared.config.Kinds.{Kinds}
 use Rattle.nor_files.specs.Calls.{LeavesNoMore}
-use Rattle.nor_files.specs.Files.{AreAtRest, FilesState, Found, Name, is_lawful}
+use Rattle.nor_files.specs.Files.{AreAtRest, FilesState, Found, Name, View, is_lawful}
 use Rattle.nor_journal.specs.Text.{Content as Journal, IsContent, text}
 use Rattle.nor_journal.proofs.OneForm.{one_text}
 use Rattle.nor_session.specs.Headline.{CanGiveBack}
@@ -30,14 +32,14 @@ use Rattle.nor_words.specs.declared.programmer.Emulated.TheVariants.{Tiny64, W25
 use Rattle.nor_words.specs.declared.programmer.Programmer.{Programmer}
 use Rattle.flashnor.specs.Chips.{ArePutBack, IsConfigWith}
 use Rattle.flashnor.specs.Endings.{all_written}
-use Rattle.flashnor.specs.Left.{IsOpenedFrom, KeepsRestorable, LeadsBack, MayLeave, Opened}
+use Rattle.flashnor.specs.Found.{emulated_part}
+use Rattle.flashnor.specs.Left.{IsOpenedFrom, KeepsRestorable, LeadsBack, LeavesAsLong, LeavesRestorable, MayFind, Opened}
 use Rattle.flashnor.specs.Stored.{ArePut, IsFileFound, IsRead, LeavesNoMoreOf}
 use Rattle.flashnor.specs.Undone.{HaveOneChip, LeavesFirst, NameOne, Restores, RestoresFirst}
 use Rattle.flashnor.specs.declared.answers.Answer.{Answer}
 use Rattle.flashnor.specs.declared.holding.Unwritten.{Unwritten}
 use Rattle.flashnor.specs.declared.messages.Fault.{Fault}
-use Rattle.flashnor.proofs.Before.{leaves_of}
-use Rattle.flashnor.proofs.Kept.{of_none, opened_many, opened_size}
+use Rattle.flashnor.proofs.Kept.{of_gone, opened_many, opened_size}
 use Rattle.flashnor.proofs.Stays.{known_at_rest, lawful_after, not_that}
 use Rattle.flashnor.proofs.Traced.{reads_before}
 
@@ -81,24 +83,45 @@ whole_seen len seen found is whole = grind (arith, take_all, length-take)
 
 left_seen : (files : FilesState) → AreAtRest files → ((name : Name) → files.may_leave name (files.view.seen name))
     → (name : Option (Bor Text)) (len : ℕ) (found : Found) → IsFileFound files.view name len found
-    → IfSome found (λ all. length all ≡ len) → MayLeave name found files
-left_seen files rest still None len found is whole = is
-left_seen files rest still (Some name) len found is whole =
-    rw (whole_seen len (files.view.seen name.now) found (is (known_at_rest rest name.now)) whole) (still name.now)
+    → IfSome found (λ all. length all ≡ len) → (was : Found) → MayFind name was found files
+left_seen files rest still None len found is whole was = is
+left_seen files rest still (Some name) len found is whole was =
+    inl (rw (whole_seen len (files.view.seen name.now) found (is (known_at_rest rest name.now)) whole) (still name.now))
+
+whole_of : (found : Found) (n m : ℕ) → n ≡ m → IsSomeAnd found (λ all. length all ≡ n)
+    → IfSome found (λ all. length all ≡ m)
+whole_of None n m same many = absurd many
+whole_of (Some all) n m same many = many ∙ same
+
+-- if no file is named, none is found
+none_found : (view : View) (name : Option (Bor Text)) (len : ℕ) (found : Found) → IsFileFound view name len found
+    → name ≡ None → found ≡ None
+none_found view None len found is none = is
+none_found view (Some name) len found is none = absurd cc
 
 -- ---- names
 
--- what may be left of one may be of the other
-left_one : (one other : Option (Bor Text)) (left : Found) (files : FilesState) → NameOne one other
-    → MayLeave other left files → MayLeave one left files
-left_one one other left files same can = grind arith
+-- if both name the same file, the same may be found of both
+found_one : (one other : Option (Bor Text)) (was left : Found) (files : FilesState) → NameOne one other
+    → MayFind other was left files → MayFind one was left files
+found_one None None was left files same can = can
+found_one (Some one) (Some other) was left files same can = rw (← same) can
+found_one None (Some other) was left files same can = absurd same
+found_one (Some one) None was left files same can = absurd same
 
 turned : (one other : Option (Bor Text)) → NameOne one other → NameOne other one
 turned one other same = grind arith
 
-less_of : (one other : Option (Bor Text)) (left : Found) (old new : FilesState) → NameOne one other
-    → LeavesNoMoreOf other old new → MayLeave one left new → MayLeave one left old
-less_of one other left old new same less can = grind arith
+-- if no more may be left of a file, no more may be found of it
+less_of : (one other : Option (Bor Text)) (was left : Found) (old new : FilesState) → NameOne one other
+    → LeavesNoMoreOf other old new → MayFind one was left new → MayFind one was left old
+less_of None None was left old new same less can = can
+less_of (Some one) (Some other) was left old new same less can = elim can [
+  | inl may ↦ inl (rw (← same) (less left (rw same may)))
+  | inr aside ↦ inr aside
+]
+less_of None (Some other) was left old new same less can = absurd same
+less_of (Some one) None was left old new same less can = absurd same
 
 -- ---- the task
 
@@ -118,24 +141,88 @@ same_journal journal other n sound is reads =
     ∙ sym (append-nil (text journal)) in
     (one_text other journal (drop n (text journal)) [] is sound e).0
 
+-- ---- a file that is moved aside
+
+-- a file that a run found keeps its length; a file that the run did not find may be moved aside again
+aside_of : (other : Bor Text) (was found left : Found) (len : ℕ) (mid new : FilesState) → AreAtRest mid
+    → ((name : Name) → new.may_leave name (new.view.seen name)) → IsFileFound mid.view (Some other) len found
+    → IfSome found (λ all. length all ≡ len) → LeavesAsLong (Some other) mid new → (was ≡ None) × (left ≡ None)
+    → (kept : Found) × MayFind (Some other) found kept new × IfSome kept (λ all. length all ≡ len)
+    × ((left ≡ kept) ⊎ ((was ≡ None) × (left ≡ None)))
+aside_of other was None left len mid new rest still is whole long aside = (None, inr (refl, refl), tt, inr aside)
+aside_of other was (Some all) left len mid new rest still is whole long aside =
+    let seen = whole_seen len (mid.view.seen other.now) (Some all) (is (known_at_rest rest other.now)) whole in
+    let has = new.view.seen other.now in (
+      has,
+      inl (still other.now),
+      whole_of has (length all) len whole (long all (sym seen) has (still other.now)),
+      inr aside,
+    )
+
+-- what is found is something that a run may have left, or nothing if there was no file at first
+pick : (one other : Option (Bor Text)) (was found left : Found) (len : ℕ) (mid new : FilesState) → NameOne one other
+    → AreAtRest mid → ((name : Name) → new.may_leave name (new.view.seen name)) → IsFileFound mid.view other len found
+    → IfSome found (λ all. length all ≡ len) → LeavesAsLong other mid new → MayFind one was left new
+    → IfSome left (λ all. length all ≡ len)
+    → (kept : Found) × MayFind other found kept new × IfSome kept (λ all. length all ≡ len)
+    × ((left ≡ kept) ⊎ ((was ≡ None) × (left ≡ None)))
+pick None None was found left len mid new same rest still is whole long can fits = (left, can, fits, inl refl)
+pick (Some one) (Some other) was found left len mid new same rest still is whole long can fits = elim can [
+  | inl may ↦ (left, inl (rw same may), fits, inl refl)
+  | inr aside ↦ aside_of other was found left len mid new rest still is whole long aside
+]
+pick None (Some other) was found left len mid new same rest still is whole long can fits = absurd same
+pick (Some one) None was found left len mid new same rest still is whole long can fits = absurd same
+
+-- A chip can be restored if each of its bytes is that of a chip that can be restored or that of the original chip, and
+-- its bits are those of one of them.
+mixed_back : (journal : Journal) (first : Chip) (state later : BusState) → CanGiveBack journal first state
+    → later.chip.config ≡ first.config
+    → ((a : ℕ) → (later.chip.bytes a ≡ state.chip.bytes a) ⊎ (later.chip.bytes a ≡ first.bytes a))
+    → (later.chip.kept ≡ state.chip.kept) ⊎ (later.chip.kept ≡ first.kept) → later.chip.busy ≡ 0
+    → CanGiveBack journal first later
+mixed_back journal first state later can config bytes kept idle = record {
+  known = can.known;
+  saves = can.saves;
+  within = record {
+    config = config;
+    bytes = λ a out. elim (bytes a) [ inl is ↦ is ∙ can.within.bytes a out | inr is ↦ is ];
+    fixed = elim kept [ inl is ↦ ap fixed_of is ∙ can.within.fixed | inr is ↦ ap fixed_of is ];
+    kept = λ shut. elim kept [ inl is ↦ is ∙ can.within.kept shut | inr is ↦ is ];
+    runs = λ power busy. absurd (busy idle);
+  };
+}
+
 -- ---- one run
 
 module _ (programmer : Programmer) (file : Text) (start : FilesState) (first : Opened programmer start)
     (other : Programmer) (same : HaveOneChip programmer other) where
-  -- where no more may be left, that leads back, too
-  leads_less : (old new : FilesState) → LeavesNoMoreOf other.image old new → LeavesNoMoreOf other.status old new
-      → LeavesNoMore file old new → LeadsBack programmer file first.bus old → LeadsBack programmer file first.bus new
-  leads_less old new image status journal leads = record {
+  -- files from which no more may be found lead back, too
+  leads_less : (old new : FilesState) → LeavesNoMore file old new
+      → ((found : Found) → MayFind programmer.image first.read.bytes.found found new
+      → MayFind programmer.image first.read.bytes.found found old)
+      → ((found : Found) → MayFind programmer.status first.read.status.found found new
+      → MayFind programmer.status first.read.status.found found old)
+      → LeadsBack file first old → LeadsBack file first new
+  leads_less old new journal image status leads = record {
     journal = leads.journal;
     sound = leads.sound;
     left = λ left can. leads.left left (journal left can);
-    back = λ i s opened can_i can_s from. leads.back i s opened
-        (less_of programmer.image other.image i old new same.image image can_i)
-        (less_of programmer.status other.status s old new same.status status can_s) from;
+    back = λ i s opened can_i can_s from. leads.back i s opened (image i can_i) (status s can_s) from;
   }
 
+  -- if there was no such file at first, the original chip has what stands for a missing file
+  first_byte : first.read.bytes.found ≡ None → (a : ℕ)
+      → slice_index (replicate first.bus.chip.config.size 255) a ≡ first.bus.chip.bytes a
+  first_byte none a =
+      rw (opened_size first) (sym (first.opens.holds.bytes a
+      ∙ ap (λ (l : List ℕ). slice_index l a) (of_gone first.read.bytes none)))
+
+  first_kept : first.read.status.found ≡ None → kept_in (0 ∷ 0 ∷ []) ≡ first.bus.chip.kept
+  first_kept none = sym (first.opens.holds.kept ∙ ap kept_in (of_gone first.read.status none))
+
   module _ (mid : FilesState) (rest : AreAtRest mid) (still : (name : Name) → mid.may_leave name (mid.view.seen name))
-      (leads : LeadsBack programmer file first.bus mid) where
+      (leads : LeadsBack file first mid) where
     -- the journal that it reads is that one
     one_journal : (journal : Journal) → IsContent journal → IsRead mid.view file 16793662 (text journal)
         → journal ≡ leads.journal
@@ -168,24 +255,96 @@ module _ (programmer : Programmer) (file : Text) (start : FilesState) (first : O
           → CanGiveBack journal first.bus.chip found.bus
       can_back journal is reads =
           rw (one_journal journal is reads) (leads.back found.read.bytes.found found.read.status.found found.bus
-          (left_one programmer.image other.image _ mid same.image
-          (left_seen mid rest still other.image _ _ found.read.bytes.is_found found.read.bytes.whole))
-          (left_one programmer.status other.status _ mid same.status
-          (left_seen mid rest still other.status _ _ found.read.status.is_found found.read.status.whole)) from)
+          (found_one programmer.image other.image _ _ mid same.image
+          (left_seen mid rest still other.image _ _ found.read.bytes.is_found found.read.bytes.whole _))
+          (found_one programmer.status other.status _ _ mid same.status
+          (left_seen mid rest still other.status _ _ found.read.status.is_found found.read.status.whole _)) from)
+
+    -- from what may be found after a restore
+    module _ (new : FilesState) (still' : (name : Name) → new.may_leave name (new.view.seen name))
+        (kept : LeavesRestorable other file mid new) (image status : Found) (later : BusState)
+        (can_image : MayFind programmer.image first.read.bytes.found image new)
+        (can_status : MayFind programmer.status first.read.status.found status new)
+        (is : IsOpenedFrom image status first.bus.chip.config later.chip) where
+      abbrev found : Opened other mid
+      found = kept.found
+
+      setup : found.bus.chip.config ≡ first.bus.chip.config
+      setup = one_setup found
+
+      size_of : first.bus.chip.config.size ≡ (emulated_part other.chip).size
+      size_of = sym (ap (λ (c : Config). c.size) setup) ∙ opened_size found
+
+      abbrev Kept : Option (Bor Text) → (was given left : Found) → (len : ℕ) → Type 0
+      Kept name was given left len = (of : Found) × MayFind name given of new × IfSome of (λ all. length all ≡ len)
+          × ((left ≡ of) ⊎ ((was ≡ None) × (left ≡ None)))
+
+      kept_image : Kept other.image first.read.bytes.found found.read.bytes.found image (emulated_part other.chip).size
+      kept_image =
+          pick programmer.image other.image _ _ image _ mid new same.image rest still' found.read.bytes.is_found
+          found.read.bytes.whole kept.image can_image
+          (subst (λ (n : ℕ). IfSome image (λ all. length all ≡ n)) size_of is.whole)
+
+      kept_status : Kept other.status first.read.status.found found.read.status.found status 2
+      kept_status =
+          pick programmer.status other.status _ _ status 2 mid new same.status rest still' found.read.status.is_found
+          found.read.status.whole kept.status can_status is.two
+
+      -- what would be opened if no file were moved aside that the restore found
+      abbrev state : BusState
+      state = record later {
+        chip = record later.chip {
+          bytes = λ a. slice_index (unwrap_or kept_image.0 (replicate found.bus.chip.config.size 255)) a;
+          kept = kept_in (unwrap_or kept_status.0 (0 ∷ 0 ∷ []));
+        };
+      }
+
+      can_state : CanGiveBack leads.journal first.bus.chip state
+      can_state =
+          subst (λ (j : Journal). CanGiveBack j first.bus.chip state)
+          (one_journal kept.journal kept.sound kept.read) (kept.back first.bus.chip
+          (can_back found kept.journal kept.sound kept.read) kept_image.0 kept_status.0 state kept_image.1 kept_status.1
+          (record {
+            config = is.config ∙ sym setup;
+            whole = subst (λ (n : ℕ). IfSome kept_image.0 (λ all. length all ≡ n)) (sym (opened_size found))
+                kept_image.2;
+            two = kept_status.2;
+            bytes = λ a. refl;
+            kept = refl;
+            idle = is.idle;
+          }))
+
+      abbrev byte_in : ℕ → Found → ℕ
+      byte_in a left = slice_index (unwrap_or left (replicate first.bus.chip.config.size 255)) a
+
+      abbrev bits_in : Found → KeptBits
+      bits_in left = kept_in (unwrap_or left (0 ∷ 0 ∷ []))
+
+      can_later : CanGiveBack leads.journal first.bus.chip later
+      can_later =
+          mixed_back leads.journal first.bus.chip state later can_state is.config
+          (λ a. elim kept_image.3 [
+            | inl same' ↦ inl (is.bytes a ∙ ap (byte_in a) same'
+                ∙ ap (λ (c : Config). slice_index (unwrap_or kept_image.0 (replicate c.size 255)) a) (sym setup))
+            | inr aside ↦ inr (is.bytes a ∙ ap (byte_in a) aside.1 ∙ first_byte aside.0 a)
+          ])
+          (elim kept_status.3 [
+            | inl same' ↦ inl (is.kept ∙ ap bits_in same')
+            | inr aside ↦ inr (is.kept ∙ ap bits_in aside.1 ∙ first_kept aside.0)
+          ])
+          is.idle
 
     -- at every exit of a restore
-    leads_restored : (new : FilesState) → KeepsRestorable other file mid new → LeadsBack programmer file first.bus new
-    leads_restored new (inl none) = leads_less mid new none.image none.status none.journal leads
-    leads_restored new (inr kept) = record {
+    leads_restored : (new : FilesState) → ((name : Name) → new.may_leave name (new.view.seen name))
+        → KeepsRestorable other file mid new → LeadsBack file first new
+    leads_restored new still' (inl none) =
+        leads_less mid new none.journal (λ i. less_of programmer.image other.image _ i mid new same.image none.image)
+        (λ s. less_of programmer.status other.status _ s mid new same.status none.status) leads
+    leads_restored new still' (inr kept) = record {
       journal = leads.journal;
       sound = leads.sound;
       left = λ left may. leads.left left (kept.stays.leaves left may);
-      back = λ i s opened can_i can_s is.
-          rw (← one_journal kept.journal kept.sound kept.read) (kept.back first.bus.chip
-          (can_back kept.found kept.journal kept.sound kept.read) i s opened
-          (left_one other.image programmer.image i new (turned programmer.image other.image same.image) can_i)
-          (left_one other.status programmer.status s new (turned programmer.status other.status same.status) can_s)
-          (rw (one_setup kept.found) is));
+      back = can_later new still' kept;
     }
 
   -- ---- at the end
@@ -194,17 +353,19 @@ module _ (programmer : Programmer) (file : Text) (start : FilesState) (first : O
   module _ (chip : Chip) (new : FilesState) (lawful : is_lawful new.view ≡ true) (is : IsSame first.bus.chip chip)
       (put : ArePutBack other chip None None new) where
     -- what was put into a file that is named, or what stands for it
-    settled : (name given : Option (Bor Text)) (bytes : List ℕ) (left : Found) → NameOne given name
-        → ArePut name bytes None new → MayLeave given left new → ((given ≡ None) × (left ≡ None)) ⊎ (left ≡ Some bytes)
-    settled name None bytes left one has can = inl (refl, can)
-    settled (Some name) (Some given) bytes left one has can = inr ((has lawful).leaves left (rw one can))
-    settled None (Some given) bytes left one has can = absurd one
+    settled : (name given : Option (Bor Text)) (was : Found) (bytes : List ℕ) (left : Found) → (given ≡ None → was ≡ None)
+        → NameOne given name → ArePut name bytes None new → MayFind given was left new
+        → ((was ≡ None) × (left ≡ None)) ⊎ (left ≡ Some bytes)
+    settled name None was bytes left none one has can = inl (none refl, can)
+    settled (Some name) (Some given) was bytes left none one has can = elim can [
+      | inl may ↦ inr ((has lawful).leaves left (rw one may))
+      | inr aside ↦ inl aside
+    ]
+    settled None (Some given) was bytes left none one has can = absurd one
 
-    byte_of : (left : Found) (a : ℕ) → ((programmer.image ≡ None) × (left ≡ None)) ⊎ (left ≡ Some put.bytes)
+    byte_of : (left : Found) (a : ℕ) → ((first.read.bytes.found ≡ None) × (left ≡ None)) ⊎ (left ≡ Some put.bytes)
         → slice_index (unwrap_or left (replicate first.bus.chip.config.size 255)) a ≡ first.bus.chip.bytes a
-    byte_of left a (inl none) =
-        rw (none.1, opened_size first) (sym (first.opens.holds.bytes a
-        ∙ ap (λ (l : List ℕ). slice_index l a) (of_none start.view programmer.image _ _ _ none.0 first.read.bytes)))
+    byte_of left a (inl none) = rw none.1 (first_byte none.0 a)
     byte_of left a (inr has) = rw has (elim (cases_lt a first.bus.chip.config.size) [
       | inl below ↦ put.are.at a (omega (arith, below, ap (λ (c : Config). c.size) is.config)) ∙ is.bytes a
       | inr past ↦ get_or_past put.bytes a 0 (omega (arith, put.are.len, ap (λ (c : Config). c.size) is.config, past))
@@ -212,17 +373,18 @@ module _ (programmer : Programmer) (file : Text) (start : FilesState) (first : O
           ∙ sym (first.opens.holds.bytes a)
     ])
 
-    leaves_first : LeavesFirst programmer first.bus new
+    leaves_first : LeavesFirst first new
     leaves_first image status opened can can_status from' =
-        let clear = λ (none : programmer.status ≡ None). of_none start.view programmer.status _ _ _ none first.read.status in
         let small : chip.kept.two < 128 = rw (is.kept ∙ first.opens.holds.kept) (omega arith) in
-        let i = settled other.image programmer.image put.bytes image same.image put.image_put can in
-        let s = settled other.status programmer.status (status_of chip) status same.status put.status_put can_status in
+        let i = settled other.image programmer.image first.read.bytes.found put.bytes image
+        (none_found start.view programmer.image _ _ first.read.bytes.is_found) same.image put.image_put can in
+        let s = settled other.status programmer.status first.read.status.found (status_of chip) status
+        (none_found start.view programmer.status _ _ first.read.status.is_found) same.status put.status_put can_status in
         record {
           config = from'.config;
           bytes = λ a. from'.bytes a ∙ byte_of image a i;
           kept = from'.kept ∙ elim s [
-            | inl none ↦ rw none.1 (sym (first.opens.holds.kept ∙ ap kept_in (clear none.0)))
+            | inl none ↦ rw none.1 (first_kept none.0)
             | inr has ↦ rw has (kept_told chip small ∙ is.kept)
           ];
         }
@@ -230,26 +392,23 @@ module _ (programmer : Programmer) (file : Text) (start : FilesState) (first : O
 -- ---- runs
 
 module _ (programmer : Programmer) (file : Text) (start : FilesState) (first : Opened programmer start) (on_chip : ChipJob)
-    (old mid new : FilesState) (still : (name : Name) → mid.may_leave name (mid.view.seen name)) where
+    (old mid new : FilesState) (still : (name : Name) → mid.may_leave name (mid.view.seen name))
+    (still' : (name : Name) → new.may_leave name (new.view.seen name)) where
   leads_mid : (unwritten : Unwritten) (told : Result Answer Fault)
-      → RestoresFirst programmer file first.bus on_chip unwritten told old mid new
-      → LeadsBack programmer file first.bus mid
+      → RestoresFirst file first on_chip unwritten told old mid new → LeadsBack file first mid
   leads_mid unwritten told ran =
-      leads_less programmer file start first on_chip.programmer ran.same old mid
-      (leaves_of old mid on_chip.programmer.image ran.follows.leave)
-      (leaves_of old mid on_chip.programmer.status ran.follows.leave) (ran.follows.leave file) ran.leads
+      leads_less programmer file start first on_chip.programmer ran.same old mid ran.follows.journal ran.follows.image
+      ran.follows.status ran.leads
 
   pub leads_on : (unwritten : Unwritten) (told : Result Answer Fault)
-      → RestoresFirst programmer file first.bus on_chip unwritten told old mid new
-      → LeadsBack programmer file first.bus new
+      → RestoresFirst file first on_chip unwritten told old mid new → LeadsBack file first new
   leads_on unwritten told ran =
       let (journal, task', named) = restores file on_chip.task ran.restores in
       leads_restored programmer file start first on_chip.programmer ran.same mid ran.follows.rest still
-      (leads_mid unwritten told ran) new (rw (task', named) at (ran.answers.1 ran.follows.rest))
+      (leads_mid unwritten told ran) new still' (rw (task', named) at (ran.answers.1 ran.follows.rest))
 
-  pub given_back : (answer : Answer)
-      → RestoresFirst programmer file first.bus on_chip all_written (Ok answer) old mid new
-      → LeavesFirst programmer first.bus new
+  pub given_back : (answer : Answer) → RestoresFirst file first on_chip all_written (Ok answer) old mid new
+      → LeavesFirst first new
   given_back answer ran =
       let called = ran.answers.0 in
       let (journal, task', named) = restores file on_chip.task ran.restores in

@@ -3,7 +3,7 @@ use Rattle.std.proofs.Common.{ℕ, arith}
 use Rattle.nor_words.specs.Text.{Text}
 use Rattle.nor_files.specs.Files.{View}
 use Rattle.nor_files.specs.Files.Failure.{Unread}
-use Rattle.flashnor.specs.Files.{IsOpeningFault, IsReadingFault, IsUnreadFault}
+use Rattle.flashnor.specs.Files.{IsOpeningFault, IsReadingFault, IsSharingFault, IsUnreadFault}
 use Rattle.flashnor.specs.Stored.{Happens}
 use Rattle.flashnor.specs.declared.messages.Fault.{Fault}
 
@@ -13,3 +13,8 @@ module _ (view : View) (name : Text) (size : ℕ) (unread : Happens view (Unread
 
   pub unread_opening : (fault : Fault) → IsUnreadFault name fault → IsOpeningFault view name size fault
   unread_opening fault is = grind arith
+
+-- a journal that can't be read can't be shared
+pub reading_shares : (view : View) (name : Text) (most : ℕ) (fault : Fault) → IsReadingFault view name most fault
+    → IsSharingFault view name most fault
+reading_shares view name most fault is = grind arith

@@ -29,7 +29,9 @@ use Rattle.nor_session.specs.declared.rehearsals.Rehearsal.{Rehearsal}
 use Rattle.nor_words.specs.Text.{Text}
 use Rattle.nor_words.specs.declared.job.JournalUse.{JournalUse}
 use Rattle.nor_words.specs.declared.job.JournalUse.TheVariants as uses
-use Rattle.nor_files.specs.Files.{FilesState, IsSettled, is_lawful}
+use Rattle.nor_files.specs.Files.{FilesState, IsSettled, View, is_lawful}
+use Rattle.flashnor.specs.Stored.{IsMissing}
+use Rattle.flashnor.specs.Tasks.{journal_of}
 use Rattle.flashnor.specs.declared.answers.Answer.{Answer}
 use Rattle.flashnor.specs.declared.answers.Answer.TheVariants as answer
 
@@ -118,9 +120,11 @@ HasDone request image (uses.Journal file) old new vault vault' outcome =
 HasDone request image (uses.Rehearse stops) old new vault vault' outcome =
     HasRehearsed request image stops.items old new vault vault' outcome
 
--- A change was made, or rehearsed, with its journal where it is to be kept.
+-- A change was made, or rehearsed, with its journal where it is to be kept. A journal in a file is a new file: before
+-- the change the file was missing.
 pub record HasMadeChange (request : Request) (image : List ℕ) (kept : JournalUse) (old new : BusState)
-    (after : FilesState) (outcome : Result Answer Refusal) : Type 0 where
+    (before : View) (after : FilesState) (outcome : Result Answer Refusal) : Type 0 where
+  pub missing : IsMissing (journal_of kept) before
   pub vault : VaultState
   pub vault' : VaultState
   pub fresh : IsFresh vault

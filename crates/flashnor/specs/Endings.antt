@@ -1,5 +1,6 @@
 -- What a run printed, and the status that it ended with.
 use Rattle.std.specs.Prelude.{◌≡◌, ◌≢◌, ◌≤◌, ◌⊎◌, ◌↔◌, ℕ, Bool, true, false, ⊤, List, Option, Some, None, Result, Ok, Err, IfSome}
+use Rattle.std.specs.Borrow.{Bor}
 use Rattle.std.specs.Fmt.{option_append}
 use Rattle.std.specs.Io.KnownBytes.{Appends}
 use Rattle.std.specs.IoError.{error_kind}
@@ -8,12 +9,14 @@ use Rattle.std.specs.declared.io.ErrorKind.TheVariants as Kinds
 use Rattle.clap.specs.Words.{kind_of}
 use Rattle.clap.specs.declared.error.kind.ErrorKind.TheVariants as kind
 use Rattle.nor_words.specs.declared.words.UsageFault.TheVariants as usage
+use Rattle.nor_words.specs.Text.{Text}
 use Rattle.flashnor.specs.AnswerLines.{AreLines}
 use Rattle.flashnor.specs.FaultLines.{line_of, lines_of_unwritten}
 use Rattle.flashnor.specs.declared.answers.Answer.{Answer}
 use Rattle.flashnor.specs.declared.holding.Unwritten.{Unwritten}
 use Rattle.flashnor.specs.declared.messages.Fault.{Fault}
 use Rattle.flashnor.specs.declared.messages.Fault.TheVariants as end
+use Rattle.flashnor.specs.declared.messages.FileFault.TheVariants as file
 use Rattle.flashnor.specs.declared.printing.Ending.{Ending}
 
 -- each file was written
@@ -83,3 +86,9 @@ pub record IsUnread (error : Error) (out out' err err' : Option (List ℕ)) (end
   pub fault : Fault
   pub of_words : IsOfWords error fault
   pub prints : HasPrinted (Err fault) all_written out out' err err' ending
+
+-- A run that couldn't keep the descriptors of the standard streams ended with the fault of a file that can't be read.
+pub record IsWithoutStreams (out out' err err' : Option (List ℕ)) (ending : Ending) : Type 0 where
+  pub name : Bor Text
+  pub prints : HasPrinted (Err (end.File file.Read name)) all_written out out' err err' ending
+  pub status : ending.status ≡ 1

@@ -8,6 +8,7 @@ use Rattle.nor_call.specs.Refusal.{number_of}
 use Rattle.nor_call.specs.Texts.{refusal_text}
 use Rattle.nor_words.specs.Faults.{usage_fault_text as usage_text}
 use Rattle.nor_words.specs.Text.{Text}
+use Rattle.flashnor.specs.Escapes.{escaped}
 use Rattle.flashnor.specs.Messages.{file_number}
 use Rattle.flashnor.specs.declared.holding.Unwritten.{Unwritten}
 use Rattle.flashnor.specs.declared.messages.Fault.{Fault}
@@ -20,9 +21,10 @@ abbrev pub place : Option ℕ → List ℕ
 place (Some number) = codes " at line " ++ decimal number
 place None = []
 
--- a fault of the file of this name
+-- a fault of the file of this name, whose control characters are escaped
 abbrev pub file_text : FileFault → Text → List ℕ
-file_text fault name = concat (codes "File fault " ∷ decimal (file_number fault) ∷ codes ": " ∷ name ∷ codes "." ∷ [])
+file_text fault name =
+    concat (codes "File fault " ∷ decimal (file_number fault) ∷ codes ": " ∷ escaped name ∷ codes "." ∷ [])
 
 -- the text of each fault, where it is known: that of the words has what their parser says
 abbrev pub text_of : Fault → Option (List ℕ)

@@ -57,17 +57,16 @@ IsHoldingFault view name len (end.File file.Write of) =
 IsHoldingFault view name len (end.File file.Taken of) = (of.now ≡ name) × Happens view (Busy name)
 IsHoldingFault view name len fault = IsOpeningFault view name len fault
 
--- the file of this name can't be made or emptied
+-- the journal of this name is locked and read: besides, the lock may fail, or another process have it
+abbrev pub IsSharingFault : View → Text → ℕ → Fault → Type 0
+IsSharingFault view name most (end.File file.Write of) = (of.now ≡ name) × Happens view (Unheld name)
+IsSharingFault view name most (end.File file.Taken of) = (of.now ≡ name) × Happens view (Busy name)
+IsSharingFault view name most fault = IsReadingFault view name most fault
+
+-- the file of this name can't be made or emptied, is there already, or is locked by another process; or memory runs out
 abbrev pub IsMaking : View → Text → Fault → Type 0
+IsMaking view name (end.Refused refusal) = refusal ≡ Memory
 IsMaking view name (end.File file.Write of) = (of.now ≡ name) × Happens view (Unmade name)
+IsMaking view name (end.File file.Exists of) = (of.now ≡ name) × Happens view (There name)
+IsMaking view name (end.File file.Taken of) = (of.now ≡ name) × Happens view (Busy name)
 IsMaking view name _ = ⊥
-
--- the file of this name can't be made, or is there already
-abbrev pub IsMakingNew : View → Text → Fault → Type 0
-IsMakingNew view name (end.File file.Exists of) = (of.now ≡ name) × Happens view (There name)
-IsMakingNew view name fault = IsMaking view name fault
-
--- the file of this name is made, and gets a buffer
-abbrev pub IsLogging : View → Text → Fault → Type 0
-IsLogging view name (end.Refused refusal) = refusal ≡ Memory
-IsLogging view name fault = IsMaking view name fault

@@ -5,20 +5,21 @@ use Rattle.std.specs.Borrow.{Bor}
 use Rattle.nor_chip.specs.Bus.{BusState}
 use Rattle.nor_chip.specs.Chip.{Chip, IsSame, kept_in}
 use Rattle.nor_chip.specs.declared.config.Config.{Config}
-use Rattle.nor_files.specs.Calls.{LeavesNoMore}
+use Rattle.nor_files.specs.Calls.{LeavesNoMore, LeavesOrEmpty}
 use Rattle.nor_files.specs.Files.{FilesState, Found, Stays}
 use Rattle.nor_journal.specs.Text.{Content as Journal, IsContent, text}
 use Rattle.nor_session.specs.Headline.{CanGiveBack}
 use Rattle.nor_words.specs.declared.programmer.Programmer.{Programmer}
 use Rattle.nor_words.specs.Text.{Text}
 use Rattle.flashnor.specs.Chips.{IsContentOf, OpensChip}
-use Rattle.flashnor.specs.Stored.{IsNot, IsRead, LeavesNoMoreOf, LeavesOrEmpty}
+use Rattle.flashnor.specs.Stored.{IsNot, IsRead, LeavesNoMoreOf}
 use Rattle.flashnor.specs.declared.chips.Content.{Content}
 
--- what may be left of the file that is named; of one that isn't there is nothing
-abbrev pub MayLeave : Option (Bor Text) → Found → FilesState → Type 0
-MayLeave None left files = left ≡ None
-MayLeave (Some name) left files = files.may_leave name.now left
+-- What a later run may find of the file that is named, if one is, of which the run before it found this: whatever may
+-- be left of the file; or no file, if the run before found none and you moved aside what it left.
+abbrev pub MayFind : Option (Bor Text) → (was found : Found) → FilesState → Type 0
+MayFind None was found files = found ≡ None
+MayFind (Some name) was found files = files.may_leave name.now found ⊎ ((was ≡ None) × (found ≡ None))
 
 -- The chip that a run opens, idle, from what its files have, each as long as it is to be: FFh and clear status bytes
 -- stand for one that isn't there.
@@ -29,12 +30,6 @@ pub record IsOpenedFrom (image status : Found) (setup : Config) (chip : Chip) : 
   pub bytes : (a : ℕ) → chip.bytes a ≡ slice_index (unwrap_or image (replicate setup.size 255)) a
   pub kept : chip.kept ≡ kept_in (unwrap_or status (0 ∷ 0 ∷ []))
   pub idle : chip.busy ≡ 0
-
--- whatever may be left of the chip's files, a run that opens them opens such a chip
-abbrev pub LeavesOnly : Programmer → Config → (BusState → Type 0) → FilesState → Type 0
-LeavesOnly programmer setup Is files = (image status : Found) (opened : BusState)
-    → MayLeave programmer.image image files → MayLeave programmer.status status files
-    → IsOpenedFrom image status setup opened.chip → Is opened
 
 -- nothing may be left of the file of that name but this journal
 abbrev pub LeavesJournal : (file : Text) → Journal → FilesState → Type 0
@@ -47,13 +42,29 @@ pub record Opened (programmer : Programmer) (files : FilesState) : Type 0 where
   pub bus : BusState
   pub opens : OpensChip programmer content bus
 
--- The file of that name is one journal, whatever becomes of the machine, and whatever may be left of the chip's files
--- opens to a chip from which it gives that one back.
-pub record LeadsBack (programmer : Programmer) (file : Text) (first : BusState) (files : FilesState) : Type 0 where
+-- Whatever may be left of the chip's files, as it is or moved aside if the run found no such file, a later run that
+-- opens them opens such a chip.
+abbrev pub LeavesOnly : {programmer : Programmer} {old : FilesState} → Opened programmer old → (BusState → Type 0)
+    → FilesState → Type 0
+LeavesOnly {programmer} first Is files = (image status : Found) (opened : BusState)
+    → MayFind programmer.image first.read.bytes.found image files
+    → MayFind programmer.status first.read.status.found status files
+    → IsOpenedFrom image status first.bus.chip.config opened.chip → Is opened
+
+-- The file of that name is one journal, whatever may be left of it; and whatever may be left of the chip's files, as it
+-- is or moved aside if it was missing at first, opens to a chip from which that journal restores the original one.
+pub record LeadsBack {programmer : Programmer} {old : FilesState} (file : Text) (first : Opened programmer old)
+    (files : FilesState) : Type 0 where
   pub journal : Journal
   pub sound : IsContent journal
   pub left : LeavesJournal file journal files
-  pub back : LeavesOnly programmer first.chip.config (CanGiveBack journal first.chip) files
+  pub back : LeavesOnly first (CanGiveBack journal first.bus.chip) files
+
+-- The name is that of no file of the programmer: of neither its image, nor its status bytes, nor its trace.
+pub record IsNoFileOf (programmer : Programmer) (name : Text) : Type 0 where
+  pub image : IsNot programmer.image name
+  pub status : IsNot programmer.status name
+  pub trace : IsNot programmer.trace name
 
 -- where the file that is named was there it is, whatever may be left of it, and has as many bytes
 abbrev pub LeavesAsLong : Option (Bor Text) → (old new : FilesState) → Type 0
@@ -61,20 +72,23 @@ LeavesAsLong None old new = ⊤
 LeavesAsLong (Some name) old new = (had : List ℕ) → old.view.seen name.now ≡ Some had → (left : Found)
     → new.may_leave name.now left → IsSomeAnd left (λ has. length has ≡ length had)
 
--- At an exit of a run that changes a chip, with its journal in the file of this name. Until the journal is sealed
--- whatever may be left of the chip's files opens to the first chip; from then on there is just one journal, and what
--- may be left opens to a chip from which it gives the first one back. Of a file that was there all bytes are.
+-- At an exit of a run that changes a chip, with its journal in the file of this name, which was missing before. Until
+-- the journal is sealed whatever may be left of the chip's files opens to the original chip. From then on the journal's
+-- file is one journal, and whatever may be left opens to a chip from which that journal restores the original one. A
+-- file of the chip that was missing may be moved aside. One that was there keeps its length. All other files are as they
+-- were.
 pub record LeavesWayBack (programmer : Programmer) (file : Text) (old new : FilesState) : Type 0 where
+  pub missing : old.view.seen file ≡ None
+  pub others : (name : Text) → IsNoFileOf programmer name → name ≢ file → Stays name old new
   pub image : LeavesAsLong programmer.image old new
   pub status : LeavesAsLong programmer.status old new
   pub first : Opened programmer old
   pub sealed : Bool
-  pub same : sealed ≡ false → LeavesOnly programmer first.bus.chip.config
-      (λ opened. IsSame first.bus.chip opened.chip) new
-  pub back : sealed ≡ true → LeadsBack programmer file first.bus new
+  pub same : sealed ≡ false → LeavesOnly first (λ opened. IsSame first.bus.chip opened.chip) new
+  pub back : sealed ≡ true → LeadsBack file first new
 
--- Nothing was changed, and nothing made but the trace, and perhaps an empty file for the journal. Where the trace has
--- the name of one of the chip's files, that wasn't made either.
+-- Nothing was changed, and nothing was created except the trace and, if its file was missing, an empty file for the
+-- journal. If the trace has the name of one of the chip's files, that file was not created either.
 pub record LeavesAll (programmer : Programmer) (file : Text) (old new : FilesState) : Type 0 where
   pub image : LeavesNoMoreOf programmer.image old new
   pub status : LeavesNoMoreOf programmer.status old new
@@ -94,10 +108,11 @@ pub record LeavesSources (programmer : Programmer) (file : Text) (old new : File
   pub journal : LeavesNoMore file old new
   pub others : (name : Text) → IsNot programmer.trace name → LeavesNoMore name old new
 
--- At an exit of a run that restores from the journal in the file of this name: that is as before, and each chip that
--- it could give back from what the run opened it can still, from whatever may be left. Of a file that was there all
--- bytes are.
+-- At an exit of a run that restores from the journal in the file of this name. Each chip that the journal could restore
+-- from what the run opened it can still restore, from whatever may be left of the chip's files. A file of the chip that
+-- was missing may be moved aside. One that was there keeps its length. The journal and all other files are as they were.
 pub record LeavesRestorable (programmer : Programmer) (file : Text) (old new : FilesState) : Type 0 where
+  pub others : (name : Text) → IsNoFileOf programmer name → Stays name old new
   pub image : LeavesAsLong programmer.image old new
   pub status : LeavesAsLong programmer.status old new
   pub found : Opened programmer old
@@ -105,8 +120,7 @@ pub record LeavesRestorable (programmer : Programmer) (file : Text) (old new : F
   pub sound : IsContent journal
   pub read : IsRead old.view file 16793662 (text journal)
   pub stays : Stays file old new
-  pub back : (first : Chip) → CanGiveBack journal first found.bus
-      → LeavesOnly programmer found.bus.chip.config (CanGiveBack journal first) new
+  pub back : (first : Chip) → CanGiveBack journal first found.bus → LeavesOnly found (CanGiveBack journal first) new
 
 -- or it was cut off before
 abbrev pub KeepsRestorable : Programmer → (file : Text) → (old new : FilesState) → Type 0

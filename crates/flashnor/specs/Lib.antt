@@ -1,6 +1,7 @@
 pub mod Messages
 pub mod Lines
 pub mod AnswerLines
+pub mod Escapes
 pub mod FaultLines
 pub mod Endings
 pub mod Stored

@@ -1,5 +1,5 @@
 -- One file has one role in a run.
-use Rattle.std.specs.Prelude.{◌≡◌, ◌&&◌, ◌||◌, ℕ, Bool, true, false, Option, None, Some, IsSomeAnd, nat_lt}
+use Rattle.std.specs.Prelude.{◌≡◌, ◌⊎◌, ◌&&◌, ◌||◌, ℕ, Bool, true, false, Option, None, Some, IsSomeAnd, nat_lt}
 use Rattle.std.specs.Borrow.{Bor}
 use Rattle.nor_words.specs.Text.{Text}
 use Rattle.nor_words.specs.declared.job.ChipJob.{ChipJob}
@@ -8,9 +8,9 @@ use Rattle.nor_words.specs.declared.job.Task.{Task}
 use Rattle.nor_words.specs.declared.job.Task.TheVariants as task
 use Rattle.nor_words.specs.declared.job.Wanted.{Wanted}
 use Rattle.nor_words.specs.declared.job.Wanted.TheVariants as wanted
-use Rattle.nor_files.specs.Files.{View}
-use Rattle.nor_files.specs.Files.Failure.{Shared}
-use Rattle.flashnor.specs.Stored.{AreTwo, Happens}
+use Rattle.nor_files.specs.Files.{Nature}
+use Rattle.nor_files.specs.Files.Failure.{Printed, Shared, Unread}
+use Rattle.flashnor.specs.Stored.{AreTwo}
 use Rattle.flashnor.specs.Tasks.{journal_of, puts_back}
 use Rattle.flashnor.specs.declared.messages.Fault.{Fault}
 use Rattle.flashnor.specs.declared.messages.Fault.TheVariants as end
@@ -64,6 +64,14 @@ pub record HaveOneRole (job : ChipJob) : Type 0 where
   pub layout_journal : AreTwo (named_by job.task).layout (named_by job.task).journal
   pub wanted_journal : AreTwo (named_by job.task).wanted (named_by job.task).journal
 
+-- The trace is no other file of the job.
+pub record HasOwnTrace (job : ChipJob) : Type 0 where
+  pub image : AreTwo job.programmer.image job.programmer.trace
+  pub status : AreTwo job.programmer.status job.programmer.trace
+  pub layout : AreTwo job.programmer.trace (named_by job.task).layout
+  pub wanted : AreTwo job.programmer.trace (named_by job.task).wanted
+  pub journal : AreTwo job.programmer.trace (named_by job.task).journal
+
 -- ---- the fault of a file in two roles
 
 -- the file that a job has in a role, if it names one
@@ -101,12 +109,37 @@ must_differ job earlier later =
     nat_lt (place_of earlier) (place_of later) && (is_written job earlier || is_written job later)
 
 -- the fault names the later of these two, which are one file
-abbrev pub IsShared : View → (earlier later : Option (Bor Text)) → Fault → Type 0
-IsShared view earlier later (end.File file.Taken of) = IsSomeAnd earlier (λ one. IsSomeAnd later (λ other.
-    (of.now ≡ other.now) × Happens view (Shared one.now other.now)))
-IsShared view earlier later _ = ⊥
+abbrev pub IsShared : Nature → (earlier later : Option (Bor Text)) → Fault → Type 0
+IsShared nature earlier later (end.File file.Taken of) = IsSomeAnd earlier (λ one. IsSomeAnd later (λ other.
+    (of.now ≡ other.now) × (nature.fails (Shared one.now other.now) ≡ true)))
+IsShared nature earlier later _ = ⊥
 
 -- two files of the job are one that have to be two
-abbrev pub IsTwice : View → ChipJob → Fault → Type 0
-IsTwice view job fault = (earlier later : Role) × (must_differ job earlier later ≡ true)
-    × IsShared view (file_in job earlier) (file_in job later) fault
+abbrev pub IsTwice : Nature → ChipJob → Fault → Type 0
+IsTwice nature job fault = (earlier later : Role) × (must_differ job earlier later ≡ true)
+    × IsShared nature (file_in job earlier) (file_in job later) fault
+
+-- the fault names this file, which the program prints to
+abbrev pub IsPrintedTo : Nature → Option (Bor Text) → Fault → Type 0
+IsPrintedTo nature named (end.File file.Taken of) = IsSomeAnd named (λ name.
+    (of.now ≡ name.now) × (nature.fails (Printed name.now) ≡ true))
+IsPrintedTo nature named _ = ⊥
+
+-- a file of the job that isn't only read is one that the program prints to
+abbrev pub IsStream : Nature → ChipJob → Fault → Type 0
+IsStream nature job fault = (written : Role) × (is_written job written ≡ true)
+    × IsPrintedTo nature (file_in job written) fault
+
+-- the fault names this file, which can't be looked at
+abbrev pub IsUnseenFile : Nature → Option (Bor Text) → Fault → Type 0
+IsUnseenFile nature named (end.File file.Read of) = IsSomeAnd named (λ name.
+    (of.now ≡ name.now) × (nature.fails (Unread of.now) ≡ true))
+IsUnseenFile nature named _ = ⊥
+
+-- a file of the job can't be looked at
+abbrev pub IsUnseen : Nature → ChipJob → Fault → Type 0
+IsUnseen nature job fault = (role : Role) × IsUnseenFile nature (file_in job role) fault
+
+-- how the comparison of a job's files may end a run
+abbrev pub FailsRoles : Nature → ChipJob → Fault → Type 0
+FailsRoles nature job fault = IsTwice nature job fault ⊎ (IsStream nature job fault ⊎ IsUnseen nature job fault)

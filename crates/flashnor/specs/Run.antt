@@ -1,11 +1,14 @@
 -- What a run came to.
-use Rattle.std.specs.Prelude.{◌≡◌, ◌≤◌, ◌⊎◌, ℕ, Bool, true, false, List, Option, None, Result, Ok, Err, IsSomeAnd, OnSome, drop, map, string_bytes}
+use Rattle.std.specs.Prelude.{◌≡◌, ◌≤◌, ◌⊎◌, ℕ, Bool, true, false, List, Option, None, Some, Result, Ok, Err, ⊤}
+use Rattle.std.specs.Prelude.{IsSomeAnd, OnSome, drop, map, string_bytes}
 use Rattle.std.specs.Borrow.{Bor}
 use Rattle.std.specs.Global.{Global}
 use Rattle.std.specs.Vec.Iter.{into_iter_items}
 use Rattle.std.specs.declared.string.String.{String}
 use Rattle.std.specs.declared.vec.IntoIter.{IntoIter}
 use Rattle.nor_chip.specs.Bus.{BusState}
+use Rattle.nor_chip.specs.Chip.{Chip, IsSame}
+use Rattle.nor_session.specs.Headline.{CanGiveBack}
 use Rattle.nor_chip.specs.Sim.{state_of}
 use Rattle.nor_chip.specs.declared.sim.SimBus.{SimBus}
 use Rattle.nor_journal.specs.Fault.{HasFault}
@@ -32,15 +35,15 @@ use Rattle.nor_words.specs.declared.job.Wanted.TheVariants as wanted
 use Rattle.nor_words.specs.declared.programmer.Emulated.{Emulated}
 use Rattle.nor_words.specs.declared.programmer.Programmer.{Programmer}
 use Rattle.flashnor.specs.AnswerLines.{AreLines}
-use Rattle.flashnor.specs.Changes.{HasMadeChange, HasRestored}
+use Rattle.flashnor.specs.Changes.{HasMadeChange, HasRestored, TellsDone, TellsRestored}
 use Rattle.flashnor.specs.Chips.{ArePutBack, FailsToHold, FailsToOpen, IsContentOf, StartsBus}
 use Rattle.flashnor.specs.Endings.{HasPrinted, Prints, all_written}
 use Rattle.flashnor.specs.Stored.{IsNot, IsRead, IsToldOf, StaysOf}
-use Rattle.flashnor.specs.Left.{KeepsFirst, KeepsRestorable}
-use Rattle.flashnor.specs.Roles.{HaveOneRole, IsTwice}
+use Rattle.flashnor.specs.Left.{KeepsFirst, KeepsRestorable, LeadsBack, Opened}
+use Rattle.flashnor.specs.Roles.{FailsRoles, HaveOneRole}
 use Rattle.flashnor.specs.Tasks.{made_by, puts_back}
-use Rattle.nor_files.specs.Files.{AllStay, AreAtRest, FilesState, IsKnown, Name, Stays, View}
-use Rattle.flashnor.specs.Files.{IsLogging, IsMaking, IsMakingNew, IsReadingFault}
+use Rattle.nor_files.specs.Files.{AllStay, AreAtRest, FilesState, IsKnown, IsSettled, Name, Stays, View}
+use Rattle.flashnor.specs.Files.{IsMaking, IsReadingFault, IsSharingFault}
 use Rattle.flashnor.specs.Readings.{HasLookedUp, HasReadOut, HasTold, HasVerified, ListsRanges, TellsFound, TellsGuarded, TellsSize}
 use Rattle.flashnor.specs.Requests.{AreRangesOf, FailsToInclude, IsBufferOf, request_for}
 use Rattle.flashnor.specs.declared.answers.Answer.{Answer}
@@ -60,7 +63,7 @@ pub record ChangesChip (view : View) (after : FilesState) (chip : Emulated) (nam
   pub included : AreRangesOf view change.regions ranges
   pub image : List ℕ
   pub buffer : IsBufferOf view chip change.wanted image
-  pub changed : HasMadeChange (request_for change named ranges) image change.journal_use old new after outcome
+  pub changed : HasMadeChange (request_for change named ranges) image change.journal_use old new view after outcome
 
 -- The chip was read out into the file in the ranges of the regions, if there are any.
 pub record DoesRead (view after : View) (named : Option ChipName) (file : Text) (regions : Option Regions)
@@ -151,14 +154,14 @@ FailsToRead view (wanted.Range start len) fault = ⊥
 
 -- how the making of a change's journal may end it
 abbrev pub FailsToKeep : View → JournalUse → Fault → Type 0
-FailsToKeep view (uses.Journal file) fault = IsMakingNew view file.now fault
+FailsToKeep view (uses.Journal file) fault = IsMaking view file.now fault
 FailsToKeep view (uses.Rehearse stops) fault = ⊥
 
--- how the reading of a journal may end it
+-- how the locking and reading of a journal may end it
 abbrev pub FailsToRestore : View → Text → Fault → Type 0
 FailsToRestore view name (end.Refused (BadJournal fault)) =
     (bytes : List ℕ) × IsRead view name 16793662 bytes × HasFault bytes fault
-FailsToRestore view name fault = IsReadingFault view name 16793662 fault
+FailsToRestore view name fault = IsSharingFault view name 16793662 fault
 
 -- how a task may end a run before its call is made
 abbrev pub FailsBefore : View → Task → Fault → Type 0
@@ -177,15 +180,17 @@ abbrev pub FailsToStart : Bool → View → Programmer → Fault → Type 0
 FailsToStart true view programmer fault = FailsToHold view programmer fault
 FailsToStart false view programmer fault = FailsToOpen view programmer fault
 
--- how the making of a trace may, or what comes behind it and before the call
+-- how the making of a trace may, or what comes after it and before the call; its file is compared with the others
+-- once it is there
 abbrev pub FailsTraced : View → ChipJob → Fault → Type 0
-FailsTraced view on_chip fault = IsSomeAnd on_chip.programmer.trace (λ name. IsLogging view name.now fault)
-    ⊎ ((amid : View) × IsViewBut on_chip.programmer.trace view amid × FailsBefore amid on_chip.task fault)
+FailsTraced view on_chip fault = IsSomeAnd on_chip.programmer.trace (λ name. IsMaking view name.now fault)
+    ⊎ (FailsRoles view.nature on_chip fault
+    ⊎ ((amid : View) × IsViewBut on_chip.programmer.trace view amid × FailsBefore amid on_chip.task fault))
 
--- how a job may end without a call: by a file in two roles, by the chip's files, by the trace's, or by those of its
+-- how a job may end without a call: by the roles of its files, by the chip's files, by the trace's, or by those of its
 -- task
 abbrev pub FailsJob : View → ChipJob → Fault → Type 0
-FailsJob view on_chip fault = IsTwice view on_chip fault
+FailsJob view on_chip fault = FailsRoles view.nature on_chip fault
     ⊎ (FailsToStart (puts_back on_chip.task) view on_chip.programmer fault
     ⊎ FailsTraced view on_chip fault)
 
@@ -209,6 +214,61 @@ KeepsFiles programmer (task.Change change) old new = KeepsChange programmer chan
 KeepsFiles programmer (task.Restore journal) old new = KeepsRestorable programmer journal.now old new
 KeepsFiles programmer done old new = StayBut programmer (made_by done) old new
 
+-- ---- what a run leaves of files that ends with an answer
+
+-- A change ended with this answer, and all files were written. The chip's files hold the chip that was asked for. The
+-- journal's file holds one journal, which restores the original chip. Neither can be lost by a crash of the host.
+pub record HoldsTarget (programmer : Programmer) (named : Option ChipName) (change : Change) (file : Text)
+    (found : Answer) (old new : FilesState) : Type 0 where
+  pub first : Opened programmer old
+  pub last : BusState
+  -- the chip is what was asked for, in the ranges of the regions and with the image
+  pub ranges : Option (List Span)
+  pub included : AreRangesOf old.view change.regions ranges
+  pub image : List ℕ
+  pub buffer : IsBufferOf old.view programmer.chip change.wanted image
+  pub target : TellsDone (request_for change named ranges) image first.bus last found
+  -- the files hold it, and the journal
+  pub held : ArePutBack programmer last.chip None None new
+  pub leads : LeadsBack file first new
+  pub settled : IsSettled file (Some (text leads.journal)) new
+
+-- A restore ended with this answer, and all files were written. The chip's files hold the chip that the journal
+-- restores, and cannot be lost by a crash of the host. The journal's file is as it was.
+pub record HoldsRestored (programmer : Programmer) (file : Text) (found : Answer) (old new : FilesState) : Type 0 where
+  pub opened : Opened programmer old
+  pub last : BusState
+  pub journal : Journal
+  pub sound : IsContent journal
+  pub read : IsRead old.view file 16793662 (text journal)
+  -- after the probe for the name, if one is given, the chip was made what the journal says
+  pub probed : BusState
+  pub same : IsSame opened.bus.chip probed.chip
+  pub target : TellsRestored journal probed last found
+  pub back : (first : Chip) → CanGiveBack journal first opened.bus → IsSame first last.chip
+  -- the files hold it, and the journal
+  pub held : ArePutBack programmer last.chip None None new
+  pub stays : Stays file old new
+
+-- a change with a journal in a file; a rehearsal leaves all files as they were
+abbrev pub HoldsChange : Programmer → Option ChipName → Change → JournalUse → Answer → (old new : FilesState) → Type 0
+HoldsChange programmer named change (uses.Journal file) found old new =
+    HoldsTarget programmer named change file.now found old new
+HoldsChange programmer named change (uses.Rehearse stops) found old new = ⊤
+
+abbrev pub HoldsTask : Programmer → Option ChipName → Task → Answer → (old new : FilesState) → Type 0
+HoldsTask programmer named (task.Change change) found old new =
+    HoldsChange programmer named change change.journal_use found old new
+HoldsTask programmer named (task.Restore journal) found old new =
+    HoldsRestored programmer journal.now found old new
+HoldsTask programmer named done found old new = ⊤
+
+-- If a run ends with an answer and all files were written, they hold the result of its task.
+abbrev pub HoldsResult : ChipJob → Unwritten → Result Answer Fault → (old new : FilesState) → Type 0
+HoldsResult job unwritten (Ok found) old new = unwritten ≡ all_written
+    → HoldsTask job.programmer job.named job.task found old new
+HoldsResult job unwritten (Err fault) old new = ⊤
+
 -- ---- runs
 
 -- a call's refusal is a fault of the run
@@ -229,6 +289,7 @@ AnswersJob files after job.List unwritten (Ok answer.Chips) = (unwritten ≡ all
 AnswersJob files after job.List unwritten _ = ⊥
 AnswersJob files after (job.Chip on_chip) unwritten outcome = EndsJob files after on_chip unwritten outcome
     × (AreAtRest files → KeepsFiles on_chip.programmer on_chip.task files after)
+    × (AreAtRest files → HoldsResult on_chip unwritten outcome files after)
 
 -- A usage fault is that of the words, and all else the answer to the job that the words ask for, with the names of the
 -- files that couldn't be written.

@@ -1,8 +1,8 @@
 -- What was read of the files of a run, and what they have after it.
-use Rattle.std.specs.Prelude.{◌≡◌, ◌≢◌, ◌+◌, ◌⊎◌, [], ℕ, List, Option, None, Some, IfSome, ⊤, length, true, unwrap_or}
+use Rattle.std.specs.Prelude.{◌≡◌, ◌≢◌, ◌+◌, ℕ, List, Option, None, Some, IfSome, ⊤, length, true, unwrap_or}
 use Rattle.std.specs.Borrow.{Bor}
-use Rattle.nor_files.specs.Calls.{LeavesNoMore, Reads}
-use Rattle.nor_files.specs.Files.{Failure, FilesState, Found, IsKnown, IsSettled, Stays, View, is_lawful}
+use Rattle.nor_files.specs.Calls.{LeavesNoMore, LeavesOrEmpty, Reads}
+use Rattle.nor_files.specs.Files.{Failure, FilesState, IsKnown, IsSettled, Stays, View, is_lawful}
 use Rattle.nor_files.specs.Files.Failure.{Unwritten}
 use Rattle.nor_words.specs.Text.{Text}
 
@@ -61,11 +61,13 @@ abbrev pub LeavesNoMoreOf : Option (Bor Text) → (old new : FilesState) → Typ
 LeavesNoMoreOf None old new = ⊤
 LeavesNoMoreOf (Some name) old new = LeavesNoMore name.now old new
 
--- nothing may be left of the file but what could be left before, or an empty one
-abbrev pub LeavesOrEmpty : Text → (old new : FilesState) → Type 0
-LeavesOrEmpty name old new = (left : Found) → new.may_leave name left → old.may_leave name left ⊎ (left ≡ Some [])
+-- Holds if no file is named, or the file of that name is missing.
+abbrev pub IsMissing : Option (Bor Text) → View → Type 0
+IsMissing None view = ⊤
+IsMissing (Some name) view = IsKnown name.now view → view.seen name.now ≡ None
 
--- the same of the file that is named, if one is
+-- Nothing may be left of the file that is named, if one is, that could not be left before, except an empty file if it
+-- was missing.
 abbrev pub MakesNothing : Option (Bor Text) → (old new : FilesState) → Type 0
 MakesNothing None old new = ⊤
 MakesNothing (Some name) old new = IsKnown name.now old.view → LeavesOrEmpty name.now old new

@@ -1,27 +1,32 @@
 -- Runs one behind another, from a change that was cut off to the restore that ends.
 use Rattle.std.specs.Prelude.{◌≡◌, ⊤, Option, None, Some, Result}
 use Rattle.std.specs.Borrow.{Bor}
-use Rattle.nor_chip.specs.Bus.{BusState}
 use Rattle.nor_chip.specs.Chip.{IsSame}
-use Rattle.nor_files.specs.Files.{AreAtRest, FilesState}
+use Rattle.nor_files.specs.Calls.{LeavesNoMore}
+use Rattle.nor_files.specs.Files.{AreAtRest, FilesState, Found}
 use Rattle.nor_words.specs.Text.{Text}
 use Rattle.nor_words.specs.declared.job.ChipJob.{ChipJob}
 use Rattle.nor_words.specs.declared.job.Job.TheVariants as job
 use Rattle.nor_words.specs.declared.job.Task.{Task}
 use Rattle.nor_words.specs.declared.job.Task.TheVariants as task
 use Rattle.nor_words.specs.declared.programmer.Programmer.{Programmer}
-use Rattle.flashnor.specs.Holding.{LeaveNoMore}
-use Rattle.flashnor.specs.Left.{LeadsBack, LeavesOnly}
+use Rattle.flashnor.specs.Left.{LeadsBack, LeavesOnly, MayFind, Opened}
 use Rattle.flashnor.specs.Run.{AnswersJob}
 use Rattle.flashnor.specs.declared.answers.Answer.{Answer}
 use Rattle.flashnor.specs.declared.holding.Unwritten.{Unwritten}
 use Rattle.flashnor.specs.declared.messages.Fault.{Fault}
 
--- What a run finds behind another one, whether that ended, its process was killed, or the machine was lost: files in
--- nobody's hands, each as it might be left.
-pub record Follows (old new : FilesState) : Type 0 where
+-- What a run finds after another one, whether that one ended, its process was killed, or the host crashed: closed
+-- files. The journal is as it might be left, and so is each file of the chip, unless it was missing at first and is
+-- moved aside.
+pub record Follows {programmer : Programmer} {start : FilesState} (file : Text) (first : Opened programmer start)
+    (old new : FilesState) : Type 0 where
   pub rest : AreAtRest new
-  pub leave : LeaveNoMore old new
+  pub journal : LeavesNoMore file old new
+  pub image : (found : Found) → MayFind programmer.image first.read.bytes.found found new
+      → MayFind programmer.image first.read.bytes.found found old
+  pub status : (found : Found) → MayFind programmer.status first.read.status.found found new
+      → MayFind programmer.status first.read.status.found found old
 
 -- both name no file, or the same one
 abbrev pub NameOne : (one other : Option (Bor Text)) → Type 0
@@ -41,16 +46,16 @@ abbrev pub Restores : Text → Task → Type 0
 Restores file (task.Restore journal) = journal.now ≡ file
 Restores file _ = ⊥
 
--- Behind files that lead back to the first chip a run restores from their journal, and comes to this.
-pub record RestoresFirst (programmer : Programmer) (file : Text) (first : BusState) (on_chip : ChipJob)
-    (unwritten : Unwritten) (told : Result Answer Fault) (old mid new : FilesState) : Type 0 where
-  pub leads : LeadsBack programmer file first old
-  pub follows : Follows old mid
+-- From files whose journal restores the original chip a run restores that journal, with this result.
+pub record RestoresFirst {programmer : Programmer} {start : FilesState} (file : Text)
+    (first : Opened programmer start) (on_chip : ChipJob) (unwritten : Unwritten) (told : Result Answer Fault)
+    (old mid new : FilesState) : Type 0 where
+  pub leads : LeadsBack file first old
+  pub follows : Follows file first old mid
   pub same : HaveOneChip programmer on_chip.programmer
   pub restores : Restores file on_chip.task
   pub answers : AnswersJob mid new (job.Chip on_chip) unwritten told
 
--- whatever becomes of the machine, a run that opens the chip's files opens the first chip
-abbrev pub LeavesFirst : Programmer → (first : BusState) → FilesState → Type 0
-LeavesFirst programmer first files =
-    LeavesOnly programmer first.chip.config (λ opened. IsSame first.chip opened.chip) files
+-- even if the host crashes, a later run that opens the chip's files opens the original chip
+abbrev pub LeavesFirst : {programmer : Programmer} {start : FilesState} → Opened programmer start → FilesState → Type 0
+LeavesFirst first files = LeavesOnly first (λ opened. IsSame first.bus.chip opened.chip) files

@@ -1,6 +1,6 @@
 //! Jobs that change a chip: sessions, rehearsals of them, and restores.
 ghost use Rattle.std.specs.Prelude.{◌≡◌, ◌≤◌, ◌⊎◌, true, IfOk, IfErr, OnErr, OnOk, length};
-ghost use Rattle.nor_files.specs.Files.{Name, Stays, is_lawful};
+ghost use Rattle.nor_files.specs.Files.{AreUntouched, Name, Stays, is_lawful};
 ghost use Rattle.nor_chip.specs.Chip.{IsSame};
 ghost use Rattle.nor_driver.specs.Looks.{IsCalm, Looks};
 ghost use Rattle.nor_journal.specs.Vault.{IsFresh};
@@ -10,11 +10,13 @@ ghost use Rattle.flashnor.specs.Changes.{HasMadeChange, HasKeptChange, HasRehear
 ghost use Rattle.flashnor.specs.Requests.{FailsToInclude, IsBufferOf};
 ghost use Rattle.flashnor.specs.Run.{ChangesChip, DoesRestore, FailsToKeep, FailsToRead, FailsToRestore};
 ghost use Rattle.flashnor.specs.Tasks.{journal_of};
-ghost use Rattle.flashnor.specs.Stored.{IsNot, MakesNothing};
+ghost use Rattle.flashnor.specs.Files.{IsSharingFault};
+ghost use Rattle.flashnor.specs.Stored.{IsNot, IsRead, MakesNothing};
 
 use crate::answers::{Answer, Outcome};
 use crate::chips::erased;
 use crate::files::{MOST_IMAGE_BYTES, MOST_JOURNAL_BYTES, make, read_file};
+use crate::holding::unheld;
 use crate::messages::Fault;
 use crate::readings::find;
 use crate::requests::{read_included, request_for};
@@ -52,8 +54,8 @@ pub fn change_chip<'a, R: Store, B: Meter>(
     change_with(rt, bus, &mut image, &request, &change.journal_use)
 }
 
-// The buffer of a session: for a write the image, for an erase as many bytes as the chip has.
-fn read_wanted<'a, R: Store>(
+/// The buffer of a session: for a write the image, for an erase as many bytes as the chip has.
+pub fn read_wanted<'a, R: Store>(
     rt: &R,
     chip: Emulated,
     wanted: Wanted<'a>,
@@ -83,7 +85,7 @@ fn change_with<'a, R: Store, B: Meter>(
         → OnErr result (MakesNothing (journal_of journal_use.now) (R.state rt.old) (R.state rt.new)) }
     ensures ok { IsModelled (B.state bus.old) → IsCalm (B.state bus.old)
         → IfOk result (HasMadeChange request.now image.old journal_use.now (B.state bus.old) (B.state bus.new)
-        (R.state rt.new)) }
+        (R.state rt.old).view (R.state rt.new)) }
     ensures err { IfErr result (FailsToKeep (R.state rt.old).view journal_use.now) }
 {
     match journal_use {
@@ -134,21 +136,39 @@ fn rehearse_change<B: Meter>(
     Ok(Answer::Rehearsed(rehearsal))
 }
 
-/// Makes the chip again what the journal in the file of this name says. A fault is one from before the restore.
+/// Restores the chip from the journal in the file of this name, which is locked for other runs that would change it. A
+/// fault is one from before the restore.
 pub fn restore_chip<'a, R: Store, B: Bus>(
-    rt: &R,
+    rt: &mut R,
     bus: &mut B,
     named: Option<ChipName>,
     journal: &'a str,
 ) -> Result<Outcome, Fault<'a>>
+    ensures same { AreUntouched (R.state rt.old) (R.state rt.new) }
     ensures ok { IsModelled (B.state bus.old) → IsCalm (B.state bus.old)
-        → IfOk result (DoesRestore (R.state rt.now).view named journal.now (B.state bus.old) (B.state bus.new)) }
-    ensures err { IfErr result (FailsToRestore (R.state rt.now).view journal.now) }
+        → IfOk result (DoesRestore (R.state rt.old).view named journal.now (B.state bus.old) (B.state bus.new)) }
+    ensures err { IfErr result (FailsToRestore (R.state rt.old).view journal.now) }
 {
-    let text = read_file(rt, journal, MOST_JOURNAL_BYTES)?;
+    let text = read_journal(rt, journal)?;
     match Journal::read(&text) {
         Ok(journal) => Ok(restore_named(bus, named, &journal)),
         Err(fault) => Err(Fault::Refused(Refusal::BadJournal(fault))),
+    }
+}
+
+// The bytes of the journal in the file of this name, which is locked first.
+fn read_journal<'a, R: Store>(rt: &mut R, journal: &'a str) -> Result<Vec<u8>, Fault<'a>>
+    ensures same { AreUntouched (R.state rt.old) (R.state rt.new) }
+    ensures ok { IfOk result (λ bytes. IsRead (R.state rt.old).view journal.now 16793662 bytes.items) }
+    ensures err { IfErr result (IsSharingFault (R.state rt.old).view journal.now 16793662) }
+{
+    match rt.share(journal) {
+        Ok(()) => {}
+        Err(fault) => return Err(unheld(fault, journal)),
+    }
+    match read_file(rt, journal, MOST_JOURNAL_BYTES) {
+        Ok(bytes) => Ok(bytes),
+        Err(fault) => Err(fault),
     }
 }
 

@@ -1,18 +1,19 @@
 //! The files that a run reads, makes and writes anew.
-ghost use Rattle.std.specs.Prelude.{◌≡◌, ◌↔◌, true, IfOk, IfErr, OnOk, OnErr, Some};
+ghost use Rattle.std.specs.Prelude.{◌≡◌, ◌↔◌, true, IfOk, IfErr, OnOk, OnErr, None, Some};
 ghost use Rattle.std.specs.IoError.{error_kind};
 ghost use Rattle.std.specs.declared.io.ErrorKind.TheVariants as Kinds;
 ghost use Rattle.nor_files.specs.Calls.{Lends, LendsNone};
-ghost use Rattle.nor_files.specs.Files.{OthersStay, is_lawful};
+ghost use Rattle.nor_files.specs.Faults.{IsMakeFault};
+ghost use Rattle.nor_files.specs.Files.{IsKnown, OthersStay, View, is_lawful};
 ghost use Rattle.nor_journal.specs.Vault.{IsFresh};
 ghost use Rattle.flashnor.specs.Stored.{IsRead};
-ghost use Rattle.flashnor.specs.Files.{IsReadingFault, IsMaking, IsMakingNew, IsLogging, IsUnreadFault};
+ghost use Rattle.flashnor.specs.Files.{IsReadingFault, IsMaking, IsUnreadFault};
 ghost use Rattle.flashnor.specs.declared.messages.Fault.TheVariants as Faults;
 ghost use Rattle.flashnor.specs.declared.messages.FileFault.TheVariants as FileFaults;
 ghost use Rattle.nor_call.specs.declared.refusal.Refusal.TheVariants as Refusals;
 
 use crate::messages::{Fault, FileFault};
-use nor_files::Store;
+use nor_files::{MakeFault, Store};
 use nor_session::Refusal;
 use std::io;
 use std::io::{BufWriter, ErrorKind};
@@ -71,32 +72,27 @@ pub fn empty<'a, R: Store>(rt: &mut R, name: &'a str) -> Result<R::Filed, Fault<
 {
     match rt.vault_in(name) {
         Ok(vault) => Ok(vault),
-        Err(_) => Err(unmade(name)),
+        Err(fault) => Err(making(fault, name)),
     }
 }
 
-/// A vault in the file of this name, which wasn't there before.
+/// Creates the file of this name, and returns a vault in it. A file that is there is left as it is, and reported.
 pub fn make<'a, R: Store>(rt: &mut R, name: &'a str) -> Result<R::Filed, Fault<'a>>
     ensures nature { (R.state rt.new).view.nature ≡ (R.state rt.old).view.nature }
     ensures fresh { IfOk result (λ vault. IsFresh (R.Filed.state vault)) }
     ensures lends { is_lawful (R.state rt.old).view ≡ true
         → OnOk result (Lends name.now (R.state rt.old) (R.state rt.new)) }
+    ensures missing { IsKnown name.now (R.state rt.old).view
+        → OnOk result ((R.state rt.old).view.seen name.now ≡ None) }
     ensures fails { is_lawful (R.state rt.old).view ≡ true
         → OnErr result (LendsNone name.now (R.state rt.old) (R.state rt.new)) }
     ensures others { is_lawful (R.state rt.old).view ≡ true
         → OthersStay name.now (R.state rt.old) (R.state rt.new) }
-    ensures err { IfErr result (IsMakingNew (R.state rt.old).view name.now) }
+    ensures err { IfErr result (IsMaking (R.state rt.old).view name.now) }
 {
-    let error = match rt.vault_in_new(name) {
-        Ok(vault) => return Ok(vault),
-        Err(error) => error,
-    };
-    match error.kind() {
-        ErrorKind::AlreadyExists => {
-            let fault = FileFault::Exists;
-            Err(Fault::File { fault, name })
-        }
-        _ => Err(unmade(name)),
+    match rt.vault_in_new(name) {
+        Ok(vault) => Ok(vault),
+        Err(fault) => Err(making(fault, name)),
     }
 }
 
@@ -105,12 +101,36 @@ pub fn create_log<'a, R: Store>(rt: &mut R, name: &'a str) -> Result<BufWriter<R
     ensures nature { (R.state rt.new).view.nature ≡ (R.state rt.old).view.nature }
     ensures others { is_lawful (R.state rt.old).view ≡ true
         → OthersStay name.now (R.state rt.old) (R.state rt.new) }
-    ensures err { IfErr result (IsLogging (R.state rt.old).view name.now) }
+    ensures err { IfErr result (IsMaking (R.state rt.old).view name.now) }
 {
-    let Ok(file) = rt.log_in(name) else {
-        return Err(unmade(name));
+    let file = match rt.log_in(name) {
+        Ok(file) => file,
+        Err(fault) => return Err(making(fault, name)),
     };
     BufWriter::new(rt.alloc(), file).map_err(|_| Fault::Refused(Refusal::Memory))
+}
+
+/// The fault of a file that can't be made or emptied.
+pub fn making(fault: MakeFault, name: &str) -> Fault<'_>
+    ensures { (view : View) → IsMakeFault view.nature name.now fault → IsMaking view name.now result }
+{
+    match fault {
+        MakeFault::There => {
+            let fault = FileFault::Exists;
+            Fault::File { fault, name }
+        }
+        MakeFault::Busy => taken(name),
+        MakeFault::Unmade(_) => unmade(name),
+        MakeFault::Memory => Fault::Refused(Refusal::Memory),
+    }
+}
+
+/// The fault of a file that is in use: it has another role in the run, or another run has locked it.
+pub fn taken(name: &str) -> Fault<'_>
+    ensures { result ≡ Faults.File FileFaults.Taken name.entry }
+{
+    let fault = FileFault::Taken;
+    Fault::File { fault, name }
 }
 
 /// The fault of a file that can't be made or emptied, or written.

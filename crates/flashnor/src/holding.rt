@@ -11,7 +11,7 @@ ghost use Rattle.flashnor.specs.Holding.{LeaveNoMore, LeavesAmid, LeavesFileAmid
 ghost use Rattle.flashnor.specs.Stored.{AreTwo, Happens, IsFileFound, IsNot, IsRead, IsToldOf};
 
 use crate::chips::{Content, content_of, read_whole};
-use crate::files::{reading, unmade, unread};
+use crate::files::{reading, taken, unmade, unread};
 use crate::messages::{Fault, FileFault};
 use nor_chip::{Bus, SimBus};
 use nor_files::{HoldFault, Store};
@@ -110,17 +110,14 @@ fn read_held<'a, R: Store>(rt: &mut R, name: &'a str, len: u32) -> Result<Vec<u8
     }
 }
 
-// The fault of a file that can't be held.
-fn unheld(fault: HoldFault, name: &str) -> Fault<'_>
+/// The fault of a file that can't be held or shared.
+pub fn unheld(fault: HoldFault, name: &str) -> Fault<'_>
     ensures { IsUnheldFault fault name.now result }
 {
     match fault {
         HoldFault::Unread(error) => reading(error, name),
         HoldFault::Unheld => unmade(name),
-        HoldFault::Busy => {
-            let fault = FileFault::Taken;
-            Fault::File { fault, name }
-        }
+        HoldFault::Busy => taken(name),
     }
 }
 

@@ -12,20 +12,22 @@ ghost use Rattle.flashnor.specs.declared.messages.Fault.{Fault};
 
 use nor_files::Store;
 
-/// Files that lead back to the chip from before a change still do after each run that restores from their journal,
-/// wherever it was cut off; and the first of these that ends has left that chip, whatever then becomes of the machine.
+/// Proves that the original chip of a change can be restored, however often a restore is interrupted.
 ///
-/// `run_over` says of a change that it left such files, or that it changed nothing: so whatever becomes of it, the chip
-/// can be given back.
+/// `leads`: if the journal restores the original chip from whatever may be left of the files, it still does after each
+/// run that restores it, wherever that run was interrupted. `ends`: the first such run that ends with an answer and
+/// writes all files leaves the original chip, even if the host then crashes. Between two runs a file of the chip that
+/// was missing before the change may be moved aside.
+///
+/// `run_over` promises that a change leaves such files, or that it changed nothing.
 pub fn runs_lead_back<R: Store>()
     ensures leads { (programmer : Programmer) (file : Text) (start old mid new : R)
         (first : Opened programmer (R.state start)) (on_chip : ChipJob)
         (unwritten : Unwritten) (told : Result Answer Fault)
-        → RestoresFirst programmer file first.bus on_chip unwritten told (R.state old) (R.state mid) (R.state new)
-        → LeadsBack programmer file first.bus (R.state new) }
+        → RestoresFirst file first on_chip unwritten told (R.state old) (R.state mid) (R.state new)
+        → LeadsBack file first (R.state new) }
     ensures ends { (programmer : Programmer) (file : Text) (start old mid new : R)
         (first : Opened programmer (R.state start)) (on_chip : ChipJob) (answer : Answer)
-        → RestoresFirst programmer file first.bus on_chip all_written (Ok answer)
-        (R.state old) (R.state mid) (R.state new)
-        → LeavesFirst programmer first.bus (R.state new) }
+        → RestoresFirst file first on_chip all_written (Ok answer) (R.state old) (R.state mid) (R.state new)
+        → LeavesFirst first (R.state new) }
 {}

@@ -7,6 +7,8 @@
 mod answers;
 mod changes;
 mod chips;
+mod escapes;
+mod existing;
 mod files;
 mod holding;
 mod laws;
@@ -16,22 +18,28 @@ mod readings;
 mod requests;
 mod roles;
 mod run;
+mod streams;
 
-use run::run_words;
+use run::{end_without_streams, run_words};
 use std::alloc::Global;
 use std::env;
 use std::io::{LineWriter, Write};
 use std::process::ExitCode;
+use streams::keep_streams;
 
 fn main(rt: HostRuntime) -> ExitCode {
+    let streams = keep_streams(&rt);
     let mut output = by_line(rt.alloc(), rt.stdout());
     let mut errors = by_line(rt.alloc(), rt.stderr());
-    let status = run_words(&rt, env::args(&rt), &mut output, &mut errors);
+    let status = match &streams {
+        Ok(_) => run_words(&rt, env::args(&rt), &mut output, &mut errors),
+        Err(_) => end_without_streams(&mut output, &mut errors),
+    };
     ExitCode::from(status)
 }
 
-// A line of a name that a path can be fits.
-const LINE_BYTES: usize = 8192;
+// The line of a file fault fits, also if each byte of a long path is escaped.
+const LINE_BYTES: usize = 32_768;
 
 // Each line goes out in one write, so that none is mixed with those of other programs; only where memory is refused for
 // that it goes out piece by piece.

@@ -1,6 +1,7 @@
 //! What ends a run with status 1, and its text.
 ghost use Rattle.std.specs.Prelude.{◌≡◌, Some};
 
+use crate::escapes::Escaped;
 use nor_layout::LayoutFault;
 use nor_session::Refusal;
 use nor_words::UsageFault;
@@ -99,7 +100,10 @@ impl fmt::Display for Fault<'_> {
             Fault::Layout(fault) => {
                 write!(f, "Layout fault {}{}.", fault.number(), Place(fault.line()))
             }
-            Fault::File { fault, name } => write!(f, "File fault {}: {name}.", fault.number()),
+            Fault::File { fault, name } => {
+                let name = Escaped(name);
+                write!(f, "File fault {}: {name}.", fault.number())
+            }
             Fault::Refused(refusal) => write!(f, "Error {}: {refusal}.", refusal.number()),
         }
     }

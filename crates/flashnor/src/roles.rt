@@ -1,10 +1,12 @@
 //! One file has one role in a run.
 ghost use Rattle.std.specs.Prelude.{◌≡◌, true, IfErr, OnOk};
-ghost use Rattle.flashnor.specs.Roles.{HaveOneRole, IsTwice, file_in, image_of, layout_of, must_differ, named_by};
+ghost use Rattle.flashnor.specs.Roles.{FailsRoles, HasOwnTrace, HaveOneRole, file_in, image_of, is_written, layout_of};
+ghost use Rattle.flashnor.specs.Roles.{must_differ, named_by};
 ghost use Rattle.flashnor.specs.Tasks.{journal_of};
 ghost use Rattle.flashnor.specs.Stored.{AreTwo};
 
-use crate::messages::{Fault, FileFault};
+use crate::files::{taken, unread};
+use crate::messages::Fault;
 use crate::run::puts_back;
 use nor_files::Store;
 use nor_words::{Change, ChipJob, JournalUse, Regions, Task, Wanted};
@@ -32,10 +34,33 @@ enum Role {
 
 /// Refuses a job that names one file in two roles, unless both are only read, or they are the chip's image and the one
 /// that it is to get. The fault names the later of the two, in the order image, status, trace, layout, wanted image,
-/// output, journal.
+/// output, journal. Then it refuses a job of which a file that isn't only read is standard output or standard error.
+/// A name that can't be looked at is the fault of a file that can't be read.
 pub fn have_one_role<'a, R: Store>(rt: &R, job: &ChipJob<'a>) -> Result<(), Fault<'a>>
     ensures ok { OnOk result (HaveOneRole job.now) }
-    ensures err { IfErr result (IsTwice (R.state rt.now).view job.now) }
+    ensures err { IfErr result (FailsRoles (R.state rt.now).view.nature job.now) }
+{
+    are_apart(rt, job)?;
+    are_unprinted(rt, job)
+}
+
+/// Refuses a job whose trace has another role, too, as `have_one_role` does.
+pub fn has_own_trace<'a, R: Store>(rt: &R, job: &ChipJob<'a>) -> Result<(), Fault<'a>>
+    ensures ok { OnOk result (HasOwnTrace job.now) }
+    ensures err { IfErr result (FailsRoles (R.state rt.now).view.nature job.now) }
+{
+    apart(rt, job, Role::Image, Role::Trace)?;
+    apart(rt, job, Role::Status, Role::Trace)?;
+    apart(rt, job, Role::Trace, Role::Layout)?;
+    apart(rt, job, Role::Trace, Role::Wanted)?;
+    apart(rt, job, Role::Trace, Role::Journal)?;
+    unprinted(rt, job, Role::Trace)
+}
+
+// Each two files of the job that have to be two are.
+fn are_apart<'a, R: Store>(rt: &R, job: &ChipJob<'a>) -> Result<(), Fault<'a>>
+    ensures ok { OnOk result (HaveOneRole job.now) }
+    ensures err { IfErr result (FailsRoles (R.state rt.now).view.nature job.now) }
 {
     if puts_back(&job.task) {
         apart(rt, job, Role::Image, Role::Status)?;
@@ -56,6 +81,19 @@ pub fn have_one_role<'a, R: Store>(rt: &R, job: &ChipJob<'a>) -> Result<(), Faul
     apart(rt, job, Role::Trace, Role::Journal)?;
     apart(rt, job, Role::Layout, Role::Journal)?;
     apart(rt, job, Role::Wanted, Role::Journal)
+}
+
+// No file of the job that isn't only read is one that the program prints to.
+fn are_unprinted<'a, R: Store>(rt: &R, job: &ChipJob<'a>) -> Result<(), Fault<'a>>
+    ensures { IfErr result (FailsRoles (R.state rt.now).view.nature job.now) }
+{
+    if puts_back(&job.task) {
+        unprinted(rt, job, Role::Image)?;
+        unprinted(rt, job, Role::Status)?;
+    }
+    unprinted(rt, job, Role::Trace)?;
+    unprinted(rt, job, Role::Output)?;
+    unprinted(rt, job, Role::Journal)
 }
 
 // The file that a job has in this role, if it names one.
@@ -152,13 +190,29 @@ fn apart<'a, R: Store>(
 ) -> Result<(), Fault<'a>>
     requires { must_differ job.now earlier later ≡ true }
     ensures ok { OnOk result (AreTwo (file_in job.now earlier) (file_in job.now later)) }
-    ensures err { IfErr result (IsTwice (R.state rt.now).view job.now) }
+    ensures err { IfErr result (FailsRoles (R.state rt.now).view.nature job.now) }
 {
     match (file_in(job, earlier), file_in(job, later)) {
-        (Some(one), Some(name)) if rt.is_one_file(one, name) => {
-            let fault = FileFault::Taken;
-            Err(Fault::File { fault, name })
-        }
+        (Some(one), Some(other)) => match rt.is_one_file(one, other) {
+            Ok(false) => Ok(()),
+            Ok(true) => Err(taken(other)),
+            Err(name) => Err(unread(name)),
+        },
         _ => Ok(()),
+    }
+}
+
+// A file that isn't only read, if it is named: a fault if the program prints to it.
+fn unprinted<'a, R: Store>(rt: &R, job: &ChipJob<'a>, role: Role) -> Result<(), Fault<'a>>
+    requires { is_written job.now role ≡ true }
+    ensures { IfErr result (FailsRoles (R.state rt.now).view.nature job.now) }
+{
+    let Some(name) = file_in(job, role) else {
+        return Ok(());
+    };
+    match rt.is_stream(name) {
+        Ok(false) => Ok(()),
+        Ok(true) => Err(taken(name)),
+        Err(name) => Err(unread(name)),
     }
 }

@@ -5,22 +5,24 @@ ghost use Rattle.flashnor.specs.Chips.{IsReady};
 ghost use Rattle.nor_files.specs.Disk.{unknown};
 ghost use Rattle.nor_files.specs.Files.{AreAtRest, Name, Stays, is_lawful};
 ghost use Rattle.flashnor.specs.Stored.{AreTwo, IsNot, MakesNothing};
-ghost use Rattle.flashnor.specs.Endings.{EndsWith, HasPrinted, IsUnread, all_written};
+ghost use Rattle.flashnor.specs.Endings.{EndsWith, HasPrinted, IsUnread, IsWithoutStreams, all_written};
 ghost use Rattle.flashnor.specs.Run.{AnswersWords, DoesJob, DoesTraced, EndsJob, FailsBefore, FailsJob, FailsTraced, IsStatus};
 ghost use Rattle.flashnor.specs.Roles.{HaveOneRole};
-ghost use Rattle.flashnor.specs.Run.{IsToldAs, KeepsFiles, StayBut, words_of};
+ghost use Rattle.flashnor.specs.Run.{HoldsResult, IsToldAs, KeepsFiles, StayBut, words_of};
 ghost use Rattle.flashnor.specs.Tasks.{journal_by, made_by, puts_back};
 
 use crate::answers::{Answer, Outcome};
 use crate::changes::{change_chip, restore_chip};
 use crate::chips::{read_content, start};
-use crate::files::create_log;
+use crate::existing::{existing_journal, fault_before};
+use crate::files::{create_log, unread};
 use crate::holding::{Held, Unwritten, hold_content, write_back};
 use crate::laws::runs_lead_back;
 use crate::messages::Fault;
 use crate::printing::{Ending, print_end};
 use crate::readings::{find_chip, list_ranges, read_chip, tell_protection, tell_size, verify_chip};
 use crate::roles::have_one_role;
+use crate::streams::DIRECTORY;
 use nor_chip::{Bus, Meter, SimBus, TraceBus};
 use nor_files::{Disk, LockFile, Store};
 use nor_words::{Change, ChipJob, Job, JournalUse, Task, UsageFault, request_of};
@@ -50,6 +52,16 @@ where
         Ok(args) => run_given(&mut Disk::new(rt), args, output, errors),
         Err(error) => end_before(Fault::of_words(&error), output, errors),
     };
+    ending.status
+}
+
+/// Ends a run that can't keep the standard streams' descriptors from being given to its files, before it opens one of
+/// these. Returns the exit status, which is 1.
+pub fn end_without_streams<O: Write, E: Write>(output: &mut O, errors: &mut E) -> u8
+    ensures { EndsWith (IsWithoutStreams (O.contents output.old) (O.contents output.new)
+        (E.contents errors.old) (E.contents errors.new)) result }
+{
+    let ending = end_before(unread(DIRECTORY), output, errors);
     ending.status
 }
 
@@ -141,13 +153,19 @@ fn run<'a, R: Store>(rt: &mut R, words: &'a [String]) -> Work<'a>
 }
 
 // Does the job's task on the programmer's chip. An error is a fault from before the call.
+#[tactic(auto, using(crate::proofs::Ended::holds_looked))]
 fn work_on_chip<'a, R: Store>(rt: &mut R, job: &ChipJob<'a>) -> Result<Work<'a>, Fault<'a>>
     ensures ok { IfOk result (λ work.
         EndsJob (R.state rt.old) (R.state rt.new) job.now work.unwritten work.answer) }
     ensures err { IfErr result (FailsJob (R.state rt.old).view job.now) }
     ensures keeps { AreAtRest (R.state rt.old)
         → KeepsFiles job.now.programmer job.now.task (R.state rt.old) (R.state rt.new) }
+    ensures holds { AreAtRest (R.state rt.old) → IfOk result (λ work.
+        HoldsResult job.now work.unwritten work.answer (R.state rt.old) (R.state rt.new)) }
 {
+    if let Some(name) = existing_journal(rt, &job.task) {
+        return Err(fault_before(rt, job, name));
+    }
     have_one_role(rt, job)?;
     if puts_back(&job.task) {
         change_files(rt, job)
@@ -188,6 +206,8 @@ fn change_files<'a, R: Store>(rt: &mut R, job: &ChipJob<'a>) -> Result<Work<'a>,
     ensures err { IfErr result (FailsJob (R.state rt.old).view job.now) }
     ensures keeps { AreAtRest (R.state rt.old)
         → KeepsFiles job.now.programmer job.now.task (R.state rt.old) (R.state rt.new) }
+    ensures holds { AreAtRest (R.state rt.old) → IfOk result (λ work.
+        HoldsResult job.now work.unwritten work.answer (R.state rt.old) (R.state rt.new)) }
 {
     let held = hold_content(rt, &job.programmer)?;
     let Held {
@@ -271,7 +291,10 @@ fn call_on<'a, R: Store>(
             lost: None,
         });
     };
-    let mut traced = TraceBus::new(bus, create_log(rt, name)?);
+    let log = create_log(rt, name)?;
+    // A link to nothing led nowhere when the files were compared first. The trace's file is there now.
+    have_one_role(rt, job)?;
+    let mut traced = TraceBus::new(bus, log);
     let outcome = do_task(rt, &mut traced, job)?;
     Ok(Called::of_traced(traced, name, outcome))
 }

@@ -6,6 +6,7 @@ use Rattle.flashnor.proofs.changes.change_with.Goals as goal
 
 pub returns-in_ok-journal-in-Journal-clause-ok : goal.returns-in_ok-journal-in-Journal-clause-ok
 returns-in_ok-journal-in-Journal-clause-ok g c = λ modelled calm. rw c.in-Journal.is (record {
+  missing = c.in_ok-journal-in-Journal.ensures.missing;
   vault = _;
   vault' = _;
   fresh = c.in_ok-journal-in-Journal.ensures.fresh;
@@ -25,6 +26,7 @@ returns-in_err-journal-in-Journal-clause-others g c = λ is name not.
 
 pub returns-in-Rehearse-clause-ok : goal.returns-in-Rehearse-clause-ok
 returns-in-Rehearse-clause-ok g c = λ modelled calm. rw c.in-Rehearse.is (record {
+  missing = tt;
   vault = held_by c.new-vault.result;
   vault' = held_by c.rehearse_change.new.vault;
   fresh = record {

@@ -4,9 +4,9 @@ use Rattle.flashnor.proofs.laws.runs_lead_back.Goals as goal
 pub returns-clause-leads : goal.returns-clause-leads
 returns-clause-leads g c = λ programmer file start old mid new first on_chip unwritten told ran.
     leads_on programmer file (g.R.Store.state start) first on_chip (g.R.Store.state old) (g.R.Store.state mid) (g.R.Store.state new)
-    (g.met.R.Store.seen_may_stay mid) unwritten told ran
+    (g.met.R.Store.seen_may_stay mid) (g.met.R.Store.seen_may_stay new) unwritten told ran
 
 pub returns-clause-ends : goal.returns-clause-ends
 returns-clause-ends g c = λ programmer file start old mid new first on_chip answer ran.
     given_back programmer file (g.R.Store.state start) first on_chip (g.R.Store.state old) (g.R.Store.state mid) (g.R.Store.state new)
-    (g.met.R.Store.seen_may_stay mid) answer ran
+    (g.met.R.Store.seen_may_stay mid) (g.met.R.Store.seen_may_stay new) answer ran

@@ -2,8 +2,8 @@ use Rattle.std.proofs.Common.{◌∙◌, inr}
 use Rattle.std.proofs.lemmas.Result.{err_from_is_err_and}
 use Rattle.nor_chip.specs.Sim.{state_of}
 use Rattle.nor_files.specs.Files.{AreAtRest}
-use Rattle.flashnor.proofs.Ended.{ends_called}
-use Rattle.flashnor.proofs.Kept.{does_after, keeps_files, ready_both, setup_done}
+use Rattle.flashnor.proofs.Ended.{ends_called, holds_told}
+use Rattle.flashnor.proofs.Kept.{does_after, holds_task, keeps_files, ready_both, setup_done}
 use Rattle.flashnor.proofs.Stays.{lawful_after}
 use Rattle.flashnor.proofs.Traced.{fails_before, view_before}
 use Rattle.flashnor.proofs.WrittenBack.{told_before}
@@ -74,4 +74,10 @@ returns g c =
           back.others (back.amid (roles.status puts) _ _ (ready rest)) job.task job.named _ puts
           (called.others (lawful_after held.nature rest.lawful)) roles.image_journal roles.status_journal
           roles.trace_journal d.2;
+      holds = λ rest. holds_told job _ _ _ s0 s3 c.told-answer.ensures (λ found is all. holds_task job
+          c.in_ok-held.held s0 s1 s2 bus bus' roles held.ok opens rest (held.held rest) held.nature called.nature
+          called.others setup s3 d.0 held.stands c.in_ok-called.called.bus.flash.kept2_in but back.others
+          (back.amid (roles.status puts) _ _ (ready rest)) _ all (back.put (roles.status puts) _ _ (ready rest)) job.task
+          job.named found puts (called.others (lawful_after held.nature rest.lawful)) roles.trace_layout
+          roles.trace_wanted roles.image_journal roles.status_journal roles.trace_journal (rw is at d.2));
     }

@@ -1,4 +1,5 @@
-use Rattle.std.proofs.Common.{◌∙◌, refl, sym, true≢false}
+use Rattle.std.proofs.Common.{◌∙◌, inr, refl, sym, true≢false}
+use Rattle.std.proofs.lemmas.Result.{err_from_is_err_and}
 use Rattle.flashnor.proofs.Ended.{ends_called}
 use Rattle.flashnor.proofs.Before.{stays_but}
 use Rattle.flashnor.proofs.Stays.{stays_same}
@@ -31,3 +32,8 @@ returns-in_err-called-clause-keeps g c = λ lawful.
 pub returns-clause-keeps : goal.returns-clause-keeps
 returns-clause-keeps g c = λ lawful.
     stays_but c.args.job.now c.requires.roles _ _ (c.in_ok-called.ensures.others lawful)
+
+pub returns-in_err-called-clause-err : goal.returns-in_err-called-clause-err
+returns-in_err-called-clause-err g c =
+    let p = err_from_is_err_and c.from_residual-in_err-called.result c.from_residual-in_err-called.ensures.1 in
+    rw (p.1, p.2) (inr (inr c.in_err-called.ensures.err))

@@ -14,7 +14,8 @@ returns-in-Ok-List g c =
 pub returns-in-Ok : goal.returns-in-Ok
 returns-in-Ok g c =
     answer_ended _ _ c.in-Ok-Chip.job c.in-Ok.work.unwritten (map string_bytes c.args.words.now) c.in-Ok.work.answer
-    (rw c.in-Ok-Chip.field-0-is at c.in-Ok-Chip.ensures) c.in-Ok.ensures.keeps c.in-Ok.ensures.ok
+    (rw c.in-Ok-Chip.field-0-is at c.in-Ok-Chip.ensures) c.in-Ok.ensures.keeps c.in-Ok.ensures.holds
+    c.in-Ok.ensures.ok
 
 pub returns-in-Err-work_on_chip : goal.returns-in-Err-work_on_chip
 returns-in-Err-work_on_chip g c =

@@ -1,0 +1,18 @@
+-- Names as messages show them, with their control characters escaped.
+use Rattle.std.specs.Prelude.{ℕ, List, ◌++◌, chars, codes, encode_utf8, flat_map, if◌then◌else◌}
+use Rattle.std.specs.Char.{is_control}
+use Rattle.nor_call.specs.Texts.{hex_digits}
+use Rattle.nor_words.specs.Text.{Text}
+
+-- a byte as `\xNN`, with two lower-case hexadecimal digits
+abbrev pub escaped_byte : ℕ → List ℕ
+escaped_byte byte = codes "\\x" ++ hex_digits 2 byte
+
+-- a character in UTF-8, with each byte escaped if it is a control character: U+0000 to U+001F or U+007F to U+009F
+abbrev pub escaped_character : ℕ → List ℕ
+escaped_character character =
+    if is_control character then flat_map escaped_byte (encode_utf8 character) else encode_utf8 character
+
+-- a name with its control characters escaped, and all other characters unchanged
+abbrev pub escaped : Text → List ℕ
+escaped name = flat_map escaped_character (chars name)

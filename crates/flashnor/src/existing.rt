@@ -1,0 +1,97 @@
+//! Sessions whose journal's file is there already: no journal is made over it, and the run ends without a call.
+ghost use Rattle.std.specs.Prelude.{◌≡◌, IfErr, IfSome, IsSome, IsSomeAnd, Some, true};
+ghost use Rattle.nor_files.specs.Files.{AreAtRest, Name, Stays, is_lawful};
+ghost use Rattle.nor_files.specs.Files.Failure.{There};
+ghost use Rattle.flashnor.specs.Roles.{HasOwnTrace};
+ghost use Rattle.flashnor.specs.Files.{IsMaking};
+ghost use Rattle.flashnor.specs.Run.{FailsBefore, FailsJob, KeepsFiles};
+ghost use Rattle.flashnor.specs.Stored.{Happens, IsNot};
+ghost use Rattle.flashnor.specs.Tasks.{journal_by};
+
+use crate::changes::read_wanted;
+use crate::chips::read_content;
+use crate::files::create_log;
+use crate::messages::{Fault, FileFault};
+use crate::requests::read_included;
+use crate::roles::has_own_trace;
+use nor_files::Store;
+use nor_words::{Change, ChipJob, JournalUse, Task};
+
+/// The file of the journal that the task is to make, if a file of that name is there already.
+pub fn existing_journal<'a, R: Store>(rt: &R, task: &Task<'a>) -> Option<&'a str>
+    ensures { IfSome result (λ file. (journal_by task.now ≡ Some file)
+        × Happens (R.state rt.now).view (There file.now)) }
+{
+    match task {
+        Task::Change(
+            Change {
+                journal_use: JournalUse::Journal { file },
+                ..
+            },
+        ) if rt.is_there(*file) => Some(*file),
+        _ => None,
+    }
+}
+
+/// The first fault of a session whose journal's file is there: what is read before a journal is made may fail, too.
+/// Nothing is written but the trace, which has to be no other file of the run.
+pub fn fault_before<'a, R: Store>(rt: &mut R, job: &ChipJob<'a>, journal: &'a str) -> Fault<'a>
+    requires makes { journal_by job.now.task ≡ Some journal }
+    requires there { Happens (R.state rt.old).view (There journal.now) }
+    ensures fails { FailsJob (R.state rt.old).view job.now result }
+    ensures keeps { AreAtRest (R.state rt.old)
+        → KeepsFiles job.now.programmer job.now.task (R.state rt.old) (R.state rt.new) }
+{
+    match has_own_trace(rt, job) {
+        Ok(()) => {}
+        Err(fault) => return fault,
+    }
+    match read_all(rt, job) {
+        Ok(()) => {
+            let (fault, name) = (FileFault::Exists, journal);
+            Fault::File { fault, name }
+        }
+        Err(fault) => fault,
+    }
+}
+
+// Reads what a session reads before it makes its journal, in the same order.
+fn read_all<'a, R: Store>(rt: &mut R, job: &ChipJob<'a>) -> Result<(), Fault<'a>>
+    requires { IsSome (journal_by job.now.task) }
+    ensures fails { IfErr result (FailsJob (R.state rt.old).view job.now) }
+    ensures others { is_lawful (R.state rt.old).view ≡ true → (name : Name) → IsNot job.now.programmer.trace name
+        → Stays name (R.state rt.old) (R.state rt.new) }
+{
+    let _content = read_content(rt, &job.programmer)?;
+    make_trace(rt, job.programmer.trace)?;
+    read_sources(rt, job)?;
+    Ok(())
+}
+
+// Makes the file of the trace, if one is asked for, or empties it.
+fn make_trace<'a, R: Store>(rt: &mut R, trace: Option<&'a str>) -> Result<(), Fault<'a>>
+    ensures nature { (R.state rt.new).view.nature ≡ (R.state rt.old).view.nature }
+    ensures others { is_lawful (R.state rt.old).view ≡ true → (name : Name) → IsNot trace.entry name
+        → Stays name (R.state rt.old) (R.state rt.new) }
+    ensures err { IfErr result (λ fault. IsSomeAnd trace.entry (λ name. IsMaking (R.state rt.old).view name.now fault)) }
+{
+    let Some(name) = trace else {
+        return Ok(());
+    };
+    match create_log(rt, name) {
+        Ok(_) => Ok(()),
+        Err(fault) => Err(fault),
+    }
+}
+
+// Reads the layout and the image of a change.
+fn read_sources<'a, R: Store>(rt: &R, job: &ChipJob<'a>) -> Result<(), Fault<'a>>
+    ensures { IfErr result (FailsBefore (R.state rt.now).view job.now.task) }
+{
+    let Task::Change(change) = &job.task else {
+        return Ok(());
+    };
+    let _included = read_included(rt, change.regions)?;
+    let _image = read_wanted(rt, job.programmer.chip, change.wanted)?;
+    Ok(())
+}
