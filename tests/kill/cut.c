@@ -1,27 +1,37 @@
-/* Cuts off one call on a file of a program before which it is loaded (LD_PRELOAD): the one whose number, counted from
-   1, is in CALL; the number 0 cuts off none. HOW says in which way:
+/* Interrupts one call on a file of the program into which it is loaded (LD_PRELOAD): the call whose number, counted
+   from 1, is in CALL. The number 0 interrupts none. HOW says in which way:
      before, after    the process is killed before the call, or after it
-     one, half, most  it is killed when a write has put one byte, half of its bytes, or all but one
-     last             it is killed when a write has put the last half of its bytes and not the first, as a machine may
-                      that is lost
-     EIO and others   the call fails with this error, and nothing was done
-     EIO+ and others  so do all later ones on that file
-     short            a write puts half of its bytes, and from then on each write fails for want of room
-     part             a read or a write moves half of its bytes, and says so
-     grown, there     somebody writes four bytes behind the file's last one before it is opened, or makes it with them
-   A run that has no end is ended after a minute. The file that CALLS names gets a line for each call, what it is and
-   the file's name, and the line `cut` after the one that is cut off. To open a file is `make` where that may make it,
-   and else `open` for reading, `over` for writing and `hold` for both. Standard input, output and error are no such
-   files.
+     one, half, most  it is killed after a write has written one byte, half of its bytes, or all but one
+     last             it is killed after a write has written only the last half of its bytes, as a host crash may leave
+                      them
+     EIO and others   the call fails with this error, and does nothing
+     EIO+ and others  so do all later calls on that file
+     short            a write writes half of its bytes, and all later writes fail with ENOSPC
+     part             a read or a write moves half of its bytes, and returns their number
+     grown            another process has appended four bytes to the file before the call
+     there            another process has created the file with four bytes before it is opened
+     stranger         another process has renamed the file to NAME.old before the call, and created another one as NAME
+     shrunk           another process has truncated the file to ten bytes before the call
+   A run that doesn't end is killed after a minute. The file that CALLS names gets one line per call, with the call and
+   the file's name, and the line `cut` after the call that is interrupted. An open is `make` if it may create the file,
+   else `open` for reading, `over` for writing and `hold` for both. `dup` duplicates a descriptor, `statx` looks at a
+   name, and `fstat` at an open file. Standard input, output and error are not counted. If LOCKS is set, each of image,
+   status, journal, trace and out that another process could lock at the time of a call adds a line `free NAME` after
+   the call's.
 
    The file that RECORD names gets what happened to files, for lost.py: a line `WHAT AT SIZE NAME` for each file that
-   was made (`make`), each write and length (`write`, `length`), each sync, and each print on standard output, and
-   behind the line the SIZE bytes that were written. WRONG makes a wrong program of a right one there: of the syncs of
-   the file or folder NAME
+   was created (`make`), each write and length (`write`, `length`), each sync, and each print on standard output. The
+   SIZE bytes that were written follow the line. WRONG makes a mutant of a right program. Mutants for lost.py record
+   other syncs of the file or directory NAME than the program made:
      never NAME       none is recorded
      once NAME        only the first one is
      late NAME        all but the first one are
-     early NAME       each is recorded ahead of the changes that it was to make last. */
+     early NAME       each is recorded before the changes that it was to make durable.
+   Other mutants work differently:
+     without CALL NAME   this call on that file is left out
+     lossy NAME          a write to that file that writes only half of its bytes returns the number of all
+     unlock NAME         the file is unlocked before each write to it
+     cached NAME         all bytes of that file but one are lost if its close fails. */
 #define _GNU_SOURCE
 #include <errno.h>
 #include <fcntl.h>
@@ -30,14 +40,15 @@
 #include <stdio.h>
 #include <stdlib.h>
 #include <string.h>
+#include <sys/file.h>
 #include <sys/stat.h>
 #include <sys/syscall.h>
 #include <unistd.h>
 
 enum { FILES = 64, LENGTH = 4096 };
 
-static const char *calls, *how, *recorded;
-/* What is wrong with the syncs, and of which file. */
+static const char *calls, *how, *recorded, *locks;
+/* In which way the program is wrong, and the file that this is about. */
 static const char *fault, *faulty;
 static unsigned long called, nth;
 static int is_cut, is_full;
@@ -55,12 +66,13 @@ __attribute__((constructor)) static void begin(void) {
     how = given("HOW");
     calls = given("CALLS");
     recorded = given("RECORD");
+    locks = given("LOCKS");
     fault = given("WRONG");
     faulty = strchr(fault, ' ') ? strchr(fault, ' ') + 1 : "";
     if (*calls) alarm(60);
 }
 
-/* What this can't do. */
+/* Ends the process because of something that this file doesn't support. */
 static void die(const char *what, const char *name) {
     dprintf(STDERR_FILENO, "cut.c: %s: %s\n", what, name);
     abort();
@@ -68,7 +80,7 @@ static void die(const char *what, const char *name) {
 
 static int is(const char *way) { return strcmp(how, way) == 0; }
 
-/* The calls by name are watched, so it makes its own by their numbers. */
+/* Calls by name are intercepted, so this file makes its own calls by number. */
 static void list(const char *what, const char *name) {
     if (!*calls) return;
     int file = (int)syscall(SYS_openat, AT_FDCWD, calls, O_WRONLY | O_CREAT | O_APPEND, 0644);
@@ -87,10 +99,10 @@ static int is_wrong(const char *way) {
     return strncmp(fault, way, length) == 0 && fault[length] == ' ';
 }
 
-/* Changes that the sync ahead of them was recorded for. */
+/* True if the next sync was already recorded. */
 static int is_ahead;
 
-/* Whether this changes the file, or the folder, whose syncs are wrong. */
+/* Returns true if this changes the file, or the directory, whose syncs are wrong. */
 static int is_faulty(const char *what, const char *name) {
     if (strcmp(what, "make") != 0) return strcmp(name, faulty) == 0;
     const char *end = strrchr(name, '/');
@@ -118,12 +130,19 @@ static void record_sync(const char *name) {
     record("sync", name, 0, "", 0);
 }
 
+/* Returns true if the mutant leaves this call out. */
+static int is_left_out(const char *what, const char *name) {
+    size_t length = strlen(what);
+    return is_wrong("without") && strncmp(faulty, what, length) == 0 && faulty[length] == ' ' &&
+           strcmp(faulty + length + 1, name) == 0;
+}
+
 static void end(void) {
     syscall(SYS_kill, getpid(), SIGKILL);
     for (;;) pause();
 }
 
-/* The error that the call fails with, or 0. */
+/* Returns the error with which the call fails, or 0. */
 static int error(void) {
     static const struct {
         const char *name;
@@ -132,7 +151,7 @@ static int error(void) {
         {"EACCES", EACCES}, {"EDQUOT", EDQUOT}, {"EFBIG", EFBIG},   {"EINTR", EINTR},   {"EINVAL", EINVAL},
         {"EIO", EIO},       {"EMFILE", EMFILE}, {"ENFILE", ENFILE}, {"ENOLCK", ENOLCK}, {"ENOMEM", ENOMEM},
         {"ENOSPC", ENOSPC}, {"EROFS", EROFS},   {"ESTALE", ESTALE}, {"EAGAIN", EAGAIN}, {"EOPNOTSUPP", EOPNOTSUPP},
-        {"ETIMEDOUT", ETIMEDOUT},
+        {"ETIMEDOUT", ETIMEDOUT}, {"ENOENT", ENOENT}, {"ENOSYS", ENOSYS}, {"ENOTDIR", ENOTDIR}, {"EPERM", EPERM},
     };
     size_t length = strcspn(how, "+");
     for (size_t each = 0; each < sizeof errors / sizeof *errors; each++)
@@ -141,25 +160,55 @@ static int error(void) {
     return 0;
 }
 
-/* Counts a call that is about to be made, and says whether it fails. */
+/* Adds a line for each of the files that another process could lock now. */
+static void try_locks(void) {
+    static const char *const files[] = {"image", "status", "journal", "trace", "out"};
+    for (size_t each = 0; *locks && each < sizeof files / sizeof *files; each++) {
+        int file = (int)syscall(SYS_openat, AT_FDCWD, files[each], O_RDONLY | O_CLOEXEC);
+        if (file < 0) continue;
+        if (syscall(SYS_flock, file, LOCK_EX | LOCK_NB) == 0) list("free", files[each]);
+        syscall(SYS_close, file);
+    }
+}
+
+/* Appends four bytes to a file, as another process, after creating it if these flags say so. */
+static void grow(const char *name, int flags) {
+    int file = (int)syscall(SYS_openat, AT_FDCWD, name, O_WRONLY | O_APPEND | flags, 0644);
+    if (file >= 0 && (syscall(SYS_write, file, "more", 4) != 4 || syscall(SYS_close, file) < 0)) abort();
+}
+
+/* Does what another process does before the call that is interrupted. */
+static void interfere(const char *name) {
+    char old[LENGTH];
+    if (is("grown")) grow(name, 0);
+    if (is("there")) grow(name, O_CREAT);
+    if (is("shrunk") && syscall(SYS_truncate, name, 10) < 0) abort();
+    if (!is("stranger") || snprintf(old, sizeof old, "%s.old", name) >= LENGTH) return;
+    syscall(SYS_renameat, AT_FDCWD, name, AT_FDCWD, old);
+    grow(name, O_CREAT);
+}
+
+/* Counts a call that is about to be made, and returns true if it fails. */
 static int fails(const char *what, const char *name) {
     list(what, name);
+    try_locks();
     is_cut = ++called == nth;
     if (is_cut) list("cut", how);
     if (is_cut && is("before")) end();
+    if (is_cut) interfere(name);
     if (is_cut && strchr(how, '+')) strncpy(broken, name, LENGTH - 1);
     int failure = is_cut || (*broken && strcmp(broken, name) == 0) ? error() : 0;
     errno = failure ? failure : ENOSPC;
     return failure || (is_full && strcmp(what, "write") == 0);
 }
 
-/* What a call that was made answered, unless the process is killed after it. */
+/* Returns the result of a call that was made, unless the process is killed after it. */
 static long made(long answer) {
     if (is_cut && (is("after") || is("one") || is("half") || is("most") || is("last"))) end();
     return answer;
 }
 
-/* So many of a read's or a write's bytes are moved. */
+/* Returns how many bytes of a read or a write are moved. */
 static size_t share(size_t size) {
     if (!is_cut || size < 2) return size;
     if (is("short")) is_full = 1;
@@ -169,23 +218,17 @@ static size_t share(size_t size) {
 
 static const char *name_of(int file) { return file < FILES && names[file][0] ? names[file] : "?"; }
 
-/* What a write answered: so many bytes, which end where the file's position is, or begin at the given one. */
-static long put(int file, const void *bytes, long answer, off_t at) {
+/* Records a write that returned this number. Its bytes end at the file's position, or begin at the given one. */
+static long put(int file, const void *bytes, size_t size, long answer, off_t at) {
     if (at < 0) at = syscall(SYS_lseek, file, 0, SEEK_CUR) - answer;
     if (answer > 0) record_change("write", name_of(file), at, bytes, (size_t)answer);
-    return made(answer);
-}
-
-/* What somebody else does to a file that is there, or that is made so. */
-static void grow(const char *name, int flags) {
-    int file = (int)syscall(SYS_openat, AT_FDCWD, name, O_WRONLY | O_APPEND | flags, 0644);
-    if (file >= 0 && (syscall(SYS_write, file, "more", 4) != 4 || syscall(SYS_close, file) < 0)) abort();
+    int is_lossy = answer > 0 && is_wrong("lossy") && strcmp(name_of(file), faulty) == 0;
+    return made(is_lossy ? (long)size : answer);
 }
 
 static int opened(int folder, const char *name, int flags, mode_t mode) {
     const char *what = (flags & O_ACCMODE) == O_RDWR ? "hold" : flags & O_ACCMODE ? "over" : "open";
     if (fails(flags & O_CREAT ? "make" : what, name)) return -1;
-    if (is_cut && (is("grown") || is("there"))) grow(name, is("there") ? O_CREAT : 0);
     int was_there = syscall(SYS_faccessat, folder, name, F_OK) == 0;
     int file = (int)syscall(SYS_openat, folder, name, flags, mode);
     if (file < 0) return (int)made(file);
@@ -196,7 +239,7 @@ static int opened(int folder, const char *name, int flags, mode_t mode) {
     return (int)made(file);
 }
 
-/* A file's mode is given only where it may be made. */
+/* Returns the mode of a file, which is given only if the file may be created. */
 static mode_t mode_of(int flags, va_list rest) {
     return flags & O_CREAT || (flags & O_TMPFILE) == O_TMPFILE ? va_arg(rest, mode_t) : 0;
 }
@@ -225,11 +268,12 @@ ssize_t write(int file, const void *bytes, size_t size) {
         if (file == STDOUT_FILENO && printed > 0) record("print", "-", 0, bytes, (size_t)printed);
         return printed;
     }
+    if (is_wrong("unlock") && strcmp(name_of(file), faulty) == 0) syscall(SYS_flock, file, LOCK_UN);
     if (fails("write", name_of(file))) return -1;
     size_t skipped = is_cut && is("last") ? size / 2 : 0;
     if (skipped) syscall(SYS_lseek, file, skipped, SEEK_CUR);
     const char *rest = (const char *)bytes + skipped;
-    return put(file, rest, syscall(SYS_write, file, rest, share(size - skipped)), -1);
+    return put(file, rest, size, syscall(SYS_write, file, rest, share(size - skipped)), -1);
 }
 
 ssize_t read(int file, void *bytes, size_t size) {
@@ -238,11 +282,12 @@ ssize_t read(int file, void *bytes, size_t size) {
 }
 
 ssize_t pwrite(int file, const void *bytes, size_t size, off_t at) {
-    return fails("write", name_of(file)) ? -1
-                                         : put(file, bytes, syscall(SYS_pwrite64, file, bytes, share(size), at), at);
+    if (fails("write", name_of(file))) return -1;
+    return put(file, bytes, size, syscall(SYS_pwrite64, file, bytes, share(size), at), at);
 }
 
 static int synced(int file, long call) {
+    if (is_left_out("fsync", name_of(file))) return 0;
     if (fails("fsync", name_of(file))) return -1;
     long answer = syscall(call, file);
     if (answer == 0) record_sync(name_of(file));
@@ -254,17 +299,47 @@ int fsync(int file) { return synced(file, SYS_fsync); }
 int fdatasync(int file) { return synced(file, SYS_fdatasync); }
 
 int ftruncate(int file, off_t length) {
+    if (is_left_out("ftruncate", name_of(file))) return 0;
     if (fails("ftruncate", name_of(file))) return -1;
     long answer = syscall(SYS_ftruncate, file, length);
     if (answer == 0) record_change("length", name_of(file), length, "", 0);
     return (int)made(answer);
 }
 
+/* Duplicates a descriptor. Other commands of fcntl are not calls on a file. */
+int fcntl(int file, int command, ...) {
+    va_list rest;
+    va_start(rest, command);
+    long given_value = va_arg(rest, long);
+    va_end(rest);
+    int is_copy = command == F_DUPFD || command == F_DUPFD_CLOEXEC;
+    if (!is_copy || file <= STDERR_FILENO) return (int)syscall(SYS_fcntl, file, command, given_value);
+    if (fails("dup", name_of(file))) return -1;
+    int copy = (int)syscall(SYS_fcntl, file, command, given_value);
+    if (copy >= FILES) die("more files than it knows", name_of(file));
+    if (copy >= 0) strcpy(names[copy], name_of(file));
+    return (int)made(copy);
+}
+
 int flock(int file, int how_locked) {
+    if (is_left_out("flock", name_of(file))) return 0;
     return fails("flock", name_of(file)) ? -1 : (int)made(syscall(SYS_flock, file, how_locked));
 }
 
-/* Calls that the runtime has and the program doesn't make: a record with one is refused. */
+off_t lseek(int file, off_t by, int from) {
+    if (file <= STDERR_FILENO) return syscall(SYS_lseek, file, by, from);
+    return fails("lseek", name_of(file)) ? -1 : made(syscall(SYS_lseek, file, by, from));
+}
+
+/* Looks at a name, or at an open file if the name is empty. */
+int statx(int folder, const char *name, int flags, unsigned mask, struct statx *found) {
+    int is_open = !*name;
+    if (is_open && folder <= STDERR_FILENO) return (int)syscall(SYS_statx, folder, name, flags, mask, found);
+    if (fails(is_open ? "fstat" : "statx", is_open ? name_of(folder) : name)) return -1;
+    return (int)made(syscall(SYS_statx, folder, name, flags, mask, found));
+}
+
+/* The runtime can make the next three calls, and the program doesn't: lost.py refuses a record with one of them. */
 int fchmod(int file, mode_t mode) {
     if (fails("fchmod", name_of(file))) return -1;
     record("fchmod", name_of(file), 0, "", 0);
@@ -283,10 +358,11 @@ int rename(const char *old, const char *new) {
     return (int)made(syscall(SYS_rename, old, new));
 }
 
-/* A file is closed also where closing it tells a failure. */
+/* A file is closed even if close returns an error. */
 int close(int file) {
     if (file <= STDERR_FILENO) return (int)syscall(SYS_close, file);
     int is_failing = fails("close", name_of(file)), failure = errno;
+    if (is_failing && is_wrong("cached") && strcmp(name_of(file), faulty) == 0) syscall(SYS_ftruncate, file, 1);
     int answer = (int)made(syscall(SYS_close, file));
     errno = is_failing ? failure : errno;
     return is_failing ? -1 : answer;
@@ -298,3 +374,5 @@ int openat64(int folder, const char *name, int flags, ...) __attribute__((alias(
 int creat64(const char *name, mode_t mode) __attribute__((alias("creat")));
 ssize_t pwrite64(int file, const void *bytes, size_t size, off_t at) __attribute__((alias("pwrite")));
 int ftruncate64(int file, off_t length) __attribute__((alias("ftruncate")));
+int fcntl64(int file, int command, ...) __attribute__((alias("fcntl")));
+off_t lseek64(int file, off_t by, int from) __attribute__((alias("lseek")));

@@ -1,68 +1,93 @@
 # shellcheck shell=bash disable=SC2154
-# What run.sh holds a run to of which one call is cut off. Each function takes the call's number in
-# `made`, the call itself, and the way in which it is cut off, as far as it needs them.
+# The requirements of run.sh for a run with one interrupted call. Each function takes the call's number in `made`, the
+# call itself, and the way in which it is interrupted, or the first of these.
 
-# The chip has this file before the run.
+# Succeeds if the chip has this file before the run.
 was_there() { [[ $1 == image && ${from[0]} != - || $1 == status && ${from[1]} != - ]]; }
 
-# The ways in which the call of this number is cut off. One that reads leaves nothing, so it is only made to fail or to
-# read less, and of the many that a chip of 8 MiB takes those of its layout alone. A file that grew since it was read is
-# cut to its length, and one that wasn't there and is made by somebody else stays as it is. The bytes of a write may
-# come in any order into a file that has all of them already, and not into one that grows.
+# Succeeds if this is one of the chip's files.
+is_chips() { [[ $1 == image || $1 == status ]]; }
+
+# Succeeds if the session is over when this call is made, so that the chip's files are written and it prints its result.
+is_late() { (($1 > called)); }
+
+# Prints the ways in which the call of this number is interrupted.
+# A call that reads leaves nothing, so it only fails or reads less; for a chip of 8 MiB only reads of the layout do.
+# Calls that look at a file are interrupted only in some runs, which are `deep`. A file that has grown since it was read
+# must be truncated to its length. If a file is long enough already, a write's bytes may become durable in any order.
 ways() {
-    local call=${made[$1 - 1]:-none} later=${made[*]:$1}
+    local call=${made[$1 - 1]:-none} name
+    name=${call#* }
     case $call in
-        read*) [[ $chip != $on_tiny* && $call != *layout ]] || echo EIO ESTALE part ;;
+        'open /') [[ -z $deep ]] || echo before after EACCES EIO EMFILE ENFILE ENOMEM EINTR ;;
+        statx* | fstat*)
+            [[ -z $deep ]] || echo EIO
+            [[ $run != one_byte* || $call == fstat* ]] || echo ESTALE ENOENT ENOTDIR
+            ;;
+        read*) [[ $chip != $on_tiny* && $name != *layout ]] || echo EIO ESTALE part ;;
         write*)
             echo before one half most after ENOSPC EDQUOT EFBIG EIO short part
-            ! was_there "${call#* }" || echo last
+            ! was_there "$name" || echo last
             ;;
-        'fsync .') echo before after ENOSPC EIO EDQUOT ESTALE ETIMEDOUT EINVAL EOPNOTSUPP ;;
-        fsync*) echo before after ENOSPC EIO EDQUOT ;;
-        'open .') echo before after EACCES EIO EMFILE ;;
+        'fsync .') echo before after ENOSPC EIO EDQUOT ESTALE ETIMEDOUT EINVAL EOPNOTSUPP ENOSYS EINTR ;;
+        fsync*) echo before after ENOSPC EIO EDQUOT EINTR ;;
+        'open .') echo before after EACCES EPERM EIO EMFILE ENFILE ENOMEM EINTR ;;
         open* | hold*)
             echo before after EACCES EIO EMFILE ENFILE ESTALE ENOMEM EINTR
             [[ $call != hold* ]] || echo EMFILE+ ESTALE+
             ;;
-        flock*) echo before after EAGAIN ENOLCK EOPNOTSUPP ;;
-        over* | make*)
+        dup*) echo before EIO EMFILE ;;
+        lseek*) echo before EIO ;;
+        flock*) echo before after EAGAIN EIO ENOLCK EOPNOTSUPP ENOSYS ;;
+        make*)
             echo before after EACCES EROFS ENOSPC EIO EMFILE EINTR
-            case $call in
-                'make journal') echo there ;;
-                'make image' | 'make status') if was_there "${call#* }"; then echo grown; else echo there; fi ;;
-                over*) [[ $later != *"ftruncate ${call#* }"* ]] || echo grown ;;
-            esac
+            ! is_chips "$name" && [[ $name != journal ]] || echo there
             ;;
-        close*) echo before after EIO ;;
+        over* | close*) echo before after EIO ;;
         *) echo before after ENOSPC EIO ;;
+    esac
+    ! is_late "$1" || ! is_chips "$name" || case $call in write* | ftruncate* | lseek*) echo grown ;; esac
+    ! can_be_replaced "$1" "$call" || echo stranger
+    [[ $call,${made[$1 - 2]:-} != 'statx journal,fsync journal' ]] || echo shrunk
+}
+
+# Succeeds if another file may take the name of this call's file before the call: of an image or status that is being
+# written, or of a journal.
+can_be_replaced() {
+    case $2 in
+        write*image | write*status | ftruncate*image | ftruncate*status | fsync*image | fsync*status) is_late "$1" ;;
+        write*journal | fsync*journal) [[ -z $sealed ]] ;;
+        statx*) [[ ${made[$1 - 2]:-} == "fsync ${2#* }" ]] && { is_late "$1" || [[ $2 == *journal ]]; } ;;
+        *) return 1 ;;
     esac
 }
 
-# The file for which this call opens, syncs or closes a folder: the one that was worked on before it, or of those that
-# aren't there the next one.
+# Prints the file for which this call opens, syncs or closes a directory: the last one that was worked on before.
 owner_of() {
-    local i asked=0
+    local i
     for ((i = $1 - 2; i >= 0; i--)); do
         case ${made[i]} in
             *' image' | *' status' | *' journal') echo "${made[i]#* }" && return ;;
-            'fsync .') asked=$((asked + 1)) ;;
         esac
     done
-    if ((asked == 0)); then echo image; else echo status; fi
 }
 
-# The lines that tell how the call of this number failed.
+# Prints the lines that report how the call of this number failed.
 lines_of() {
-    local name=${2#* }
+    local name=${2#* } memory='Error 18: out of memory.'
     [[ $name != . ]] || name=$(owner_of "$1")
     case $3,$2 in
         there,*journal) echo "File fault 4: $name." ;;
-        EAGAIN,flock*) echo "File fault 5: $name." ;;
-        ENOMEM,open* | ENOMEM,read*) echo 'Error 18: out of memory.' ;;
-        *,open* | *,read* | *+,hold*) echo "File fault 1: $name." ;;
+        EAGAIN,flock*) echo "File fault $(is_late "$1" && echo 2 || echo 5): $name." ;;
+        *,'open /') echo 'File fault 1: /.' ;;
+        *,'read trace' | *,'read out') echo "File fault 2: $name." ;;
+        *,flock* | *,'make journal' | *,'open .' | *,'fsync .') echo "File fault 2: $name." ;;
+        *,statx* | *,fstat*) line_of_look "$1" "$name" "$3" ;;
+        ENOMEM,open* | ENOMEM,read*) echo "$memory" ;;
+        *,open* | *,read* | *,dup* | *,'lseek journal' | *+,hold*) echo "File fault 1: $name." ;;
         short,'write out') echo 'Error 19: output failed after 32768 bytes.' ;;
         *,'write out') echo 'Error 19: output failed after 0 bytes.' ;;
-        *,'make journal' | *' .') echo "File fault 2: $name." ;;
+        *,'lseek image' | *,'lseek status') echo "File fault $(is_late "$1" && echo 2 || echo 1): $name." ;;
         *journal) echo 'Error 11: journal not written.' ;;
         short,*) ;;
         *) echo "File fault 2: $name." ;;
@@ -70,7 +95,36 @@ lines_of() {
     [[ $3 != short ]] || lines_without_room "$1"
 }
 
-# Where a write has no room the ones behind it have none either.
+# Prints the line for a look at this name that failed. After a sync, the name must still refer to the file. A file that
+# is to be written must be regular, or neither be there nor be a link. Other names are compared before the run works.
+line_of_look() {
+    case ${made[$1 - 2]:-},${made[$1 - 1]},${made[$1]:-},$3 in
+        'fsync journal',* | 'statx journal','fstat journal',*) echo 'Error 11: journal not written.' ;;
+        fsync* | statx*,fstat* | hold* | *,hold*,ENOENT) echo "File fault 2: $2." ;;
+        "statx $2,statx $2,open ."*) echo "File fault 2: $2." ;;
+        *) echo "File fault 1: $2." ;;
+    esac
+}
+
+# Succeeds if the run goes on after this look failed:
+# - The length of a file that is read is only a hint.
+# - Before a file is read, and before one is opened for the trace or for -r, the program asks whether it is a FIFO.
+# - Before names are compared, it asks whether the journal's file is there; after it, whether new files are there.
+# - Standard output and error have no names without /proc.
+# - The journal's permissions are compared with those of two files.
+is_hint() {
+    [[ $2 != *' /proc/self/fd/'[12] ]] || return 0
+    case ${made[$1 - 2]:-},$2,${made[$1]:-} in
+        open*,fstat*,* | lseek*,fstat*,* | flock*,statx*,* | *,statx*,'make '* | *,statx*,'open '[!.]*) ;;
+        'open /','statx journal',* | ,'statx journal',*) ;;
+        *,fstat*,'make journal' | *,'fstat image','fstat status' | *,'fstat image','make status') ;;
+        *,hold* | fsync*) return 1 ;;
+        *,statx*,*) [[ $3 == ENOENT || $3 == ENOTDIR ]] ;;
+        *) return 1 ;;
+    esac
+}
+
+# Prints the lines for all writes from this one on, since a write without disk space is followed by others without it.
 lines_without_room() {
     local name later
     later=$(printf '%s\n' "${made[@]:$1 - 1}")
@@ -79,32 +133,95 @@ lines_without_room() {
     done
 }
 
-# Just those lines were told, where the chip's files, or the trace, are written behind what the run told of its own end.
+# Succeeds if the run printed only those lines, and left the files that it must leave. Its result is printed too if the
+# session was over, or if only the trace was not written.
 is_told() {
     local printed='' faults
     faults=$(lines_of "$@")
-    if (($1 > called)) || [[ $2 == 'write trace' ]]; then
+    if is_late "$1" || [[ $2 == 'write trace' ]]; then
         if [[ $answer == Error* ]]; then faults=$answer$'\n'$faults; else printed=$answer; fi
+        is_left_but_for "$faults" || return 1
+    else
+        is_untouched || return 1
     fi
     [[ $ended == 1 && $(< said) == "$printed" && $(< faults) == "$faults" ]]
 }
 
-# Nothing was said yet by a run that was killed, unless it had only to close files.
+# Succeeds if these files are as the run leaves them when nothing is interrupted.
+is_as_own() {
+    local file
+    for file in "$@"; do
+        if [[ -e $own/$file ]]; then cmp -s "$file" "$own/$file"; else [[ ! -e $file ]]; fi || return 1
+    done
+}
+
+# Succeeds if that is so for all files, except for those of which these lines report that they were not written.
+is_left_but_for() {
+    local file
+    for file in "${files[@]}"; do
+        [[ $1 == *"File fault 2: $file."* ]] || is_as_own "$file" || return 1
+    done
+}
+
+# Succeeds if image and status are as before the run. A file that was missing may be that of an erased chip, or reported
+# as not written.
+is_untouched() {
+    local i file=(image status) erased=(erased clear)
+    for i in 0 1; do
+        if [[ ${from[i]} != - ]]; then
+            cmp -s "${file[i]}" "../${from[i]}" || return 1
+        elif [[ -e ${file[i]} && $(< faults) != *"File fault 2: ${file[i]}."* ]]; then
+            cmp -s "${file[i]}" "../${erased[i]}" || return 1
+        fi
+    done
+}
+
+# Succeeds if these files are missing, or a prefix of what the run leaves when nothing is interrupted.
+is_prefix() {
+    local file
+    for file in "$@"; do
+        [[ ! -e $file ]] || cmp -s -n "$(stat -c %s "$file")" "$file" "$own/$file" || return 1
+    done
+}
+
+# Succeeds if nothing was printed yet by a run that was killed, unless it had only to close files.
 is_silent() {
     local call
     [[ -s said || -s faults ]] || return 0
     for call in "${made[@]:$1 - 1}"; do [[ $call == close* ]] || return 1; done
 }
 
-# The run ended as it must where this call was cut off so. A failure may pass where a file is closed, and does where a
-# folder can't be opened, or isn't for syncing, where the system knows no locks, and where the call is made again.
+# Succeeds if this file has just the bytes that cut.c wrote as another process.
+has_more() { cmp -s "$1" <(printf more); }
+
+# Succeeds if the run reports that another file has this name, and left that file alone. Its own file must be as it has
+# to be, unless the run created it.
+is_replaced() {
+    local name=${2#* }
+    has_more "$name" || return 1
+    mv "$name.old" "$name"
+    is_told "$1" "$2" EIO || return 1
+    ! was_there "$name" || is_as_own "$name"
+}
+
+# Succeeds if the run ended as it must after this call was interrupted in this way. It ends as if nothing had failed if
+# - a file is closed, since std doesn't return that error, and all files were synced before; or a call is made again,
+# - a directory may not be opened (EACCES, EPERM), or its file system can't sync it,
+# - the file system has no locks,
+# - a name doesn't exist when the program compares names.
 ended_rightly() {
     [[ $(< calls) == *$'\n'"cut $3"* ]] || return 1
+    [[ $3 == last || $3 == stranger ]] || is_prefix trace out || return 1
+    [[ $3 == there || $3 == stranger || -n $sealed ]] || is_prefix journal || return 1
     case $3,$2 in
-        part,* | grown,* | EINTR,* | EINVAL,'fsync .' | EOPNOTSUPP,'fsync .' | E*,'open .') is_own ;;
-        ENOLCK,flock* | EOPNOTSUPP,flock*) is_own ;;
-        there,*) is_told "$@" && [[ $(< "${2#* }") == more ]] ;;
-        E*,close*) is_own || is_told "$@" ;;
+        part,* | grown,* | EINTR,* | E*,close*) is_own ;;
+        EINVAL,'fsync .' | EOPNOTSUPP,'fsync .' | ENOSYS,'fsync .' | EACCES,'open .' | EPERM,'open .') is_own ;;
+        ENOLCK,flock* | EOPNOTSUPP,flock* | ENOSYS,flock*) is_own ;;
+        E*,statx* | E*,fstat*) if is_hint "$1" "$2" "$3"; then is_own; else is_told "$@"; fi ;;
+        E*,'open /') is_told "$@" && ! sed '1,/^cut/d' calls | grep -qv '^close /$' ;;
+        there,*) is_told "$@" && has_more "${2#* }" ;;
+        stranger,*) is_replaced "$@" ;;
+        shrunk,*) is_told "$1" "$2" EIO ;;
         E*,* | short,*) is_told "$@" ;;
         *) [[ $ended == 137 ]] && is_silent "$1" ;;
     esac

@@ -1,15 +1,19 @@
 #!/usr/bin/env bash
-# tests/kill/run.sh [PROGRAM [RUN CALL HOW]]: flashnor killed at each of its calls on files, and with each of them
-# failing, or with the call of this number in one of the runs cut off in one of the ways that cut.c names.
+# tests/kill/run.sh [PROGRAM [RUN [CALL HOW]]]: flashnor killed at each of its calls on files, and with each of them
+# failing; or only the run of this name, or only its call of this number, interrupted in one of the ways of cut.c.
 #
-# Ten sessions, each on a chip in files of given bytes, and the restore of each, from its journal and the chip that it
-# left; and a read and a rehearsal. Left alone they must come to their own end. Cut off they must leave what the manual
-# page's rescue gives back: `--restore` ends with 0, and both files are as before the session; or it tells that a
-# session's journal was cut short, and they are so already. A run that is killed says nothing before all is written. A
-# failing call must be told by its own line, unless all was done nevertheless. Of each run the first time that it loses
-# a chip is told, with the words to do it again alone, and the status is 1. This needs a C compiler.
+# There are ten sessions, each on a chip in files of given bytes, and a restore of each from its journal; and a read and
+# a rehearsal. When nothing is interrupted, they must print and leave what is given here. The requirements for a run
+# with one interrupted call (laws.sh) are:
+#   - It prints nothing before all is written if it is killed, and else its own result or the line of the failure.
+#   - It leaves each file that could be written as it must be: the trace and the file of -r too.
+#   - The rescue of the manual page works: `--restore` ends with status 0, and both files are as before the session; or
+#     it reports an incomplete journal, and they are as before the session already.
+# Of each run the first failure is printed (if ALL is set, each one) with the command that repeats it, and the status is
+# 1.
 #
-# Then the machine is lost while others work (lost.py), whose runs are `lost/..`, and wrong programs are told (self.sh).
+# Checks of their own are the runs `folders`, `locks` and `modes` (checks.sh). After them come host crashes (lost.py),
+# whose runs are `lost/..`, and mutants that must be detected (self.sh). This needs a C compiler.
 set -euo pipefail
 
 top=$(cd "$(dirname "$0")/../.." && pwd)
@@ -38,9 +42,11 @@ mkdir "$work/chip"
 cd "$work/chip"
 # shellcheck source=tests/kill/laws.sh
 . "$top/tests/kill/laws.sh"
+# shellcheck source=tests/kill/checks.sh
+. "$top/tests/kill/checks.sh"
 cc -std=c11 -O1 -shared -fPIC -o ../cut.so "$top/tests/kill/cut.c"
 
-# Ends with the last line and its status.
+# Prints the last line and ends with its status.
 finish() {
     [[ -z $part ]] || exit 1
     echo "kill: $passed passed, $failed failed"
@@ -57,18 +63,19 @@ fail() {
     finish
 }
 
-# Files that were changed by another call couldn't be cut off.
+# A call that cut.c doesn't intercept could not be interrupted.
 changing='open|creat|write|trunc|sync|rename|link|remove|fallocate|splice|tee|sendfile|copy_file|mmap|temp|syscall'
-changing+='|chmod|chown|utime|mkdir|rmdir|mknod|mkfifo|lock'
+changing+='|chmod|chown|utime|mkdir|rmdir|mknod|mkfifo|lock|stat|seek|dup|fcntl'
+files=(image status trace out journal)
 nm -D --undefined-only "$program" > ../symbols || fail "nm tells no calls of $program"
 others=$(awk '{ sub(/@.*/, "", $NF); print $NF }' ../symbols | grep -E "$changing" | grep -v '^pthread_' |
     grep -vxF -f <(nm -D --defined-only ../cut.so | awk '{ print $NF }') || true)
 [[ -z $others ]] || fail "the program makes calls that cut.c doesn't know: ${others//$'\n'/ }"
 
-# So many bytes, each of them this one (in octal).
+# Prints this number of bytes, each with this value (in octal).
 bytes() { head -c "$1" /dev/zero | tr '\000' "\\$2"; }
 
-# Images for chips of 64 KiB and of 8 MiB, FFh where nothing else is put, and status files.
+# Makes images for chips of 64 KiB and of 8 MiB, with FFh in all other bytes, and status files.
 make_files() {
     local tiny=65536 large=8388608 guarded=131072
     bytes $tiny 377 > erased
@@ -86,11 +93,12 @@ make_files() {
     printf '\004\000' > guarding
 }
 
-# The bits of a status file that a restore promises, all but BUSY, WEL and SUS: a chip that was stopped may show these.
+# Prints the bits of a status file that a restore brings back: all except BUSY, WEL and SUS, which a chip may show after
+# a stop.
 kept_bits() { od -An -tu1 "$1" | while read -r one two; do echo $((one & 0xfc)) $((two & 0x7f)); done; }
 
-# The chip's files have image and status of these names. A file that wasn't there may be missing still: an erased chip,
-# and a clear status.
+# Succeeds if the chip's files have these contents. A file that was missing (-) may be missing, or be that of an erased
+# chip.
 have() {
     local image=${1/#-/erased} status=${2/#-/clear}
     [[ $1 == - && ! -e image ]] || cmp -s image "../$image" || return 1
@@ -98,8 +106,8 @@ have() {
         [[ $(stat -c %s status) == 2 && $(kept_bits status) == "$(kept_bits "../$status")" ]]
 }
 
-# Runs the program with these words, and cuts off the call of this number so. What was printed is then in `said` and
-# `faults`, the calls are in `calls`, and `ended` is the status.
+# Runs the program with these arguments, and interrupts the call of this number in this way. Its output is then in
+# `said` and `faults`, the calls are in `calls`, and `ended` is the status.
 attempt() {
     local number=$1 how=$2
     shift 2
@@ -110,22 +118,24 @@ attempt() {
     } 2> killed
 }
 
-# The run starts anew, with the chip's files, where - is none, and for a restore with its journal.
+# Puts the chip's files as they are before the run, where - is none, and for a restore its journal.
 begin() {
-    rm -f image status journal trace out
+    rm -f "${files[@]}" ./*.old
     [[ ${from[0]} == - ]] || cp "../${from[0]}" image
     [[ ${from[1]} == - ]] || cp "../${from[1]}" status
     [[ -z $sealed ]] || cp "$kept" journal
 }
 
-# The run came to its own end.
+# Succeeds if the run ended as it does when nothing is interrupted. Before its files are kept, image and status must be
+# those that it is to make.
 is_own() {
     local printed=said none=faults status=0
     [[ $answer != Error* ]] || printed=faults none=said status=1
-    [[ $ended == "$status" && $(< "$printed") == "$answer" && ! -s $none ]] && have "${to[@]}"
+    [[ $ended == "$status" && $(< "$printed") == "$answer" && ! -s $none ]] || return 1
+    if [[ -d $own ]]; then is_as_own "${files[@]}"; else have "${to[@]}"; fi
 }
 
-# Restores, and where that tells the wrong length of a file that wasn't there before, moves it away and restores again.
+# Restores. A file that the session created and that has the wrong length is moved aside, and the restore is repeated.
 rescue() {
     local i file=(image status)
     attempt 0 '' -p "$chip" --restore journal
@@ -137,7 +147,7 @@ rescue() {
     done
 }
 
-# The chip is given back. Only a session may have left a journal that was cut short, or none.
+# Succeeds if the rescue restores the chip. Only a session may have left an incomplete journal, or none.
 is_given_back() {
     if [[ -e journal ]]; then
         rescue
@@ -148,7 +158,7 @@ is_given_back() {
     fi && have "${before[@]}"
 }
 
-# The chip is given back, here or where another run of the job left the same files: a restore has nothing else to go by.
+# Succeeds if the rescue restores the chip, now or after another run that left the same files.
 is_rescued() {
     local left
     left="files: $(cksum image status journal 2> /dev/null || true)"
@@ -157,14 +167,14 @@ is_rescued() {
     rescued[$left]=yes
 }
 
-# Cuts off the call of this number so, and counts what comes of it.
+# Interrupts the call of this number in this way, and counts the result.
 cut_off() {
     local number=$1 how=$2 call=${made[$1 - 1]:-none} problem=''
     runs=$((runs + 1))
     begin
     attempt "$number" "$how" "${words[@]}"
     ended_rightly "$number" "$call" "$how" ||
-        problem="it ended with $ended, which isn't what it must do. $(cat said faults)"
+        problem="it ended with $ended, or left files, as it must not. $(cat said faults)"
     is_rescued || problem=${problem:-"the chip is lost. --restore ended with $ended. $(cat said faults)"}
     [[ -z $sealed ]] || cmp -s journal "$kept" || problem=${problem:-"its journal was changed"}
     if [[ -z $problem ]]; then
@@ -172,11 +182,11 @@ cut_off() {
         return
     fi
     failed=$((failed + 1)) lost=$((lost + 1))
-    ((lost > 1)) || echo "kill: $run, call $number ($call) cut off, $how: $problem
+    [[ -z ${ALL:-} ]] && ((lost > 1)) || echo "kill: $run, call $number ($call), $how: $problem
 Run it again with: tests/kill/run.sh $program $run $number $how" >&2
 }
 
-# Loses the machine, where no run or one of these is asked for, and sees that wrong programs are told.
+# Tries host crashes, if no other run is asked for, and checks that mutants are detected.
 lose_machines() {
     local status=0 last
     [[ -z $only || $only == lost/* ]] || return 0
@@ -184,7 +194,7 @@ lose_machines() {
         echo "skipped: lost machines, since there is no Python (python3)"
         return
     fi
-    # (words that weren't given are none)
+    # (an argument that was not given is none)
     python3 -B "$top/tests/kill/lost.py" "$program" ../cut.so ${only:+"$only"} ${at:+"$at"} ${way:+"$way"} |
         tee ../machines || status=$?
     last=$(tail -n 1 ../machines)
@@ -199,18 +209,23 @@ lose_machines() {
     passed=$((passed + BASH_REMATCH[1])) failed=$((failed + BASH_REMATCH[2]))
 }
 
-# Does a run once, left alone, and then cuts off each of its calls. Those behind the last one on the journal write the
-# chip's files.
+# Runs once without an interruption, and then interrupts each of the calls. After the last one that writes, reads or
+# looks at the journal, the session begins, and then the chip's files are written.
 cut_each() {
-    local number how runs=0 lost=0 made called
+    local number how runs=0 lost=0 made called own=../own.${run//\//.}
     local -A rescued=()
     begin
     attempt 0 '' "${words[@]}"
-    is_own || fail "$run, left alone, didn't come to its own end, but to $ended: $(cat said faults)"
+    is_own || fail "$run: without an interruption it ended with $ended: $(cat said faults)"
     [[ -s calls ]] || fail "$run makes no call on a file"
     mapfile -t made < calls
-    for ((called = ${#made[@]}; called > 0; called--)); do [[ ${made[called - 1]} != *' journal' ]] || break; done
+    for ((called = ${#made[@]}; called > 0; called--)); do
+        case ${made[called - 1]} in close*) ;; *' journal') break ;; esac
+    done
     ((called > 0)) || called=${#made[@]}
+    mkdir "$own"
+    for how in "${files[@]}"; do [[ ! -e $how ]] || cp "$how" "$own"; done
+    check_order
     [[ -n $sealed || -z $kept ]] || keep_journal
     [[ -z $only || $only == "$run" ]] || return 0
     for ((number = ${at:-1}; number <= ${at:-${#made[@]}}; number++)); do
@@ -219,26 +234,16 @@ cut_each() {
     echo "$run: ${#made[@]} calls, $runs runs, $lost lost"
 }
 
-# Keeps the journal for the restores. It and its folder must have been synced, behind what was made and written, before
-# the chip's files are written. And nothing may pass as given back that isn't: not what a program leaves that does
-# nothing, and no chip with a byte that was changed and that no journal saved.
+# Keeps the journal for the restores. The chip must not pass as restored if the program does nothing, or if a byte
+# differs that no journal saved.
 keep_journal() {
-    local earlier='' call
-    for call in "${made[@]}"; do
-        case $call in make*image | make*status | write*image | write*status) break ;; esac
-        earlier+=$call,
-    done
-    [[ $earlier == *'make journal,'*'fsync .,'* ]] || tell "$run writes the chip's files before . is synced"
-    [[ ${earlier##*write journal,} == *'fsync journal,'* ]] ||
-        tell "$run writes the chip's files before journal is synced"
     cp journal "$kept"
-    ! program=true is_given_back || fail "$run is told as given back by a program that does nothing"
+    ! program=true is_given_back || fail "$run passes as restored by a program that does nothing"
     printf '\132' | dd of=image bs=1 seek=50000 conv=notrunc status=none
-    ! is_given_back || fail "$run is told as given back though another byte was changed"
+    ! is_given_back || fail "$run passes as restored although another byte was changed"
 }
 
-# Begins a part of this name, in a folder of its own, which is done beside others. What it says and counts is shown by
-# `gather`.
+# Begins a part of this name in its own directory. Parts run at the same time; `gather` shows their output and counts.
 begin_part() {
     part=$1 passed=0 failed=0
     trap end_part EXIT
@@ -270,8 +275,8 @@ gather() {
     done
 }
 
-# job NAME CHIP BEFORE AFTER END UNDONE WORDS..: image and status before and after the session, and what it and its
-# restore print at their end. A `stop` is the session's alone.
+# job NAME CHIP BEFORE AFTER END UNDONE ARGUMENTS..: image and status before and after the session, and what it and its
+# restore print. Only the session has the key `stop`.
 job() {
     [[ -z $only || ${only%/restore} == "$1" ]] || return 0
     await_core "$1"
@@ -280,7 +285,8 @@ job() {
 
 cut_session() {
     local stop=$1 run=$2 chip=$3 answer=$6 undone=$7 kept=../$2.journal from to sealed=''
-    local before after words=(-p "$3$1" "${@:8}" --journal journal)
+    local before after deep='' words=(-p "$3$1" "${@:8}" --journal journal)
+    case $run in one_byte | no_files | traced) deep=yes ;; esac
     read -r -a before <<< "$4"
     read -r -a after <<< "$5"
     from=("${before[@]}") to=("${after[@]}")
@@ -290,7 +296,7 @@ cut_session() {
     cut_each
 }
 
-# look NAME CHIP BEFORE END WORDS..: the same of a run that leaves image and status as they are, and keeps no journal.
+# look NAME CHIP BEFORE END ARGUMENTS..: a run that leaves image and status as they are, and creates no journal.
 look() {
     [[ -z $only || $only == "$1" ]] || return 0
     await_core "$1"
@@ -298,73 +304,13 @@ look() {
 }
 
 cut_look() {
-    local run=$1 chip=$2 answer=$4 kept='' sealed='' words=(-p "$2" "${@:5}") before from to
+    local run=$1 chip=$2 answer=$4 kept='' sealed='' deep=yes words=(-p "$2" "${@:5}") before from to
     read -r -a before <<< "$3"
     from=("${before[@]}") to=("${before[@]}")
     cut_each
 }
 
-# The folder that is synced is the one that the journal's name stands in.
-check_folders() {
-    local name folder from=(byte_00 clear) sealed='' kept=''
-    [[ -z $only ]] || return 0
-    mkdir -p a/b
-    for name in journal ./journal ../journal a/journal a/b/journal "$PWD/journal"; do
-        folder=.
-        [[ $name != */* ]] || folder=${name%/*}
-        begin
-        rm -f "$name"
-        attempt 0 '' -p $on_tiny -w ../byte_01 --journal "$name"
-        if [[ $ended == 0 && $(< calls) == *"make $name"$'\n'*"fsync $folder"$'\n'* ]]; then
-            passed=$((passed + 1))
-        else
-            tell "$name was made, and its folder not synced"
-        fi
-    done
-    # For an image right below the root that isn't there the root is, and the run ends before anything is made.
-    begin
-    : > journal
-    attempt 0 '' -p dummy:emulate=TINY64,image=/flashnor.$$ -w ../byte_01 --journal journal
-    if [[ $(< faults) == 'File fault 4: journal.' && $(< calls) == $'open /\nfsync /\n'* ]]; then
-        passed=$((passed + 1))
-    else
-        tell "/flashnor.$$ isn't there, and its folder not synced. $(cat said faults)"
-    fi
-}
-
-# Where another run holds one of the chip's files no session and no restore begins.
-check_locks() {
-    local file from=(byte_00 clear) sealed='' kept=''
-    [[ -z $only ]] || return 0
-    if ! command -v flock > /dev/null; then
-        echo "skipped: the chip's files held by another run, since there is no flock"
-        return
-    fi
-    for file in image status; do
-        begin
-        "$program" -p $on_tiny -w ../byte_01 --journal journal > said
-        # (the words are run while the file is held)
-        local while_held=(flock --no-fork --nonblock "$file" "$program" -p "$on_tiny")
-        is_refused "$file" "${while_held[@]}" --restore journal
-        rm journal
-        is_refused "$file" "${while_held[@]}" -w ../byte_00 --journal journal
-    done
-}
-
-# These words tell that the file is taken, and leave the chip of the session before, and no journal that wasn't there.
-is_refused() {
-    local status=0 files
-    files=$(ls)
-    "${@:2}" > said 2> faults || status=$?
-    [[ $(ls) == "$files" ]] && have byte_01 clear || status=$status,changed
-    if [[ $status == 1 && ! -s said && $(< faults) == "File fault 5: $1." ]]; then
-        passed=$((passed + 1))
-    else
-        tell "$1 was held by another run, and this one ended with $status. $(cat said faults)"
-    fi
-}
-
-# What is printed at the end of a change of a chip of 64 KiB, and of one of 8 MiB, with these counts.
+# Prints the result of a change of a chip of 64 KiB, and of one of 8 MiB, with these counts.
 counts() { printf 'Done: touched %s, erases %s, programs %s, transactions %s.' "$@"; }
 tiny() { printf 'Found SFDP (fe1010), 65536 bytes.\n%s' "$(counts "$@")"; }
 large() { printf 'Found W25Q64FV (ef4017), 8388608 bytes.\n%s' "$(counts "$@")"; }
@@ -392,8 +338,9 @@ look read $traced 'byte_00 clear' $'Found SFDP (fe1010), 65536 bytes.\nRead 6553
 look rehearse $traced 'byte_00 clear' $'Rehearsal: session stopped.\nRestores: 1.\nChip as before.' \
     -w ../byte_01 --rehearse 25
 gather
-check_folders
-check_locks
+check folders
+check locks
+check modes
 lose_machines
 ((passed + failed > 0)) || fail "there is no such run or call"
 finish

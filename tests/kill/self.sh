@@ -1,9 +1,11 @@
 #!/usr/bin/env bash
-# tests/kill/self.sh PROGRAM LIBRARY: whether lost.py tells what is wrong. PROGRAM is right, and LIBRARY, which is
-# cut.c, records of it what a wrong program does: one that doesn't sync a file or a folder at all, once only, not before
-# its session, or ahead of what it writes. Then come programs that restore nothing, or refuse to. Each must be told by
-# its way of losing a chip. And disk.py must make all that a disk may hold of made-up files, and nothing else, and a
-# program that prints too early must be told where it is killed. The last line is `N passed, M failed`.
+# tests/kill/self.sh PROGRAM LIBRARY: checks that the crash test detects mutants of PROGRAM, which is right.
+#
+# LIBRARY, which is cut.c, makes the mutants. Those for lost.py don't sync a file or a directory at all, sync it only
+# once, not before the session, or before its contents are written; other programs restore nothing, or refuse to. Each
+# must be detected by its way of losing a chip. Those for run.sh don't truncate the image, ignore a short write, lose
+# bytes when a close fails, unlock a file too early or don't lock it, or print before they work. And disk.py must make
+# exactly the contents that a disk may have after a host crash. The last line is `N passed, M failed`.
 set -uo pipefail
 export LC_ALL=C CHOICES=4
 
@@ -59,10 +61,24 @@ int main(int count, char **words) {
 EOT
     said=$(bash "$top/tests/kill/run.sh" "$work/hasty" one_byte 5 after 2>&1)
     status=$?
-    if [[ $status == 1 && $said == *'it ended with 137, which isn'*' Done'* ]]; then
+    if [[ $status == 1 && $said == *'it ended with 137, or left files, as it must not. Done'* ]]; then
         passed=$((passed + 1))
     else
         echo "FAILED: kill/self.sh: a program that prints before it works: status $status, and $said"
+        failed=$((failed + 1))
+    fi
+}
+
+# detected MUTANT REPORT ARGUMENTS..: run.sh with these arguments must report this for this mutant (WRONG in cut.c).
+detected() {
+    local said status
+    said=$(WRONG=$1 bash "$top/tests/kill/run.sh" "$program" "${@:3}" 2>&1)
+    status=$?
+    if [[ $status == 1 && $said == *"$2"* ]]; then
+        passed=$((passed + 1))
+        echo "detected: $1"
+    else
+        echo "FAILED: kill/self.sh: the mutant '$1' is not detected: status $status, and $said"
         failed=$((failed + 1))
     fi
 }
@@ -117,5 +133,11 @@ wrong 'never chip' deleted "$late" "the folder of an image that was deleted is n
 restoring 'exit 0' two_sessions "whole journal; --restore told ''" "a program that restores nothing"
 restoring "echo 'Error 15: journal fault 1.' >&2; exit 1" two_sessions " a whole journal; .*Error 15" "one that refuses"
 hasty
+detected 'without ftruncate image' "image isn't truncated after its last write" one_byte 1 before
+detected 'lossy out' '(write out), part: it ended with 0, or left files' read '' part
+detected 'lossy trace' '(write trace), part: it ended with 0, or left files' read '' part
+detected 'cached out' '(close out), EIO: it ended with 0, or left files' read '' EIO
+detected 'unlock image' 'session: image is not locked at the call write image' locks
+detected 'without flock journal' 'restore: journal is not locked at the call read journal' locks
 echo "$passed passed, $failed failed"
 ((failed == 0))

@@ -1,8 +1,9 @@
-/* Refuses allocations of a program before which it is loaded (LD_PRELOAD): the one whose number, counted from 1, is in
-   REFUSE, where 0 is none; and where SPAN names a file, every one from the moment in which that file was made, or was
-   closed after it was read, until the next file is opened, which a folder isn't. It asks for memory itself at the start
-   of such a span, so that there is one to refuse. Where the program ends, the file that COUNTED names says how many
-   were asked for, how many were refused, how many spans there were, and which file ended the last one. */
+/* Refuses allocations of the program into which it is loaded (LD_PRELOAD): the one whose number, counted from 1, is in
+   REFUSE (0 is none). If SPAN names a file, it also refuses every allocation from the moment in which that file was
+   created, or was closed after it was read, until another file is opened or written (a directory does not count). At
+   the start of such a span it allocates once itself, so that there is one to refuse. When the program ends, the file
+   that COUNTED names gets the number of allocations, of refused ones and of spans, and the file that ended the last
+   span. */
 #define _GNU_SOURCE
 #include <errno.h>
 #include <fcntl.h>
@@ -20,8 +21,12 @@ extern void *__libc_realloc(void *block, size_t size);
 
 static unsigned long asked, refused, spans, nth;
 static const char *span;
-static int is_span, read_from = -1;
-static char until[64] = "none";
+static int is_span;
+enum { FILES = 64, LENGTH = 64 };
+static char until[LENGTH] = "none";
+/* The names of open files, and whether each was created. */
+static char names[FILES][LENGTH];
+static int is_new[FILES];
 
 __attribute__((constructor)) static void begin(void) {
     const char *number = getenv("REFUSE");
@@ -50,7 +55,7 @@ void *malloc(size_t size) { return is_refused() ? NULL : __libc_malloc(size); }
 void *calloc(size_t count, size_t size) { return is_refused() ? NULL : __libc_calloc(count, size); }
 void *realloc(void *block, size_t size) { return is_refused() ? NULL : __libc_realloc(block, size); }
 
-/* A compiler may drop a call whose memory isn't used, but none through a pointer that may change. */
+/* A compiler may remove a call whose memory is not used, but not a call through a pointer that may change. */
 static void *(*volatile ask)(size_t) = malloc;
 
 static void begin_span(void) {
@@ -66,15 +71,21 @@ static int is_folder(int folder, const char *name) {
     return fstatat(folder, name, &found, 0) == 0 && S_ISDIR(found.st_mode);
 }
 
+static void end_span(const char *name) {
+    if (!is_span) return;
+    is_span = 0;
+    snprintf(until, sizeof until, "%s", name);
+}
+
+static int is_watched(int file) { return span && file >= 0 && file < FILES && strcmp(names[file], span) == 0; }
+
 static int opened(int folder, const char *name, int flags, mode_t mode) {
-    if (is_span && !is_folder(folder, name)) {
-        is_span = 0;
-        snprintf(until, sizeof until, "%s", name);
-    }
+    if (!is_folder(folder, name)) end_span(name);
     int file = (int)syscall(SYS_openat, folder, name, flags, mode);
-    if (file < 0 || !span || strcmp(name, span) != 0) return file;
-    if (flags & O_CREAT) begin_span();
-    else read_from = file;
+    if (file < 0 || file >= FILES) return file;
+    snprintf(names[file], LENGTH, "%s", name);
+    is_new[file] = (flags & O_CREAT) != 0;
+    if (is_watched(file) && is_new[file]) begin_span();
     return file;
 }
 
@@ -94,14 +105,31 @@ int openat(int folder, const char *name, int flags, ...) {
     return opened(folder, name, flags, mode);
 }
 
+int fcntl(int file, int command, ...) {
+    va_list rest;
+    va_start(rest, command);
+    long given = va_arg(rest, long);
+    va_end(rest);
+    int answer = (int)syscall(SYS_fcntl, file, command, given);
+    int is_copy = command == F_DUPFD || command == F_DUPFD_CLOEXEC;
+    if (!is_copy || file < 0 || file >= FILES || answer < 0 || answer >= FILES || answer == file) return answer;
+    memmove(names[answer], names[file], LENGTH);
+    is_new[answer] = is_new[file];
+    return answer;
+}
+
+ssize_t write(int file, const void *bytes, size_t size) {
+    if (file > STDERR_FILENO && file < FILES && !is_watched(file)) end_span(names[file]);
+    return syscall(SYS_write, file, bytes, size);
+}
+
+/* A file that is read through a copy of its descriptor is read when the first of both is closed. */
 int close(int file) {
     int answer = (int)syscall(SYS_close, file);
-    if (file == read_from) {
-        read_from = -1;
-        begin_span();
-    }
+    if (is_watched(file) && !is_new[file] && spans == 0) begin_span();
     return answer;
 }
 
 int open64(const char *name, int flags, ...) __attribute__((alias("open")));
 int openat64(int folder, const char *name, int flags, ...) __attribute__((alias("openat")));
+int fcntl64(int file, int command, ...) __attribute__((alias("fcntl")));

@@ -1,17 +1,19 @@
 #!/usr/bin/env bash
-# tests/sweep/run.sh [PROGRAM [RUN NUMBER]]: flashnor with each of its allocations refused in turn, or with the one of
-# this number in one of the runs (0 refuses none).
+# tests/sweep/run.sh [PROGRAM [RUN [NUMBER]]]: flashnor with each of its allocations refused in turn, or one run with
+# only the allocation of this number refused (0 refuses none).
 #
-# Four runs on a TINY64 of given bytes. Each is done once with all its memory, and must then come to its own answer, and
-# once for each allocation that it asked for, which refuse.c refuses. Then the answer is the run's own, or status 1 with
-# one of the lines that tell of want of memory; and unless that line says that a file couldn't be written, the image
-# file has its bytes from before.
+# There are four runs on a TINY64 of given bytes. Each is done once with all its memory, and must then print and leave
+# what is given here. It is repeated for each of its allocations, which refuse.c refuses. Then it does the same, or ends
+# with status 1 and one of the lines for a lack of memory. Image and status must be as before the run, except for a file
+# of which the line says that it was not written. A journal that is left must be complete and restore the chip, or else
+# be a prefix of that journal.
 #
-# Four sessions more, and the restore of each, are refused every allocation from the moment in which the journal's file
-# was made, or closed after it was read, until the next file is opened. Each comes to its own answer.
+# Four more sessions and their restores are refused every allocation from the moment in which the journal's file was
+# created, or closed after it was read, until the chip's file is written. Each must print and leave what is given here.
 #
-# The first run that does something else, or in which nothing was refused, is told, with the words to run it again
-# alone, and the status is 1. This needs a C compiler, and no test can make the allocator refuse.
+# The first run that does something else, or in which nothing was refused, is printed with the command that repeats it,
+# and the status is 1. Programs that report another file or change the chip must be detected (the run `wrong`). This
+# needs a C compiler; no test can make the allocator refuse.
 set -euo pipefail
 
 top=$(cd "$(dirname "$0")/../.." && pwd)
@@ -36,7 +38,7 @@ trap 'rm -rf "$work"' EXIT
 cd "$work"
 cc -std=c11 -Wall -Wextra -O1 -shared -fPIC -o refuse.so "$top/tests/sweep/refuse.c"
 
-# Ends the sweep with its last line: all passed but as many as are given.
+# Ends the sweep with its last line. Its argument is the number of runs that failed.
 finish() {
     echo "sweep: $passed passed, $1 failed"
     exit "$1"
@@ -47,15 +49,16 @@ fail() {
     finish 1
 }
 
-# Memory that was taken in another way couldn't be refused.
+# Memory that is allocated in another way could not be refused.
 nm -D --undefined-only "$program" > symbols || fail "nm tells no calls of $program"
 others=$(grep -owE 'mmap|mmap64|s?brk|aligned_alloc|posix_memalign|memalign|valloc|reallocarray' symbols | xargs || true)
 [[ -z $others ]] || fail "the program takes memory by $others too, which refuse.c doesn't refuse"
 
-# So many bytes, each of them this one (in octal).
+# Prints this number of bytes, each with this value (in octal).
 bytes() { head -c "$1" /dev/zero | tr '\000' "\\$2"; }
 
-# Images of the chips, a layout, and the status that guards the last 128 KiB of 8 MiB. FFh stands where nothing is said.
+# Makes images for the chips, with FFh in all other bytes, a layout, and the status that protects the last 128 KiB of an
+# 8 MiB chip.
 make_files() {
     local large=8388608 place=8257536
     bytes $size 377 > erased
@@ -68,20 +71,20 @@ make_files() {
     bytes $large 377 > large_ff
     { bytes $place 377; bytes 1 000; bytes $((large - place - 1)) 377; } > guarded_00
     printf '\004\000' > guarding
+    printf '\000\000' > clear
     echo '0x800:0x8ff bios' > layout
 }
 
-# The chip has these bytes, the image `wanted` is this one, and there is no journal.
+# Puts these bytes into the chip and this image into `wanted`, and removes the journal.
 begin() {
     cp "$1" chip.bin
     cp "$2" wanted
-    cp guarding status.bin
+    cp "$bits" status.bin
     rm -f journal
 }
 
-# Runs the words on the chip, and refuses the allocation of this number, and those of spans at the journal's file. What
-# was printed is then in `said` and `faults`, and what was asked for and refused in `asked`, `refused`, `spans` and
-# `until`.
+# Runs with these arguments, and refuses the allocation of this number and those of spans at this journal. The output is
+# then in `said` and `faults`, and the counts of refuse.c in `asked`, `refused`, `spans` and `until`.
 attempt() {
     local number=$1 journal=$2
     shift 2
@@ -92,7 +95,7 @@ attempt() {
     [[ ! -s count ]] || read -r asked refused spans until < count
 }
 
-# Ends the sweep with what isn't as it must be. Without a number it was refused every allocation of a span.
+# Ends the sweep with what is wrong. Without a number, every allocation of a span was refused.
 differs() {
     {
         echo "sweep: $run with allocation ${number:-after allocation} refused: $*; the status is $status. It printed"
@@ -102,51 +105,86 @@ differs() {
     finish 1
 }
 
-# The run came to its own answer.
+# Succeeds if the run printed what it prints with all its memory.
 is_own() { [[ $status == 0 && ! -s faults && $(cat said) == "$answer" ]]; }
 
-# Sets `kind` to what was told of want of memory, or is false. Only a file that couldn't be written is told after the
-# call's own messages.
+# Sets `kind` to the report of a lack of memory, and `unwritten` to the chip's file that was not written. Fails if the
+# output is anything else. Only such a file is reported after the run's result.
 tells_memory() {
     local last
-    last=$(tail -n 1 faults)
+    unwritten=''
+    last=$(cat faults)
     case $last in
         'Usage fault 10.' | 'Layout fault 7.') kind=${last%.} ;;
-        'Error 18: out of memory.' | 'Error 11: journal not written.' | 'File fault '[12]': '*.) kind=${last%%:*} ;;
+        'Error 18: out of memory.' | 'Error 11: journal not written.') kind=${last%%:*} ;;
+        'File fault 1: chip.bin.' | 'File fault 1: status.bin.') kind=${last%%:*} ;;
+        'File fault 2: journal.') kind=${last%%:*} ;;
+        'File fault 1: wanted.' | 'File fault 1: layout.') is_given "${last:14:6}" && kind=${last%%:*} || return 1 ;;
+        'File fault 2: chip.bin.' | 'File fault 2: status.bin.')
+            kind=${last%%:*} unwritten=${last#*: }
+            unwritten=${unwritten%.}
+            ;;
         *) return 1 ;;
     esac
-    [[ $status == 1 ]] || return 1
-    [[ $kind == 'File fault 2' || (! -s said && $(wc -l < faults) == 1) ]]
+    [[ $status == 1 && $(cat said) == "${unwritten:+$answer}" ]]
 }
 
-# sweep RUN BEFORE IMAGE AFTER ANSWER WORDS..: the chip's bytes before, the image, and the chip's bytes and the output
-# of the run's own answer.
+# Succeeds if this file is among the run's arguments.
+is_given() { [[ " ${words[*]} " == *" $1 "* ]]; }
+
+# Ends the sweep if chip, status or journal is not as it must be after a report of a lack of memory.
+check_left() {
+    local file left=([0]="$before" [1]="$bits")
+    [[ -z $unwritten ]] || left=([0]="$after" [1]="$bits")
+    [[ $unwritten == chip.bin ]] || cmp -s chip.bin "${left[0]}" || differs "the image file was changed"
+    [[ $unwritten == status.bin ]] || cmp -s status.bin "${left[1]}" || differs "the status file was changed"
+    if [[ -e journal && -e saved ]] && cmp -s journal saved; then
+        restores 0 ''
+    elif [[ -n $unwritten && -e saved ]]; then
+        differs "its journal isn't complete"
+    elif [[ -e journal ]]; then
+        file=$(stat -c %s journal)
+        { [[ -e saved ]] && cmp -s -n "$file" journal saved; } || differs "its journal is no prefix of the right one"
+        restores 1 'Error 15: journal fault 1.'
+    fi
+}
+
+# Ends the sweep if the restore doesn't end so, or the chip is not as before then.
+restores() {
+    local ended=0
+    "$program" -p "$chip" --restore journal > restored 2> unrestored || ended=$?
+    [[ $ended == "$1" && $(cat unrestored) == "$2" ]] || differs "the restore ended with $ended: $(cat unrestored)"
+    { cmp -s chip.bin "$before" && cmp -s status.bin "$bits"; } || differs "the restore leaves another chip"
+}
+
+# sweep RUN BEFORE IMAGE AFTER ANSWER ARGUMENTS..: the chip's bytes before, the image, the chip's bytes after, and the
+# output of the run with all its memory.
 sweep() {
-    run=$1 answer=$5 chip=$tiny
-    local before=$2 image=$3 after=$4 number=0 most own=0 kind
+    run=$1 answer=$5 chip=$tiny bits=clear
+    local before=$2 image=$3 after=$4 number=0 most own=0 kind unwritten words=("${@:6}")
     local -A told=()
-    shift 5
     [[ -z $only || $only == "$run" ]] || return 0
     begin "$before" "$image"
-    attempt 0 '' "$@"
-    { is_own && cmp -s chip.bin "$after"; } || differs "that isn't its own answer"
+    attempt 0 '' "${words[@]}"
+    { is_own && cmp -s chip.bin "$after" && cmp -s status.bin "$bits"; } || differs "that isn't its own answer"
     ((asked > 0)) || differs "no allocation was counted"
     most=$asked
     rm -f saved
     [[ ! -e journal ]] || cp journal saved
     for ((number = ${at:-1}; number <= ${at:-$most}; number++)); do
         begin "$before" "$image"
-        attempt "$number" '' "$@"
+        attempt "$number" '' "${words[@]}"
         ((refused == (number > 0))) || differs "$refused allocations were refused"
         if is_own; then
             cmp -s chip.bin "$after" || differs "the image file isn't what its own answer leaves"
+            cmp -s status.bin "$bits" || differs "the status file isn't what its own answer leaves"
             [[ ! -e saved ]] || cmp -s journal saved || differs "the journal isn't that of its own answer"
             own=$((own + 1))
         elif tells_memory; then
-            [[ $kind == 'File fault 2' ]] || cmp -s chip.bin "$before" || differs "the image file was changed"
+            check_left
             told[$kind]=$((${told[$kind]:-0} + 1))
         else
-            differs "that is neither its own answer nor want of memory"
+            differs "that is neither its own answer nor a lack of memory"
         fi
         passed=$((passed + 1))
     done
@@ -157,10 +195,11 @@ sweep() {
     fi
 }
 
-# span RUN CHIP BEFORE AFTER ANSWER UNDONE WORDS..: the chip's bytes before and after, and the output of a session and
-# of its restore.
+# span RUN CHIP BEFORE AFTER ANSWER UNDONE ARGUMENTS..: the chip's bytes before and after, and the output of a session
+# and of its restore.
 span() {
-    run=$1 chip=$2 answer=$5
+    run=$1 chip=$2 answer=$5 bits=clear
+    [[ $chip == "$tiny" ]] || bits=guarding
     local before=$3 after=$4 undone=$6 number='' in_session
     shift 6
     [[ -z $only || $only == "$run" ]] || return 0
@@ -172,29 +211,56 @@ span() {
     echo "$run: each allocation refused, $in_session of the session, $((refused - spans)) of its restore; no difference"
 }
 
-# Runs the words with every allocation refused while only the journal is at hand. The run comes to its own answer.
+# Runs with these arguments and every allocation refused while only the journal is used.
 attempt_without_memory() {
     local bytes=$1
     shift
     attempt 0 journal "$@"
     ((spans == 1)) || differs "there were $spans spans of the journal's file"
-    [[ $until == chip.bin ]] || differs "the span didn't last until the chip's file was opened, but that of $until"
+    [[ $until == chip.bin ]] || differs "the span didn't last until the chip's file was written, but $until"
     ((refused >= 1)) || differs "nothing was refused"
-    { is_own && cmp -s chip.bin "$bytes" && cmp -s status.bin guarding; } || differs "that isn't its own answer"
+    { is_own && cmp -s chip.bin "$bytes" && cmp -s status.bin "$bits"; } || differs "that isn't its own answer"
     passed=$((passed + 1))
 }
 
-# What was told of want of memory, each with how often.
+# Prints each report of a lack of memory with its number.
 kinds() {
     for kind in "${!told[@]}"; do echo "$kind (${told[$kind]})"; done | sort | paste -sd, | sed 's/,/, /g'
 }
 
+# wrong COMMANDS WHAT: a program that runs these commands instead if its allocation is refused must be detected: in a
+# session it must be reported like this.
+wrong() {
+    local printed status=0
+    [[ -z $only || $only == wrong ]] || return 0
+    # (a program that is told which allocation is refused, and allocates until it is)
+    [[ -x stub ]] || cc -std=gnu11 -O1 -x c -o stub - << EOT
+#include <stdlib.h>
+#include <unistd.h>
+static void *(*volatile ask)(size_t) = malloc;
+int main(int count, char **arguments) {
+    const char *refused = getenv("REFUSE");
+    unsigned long number = refused && count > 1 ? strtoul(refused, NULL, 10) : 0;
+    if (number == 0) return execv("$program", arguments);
+    while (number-- > 0) free(ask(1));
+    unsetenv("LD_PRELOAD");
+    return system(getenv("WRONG")) != 0;
+}
+EOT
+    printed=$(WRONG=$1 bash "$top/tests/sweep/run.sh" "$PWD/stub" a_byte_with_a_journal 7 2>&1) || status=$?
+    if [[ $status == 1 && $printed == *"$2"* ]]; then
+        passed=$((passed + 1))
+    else
+        fail "a program that does this if an allocation is refused is not detected: $1"
+    fi
+}
+
 make_files
-tiny=dummy:emulate=TINY64,image=chip.bin
+tiny=dummy:emulate=TINY64,image=chip.bin,status=status.bin
 large=dummy:emulate=W25Q64FV,image=chip.bin,status=status.bin
 found="Found SFDP (fe1010), $size bytes."
-# A program that always tells want of memory for its image, or for its layout, isn't let through by the answers of these
-# two with all their memory.
+# The results of these two runs with all their memory detect a program that always reports a lack of memory for its
+# image, or for its layout.
 sweep memory_for_image erased erased erased "$found
 Done: touched 0, erases 0, programs 0, transactions 23." -w wanted --journal journal
 sweep layout_memory sector_00 erased region_ff "$found
@@ -217,5 +283,14 @@ Done: touched 16, erases 0, programs 256, transactions 823." -w wanted
 span unlock_without_memory $large large_ff guarded_00 "$found_large
 Done: touched 1, erases 0, programs 1, transactions 2063." "$found_large
 Done: touched 1, erases 1, programs 0, transactions 15." -w wanted --unlock
+fault='File fault 2:' done="Found SFDP (fe1010), $size bytes.
+Done: touched 1, erases 1, programs 1, transactions 30."
+wrong "echo '$fault chip.binary.' >&2; exit 1" 'neither its own answer nor a lack of memory'
+wrong "echo '$done'; echo '$fault journal.' >&2; exit 1" 'neither its own answer nor a lack of memory'
+wrong "cp wanted chip.bin; echo '$fault journal.' >&2; exit 1" 'the image file was changed'
+wrong "cp guarding status.bin; echo 'Error 18: out of memory.' >&2; exit 1" 'the status file was changed'
+wrong "echo '$done'; echo '$fault chip.bin.' >&2; exit 1" "its journal isn't complete"
+wrong "cp saved journal; echo '$done'; cp guarding chip.bin; echo '$fault status.bin.' >&2; exit 1" 'the image file was'
+wrong "head -c 99 wanted > journal; echo 'Error 11: journal not written.' >&2; exit 1" 'its journal is no prefix'
 ((passed > 0)) || fail "there is no run $only"
 finish 0
