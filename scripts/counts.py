@@ -26,12 +26,12 @@ CLAIMS = [
                            "lies"),
     ("storm", "docs/PROMISES.md", "given to the {cases} cases of `storm`"),
     ("sweep", "README.md", "{refused} runs with an allocation refused"),
-    ("sweep", "docs/PROMISES.md", "of {refused} runs, in which each of the {jobs} jobs' {each} allocations was refused "
-                                  "in turn, {own} came to their own answer and {others} to one line"),
-    ("sweep", "docs/PROMISES.md", "{spans} sessions and their restores with every allocation refused"),
+    ("sweep", "docs/PROMISES.md", "in {refused} runs each of the {jobs} jobs' {each} allocations was refused in turn. "
+                                  "{own} of these runs ended as they would have otherwise, and {others} printed one line"),
+    ("sweep", "docs/PROMISES.md", "{spans} sessions and their restores ran with every allocation refused"),
     ("kill", "README.md", "{runs} runs that were killed at a call on a file or had it fail"),
     ("kill", "README.md", "{machines} lost machines"),
-    ("kill", "docs/PROMISES.md", "`make kill` tries {runs} runs of {sessions} sessions and their restores"),
+    ("kill", "docs/PROMISES.md", "`make kill` tests it in {runs} runs of {sessions} jobs and their restores"),
 ]
 
 

@@ -1,0 +1,61 @@
+"""The last lines and the status of the gate, on a copy whose parts are replaced."""
+import os
+import pathlib
+import shutil
+import subprocess
+import tempfile
+import unittest
+
+TOP = pathlib.Path(__file__).resolve().parent.parent.parent
+PASSED = "echo 5 passed, 0 failed"
+SKIPPED = "echo 'skipped: kill, since there is no C compiler (cc)'"
+LEFT_OUT = "echo 'left out: a case (there is no setpriv)'; echo 5 passed, 0 failed"
+
+
+class Gate(unittest.TestCase):
+    """Runs the gate. Each part passes if it is not replaced by other commands."""
+
+    def run_gate(self, parts, **environment):
+        """Returns the status and the output of the gate with these commands as parts."""
+        with tempfile.TemporaryDirectory() as folder:
+            top = pathlib.Path(folder)
+            (top / ".ci").mkdir()
+            shutil.copy(TOP / ".ci/run", top / ".ci/run")
+            for name in ("scripts/lint.sh", "scripts/agree.sh", "scripts/proved.sh", "tests/agree/run.py",
+                         "tests/examples.py", "tests/make.py", "tests/run.py", "tests/sweep/run.sh",
+                         "tests/kill/run.sh"):
+                self.put(top / name, "#!/bin/sh\n" + parts.get(name, PASSED))
+            self.put(top / "scripts/counts.py", "")
+            # (the gate removes storm's program, and this part builds it)
+            self.put(top / "scripts/proved.sh", "#!/bin/sh\nmkdir -p crates/storm/out && "
+                                                f"cp tests/make.py crates/storm/out/storm\n{PASSED}")
+            values = {name: value for name, value in os.environ.items() if name != "CI"}
+            said = subprocess.run(["bash", top / ".ci/run"], env=values | environment, stdout=subprocess.PIPE,
+                                  stderr=subprocess.STDOUT, check=False)
+        return said.returncode, said.stdout.decode().splitlines()
+
+    def put(self, path, content):
+        path.parent.mkdir(parents=True, exist_ok=True)
+        path.write_text(content, encoding="utf-8")
+        path.chmod(0o755)
+
+    def test_all_passed(self):
+        for environment in {}, {"CI": "true"}:
+            status, lines = self.run_gate({}, **environment)
+            self.assertEqual((status, lines[-2:]), (0, ["47 passed, 0 failed, 0 skipped", "47 passed, 0 failed"]))
+
+    def test_skipped_is_counted(self):
+        status, lines = self.run_gate({"tests/kill/run.sh": SKIPPED, "tests/run.py": LEFT_OUT})
+        self.assertEqual((status, lines[-2:]), (0, ["42 passed, 0 failed, 2 skipped", "42 passed, 0 failed"]), lines)
+
+    def test_skipped_fails_with_ci(self):
+        status, lines = self.run_gate({"tests/kill/run.sh": SKIPPED, "tests/run.py": LEFT_OUT}, CI="true")
+        self.assertEqual((status, lines[-2:]), (1, ["42 passed, 2 failed, 2 skipped", "42 passed, 2 failed"]), lines)
+
+    def test_failed(self):
+        status, lines = self.run_gate({"tests/kill/run.sh": "echo kill: 4 passed, 1 failed; exit 1"})
+        self.assertEqual((status, lines[-1]), (1, "46 passed, 1 failed"), lines)
+
+
+if __name__ == "__main__":
+    unittest.main()
