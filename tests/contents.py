@@ -2,14 +2,31 @@
 import hashlib
 import re
 
+SECTOR = 4096
+
 
 def hexadecimal(digits):
     """Returns the bytes of these digits, of which two are a byte."""
     return bytes.fromhex(digits)
 
 
+def records(first, last, saved):
+    """Returns the records that a journal has for these sectors of a chip with the bytes `saved`."""
+    if not first <= last < len(saved) // SECTOR:
+        raise ValueError(f"sectors {first} to {last} aren't within {len(saved)} bytes")
+    return b"".join(k.to_bytes(4, "little") + saved[SECTOR * k:SECTOR * (k + 1)] for k in range(first, last + 1))
+
+
 def part(text, before, read):
     """Returns the bytes of one part without what stands in their place, `before` being those of all parts before it."""
+    if found := re.fullmatch(r"(\d+) times (.+)", text):
+        return part(found[2], before, read) * int(found[1])
+    if found := re.fullmatch(r"(\d+) of each byte", text):
+        return b"".join(bytes([value]) * int(found[1]) for value in range(256))
+    if found := re.fullmatch(r"(\d+) random ([a-z0-9]+)", text):
+        return hashlib.shake_128(found[2].encode()).digest(int(found[1]))
+    if found := re.fullmatch(r"records (\d+) to (\d+) of (.+)", text):
+        return records(int(found[1]), int(found[2]), read(found[3]))
     if found := re.fullmatch(r"(\d+) of ([0-9a-f]{2})", text):
         return hexadecimal(found[2]) * int(found[1])
     if found := re.fullmatch(r"hex ([0-9a-f ]+)", text):

@@ -4,7 +4,8 @@ each case in a folder of its own, or on the examples of these two pages.
 
 Without a folder these are tests/cases and the examples of README.md and the manual page (pages.py), and it is tried
 that programs that do something else, cases that say what isn't so and an empty folder don't pass (self.py), and whether
-the pages say what the program prints as help and as list of chips (scripts/agree.sh). How a case is read stands in
+the pages say what the program prints as help and as list of chips (scripts/agree.sh). The program is also run by a
+parent that closes streams, sets limits and has terminals, as no shell does (streams.py). How a case is read stands in
 cases/README.md. A case that fails is told, with what was wanted and what was got. What can't be tried here is told in a
 line that begins with `left out:`. The last line is `N passed, M failed`, and the status is 1 where one failed or none
 was run.
@@ -20,7 +21,11 @@ from pathlib import Path
 
 import grammar
 import pages
-from trial import TOP, Differs, Trial, shown
+from trial import Differs, Trial, shown
+
+TOP = Path(__file__).resolve().parent.parent
+# Where a case gets a directory of another file system than its own one.
+SECOND_DISK = "/dev/shm"
 
 
 class Tally:
@@ -51,6 +56,11 @@ class Tally:
             self.count(False, f"FAILED: {what} broke off with status {said.returncode}")
 
 
+def needs(case, need):
+    """Whether a step of the case has what this pattern matches."""
+    return any(re.search(need, it.command) for it in case.steps())
+
+
 class Machine:
     """The program that is tried, and what this machine can do."""
 
@@ -60,9 +70,19 @@ class Machine:
         self.program = work / "flashnor"
         shutil.copy(program, self.program)
         self.program.chmod(0o755)
-        self.needs = {r"\bnobody ": self.no_nobody(),
-                      r"\bwrites ": None if os.access("/proc/self/io", os.R_OK) else "the system doesn't count writes",
-                      "/dev/full": None if Path("/dev/full").is_char_device() else "there is no /dev/full"}
+        self.library = work / "meanwhile.so"
+        # What a step may need, and what finds out why that can't be had here.
+        self.needs = {r"\bnobody ": self.no_nobody, r"\bwrites ": self.no_counts, "/dev/full": self.no_full,
+                      r"\b(meanwhile|failing|alike) ": self.no_library, r"\$disk\b": self.no_second_disk}
+        self.missing = {}
+
+    @staticmethod
+    def no_counts():
+        return None if os.access("/proc/self/io", os.R_OK) else "the system doesn't count writes"
+
+    @staticmethod
+    def no_full():
+        return None if Path("/dev/full").is_char_device() else "there is no /dev/full"
 
     def no_nobody(self):
         """Returns why the program can't be run here by a user whom rights on files bind."""
@@ -75,14 +95,35 @@ class Machine:
             return None
         return f"another user than root can't be, or has no way to {self.work.parent}: set TMPDIR"
 
+    def no_library(self):
+        """Builds the library that acts at a call of the program (meanwhile.c), or returns why it can't be built."""
+        if not shutil.which("cc"):
+            return "there is no C compiler (cc)"
+        words = ["cc", "-std=c11", "-O1", "-shared", "-fPIC", "-o", self.library, TOP / "tests/meanwhile.c"]
+        built = subprocess.run(words, capture_output=True, check=False)
+        if built.returncode == 0:
+            return None
+        return "tests/meanwhile.c doesn't compile: " + os.fsdecode(built.stderr).partition("\n")[0]
+
+    def no_second_disk(self):
+        """Returns why a case can't have files on two file systems."""
+        if not os.access(SECOND_DISK, os.W_OK):
+            return f"there is no {SECOND_DISK}"
+        if os.stat(SECOND_DISK).st_dev == self.work.stat().st_dev:
+            return f"{SECOND_DISK} is on the file system of the tests: set TMPDIR"
+        return None
+
     def do(self, case):
         """Does a case, and returns whether it passed, or None where it was left out, with the lines that tell it."""
-        for need, why in self.needs.items():
-            if why and any(re.search(need, it.command) for it in case.steps()):
+        for need, why in self.missing.items():
+            if why and needs(case, need):
                 return None, f"left out: {case.file}: {case.sentence} ({why})"
         folder = Path(tempfile.mkdtemp(prefix="run.", dir=self.work))
         folder.chmod(0o777)
-        trial = Trial(case, folder, self.program)
+        words = {"top": TOP, "program": self.program, "library": self.library}
+        if any("$disk" in it.command for it in case.steps()):
+            words["disk"] = tempfile.mkdtemp(prefix="flashnor.", dir=SECOND_DISK)
+        trial = Trial(case, folder, words)
         try:
             trial.do()
             return True,
@@ -91,10 +132,14 @@ class Machine:
             place = [f"at: {trial.command}"] * bool(trial.command)
             return False, f"FAILED: {case.file}: {case.sentence}", *[f"    {it}" for it in (*place, *how)]
         finally:
-            shutil.rmtree(folder, ignore_errors=True)
+            for it in (folder, words.get("disk", folder)):
+                shutil.rmtree(it, ignore_errors=True)
 
     def do_all(self, cases, tally):
         """Does all cases, as many at once as there are cores, and tells them in their order."""
+        for need, find in self.needs.items():
+            if any(needs(case, need) for case in cases):
+                self.missing[need] = find()
         with ThreadPoolExecutor(os.cpu_count()) as pool:
             for has_passed, *lines in pool.map(self.do, cases):
                 if has_passed is None:
@@ -137,6 +182,7 @@ def main(words):
         else:
             cases = cases_of(TOP / "tests/cases")
             machine.do_all(cases + pages.cases(TOP / "README.md", TOP / "man/flashnor.8"), tally)
+            tally.add("streams.py", [sys.executable, TOP / "tests/streams.py", machine.program])
             tally.add("self.py", [sys.executable, TOP / "tests/self.py", machine.program])
             agree(machine.program, tally)
     print(f"{tally.passed} passed, {tally.failed} failed")

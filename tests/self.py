@@ -2,14 +2,18 @@
 """tests/self.py PROGRAM: whether run.py fails where it must, and says why.
 
 It must for programs that do something else, for cases that say what isn't so or that say nothing, for a folder without
-cases, and for pages of which a number was changed. The last line is `N passed, M failed`.
+cases, and for pages of which a number was changed. It must also for the program that is tried if one thing is made wrong
+in it (wrong.c), on the cases that are there for this. The last line is `N passed, M failed`.
 """
 import os
 import re
+import shutil
 import subprocess
 import sys
 import tempfile
 from pathlib import Path
+
+from run import SECOND_DISK, Machine
 
 TOP = Path(__file__).resolve().parent.parent
 FAULT = "echo 'Usage fault 2.' >&2; "
@@ -19,6 +23,10 @@ CASE = "# No words.\nfile given: hex 3030\n$ flashnor\n" + BEHIND
 STEP = "# It has a step.\n$ flashnor\n" + BEHIND
 FOLDER = "# There is a folder.\n$ mkdir folder\n$ flashnor\n" + BEHIND
 TRACE = "# It has two lines.\n$ printf '05\\n06\\n' > given\n$ flashnor\n" + BEHIND + "after given: 2 lines\n"
+
+CLOSED = "# Streams are closed.\n$ closed flashnor\n" + BEHIND
+MOMENT = "# It is read.\nfile given: hex 30300a\n$ meanwhile 'MOMENT' 'echo 11 > given' flashnor\n11\n" + BEHIND
+MOMENT += "after given: hex 31310a\n"
 
 # What is tried, the program as lines of shell, the case, and what is told where it doesn't pass.
 TRIALS = [
@@ -42,6 +50,25 @@ TRIALS = [
     ("a file that became a link", "rm given; ln -s none given; " + RIGHT, CASE, "got: a link to none"),
     ("rights that were changed", "chmod 600 given; " + RIGHT, CASE, "wanted of given: rights 644"),
     ("a file that was not made", "exit 0", "# It is made.\n$ flashnor\nafter left: nothing\n", "got: no file"),
+    ("a name that has no file any more", "rm given; " + RIGHT, CASE + "after given: no file\n", None),
+    ("a file that must be gone", RIGHT, CASE + "after given: no file\n", "wanted of given: no file"),
+    ("a link that must be there", RIGHT, CASE + "after given: a link to none\n", "wanted of given: a link to none"),
+    ("a FIFO", "mkfifo a", "# It is there.\n$ flashnor\nafter a: a FIFO\n", None),
+    ("a directory for a FIFO", "mkdir a", "# It is there.\n$ flashnor\nafter a: a FIFO\n", "got: a directory"),
+    ("a FIFO that is given", RIGHT, CASE.replace("hex 3030", "a FIFO"), "'a FIFO' is no content"),
+    ("streams that are closed", "echo done 2> /dev/null || exit 1", "# It prints.\n$ closed flashnor\ndone\n", None),
+    ("a closed stream and status 0", "echo done 2> /dev/null || :", "# It prints.\n$ closed flashnor\ndone\n",
+     "        >&-: status 0, not 1"),
+    ("a closed stream that nothing needs", "[ -e /dev/fd/0 ]", "# It does nothing.\n$ closed flashnor\n",
+     "        <&-: status 1, not 0"),
+    ("what goes into a file if streams are closed", "[ -e /dev/fd/2 ] || echo > a; " + RIGHT, CLOSED,
+     "        <&- >&- 2>&-: Only in"),
+    ("what is lost if another stream is closed", "[ -e /dev/fd/1 ] || exit 1; " + RIGHT, CLOSED, "        >&-: 1d0"),
+    ("a moment that never comes", RIGHT, MOMENT.replace("MOMENT", "fsync given"), "there was no moment 'fsync given'"),
+    ("a moment", "cat given; " + RIGHT, MOMENT.replace("MOMENT", "open given"), None),
+    ("a moment that is too late", "cat given; " + RIGHT, MOMENT.replace("MOMENT", "close given"), "        00"),
+    ("a call that must fail", "cat given", "# It fails.\nfile given: hex 300a\n$ failing 'read given' EIO flashnor\n"
+     "! cat: given: Input/output error\nstatus 1\n", None),
     ("another length", "echo > a", "# Two.\n$ flashnor\nafter a: 2 bytes\n", "got: 1 bytes"),
     ("another line of a trace", RIGHT, TRACE + "  2: 05\n", "line 2: 05"),
     ("more lines than there are", RIGHT, TRACE.replace("2 lines", "3 lines"), "wanted of given: 3 lines"),
@@ -66,6 +93,16 @@ TRIALS = [
     ("a file in a folder that isn't there", RIGHT, "# One.\nfile none/a: nothing\n" + STEP[17:], "it can't be done"),
     ("a NUL in a command", RIGHT, STEP.replace("flashnor", "flashnor a\0b"), "it can't be done"),
     ("half a byte", RIGHT, CASE.replace("hex 3030", "hex 303"), "can't be made"),
+    ("contents that repeat", RIGHT, CASE.replace("hex 3030", "2 times 1 of each byte") +
+     "after given: hex " + bytes(range(256)).hex() * 2 + "\n", None),
+    ("a record of a journal", RIGHT, "# One.\nfile a: 4096 of 00 + 4096 of 31\nfile b: records 1 to 1 of a\n" +
+     STEP[17:] + "after b: hex 01000000 + 4096 of 31\n", None),
+    ("a byte of random ones that was changed", RIGHT, CASE.replace("hex 3030", "5 random a") +
+     "after given: 5 random b\n", "wanted of given: 5 bytes"),
+    ("a record of a sector that isn't there", RIGHT, CASE.replace("hex 3030", "records 0 to 0 of none"),
+     "can't be made"),
+    ("a record behind the last sector", RIGHT, "# One.\nfile a: 4096 of 31\nfile b: records 0 to 1 of a\n" +
+     STEP[17:], "sectors 0 to 1 aren't within 4096 bytes"),
     ("a byte behind its part", RIGHT, CASE.replace("hex 3030", "2 of 30, 31 at 0x2"), "isn't within its part"),
 ]
 
@@ -82,6 +119,23 @@ PAGES = [
     ("README without its examples", "README.md", r"^\$ flashnor", "$ echo", ["no example was found"]),
 ]
 
+# What is made wrong in the program, the file of cases that must detect it, and how the sentence of one of them begins.
+WRONG = [
+    ("nothing", "disks.case", None),
+    ("nothing", "locks.case", None),
+    ("first", "held.case", "A session holds the locks on its image and its status"),
+    ("first", "locks.case", "Until a session has written image and status file"),
+    ("write", "locks.case", "Until a session has written image and status file"),
+    ("write", "locks.case", "Image and status file that a session creates"),
+    ("seal", "locks.case", "Until a session has written image and status file"),
+    ("shared", "held.case", "A session holds the locks on its image and its status"),
+    ("unlocked", "held.case", "A restore refuses a journal that another run has locked"),
+    ("unlocked", "locks.case", "While a session writes its journal"),
+    ("inode", "disks.case", "Two files on two file systems"),
+    ("inode", "disks.case", "Files on two file systems with equal inode numbers"),
+    ("inode", "disks.case", "If a file on another file system"),
+]
+
 
 class Tally:
     def __init__(self):
@@ -89,11 +143,13 @@ class Tally:
         self.failed = 0
 
     def run(self, what, wanted, told, *words):
-        """Runs run.py on the words: its status and its last line are these, and it tells all that must be told."""
+        """Runs run.py on the words: its status and, if they are given, its last lines are these, and it tells all that
+        must be told."""
         ran = subprocess.run([sys.executable, TOP / "tests/run.py", *words], stdout=subprocess.PIPE,
                              stderr=subprocess.STDOUT, check=False)
         said = os.fsdecode(ran.stdout)
-        if (ran.returncode, said.splitlines()[-1:]) == wanted and all(it in said for it in told):
+        status, last = wanted
+        if ran.returncode == status and last in (None, said.splitlines()[-1:]) and all(it in said for it in told):
             self.passed += 1
         else:
             self.failed += 1
@@ -123,14 +179,41 @@ def try_page(work, tally, program, trial):
     tally.run(f"{what} ({new})", (1, ["1 passed, 1 failed"]), told, program, *pages)
 
 
+def try_wrong(work, tally, program):
+    """Tries the program with one thing made wrong, once for each file of cases."""
+    library = work / "wrong.so"
+    if not shutil.which("cc"):
+        print("left out: programs in which one thing is made wrong (there is no C compiler (cc))")
+        return
+    words = ["cc", "-std=c11", "-O1", "-shared", "-fPIC", "-o", library, TOP / "tests/wrong.c", "-ldl"]
+    subprocess.run(words, check=True)
+    trials = dict.fromkeys((wrong, file) for wrong, file, _ in WRONG)
+    if Machine(work, program).no_second_disk():
+        print(f"left out: a program that compares inodes only ({SECOND_DISK} is no second file system here)")
+        trials = {it: None for it in trials if it[1] != "disks.case"}
+    for wrong, file in trials:
+        folder = work / f"{wrong}.{file}"
+        folder.mkdir()
+        shutil.copy(TOP / "tests/cases" / file, folder)
+        stub = work / f"program.{wrong}"
+        stub.write_text(f"#!/usr/bin/env bash\nexport WRONG={wrong} LD_PRELOAD=\"{library}:$LD_PRELOAD\"\n"
+                        f"exec '{program}' \"$@\"\n", encoding="utf-8")
+        stub.chmod(0o755)
+        told = [f"FAILED: {file}: {it[2]}" for it in WRONG if it[:2] == (wrong, file) and it[2]]
+        tally.run(f"{file}, where {wrong} is wrong", (int(told != []), None), told, stub, folder)
+
+
 def main(program):
     tally = Tally()
     with tempfile.TemporaryDirectory() as name:
         work = Path(name)
+        # (another user runs the programs too)
+        work.chmod(0o755)
         for number, trial in enumerate(TRIALS):
             try_case(work, tally, number, trial)
         for trial in PAGES:
             try_page(work, tally, program, trial)
+        try_wrong(work, tally, program)
         (work / "empty").mkdir()
         tally.run("a folder without cases", (1, ["0 passed, 0 failed"]), [], work / "stub0", work / "empty")
         tally.run("no program", (1, [f"{work}/none isn't built: 'make' proves and builds it."]), [], work / "none")

@@ -1,6 +1,6 @@
 # shellcheck shell=bash
-# What a step of a case may call beside the system's commands; for trial.py, which gives it these two.
-: "${top:?}" "${program:?}"
+# What a step of a case may call beside the system's commands; for trial.py, which gives it these three.
+: "${top:?}" "${program:?}" "${library?}"
 
 flashnor() { timeout 60 "$program" "$@"; }
 
@@ -12,6 +12,77 @@ nobody() {
     else
         flashnor "$@"
     fi
+}
+
+# `closed flashnor ..`: runs the program with each of its three standard streams closed, alone and together with others,
+# each time in a copy of this directory. Then it runs the program here, with all of them open. Each copy must have the
+# same files afterwards as this directory. A stream that is open must get the same text as here. The status must be 1 if
+# a text could not be printed, and else it must be the same as here. Each difference is printed, after the redirections
+# that closed the streams.
+closed() {
+    local copies number wanted line status=0
+    local ways=('<&-' '>&-' '2>&-' '<&- >&-' '<&- 2>&-' '>&- 2>&-' '<&- >&- 2>&-')
+    copies=$(mktemp -d)
+    for number in "${!ways[@]}"; do cp -a . "$copies/$number"; done
+    "$@" > "$copies/printed" 2> "$copies/faults" || status=$?
+    for number in "${!ways[@]}"; do
+        wanted=$status
+        run_closed "$copies/$number" "${ways[number]}" "$@" |
+            while IFS= read -r line; do echo "${ways[number]}: $line"; done
+    done
+    cat "$copies/printed"
+    cat "$copies/faults" >&2
+    rm -rf "$copies"
+    return "$status"
+}
+
+# run_closed COPY REDIRECTIONS WORDS..: the run in the copy, compared with the run in this directory.
+run_closed() {
+    local copy=$1 way=$2 ended=0 stream text
+    shift 2
+    (cd "$copy" && eval '"$@" > "$copy.printed" 2> "$copy.faults"' "$way") || ended=$?
+    for stream in '>&-:printed' '2>&-:faults'; do
+        text=$copies/${stream#*:}
+        if [[ " $way" == *" ${stream%:*}"* ]]; then
+            [[ ! -s $text ]] || wanted=1
+            text=/dev/null
+        fi
+        diff -a "$text" "$copy.${stream#*:}"
+    done
+    [[ $ended == "$wanted" ]] || echo "status $ended, not $wanted"
+    diff -rq . "$copy"
+}
+
+# `meanwhile MOMENT COMMAND flashnor ..`: runs the program, and the command just before the call that MOMENT names, as
+# meanwhile.c describes it. The command may run the program too.
+meanwhile() { at_moment "$1" "COMMAND=$2" "${@:4}"; }
+
+# `failing MOMENT ERROR flashnor ..`: runs the program, and makes this call fail, and all later ones like it.
+failing() { at_moment "$1" "ERROR=$2" "${@:4}"; }
+
+# `alike NAMES flashnor ..` or `alike NAMES meanwhile ..`: runs the program where the files with these names, which have
+# a blank between them, have the same inode number, as files of two file systems may have.
+alike() {
+    export ALIKE="$1 "
+    shift
+    if [[ $1 == flashnor ]]; then
+        timeout 60 env LD_PRELOAD="$library" "$program" "${@:2}"
+    else
+        "$@"
+    fi
+}
+
+at_moment() {
+    local came status=0
+    came=$(mktemp -u)
+    (
+        export program
+        export -f flashnor
+        timeout 60 env LD_PRELOAD="$library" MOMENT="$1" CAME="$came" "$2" "$program" "${@:3}"
+    ) || status=$?
+    [[ -e $came ]] || echo "there was no moment '$1'"
+    rm -f "$came"
+    return "$status"
 }
 
 # `writes flashnor ..`: how many calls of write the program makes, as the system counts those of a process and of its
@@ -31,6 +102,9 @@ count_writes() {
         [[ $key != syscw: ]] || count=$number
     done < "/proc/$BASHPID/io"
 }
+
+# `starts`: makes an image and a journal for each of its patterns of bytes, and prints the patterns (starts.py).
+starts() { python3 "$top/tests/starts.py"; }
 
 # `make ..`: a rule of the repository's Makefile, with the program that is tried, whatever the sources are.
 make() { command make --no-print-directory -s -C "$top" PROGRAM="$program" SOURCES= "$@"; }

@@ -9,9 +9,10 @@ from pathlib import Path
 import contents
 from grammar import Step
 
-TOP = Path(__file__).resolve().parent.parent
 # A larger file isn't read: its length and its time are compared.
 MOST_COMPARED = 32 << 20
+# What a case says of a name that is no file with bytes, as `look` returns it.
+OTHERS = r"no file|a directory|a FIFO|a link to .+"
 
 
 class Differs(Exception):
@@ -43,7 +44,9 @@ def look(path):
     if stat.S_ISLNK(found.st_mode):
         return f"a link to {os.readlink(path)}", rights
     if stat.S_ISDIR(found.st_mode):
-        return "a folder", rights
+        return "a directory", rights
+    if stat.S_ISFIFO(found.st_mode):
+        return "a FIFO", rights
     if not stat.S_ISREG(found.st_mode) or found.st_size > MOST_COMPARED:
         return f"{found.st_size} bytes, of kind {stat.S_IFMT(found.st_mode):o}, at {found.st_mtime_ns}", rights
     return read(path), rights
@@ -91,12 +94,13 @@ def text_differs(name, wanted, got):
 
 
 class Trial:
-    """A case that is done in a folder, with a program."""
+    """A case that is done in a folder. The words are variables of its steps, with the program and the repository."""
 
-    def __init__(self, case, folder, program):
+    def __init__(self, case, folder, words):
         self.case = case
         self.folder = folder
-        self.begin = f"top={shlex.quote(str(TOP))} program={shlex.quote(str(program))}; . \"$top/tests/steps.sh\"\n"
+        self.begin = " ".join(f"{name}={shlex.quote(str(it))}" for name, it in words.items())
+        self.begin += "; . \"$top/tests/steps.sh\"\n"
         self.command = ""
 
     def content(self, file):
@@ -122,7 +126,7 @@ class Trial:
         self.command = step.command
         is_compared = step.is_flashnor() and not self.case.free
         before = all_files(self.folder) if is_compared else {}
-        wanted = {it.name: it if self.is_counted(it) else self.content(it) for it in step.after}
+        wanted = {it.name: self.wanted(it) for it in step.after}
         ran = subprocess.run(["bash", "-c", self.begin + step.command], cwd=self.folder, stdin=subprocess.DEVNULL,
                              capture_output=True, check=False)
         status = ran.returncode if ran.returncode >= 0 else 128 - ran.returncode
@@ -135,17 +139,19 @@ class Trial:
         if is_compared:
             self.compare(before, wanted, all_files(self.folder))
 
-    @staticmethod
-    def is_counted(file):
-        """Whether only its length is said, or its number of lines."""
-        return re.fullmatch(r"\d+ (bytes|lines?)", file.content) is not None
+    def wanted(self, file):
+        """Returns what a file must be: its bytes, a text if it is no file with bytes, or the file itself if the case
+        says only its length or its number of lines."""
+        if re.fullmatch(OTHERS, file.content):
+            return file.content
+        return file if re.fullmatch(r"\d+ (bytes|lines?)", file.content) else self.content(file)
 
     def compare(self, before, wanted, after):
         """Each file is what it must be, with the rights that it had, and no other is there."""
         for name in sorted({*before, *wanted, *after}):
             want = wanted.get(name, before.get(name, ("no file",))[0])
             got, rights = after.get(name, ("no file", 0))
-            if name in wanted and not isinstance(want, bytes) and isinstance(got, bytes):
+            if not isinstance(want, (bytes, str)) and isinstance(got, bytes):
                 if want.count() is not None:
                     same_lines(want, got)
                 elif told(got) != want.content:
@@ -154,5 +160,5 @@ class Trial:
                 places = differing(want, got) if isinstance(want, bytes) and isinstance(got, bytes) else ""
                 want = told(want) if isinstance(want, (bytes, str)) else want.content
                 raise Differs(f"wanted of {name}: {want}", f"got: {told(got)}{places}")
-            if name in before and before[name][1] != rights:
+            if name in before and not (name in wanted and isinstance(want, str)) and before[name][1] != rights:
                 raise Differs(f"wanted of {name}: rights {before[name][1]:o}", f"got: {rights:o}")
