@@ -47,7 +47,8 @@ same() {
     echo "$1: $(wc -l < "$work/$1 of $2") in ${*:2}"
 }
 
-# The manual page without its fonts, as lines `SECTION<tab>PART<tab>TAG<tab>TEXT`.
+# The manual page without its fonts, as lines `SECTION<tab>PART<tab>TAG<tab>TEXT`; those of examples end in a fifth
+# field, `example`.
 flat_manual() {
     awk -v OFS='\t' '
         function shown(line, n, i, parts, all) {
@@ -56,12 +57,15 @@ flat_manual() {
             for (i = 1; i <= n; i++) all = all parts[i]
             sub(/^\.([BIR][BIR]|[A-Z]+ )/, "", all); gsub(/\\\(dq/, "\"", all); return all
         }
-        function finish() { if (tag text != "") print section, part, tag, text; tag = text = "" }
+        function finish(kind) {
+            if (tag text != "") print section, part, tag, text (kind ? OFS kind : "")
+            tag = text = ""
+        }
         /^\.(\\"|br|TH)/ { next }
         { gsub(/\\-/, "-"); gsub(/\\f[BIR]/, "") }
         /^\.S[HS]/ { finish(); part = shown($0); if (/^\.SH/) section = part; next }
         /^\.T[PQ]/ { finish(); tagged = 1; next }
-        /^\.(PP|IP|RS|RE|EX|EE)/ { finish(); next }
+        /^\.(PP|IP|RS|RE|EX|EE)/ { finish(/^\.EE/ ? "example" : ""); next }
         /^\.[BIR]/ { $0 = shown($0) }
         tagged { tag = $0; tagged = 0; next }
         { text = text (text == "" ? "" : " ") $0 }

@@ -34,19 +34,23 @@ keeps it from ending (`only_stops`); and the one that ends has left the first ch
         585,
     ),
     "what is left of files": (
-        {"work_on_chip": "flashnor/src/run.rt keeps"},
+        {"work_on_chip": "flashnor/src/run.rt keeps holds"},
         """In this part `Journal` is what a journal says, the `Content` of the parts before, and `Content` what a chip starts with.
 `R: Store` is any store of files, `R.state` what contracts see of it, and `Store` in crates/nor_files/src/store.rt has the
 law that each of its calls keeps. This holds at every exit of a run's job, and since calls may fail from any one on (`left`)
 at each moment at which it is killed or its machine is lost. A change with a journal in a file leaves, until that journal is
 sealed, files that open to the first chip; and from then on one journal that gives the first chip back from whatever they
 open to (`LeavesWayBack`). A restore leaves its journal as it was, and what it could give back it still can
-(`LeavesRestorable`). `run_over` promises this of each job on a chip.""",
-        260,
+(`LeavesRestorable`). If such a run ends with an answer (`Answer`) and has written all files, they hold the chip that was
+asked for, or the restored one, and a crash of the host loses neither that chip nor the journal (`HoldsResult`). Which
+addresses the regions of a layout have is said by `AreIncluded` in crates/flashnor/specs/Requests.antt. `run_over` promises
+this of each job on a chip.""",
+        370,
     ),
 }
-# What the page leaves out: the trait of files with the law that each of its calls keeps, and what a run answers.
-ELSEWHERE = {"Store", "Work", "Fault"}
+# What the page leaves out: the trait of files with the law that each of its calls keeps, what a run answers, and the
+# text of a layout.
+ELSEWHERE = {"Store", "Work", "Fault", "Answer", "AreIncluded"}
 
 # The subjects of the page in their order, and the files whose words each of them has. Where a word needs one of a later
 # subject the order gives way.
@@ -80,7 +84,8 @@ SUBJECTS = {
     "Sessions one after the other, and files that are written over": "nor_session: specs/WrittenOver specs/InTurn",
     "Files": "nor_files: specs/Files specs/Calls",
     "What a run is asked for": "nor_words: specs/Text src/programmer specs/Programmer src/job",
-    "A chip in files": "flashnor: specs/Found src/chips specs/Stored specs/Chips specs/Tasks",
+    "A chip in files": "flashnor: specs/Found src/chips specs/Stored specs/Chips specs/Tasks specs/Requests specs/Changes "
+        "src/holding specs/Endings nor_chip: specs/Start",
     "What is left of them": "flashnor: specs/Left specs/Run src/run",
 }
 

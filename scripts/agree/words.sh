@@ -24,7 +24,8 @@ take_completion() {
     sed -n 's/) _flashnor_files.*//p' "$work/arms" | tr -d ' ' | tr '|' '\n' | keep "options with files" completion
 }
 
-# Options without the names of their values: in the completion, in examples, and wherever a page speaks of one.
+# Options without the names of their values: in the completion, in examples, and wherever a page speaks of one. The
+# manual page's examples have the options of other commands too, so its text is looked at without them.
 take_bare_options() {
     local kind
     cut -d' ' -f1 "$work/options of parser" | keep "all options" parser
@@ -33,7 +34,8 @@ take_bare_options() {
     take_completion
     { table README.md flashrom | cut -d'|' -f2; cat docs/SPECIFICATION.md docs/DECISIONS.md; } | quoted |
         search '^--?[a-zA-Z][-a-z]*' | keep "all options" pages
-    search '[ (]--?[a-zA-Z][-a-z]*' "$work/manual" | tr -d ' (' | keep "all options" "manual's text"
+    grep -v $'\texample$' "$work/manual" | search '[ (]--?[a-zA-Z][-a-z]*' | tr -d ' (' |
+        keep "all options" "manual's text"
     search ' --?[a-zA-Z][-a-z]*( [^- ])?' "$work/examples" | sed 's/^ //' > "$work/given"
     cut -d' ' -f1 "$work/given" | keep "all options" examples
     sed -n 's/ .*//p' "$work/given" | keep "options with values" examples
