@@ -75,8 +75,7 @@ LeavesAsLong (Some name) old new = (had : List ℕ) → old.view.seen name.now �
 -- At an exit of a run that changes a chip, with its journal in the file of this name, which was missing before. Until
 -- the journal is sealed whatever may be left of the chip's files opens to the original chip. From then on the journal's
 -- file is one journal, and whatever may be left opens to a chip from which that journal restores the original one. A
--- file of the chip that was missing may be moved aside. One that was there keeps its length. All other files are as they
--- were.
+-- file of the chip that was missing may be moved aside. One that was there keeps its length. All other files stay.
 pub record LeavesWayBack (programmer : Programmer) (file : Text) (old new : FilesState) : Type 0 where
   pub missing : old.view.seen file ≡ None
   pub others : (name : Text) → IsNoFileOf programmer name → name ≢ file → Stays name old new
@@ -110,7 +109,7 @@ pub record LeavesSources (programmer : Programmer) (file : Text) (old new : File
 
 -- At an exit of a run that restores from the journal in the file of this name. Each chip that the journal could restore
 -- from what the run opened it can still restore, from whatever may be left of the chip's files. A file of the chip that
--- was missing may be moved aside. One that was there keeps its length. The journal and all other files are as they were.
+-- was missing may be moved aside. One that was there keeps its length. The journal and all other files stay.
 pub record LeavesRestorable (programmer : Programmer) (file : Text) (old new : FilesState) : Type 0 where
   pub others : (name : Text) → IsNoFileOf programmer name → Stays name old new
   pub image : LeavesAsLong programmer.image old new

@@ -15,8 +15,8 @@ pub struct Streams<F> {
 }
 
 /// Opens a directory three times, before any other file: each of the descriptors 0, 1 and 2 that was closed refers to
-/// it then, and what is printed to it fails. Without that the next file that is opened would get such a number, and the
-/// lines that are printed would be written over it.
+/// it then, and what is printed to it fails. Otherwise the next
+/// file that is opened would get that descriptor, and the lines of the run would overwrite its first bytes.
 pub fn keep_streams<R: Files>(files: &R) -> io::Result<Streams<R::File>> {
     Ok(Streams {
         _input: fs::open(files, DIRECTORY)?,

@@ -1,4 +1,4 @@
-//! The folder that a file is in.
+//! The directory that a file is in.
 
 use std::fs::{File, OpenFile};
 use std::io;
@@ -6,9 +6,9 @@ use std::io::ErrorKind;
 use std::path::Path;
 use std::rt::Files;
 
-/// Syncs the folder that the file of this name is in, so that a file that was made there stays, and one that is missing
-/// stays missing. A folder that is missing itself, that may not be opened for reading, or that is of a kind that can't
-/// be synced, is left as it is; any other failure is an error.
+/// Syncs the directory of this file, so that a file that was made in it stays, and one that is missing stays missing.
+/// Nothing is done if the directory is missing itself, may not be opened for reading, or can't be synced on its file
+/// system. Any other failure is an error.
 pub fn sync_folder<R: Files>(files: &R, name: &str) -> io::Result<()> {
     let folder = match File::open(files, folder_of(name)) {
         Ok(folder) => folder,
@@ -21,7 +21,7 @@ pub fn sync_folder<R: Files>(files: &R, name: &str) -> io::Result<()> {
     }
 }
 
-/// The folder that the file of this name is in.
+/// The directory of this file.
 pub fn folder_of(name: &str) -> &str {
     match Path::new(name).parent() {
         Some(folder) if !folder.as_str().is_empty() => folder.as_str(),
@@ -34,7 +34,7 @@ pub fn last_of(name: &str) -> Option<&str> {
     Path::new(name).file_name()
 }
 
-// What the system says of a folder that isn't there, or that may not be opened.
+// True if the error says that a directory is missing, or may not be opened.
 fn cannot_open(kind: ErrorKind) -> bool {
     matches!(
         kind,
@@ -42,7 +42,7 @@ fn cannot_open(kind: ErrorKind) -> bool {
     )
 }
 
-// What the system says of a folder that can't be synced.
+// True if the error says that a directory can't be synced.
 fn cannot_sync(kind: ErrorKind) -> bool {
     kind == ErrorKind::InvalidInput || kind == ErrorKind::Unsupported
 }

@@ -55,7 +55,7 @@ fn own(alloc: Global, name: &str) -> Result<String, HoldFault> {
     }
 }
 
-// Whether a regular file of this name is there. A folder can't be read; a file of another kind, and a link to nothing,
+// Whether a regular file of this name is there. A directory can't be read; a file of another kind, and a dangling link,
 // can't be written in place.
 fn is_there<R: Files>(files: &R, name: &str) -> Result<bool, HoldFault> {
     match fs::metadata(files, name) {
@@ -77,7 +77,7 @@ fn is_nowhere<R: Files>(files: &R, name: &str) -> Result<bool, HoldFault> {
     }
 }
 
-// The regular file of this name, for reading and writing, locked for this run alone.
+// The regular file of this name, for reading and writing, locked exclusively.
 fn open_alone<R: Files>(files: &R, name: &str) -> Result<R::File, HoldFault>
 where
     R::File: LockFile,
@@ -139,8 +139,7 @@ pub fn sync_under<R: Files>(files: &R, name: &str, file: &R::File) -> io::Result
     }
 }
 
-/// Who may read and write a new file beside the held ones: no more people than each of these. The bits are those of
-/// `chmod`.
+/// Returns the permissions of a new file, as `chmod` has them: none that an existing held file lacks.
 pub fn mode_beside<F: OpenFile>(held: &[Held<F>]) -> u32 {
     let mut mode = 0o666;
     for held in held {
@@ -152,7 +151,7 @@ pub fn mode_beside<F: OpenFile>(held: &[Held<F>]) -> u32 {
     mode
 }
 
-// The permissions of a file; of one that can't be looked at only its owner has any.
+// The permissions of a file. If they can't be read, only the owner has any.
 fn mode_of(metadata: io::Result<Metadata>) -> u32 {
     match metadata {
         Ok(metadata) => metadata.mode(),

@@ -23,9 +23,8 @@ pub fn is_one_file<'n, R: Files>(files: &R, one: &'n str, other: &'n str) -> Res
     }
 }
 
-/// Whether the name refers to a regular file that is standard output or standard error. An error is the name, if it
-/// can't be looked at. A stream that can't be looked at, or is no regular file, is none; and if neither is one, the name
-/// isn't looked at.
+/// Whether the name refers to a regular file that is standard output or standard error. Returns the name as the error
+/// if it can't be looked at. The name is looked at only if one of the two streams is a regular file.
 pub fn is_stream<'n, R: Files>(files: &R, name: &'n str) -> Result<bool, &'n str>
     ensures { IfErr result (λ unseen. unseen.now ≡ name.now) }
 {

@@ -6,7 +6,7 @@ use std::io::ErrorKind;
 
 /// A file that can be locked against other runs, until it is closed.
 pub trait LockFile {
-    /// Locks the file for this run alone. Returns false if another process has locked it. On a file system without
+    /// Locks the file exclusively. Returns false if another process has locked it. On a file system without
     /// locks nothing is locked, and true is returned.
     fn lock_alone(&self) -> io::Result<bool>;
 

@@ -27,7 +27,7 @@ where
 }
 
 /// Makes the file of this name, or empties it: a regular file only after it was locked, and never a journal, which may
-/// be all that can restore a chip. What is no regular file is opened as it is.
+/// be all that can restore a chip. A FIFO, a device or a terminal is opened as it is.
 pub fn make_empty<R: Files>(files: &R, name: &str) -> Result<R::File, MakeFault>
 where
     R::File: LockFile,

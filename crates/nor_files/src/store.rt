@@ -94,8 +94,8 @@ pub trait Store: AllocGlobal {
     ghost use Rattle.nor_journal.specs.Vault.{IsFresh};
     ghost use Rattle.nor_files.specs.Files.{AreUntouched, FilesState, IsKnown, Name, OthersStay, Stays, is_lawful};
     ghost use Rattle.nor_files.specs.Files.Failure.{Printed, Shared, There, Unread, Unwritten};
-    ghost use Rattle.nor_files.specs.Calls.{Fails, Holds, Lends, LendsNone, Makes, Places, Reads, SetsLength, Syncs, TakesBack};
-    ghost use Rattle.nor_files.specs.Calls.{WorksOn, WritesOver};
+    ghost use Rattle.nor_files.specs.Calls.{Fails, Holds, Lends, LendsNone, Makes, Places, Reads, SetsLength, Syncs};
+    ghost use Rattle.nor_files.specs.Calls.{TakesBack, WorksOn, WritesOver};
     ghost use Rattle.nor_files.specs.Faults.{IsHoldFault, IsMakeFault};
 
     ghost state: { Self → FilesState };
@@ -197,7 +197,8 @@ pub trait Store: AllocGlobal {
         ensures fails { OnErr result ((state self.old).view.nature.fails (Unwritten name.now) ≡ true) };
 
     /// Creates the file of this name, and returns a vault in it. A file that is there is never opened or emptied: the
-    /// error is `There`. If the directory can be synced, the new file survives a crash. Return the vault by `hand_back`.
+    /// error is `There`. If the directory can be synced, the new file survives a crash. Return the vault by
+    /// `hand_back`.
     fn vault_in_new(&mut self, name: &str) -> Result<Self::Filed, MakeFault>
         ensures nature { (state self.new).view.nature ≡ (state self.old).view.nature }
         ensures fresh { IfOk result (λ vault. IsFresh (Self.Filed.state vault)) }
