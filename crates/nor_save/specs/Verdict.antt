@@ -36,7 +36,8 @@ RefusalHolds request image chip UndefinedProtection =
 RefusalHolds request image chip RangeNotOffered = AsksForNone request.what chip
 RefusalHolds request image chip StatusLocked = (is_locked chip.kept ≡ true) × NeedsStatusWrite request image chip
 RefusalHolds request image chip (Protected address) = (request.unlock ≡ false)
-    × (sector : ℕ) × (address ≡ 4096 * sector) × IsLeastHeld (is_touched chip.bytes (wanted request image chip)) chip sector
+    × (sector : ℕ) × (address ≡ 4096 * sector)
+    × IsLeastHeld (is_touched chip.bytes (wanted request image chip)) chip sector
 RefusalHolds request image chip _ = ⊥
 
 -- The refusal is the verdict: it holds, and none with a lower number does.

@@ -23,8 +23,8 @@ fn is_same_to_itself(length: usize) -> bool {
     }
 }
 
-// A slice of this length compared with one that has another byte in this place alone, which raises one bit: the place is
-// found, in both directions, and only one of them raises.
+// Compares a slice of this length with one that differs only in the byte at this position, by one raised bit. The
+// position is found in both directions, and a bit rises in one direction only.
 fn differs_at(length: usize, place: usize) -> bool {
     let lower = [0xA5u8; LONGEST];
     let mut higher = [0xA5u8; LONGEST];
