@@ -1,7 +1,7 @@
 //! The emulated chip: what its files tell of it, and the bus to it.
 ghost use Rattle.std.specs.Prelude.{◌≡◌, ◌∷◌, [], IfOk, IfErr, IfSome, IsSomeAnd, option_map, replicate};
 ghost use Rattle.std.specs.Prelude.{unwrap_or, vec_len};
-ghost use Rattle.nor_chip.specs.Sim.{pace_of};
+ghost use Rattle.nor_chip.specs.Sim.{pace_of, torn_of};
 ghost use Rattle.flashnor.specs.Chips.{FailsToOpen, HoldsFiles, IsConfigWith, IsContentOf, StartsBus};
 ghost use Rattle.flashnor.specs.Stored.{IsFileFound};
 ghost use Rattle.flashnor.specs.Files.{IsOpeningFault};
@@ -116,6 +116,7 @@ fn hold(programmer: &Programmer<'_>, content: Content) -> SimBus
     requires { vec_len content.bytes ≡ (emulated_part programmer.now.chip).size }
     ensures held { HoldsFiles programmer.now content (⟦<SimBus as Bus>⟧.state result) }
     ensures pace { pace_of result ≡ unwrap_or programmer.now.busy 0 }
+    ensures torn { torn_of result ≡ None }
 {
     let config = config_of(programmer);
     let delays = Delays {

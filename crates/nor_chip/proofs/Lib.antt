@@ -1,3 +1,4 @@
+pub mod AtStops
 pub mod Guarded
 pub mod GuardedPlaces
 pub mod Kept

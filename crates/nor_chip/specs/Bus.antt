@@ -1,9 +1,9 @@
 -- What a bus keeps. Contracts see a bus as one state.
-use Rattle.std.specs.Prelude.{◌≡◌, ◌+◌, ◌||◌, ℕ, Bool, true, false, List, [], length, Result, OnOk, OnErr}
+use Rattle.std.specs.Prelude.{◌≡◌, ◌+◌, ◌⊎◌, ◌||◌, ℕ, Bool, true, false, List, [], length, take, Result, OnOk, OnErr}
 use Rattle.std.proofs.Common.{refl}
 use Rattle.nor_chip.specs.declared.running.Running.TheVariants.{Unknown}
 use Rattle.nor_chip.specs.Chip.{Chip}
-use Rattle.nor_chip.specs.Power.{AtStop}
+use Rattle.nor_chip.specs.Power.{PowerLost}
 use Rattle.nor_chip.specs.declared.sent.Sent.{Sent}
 use Rattle.nor_chip.specs.Sent.{Notes}
 use Rattle.nor_chip.specs.Heard.{heard_after}
@@ -21,7 +21,7 @@ pub record BusState : Type 0 where
   pub sent : Sent
   -- the sectors that were erased
   pub worn : ℕ → Bool
-  -- a stop leaves the chip as it was, and no power is lost
+  -- a stop sends no byte of its transaction and loses no power, so it leaves the chip as it was
   pub steady : Bool
   -- the last poll that was replied to showed that the chip is ready
   pub heard : Bool
@@ -41,12 +41,23 @@ pub record Hears (out answer : List ℕ) (outcome : Result Unit Stopped) (old ne
   pub told : OnOk outcome (new.heard ≡ heard_after out answer old.heard)
   pub stopped : OnErr outcome (new.heard ≡ old.heard)
 
--- Stopped: there was no transaction left, and nothing moved, or on a bus that isn't steady the power was lost.
-pub record Stops (old new : BusState) : Type 0 where
+-- What a stop leaves. The first `count` bytes of the transaction were sent (none, some or all), and the chip made the
+-- step that these ask for; no reply was read. Then the chip lost its power, or did not. On a steady bus no byte was sent
+-- and no power was lost.
+pub record AtStop (out : List ℕ) (old new : BusState) : Type 0 where
+  pub count : ℕ
+  pub reached : Chip
+  pub step : Step old.chip (take count out) [] reached
+  pub chip : (new.chip ≡ reached) ⊎ PowerLost reached new.chip
+  pub worn : (s : ℕ) → new.worn s ≡ (old.worn s || wears (done_of old.chip (take count out) 0) s)
+  pub none : old.steady ≡ true → count ≡ 0
+  pub still : old.steady ≡ true → new.chip ≡ old.chip
+
+-- The bus stopped: it had no transaction left to carry out.
+pub record Stops (out : List ℕ) (old new : BusState) : Type 0 where
   pub none_left : old.left ≡ 0
   pub left : new.left ≡ old.left
-  pub chip : AtStop old.steady old.chip new.chip
-  pub worn : (s : ℕ) → new.worn s ≡ old.worn s
+  pub at_stop : AtStop out old new
 
 -- Carried out: the chip made one step, one transaction less is left, and an erase wore its sectors.
 pub record Carries (out answer : List ℕ) (old new : BusState) : Type 0 where

@@ -1,4 +1,4 @@
--- Loss of power: what it leaves of a chip, and what a stop may leave.
+-- Loss of power: what it leaves of a chip.
 use Rattle.std.specs.Prelude.{◌≡◌, ◌<◌, ◌≤◌, ◌+◌, ◌*◌, ◌/◌, ◌%◌, ◌==◌, ◌&&◌, ◌⊎◌, ℕ, Bool, true, false, not, nat_lt, nat_le, if◌then◌else◌, ⊤}
 use Rattle.nor_chip.specs.declared.running.Running.{Running}
 use Rattle.nor_chip.specs.declared.running.Running.TheVariants.{Program, Erase, StatusWrite, Unknown}
@@ -56,7 +56,3 @@ pub record PowerLostWith (fill : ℕ) (old new : Chip) : Type 0 where
   pub busy : new.busy ≡ 0
   pub bytes : (a : ℕ) → new.bytes a ≡ (if is_cut old a then fill else old.bytes a)
   pub kept : new.kept ≡ (if not (old.busy == 0) && fill % 2 == 0 then kept_before old else old.kept)
-
--- What a stop may leave of the chip: the same chip, or on a bus that isn't steady one that has lost its power.
-abbrev pub AtStop : (steady : Bool) → (old new : Chip) → Type 0
-AtStop steady old new = (new ≡ old) ⊎ ((steady ≡ false) × PowerLost old new)

@@ -1,14 +1,15 @@
 -- The simulated bus, as contracts see it.
-use Rattle.std.specs.Prelude.{◌≡◌, ℕ, List, length, Option, Result, true, false, slice_index_or, OnOk, OnErr, MatchOption}
+use Rattle.std.specs.Prelude.{◌≡◌, ◌&&◌, ◌||◌, ℕ, Bool, List, [], length, take, Option, None, Some, Result, true, false, slice_index_or, OnOk, OnErr}
 use Rattle.std.specs.Option.{is_none}
 use Rattle.nor_chip.specs.declared.sim.SimBus.{SimBus}
 use Rattle.nor_chip.specs.declared.bus.Stopped.{Stopped}
+use Rattle.nor_chip.specs.Chip.{Chip}
 use Rattle.nor_chip.specs.Flash.{chip_of}
 use Rattle.nor_chip.specs.Power.{PowerLostWith}
-use Rattle.nor_chip.specs.Step.{is_operation, done_of}
+use Rattle.nor_chip.specs.Step.{Step, is_operation, done_of, wears}
 use Rattle.nor_chip.specs.Bus.{BusState}
 
--- an honest bus to the chip that it simulates, steady while no fill is set
+-- an honest bus to the chip that it simulates; it is steady if neither a fill nor a tear is set
 abbrev pub state_of : SimBus → BusState
 state_of bus = record {
   chip = chip_of bus.flash;
@@ -16,7 +17,7 @@ state_of bus = record {
   honest = true;
   sent = bus.sent;
   worn = λ s. slice_index_or bus.worn s false;
-  steady = is_none bus.fill;
+  steady = is_none bus.fill && is_none bus.torn;
   heard = bus.heard;
 }
 
@@ -24,17 +25,51 @@ state_of bus = record {
 abbrev pub fill_of : SimBus → Option ℕ
 fill_of bus = bus.fill
 
+-- how many bytes of its transaction a stop sends, if it sends any
+abbrev pub torn_of : SimBus → Option ℕ
+torn_of bus = bus.torn
+
 -- how many polls answer BUSY after each operation
 abbrev pub pace_of : SimBus → ℕ
 pace_of bus = bus.flash.each
 
--- What a transaction of a simulated bus does beyond the law: fill and pace stay, an operation is followed by so many
--- polls that answer BUSY, and the power that is lost at a stop leaves the fill.
+-- The chip at a stop, before any loss of power: nothing of the transaction was sent, or its first `count` bytes.
+abbrev pub TornTo : (torn : Option ℕ) → (out : List ℕ) → (old new : Chip) → Type 0
+TornTo None out old new = new ≡ old
+TornTo (Some count) out old new = Step old (take count out) [] new
+
+-- The chip after a stop: it kept its power, or lost it with this fill.
+abbrev pub LostTo : (fill : Option ℕ) → (old new : Chip) → Type 0
+LostTo None old new = new ≡ old
+LostTo (Some fill) old new = PowerLostWith fill old new
+
+-- A stop leaves what is set, what is left and what was noted of the bus as it was.
+pub record KeepsBus (old new : SimBus) : Type 0 where
+  pub fill : fill_of new ≡ fill_of old
+  pub torn : torn_of new ≡ torn_of old
+  pub pace : pace_of new ≡ pace_of old
+  pub left : new.left ≡ old.left
+  pub sent : new.sent ≡ old.sent
+  pub heard : new.heard ≡ old.heard
+
+-- which sectors count as erased after a stop
+abbrev pub WornTo : (torn : Option ℕ) → (out : List ℕ) → Chip → (old new : ℕ → Bool) → Type 0
+WornTo None out chip old new = (s : ℕ) → new s ≡ old s
+WornTo (Some count) out chip old new = (s : ℕ) → new s ≡ (old s || wears (done_of chip (take count out) 0) s)
+
+-- A stop cuts its transaction after some bytes, or does not begin it; then the chip loses its power, or does not.
+pub record TearsOff (torn fill : Option ℕ) (out : List ℕ) (old new : Chip) : Type 0 where
+  pub reached : Chip
+  pub torn_off : TornTo torn out old reached
+  pub lost : LostTo fill reached new
+
+-- What a transaction of a simulated bus does beyond the contract of a bus: fill, tear and pace stay, an operation is
+-- followed by the set number of polls that show BUSY, and a stop leaves what the tear and the fill say.
 pub record Simulates (out answer : List ℕ) (outcome : Result Unit Stopped) (old new : SimBus) : Type 0 where
   pub fill : fill_of new ≡ fill_of old
+  pub torn : torn_of new ≡ torn_of old
   pub pace : pace_of new ≡ pace_of old
   pub paced : OnOk outcome
       (is_operation (done_of (chip_of old.flash) out (length answer)) ≡ true → new.flash.busy ≡ pace_of old)
   pub cut : OnErr outcome
-      (MatchOption (fill_of old) (chip_of new.flash ≡ chip_of old.flash)
-      (λ fill. PowerLostWith fill (chip_of old.flash) (chip_of new.flash)))
+      (TearsOff (torn_of old) (fill_of old) out (chip_of old.flash) (chip_of new.flash))

@@ -65,7 +65,7 @@ pub record IsPassedOn (byte_for : ℕ → ℕ) (out answer : List ℕ) (old new 
 -- The bus inside took the transaction, or stopped it, and then an honest one left the reply as it was.
 abbrev pub GoesThrough : (ℕ → ℕ) → (out asked answer : List ℕ) → Result Unit Stopped → (old new : BusState) → Type 0
 GoesThrough byte_for out asked answer (Ok done) old new = IsPassedOn byte_for out answer old new
-GoesThrough byte_for out asked answer (Err stopped) old new = old.honest ≡ true → (answer ≡ asked) × Stops old new
+GoesThrough byte_for out asked answer (Err stopped) old new = old.honest ≡ true → (answer ≡ asked) × Stops out old new
 
 -- What a transaction of a spoilt bus does. One that the bus inside stops isn't counted.
 pub record Spoils {B : Type 0} (state : B → BusState) (out asked answer : List ℕ) (outcome : Result Unit Stopped)

@@ -5,7 +5,7 @@ ghost use Rattle.nor_chip.specs.Bus.{BusState, Sends, Stops, Carries, Hears, All
 
 use std::fmt;
 
-/// The bus carried a transaction out no more: its power went, or its allowance was used up.
+/// The bus did not carry out the whole transaction: its power failed, or its allowance was used up.
 #[derive(Clone, Copy, Debug, PartialEq, Eq)]
 pub struct Stopped;
 
@@ -17,30 +17,32 @@ impl fmt::Display for Stopped {
 
 impl std::error::Error for Stopped {}
 
-/// A way to a chip. A transaction sends the bytes `out` and then takes in as many bytes as `reply` holds.
+/// A bus to a chip. A transaction sends the bytes `out` and then reads as many bytes as `reply` holds.
 ///
-/// Contracts see a bus as a `BusState`. Where that is honest, the bus keeps the law: it stops exactly where no
-/// transaction is left, and then nothing moves; else the chip makes one step. A bus that lies may do anything
-/// but change its honesty, or hide what was sent that may change a chip and what its polls replied of BUSY.
+/// Contracts see a bus as a `BusState`. An *honest* bus stops if and only if no transaction is left; otherwise the chip
+/// makes one step. At a stop a *steady* bus sends nothing and keeps the chip's power. Any other honest bus may at a stop
+/// have sent the first bytes of the transaction (none, some or all), and the chip may then have lost its power. A faulty
+/// bus may do anything except three things: change its honesty, hide sent bytes that may modify a chip, and hide the BUSY
+/// bits that its polls replied.
 pub trait Bus {
     ghost state: { Self → BusState };
 
-    /// One transaction.
+    /// Sends `out`, then reads `reply`. Returns `Stopped` if the bus did not carry out the whole transaction.
     fn transfer(&mut self, out: &[u8], reply: &mut [u8]) -> Result<(), Stopped>
         ensures sends { Sends out.now (state self.old) (state self.new) }
-        ensures stops { (state self.old).honest ≡ true → OnErr result (Stops (state self.old) (state self.new)) }
+        ensures stops { (state self.old).honest ≡ true → OnErr result (Stops out.now (state self.old) (state self.new)) }
         ensures unread { (state self.old).honest ≡ true → OnErr result (reply.new ≡ reply.old) }
         ensures carries { (state self.old).honest ≡ true
             → OnOk result (Carries out.now reply.new (state self.old) (state self.new)) }
         ensures hears { Hears out.now reply.new result (state self.old) (state self.new) };
 
-    /// What an honest bus reaches is a chip.
+    /// An honest bus reaches a chip.
     ghost reaches: { (bus : Self) → (state bus).honest ≡ true → IsChip (state bus).chip };
 }
 
-/// A bus whose allowance can be set.
+/// A bus that can be told to stop.
 pub trait Meter: Bus {
-    /// Lets so many transactions through from now on, where the bus is honest. All else stays.
+    /// Sets how many more transactions the bus carries out, if it is honest. All else stays.
     fn allow(&mut self, n: u64)
         ensures { Allows n (Self.state self.old) (Self.state self.new) };
 }

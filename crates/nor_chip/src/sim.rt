@@ -1,5 +1,5 @@
 //! A simulated bus: the modelled chip in memory.
-ghost use Rattle.std.specs.Prelude.{◌≡◌, ◌≢◌, ◌<◌, ◌||◌, ◌↔◌, ℕ, true, false, length, slice_index_or, vec_len};
+ghost use Rattle.std.specs.Prelude.{◌≡◌, ◌≢◌, ◌<◌, ◌||◌, ◌&&◌, ◌↔◌, ℕ, true, false, length, slice_index_or, vec_len};
 ghost use Rattle.std.specs.Prelude.{IsErr, IfOk, OnOk, OnErr};
 ghost use Rattle.nor_chip.specs.Aim.{IsAimed};
 ghost use Rattle.nor_chip.specs.Step.{wears};
@@ -15,14 +15,14 @@ use std::fmt;
 mod cells;
 mod flash;
 
-/// How many polls a simulated chip answers BUSY: now, and after each operation from then on.
+/// How many polls of a simulated chip show BUSY: at first (`now`), and after each operation (`each`).
 #[derive(Clone, Copy, Debug, PartialEq, Eq)]
 pub struct Delays {
     pub now: u16,
     pub each: u16,
 }
 
-/// The bytes handed in aren't as many as the chip has.
+/// The number of bytes differs from the chip's size.
 #[derive(Clone, Copy, Debug, PartialEq, Eq)]
 pub struct WrongLength;
 
@@ -34,13 +34,14 @@ impl fmt::Display for WrongLength {
 
 impl std::error::Error for WrongLength {}
 
-/// An honest bus to a chip that is simulated in memory. It carries as many transactions out as it was last
-/// allowed, and then none.
+/// An honest bus to a chip that is simulated in memory. It carries out as many transactions as `allow` set, and then
+/// stops.
 #[derive(Drop)]
 pub struct SimBus {
     flash: Flash,
     left: u64,
     fill: Option<u8>,
+    torn: Option<u32>,
     sent: Sent,
     worn: [bool; MOST_SECTORS as usize],
     heard: bool,
@@ -49,11 +50,14 @@ pub struct SimBus {
 impl SimBus {
     ghost use Rattle.std.specs.Option.{is_none};
     ghost use Rattle.nor_chip.specs.Start.{Starts, AreChipBytes, status_of};
-    ghost use Rattle.nor_chip.specs.Sim.{fill_of, pace_of};
+    ghost use Rattle.nor_chip.specs.Flash.{chip_of};
+    ghost use Rattle.nor_chip.specs.Bus.{AtStop};
+    ghost use Rattle.nor_chip.specs.Sim.{state_of, fill_of, torn_of, pace_of, TornTo, WornTo, TearsOff, KeepsBus};
 
-    /// A bus to a chip with this configuration, these bytes and these two status bytes, of which BUSY (bit 0 of
-    /// the first) and SUS (bit 7 of the second) aren't looked at. It lets no transaction through until it is
-    /// allowed to.
+    /// Returns a bus to a chip with this configuration, these contents and these two status bytes. BUSY (bit 0 of the
+    /// first) and SUS (bit 7 of the second) are ignored. The bus carries out no transaction before `allow` is called.
+    ///
+    /// Returns `WrongLength` if the number of bytes differs from the chip's size.
     pub fn new(
         config: Config,
         bytes: Vec<u8>,
@@ -64,6 +68,7 @@ impl SimBus {
         ensures starts { IfOk result (λ bus. Starts config bytes.items status delays (⟦<SimBus as Bus>⟧.state bus)) }
         ensures pace { IfOk result (λ bus. pace_of bus ≡ delays.each) }
         ensures fill { IfOk result (λ bus. fill_of bus ≡ None) }
+        ensures torn { IfOk result (λ bus. torn_of bus ≡ None) }
     {
         if bytes.len() != config.size as usize {
             return Err(WrongLength);
@@ -83,37 +88,79 @@ impl SimBus {
             flash,
             left: 0,
             fill: None,
+            torn: None,
             sent,
             worn: [false; MOST_SECTORS as usize],
             heard: false,
         })
     }
 
-    /// The chip's bytes, from address 0 on.
+    /// Returns the chip's contents, from address 0.
     pub fn bytes(&self) -> &[u8]
         ensures { AreChipBytes (⟦<SimBus as Bus>⟧.state self.now).chip result.now }
     {
         &self.flash.bytes
     }
 
-    /// From now on a stop loses the power, where a fill is given: each byte of what runs becomes the fill, a running
-    /// status write leaves the old bits where the fill is even and the new ones where it is odd, and the latch is
-    /// clear and nothing runs. Where nothing is known of what runs, bytes and kept bits stay. Without a fill a stop
-    /// leaves the chip as it is, as at the start.
+    /// Sets whether a stop loses the chip's power, and what is left then. With `Some(fill)` each byte that a running
+    /// program or erase works on becomes `fill`; a running status write leaves the old bits if `fill` is even, and the
+    /// new ones if it is odd; the latch is cleared, and nothing runs. If it is not known what runs, the contents and the
+    /// non-volatile status bits stay. With `None`, as after `new`, a stop keeps the power.
     pub fn lose(&mut self, fill: Option<u8>)
         ensures state { ⟦<SimBus as Bus>⟧.state self.new
-            ≡ record (⟦<SimBus as Bus>⟧.state self.old) { steady = is_none fill } }
+            ≡ record (⟦<SimBus as Bus>⟧.state self.old) { steady = is_none fill && is_none (torn_of self.old) } }
         ensures fill { fill_of self.new ≡ fill }
+        ensures torn { torn_of self.new ≡ torn_of self.old }
         ensures pace { pace_of self.new ≡ pace_of self.old }
     {
         self.fill = fill;
     }
 
-    /// The two status bytes, as 05h and 35h would reply them.
+    /// Sets where a stop cuts its transaction. With `Some(count)` the first `count` bytes are sent (all of them, if there
+    /// are fewer), the chip does what these ask for, and no reply is read. With `None`, as after `new`, no byte is sent.
+    /// After the cut the chip loses its power if `lose` set that.
+    pub fn tear(&mut self, count: Option<u32>)
+        ensures state { ⟦<SimBus as Bus>⟧.state self.new
+            ≡ record (⟦<SimBus as Bus>⟧.state self.old) { steady = is_none (fill_of self.old) && is_none count } }
+        ensures torn { torn_of self.new ≡ count }
+        ensures fill { fill_of self.new ≡ fill_of self.old }
+        ensures pace { pace_of self.new ≡ pace_of self.old }
+    {
+        self.torn = count;
+    }
+
+    /// Returns the two status bytes, as 05h and 35h would reply them.
     pub fn status(&self) -> [u8; 2]
         ensures { result ≡ status_of (⟦<SimBus as Bus>⟧.state self.now).chip }
     {
         self.flash.status().bytes()
+    }
+
+    // Sends the first bytes of the transaction, if a tear is set.
+    fn tear_off(&mut self, out: &[u8])
+        ensures torn { TornTo (torn_of self.old) out.now (chip_of self.old.flash) (chip_of self.new.flash) }
+        ensures worn { WornTo (torn_of self.old) out.now (chip_of self.old.flash)
+            (state_of self.old).worn (state_of self.new).worn }
+        ensures bus { KeepsBus self.old self.new }
+    {
+        if let Some(count) = self.torn {
+            let begun = &out[..(count as usize).min(out.len())];
+            let command = self.flash.step(begun, &mut []);
+            wear(&mut self.worn, command);
+        }
+    }
+
+    // Stops: cuts the transaction and loses the power, as far as these are set.
+    fn cut(&mut self, out: &[u8])
+        ensures at_stop { AtStop out.now (state_of self.old) (state_of self.new) }
+        ensures torn_off { TearsOff (torn_of self.old) (fill_of self.old) out.now
+            (chip_of self.old.flash) (chip_of self.new.flash) }
+        ensures bus { KeepsBus self.old self.new }
+    {
+        self.tear_off(out);
+        if let Some(fill) = self.fill {
+            self.flash.lose_power(fill);
+        }
     }
 }
 
@@ -133,7 +180,7 @@ impl Bus for SimBus {
     fn transfer(&mut self, out: &[u8], reply: &mut [u8]) -> Result<(), Stopped>
         ensures sends { Sends out.now (state_of self.old) (state_of self.new) }
         ensures stops { (state_of self.old).honest ≡ true
-            → OnErr result (Stops (state_of self.old) (state_of self.new)) }
+            → OnErr result (Stops out.now (state_of self.old) (state_of self.new)) }
         ensures unread { (state_of self.old).honest ≡ true → OnErr result (reply.new ≡ reply.old) }
         ensures carries { (state_of self.old).honest ≡ true
             → OnOk result (Carries out.now reply.new (state_of self.old) (state_of self.new)) }
@@ -142,9 +189,7 @@ impl Bus for SimBus {
     {
         self.sent.note(out);
         if self.left == 0 {
-            if let Some(fill) = self.fill {
-                self.flash.lose_power(fill);
-            }
+            self.cut(out);
             return Err(Stopped);
         }
         self.left -= 1;
@@ -157,11 +202,12 @@ impl Bus for SimBus {
 
 impl Meter for SimBus {
     ghost use Rattle.nor_chip.specs.Bus.{Allows};
-    ghost use Rattle.nor_chip.specs.Sim.{state_of, fill_of, pace_of};
+    ghost use Rattle.nor_chip.specs.Sim.{state_of, fill_of, torn_of, pace_of};
 
     fn allow(&mut self, n: u64)
         ensures allows { Allows n (state_of self.old) (state_of self.new) }
         ensures fill { fill_of self.new ≡ fill_of self.old }
+        ensures torn { torn_of self.new ≡ torn_of self.old }
         ensures pace { pace_of self.new ≡ pace_of self.old }
     {
         self.left = n;

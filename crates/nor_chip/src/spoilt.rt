@@ -85,7 +85,7 @@ impl<B: Bus> Bus for SpoiltBus<B> {
     fn transfer(&mut self, out: &[u8], reply: &mut [u8]) -> Result<(), Stopped>
         ensures sends { Sends out.now (spoilt_state B.state self.old) (spoilt_state B.state self.new) }
         ensures stops { (spoilt_state B.state self.old).honest ≡ true
-            → OnErr result (Stops (spoilt_state B.state self.old) (spoilt_state B.state self.new)) }
+            → OnErr result (Stops out.now (spoilt_state B.state self.old) (spoilt_state B.state self.new)) }
         ensures unread { (spoilt_state B.state self.old).honest ≡ true → OnErr result (reply.new ≡ reply.old) }
         ensures carries { (spoilt_state B.state self.old).honest ≡ true
             → OnOk result (Carries out.now reply.new (spoilt_state B.state self.old) (spoilt_state B.state self.new)) }

@@ -77,7 +77,7 @@ impl<B: Bus, L: Write> Bus for TraceBus<B, L> {
     fn transfer(&mut self, out: &[u8], reply: &mut [u8]) -> Result<(), Stopped>
         ensures sends { Sends out.now (B.state (traced_by self.old)) (B.state (traced_by self.new)) }
         ensures stops { (B.state (traced_by self.old)).honest ≡ true
-            → OnErr result (Stops (B.state (traced_by self.old)) (B.state (traced_by self.new))) }
+            → OnErr result (Stops out.now (B.state (traced_by self.old)) (B.state (traced_by self.new))) }
         ensures unread { (B.state (traced_by self.old)).honest ≡ true → OnErr result (reply.new ≡ reply.old) }
         ensures carries { (B.state (traced_by self.old)).honest ≡ true
             → OnOk result (Carries out.now reply.new (B.state (traced_by self.old)) (B.state (traced_by self.new))) }

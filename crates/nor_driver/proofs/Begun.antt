@@ -1,5 +1,5 @@
 -- An operation is write enable, a command and a wait: what the three leave together.
-use Rattle.std.proofs.Common.{◌≡◌, ◌+◌, ◌⊎◌, ℕ, true, false, not, List, [], ◌∷◌, length, arith, inl, inr}
+use Rattle.std.proofs.Common.{◌≡◌, ◌+◌, ◌⊎◌, ℕ, true, false, not, List, [], ◌∷◌, length, take, cond, ap, ◌∙◌, arith, inl, inr}
 use Rattle.std.specs.Prelude.{◌==◌, if◌then◌else◌}
 use Rattle.std.proofs.lemmas.Bool.Decides.{eqb_tells, nat_tests}
 use Rattle.std.proofs.Math.Bool.{or-false}
@@ -7,7 +7,7 @@ use Rattle.nor_chip.specs.declared.command.Command.{Command}
 use Rattle.nor_chip.specs.declared.command.Command.TheVariants.{Ignored}
 use Rattle.nor_chip.specs.Chip.{Chip, KeptBits}
 use Rattle.nor_chip.specs.Power.{is_in_work, KeptCut}
-use Rattle.nor_chip.specs.Step.{Does, is_idle, is_operation, done_of, byte_after, kept_after, running_after}
+use Rattle.nor_chip.specs.Step.{Does, is_carried_out, is_idle, is_operation, done_of, byte_after, kept_after, running_after}
 use Rattle.nor_chip.specs.Bus.{BusState, Carries}
 use Rattle.nor_chip.proofs.Steps.{done-agrees}
 use Rattle.nor_driver.specs.Looks.{Unchanged, Stays}
@@ -34,18 +34,28 @@ pub then_done : (out : List ℕ) (old ready : BusState) → AsksForOperation out
     → done_of ready.chip out 0 ≡ operation_of old.chip out
 then_done out old ready asks enabling = elim (eqb_tells old.chip.busy 0) [
   | inl idle ↦ done-agrees (record old.chip { latch = true }) ready.chip out 0 (grind arith)
-  | inr busy ↦ grind (arith, asks old.chip.config)
+  | inr busy ↦ grind (arith, asks.whole old.chip.config)
 ]
+
+-- what a prefix of the command's bytes does: the command's operation, or nothing
+pub part_done : (out : List ℕ) (old ready : BusState) (count : ℕ) → AsksForOperation out → IsEnabled old ready
+    → (done_of ready.chip (take count out) 0 ≡ Ignored) ⊎ (done_of ready.chip (take count out) 0 ≡ operation_of old.chip out)
+part_done out old ready count asks enabling =
+    let does = λ (k : Command). cond (is_carried_out ready.chip k) k Ignored in
+    elim (asks.begun ready.chip.config count) [
+      | inl none ↦ inl (ap does none)
+      | inr same ↦ inr (ap does same ∙ then_done out old ready asks enabling)
+    ]
 
 -- what is no operation, of what an operation may ask for, is ignored
 pub operation-ignored : (chip : Chip) (out : List ℕ) → AsksForOperation out
     → is_operation (operation_of chip out) ≡ false → operation_of chip out ≡ Ignored
-operation-ignored chip out asks none = grind (arith, asks chip.config)
+operation-ignored chip out asks none = grind (arith, asks.whole chip.config)
 
 -- an operation that is done is that of an idle chip
 pub idle-takes : (chip : Chip) (out : List ℕ) → AsksForOperation out → is_operation (operation_of chip out) ≡ true
     → chip.busy ≡ 0
-idle-takes chip out asks is = grind (arith, asks chip.config, nat_tests)
+idle-takes chip out asks is = grind (arith, asks.whole chip.config, nat_tests)
 
 -- An operation has begun: its effect is there, and the chip is busy for a while, or not at all.
 pub record HasBegun (command : Command) (sent : List ℕ) (old new : BusState) : Type 0 where
@@ -85,6 +95,11 @@ may-after command sent old begun new is steady has stays =
     let outside = outside-work old.chip command sent in
     let kept = kept-cut command old.chip begun.chip.kept new.chip.kept is has.kept in
     grind (arith, stays.calm, has.bytes, stays.bytes, outside, stays.worn, has.worn, or-false, kept)
+
+-- a bus that is not steady promises no byte at the command's addresses
+pub may-shaky : (command : Command) (sent part : List ℕ) (old new : BusState) → old.steady ≡ false
+    → MayOperate command part old new → MayOperate command sent old new
+may-shaky command sent part old new shaky may = grind (arith, may.bytes, may.worn)
 
 pub operated : (command : Command) (sent : List ℕ) (old begun new : BusState) (waited : _)
     → HasBegun command sent old begun → HasWaited begun new waited → HasOperated command sent old new

@@ -1,13 +1,13 @@
--- What a stop leaves, and what transactions leave that only read, one after another.
+-- What transactions leave that only read, one after another.
 use Rattle.std.proofs.Common.{◌≡◌, arith}
 use Rattle.nor_chip.specs.declared.running.Running.{Running}
 use Rattle.nor_chip.specs.Chip.{Chip, IsSame, KeptBits}
 use Rattle.nor_chip.specs.Power.{KeptCut}
-use Rattle.nor_chip.specs.Bus.{BusState, Stops}
+use Rattle.nor_chip.specs.Bus.{BusState}
 use Rattle.nor_driver.specs.Looks.{Unchanged, Stays}
 
 -- kept bits that stayed weren't cut off
-kept_cut-stay : (running : Running) (old new : KeptBits) → new ≡ old → KeptCut running old new
+pub kept_cut-stay : (running : Running) (old new : KeptBits) → new ≡ old → KeptCut running old new
 kept_cut-stay running old new stay = grind arith
 
 -- kept bits of what was cut off already
@@ -29,11 +29,6 @@ unchanged_stays old new unchanged =
     let same = unchanged.same in
     let kept = kept_cut-stay old.chip.running old.chip.kept new.chip.kept same.kept in
     search same.bytes
-
--- a stop leaves what ran before, or what is left of it without power
-pub stays_at_stop : (old new : BusState) → Stops old new → Stays old new
-stays_at_stop old new stops =
-    grind (arith, stops.worn, kept_cut-stay old.chip.running old.chip.kept new.chip.kept)
 
 -- where what ran was cut off, the rest is a reading of an idle chip
 pub stays_then : (old mid new : BusState) → mid.steady ≡ old.steady → Stays old mid → Stays mid new → Stays old new

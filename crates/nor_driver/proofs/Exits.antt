@@ -1,19 +1,20 @@
 -- What an operation leaves wherever it ends: at its write enable or its command, in its wait, or well.
-use Rattle.std.proofs.Common.{◌≡◌, ◌+◌, ◌∙◌, ℕ, true, false, List, [], ◌∷◌, length, drop, ap, refl, subst, arith}
+use Rattle.std.proofs.Common.{◌≡◌, ◌+◌, ◌∙◌, ◌⊎◌, ℕ, true, false, List, [], ◌∷◌, length, drop, take, ap, refl, sym, subst, arith, inl, inr}
 use Rattle.nor_chip.specs.declared.command.Command.{Command}
 use Rattle.nor_chip.specs.Sent.{aims}
 use Rattle.nor_chip.specs.Step.{Does, is_operation, done_of}
-use Rattle.nor_chip.specs.Bus.{BusState, Sends, Stops, Carries}
+use Rattle.nor_chip.specs.Bus.{BusState, Sends, AtStop, Stops, Carries}
 use Rattle.nor_chip.proofs.Nature.{nature_then}
 use Rattle.nor_driver.specs.declared.waits.Waited.{Waited}
 use Rattle.nor_driver.specs.Looks.{Unchanged, Stays, Falls, Looks}
 use Rattle.nor_driver.specs.Waits.{Waits}
 use Rattle.nor_driver.specs.Reads.{HasRead}
-use Rattle.nor_driver.specs.Operations.{operation_of, AsksForOperation, Stirs, writes_in, most_operation, LeavesOperation, Operates}
+use Rattle.nor_driver.specs.Operations.{operation_of, AsksForOperation, Stirs, writes_in, most_operation, MayOperate, LeavesOperation, Operates}
 use Rattle.nor_driver.proofs.Aims.{enable_aims, command_aims, still_stirred}
-use Rattle.nor_driver.proofs.Cuts.{stays_at_stop, stays_after, unchanged_then}
-use Rattle.nor_driver.proofs.Readings.{Wore, carried_ignored}
-use Rattle.nor_driver.proofs.Begun.{IsEnabled, enabled, then_done, operation-ignored, idle-takes, HasBegun, operation-begins, may-before, may-after, operated, latch-kept}
+use Rattle.nor_driver.proofs.Cuts.{stays_after, unchanged_then}
+use Rattle.nor_driver.proofs.Torn.{Wore, StandsStill, still_or_torn, still_stays, reached, reached_stays, none_begun, enable_stays}
+use Rattle.nor_driver.proofs.Readings.{carried_ignored}
+use Rattle.nor_driver.proofs.Begun.{IsEnabled, enabled, then_done, part_done, operation-ignored, idle-takes, HasBegun, operation-begins, may-before, may-after, may-shaky, operated, latch-kept}
 
 module _ (out : List ℕ) (asks : AsksForOperation out) (old : BusState) where
   -- the command wasn't carried out
@@ -24,12 +25,12 @@ module _ (out : List ℕ) (asks : AsksForOperation out) (old : BusState) where
       search (may-before (operation_of old.chip out) (drop 4 out) old new, idle-takes old.chip out asks, stays)
 
   -- the write enable itself was the last thing sent
-  pub leaves-at_enable : (new : BusState) → Sends (6 ∷ []) old new → (old.honest ≡ true → Stops old new)
+  pub leaves-at_enable : (new : BusState) → Sends (6 ∷ []) old new → (old.honest ≡ true → Stops (6 ∷ []) old new)
       → LeavesOperation out old new
   leaves-at_enable new sends stops =
       let aimed = enable_aims (aims out) (writes_in out) old new sends in
       not_begun new record { nature = sends.nature; stirred = sends.sent.stirred refl; aims = aimed }
-      (λ honest. omega (arith, (stops honest).left)) (λ honest. stays_at_stop old new (stops honest))
+      (λ honest. omega (arith, (stops honest).left)) (λ honest. enable_stays old new (stops honest))
 
   module _ (ready : BusState) (first : List ℕ) (none : length first ≡ 0) (sends : Sends (6 ∷ []) old ready)
       (carries : old.honest ≡ true → Carries (6 ∷ []) first old ready) where
@@ -46,13 +47,60 @@ module _ (out : List ℕ) (asks : AsksForOperation out) (old : BusState) where
         let aimed = command_aims out old ready new sends sends' in
         search (nature, aimed, still_stirred out ready new (sends.sent.stirred refl) sends')
 
-    pub leaves-at_command : (new : BusState) → Sends out ready new → (ready.honest ≡ true → Stops ready new)
+    -- The bytes that were sent of the command were no operation, or the operation itself.
+    module _ (honest : old.honest ≡ true) (new : BusState) where
+      stays-before : Stays ready new → Stays old new
+      stays-before stays = stays_after old ready new sends.nature.steady (enabling honest).unchanged stays
+
+      module _ (shaky : ready.steady ≡ false) (cut : AtStop out ready new) where
+        begins-part : is_operation (operation_of old.chip out) ≡ true
+            → done_of ready.chip (take cut.count out) 0 ≡ operation_of old.chip out
+            → HasBegun (operation_of old.chip out) (drop 4 (take cut.count out)) old (reached out ready new cut)
+        begins-part is same =
+            operation-begins (operation_of old.chip out) (drop 4 (take cut.count out)) [] old ready
+            (reached out ready new cut) is (enabling honest).unchanged
+            (subst (λ (k : Command). Does k (drop 4 (take cut.count out)) ready.chip [] cut.reached) same cut.step)
+            (subst (λ (k : Command). Wore k ready (reached out ready new cut)) same cut.worn)
+
+        may-cut : is_operation (operation_of old.chip out) ≡ true
+            → MayOperate (operation_of old.chip out) (drop 4 out) old new
+        may-cut is = elim (part_done out old ready cut.count asks (enabling honest)) [
+          | inl none ↦
+              may-before _ _ old new (idle-takes old.chip out asks is)
+              (stays-before (none_begun out ready new shaky cut (ap is_operation none)))
+          | inr same ↦
+              may-shaky _ (drop 4 out) _ old new (sym sends.nature.steady ∙ shaky)
+              (may-after _ _ old (reached out ready new cut) new is sends.nature.steady (begins-part is same)
+              (reached_stays out ready new shaky cut))
+        ]
+
+        stays-cut : is_operation (operation_of old.chip out) ≡ false → Stays old new
+        stays-cut none = stays-before (none_begun out ready new shaky cut
+            (elim (part_done out old ready cut.count asks (enabling honest)) [
+              | inl nothing ↦ ap is_operation nothing
+              | inr same ↦ ap is_operation same ∙ none
+            ]))
+
+      may-at_stop : is_operation (operation_of old.chip out) ≡ true
+          → StandsStill ready new ⊎ ((ready.steady ≡ false) × AtStop out ready new)
+          → MayOperate (operation_of old.chip out) (drop 4 out) old new
+      may-at_stop is (inl still) =
+          may-before _ _ old new (idle-takes old.chip out asks is) (stays-before (still_stays ready new still))
+      may-at_stop is (inr cut) = may-cut cut.0 cut.1 is
+
+      stays-at_stop : is_operation (operation_of old.chip out) ≡ false
+          → StandsStill ready new ⊎ ((ready.steady ≡ false) × AtStop out ready new) → Stays old new
+      stays-at_stop none (inl still) = stays-before (still_stays ready new still)
+      stays-at_stop none (inr cut) = stays-cut cut.0 cut.1 none
+
+    pub leaves-at_command : (new : BusState) → Sends out ready new → (ready.honest ≡ true → Stops out ready new)
         → LeavesOperation out old new
-    leaves-at_command new sends' stops =
-        not_begun new (stirs-by new sends')
-        (λ honest. omega (arith, (enabling honest).count, (stops (honest-still honest)).left))
-        (λ honest. stays_after old ready new sends.nature.steady (enabling honest).unchanged
-        (stays_at_stop ready new (stops (honest-still honest))))
+    leaves-at_command new sends' stops = record {
+      stirs = stirs-by new sends';
+      falls = λ honest. omega (arith, (enabling honest).count, (stops (honest-still honest)).left);
+      reached = λ honest is. may-at_stop honest new is (still_or_torn out ready new (stops (honest-still honest)).at_stop);
+      ignored = λ honest none. stays-at_stop honest new none (still_or_torn out ready new (stops (honest-still honest)).at_stop);
+    }
 
     module _ (begun : BusState) (second : List ℕ) (none' : length second ≡ 0) (sends' : Sends out ready begun)
         (carries' : ready.honest ≡ true → Carries out second ready begun) where

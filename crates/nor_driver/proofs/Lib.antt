@@ -1,9 +1,11 @@
 pub mod Aims
+pub mod Asks
 pub mod Cuts
 pub mod LooksInTurn
 pub mod Readings
 pub mod RestsInTurn
 pub mod Told
+pub mod Torn
 pub mod Begun
 pub mod Exits
 pub mod Taken

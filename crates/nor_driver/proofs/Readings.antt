@@ -1,27 +1,20 @@
 -- What one transaction that reads leaves, and what it tells.
-use Rattle.std.proofs.Common.{◌≡◌, ◌≤◌, ◌+◌, ◌||◌, ℕ, true, false, List, [], ◌∷◌, length, refl, ap, arith, inl, inr}
-use Rattle.std.specs.Prelude.{Result, OnOk, OnErr}
+use Rattle.std.proofs.Common.{◌≡◌, ◌≤◌, ◌+◌, ℕ, true, false, List, [], ◌∷◌, length, refl, ap, arith, inl, inr}
+use Rattle.std.specs.Prelude.{Result, Ok, Err, OnOk, OnErr}
 use Rattle.std.proofs.lemmas.Bool.Decides.{eqb_tells}
-use Rattle.std.proofs.Math.Bool.{or-false}
 use Rattle.nor_chip.specs.declared.config.Config.{Config}
 use Rattle.nor_chip.specs.declared.command.Command.{Command}
 use Rattle.nor_chip.specs.declared.command.Command.TheVariants.{Ignored}
 use Rattle.nor_chip.specs.Chip.{Chip}
-use Rattle.nor_chip.specs.Step.{Does, is_operation, done_of, wears}
+use Rattle.nor_chip.specs.Step.{Does, is_operation, done_of}
 use Rattle.nor_chip.specs.Bus.{BusState, Sends, Stops, Carries, Hears}
 use Rattle.nor_chip.specs.Heard.{is_poll}
 use Rattle.nor_chip.specs.declared.bus.Stopped.{Stopped}
-use Rattle.nor_driver.specs.Looks.{Unchanged, Rested, LooksHonest, Looks}
+use Rattle.nor_driver.specs.Looks.{Rested, LooksHonest, Looks}
 use Rattle.nor_driver.specs.Reads.{changes_nothing, IsReading, HasRead, Replies}
-use Rattle.nor_driver.proofs.Cuts.{stays_at_stop, stays_then, unchanged_none, unchanged_then, unchanged_stays}
-
-abbrev pub Wore : Command → BusState → BusState → Type 0
-Wore command old new = (s : ℕ) → new.worn s ≡ (old.worn s || wears command s)
-
--- what no operation leaves
-pub no_operation : (command : Command) (sent answer : List ℕ) (old new : BusState) → is_operation command ≡ false
-    → Does command sent old.chip answer new.chip → Wore command old new → Unchanged old new
-no_operation command sent answer old new is does wore = grind (arith, wore, or-false)
+use Rattle.nor_driver.proofs.Cuts.{stays_then, unchanged_none, unchanged_then, unchanged_stays}
+pub use Rattle.nor_driver.proofs.Torn.{Wore, no_operation}
+use Rattle.nor_driver.proofs.Torn.{looked_at_stop}
 
 -- what a command that changes nothing leaves
 nothing_done : (command : Command) (sent answer : List ℕ) (old new : Chip) → changes_nothing command ≡ true
@@ -50,9 +43,6 @@ carried_ignored out answer old new ignored carries = carried_by out answer old n
 pub looked_by : (old new : BusState) (most : ℕ) → Rested old new → old.left ≡ new.left + most → LooksHonest most old new
 looked_by old new most rested count = search (arith, unchanged_stays old new rested.unchanged)
 
-looked_at_stop : (old new : BusState) (most : ℕ) → Stops old new → LooksHonest most old new
-looked_at_stop old new most stops = grind (arith, stays_at_stop old new stops)
-
 -- calls that look, one after another
 pub looked_then : (m n : ℕ) (old mid new : BusState) → mid.steady ≡ old.steady → LooksHonest m old mid
     → LooksHonest n mid new → LooksHonest (m + n) old new
@@ -68,17 +58,21 @@ rested_then old mid new first second = grind (arith, unchanged_then old mid new 
 pub rested_none : (bus : BusState) → Rested bus bus
 rested_none bus = search (unchanged_none bus)
 
+looked_at : {T E : Type 0} (outcome : Result T E) (out answer : List ℕ) (old new : BusState) → IsReading out
+    → OnErr outcome (Stops out old new) → OnOk outcome (Carries out answer old new) → LooksHonest 1 old new
+looked_at (Ok done) out answer old new is stops carries =
+    let read = carried_reading out answer old new is carries in
+    looked_by old new 1 read.rested read.count
+looked_at (Err stopped) out answer old new is stops carries = looked_at_stop out old new 1 is.quiet stops
+
 -- a transaction that reads, at any exit
 pub read_leaves : {T E : Type 0} (outcome : Result T E) (out answer : List ℕ) (old new : BusState) → IsReading out
-    → Sends out old new → (old.honest ≡ true → OnErr outcome (Stops old new))
+    → Sends out old new → (old.honest ≡ true → OnErr outcome (Stops out old new))
     → (old.honest ≡ true → OnOk outcome (Carries out answer old new)) → Looks 1 old new
 read_leaves outcome out answer old new is sends stops carries = record {
   nature = sends.nature;
   sent = sends.sent.quiet is.quiet;
-  looked = λ honest.
-      let carried = carried_reading out answer old new is in
-      let stopped = looked_at_stop old new 1 in
-      grind (arith, stops honest, carries honest, carried, stopped, looked_by old new 1);
+  looked = λ honest. looked_at outcome out answer old new is (stops honest) (carries honest);
 }
 
 pub read_does : {T E : Type 0} (outcome : Result T E) (out answer : List ℕ) (old new : BusState) → IsReading out

@@ -1,5 +1,5 @@
 -- What operations leave, whatever they are: write enable, a command, a wait.
-use Rattle.std.specs.Prelude.{◌≡◌, ◌≢◌, ◌≤◌, ◌+◌, ◌*◌, ◌⊎◌, ◌||◌, ℕ, Bool, true, false, List, ◌∷◌, drop, slice_index, if◌then◌else◌}
+use Rattle.std.specs.Prelude.{◌≡◌, ◌≢◌, ◌≤◌, ◌+◌, ◌*◌, ◌⊎◌, ◌||◌, ℕ, Bool, true, false, List, ◌∷◌, drop, take, slice_index, if◌then◌else◌}
 use Rattle.nor_chip.specs.declared.config.Config.{Config}
 use Rattle.nor_chip.specs.declared.command.Command.{Command}
 use Rattle.nor_chip.specs.declared.command.Command.TheVariants.{WriteStatus, Program, Erase, Ignored}
@@ -32,9 +32,11 @@ is_operation_or_none (Erase start len) = true
 is_operation_or_none Ignored = true
 is_operation_or_none _ = false
 
--- these bytes ask no chip for anything but an operation
-abbrev pub AsksForOperation : List ℕ → Type 0
-AsksForOperation out = (config : Config) → is_operation_or_none (command_of config out 0) ≡ true
+-- These bytes ask no chip for anything except an operation, and each prefix of them asks for the same one, or for none.
+pub record AsksForOperation (out : List ℕ) : Type 0 where
+  pub whole : (config : Config) → is_operation_or_none (command_of config out 0) ≡ true
+  pub begun : (config : Config) (count : ℕ) → (command_of config (take count out) 0 ≡ Ignored)
+      ⊎ (command_of config (take count out) 0 ≡ command_of config out 0)
 
 -- Each byte is as it was, or at these places, where the power stays, as wanted.
 abbrev pub ChangesOnly : Bool → (ℕ → Bool) → (wanted old new : ℕ → ℕ) → Type 0

@@ -1,7 +1,13 @@
 use Rattle.std.proofs.Common.{◌∙◌}
 use Rattle.std.proofs.lemmas.Result.{IfOk-weaker}
 use Rattle.nor_driver.proofs.Erasing.{chip_bytes, other_bytes, leaves_erase, does_erase}
+use Rattle.nor_driver.proofs.Asks.{asks_erase}
 use Rattle.nor_driver.proofs.operations.erase.Goals as goal
+
+pub operation-requires-in_default : goal.operation-requires-in_default
+operation-requires-in_default g c =
+    asks_erase c.args.erase.unit _ _ _ _
+    (other_bytes c.args.erase.unit _ _ _ _ c.opcode-opcode.ensures c.in_default.not-Chip)
 
 pub returns-in-Chip-clause-leaves : goal.returns-in-Chip-clause-leaves
 returns-in-Chip-clause-leaves g c =

@@ -1,5 +1,6 @@
 use Rattle.std.proofs.lemmas.Result.{IfOk-weaker}
 use Rattle.nor_driver.specs.Operations.{IsCommandAt}
+use Rattle.nor_driver.proofs.Asks.{asks_program}
 use Rattle.nor_driver.proofs.Programming.{leaves_program, does_program}
 use Rattle.nor_driver.proofs.operations.program_page.Goals as goal
 use Rattle.nor_driver.proofs.operations.program_page.Goals.{After-operation}
@@ -7,6 +8,11 @@ use Rattle.nor_driver.proofs.operations.program_page.Goals.{After-operation}
 -- the bytes that were sent
 sent : (g : _) (c : After-operation g) → IsCommandAt 0x02 c.args.address c.args.bytes.now c.deref.result.now
 sent g c = rw c.deref.ensures.0 c.program_command-command.ensures
+
+pub operation-requires : goal.operation-requires
+operation-requires g c =
+    asks_program c.args.address c.args.bytes.now c.deref.result.now
+    (rw c.deref.ensures.0 c.program_command-command.ensures)
 
 pub returns-clause-leaves : goal.returns-clause-leaves
 returns-clause-leaves g c =

@@ -1,7 +1,11 @@
 use Rattle.std.proofs.Common.{◌∙◌}
 use Rattle.std.proofs.lemmas.Result.{IfOk-weaker}
+use Rattle.nor_driver.proofs.Asks.{asks_status}
 use Rattle.nor_driver.proofs.StatusBytes.{leaves_status, does_status}
 use Rattle.nor_driver.proofs.operations.write_status.Goals as goal
+
+pub operation-requires : goal.operation-requires
+operation-requires g c = asks_status _ _
 
 pub returns-clause-leaves : goal.returns-clause-leaves
 returns-clause-leaves g c =

@@ -1,0 +1,71 @@
+-- A simulated bus stops as the contract of a bus allows.
+use Rattle.std.proofs.Common.{◌≡◌, ◌∙◌, ℕ, true≢false, List, [], Option, None, Some, is_none, refl, arith, inl, inr, subst, sym}
+use Rattle.std.specs.Prelude.{◌&&◌}
+use Rattle.std.proofs.Math.Bool.{or-false}
+use Rattle.nor_chip.specs.Chip.{Chip}
+use Rattle.nor_chip.specs.declared.sent.Sent.{Sent}
+use Rattle.nor_chip.specs.Step.{Step}
+use Rattle.nor_chip.specs.Power.{PowerLost, PowerLostWith}
+use Rattle.nor_chip.specs.Bus.{BusState, AtStop}
+use Rattle.nor_chip.specs.Sim.{TornTo, WornTo, LostTo}
+
+-- a transaction of which no byte is sent leaves the chip as it is
+pub nothing_sent : (chip : Chip) → Step chip [] [] chip
+nothing_sent chip = search arith
+
+-- a loss of power with a given fill is a loss of power
+pub power_lost : (fill : ℕ) (old new : Chip) → PowerLostWith fill old new → PowerLost old new
+power_lost fill old new lost = grind (arith, lost.bytes)
+
+pub stops_at : (torn fill : Option ℕ) (out : List ℕ) (old new : BusState) (reached : Chip)
+    → old.steady ≡ (is_none fill && is_none torn) → TornTo torn out old.chip reached → LostTo fill reached new.chip
+    → WornTo torn out old.chip old.worn new.worn → AtStop out old new
+stops_at None None out old new reached steady torn lost worn = record {
+  count = 0;
+  reached = old.chip;
+  step = nothing_sent old.chip;
+  chip = inl (lost ∙ torn);
+  worn = λ s. worn s ∙ sym (or-false (old.worn s));
+  none = λ is. refl;
+  still = λ is. lost ∙ torn;
+}
+stops_at None (Some fill) out old new reached steady torn lost worn = record {
+  count = 0;
+  reached = old.chip;
+  step = nothing_sent old.chip;
+  chip = inr (power_lost fill old.chip new.chip (subst (λ (c : Chip). PowerLostWith fill c new.chip) torn lost));
+  worn = λ s. worn s ∙ sym (or-false (old.worn s));
+  none = λ is. refl;
+  still = λ is. absurd (true≢false (sym is ∙ steady));
+}
+stops_at (Some count) None out old new reached steady torn lost worn = record {
+  count = count;
+  reached = reached;
+  step = torn;
+  chip = inl lost;
+  worn = worn;
+  none = λ is. absurd (true≢false (sym is ∙ steady));
+  still = λ is. absurd (true≢false (sym is ∙ steady));
+}
+stops_at (Some count) (Some fill) out old new reached steady torn lost worn = record {
+  count = count;
+  reached = reached;
+  step = torn;
+  chip = inr (power_lost fill reached new.chip lost);
+  worn = worn;
+  none = λ is. absurd (true≢false (sym is ∙ steady));
+  still = λ is. absurd (true≢false (sym is ∙ steady));
+}
+
+-- what was noted as sent does not matter
+pub stops_as : (out : List ℕ) (old new : BusState) (sent : Sent) → AtStop out (record old { sent = sent }) new
+    → AtStop out old new
+stops_as out old new sent stop = record {
+  count = stop.count;
+  reached = stop.reached;
+  step = stop.step;
+  chip = stop.chip;
+  worn = stop.worn;
+  none = stop.none;
+  still = stop.still;
+}

@@ -1,0 +1,82 @@
+-- Each prefix of an operation's bytes asks for that operation or for none.
+use Rattle.std.proofs.Common.{◌≡◌, ◌∙◌, ◌⊎◌, ℕ, zero, suc, true, List, [], ◌∷◌, take, refl, sym, arith, inl, inr}
+use Rattle.std.proofs.Math.Seq.{take-nil}
+use Rattle.nor_chip.specs.declared.config.Config.{Config}
+use Rattle.nor_chip.specs.declared.command.Command.TheVariants.{Program, Ignored}
+use Rattle.nor_chip.specs.Command.{address_of, command_of}
+use Rattle.nor_driver.specs.declared.units.EraseUnit.{EraseUnit}
+use Rattle.nor_driver.specs.declared.units.EraseUnit.TheVariants as Units
+use Rattle.nor_driver.specs.Operations.{is_operation_or_none, IsCommandAt, AsksForOperation}
+use Rattle.nor_driver.proofs.Erasing.{erase_bytes}
+
+-- a prefix asks for nothing, or for what all bytes ask for
+abbrev AsksAlike : Config → List ℕ → ℕ → Type 0
+AsksAlike config out count = (command_of config (take count out) 0 ≡ Ignored)
+    ⊎ (command_of config (take count out) 0 ≡ command_of config out 0)
+
+-- ---- a program
+
+programs : (config : Config) (x y z byte : ℕ) (rest : List ℕ)
+    → command_of config (2 ∷ x ∷ y ∷ z ∷ byte ∷ rest) 0 ≡ Program (address_of config x y z)
+programs config x y z byte [] = refl
+programs config x y z byte (next ∷ rest) = refl
+
+program_whole : (config : Config) (x y z : ℕ) (sent : List ℕ)
+    → is_operation_or_none (command_of config (2 ∷ x ∷ y ∷ z ∷ sent) 0) ≡ true
+program_whole config x y z [] = refl
+program_whole config x y z (byte ∷ rest) = rw (programs config x y z byte rest) refl
+
+program_begun : (config : Config) (x y z : ℕ) (sent : List ℕ) (count : ℕ)
+    → AsksAlike config (2 ∷ x ∷ y ∷ z ∷ sent) count
+program_begun config x y z sent zero = inl refl
+program_begun config x y z sent (suc zero) = inl refl
+program_begun config x y z sent (suc (suc zero)) = inl refl
+program_begun config x y z sent (suc (suc (suc zero))) = inl refl
+program_begun config x y z sent (suc (suc (suc (suc zero)))) = inl refl
+program_begun config x y z [] (suc (suc (suc (suc (suc n))))) = inl refl
+program_begun config x y z (byte ∷ rest) (suc (suc (suc (suc (suc n))))) =
+    inr (programs config x y z byte (take n rest) ∙ sym (programs config x y z byte rest))
+
+pub asks_program : (at : ℕ) (sent command : List ℕ) → IsCommandAt 2 at sent command → AsksForOperation command
+asks_program at sent command sends = rw sends.4 record {
+  whole = λ config. program_whole config sends.0 sends.1 sends.2 sent;
+  begun = λ config count. program_begun config sends.0 sends.1 sends.2 sent count;
+}
+
+-- ---- an erase
+
+erase_whole : (unit : EraseUnit) (config : Config) (x y z : ℕ)
+    → is_operation_or_none (command_of config (erase_bytes unit x y z) 0) ≡ true
+erase_whole Units.Chip config x y z = refl
+erase_whole _ config x y z = grind arith
+
+erase_begun : (unit : EraseUnit) (config : Config) (x y z count : ℕ)
+    → AsksAlike config (erase_bytes unit x y z) count
+erase_begun Units.Chip config x y z zero = inl refl
+erase_begun Units.Chip config x y z (suc n) = inr (rw (take-nil {A = ℕ} n) refl)
+erase_begun _ config x y z zero = inl refl
+erase_begun _ config x y z (suc zero) = inl refl
+erase_begun _ config x y z (suc (suc zero)) = inl refl
+erase_begun _ config x y z (suc (suc (suc zero))) = inl refl
+erase_begun _ config x y z (suc (suc (suc (suc n)))) = inr (rw (take-nil {A = ℕ} n) refl)
+
+pub asks_erase : (unit : EraseUnit) (x y z : ℕ) (command : List ℕ) → command ≡ erase_bytes unit x y z
+    → AsksForOperation command
+asks_erase unit x y z command is = rw is record {
+  whole = λ config. erase_whole unit config x y z;
+  begun = λ config count. erase_begun unit config x y z count;
+}
+
+-- ---- a status write
+
+status_begun : (config : Config) (one two count : ℕ) → AsksAlike config (1 ∷ one ∷ two ∷ []) count
+status_begun config one two zero = inl refl
+status_begun config one two (suc zero) = inl refl
+status_begun config one two (suc (suc zero)) = inl refl
+status_begun config one two (suc (suc (suc n))) = inr (rw (take-nil {A = ℕ} n) refl)
+
+pub asks_status : (one two : ℕ) → AsksForOperation (1 ∷ one ∷ two ∷ [])
+asks_status one two = record {
+  whole = λ config. refl;
+  begun = λ config count. status_begun config one two count;
+}

@@ -1,0 +1,136 @@
+-- What a stop leaves if it may cut its transaction.
+use Rattle.std.proofs.Common.{◌≡◌, ◌∙◌, ◌⊎◌, ◌||◌, ℕ, zero, suc, Bool, true, false, true≢false, List, [], ◌∷◌, take, refl, sym, ap, arith, inl, inr}
+use Rattle.std.proofs.Math.Seq.{take-nil}
+use Rattle.std.proofs.Math.Bool.{or-false}
+use Rattle.std.proofs.lemmas.Bool.{cases_Bool}
+use Rattle.std.proofs.lemmas.Bool.Decides.{nat_tests}
+use Rattle.nor_chip.specs.declared.config.Config.{Config}
+use Rattle.nor_chip.specs.declared.command.Command.{Command}
+use Rattle.nor_chip.specs.declared.command.Command.TheVariants.{WriteEnable, WriteStatus, Program, Erase}
+use Rattle.nor_chip.specs.Chip.{Chip}
+use Rattle.nor_chip.specs.Command.{command_of, begins_change, is_quiet_opcode}
+use Rattle.nor_chip.specs.Power.{PowerLost}
+use Rattle.nor_chip.specs.Step.{Does, is_operation, done_of, wears}
+use Rattle.nor_chip.specs.Bus.{BusState, AtStop, Stops}
+use Rattle.nor_driver.specs.Looks.{Unchanged, Stays, LooksHonest}
+use Rattle.nor_driver.proofs.Cuts.{kept_cut-stay, stays_after}
+
+abbrev pub Wore : Command → BusState → BusState → Type 0
+Wore command old new = (s : ℕ) → new.worn s ≡ (old.worn s || wears command s)
+
+-- a command that is no operation changes nothing
+pub no_operation : (command : Command) (sent answer : List ℕ) (old new : BusState) → is_operation command ≡ false
+    → Does command sent old.chip answer new.chip → Wore command old new → Unchanged old new
+no_operation command sent answer old new is does wore = grind (arith, wore, or-false)
+
+-- ---- a stop that changed nothing, or lost the power
+
+pub record StandsStill (old new : BusState) : Type 0 where
+  pub chip : new.chip ≡ old.chip
+  pub worn : (s : ℕ) → new.worn s ≡ old.worn s
+
+-- a steady bus changes nothing
+pub still_or_torn : (out : List ℕ) (old new : BusState) → AtStop out old new
+    → StandsStill old new ⊎ ((old.steady ≡ false) × AtStop out old new)
+still_or_torn out old new stop = elim (cases_Bool old.steady) [
+  | inl steady ↦ inl record {
+    chip = stop.still steady;
+    worn = λ s. (rw (stop.none steady) at stop.worn s) ∙ or-false (old.worn s);
+  }
+  | inr shaky ↦ inr (shaky, stop)
+]
+
+pub still_stays : (old new : BusState) → StandsStill old new → Stays old new
+still_stays old new still = grind (arith, still.worn, kept_cut-stay old.chip.running old.chip.kept new.chip.kept)
+
+lost_stays : (old new : BusState) → old.steady ≡ false → PowerLost old.chip new.chip
+    → ((s : ℕ) → new.worn s ≡ old.worn s) → Stays old new
+lost_stays old new shaky lost worn = grind (arith, lost.bytes, worn)
+
+-- ---- a transaction that was cut
+
+-- the bus after the sent bytes were carried out, before any loss of power
+abbrev pub reached : (out : List ℕ) (old new : BusState) → AtStop out old new → BusState
+reached out old new cut = record old { chip = cut.reached; worn = new.worn }
+
+pub reached_stays : (out : List ℕ) (old new : BusState) → old.steady ≡ false → (cut : AtStop out old new)
+    → Stays (reached out old new cut) new
+reached_stays out old new shaky cut = elim cut.chip [
+  | inl same ↦ still_stays (reached out old new cut) new record { chip = same; worn = λ s. refl }
+  | inr lost ↦ lost_stays (reached out old new cut) new shaky lost (λ s. refl)
+]
+
+-- the sent bytes asked for no operation
+pub none_begun : (out : List ℕ) (old new : BusState) → old.steady ≡ false → (cut : AtStop out old new)
+    → is_operation (done_of old.chip (take cut.count out) 0) ≡ false → Stays old new
+none_begun out old new shaky cut none =
+    stays_after old (reached out old new cut) new refl
+    (no_operation _ _ [] old (reached out old new cut) none cut.step cut.worn) (reached_stays out old new shaky cut)
+
+-- ---- a write enable
+
+enable_part : (chip : Chip) (count : ℕ) → is_operation (done_of chip (take count (6 ∷ [])) 0) ≡ false
+enable_part chip zero = refl
+enable_part chip (suc n) = rw (take-nil {A = ℕ} n) (grind arith)
+
+pub enable_stays : (old new : BusState) → Stops (6 ∷ []) old new → Stays old new
+enable_stays old new stops = elim (still_or_torn _ old new stops.at_stop) [
+  | inl still ↦ still_stays old new still
+  | inr cut ↦ none_begun (6 ∷ []) old new cut.0 cut.1 (enable_part old.chip cut.1.count)
+]
+
+-- ---- a reading
+
+-- a command that begins no operation and does not set the latch
+abbrev pub is_quiet : Command → Bool
+is_quiet WriteEnable = false
+is_quiet (WriteStatus one two) = false
+is_quiet (Program at) = false
+is_quiet (Erase start len) = false
+is_quiet _ = true
+
+quiet_asks : (config : Config) (opcode : ℕ) (rest : List ℕ) → is_quiet_opcode opcode ≡ true
+    → is_quiet (command_of config (opcode ∷ rest) 0) ≡ true
+quiet_asks config opcode [] quiet = grind (arith, nat_tests)
+quiet_asks config opcode (x ∷ []) quiet = refl
+quiet_asks config opcode (x ∷ y ∷ []) quiet = grind (arith, nat_tests)
+quiet_asks config opcode (x ∷ y ∷ z ∷ []) quiet = grind (arith, nat_tests)
+quiet_asks config opcode (x ∷ y ∷ z ∷ fifth ∷ []) quiet = grind (arith, nat_tests)
+quiet_asks config opcode (x ∷ y ∷ z ∷ fifth ∷ sixth ∷ rest) quiet = grind (arith, nat_tests)
+
+quiet_part : (config : Config) (count : ℕ) (out : List ℕ) → begins_change out ≡ false
+    → is_quiet (command_of config (take count out) 0) ≡ true
+quiet_part config zero out quiet = refl
+quiet_part config (suc n) [] quiet = refl
+quiet_part config (suc n) (opcode ∷ rest) quiet = quiet_asks config opcode (take n rest) (grind (arith, quiet))
+
+quiet_done : (chip : Chip) (count : ℕ) (out : List ℕ) → begins_change out ≡ false
+    → is_quiet (done_of chip (take count out) 0) ≡ true
+quiet_done chip count out quiet = grind (arith, quiet_part chip.config count out quiet)
+
+-- a quiet command is no operation, and sets no latch
+quiet_is_none : (command : Command) → is_quiet command ≡ true → is_operation command ≡ false
+quiet_is_none command quiet = grind arith
+
+quiet_latch : (command : Command) (sent answer : List ℕ) (old new : Chip) → is_quiet command ≡ true
+    → Does command sent old answer new → new.latch ≡ true → old.latch ≡ true
+quiet_latch command sent answer old new quiet does = grind arith
+
+latch_then : (mid new : Chip) → (new ≡ mid) ⊎ PowerLost mid new → new.latch ≡ true → mid.latch ≡ true
+latch_then mid new (inl same) latch = ap (λ (c : Chip). c.latch) (sym same) ∙ latch
+latch_then mid new (inr lost) latch = absurd (true≢false (sym latch ∙ lost.latch))
+
+pub looked_at_stop : (out : List ℕ) (old new : BusState) (most : ℕ) → begins_change out ≡ false
+    → Stops out old new → LooksHonest most old new
+looked_at_stop out old new most quiet stops = elim (still_or_torn _ old new stops.at_stop) [
+  | inl still ↦ grind (arith, still_stays old new still)
+  | inr cut ↦
+      let is = quiet_done old.chip cut.1.count out quiet in
+      record {
+        stays = none_begun out old new cut.0 cut.1 (quiet_is_none _ is);
+        latch = λ latch. quiet_latch _ _ [] old.chip cut.1.reached is cut.1.step
+            (latch_then cut.1.reached new.chip cut.1.chip latch);
+        idle_latch = λ steady idle. absurd (true≢false (sym steady ∙ cut.0));
+        falls = grind (arith, stops.left);
+      }
+]
