@@ -28,10 +28,12 @@ keeps it from ending (`only_stops`); and the one that ends has left the first ch
             "session_written_over": "nor_session/src/laws.rt",
             "restore_written_over": "nor_session/src/laws.rt",
             "same_written_over": "nor_session/src/laws.rt",
+            "power_lost_gives_back": "nor_session/src/laws.rt",
+            "undone_leads_back": "nor_session/src/laws.rt",
             "undone_in_turn": "nor_session/src/laws.rt",
         },
         "",
-        585,
+        600,
     ),
     "what is left of files": (
         {"work_on_chip": "flashnor/src/run.rt keeps holds"},

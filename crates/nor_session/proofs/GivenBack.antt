@@ -1,4 +1,4 @@
--- How a restore leads back to a chip that the journal saves.
+-- How a restore restores a chip that the journal saves.
 use Rattle.std.proofs.Common.{◌&&◌, ◌≡◌, ◌<◌, ◌+◌, ◌-◌, ◌*◌, ◌/◌, ◌%◌, ◌∙◌, ◌⊎◌, ℕ, Bool, true, false, true≢false, List, ap, sym, refl, arith, inl, inr}
 use Rattle.std.specs.Prelude.{not, ◌≢◌, Option, Some, None, IfSome, IsSomeAnd}
 use Rattle.std.proofs.lemmas.Bool.{cases_Bool, cases_lt, and_left, and_parts, or_cases, both_ways, eqb-true}
@@ -10,7 +10,7 @@ use Rattle.nor_chip.specs.declared.running.Running.TheVariants.{StatusWrite, Unk
 use Rattle.nor_chip.specs.Chip.{Chip, IsSame, KeptBits, is_locked, kept_in}
 use Rattle.nor_chip.specs.Guard.{code_of, is_guarded, is_unit_guarded}
 use Rattle.nor_chip.specs.Units.{LieAtAnEnd}
-use Rattle.nor_chip.specs.Power.{KeptCut}
+use Rattle.nor_chip.specs.Power.{KeptCut, PowerLost}
 use Rattle.nor_chip.specs.Bus.{BusState}
 use Rattle.nor_chip.proofs.Sizes.{sized_bounds}
 use Rattle.nor_chip.proofs.Guarded.{is_guarded-end, is_guarded-past, is_guarded-no_scheme, is_guarded-same}
@@ -43,7 +43,7 @@ use Rattle.nor_session.proofs.RestoredBytes.{touched_byte, touched_saved}
 calm_or_not : (state : BusState) → IsCalm state ⊎ ((state.steady ≡ false) × (state.chip.busy ≢ 0))
 calm_or_not state = grind arith
 
--- the kept bits that a cut leaves
+-- the non-volatile status bits that an interruption leaves
 cut_kept : (p : ℕ → Bool) (first : Chip) (old new : KeptBits) (running : Running) → KeptCut running old new
     → WorksIn p first running → fixed_of old ≡ fixed_of first.kept
     → (fixed_of new ≡ fixed_of first.kept) × (is_writable first ≡ false → old ≡ first.kept → new ≡ first.kept)
@@ -72,9 +72,30 @@ looked_within p first most old new steady looked within =
           search (arith, narrower)
     ]
 
+-- ---- a loss of power keeps a chip within
+
+idle_or_works : (state : BusState) → (state.steady ≡ false) ⊎ (state.chip.busy ≡ 0)
+    → (state.chip.busy ≡ 0) ⊎ ((state.steady ≡ false) × (state.chip.busy ≢ 0))
+idle_or_works state known = grind (arith, nat_tests)
+
+pub lost_within : (p : ℕ → Bool) (first : Chip) (old new : BusState) → (old.steady ≡ false) ⊎ (old.chip.busy ≡ 0)
+    → PowerLost old.chip new.chip → IsWithin p first old → IsWithin p first new
+lost_within p first old new known lost within =
+    let runs : new.steady ≡ false → new.chip.busy ≢ 0 → WorksIn p first new.chip.running = λ loses works. absurd (works lost.busy) in
+    elim (idle_or_works old known) [
+      | inl idle ↦
+          let same = lost.idle idle in let fixed = ap fixed_of same.kept ∙ within.fixed in
+          let kept = λ (shut : is_writable first ≡ false). same.kept ∙ within.kept shut in
+          search arith
+      | inr shaky ↦
+          let works = within.runs shaky.0 shaky.1 in
+          let cut = cut_kept p first old.chip.kept new.chip.kept old.chip.running lost.kept works within.fixed in
+          search (arith, narrower)
+    ]
+
 -- ---- guarded places are whole sectors
 
--- a chip of the table has 256 KiB in whole numbers
+-- the size of a chip in the table is a multiple of 256 KiB
 scheme_size_at : (config : Config) (row : Option Part) → part_with_id (id_of config) ≡ row → IsGenuine config → config.scheme ≡ true → config.size % 262144 ≡ 0
 scheme_size_at config (Some part) is genuine scheme = search (arith, eqb-true, row_has)
 scheme_size_at config None is genuine scheme = absurd (both_ways config.scheme (genuine.unlisted is) scheme)
@@ -99,7 +120,7 @@ pub touched_open : (journal : Content) (first chip : Chip) (a : ℕ) → IsKnown
 touched_open journal first chip a known saves same touched =
     search (arith, guarded_same, saved_byte-is, touched_byte, touched_saved)
 
--- changes of such sectors keep a chip within
+-- changes of such sectors change a chip only within the open addresses
 pub change_within : (journal : Content) (first : Chip) (touched raised : ℕ → Bool) (wanted : ℕ → ℕ) (old mid new : BusState) → CanGiveBack journal first old → IsWithin (open_places journal first) first mid
     → ((s : ℕ) → touched s ≡ is_touched old.chip.bytes (restored journal old.chip.bytes) s) → MayChange touched raised wanted mid new → IsWithin (open_places journal first) first new
 change_within journal first touched raised wanted old mid new can within right change =
@@ -118,18 +139,18 @@ given_back journal first old new saves config within config_now bytes kept =
 
 -- ---- such a chip is never refused
 
--- the kept bits that the journal tells are fixed
+-- the non-volatile status bits fit the journal
 fixed_told : (journal : Content) (first chip : Chip) → first.kept ≡ kept_in journal.status → chip.config ≡ first.config
     → fixed_of chip.kept ≡ fixed_of first.kept → (is_writable first ≡ false → chip.kept ≡ first.kept) → FitsStatus journal chip
 fixed_told journal first chip bits config fixed kept =
     let told = fixed ∙ ap fixed_of bits in let all = λ (shut : is_writable first ≡ false). kept shut ∙ bits in search arith
 
--- the code of a locked chip is the journal's
+-- the protection bits of a locked chip are the journal's
 code_locked : (journal : Content) (first chip : Chip) → first.kept ≡ kept_in journal.status → chip.kept ≡ first.kept
     → code_of chip.kept ≡ code_of (kept_in journal.status)
 code_locked journal first chip bits stay = ap code_of (stay ∙ bits)
 
--- and none of its touched sectors is guarded
+-- no touched sector of a locked chip is protected
 free_held : (journal : Content) (first chip : Chip) → IsKnown first.config → SavesChip journal first → chip.config ≡ first.config → chip.kept ≡ first.kept → is_locked first.kept ≡ true
     → ((b : ℕ) → open_places journal first b ≡ false → chip.bytes b ≡ first.bytes b) → ¬ SomeHeld (is_touched chip.bytes (restored journal chip.bytes)) chip
 free_held journal first chip known saves config stay locked same some =

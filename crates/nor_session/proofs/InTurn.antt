@@ -1,11 +1,13 @@
--- What sessions and restores that follow one another come to.
-use Rattle.std.proofs.Common.{◌≡◌, ◌/◌, ◌∙◌, ℕ, false, List, [], sym, arith, inl, inr}
+-- What sessions and restores that follow one another result in.
+use Rattle.std.proofs.Common.{◌≡◌, ◌/◌, ◌∙◌, ◌⊎◌, ℕ, Bool, false, List, [], ap, sym, arith, inl, inr}
 use Rattle.std.proofs.lemmas.Bool.{and_left, and_parts, both_ways}
 use Rattle.nor_chip.specs.Chip.{Chip, IsSame}
 use Rattle.nor_chip.specs.Bus.{BusState}
 use Rattle.nor_journal.specs.Text.{Content}
 use Rattle.nor_journal.proofs.Saves.{saved_byte-is}
+use Rattle.nor_driver.specs.StatusWrites.{fixed_of}
 use Rattle.nor_driver.proofs.LooksInTurn.{same_then}
+use Rattle.nor_apply.specs.Within.{is_writable, IsWithin}
 use Rattle.nor_count.proofs.Counting.{count_below-none}
 use Rattle.nor_plan.specs.Content.{is_touched, is_raised}
 use Rattle.nor_call.specs.declared.report.Report.{Report}
@@ -13,8 +15,8 @@ use Rattle.nor_call.specs.declared.request.Request.{Request}
 use Rattle.nor_save.proofs.Planned.{untouched, unraised}
 use Rattle.nor_session.specs.Headline.{SavesChip, open_places, CanGiveBack}
 use Rattle.nor_session.specs.Restore.{restored, NeedsStatusFrom, IsRestored}
-use Rattle.nor_session.specs.InTurn.{LeavesJournal, IsTakenUp, ChangesNothing}
-use Rattle.nor_session.proofs.GivenBack.{given_back}
+use Rattle.nor_session.specs.InTurn.{LeavesJournal, LosesPower, MayLosePower, IsTakenUp, ChangesNothing}
+use Rattle.nor_session.proofs.GivenBack.{given_back, lost_within}
 use Rattle.nor_session.proofs.WrittenBack.{read_back, session_over}
 
 -- ---- a chip that is the saved one already
@@ -65,23 +67,82 @@ record LeadsTo (journal : Content) (first chip : Chip) : Type 0 where
 leads_to : (journal : Content) (first : Chip) (state : BusState) → CanGiveBack journal first state → LeadsTo journal first state.chip
 leads_to journal first state can = record { saves = can.saves; config = can.within.config; bytes = can.within.bytes }
 
--- so it does from the same chip
+-- it can from the same chip
 leads_same : (journal : Content) (first new taken : Chip) → LeadsTo journal first new → IsSame new taken → LeadsTo journal first taken
 leads_same journal first new taken leads same = search arith
 
--- and from what a session left, where another run takes it up
-left_taken : (request : Request) (image : List ℕ) (old new taken : BusState) (journal : Content) → LeavesJournal request image old new journal → IsTakenUp old.chip new.chip taken.chip
+-- a loss of power leaves what the journal can restore
+pub lost_back : (journal : Content) (first : Chip) (old new : BusState) → CanGiveBack journal first old → LosesPower old new → CanGiveBack journal first new
+lost_back journal first old new can loses = record {
+  known = can.known;
+  saves = can.saves;
+  within = lost_within (open_places journal first) first old new loses.known loses.lost can.within;
+}
+
+-- a chip that may have lost its power since
+leads_kept : (journal : Content) (first : Chip) (new taken : BusState) → CanGiveBack journal first new → MayLosePower new taken → LeadsTo journal first taken.chip
+leads_kept journal first new taken can (inl same) = leads_same journal first new.chip taken.chip (leads_to journal first new can) same
+leads_kept journal first new taken can (inr loses) = leads_to journal first taken (lost_back journal first new taken can loses)
+
+-- what a session left, if another run takes it up
+left_back : (request : Request) (image : List ℕ) (old new : BusState) (journal : Content) → LeavesJournal request image old new journal → CanGiveBack journal old.chip new
+left_back request image old new journal left = search (arith, read_back)
+
+left_taken : (request : Request) (image : List ℕ) (old new taken : BusState) (journal : Content) → LeavesJournal request image old new journal → IsTakenUp old new taken
     → LeadsTo journal old.chip taken.chip
-left_taken request image old new taken journal left (inl same) = search (arith, leads_same, leads_to, read_back)
+left_taken request image old new taken journal left (inl kept) =
+    leads_kept journal old.chip new taken (left_back request image old new journal left) kept
 left_taken request image old new taken journal left (inr over) = search (arith, leads_to, session_over)
 
--- a restore gets there
+-- even after restores that were stopped
+left_reached : (request : Request) (image : List ℕ) (old new taken : BusState) (journal : Content) → LeavesJournal request image old new journal
+    → IsTakenUp old new taken ⊎ CanGiveBack journal old.chip taken → LeadsTo journal old.chip taken.chip
+left_reached request image old new taken journal left (inl up) = left_taken request image old new taken journal left up
+left_reached request image old new taken journal left (inr can) = leads_to journal old.chip taken can
+
+-- a restore that ends has restored the first chip
 led_back : (journal : Content) (first : Chip) (old new : BusState) (report : Report) → LeadsTo journal first old.chip → IsRestored journal old new report → IsSame first new.chip
 led_back journal first old new report leads done = search (arith, given_back)
 
+-- ---- two sessions
+
+-- the same chip, once nothing runs on it, is within the same places
+idle_again : (p : ℕ → Bool) (first : Chip) (old new : BusState) → IsWithin p first old → IsSame old.chip new.chip → new.chip.busy ≡ 0 → IsWithin p first new
+idle_again p first old new within same idle =
+    let fixed = ap fixed_of same.kept ∙ within.fixed in
+    let kept = λ (shut : is_writable first ≡ false). same.kept ∙ within.kept shut in
+    search arith
+
+taken_within : (request : Request) (image : List ℕ) (old mid mid' back : BusState) (journal : Content) → LeavesJournal request image old mid journal → IsTakenUp old mid mid'
+    → IsSame mid'.chip back.chip → back.chip.busy ≡ 0 → IsWithin (open_places journal old.chip) old.chip back
+taken_within request image old mid mid' back journal left (inl (inl same)) again idle =
+    idle_again _ old.chip mid back (left_back request image old mid journal left).within (same_then _ _ _ same again) idle
+taken_within request image old mid mid' back journal left (inl (inr loses)) again idle =
+    idle_again _ old.chip mid' back (lost_back journal old.chip mid mid' (left_back request image old mid journal left) loses).within again idle
+taken_within request image old mid mid' back journal left (inr over) again idle =
+    idle_again _ old.chip mid' back
+    (session_over request image old mid mid' left.vault journal left.modelled left.is left.telling left.undone left.whole left.same over).within again idle
+
+pub later_undone : (request later : Request) (image aim : List ℕ) (old mid mid' new new' back : BusState) (journal other : Content) (report : Report)
+    → LeavesJournal request image old mid journal → IsTakenUp old mid mid' → LeavesJournal later aim mid' new other → IsTakenUp mid' new new' ⊎ CanGiveBack other mid'.chip new'
+    → IsRestored other new' back report → CanGiveBack journal old.chip back
+later_undone request later image aim old mid mid' new new' back journal other report first passed second gone undone =
+    let can = left_back request image old mid journal first in
+    let same = led_back other mid'.chip new' back report (left_reached later aim mid' new new' other second gone) undone in
+    record {
+      known = can.known;
+      saves = can.saves;
+      within = taken_within request image old mid mid' back journal first passed same undone.made.idle;
+    }
+
 pub both_undone : (request later : Request) (image aim : List ℕ) (old mid mid' new new' back back' end : BusState) (journal other : Content) (report last : Report)
-    → LeavesJournal request image old mid journal → IsTakenUp old.chip mid.chip mid'.chip → LeavesJournal later aim mid' new other → IsTakenUp mid'.chip new.chip new'.chip
-    → IsRestored other new' back report → IsSame back.chip back'.chip → IsRestored journal back' end last → IsSame old.chip end.chip
+    → LeavesJournal request image old mid journal → IsTakenUp old mid mid' → LeavesJournal later aim mid' new other → IsTakenUp mid' new new' ⊎ CanGiveBack other mid'.chip new'
+    → IsRestored other new' back report → MayLosePower back back' ⊎ CanGiveBack journal old.chip back' → IsRestored journal back' end last → IsSame old.chip end.chip
 both_undone request later image aim old mid mid' new new' back back' end journal other report last first passed second gone undone kept again =
-    let same = same_then _ _ _ (led_back other mid'.chip new' back report (left_taken later aim mid' new new' other second gone) undone) kept in
-    led_back journal old.chip back' end last (leads_same journal old.chip mid'.chip back'.chip (left_taken request image old mid mid' journal first passed) same) again
+    let can = later_undone request later image aim old mid mid' new new' back journal other report first passed second gone undone in
+    led_back journal old.chip back' end last
+    (elim kept [
+      | inl may ↦ leads_kept journal old.chip back back' can may
+      | inr still ↦ leads_to journal old.chip back' still
+    ])
+    again

@@ -1,6 +1,7 @@
--- Sessions and restores that follow one another.
-use Rattle.std.specs.Prelude.{◌≡◌, ◌⊎◌, ℕ, true, List}
+-- Sessions and restores that follow one another, and losses of power between them.
+use Rattle.std.specs.Prelude.{◌≡◌, ◌⊎◌, ℕ, true, false, List}
 use Rattle.nor_chip.specs.Chip.{Chip, IsChip, IsSame}
+use Rattle.nor_chip.specs.Power.{PowerLost}
 use Rattle.nor_chip.specs.Bus.{BusState}
 use Rattle.nor_journal.specs.Text.{Content, IsContent, text}
 use Rattle.nor_journal.specs.Vault.{VaultState}
@@ -11,8 +12,8 @@ use Rattle.nor_session.specs.Session.{CanBeUndone}
 use Rattle.nor_session.specs.Restore.{NeedsStatusFrom}
 use Rattle.nor_session.specs.WrittenOver.{IsWrittenOver}
 
--- A session left this journal of the chip that it began on: its vault, a telling one, has it and was sealed. The
--- session ended, or was stopped anywhere behind the seal.
+-- A session on a modelled bus left this journal of its original chip: its vault, a faithful one, holds it and was
+-- sealed. The session ended, or was stopped anywhere after the seal.
 pub record LeavesJournal (request : Request) (image : List ℕ) (old new : BusState) (journal : Content) : Type 0 where
   pub modelled : IsModelled old
   pub is : IsChip old.chip
@@ -22,13 +23,23 @@ pub record LeavesJournal (request : Request) (image : List ℕ) (old new : BusSt
   pub whole : IsContent journal
   pub same : vault.bytes ≡ text journal
 
--- The chip that a run takes up, behind one that began on the old chip and left the new one: the new one, whatever runs
--- on it and however many transactions its bus has left; or what files have that are being written over with it.
-abbrev pub IsTakenUp : (old new taken : Chip) → Type 0
-IsTakenUp old new taken = IsSame new taken ⊎ IsWrittenOver old new taken
+-- The chip lost its power between two runs. If an operation was running on it, then on a bus that isn't steady, where
+-- it is known which operation that is.
+pub record LosesPower (old new : BusState) : Type 0 where
+  pub known : (old.steady ≡ false) ⊎ (old.chip.busy ≡ 0)
+  pub lost : PowerLost old.chip new.chip
 
--- A restore changed nothing: nothing changing was sent, no sector was touched, nothing was erased or programmed, and no
--- status write is needed.
+-- Between two runs the chip stays as it was left, with any operation running on it, or it loses its power.
+abbrev pub MayLosePower : (old new : BusState) → Type 0
+MayLosePower old new = IsSame old.chip new.chip ⊎ LosesPower old new
+
+-- The bus on which a run starts, after a run that started on `old` and left `new`. Its chip is the one that was left,
+-- even if it lost its power since; or it was opened from files that were being overwritten with the chip that was left.
+abbrev pub IsTakenUp : (old new taken : BusState) → Type 0
+IsTakenUp old new taken = MayLosePower new taken ⊎ IsWrittenOver old.chip new.chip taken.chip
+
+-- A restore changed nothing: no modifying command was sent, no sector was touched, erased or programmed, and no status
+-- write is needed.
 pub record ChangesNothing (journal : Content) (old new : BusState) (report : Report) : Type 0 where
   pub still : new.sent ≡ old.sent
   pub touched : report.touched ≡ 0

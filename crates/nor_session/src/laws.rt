@@ -1,6 +1,6 @@
-//! Laws on sessions and restores that follow one another, and for whoever keeps a chip in files, and its journal: from
-//! a session to a restore, and at each moment between.
-ghost use Rattle.std.specs.Prelude.{◌≡◌, true, ℕ, List};
+//! Laws on sessions and restores that follow one another, and on chips that are kept in files: what a journal can
+//! restore after a session, after a loss of power, and while files are being overwritten.
+ghost use Rattle.std.specs.Prelude.{◌≡◌, ◌⊎◌, true, ℕ, List};
 ghost use Rattle.nor_chip.specs.Bus.{BusState};
 ghost use Rattle.nor_chip.specs.Chip.{Chip, IsChip, IsSame};
 ghost use Rattle.nor_journal.specs.Text.{Content, IsContent, text};
@@ -8,41 +8,64 @@ ghost use Rattle.nor_journal.specs.Vault.{VaultState};
 ghost use Rattle.nor_call.specs.declared.report.Report.{Report};
 ghost use Rattle.nor_call.specs.declared.request.Request.{Request};
 ghost use Rattle.nor_probe.specs.Known.{IsModelled};
-ghost use Rattle.nor_session.specs.InTurn.{LeavesJournal, IsTakenUp, ChangesNothing};
+ghost use Rattle.nor_session.specs.InTurn.{LeavesJournal, LosesPower, MayLosePower, IsTakenUp, ChangesNothing};
 ghost use Rattle.nor_session.specs.Headline.{SavesChip, CanGiveBack};
 ghost use Rattle.nor_session.specs.Restore.{IsRestored};
 ghost use Rattle.nor_session.specs.Session.{CanBeUndone, HoldsBegun};
 ghost use Rattle.nor_session.specs.WrittenOver.{IsWrittenOver};
 
-/// A restore of a chip that is the saved one already, since it was just given back, changes nothing.
+/// A restore changes nothing if the chip is the saved one already, for example after another restore.
 pub fn restored_stays()
     ensures { (journal : Content) (first : Chip) (old new : BusState) (report : Report)
         → SavesChip journal first → IsSame first old.chip → IsRestored journal old new report
         → ChangesNothing journal old new report }
 {}
 
-/// Two sessions, one after the other, are undone by restores from their journals in the reverse order. Each of the four
-/// runs has a bus of its own, with the chip that the run before it left; what a session left may also be in files that
-/// weren't written over to their end.
+/// If a journal can restore a chip before it loses its power, it can restore the chip afterwards. So the power may fail
+/// between a session that was stopped and its restore, and between restores.
+pub fn power_lost_gives_back()
+    ensures { (journal : Content) (first : Chip) (old new : BusState)
+        → CanGiveBack journal first old → LosesPower old new → CanGiveBack journal first new }
+{}
+
+/// After two sessions, one after the other, the earlier journal can restore its chip as soon as a restore from the
+/// later journal has ended. Each run has a bus of its own. Other restores from the later journal may have been stopped
+/// before: then that journal can still restore its chip. Between two runs a chip may lose its power, or be in files
+/// that were not overwritten to their end.
+pub fn undone_leads_back()
+    ensures { (request later : Request) (image aim : List ℕ) (old mid mid' new new' back : BusState)
+        (journal other : Content) (report : Report)
+        → LeavesJournal request image old mid journal → IsTakenUp old mid mid'
+        → LeavesJournal later aim mid' new other
+        → IsTakenUp mid' new new' ⊎ CanGiveBack other mid'.chip new'
+        → IsRestored other new' back report → CanGiveBack journal old.chip back }
+{}
+
+/// Two sessions, one after the other, are undone by restores from their journals in the reverse order. Each run has a
+/// bus of its own. Before each restore that ends, other restores from its journal may have been stopped: then that
+/// journal can still restore its chip. Between two runs a chip may lose its power, or, after a session, be in files
+/// that were not overwritten to their end.
 pub fn undone_in_turn()
     ensures { (request later : Request) (image aim : List ℕ) (old mid mid' new new' back back' end : BusState)
         (journal other : Content) (report last : Report)
-        → LeavesJournal request image old mid journal → IsTakenUp old.chip mid.chip mid'.chip
-        → LeavesJournal later aim mid' new other → IsTakenUp mid'.chip new.chip new'.chip
-        → IsRestored other new' back report → IsSame back.chip back'.chip
+        → LeavesJournal request image old mid journal → IsTakenUp old mid mid'
+        → LeavesJournal later aim mid' new other
+        → IsTakenUp mid' new new' ⊎ CanGiveBack other mid'.chip new'
+        → IsRestored other new' back report
+        → MayLosePower back back' ⊎ CanGiveBack journal old.chip back'
         → IsRestored journal back' end last → IsSame old.chip end.chip }
 {}
 
-/// What a session kept gives its chip back: from what it promises once its vault is sealed, and a journal that is read
-/// from the bytes of that vault, follows what a restore asks for.
+/// After a session the journal that is read from its sealed vault can restore the original chip. So what `session`
+/// promises is what `restore` needs.
 pub fn read_gives_back()
     ensures { (request : Request) (image : List ℕ) (old new : BusState) (vault : VaultState) (journal : Content)
         → IsModelled old → IsChip old.chip → vault.telling ≡ true → CanBeUndone request image old new vault
         → IsContent journal → vault.bytes ≡ text journal → CanGiveBack journal old.chip new }
 {}
 
-/// A vault that was never sealed may have the whole journal, as where the seal alone was refused. Where what it has is
-/// read as a journal, that gives the chip back, to which nothing was done.
+/// A vault that was never sealed may hold the whole journal, for example if only its seal failed. If its bytes are read
+/// as a journal, that journal can restore the chip, to which nothing was done.
 pub fn begun_gives_back()
     ensures { (request : Request) (image : List ℕ) (old new : BusState) (bytes : List ℕ) (journal : Content)
         → IsModelled old → IsChip old.chip → HoldsBegun request image old.chip bytes
@@ -50,8 +73,8 @@ pub fn begun_gives_back()
         → CanGiveBack journal old.chip new }
 {}
 
-/// So it does while files that had the chip of before the session are written over with the one after it, and wherever
-/// that ends.
+/// After a session its journal can restore the original chip from files that held the chip before the session and were
+/// being overwritten with the chip after it, wherever that was interrupted.
 pub fn session_written_over()
     ensures { (request : Request) (image : List ℕ) (old new opened : BusState) (vault : VaultState) (journal : Content)
         → IsModelled old → IsChip old.chip → vault.telling ≡ true → CanBeUndone request image old new vault
@@ -59,15 +82,15 @@ pub fn session_written_over()
         → CanGiveBack journal old.chip opened }
 {}
 
-/// What a journal gives back before a restore and after it, it gives back while files are written over from the one to
-/// the other.
+/// A journal that can restore a chip before a restore and after it can restore that chip from files that were being
+/// overwritten from the one to the other.
 pub fn restore_written_over()
     ensures { (journal : Content) (first : Chip) (old new opened : BusState)
         → CanGiveBack journal first old → CanGiveBack journal first new → IsWrittenOver old.chip new.chip opened.chip
         → CanGiveBack journal first opened }
 {}
 
-/// Files that are written over with the same chip have that chip at each moment.
+/// Files that are overwritten with the chip that they hold have that chip at each moment.
 pub fn same_written_over()
     ensures { (old new opened : Chip) → IsSame old new → IsWrittenOver old new opened → IsSame old opened }
 {}

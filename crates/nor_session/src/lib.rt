@@ -21,10 +21,9 @@
 //! assert_eq!(rt; bus.bytes(), before.as_slice());
 //! ```
 //!
-//! What each call promises stands in `specs/`: before all else `Headline.antt`, then `Session.antt`, `Restore.antt`,
-//! `Rehearsal.antt`, the verdict on a request by `IsVerdict` of nor_save, and of which buses `IsModelled` of nor_probe;
-//! what laws say of calls that follow one another in `InTurn.antt`, and of a chip that is kept in files in
-//! `WrittenOver.antt`.
+//! `specs/` has what each call promises: first `Headline.antt`, then `Session.antt`, `Restore.antt` and
+//! `Rehearsal.antt`. `IsVerdict` of nor_save is the verdict on a request, and `IsModelled` of nor_probe says for which
+//! buses most promises are made. `InTurn.antt` and `WrittenOver.antt` have the definitions of the laws.
 #![tactic(auto)]
 
 mod judged;
@@ -37,8 +36,8 @@ mod sessions;
 mod sources;
 
 pub use laws::{
-    read_gives_back, restore_written_over, restored_stays, same_written_over, session_written_over,
-    undone_in_turn,
+    power_lost_gives_back, read_gives_back, restore_written_over, restored_stays,
+    same_written_over, session_written_over, undone_in_turn, undone_leads_back,
 };
 pub use nor_call::{Refusal, Report, Request, What};
 pub use rehearsals::{Rehearsal, rehearse};
