@@ -1,4 +1,4 @@
--- Where a session or a restore aims, and how often it writes the status, on every bus.
+-- Which sectors a session or a restore targets, and how often it writes the status, on every bus.
 use Rattle.std.proofs.Common.{◌≡◌, ◌≤◌, ◌∙◌, ℕ, true, List, inl, inr, ap, arith}
 use Rattle.nor_chip.specs.declared.sent.Sent.{Sent}
 use Rattle.nor_chip.specs.Sent.{is_aimed_at, status_writes_of}
@@ -12,14 +12,14 @@ use Rattle.nor_save.specs.SavedScan.{IsJournal, IsJournalOf}
 use Rattle.nor_session.specs.Changing.{LeavesChange}
 use Rattle.nor_session.specs.Session.{AimsAtSaved, WritesStatusAtMost}
 
--- nothing changing was sent
+-- no modifying command was sent
 pub none_written : (most : ℕ) (old new : BusState) → new.sent ≡ old.sent → WritesStatusAtMost most old new
 none_written most old new same = let count = ap status_writes_of same in omega (arith, count)
 
 pub none_aimed : (journal : Content) (old new : BusState) → new.sent ≡ old.sent → AimsAtSaved journal old new
 none_aimed journal old new same s = inl (ap (λ (sent : Sent). is_aimed_at sent s) same)
 
--- aimed at saved sectors alone, and then again
+-- only saved sectors were targeted, twice in turn
 pub aims_then : (journal : Content) (old mid new : BusState) → AimsAtSaved journal old mid → AimsAtSaved journal mid new → AimsAtSaved journal old new
 aims_then journal old mid new before after s = let earlier = before s in let later = after s in grind arith
 
@@ -31,7 +31,7 @@ module _ {changes : Changes} {wanted : ℕ → ℕ} (old : BusState) {mid new : 
   change_writes few =
       let same = ap status_writes_of still in let most = leaves.aims.writes in omega (arith, same, few, most)
 
-  -- what the change of a part of the saved sectors aims at is saved
+  -- a change of some saved sectors targets only saved sectors
   pub change_aims : (journal : Content) → journal.size ≡ changes.size
       → ((s : ℕ) → touched_in changes s ≡ true → is_saved journal s ≡ true) → AimsAtSaved journal old new
   change_aims journal sized saved s = elim (leaves.aims.aimed s) [

@@ -36,7 +36,7 @@ use Rattle.nor_session.proofs.ReadyChip.{told_idle, opening_of}
 use Rattle.nor_session.proofs.Rescanned.{restored_saved}
 use Rattle.nor_session.proofs.RestoredBytes.{unraised_byte}
 
--- What the opening and the scan of a restore told.
+-- What the identification and the scan of a restore showed.
 pub record AreRead (journal : Content) (opening : Opening) (scanned : Scanned) (old mid new : BusState) : Type 0 where
   pub looks : Looks most_opening old mid
   pub opens : Opens None old mid opening

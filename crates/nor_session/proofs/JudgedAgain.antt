@@ -1,4 +1,4 @@
--- What an accepted request tells of its chip.
+-- What follows for the chip from an accepted request.
 use Rattle.std.proofs.Common.{◌≡◌, ◌≢◌, ◌<◌, ◌*◌, ◌⊎◌, ℕ, Bool, true, false, List, Option, None, Some, Result, Ok, Err, zero, suc, refl, arith, inl, inr}
 use Rattle.std.specs.Prelude.{if◌then◌else◌}
 use Rattle.std.proofs.lemmas.Bool.{cases_Bool, false_from_ne_true, and_parts}
@@ -26,7 +26,7 @@ use Rattle.nor_save.specs.Verdict.{IsNamed, IsAccepted}
 
 -- ---- the part
 
--- a chip that shows itself neither as none nor as one that isn't known shows itself as a part
+-- a chip that is identified neither as missing nor as unknown is identified as a part
 part_shown : (undriven : Bool) (listed : Option Part) (with_id : List ℕ) (says : Result Geometry SfdpFault)
     (shown : Result Part ProbeFault)
     → shown ≡ (if undriven then Err Probes.NoChip else listed_or (part_by_sfdp with_id says) listed)
@@ -37,12 +37,12 @@ part_shown false (Some part) with_id says shown is there known = (part, is)
 part_shown false None with_id (Ok geometry) shown is there known = (_, is)
 part_shown false None with_id (Err fault) shown is there known = absurd (known fault is)
 
--- a name is wanted, or it isn't
+-- a name is given, or it isn't
 wanted_or_other : (named : Option ChipName) (name : ChipName) → IsWanted named name ⊎ (¬ IsWanted named name)
 wanted_or_other None name = inl tt
 wanted_or_other (Some wanted) name = grind arith
 
--- its chip has the name that is wanted
+-- its chip has the given name
 pub accepted_named : (request : Request) (image : List ℕ) (chip : Chip) → IsAccepted request image chip
     → IsNamed request.named chip.config
 accepted_named request image chip accepted =
@@ -55,7 +55,7 @@ accepted_named request image chip accepted =
 
 -- ---- the touched sectors
 
--- a test that no number is the least to pass is passed by none
+-- if no number is the least that passes a test, none passes
 none_least : (test : ℕ → Bool) → ((s : ℕ) → test s ≡ true → ((t : ℕ) → t < s → test t ≡ false) → ⊥)
     → (n s : ℕ) → s < n → test s ≡ false
 none_least test never zero s below = absurd (omega arith)
@@ -63,14 +63,14 @@ none_least test never (suc n) s below =
     let before = none_least test never n in
     below_more (λ k. test k ≡ false) n before (false_from_ne_true (test n) (λ hit. never n hit before)) s (omega arith)
 
--- bytes need a status write where protection of a touched sector is to be lifted
+-- a request for data needs a status write if a touched sector is protected and must be unlocked
 needs_lift : (what : What) (unlock : Bool) (touched : ℕ → Bool) (chip : Chip) → is_data what ≡ true → unlock ≡ true
     → SomeHeld touched chip
     → IsWantedCode what chip (code_of chip.kept) × NeedsStatus what unlock (code_of chip.kept) touched chip
 needs_lift (WpRange start len) unlock touched chip is lifts some = absurd cc
 needs_lift _ unlock touched chip is lifts some = (refl, (lifts, some))
 
--- where the status is locked no touched sector is guarded
+-- if the status is locked, no touched sector is protected
 pub accepted_free : (request : Request) (image : List ℕ) (chip : Chip) → IsAccepted request image chip
     → is_locked chip.kept ≡ true → NoneHeld (is_touched chip.bytes (wanted request image chip)) chip
 accepted_free request image chip accepted locked s =

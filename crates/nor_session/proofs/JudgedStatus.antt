@@ -1,4 +1,4 @@
--- What the judgement of a restore on the status tells.
+-- What the status check of a restore shows.
 use Rattle.std.proofs.Common.{◌≡◌, ◌<◌, ◌+◌, ◌-◌, ◌*◌, ◌/◌, ◌∙◌, ◌⊎◌, ℕ, Bool, true, false, ap, refl, inl, inr}
 use Rattle.std.specs.Prelude.{not, Option, Some, None, MatchOption}
 use Rattle.std.specs.Option.{is_some}
@@ -38,14 +38,14 @@ held_scheme touched chip some = true_from_ne_false chip.config.scheme (λ none.
     (and_parts (touched s) (is_unit_guarded chip (4096 * s) 4096) some.held).1)
 
 module _ {old new : Chip} (same : IsSame old new) where
-  -- no place of a touched sector that isn't held is guarded
+  -- no address of a touched sector is protected unless its sector is
   pub free_place : (touched : ℕ → Bool) (a : ℕ) → NoneHeld touched old → touched (a / 4096) ≡ true
       → a < old.config.size → is_guarded new a ≡ false
   free_place touched a none hit below =
       let free = none (a / 4096) in
       is_guarded-same old new same.config same.kept a ∙ is_guarded-sector old a below (rw hit at free)
 
-  -- where the status isn't locked it can be written
+  -- if the status isn't locked, it can be written
   pub writable_for : old.config.scheme ≡ true → ¬ (is_locked old.kept ≡ true) → is_writable new ≡ true
   writable_for scheme unlocked =
       writable_same old new same.config (ap fixed_of same.kept)

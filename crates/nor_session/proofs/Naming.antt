@@ -1,4 +1,4 @@
--- Which address a refusal names, from the parts of a session or restore to its answer.
+-- Which address an error names, from the parts of a session or restore to its result.
 use Rattle.std.proofs.Common.{ℕ, ◌≡◌, ◌≤◌, ◌/◌, ◌∙◌, true, List, arith, inl, inr}
 use Rattle.nor_chip.specs.Bus.{BusState}
 use Rattle.nor_journal.specs.Text.{Content, IsContent, text}
@@ -24,7 +24,7 @@ save_names request opening code image old new (Timeout address) tells = absurd t
 save_names request opening code image old new (Mismatch address) tells = absurd tells
 save_names request opening code image old new _ tells = tt
 
--- what it refuses is judged of the touched sectors, or the vault's, or a stop
+-- its errors come from the checks of the touched sectors, from the vault, or from a stop
 pub save_number : (request : Request) (opening : Opening) (code : ℕ) (image : List ℕ) (old new : BusState) (refusal : Refusal)
     → SaveTells request opening code image old new refusal → (9 ≤ number_of refusal) × (number_of refusal ≤ 12)
 save_number request opening code image old new StatusLocked tells = (omega arith, omega arith)
@@ -33,13 +33,13 @@ save_number request opening code image old new Vault tells = (omega arith, omega
 save_number request opening code image old new Stopped tells = (omega arith, omega arith)
 save_number request opening code image old new _ tells = absurd tells
 
--- its judgement needs no bus
+-- its checks need no bus
 pub judged_names : (refusal : Refusal) → IsOpeningRefusal refusal → NamesSector (λ sector. ⊥) refusal
 judged_names (Timeout address) is = absurd is
 judged_names (Mismatch address) is = absurd is
 judged_names _ is = tt
 
--- where each touched sector is such a one, so is the one that the changes are at
+-- if this holds for each touched sector, it holds for the one at which the changes ended
 pub change_names : {IsSuch : ℕ → Type 0} (changes : Changes) (refusal : Refusal)
     → ((s : ℕ) → touched_in changes s ≡ true → IsSuch s) → NamesTouchedSector changes refusal
     → NamesSector IsSuch refusal
@@ -48,7 +48,7 @@ change_names changes (Timeout address) such (inr touched) = inr (such (address /
 change_names changes (Mismatch address) such touched = such (address / 4096) touched
 change_names changes _ such names = tt
 
--- what is changed was saved, so a sealed vault has it
+-- only saved sectors are changed, so a sealed vault has them
 pub work_names : (changes : Changes) (vault : VaultState) (refusal : Refusal) → vault.sealed ≡ true
     → (vault.telling ≡ true → IsJournalOf changes.size (touched_in changes) vault.bytes)
     → NamesTouchedSector changes refusal → NamesAddress vault refusal
@@ -62,13 +62,13 @@ work_names changes vault refusal sealed saves names = record {
 
 -- ---- a restore
 
--- what is judged first waits at 0
+-- a wait before the first checks names address 0
 pub prepare_names : (journal : Content) (most : ℕ) (old new : BusState) (refusal : Refusal) → PrepareTells journal most old new refusal → NamesSector (λ sector. is_saved journal sector ≡ true) refusal
 prepare_names journal most old new (Timeout address) tells = inl tells.0
 prepare_names journal most old new (Mismatch address) tells = absurd (let judged = tells.judged in cc)
 prepare_names journal most old new _ tells = tt
 
--- a saved sector is one of the text that the journal was read from
+-- a saved sector is one that the journal's bytes save
 pub saved_names : (journal : Content) (bytes : List ℕ) (refusal : Refusal) → IsContent journal → bytes ≡ text journal → NamesSector (λ sector. is_saved journal sector ≡ true) refusal → NamesSector (λ sector. SavesSector sector bytes) refusal
 saved_names journal bytes (Timeout address) is same (inl at) = inl at
 saved_names journal bytes (Timeout address) is same (inr saved) = inr (record { content = journal; is = is; same = same }, saved)

@@ -1,4 +1,4 @@
--- What holds on every bus once the touched sectors are saved, and how many transactions follow.
+-- What holds on every bus after the touched sectors are saved, and how many transactions follow.
 use Rattle.std.proofs.Common.{◌≡◌, ◌≤◌, ◌+◌, ◌/◌, ◌∙◌, ℕ, Bool, true, false, List, ap, sym, refl, arith, rules}
 use Rattle.std.specs.Prelude.{if◌then◌else◌}
 use Rattle.std.proofs.lemmas.Bool.{true_from_ne_false, false_from_ne_true}
@@ -36,7 +36,7 @@ use Rattle.nor_session.specs.Changing.{read_back, most_changed, DoesChange}
 use Rattle.nor_session.specs.Session.{most_status_writes, IsWithinBound}
 use Rattle.nor_session.proofs.Changed.{two_writes, write_once}
 
--- what is changed of a chip with this opening, of which this was kept
+-- the changes of a chip with this identification, after this was saved
 abbrev pub changes_of : Opening → SavedScan → Status → ℕ → Changes
 changes_of opening kept status code =
     record {
@@ -100,7 +100,7 @@ spends_looks fits looks =
 
 -- ---- how often the status is written
 
--- what is touched was scanned, so the request is about bytes
+-- touched sectors were scanned, so the request is for data
 pub touched_data : (request : Request) (size : ℕ) {scanned : Scanned} (s : ℕ) → size ≤ 16777216
     → AreMarks (size / 4096) scanned → scanned.count ≤ scanned.reads → scanned.reads ≡ scanned_sectors request size
     → has scanned.touched s ≡ true → is_data request.what ≡ true
@@ -117,7 +117,7 @@ writes_by _ unlock lifted writes two lifts none one = let zero = none refl in gr
 
 module _ {request : Request} {opening : Opening} {status : Status} {code : ℕ} {kept : SavedScan} {old mid : BusState}
     (is : Ready request opening status code kept old mid) where
-  -- after the readings come the changes
+  -- the changes follow the readings
   pub spends_ready : {new : BusState} → Spends (most_changed (changes_of opening kept status code)) mid new
       → Spends (most_of (scanned_sectors request opening.found.size)) old new
   spends_ready {new} spends = record {
@@ -131,7 +131,7 @@ module _ {request : Request} {opening : Opening} {status : Status} {code : ℕ} 
       → RanOut (most_of (scanned_sectors request opening.found.size)) old new
   ran_out_ready honest ran = let sent = is.looked.sent honest in omega arith
 
-  -- nothing is lifted where nothing was scanned
+  -- if nothing was scanned, no protection is lifted
   pub lifts_none : is_data request.what ≡ false → kept.unlock ≡ false
   lifts_none other = false_from_ne_true kept.unlock (λ lifted.
       let some = (is.lifts lifted).1 in
@@ -150,7 +150,7 @@ module _ {request : Request} {opening : Opening} {status : Status} {code : ℕ} 
 
 -- ---- the report
 
--- where the status is written at most so often
+-- if the status is written at most this often
 pub bounded_by : (request : Request) (opening : Opening) (status : Status) (code : ℕ) (kept : SavedScan) (old mid new : BusState) (wanted : ℕ → ℕ) (verify : Bool) (work : Work) (sent most : ℕ) → sent ≡ kept.scanned.reads
     → Ready request opening status code kept old mid → status_writes (changes_of opening kept status code) ≤ most
     → DoesChange (changes_of opening kept status code) wanted verify mid new work

@@ -1,4 +1,4 @@
--- What one restore under a stop comes to, restores in turn, and restores from a text.
+-- What one restore with a stop leaves, restores in turn, and restores from bytes.
 use Rattle.std.proofs.Common.{◌≡◌, ◌<◌, ◌≤◌, ◌+◌, ◌∙◌, ℕ, Bool, List, length, slice_index, true, false, refl, sym, arith, inl, inr}
 use Rattle.std.specs.Prelude.{Ok, Err, Result}
 use Rattle.std.proofs.lemmas.Bool.{cases_eq}
@@ -34,7 +34,7 @@ pub modelled_at : (old new : BusState) → new.honest ≡ old.honest → new.chi
 modelled_at old new honest config modelled =
     record { honest = honest ∙ modelled.honest; genuine = rw config modelled.genuine }
 
--- an allowance leaves what can be given back
+-- a new allowance keeps what can be restored
 allow_leaves : {n : ℕ} (journal : Content) (old new : BusState) → Allows n old new → LeavesRestores journal 0 old new
 allow_leaves journal old new allows =
     search (arith, modelled_at, none_aimed, none_written, allows.chip, allows.nature.steady)
@@ -42,14 +42,14 @@ allow_leaves journal old new allows =
 pub restores_then : (journal : Content) (m n most : ℕ) (old mid new : BusState) → m + n ≤ most → LeavesRestores journal m old mid → LeavesRestores journal n mid new → LeavesRestores journal most old new
 restores_then journal m n most old mid new fits before after = search (arith, aims_then, nature_then)
 
--- it gave up, and wasn't stopped
+-- it returned another error than a stop
 pub no_halt : (most : ℕ) (IsEarly : Refusal → Type 0) (old new : BusState) (refusal : Refusal) → (refusal ≡ Stopped → ⊥)
     → HonestTells most IsEarly old new refusal → IsNoHalt refusal
 no_halt most IsEarly old new Stopped never tells = absurd (never refl)
 no_halt most IsEarly old new (Timeout address) never tells = absurd tells
 no_halt most IsEarly old new _ never tells = refl
 
--- a restore that is allowed so many transactions
+-- a restore that may use this many transactions
 module _ {n : ℕ} {journal : Content} {old mid new : BusState} (allows : Allows n old mid) where
   pub under_leaves : {result : Result Report Refusal} → (IsModelled mid → GivesBack journal mid new result)
       → RestoreAlways journal mid new result → (IsModelled mid → RestoreModelled journal mid new result)
@@ -64,7 +64,7 @@ module _ {n : ℕ} {journal : Content} {old mid new : BusState} (allows : Allows
       → (mid.honest ≡ true → RestoreHonest journal mid new (Ok report)) → ShowsRestore journal n old new true
   under_ends report gives always told = let leaves = allow_leaves journal old mid allows in search arith
 
-  -- it was refused
+  -- it returned an error
   pub under_refuses : (refusal : Refusal) → (IsModelled mid → GivesBack journal mid new (Err refusal))
       → RestoreAlways journal mid new (Err refusal)
       → (mid.honest ≡ true → RestoreHonest journal mid new (Err refusal)) → (refusal ≡ Stopped → ⊥)
@@ -74,7 +74,7 @@ module _ {n : ℕ} {journal : Content} {old mid new : BusState} (allows : Allows
 
 -- ---- restores in turn
 
--- So many restores were stopped.
+-- This many restores were stopped.
 pub record AreStopped (journal : Content) (stops : List ℕ) (old now : BusState) (n : ℕ) : Type 0 where
   pub leaves : LeavesRestores journal n old now
   pub stopped : IsModelled old → (i : ℕ) → i < n → slice_index stops i < most_of (length journal.saved)
@@ -100,24 +100,24 @@ module _ {journal : Content} {stops : List ℕ} {old now : BusState} {n : ℕ} (
       → ShowsRestore journal (slice_index stops n) now new true → ShowsRestores journal stops old new restores
   ended_at restores is inside shows = search arith
 
--- what is never refused later on isn't refused
+-- if no later restore returns an error, none does
 pub refuses_before : {journal : Content} {n : ℕ} {old mid : BusState} (refusal : Refusal)
     → LeavesRestores journal n old mid → StopsRestores journal mid refusal → StopsRestores journal old refusal
 refuses_before refusal leaves refuses = search arith
 
--- under no stop no restore is stopped
+-- a restore without a stop isn't stopped
 pub last_ends : {journal : Content} {now new : BusState} {most : ℕ} → most ≡ most_of 4096
     → ShowsRestore journal most now new false → StopsRestores journal now Stopped
 last_ends {journal = journal} is shows = search (arith, saved_room)
 
 -- ---- restores from a text
 
--- the text is this journal, and what was kept in it was read
+-- the bytes are this journal, and it was read
 module _ {bytes : List ℕ} {journal : Content} (is : IsContent journal) (same : bytes ≡ text journal)
     (reads : (head : Content) (chip : ℕ → ℕ) (saved : ℕ → Bool) → JournalSaves head chip saved bytes
     → SameHead head journal × Saves chip saved journal)
     (old : BusState) where
-  -- so where it leads back it can give back
+  -- if the bytes can restore a chip, the journal can
   can_back : (saved : ℕ → Bool) (first : Chip) → LeadsBack saved first bytes old → CanGiveBack journal first old
   can_back saved first leads =
       can_give_back saved first bytes old journal leads (reads (head_of first) first.bytes saved leads.journal)
@@ -142,7 +142,7 @@ module _ {bytes : List ℕ} {journal : Content} (is : IsContent journal) (same :
     undo_wears modelled saved first leads s other = leaves.worn modelled s
         (sym (Saves-set first.bytes saved journal s (saves_all saved first leads)) ∙ other)
 
-    -- a journal that the text is is the one that was read of it
+    -- the bytes are no other journal than the one that was read
     pub undo_aims : AimsAtText bytes old new
     undo_aims other =
         rw (is_read bytes (Ok journal) other.content (is, same) tt other.is other.same) at leaves.aims
@@ -155,7 +155,7 @@ module _ {bytes : List ℕ} {journal : Content} (is : IsContent journal) (same :
     never = λ modelled saved first leads. refuses.never modelled first (can_back saved first leads);
   }
 
--- a journal is read, and so is a text that leads back
+-- bytes that are a journal, or can restore a chip, are read without an error
 pub unread : (bytes : List ℕ) (old : BusState) (fault : JournalFault) → ((content : Content) → IsContent content → bytes ≡ text content → ⊥)
     → RefusesUndo bytes old (BadJournal fault)
 unread bytes old fault never = search arith

@@ -1,4 +1,4 @@
--- What a session under a stop comes to, and the restores after it.
+-- What a session with a stop leaves, and the restores after it.
 use Rattle.std.proofs.Common.{◌≡◌, ◌≤◌, ◌+◌, ◌*◌, ◌∙◌, ℕ, List, [], ◌∷◌, length, drop, true, false, refl, ap, sym, arith, inl, inr}
 use Rattle.std.specs.Prelude.{max, Ok, Err, Result}
 use Rattle.std.proofs.lemmas.Bool.{true≢false, cases_Bool}
@@ -30,14 +30,14 @@ use Rattle.nor_session.proofs.RehearsedRestores.{modelled_at, no_halt}
 
 -- ---- the session
 
--- an answer of the session that isn't a stop is that of the rehearsal
+-- an error of the session other than a stop is the rehearsal's
 told : (request : Request) (image : List ℕ) (old new : BusState) (before after : VaultState) (refusal : Refusal) → (refusal ≡ Stopped → ⊥)
     → SessionTells request image old new before after refusal → RehearsalTells request image old.chip before after refusal
 told request image old new before after Vault never tells = tells
 told request image old new before after Stopped never tells = absurd (never refl)
 told request image old new before after _ never tells = tells
 
--- and one of those that leave the chip as it was, and the vault unsealed
+-- it is one that leaves the chip as it was and the vault unsealed
 early : (request : Request) (image : List ℕ) (old new : BusState) (before after : VaultState) (refusal : Refusal) → RehearsalTells request image old.chip before after refusal
     → (number_of refusal ≤ 11) × (HonestTells (most_of 4096) (λ refusal. number_of refusal ≤ 11) old new refusal → IsSame old.chip new.chip)
 early request image old new before after Vault tells = (omega arith, λ same. same (omega arith))
@@ -52,7 +52,7 @@ can_end request image n chip accepted erases fewest enough =
 wanted_bits : (request : Request) (image : List ℕ) (mid new : BusState) (report : Report) → IsDone request image mid new report → HasWantedBits request.what mid.chip new.chip
 wanted_bits request image mid new report done = record { code = done.code; is_wanted = done.is_wanted; kept = done.kept }
 
--- a session that is allowed so many transactions, and what it leaves
+-- a session that may use this many transactions, and what it leaves
 module _ {n : ℕ} {old mid : BusState} (allows : Allows n old mid) where
   modelled_mid : IsModelled old → IsModelled mid
   modelled_mid = modelled_at old mid allows.nature.honest (ap (λ (chip : Chip). chip.config) allows.chip)
@@ -114,39 +114,39 @@ module _ {n : ℕ} {old mid : BusState} (allows : Allows n old mid) where
           };
         }
 
-    -- it was refused, and not by a stop, unless as many transactions were allowed as any call needs
+    -- it returned an error: not a stop, unless it might use as many transactions as any call needs
     pub session_refuses : (refusal : Refusal) → SessionAlways request mid new before after (Err refusal)
         → (mid.honest ≡ true → SessionHonest mid new (Err refusal))
         → (IsModelled mid → SessionModelled request image mid new before after (Err refusal))
         → (refusal ≡ Stopped → n ≡ most_of 4096) → RefusesSession request image old new before after refusal
     session_refuses refusal always told_of promise all = search (arith, early, no_halt, told)
 
--- where there are no stops as many transactions are allowed as any call needs
+-- without stops a call may use as many transactions as any call needs
 pub unlimited : (stops : List ℕ) → length stops ≡ 0 → first_allowance stops ≡ most_of 4096
 unlimited [] none = refl
 unlimited (first ∷ later) none = absurd (omega arith)
 
 -- ---- both
 
--- the stops behind the first are one fewer
+-- the stops after the first are one fewer
 behind_first : (stops : List ℕ) → length (drop 1 stops) + 1 ≡ max 1 (length stops)
 behind_first [] = refl
 behind_first (first ∷ later) = omega arith
 
--- a session that sealed its vault, and the restores from the text that this has
+-- a session that sealed its vault, and the restores from its bytes
 module _ {request : Request} {image text later : List ℕ} {old mid new : BusState} {vault : VaultState}
     {result : Result ℕ Refusal} (session : LeavesSession request image old mid vault) (sealed : vault.sealed ≡ true)
     (is : text ≡ vault.bytes) (undone : LeavesUndo text later mid new result) where
-  -- the bus is modelled still, and the text leads back
+  -- the bus is still modelled, and the bytes can restore the chip
   pub led : IsModelled old → IsModelled mid × LeadsBack (is_touched old.chip.bytes (wanted request image old.chip)) old.chip text mid
   led modelled = search (arith, modelled_at)
 
-  -- both wear what the session touches alone
+  -- both erase only sectors that the session touches
   pub both_wear : IsModelled old → (s : ℕ) → is_touched old.chip.bytes (wanted request image old.chip) s ≡ false → new.worn s ≡ old.worn s
   both_wear modelled s other =
       let (still, leads) = led modelled in undone.wears still _ _ leads s other ∙ session.wears modelled s other
 
-  -- and aim where the journal saves
+  -- both target only sectors that the journal saves
   pub both_aim : (journal : IsJournal vault.bytes) × AimsAtSaved journal.content old new
   both_aim =
       let (journal, aimed) = session.aims sealed in
@@ -160,7 +160,7 @@ module _ {request : Request} {image text later : List ℕ} {old mid new : BusSta
       let before = session.writes in let after = undone.writes in
       omega (arith, count, one, before, after)
 
-  -- they are refused as restores are, and name what the sealed journal saves
+  -- their errors are those of restores, and name sectors that the sealed journal saves
   pub undo_refused : (had : VaultState) (refusal : Refusal) → RefusesUndo text mid refusal
       → IsRehearsalRefusal had vault refusal × NamesAddress vault refusal
   undo_refused had refusal refuses = (

@@ -1,4 +1,4 @@
--- What the opening of a restore tells.
+-- What the identification of a restore shows.
 use Rattle.std.proofs.Common.{◌≡◌, ◌∙◌, ℕ, true, List, refl, arith}
 use Rattle.std.specs.Prelude.{◌≢◌, Result, Ok, Err, Some, None, IsOk}
 use Rattle.nor_chip.specs.declared.config.Config.{Config}
@@ -45,14 +45,14 @@ same_unit journal config unique is same other = (rw is at other) same
 
 -- ---- refusals
 
--- the probe's
+-- the errors of the probe
 pub probe_tells : (journal : Content) (old new : BusState) (fault : ProbeFault) → BlamesName None fault → (old.honest ≡ true → Tells None old new fault) → PrepareTells journal most_opening old new (of_probe fault)
 probe_tells journal old new Probes.OtherName blames tells = absurd blames
 probe_tells journal old new Probes.Stopped blames tells = search arith
 probe_tells journal old new Probes.Timeout blames tells = (refl, tells)
 probe_tells journal old new _ blames tells = search arith
 
--- those of the unit
+-- the errors of another device
 pub unit_tells : (journal : Content) (most : ℕ) (old new : BusState) (refusal : Refusal) → IsUnitRefusal refusal → (old.honest ≡ true → IsSame old.chip new.chip)
     → (IsModelled old → RestoreJudges journal old.chip refusal) → PrepareTells journal most old new refusal
 unit_tells journal most old new OtherUnit is same verdict = record { judged = refl; same = same; verdict = verdict }

@@ -50,20 +50,20 @@ nothing_rescanned {journal = journal} {state = state} {scanned = scanned} blank 
 later_marks : {m n : ℕ} {scanned : Scanned} → m ≤ n → AreMarks m scanned → AreMarks n scanned
 later_marks later are = search (are.below, arith)
 
--- which sectors the records have with one more
+-- which sectors the records save with one more record
 more_before : (journal : Content) (i number : ℕ) (saved : List ℕ) (s : ℕ) → IsContent journal → slice_get journal.saved i ≡ Some (record { number = number; bytes = saved })
     → saved_before journal (i + 1) s ≡ ((s == number) || saved_before journal i s)
 more_before journal i number saved s is at =
     let more = saved_in-take_more journal i (record { number = number; bytes = saved }) s is at in
     grind (arith, nat_tests)
 
--- a sector more was tested
+-- one more sector was tested
 tested : (n s : ℕ) (test : ℕ → Bool) (verdict before after old new : Bool) → verdict ≡ test n
     → after ≡ ((s == n) || before) → old ≡ (before && test s) → new ≡ ((verdict && (s == n)) || old)
     → new ≡ (after && test s)
 tested n s test verdict before after old new is more was inserted = grind (arith, nat_tests)
 
--- what is wanted of a saved sector are its saved bytes, and of another one those that it has
+-- the wanted bytes of a saved sector are the saved ones, those of any other sector are the present ones
 pub restored_saved : (journal : Content) (content : ℕ → ℕ) (a : ℕ) → is_saved journal (a / 4096) ≡ true → restored journal content a ≡ saved_byte journal a
 restored_saved journal content a is = rw is refl
 

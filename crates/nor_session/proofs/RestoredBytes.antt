@@ -13,7 +13,7 @@ use Rattle.nor_session.specs.Restore.{restored}
 use Rattle.nor_session.proofs.SavedBytes.{sector_at}
 use Rattle.nor_session.proofs.Rescanned.{untouched_other}
 
--- what no place of a sector passes, none of its addresses does
+-- if no position in a sector passes a test, none of its addresses does
 none_at : (test : ℕ → Bool) (a : ℕ) → any_below 4096 (λ i. test (4096 * (a / 4096) + i)) ≡ false → test a ≡ false
 none_at test a none =
     let place : 4096 * (a / 4096) + a % 4096 ≡ a = omega arith in
@@ -24,17 +24,17 @@ pub untouched_byte : (content aim : ℕ → ℕ) (a : ℕ) → is_touched conten
 unfolding is_touched
 untouched_byte content aim a none = eqb-true _ _ (not-false _ (none_at (λ b. is_other (content b) (aim b)) a none))
 
--- in one that isn't raised no bit has to rise
+-- in a sector that isn't raised no bit must rise
 pub unraised_byte : (content aim : ℕ → ℕ) (a : ℕ) → is_raised content aim (a / 4096) ≡ false → bit_and (aim a) (content a) ≡ aim a
 unfolding is_raised
 unraised_byte content aim a none = eqb-true _ _ (not-false _ (none_at (λ b. must_rise (content b) (aim b)) a none))
 
--- one that isn't touched isn't raised
+-- a sector that isn't touched isn't raised
 pub untouched_unraised : (content aim : ℕ → ℕ) (s : ℕ) → is_touched content aim s ≡ false → is_raised content aim s ≡ false
 untouched_unraised content aim s none =
     unraised content aim s (λ i below. sym (untouched_byte content aim (4096 * s + i) (rw (sector_at s i below) none)))
 
--- a touched one has another byte
+-- a touched sector has another byte
 pub touched_byte : (content aim : ℕ → ℕ) (s : ℕ) → is_touched content aim s ≡ true → (k : ℕ) × (k < 4096) × ¬ (content (4096 * s + k) ≡ aim (4096 * s + k))
 unfolding is_touched
 touched_byte content aim s some = search (arith, any_below-found, both_ways, eq-eqb, not_from_true)
@@ -43,7 +43,7 @@ touched_byte content aim s some = search (arith, any_below-found, both_ways, eq-
 pub touched_saved : (journal : Content) (content : ℕ → ℕ) (s : ℕ) → is_touched content (restored journal content) s ≡ true → is_saved journal s ≡ true
 touched_saved journal content s some = search (arith, both_ways, true_from_ne_false, untouched_other)
 
--- what was written where sectors were touched is what was to be restored
+-- writing the touched sectors gives the restored bytes
 pub written_restored : (journal : Content) (old mid new : ℕ → ℕ) (touched : ℕ → Bool) (a : ℕ) → ((s : ℕ) → touched s ≡ is_touched old (restored journal old) s) → mid a ≡ old a
     → new a ≡ (if touched (a / 4096) then saved_byte journal a else mid a) → new a ≡ restored journal old a
 written_restored journal old mid new touched a right same is = search (arith, touched_saved, untouched_byte)
@@ -53,7 +53,7 @@ written_restored journal old mid new touched a right same is = search (arith, to
 and_same : (b x y : Bool) → (b ≡ true → x ≡ y) → (b && x) ≡ (b && y)
 and_same b x y same = grind arith
 
--- the pages that are programmed are told by what is wanted in touched sectors
+-- the wanted bytes of touched sectors say which pages are programmed
 pub pages_same : (touched : ℕ → Bool) (old aim aim' : ℕ → ℕ) → ((a : ℕ) → touched (a / 4096) ≡ true → aim a ≡ aim' a)
     → count_below 65536 (is_programmed touched old aim) ≡ count_below 65536 (is_programmed touched old aim')
 unfolding is_page_other

@@ -1,4 +1,4 @@
--- How what a restore prepares and what it changes come together.
+-- How the preparation of a restore and its changes are combined.
 use Rattle.std.proofs.Common.{◌≡◌, ◌<◌, ◌≤◌, ◌^◌, ◌+◌, ◌/◌, ◌∙◌, ℕ, true, length, ap, sym, refl, arith, true≢false}
 use mathlib.Core.Path.{fun_ext}
 use Rattle.nor_chip.specs.Chip.{Chip, IsSame}
@@ -65,7 +65,7 @@ module _ (journal : Content) (most : ℕ) (old new : BusState) where
   looks_leave looked =
       let fixed = λ (calm : IsCalm old). ap fixed_of (looked.stays.calm calm).kept in search arith
 
--- a chip that can be given back still can
+-- a chip that can be restored still can be
 pub looks_back : (journal : Content) (first : Chip) (most : ℕ) (old new : BusState) → old.honest ≡ true → Looks most old new → CanGiveBack journal first old → CanGiveBack journal first new
 looks_back journal first most old new honest looks can =
     assumption (looked_within _ first most old new looks.nature.steady (looks.looked honest) can.within)
@@ -147,7 +147,7 @@ module _ (journal : Content) (prepared : Prepared) (old mid new : BusState) (wor
 
   module _ (sent : ℕ) (are : AreChanged journal prepared old mid new)
       (does : DoesChange prepared.changes (saved_byte journal) true mid new work) where
-    -- where the status is written at most so often
+    -- if the status is written at most this often
     restored_within : (writes : ℕ) → sent ≡ prepared.transactions + work.transactions
         → status_writes prepared.changes ≤ writes
         → IsWithinBound (length journal.saved) writes true (report_of prepared work sent)
@@ -157,7 +157,7 @@ module _ (journal : Content) (prepared : Prepared) (old mid new : BusState) (wor
         → IsWithinBound (length journal.saved) 2 true (report_of prepared work sent)
     restored_bounded sum = restored_within 2 sum (two_writes prepared.changes)
 
-    -- where no status write is needed, there is none
+    -- if no status write is needed, there is none
     pub restored_sparing : sent ≡ prepared.transactions + work.transactions → IsModelled old
         → ¬ NeedsStatusFrom journal old.chip
         → IsWithinBound (length journal.saved) 0 true (report_of prepared work sent)
@@ -212,6 +212,6 @@ module _ (journal : Content) (prepared : Prepared) (old mid new : BusState) (wor
               does.still (omega arith) ∙ are.looks.sent;
         }
 
--- and it is the first chip again
+-- the first chip is restored
 pub restored_back : (journal : Content) (first : Chip) (old new : BusState) (report : Report) → CanGiveBack journal first old → IsRestored journal old new report → IsSame first new.chip
 restored_back journal first old new report can done = search (arith, given_back)

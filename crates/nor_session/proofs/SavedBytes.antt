@@ -1,4 +1,4 @@
--- What a journal saved: its bytes, at the addresses of a chip, and how many sectors.
+-- What a journal saved: the bytes at the addresses of a chip, and how many sectors.
 use Rattle.std.proofs.Common.{◌≡◌, ℕ, ◌+◌, ◌*◌, ◌/◌, ◌<◌, ◌≤◌, ◌∙◌, ◌||◌, Bool, true, false, length, List, [], ◌∷◌, slice_index, refl, sym, ap, arith, Some}
 use Rattle.std.specs.Prelude.{◌==◌}
 use Rattle.std.specs.Option.{is_some}
@@ -36,14 +36,14 @@ saved_room journal is = search (arith, is_chip_size-in_blocks, saved_few)
 abbrev has_record : List SavedSector → ℕ → Bool
 has_record saved s = is_some (saved_in saved s)
 
--- none does below the least
+-- no record has a sector below the least one
 not_below : (sectors least : ℕ) (saved : List SavedSector) (s : ℕ) → AreRising sectors least saved → s < least → has_record saved s ≡ false
 unfolding saved_in
 not_below sectors least [] s rising below = refl
 not_below sectors least (first ∷ rest) s rising below =
     rw (ne_eqb first.number s (λ e. omega arith)) (not_below sectors (first.number + 1) rest s rising.2 (omega arith))
 
--- one record more has its own sector
+-- with one more record, its sector is saved too
 one_more : (first : SavedSector) (rest : List SavedSector) (s : ℕ) → has_record (first ∷ rest) s ≡ ((s == first.number) || has_record rest s)
 unfolding saved_in
 one_more first rest s = grind (arith, nat_tests)
@@ -58,7 +58,7 @@ counted n sectors least (first ∷ rest) upto rising =
     let later = counted n sectors (first.number + 1) rest upto rising.2 in
     omega arith
 
--- as many as are in the set that it saves
+-- the number of records is the number of saved sectors
 pub saved_count : (chip : ℕ → ℕ) (saved : ℕ → Bool) (journal : Content) → Saves chip saved journal → length journal.saved ≡ sector_count saved
 saved_count chip saved journal saves =
     let most = (is_chip_size-in_blocks journal.size saves.is.size).small in

@@ -1,4 +1,4 @@
--- The changes of a session can be made, and what a refusal of them tells.
+-- The changes of a session can be made, and what their errors say.
 use Rattle.std.proofs.Common.{◌≡◌, ◌≢◌, ◌<◌, ◌≤◌, ◌/◌, ◌∙◌, ℕ, Bool, true, false, List, ap, sym, refl, arith, bit_and}
 use Rattle.nor_probe.specs.Known.{shown_as}
 use Rattle.nor_probe.specs.Found.{part_in}
@@ -39,7 +39,7 @@ use Rattle.nor_session.proofs.RestoredBytes.{unraised_byte}
 use Rattle.nor_session.proofs.Ready.{Ready, changes_of, lifts_none, ran_out_ready, scanned_few}
 use Rattle.nor_session.proofs.ReadyChip.{most_sized}
 
--- All that is known of a chip whose touched sectors are saved, where it is what it shows itself to be.
+-- All that is known about a genuine chip whose touched sectors are saved.
 pub record ReadyChip (request : Request) (image image' : List ℕ) (opening : Opening) (code : ℕ) (kept : SavedScan) (old mid : BusState) : Type 0 where
   pub honest : old.honest ≡ true
   pub is : IsOpening old.chip opening
@@ -84,7 +84,7 @@ module _ (request : Request) (image image' : List ℕ) (opening : Opening) (stat
       (lifts_none is) (λ about_bytes. is.same_code about_bytes ∙ chip)
       (λ off same. writes_other (changes_of opening kept status code) off writes (read ∙ chip ∙ sym same))
 
-  -- so never where none is needed
+  -- no status write is done if none is needed
   pub never_written : ¬ NeedsStatusWrite request image old.chip
       → status_writes (changes_of opening kept status code) ≤ 0
   never_written none =

@@ -1,4 +1,4 @@
--- What a session leaves once the vault is sealed, and at its end.
+-- What a session leaves after the seal, and at its end.
 use Rattle.std.proofs.Common.{subst, ◌≡◌, ◌<◌, ◌+◌, ◌∙◌, ℕ, Bool, List, ap, sym, arith}
 use mathlib.Core.Path.{fun_ext}
 use Rattle.std.specs.Prelude.{slice_index}
@@ -113,7 +113,7 @@ module _ (request : Request) (image image' : List ℕ) (opening : Opening) (stat
             does.still (omega arith) ∙ is.looked.same_sent;
       }
 
-  -- where the request needs no status write, there is none
+  -- if the request needs no status write, there is none
   pub spared : (new : BusState) (aim : ℕ → ℕ) (verify : Bool) (work : Work) (sent : ℕ) → sent ≡ kept.scanned.reads
       → Ready request opening status code kept old mid → ReadyChip request image image' opening code kept old mid
       → ¬ NeedsStatusWrite request image old.chip

@@ -1,4 +1,4 @@
--- What is written over with a chip that can be given back can be given back at each moment.
+-- A journal can restore its chip from files at each moment at which they are overwritten.
 use Rattle.std.proofs.Common.{ap, arith, ◌/◌, ◌%◌, false, ◌≡◌, ◌∙◌, ◌⊎◌, ℕ, Bool, List, [], true, refl, sym, inl, inr}
 use Rattle.std.proofs.lemmas.List.{append-nil}
 use Rattle.nor_chip.specs.Bus.{BusState}
@@ -23,12 +23,12 @@ use Rattle.nor_session.proofs.GivesBack.{can_give_back, leads_back}
 
 -- ---- one chip written over with another
 
--- what is so of either of two numbers is so of one that is the one or the other
+-- what holds for two numbers holds for a number that is one of them
 pub either : (P : ℕ → Type 0) (x y z : ℕ) → (z ≡ x) ⊎ (z ≡ y) → P x → P y → P z
 either P x y z (inl is) one two = rw is one
 either P x y z (inr is) one two = rw is two
 
--- so bits that both have are had by the chip that was opened, and fixed ones likewise
+-- bits that both chips have are bits of the chip that was opened, and so are fixed bits
 kept_over : {old new opened : Chip} (first : KeptBits) → IsWrittenOver old new opened → old.kept ≡ first
     → new.kept ≡ first → opened.kept ≡ first
 kept_over {old} {new} {opened} first over before after =
@@ -47,7 +47,7 @@ fixed_over {old} {new} {opened} first over before after =
     (ap (λ (f : ℕ × ℕ). f.1) before) (ap (λ (f : ℕ × ℕ). f.1) after) in
     rw (one, two) refl
 
--- both are within the same places of the first chip, so what was opened is
+-- if both chips differ from the first one only within these addresses, so does the chip that was opened
 pub within_both : (places : ℕ → Bool) (first : Chip) (old new opened : BusState) → IsWrittenOver old.chip new.chip opened.chip
     → IsWithin places first old → IsWithin places first new → IsWithin places first opened
 within_both places first old new opened over before after =
@@ -55,18 +55,18 @@ within_both places first old new opened over before after =
     let kept = λ (shut : is_writable first ≡ false). kept_over first.kept over (before.kept shut) (after.kept shut) in
     search (arith, either)
 
--- so what can be given back before and after can be at each moment between
+-- a chip that can be restored before and after can be restored at each moment between
 pub restore_over : (journal : Content) (first : Chip) (old new opened : BusState) → CanGiveBack journal first old
     → CanGiveBack journal first new → IsWrittenOver old.chip new.chip opened.chip → CanGiveBack journal first opened
 restore_over journal first old new opened before after over = search (arith, within_both)
 
--- and where both are the same chip, so is what was opened
+-- if both are the same chip, the chip that was opened is the same too
 pub same_over : (old new opened : Chip) → IsSame old new → IsWrittenOver old new opened → IsSame old opened
 same_over old new opened same over = let kept = kept_over old.kept over refl same.kept in search (arith, either)
 
 -- ---- after a session
 
--- a journal that was read says what the one that was kept does
+-- a journal that was read saves what the one that was written saves
 read_kept : (head : Content) (bytes : ℕ → ℕ) (saved : ℕ → Bool) (journal : Content) (kept : List ℕ) → JournalSaves head bytes saved kept
     → IsContent journal → kept ≡ text journal → SameHead head journal × Saves bytes saved journal
 read_kept head bytes saved journal kept saves is read =
@@ -83,7 +83,7 @@ read_back request image old new vault journal modelled is telling undone sound r
     (leads_back request image old new vault is modelled.genuine telling undone)
     (read_kept (head_of old.chip) old.chip.bytes _ journal vault.bytes (undone.journal telling) sound read)
 
--- the first chip, once nothing runs on it
+-- the first chip when nothing runs on it
 abbrev idle : BusState → BusState
 idle state = record state { chip = record state.chip { busy = 0 } }
 

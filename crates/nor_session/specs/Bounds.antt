@@ -3,12 +3,12 @@ use Rattle.std.specs.Prelude.{◌+◌, ◌*◌, ℕ}
 use Rattle.nor_driver.specs.Operations.{most_operation}
 use Rattle.nor_save.specs.Opening.{most_opening}
 
--- the most transactions of an opening, and of a scan of so many sectors
+-- the most transactions of an identification and of a scan of this many sectors
 abbrev pub most_looked : (sectors : ℕ) → ℕ
 most_looked sectors = most_opening + sectors
 
--- The most transactions of a call that may touch so many sectors: the opening takes 65,542; each sector is read when
--- it is scanned, before it is programmed and when it is checked; it is erased once and has sixteen pages; the status
--- is written twice. Each of these operations takes at most 65,538.
+-- The most transactions of a call that may touch this many sectors. The identification takes 65,542. Each sector is
+-- read when it is scanned, before it is programmed and when it is checked; it is erased once and has sixteen pages; the
+-- status is written twice. Each erase, program and status write takes at most 65,538.
 abbrev pub most_of : (sectors : ℕ) → ℕ
 most_of sectors = most_opening + 3 * sectors + most_operation * (17 * sectors + 2)

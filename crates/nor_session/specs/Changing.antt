@@ -1,4 +1,4 @@
--- What the changes of a session or restore leave, with the check of what they came to.
+-- What the changes of a session or restore leave, and the check of their result.
 use Rattle.std.specs.Prelude.{◌≡◌, ◌≤◌, ◌+◌, ◌*◌, ◌/◌, ◌⊎◌, ℕ, Bool, true, if◌then◌else◌, ⊤}
 use Rattle.nor_chip.specs.Bus.{BusState}
 use Rattle.nor_driver.specs.Ready.{StaysReady}
@@ -21,7 +21,7 @@ use Rattle.nor_call.specs.declared.refusal.Refusal.TheVariants.{Stopped, Timeout
 abbrev pub touched_count : Changes → ℕ
 touched_count changes = sector_count (touched_in changes)
 
--- The most transactions: those of the changes, and each touched sector is read once more.
+-- The most transactions: those of the changes, and one more reading of each touched sector.
 abbrev pub most_changed : Changes → ℕ
 most_changed changes = most_applied (touched_count changes) + touched_count changes
 
@@ -29,10 +29,10 @@ most_changed changes = most_applied (touched_count changes) + touched_count chan
 abbrev pub read_back : Changes → Bool → ℕ
 read_back changes verify = if verify then touched_count changes else 0
 
--- ---- the check alone, once all is written
+-- ---- the check alone, after all is written
 
--- At the end: so many sectors were read, which the work counts now, nothing changed or was sent that could, and each
--- byte that was read is the wanted one.
+-- At the end: the touched sectors were read if `verify` is set, and the work counts these readings; nothing changed,
+-- and no modifying command was sent; on an honest bus each byte that was read is the wanted one.
 pub record DoesCheck (changes : Changes) (wanted : ℕ → ℕ) (verify : Bool) (written : Work) (old new : BusState)
     (work : Work) : Type 0 where
   pub erases : work.erases ≡ written.erases
@@ -45,7 +45,7 @@ pub record DoesCheck (changes : Changes) (wanted : ℕ → ℕ) (verify : Bool) 
   pub same : verify ≡ true → old.honest ≡ true → CanCheck (touched_in changes) old.chip
       → (a : ℕ) → touched_in changes (a / 4096) ≡ true → old.chip.bytes a ≡ wanted a
 
--- Why it wasn't passed: the bus stopped, with fewer transactions left than sectors, or this is the first difference.
+-- Why the check failed: the bus stopped, with fewer transactions left than sectors, or this is the first difference.
 abbrev pub CheckRefuses : Changes → (ℕ → ℕ) → (old new : BusState) → Refusal → Type 0
 CheckRefuses changes wanted old new Stopped = RanOutIfHonest (touched_count changes) old new
 CheckRefuses changes wanted old new (Mismatch address) =
@@ -55,15 +55,15 @@ CheckRefuses changes wanted old new _ = ⊥
 
 -- ---- the changes and their check
 
--- At every exit; whatever the bus, nothing is aimed beside the touched sectors, and the status is written no more often
--- than is asked.
+-- At every exit. On every bus only touched sectors are targeted, and the status is written no more often than the
+-- changes ask for.
 pub record LeavesChange (changes : Changes) (wanted : ℕ → ℕ) (old new : BusState) : Type 0 where
   pub spends : Spends (most_changed changes) old new
   pub aims : AimsWithin (may_aim_at (touched_in changes) changes.size) (status_writes changes) old new
   pub reached : old.honest ≡ true → CanApply changes wanted old.chip
       → MayChange (touched_in changes) (raised_in changes) wanted old new
 
--- At the end, with what the work came to; where there is nothing to change, nothing changing was sent.
+-- At the end, with what the work counts. If there is nothing to change, no modifying command was sent.
 pub record DoesChange (changes : Changes) (wanted : ℕ → ℕ) (verify : Bool) (old new : BusState)
     (work : Work) : Type 0 where
   pub erases : work.erases ≡ fewest_erases changes.kinds (changes.size / 4096) (raised_in changes)
@@ -81,16 +81,16 @@ pub record DoesChange (changes : Changes) (wanted : ℕ → ℕ) (verify : Bool)
       → work.programs ≡ count_below 65536
       (is_programmed (touched_in changes) (once_erased (raised_in changes) old.chip.bytes) wanted)
 
--- Why they weren't finished: the bus stopped, with fewer transactions left than they may take; another bus than an
--- honest one kept the chip busy, or showed other bytes than were written.
+-- Why the changes weren't finished: the bus stopped, with fewer transactions left than they may need; or a faulty bus
+-- kept the chip busy, or showed other bytes than were written.
 abbrev pub ChangeTells : Changes → (ℕ → ℕ) → (old new : BusState) → Refusal → Type 0
 ChangeTells changes wanted old new Stopped = old.honest ≡ true → RanOut (most_changed changes) old new
 ChangeTells changes wanted old new (Timeout address) = old.honest ≡ true → ⊥
 ChangeTells changes wanted old new (Mismatch address) = old.honest ≡ true → CanApply changes wanted old.chip → ⊥
 ChangeTells changes wanted old new _ = ⊥
 
--- whatever the bus, a timeout names 0, where the status is written, or an address in a touched sector; and a mismatch
--- an address in one
+-- On every bus a timeout names an address in a touched sector, or 0 if the status is written; and a mismatch names an
+-- address in a touched sector.
 abbrev pub NamesTouchedSector : Changes → Refusal → Type 0
 NamesTouchedSector changes (Timeout address) =
     ((1 ≤ status_writes changes) × (address ≡ 0)) ⊎ (touched_in changes (address / 4096) ≡ true)

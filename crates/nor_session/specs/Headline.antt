@@ -1,4 +1,4 @@
--- What a session, a restore and a rehearsal promise before all else: the first chip can be had again.
+-- The main promise of a session, a restore and a rehearsal: the original chip can be restored.
 use Rattle.std.specs.Prelude.{◌≡◌, ◌/◌, ◌&&◌, ℕ, Bool, true, false, not, List, Result, IfErr, IfSome, OnOk}
 use Rattle.nor_chip.specs.declared.config.Config.{Config}
 use Rattle.nor_chip.specs.Chip.{Chip, IsSame, is_locked, kept_in}
@@ -16,52 +16,54 @@ use Rattle.nor_call.specs.declared.refusal.Refusal.{Refusal}
 use Rattle.nor_call.specs.declared.refusal.Refusal.TheVariants.{Stopped}
 use Rattle.nor_save.specs.SavedScan.{IsJournal}
 
--- ---- giving a chip back
+-- ---- which chip a journal can restore
 
--- The journal has this ID and this size.
+-- The journal has the ID and the size of this configuration.
 pub record IsOfKind (journal : Content) (config : Config) : Type 0 where
   pub id : journal.id ≡ id_of config
   pub size : journal.size ≡ config.size
 
--- The journal saves this chip.
+-- The journal saves this chip: its unique ID, if the journal has one; its non-volatile status bits; the bytes of the
+-- saved sectors.
 pub record SavesChip (journal : Content) (first : Chip) : Type 0 where
   pub kind : IsOfKind journal first.config
   pub unit : IfSome journal.unique (λ unique. unique ≡ unique_of first.config)
   pub bits : first.kept ≡ kept_in journal.status
   pub sectors : Saves first.bytes (is_saved journal) journal
 
--- the places at which a chip may differ from the first one: those of saved sectors, and where the first one's status is
--- locked the ones that aren't guarded
+-- The addresses at which a chip may differ from the first one: those in saved sectors, except the protected ones if the
+-- first one's status is locked.
 abbrev pub open_places : Content → Chip → ℕ → Bool
 open_places journal first a = is_saved journal (a / 4096) && not (is_locked first.kept && is_guarded first a)
 
--- The bus's chip can be made the first one again: that is known and saved by the journal, and the chip is within it.
+-- The journal can restore the first chip on this bus: it saves that chip, which is known, and the bus's chip differs
+-- from it only where a restore can write.
 pub record CanGiveBack (journal : Content) (first : Chip) (state : BusState) : Type 0 where
   pub known : IsKnown first.config
   pub saves : SavesChip journal first
   pub within : IsWithin (open_places journal first) first state
 
--- These bytes are a journal from which the bus's chip can be made the first one again.
+-- These bytes are a journal that can restore the first chip on this bus.
 pub record HasWayBack (bytes : List ℕ) (first : Chip) (state : BusState) : Type 0 where
   pub journal : IsJournal bytes
   pub back : CanGiveBack journal.content first state
 
--- ---- what the calls promise of it
+-- ---- what the calls promise
 
--- A session, wherever it ends or is stopped.
+-- At every exit of a session, wherever it ended or was stopped.
 pub record KeepsFirst (old new : BusState) (vault : VaultState) : Type 0 where
-  -- until the vault is sealed nothing that may change a chip was sent, on every bus
+  -- before the vault is sealed no modifying command was sent, on every bus
   pub still : vault.sealed ≡ false → new.sent ≡ old.sent
-  -- so on a calm honest bus bytes and kept bits are as they were
+  -- on an honest bus that is calm, bytes and non-volatile status bits are then as they were
   pub same : vault.sealed ≡ false → old.honest ≡ true → IsCalm old → IsSame old.chip new.chip
-  -- once it is sealed, what a telling vault has leads back to the first chip
+  -- after the seal, the bytes of a faithful vault are a journal that can restore the original chip
   pub leads_back : vault.sealed ≡ true → vault.telling ≡ true → IsModelled old → HasWayBack vault.bytes old.chip new
 
--- A restore, for each chip that it can give back.
+-- A restore on a modelled bus, for each first chip that the journal can restore at its start.
 pub record GivesBack (journal : Content) (old new : BusState) (result : Result Report Refusal) : Type 0 where
-  -- at every exit the bus's chip can still be made each first one that it could be made before
+  -- at every exit the journal can still restore it
   pub within : (first : Chip) → CanGiveBack journal first old → CanGiveBack journal first new
-  -- a restore that ends has made it that one
+  -- a restore that ends has restored it
   pub back : (first : Chip) → CanGiveBack journal first old → OnOk result (IsSame first new.chip)
-  -- and nothing else than a stop keeps it from ending
+  -- only a stop keeps a restore from ending
   pub only_stops : (first : Chip) → CanGiveBack journal first old → IfErr result (λ refusal. refusal ≡ Stopped)

@@ -1,4 +1,4 @@
--- What a session knows once its opening is judged, and from where its promises count.
+-- What a session knows after the identification was checked, and from where its promises count.
 use Rattle.std.specs.Prelude.{◌≡◌, ◌≤◌, ◌<◌, ℕ, true, Option, List, Result, length}
 use Rattle.nor_chip.specs.Guard.{code_of}
 use Rattle.nor_chip.specs.Chip.{Chip, kept_in}
@@ -18,8 +18,8 @@ use Rattle.nor_save.specs.Verdict.{IsNamed, OpeningAccepts}
 use Rattle.nor_probe.specs.Known.{IsModelled}
 use Rattle.nor_session.specs.Session.{SessionAlways, SessionHonest, SessionModelled}
 
--- The opening found a part, and its judgement accepted the request against an image of so many bytes, with this wanted
--- code.
+-- The identification found a part, and its checks accepted the request for an image of this length, with these wanted
+-- protection bits.
 pub record IsJudged (request : Request) (image : ℕ) (opening : Opening) (code : ℕ) : Type 0 where
   pub part : IsPart opening.found
   pub few : opening.transactions ≤ most_opening
@@ -29,7 +29,7 @@ pub record IsJudged (request : Request) (image : ℕ) (opening : Opening) (code 
   pub accepts : (chip : Chip) (bytes : List ℕ) → IsOpening chip opening → IsNamed request.named chip.config
       → length bytes ≡ image → OpeningAccepts request bytes chip code
 
--- this holds of every state of the bus from which the opening led to the one now
+-- this holds for every state of the bus from which the identification led to the present one
 abbrev pub SinceOpening : Option ChipName → Opening → BusState → (BusState → Type 0) → Type 0
 SinceOpening named opening now promise =
     (first : BusState) → Looks most_opening first now → Opens named first now opening → promise first

@@ -1,4 +1,4 @@
--- What a session or a restore makes of a chip, and what its report counts.
+-- What a chip is after a session or a restore that ended, and what its report counts.
 use Rattle.std.specs.Prelude.{◌≡◌, ◌/◌, ◌||◌, ℕ, true, Ok}
 use Rattle.nor_chip.specs.declared.config.Config.{Config}
 use Rattle.nor_chip.specs.Chip.{Chip, status1_of}
@@ -12,18 +12,18 @@ use Rattle.nor_count.specs.Counts.{sector_count}
 use Rattle.nor_plan.specs.Content.{is_touched, is_raised, once_erased, is_programmed}
 use Rattle.nor_call.specs.declared.report.Report.{Report}
 
--- so many erases are the fewest: some list of them makes just the raised sectors of the chip FFh, and no shorter one
--- does
+-- This number of erases is the least possible: some list of that length erases exactly the raised sectors of the chip,
+-- and no shorter list does.
 abbrev pub AreFewestErases : Config → (old wanted : ℕ → ℕ) → (erases : ℕ) → Type 0
 AreFewestErases config old wanted erases = IsLeastLength config.kinds (config.size / 4096) (is_raised old wanted) erases
 
--- how many pages of touched sectors need a program, once the raised ones are erased
+-- how many pages of touched sectors must be programmed after the raised sectors were erased
 abbrev pub pages_of : (old wanted : ℕ → ℕ) → ℕ
 pages_of old wanted =
     count_below 65536 (is_programmed (is_touched old wanted) (once_erased (is_raised old wanted) old) wanted)
 
--- The chip is made the wanted one: each byte is that, the fixed bits are as they were, it is idle, and its latch is set
--- only where it was.
+-- The chip holds the wanted bytes, its fixed status bits are as they were, and it is idle. Its latch is set only if it
+-- was set before.
 pub record IsMade (wanted : ℕ → ℕ) (old new : Chip) : Type 0 where
   pub config : new.config ≡ old.config
   pub bytes : (a : ℕ) → new.bytes a ≡ wanted a
@@ -31,8 +31,8 @@ pub record IsMade (wanted : ℕ → ℕ) (old new : Chip) : Type 0 where
   pub idle : new.busy ≡ 0
   pub latch : new.latch ≡ true → old.latch ≡ true
 
--- Only the raised sectors were erased for it; and the report tells the chip, and counts what was done: the touched
--- sectors, the erases, which are the fewest, and the programs.
+-- Only the raised sectors were erased. The report names the chip that was found and its status 1, and counts the
+-- touched sectors, the erases (the least possible number) and the programs.
 pub record IsReported (wanted : ℕ → ℕ) (old new : BusState) (report : Report) : Type 0 where
   pub worn : (s : ℕ) → new.worn s ≡ (old.worn s || is_raised old.chip.bytes wanted s)
   pub shown : shown_as old.chip.config ≡ Ok (part_in report.found)

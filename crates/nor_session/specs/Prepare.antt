@@ -1,4 +1,4 @@
--- What a restore finds of a chip before it changes anything.
+-- What a restore finds out about a chip before it changes anything.
 use Rattle.std.specs.Prelude.{◌≡◌, ◌≢◌, ◌<◌, ◌≤◌, ◌+◌, ◌/◌, ◌||◌, ◌⊎◌, ℕ, Bool, true, List, Result, None, Ok, Err, IfErr, OnOk, OnErr, IfOk, MatchBool, length, slice_index, ⊤}
 use Rattle.nor_chip.specs.Guard.{code_of}
 use Rattle.nor_chip.specs.Chip.{Chip, IsSame, is_locked, status1_of, kept_in}
@@ -31,16 +31,16 @@ use Rattle.nor_session.specs.Headline.{IsOfKind}
 use Rattle.nor_save.specs.Verdict.{IsNamed}
 use Rattle.nor_session.specs.Restore.{IsOfOtherUnit, FitsStatus, NeedsStatusFrom, IsJudgedFirst, restored}
 
--- ---- what is judged, in the order of the code
+-- ---- what is checked, in the order of the code
 
--- The chip is known, and the journal is one of it.
+-- The chip is known, and the journal fits it.
 pub record Fits (journal : Content) (chip : Chip) : Type 0 where
   pub named : IsNamed None chip.config
   pub kind : IsOfKind journal chip.config
   pub unit : ¬ IsOfOtherUnit journal chip.config
   pub fixed : FitsStatus journal chip
 
--- a refusal that is judged, and what was judged before it
+-- an error that is checked, and what was checked before it
 abbrev pub RestoreJudges : Content → Chip → Refusal → Type 0
 RestoreJudges journal chip NoChip = shown_as chip.config ≡ Err Probes.NoChip
 RestoreJudges journal chip (UnknownChip fault) = shown_as chip.config ≡ Err (Probes.UnknownChip fault)
@@ -54,51 +54,51 @@ RestoreJudges journal chip StatusLocked =
     Fits journal chip × (is_locked chip.kept ≡ true) × NeedsStatusFrom journal chip
 RestoreJudges journal chip _ = ⊥
 
--- All is judged, and nothing refused.
+-- All checks passed.
 pub record RestoreAccepts (journal : Content) (chip : Chip) : Type 0 where
   pub fits : Fits journal chip
   pub not_locked : is_locked chip.kept ≡ true → ¬ NeedsStatusFrom journal chip
 
--- ---- the opening
+-- ---- the identification
 
--- what was found has the journal's ID and size
+-- the chip that was found has the journal's ID and size
 pub record IsOfKindFound (journal : Content) (found : Found) : Type 0 where
   pub id : journal.id ≡ found.id
   pub size : journal.size ≡ found.size
 
--- the refusals that are judged by the unit and by its status
+-- the errors that are checked by the unique ID and by the status
 abbrev pub IsUnitRefusal : Refusal → Type 0
 IsUnitRefusal OtherUnit = ⊤
 IsUnitRefusal StatusDiffers = ⊤
 IsUnitRefusal _ = ⊥
 
--- an opening of a chip that the journal is of
+-- the identification of a chip that the journal fits
 abbrev pub FitsOpening : Content → Opening → Type 0
 FitsOpening journal opening = (chip : Chip) → chip.kept.two < 128 → IsOpening chip opening → Fits journal chip
 
--- the fixed bits that an opening shows are those that the journal tells, on each chip that it is an opening of
+-- Whether the fixed status bits that the identification shows are the journal's, for each chip that it may be of.
 abbrev pub ShowsFixed : Content → Opening → Bool → Type 0
 ShowsFixed journal opening shown = (chip : Chip) → chip.kept.two < 128 → IsOpening chip opening
     → MatchBool shown (FitsStatus journal chip) (¬ FitsStatus journal chip)
 
--- where the unit is accepted the journal is one of each such chip that has its ID and size
+-- if the device is accepted, the journal fits each chip of this identification that has its ID and size
 abbrev pub AcceptsUnit : Content → Opening → Result Unit Refusal → Type 0
 AcceptsUnit journal opening judged = (chip : Chip) → chip.kept.two < 128 → IsOpening chip opening
     → IsOfKind journal chip.config → OnOk judged (Fits journal chip)
 
--- and where it is refused, all before that is accepted
+-- if the device is refused, the earlier checks passed
 abbrev pub RefusesUnit : Content → Opening → Result Unit Refusal → Type 0
 RefusesUnit journal opening judged = (chip : Chip) → chip.kept.two < 128 → IsOpening chip opening
     → IsOfKind journal chip.config → IfErr judged (RestoreJudges journal chip)
 
--- A refusal that was judged: nothing changed, and on a modelled bus that was judged of the chip.
+-- An error that was checked: nothing changed, and on a modelled bus the error holds for the chip.
 pub record IsRefusedFor (journal : Content) (old new : BusState) (refusal : Refusal) : Type 0 where
   pub judged : IsJudgedFirst refusal
   pub same : old.honest ≡ true → IsSame old.chip new.chip
   pub verdict : IsModelled old → RestoreJudges journal old.chip refusal
 
--- What a refusal tells before anything is changed: the bus stopped, with fewer transactions left than these; another
--- bus than an honest one stayed busy, which is told at 0; or it was judged.
+-- What an error before the first change says: the bus stopped, with fewer transactions left than these; a faulty bus
+-- stayed busy, which names address 0; or a check failed.
 abbrev pub PrepareTells : Content → ℕ → (old new : BusState) → Refusal → Type 0
 PrepareTells journal most old new Stopped = RanOutIfHonest most old new
 PrepareTells journal most old new (Timeout address) = (address ≡ 0) × (old.honest ≡ true → ⊥)
@@ -106,7 +106,7 @@ PrepareTells journal most old new refusal = IsRefusedFor journal old new refusal
 
 -- ---- the scan
 
--- A sector was read, and its plan says what it takes to make it what was saved of it.
+-- A sector was read, and its plan says what is needed to make it what was saved.
 pub record PlansSaved (sector : ℕ) (saved bytes : List ℕ) (old new : BusState) (plan : SectorPlan) : Type 0 where
   pub small : (k : ℕ) → slice_index saved k < 256
   pub read : ReadsSector sector old new bytes
@@ -116,8 +116,7 @@ pub record PlansSaved (sector : ℕ) (saved bytes : List ℕ) (old new : BusStat
   pub planned : (content wanted : ℕ → ℕ) → AreBytesOf content bytes → AreBytesOf wanted saved
       → IsPlan content wanted 4096 plan
 
--- Each saved sector was read once, and marked by what was read: touched where a byte differs from the saved one,
--- raised where a bit of it has to rise.
+-- Each saved sector was read once and marked: touched if a byte differs from the saved one, raised if a bit must rise.
 pub record ScansSaved (journal : Content) (old new : BusState) (scanned : Scanned) : Type 0 where
   pub marks : AreMarks (journal.size / 4096) scanned
   pub saved : (s : ℕ) → has scanned.touched s ≡ true → is_saved journal s ≡ true
@@ -133,9 +132,9 @@ pub record ScansSaved (journal : Content) (old new : BusState) (scanned : Scanne
   pub raised : IsOpen journal.size old → (s : ℕ)
       → has scanned.raised s ≡ is_raised old.chip.bytes (restored journal old.chip.bytes) s
 
--- ---- what is to be changed
+-- ---- what must be changed
 
--- The changes are those that the scan found, to the journal's code.
+-- The changes are those that the scan found, to the journal's protection bits.
 pub record AreChanges (journal : Content) (opening : Opening) (scanned : Scanned) (changes : Changes) : Type 0 where
   pub touched : changes.touched ≡ scanned.touched
   pub raised : changes.raised ≡ scanned.raised
@@ -146,11 +145,11 @@ pub record AreChanges (journal : Content) (opening : Opening) (scanned : Scanned
   pub code : changes.code ≡ code_of (kept_in journal.status)
   pub six_bits : changes.code < 64
 
--- a status write is needed where these are the touched sectors
+-- a status write is needed if these sectors are touched
 abbrev pub NeedsStatusWith : Content → (touched : ℕ → Bool) → Chip → Type 0
 NeedsStatusWith journal touched chip = (code_of chip.kept ≢ code_of (kept_in journal.status)) ⊎ SomeHeld touched chip
 
--- Protection is lifted just where a touched sector is guarded, and a status that is locked isn't written.
+-- Protection is lifted if and only if a touched sector is protected, and a locked status isn't written.
 pub record MayChangeStatus (journal : Content) (touched : ℕ → Bool) (chip : Chip) (changes : Changes) : Type 0 where
   pub lifts : changes.unlock ≡ true → SomeHeld touched chip
   pub free : changes.unlock ≡ true ⊎ NoneHeld touched chip
@@ -161,20 +160,20 @@ pub record IsShut (journal : Content) (touched : ℕ → Bool) (chip : Chip) : T
   pub locked : is_locked chip.kept ≡ true
   pub needs : NeedsStatusWith journal touched chip
 
--- changes are only made where the status of each chip with this opening may be changed so
+-- changes are made only if the status of each chip with this identification may be changed in this way
 abbrev pub MakesChanges : Content → Opening → (ℕ → Bool) → Result Changes Refusal → Type 0
 MakesChanges journal opening touched judged =
     (chip : Chip) → IsOpening chip opening → IfOk judged (MayChangeStatus journal touched chip)
 
--- and refused where it is shut
+-- they are refused only if the status is locked and must be written
 abbrev pub RefusesShut : Content → Opening → (ℕ → Bool) → Result Changes Refusal → Type 0
 RefusesShut journal opening touched judged =
     (chip : Chip) → IsOpening chip opening → OnErr judged (IsShut journal touched chip)
 
 -- ---- all of it
 
--- On a modelled bus: the chip as it was before may be restored, was found as what it shows itself to be, and as it is
--- now the changes that the journal asks for can be made, which write the status only where that is needed.
+-- On a modelled bus: the chip may be restored, was identified as what its ID or SFDP says, and the changes that the
+-- journal asks for can be made to it. They write the status only if that is needed.
 pub record IsPreparedFor (journal : Content) (old new : Chip) (prepared : Prepared) : Type 0 where
   pub accepted : RestoreAccepts journal old
   pub shown : shown_as old.config ≡ Ok (part_in prepared.found)
@@ -189,7 +188,7 @@ pub record IsPreparedFor (journal : Content) (old new : Chip) (prepared : Prepar
   pub needed : (prepared.changes.unlock || writes_code prepared.changes) ≡ true
       → NeedsStatusFrom journal old
 
--- All is known that a restore has to know before it changes anything.
+-- All that a restore must know before it changes anything.
 pub record IsPrepared (journal : Content) (old new : BusState) (prepared : Prepared) : Type 0 where
   pub inside : LiesBelow prepared.changes.touched (prepared.changes.size / 4096)
   pub raised : (s : ℕ) → has prepared.changes.raised s ≡ true → has prepared.changes.touched s ≡ true

@@ -21,12 +21,12 @@ use Rattle.nor_save.specs.Verdict.{IsVerdict, IsAccepted}
 use Rattle.nor_session.specs.Session.{AnswersSession, NamesAddress, most_status_writes, AimsAtSaved, WritesStatusAtMost}
 use Rattle.nor_session.specs.Restore.{IsRestoreRefusal}
 
--- the transactions that the session is allowed: without a stop the most that a session takes on a chip of 16 MiB
+-- how many transactions the session may use: the first stop, or without a stop the most that one may need on 16 MiB
 abbrev pub first_allowance : List ℕ → ℕ
 first_allowance [] = most_of 4096
 first_allowance (first ∷ later) = first
 
--- On every bus: what a rehearsal counts, under so many stops. Without a stop the session ended.
+-- On every bus: what a rehearsal with this many stops reports. Without a stop the session ended.
 pub record IsRehearsal (stops : ℕ) (vault : VaultState) (rehearsal : Rehearsal) : Type 0 where
   pub seal : rehearsal.sealed ≡ vault.sealed
   pub ended : rehearsal.ended ≡ true → rehearsal.sealed ≡ true
@@ -35,54 +35,55 @@ pub record IsRehearsal (stops : ℕ) (vault : VaultState) (rehearsal : Rehearsal
   pub none : rehearsal.sealed ≡ false → rehearsal.restores ≡ 0
   pub whole : stops ≡ 0 → rehearsal.ended ≡ true
 
--- the transactions that a session of so many erases needs at least: those of the opening and the scan, and three for
--- each erase and each program
+-- how many transactions a session with this many erases needs at least: those of the identification and the scan, and
+-- three for each erase and each program
 abbrev pub least_needed : Request → (image : List ℕ) → Chip → (erases : ℕ) → ℕ
 least_needed request image chip erases =
     4 + scanned_sectors request chip.config.size + 3 * (erases + pages_of chip.bytes (wanted request image chip))
 
--- A session can end on the chip: it is accepted, and so many transactions may be enough, with the fewest erases.
+-- A session can end on this chip: it is accepted, and this many transactions may be enough, with the fewest erases.
 pub record CanEnd (request : Request) (image : List ℕ) (allowance : ℕ) (chip : Chip) : Type 0 where
   pub accepted : IsAccepted request image chip
   pub erases : ℕ
   pub fewest : AreFewestErases chip.config chip.bytes (wanted request image chip) erases
   pub enough : least_needed request image chip erases ≤ allowance
 
--- What the vault tells of the first allowance: where it was sealed that was enough for the shortest opening and the
--- scan, and where it wasn't it was less than these may take.
+-- What the vault's seal says about the first allowance. If the vault was sealed, it was enough for the shortest
+-- identification and the scan; if not, it was less than these may need.
 pub record SealFits (request : Request) (allowance : ℕ) (chip : Chip) (seal : Bool) : Type 0 where
   pub enough : seal ≡ true → 4 + scanned_sectors request chip.config.size ≤ allowance
   pub below : seal ≡ false → allowance < most_looked (scanned_sectors request chip.config.size)
 
--- So many restores of a journal of so many sectors were run, under these stops in turn: each before the last was
--- stopped, so it was allowed fewer transactions than the bound, and the last ended, so where it ran under a stop, that
--- allowed an opening and a scan.
+-- This many restores from a journal of this many sectors were run, with these stops in turn. Each one before the last
+-- was stopped, so it was allowed fewer transactions than the bound. The last one ended, so its stop, if it had one,
+-- allowed an identification and a scan.
 pub record AreRestores (sectors : ℕ) (stops : List ℕ) (restores : ℕ) : Type 0 where
   pub stopped : (i : ℕ) → i + 1 < restores → slice_index stops i < most_of sectors
   pub ended : restores ≤ length stops → 4 + sectors ≤ slice_index stops (restores - 1)
 
--- Where the last of so many restores ran under a stop, that allowed an opening, a scan and all that is left now.
+-- If the last of these restores had a stop, that allowed an identification, a scan and the transactions that are left
+-- now.
 abbrev pub FitsLastStop : (sectors : ℕ) → (stops : List ℕ) → (left restores : ℕ) → Type 0
 FitsLastStop sectors stops left restores =
     restores ≤ length stops → left + (4 + sectors) ≤ slice_index stops (restores - 1)
 
--- After a refusal: bytes and kept bits are as they were, the latch is set only where it was, nothing changing was sent,
--- and the vault isn't sealed.
+-- After an error: bytes and non-volatile status bits are as they were, the latch is set only if it was set before, no
+-- modifying command was sent, and the vault isn't sealed.
 pub record LeavesRefused (old new : BusState) (vault : VaultState) : Type 0 where
   pub same : IsSame old.chip new.chip
   pub latch : new.chip.latch ≡ true → old.chip.latch ≡ true
   pub still : new.sent ≡ old.sent
   pub unsealed : vault.sealed ≡ false
 
--- on every bus a refusal is the session's, or once the vault is sealed that of a restore
+-- on every bus an error is one of the session's, or after the seal one of a restore's
 abbrev pub IsRehearsalRefusal : (old new : VaultState) → Refusal → Type 0
 IsRehearsalRefusal old new refusal = AnswersSession old new refusal ⊎ ((new.sealed ≡ true) × IsRestoreRefusal refusal)
 
--- the refusal isn't that the bus stopped, nor that the chip stayed busy
+-- the error is neither 12 (the bus stopped) nor 13 (the chip stayed busy)
 abbrev pub IsNoHalt : Refusal → Type 0
 IsNoHalt refusal = list_any (λ n. number_of refusal == n) (12 ∷ 13 ∷ []) ≡ false
 
--- The answer is the verdict on the session, or the vault failed; never that the bus stopped.
+-- The error is the verdict on the session's request, or the vault failed.
 abbrev pub RehearsalTells : Request → List ℕ → Chip → (old new : VaultState) → Refusal → Type 0
 RehearsalTells request image chip old new Vault = Rose old new
 RehearsalTells request image chip old new refusal = IsVerdict request image chip refusal
@@ -94,50 +95,50 @@ pub record RehearsalAlways (request : Request) (stops : List ℕ) (old new : Bus
     (result : Result Rehearsal Refusal) : Type 0 where
   -- the bus stays as honest and as steady as it was
   pub nature : KeepsNature old new
-  -- what is counted fits the vault and the stops
+  -- the result fits the vault and the stops
   pub counts : IfOk result (IsRehearsal (length stops) vault')
-  -- a refusal is the session's, or once the vault is sealed that of a restore
+  -- an error is one of the session's, or after the seal one of a restore's
   pub answers : IfErr result (IsRehearsalRefusal vault vault')
-  -- and names an address that session or restore was at
+  -- an error names an address in a sector that the journal saves, or 0
   pub names : IfErr result (NamesAddress vault')
-  -- where it restored it ends only where the last poll showed that the chip is ready
+  -- if it restored, it ends only if the last poll showed that the chip is ready
   pub heard : IfOk result (λ rehearsal. rehearsal.sealed ≡ true → new.heard ≡ true)
-  -- where the vault isn't sealed nothing changing was sent
+  -- if the vault isn't sealed, no modifying command was sent
   pub still : vault'.sealed ≡ false → new.sent ≡ old.sent
-  -- once it is sealed its journal saves the sectors that session and restores aimed at
+  -- after the seal its journal saves the sectors that the session and the restores targeted
   pub aims : vault'.sealed ≡ true → (journal : IsJournal vault'.bytes) × AimsAtSaved journal.content old new
-  -- at every exit the status was written at most so often as the request may need, and twice by each restore, of which
-  -- there are no more than stops, or one
+  -- at every exit the status was written no more often than the request may need, and at most twice by each restore;
+  -- the restores are at most as many as the stops, or one
   pub writes : WritesStatusAtMost (most_status_writes request.what request.unlock + 2 * max 1 (length stops)) old new
 
--- On an honest bus whose chip is what it shows itself to be.
+-- On a modelled bus: an honest one whose chip is what its ID or SFDP says.
 pub record RehearsalModelled (request : Request) (image stops : List ℕ) (old new : BusState) (vault vault' : VaultState)
     (result : Result Rehearsal Refusal) : Type 0 where
-  -- session and restores erase no sector but those that the session touches
+  -- the session and the restores erase only sectors that the session touches
   pub wears : (s : ℕ) → is_touched old.chip.bytes (wanted request image old.chip) s ≡ false → new.worn s ≡ old.worn s
-  -- after a refusal nothing changed, and the vault isn't sealed
+  -- after an error nothing has changed, and the vault isn't sealed
   pub refuses : OnErr result (LeavesRefused old new vault')
-  -- a refusal is the verdict on the session, or the vault failed
+  -- an error is the verdict on the session's request, or the vault failed
   pub tells : IfErr result (RehearsalTells request image old.chip vault vault')
-  -- a vault is sealed only for a request that is accepted
+  -- the vault is sealed only if the request is accepted
   pub accepts : vault'.sealed ≡ true → IsAccepted request image old.chip
-  -- and has the journal of the starting chip, which saves just the touched sectors
+  -- a sealed vault holds the journal of the original chip, which saves exactly the touched sectors
   pub saves : vault'.sealed ≡ true
       → JournalSaves (head_of old.chip) old.chip.bytes
       (is_touched old.chip.bytes (wanted request image old.chip)) vault'.bytes
-  -- the session ends where it was allowed as many transactions as it takes at most
+  -- the session ends if it may use as many transactions as it may need
   pub ended : most_of (old.chip.config.size / 4096) ≤ first_allowance stops
       → IfOk result (λ rehearsal. rehearsal.ended ≡ true)
-  -- and only where it was allowed as many as it takes at least
+  -- it ends only if it may use as many as it needs at least
   pub stopped : IfOk result (λ rehearsal. rehearsal.ended ≡ true
       → CanEnd request image (first_allowance stops) old.chip)
-  -- the vault is sealed as the first allowance lets it
+  -- the first allowance says whether the vault is sealed
   pub seal : IfOk result (λ rehearsal. SealFits request (first_allowance stops) old.chip rehearsal.sealed)
-  -- restores are run under the later stops, until one ends
+  -- restores are run with the later stops, until one ends
   pub restores : IfOk result (λ rehearsal. rehearsal.sealed ≡ true
       → AreRestores (sector_count (is_touched old.chip.bytes (wanted request image old.chip))) (drop 1 stops)
       rehearsal.restores)
-  -- and the last of them was allowed no more than its stop
+  -- the last of them was allowed no more than its stop
   pub last : IfOk result (λ rehearsal. rehearsal.sealed ≡ true
       → FitsLastStop (sector_count (is_touched old.chip.bytes (wanted request image old.chip))) (drop 1 stops)
       new.left rehearsal.restores)

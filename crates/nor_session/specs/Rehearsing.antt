@@ -1,4 +1,4 @@
--- What the parts of a rehearsal come to: its session, and the restores in turn.
+-- What the parts of a rehearsal leave: its session, and the restores in turn.
 use Rattle.std.specs.Prelude.{◌≡◌, ◌≤◌, ◌<◌, ◌+◌, ◌*◌, ◌/◌, ℕ, Bool, true, false, List, Result, IfOk, IfErr, OnOk, length}
 use Rattle.nor_chip.specs.Chip.{Chip, IsChip, IsSame, is_locked}
 use Rattle.nor_chip.specs.Bus.{BusState, KeepsNature}
@@ -26,9 +26,9 @@ use Rattle.nor_session.specs.Rehearsal.{CanEnd, SealFits, AreRestores, FitsLastS
 
 -- ---- the session
 
--- These bytes lead the bus's chip back to the first one: that is known, they are its journal, which saves just these
--- sectors, all of them inside the chip, and none of them guarded where the status is locked; and the bus's chip is
--- within them.
+-- These bytes can restore the first chip on this bus: that chip is known; they are its journal, which saves exactly
+-- these sectors, all of them inside the chip, and none of them protected if the status is locked; and the bus's chip
+-- differs from the first one only within them.
 pub record LeadsBack (saved : ℕ → Bool) (first : Chip) (text : List ℕ) (state : BusState) : Type 0 where
   pub is : IsChip first
   pub known : IsKnown first.config
@@ -37,9 +37,9 @@ pub record LeadsBack (saved : ℕ → Bool) (first : Chip) (text : List ℕ) (st
   pub free : is_locked first.kept ≡ true → NoneHeld saved first
   pub within : IsWithin (places_of saved) first state
 
--- At every exit of the session: where its vault isn't sealed the chip is as it was, and else that leads back, and the
--- request is accepted; only touched sectors are worn. Whatever the bus, nothing changing was sent before the seal, and
--- a sealed vault has a journal, which saves the sectors that were aimed at.
+-- At every exit of the session. On a modelled bus: if the vault isn't sealed, the chip is as it was; if it is, the
+-- vault can restore the chip, and the request is accepted; only touched sectors were erased. On every bus: no modifying
+-- command was sent before the seal, and a sealed vault holds a journal that saves the sectors that were targeted.
 pub record LeavesSession (request : Request) (image : List ℕ) (old new : BusState) (vault : VaultState) : Type 0 where
   pub nature : KeepsNature old new
   pub same : IsModelled old → IsCalm old → vault.sealed ≡ false → IsSame old.chip new.chip
@@ -52,14 +52,14 @@ pub record LeavesSession (request : Request) (image : List ℕ) (old new : BusSt
   pub aims : vault.sealed ≡ true → (journal : IsJournal vault.bytes) × AimsAtSaved journal.content old new
   pub writes : WritesStatusAtMost (most_status_writes request.what request.unlock) old new
 
--- The wanted kept bits: those of before with the wanted code.
+-- The wanted non-volatile status bits: those of before with the wanted protection bits.
 pub record HasWantedBits (what : What) (old new : Chip) : Type 0 where
   pub code : ℕ
   pub is_wanted : IsWantedCode what old code
   pub kept : new.kept ≡ with_code code old.kept
 
--- It was allowed so many transactions, and ended, and the chip is the wanted one; or it was stopped, where none is
--- left, since they were too few.
+-- The session might use this many transactions. It ended, and the chip is the wanted one; or it was stopped because
+-- they were too few, and none is left.
 pub record ShowsSession (request : Request) (image : List ℕ) (allowance : ℕ) (old new : BusState) (vault : VaultState)
     (ended : Bool) : Type 0 where
   pub seals : ended ≡ true → vault.sealed ≡ true
@@ -70,7 +70,7 @@ pub record ShowsSession (request : Request) (image : List ℕ) (allowance : ℕ)
   pub below : IsModelled old → ended ≡ false → allowance < most_of (old.chip.config.size / 4096)
   pub seal : IsModelled old → SealFits request allowance old.chip vault.sealed
 
--- It was refused as sessions are: by the verdict, or by a vault that failed; on an honest bus not by a stop.
+-- The session returned an error of sessions: the verdict, or that the vault failed; on an honest bus never a stop.
 pub record RefusesSession (request : Request) (image : List ℕ) (old new : BusState) (before after : VaultState)
     (refusal : Refusal) : Type 0 where
   pub answers : AnswersSession before after refusal
@@ -81,9 +81,9 @@ pub record RefusesSession (request : Request) (image : List ℕ) (old new : BusS
 
 -- ---- the restores
 
--- At every exit of so many restores: the bus is modelled as before, each chip that the journal could give back it still
--- can, and only saved sectors are worn; whatever the bus, no others were aimed at, and each wrote the status at most
--- twice.
+-- At every exit of this many restores. On a modelled bus: the bus stays modelled, the journal can still restore each
+-- chip that it could restore before, and only saved sectors were erased. On every bus: only saved sectors were
+-- targeted, and each restore wrote the status at most twice.
 pub record LeavesRestores (journal : Content) (restores : ℕ) (old new : BusState) : Type 0 where
   pub nature : KeepsNature old new
   pub modelled : IsModelled old → IsModelled new
@@ -92,15 +92,15 @@ pub record LeavesRestores (journal : Content) (restores : ℕ) (old new : BusSta
   pub aims : AimsAtSaved journal old new
   pub writes : WritesStatusAtMost (2 * restores) old new
 
--- One restore was allowed so many transactions, and ended, and gave each such chip back; or it was stopped, where none
--- is left, since they were too few.
+-- One restore might use this many transactions. It ended, and restored each chip that the journal could restore; or it
+-- was stopped because they were too few, and none is left.
 pub record ShowsRestore (journal : Content) (allowance : ℕ) (old new : BusState) (ended : Bool) : Type 0 where
   pub back : IsModelled old → ended ≡ true → (first : Chip) → CanGiveBack journal first old → IsSame first new.chip
   pub enough : IsModelled old → ended ≡ true → new.left + (4 + length journal.saved) ≤ allowance
   pub none_left : old.honest ≡ true → ended ≡ false → new.left ≡ 0
   pub below : old.honest ≡ true → ended ≡ false → allowance < most_of (length journal.saved)
 
--- Restores in turn ended, and gave each such chip back.
+-- Restores in turn ended, and restored each chip that the journal could restore.
 pub record ShowsRestores (journal : Content) (stops : List ℕ) (old new : BusState) (restores : ℕ) : Type 0 where
   pub some : 1 ≤ restores
   pub most : restores ≤ length stops + 1
@@ -108,17 +108,17 @@ pub record ShowsRestores (journal : Content) (stops : List ℕ) (old new : BusSt
   pub last : IsModelled old → FitsLastStop (length journal.saved) stops new.left restores
   pub back : IsModelled old → (first : Chip) → CanGiveBack journal first old → IsSame first new.chip
 
--- A restore was refused as restores are: never one of a chip that the journal can give back, and on an honest bus not
--- by a stop, since a journal has no more sectors than the largest chip.
+-- A restore returned an error of restores: never for a chip that the journal can restore, and on an honest bus never a
+-- stop, since a journal has no more sectors than the largest chip.
 pub record StopsRestores (journal : Content) (old : BusState) (refusal : Refusal) : Type 0 where
   pub answers : IsRestoreRefusal refusal
   pub names : NamesSector (λ sector. is_saved journal sector ≡ true) refusal
   pub halts : length journal.saved ≤ 4096 → old.honest ≡ true → IsNoHalt refusal
   pub never : IsModelled old → (first : Chip) → CanGiveBack journal first old → ⊥
 
--- ---- restores from a text
+-- ---- restores from bytes
 
--- They ended, and the bus has the chip again that the text leads back to.
+-- They ended, and restored the chip that the bytes can restore.
 pub record Undoes (text : List ℕ) (stops : List ℕ) (old new : BusState) (restores : ℕ) : Type 0 where
   pub some : 1 ≤ restores
   pub most : restores ≤ length stops + 1
@@ -128,36 +128,36 @@ pub record Undoes (text : List ℕ) (stops : List ℕ) (old new : BusState) (res
   pub last : IsModelled old → (saved : ℕ → Bool) (first : Chip) → LeadsBack saved first text old
       → FitsLastStop (sector_count saved) stops new.left restores
 
--- at every exit only sectors are worn that the text leads back
+-- at every exit only sectors were erased that the bytes save
 abbrev pub WearsSaved : List ℕ → (old new : BusState) → Type 0
 WearsSaved text old new = IsModelled old → (saved : ℕ → Bool) (first : Chip) → LeadsBack saved first text old
     → (s : ℕ) → saved s ≡ false → new.worn s ≡ old.worn s
 
--- whatever the bus, a journal that the text is saves the sectors that were aimed at
+-- on every bus, if the bytes are a journal, it saves the sectors that were targeted
 abbrev pub AimsAtText : List ℕ → (old new : BusState) → Type 0
 AimsAtText text old new = (journal : IsJournal text) → AimsAtSaved journal.content old new
 
--- They were refused: where the text is a journal as restores are, on an honest bus not by a stop, and never where the
--- text leads back.
+-- They returned an error: one of restores if the bytes are a journal, on an honest bus never a stop, and none at all if
+-- the bytes can restore the chip.
 pub record RefusesUndo (text : List ℕ) (old : BusState) (refusal : Refusal) : Type 0 where
   pub answers : IsJournal text → IsRestoreRefusal refusal
   pub names : NamesSector (λ sector. SavesSector sector text) refusal
   pub halts : old.honest ≡ true → IsNoHalt refusal
   pub never : IsModelled old → (saved : ℕ → Bool) (first : Chip) → LeadsBack saved first text old → ⊥
 
--- All that restores from a text under these stops leave.
+-- All that restores from these bytes with these stops leave.
 pub record LeavesUndo (text stops : List ℕ) (old new : BusState) (result : Result ℕ Refusal) : Type 0 where
   -- the bus stays as honest and as steady as it was
   pub nature : KeepsNature old new
-  -- at every exit only sectors are worn that the text leads back
+  -- at every exit only sectors were erased that the bytes save
   pub wears : WearsSaved text old new
-  -- and aimed at that it saves
+  -- only sectors were targeted that the bytes save
   pub aims : AimsAtText text old new
-  -- each restore wrote the status at most twice, and one was run at most past the stops
+  -- each restore wrote the status at most twice, and at most one ran without a stop
   pub writes : WritesStatusAtMost (2 * (length stops + 1)) old new
-  -- they ended, and the first chip is there again
+  -- they ended, and restored the first chip
   pub undoes : IfOk result (Undoes text stops old new)
-  -- they end only where the last poll showed that the chip is ready
+  -- they end only if the last poll showed that the chip is ready
   pub heard : OnOk result (new.heard ≡ true)
-  -- or were refused
+  -- they returned an error
   pub refuses : IfErr result (RefusesUndo text old)

@@ -1,9 +1,9 @@
--- A chip that is kept in files, and what those have while they are written over.
+-- A chip that is kept in files, and what these may hold while they are overwritten.
 use Rattle.std.specs.Prelude.{◌≡◌, ◌⊎◌, ℕ}
 use Rattle.nor_chip.specs.Chip.{Chip}
 
--- The chip that is opened from files which had the old chip, at any moment of their being written over with the new
--- one: each byte is the old or the new one, so is what is kept of each status byte, and nothing runs on it.
+-- The chip that is opened from files that held the old chip and were being overwritten with the new one: each byte is
+-- the old or the new one, and so are the non-volatile bits of each status byte. Nothing runs on it.
 pub record IsWrittenOver (old new opened : Chip) : Type 0 where
   pub config : opened.config ≡ old.config
   pub bytes : (a : ℕ) → (opened.bytes a ≡ old.bytes a) ⊎ (opened.bytes a ≡ new.bytes a)

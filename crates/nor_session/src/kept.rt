@@ -1,6 +1,6 @@
-//! The states of a session or restore once what leads back is there: what may be changed, what is left to check.
+//! The states of a session or restore after the journal is complete: what may be changed, and what is left to check.
 //!
-//! A chip is changed by `Kept` alone, and that is made only where a sealed vault or a journal leads back.
+//! Only `Kept` changes a chip, and it is constructed only if a sealed vault or a journal can restore the chip.
 ghost use Rattle.std.specs.Prelude.{◌≡◌, ◌<◌, ◌≤◌, ◌/◌, ℕ, Bool, true, IfOk, IfErr};
 ghost use Rattle.nor_driver.specs.Looks.{Looks};
 ghost use Rattle.nor_plan.specs.SectorSet.{has, LiesBelow};
@@ -12,24 +12,24 @@ use nor_chip::Bus;
 use nor_journal::{Journal, Vault};
 use nor_save::Refusal;
 
-/// Evidence that a chip can be given back.
+/// Evidence that a chip can be restored.
 pub(crate) struct WayBack(());
 
 impl WayBack {
-    /// A sealed vault has the journal.
+    /// The journal is in a sealed vault.
     pub(crate) fn in_vault<V: Vault>(_vault: &V) -> WayBack
         requires { (V.state _vault.now).sealed ≡ true }
     {
         WayBack(())
     }
 
-    /// A journal was read.
+    /// The journal was read.
     pub(crate) fn in_journal(_journal: &Journal<'_>) -> WayBack {
         WayBack(())
     }
 }
 
-/// What may be changed is saved: only this state changes the chip. It can't be dropped, so it must be spent.
+/// All that may be changed is saved. Only this state changes the chip. It can't be dropped, so `finish` must use it up.
 pub(crate) struct Kept<'a, B: Bus, S: Source> {
     pub(crate) bus: &'a mut B,
     pub(crate) source: &'a S,
@@ -38,7 +38,7 @@ pub(crate) struct Kept<'a, B: Bus, S: Source> {
 }
 
 impl<'a, B: Bus, S: Source> Kept<'a, B, S> {
-    /// Makes the changes, and where asked reads back what they came to.
+    /// Makes the changes, and reads the touched sectors back if `verify` is set.
     pub(crate) fn finish(self, verify: bool) -> Result<Work, Refusal>
         requires inside { LiesBelow self.changes.now.touched (self.changes.now.size / 4096) }
         requires raised { (s : ℕ) → has self.changes.now.raised s ≡ true → has self.changes.now.touched s ≡ true }
@@ -70,7 +70,7 @@ impl<'a, B: Bus, S: Source> Kept<'a, B, S> {
     }
 }
 
-/// All is written: what is left is the check. `Kept` alone makes it, and it can't be dropped either.
+/// All is written, and only the check is left. Only `Kept` constructs this state, and it can't be dropped.
 pub(crate) struct Done<'a, B: Bus, S: Source> {
     bus: &'a mut B,
     source: &'a S,
@@ -79,7 +79,7 @@ pub(crate) struct Done<'a, B: Bus, S: Source> {
 }
 
 impl<'a, B: Bus, S: Source> Done<'a, B, S> {
-    // Where asked, reads back what was written. Answers the work, with these readings.
+    // Reads the touched sectors back if `verify` is set. Returns the work, which counts these readings too.
     fn check(self, verify: bool) -> Result<Work, Refusal>
         requires fits { self.work.transactions ≤ most_applied 4096 }
         requires sourced { (s : ℕ) → has self.changes.now.touched s ≡ true → S.has self.source.now s ≡ true }

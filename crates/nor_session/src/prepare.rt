@@ -1,5 +1,5 @@
-//! What a restore knows before it changes anything: the chip, which must be one that the journal is of, the saved
-//! sectors, and what is to be changed.
+//! What a restore does before it changes anything: it identifies the chip, which must be one that the journal fits,
+//! reads the saved sectors, and finds out what must be changed.
 ghost use Rattle.std.specs.Prelude.{◌≡◌, ◌<◌, ◌≤◌, ◌/◌, None, length, IfOk, IfErr, OnErr, MatchBool, IsTrue};
 ghost use Rattle.nor_chip.specs.Size.{is_chip_size};
 ghost use Rattle.nor_driver.specs.Looks.{Looks, RanOutIfHonest};
@@ -19,7 +19,7 @@ use nor_plan::{Plan, SectorPlan};
 use nor_probe::{Found, probe_counted};
 use nor_save::{Opening, Refusal, Scanned, first_held, read_on};
 
-/// What was found, what is to be changed of it, how many sectors are touched, and how many transactions were sent.
+/// The chip that was found, what must be changed, how many sectors are touched, and how many transactions were sent.
 #[derive(Clone, Copy)]
 pub(crate) struct Prepared {
     pub found: Found,
@@ -28,7 +28,7 @@ pub(crate) struct Prepared {
     pub transactions: u64,
 }
 
-/// Opens the chip, scans what the journal saved, and judges all that a restore judges.
+/// Identifies the chip, reads the sectors that the journal saved, and makes all checks of a restore.
 #[tactic(auto, using(crate::proofs::SavedBytes::saved_room))]
 pub(crate) fn prepare<B: Bus>(bus: &mut B, journal: &Journal<'_>) -> Result<Prepared, Refusal>
     ensures room { length journal.now.saved ≤ 4096 }
@@ -49,7 +49,7 @@ pub(crate) fn prepare<B: Bus>(bus: &mut B, journal: &Journal<'_>) -> Result<Prep
     })
 }
 
-// Opens a chip that the journal is of.
+// Identifies a chip that the journal fits.
 fn open_saved<B: Bus>(bus: &mut B, journal: &Journal<'_>) -> Result<Opening, Refusal>
     ensures leaves { Looks most_opening (B.state bus.old) (B.state bus.new) }
     ensures opens { IfOk result (Opens None (B.state bus.old) (B.state bus.new)) }
@@ -62,7 +62,7 @@ fn open_saved<B: Bus>(bus: &mut B, journal: &Journal<'_>) -> Result<Opening, Ref
     Ok(opening)
 }
 
-// Opens a chip of the journal's ID and size.
+// Identifies a chip with the journal's ID and size.
 fn open_of_kind<B: Bus>(bus: &mut B, journal: &Journal<'_>) -> Result<Opening, Refusal>
     ensures leaves { Looks most_opening (B.state bus.old) (B.state bus.new) }
     ensures opens { IfOk result (Opens None (B.state bus.old) (B.state bus.new)) }
@@ -77,14 +77,14 @@ fn open_of_kind<B: Bus>(bus: &mut B, journal: &Journal<'_>) -> Result<Opening, R
     Ok(opening)
 }
 
-// What was found has the journal's ID and size.
+// Whether the chip that was found has the journal's ID and size.
 fn is_of_kind(journal: &Journal<'_>, found: &Found) -> bool
     ensures { MatchBool result (IsOfKindFound journal.now found.now) (¬ IsOfKindFound journal.now found.now) }
 {
     journal.id() == found.id && journal.size() == found.size
 }
 
-// Judges the unit, and the bits of its status that a restore doesn't set.
+// Checks the unique ID, and the status bits that a restore doesn't set.
 fn judge_unit(journal: &Journal<'_>, opening: &Opening) -> Result<(), Refusal>
     ensures faults { IfErr result IsUnitRefusal }
     ensures fits { AcceptsUnit journal.now opening.now result }
@@ -102,7 +102,7 @@ fn judge_unit(journal: &Journal<'_>, opening: &Opening) -> Result<(), Refusal>
     }
 }
 
-// The fixed bits of the status are those that the journal tells, and where there is no block protection all kept ones.
+// Whether the fixed status bits are those of the journal; without block protection, whether all non-volatile ones are.
 fn has_fixed(journal: &Journal<'_>, opening: &Opening) -> bool
     ensures { ShowsFixed journal.now opening.now result }
 {
@@ -111,7 +111,7 @@ fn has_fixed(journal: &Journal<'_>, opening: &Opening) -> bool
     told.kept() == read.kept() || opening.found.scheme && told.fixed() == read.fixed()
 }
 
-// Reads each saved sector, rising, and marks it by what the journal has of it.
+// Reads each saved sector, in ascending order, and compares it with the journal's bytes.
 fn scan_saved<B: Bus>(bus: &mut B, journal: &Journal<'_>) -> Result<Scanned, Stopped>
     ensures leaves { Looks (length journal.now.saved) (B.state bus.old) (B.state bus.new) }
     ensures scans { IfOk result (ScansSaved journal.now (B.state bus.old) (B.state bus.new)) }
@@ -127,7 +127,7 @@ fn scan_saved<B: Bus>(bus: &mut B, journal: &Journal<'_>) -> Result<Scanned, Sto
     Ok(scanned)
 }
 
-// Reads a sector, and tells what it takes to make it what was saved of it.
+// Reads a sector. Returns what is needed to make it what was saved.
 fn plan_saved<B: Bus>(
     bus: &mut B,
     sector: u32,
@@ -144,7 +144,7 @@ fn plan_saved<B: Bus>(
     Ok(Plan::of(&*bytes, saved))
 }
 
-// What is to be changed; or the status is locked, and would have to be written.
+// Returns what must be changed. Refuses if the status is locked and would have to be written.
 fn judge_changes(
     journal: &Journal<'_>,
     opening: &Opening,

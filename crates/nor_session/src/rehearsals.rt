@@ -1,4 +1,4 @@
-//! A rehearsal: a session that is stopped on purpose, and the restores from its journal.
+//! A rehearsal: runs a session that is stopped on purpose, and restores from its journal.
 ghost use Rattle.std.specs.Prelude.{◌≡◌, ◌≤◌, ◌+◌, true, length, drop, IfOk, IfErr, OnOk};
 ghost use Rattle.nor_chip.specs.Chip.{IsSame};
 ghost use Rattle.nor_driver.specs.Looks.{IsCalm};
@@ -16,8 +16,8 @@ use crate::{Refusal, Request};
 use nor_chip::{Bus, MOST_SECTORS, Meter};
 use nor_journal::{Journal, MemVault, Vault};
 
-/// What a rehearsal showed: whether the session ended, whether its vault was sealed, and how many restores were run,
-/// stopped ones too, until one ended.
+/// The result of a rehearsal: whether the session ended, whether its vault was sealed, and how many restores were run
+/// until one ended (this counts the stopped ones too).
 #[derive(Clone, Copy, Debug, PartialEq, Eq)]
 pub struct Rehearsal {
     pub ended: bool,
@@ -25,11 +25,17 @@ pub struct Rehearsal {
     pub restores: u32,
 }
 
-/// Runs a session under the first of the stops, that is with so many transactions allowed, and where its vault was
-/// sealed restores under the following ones, one each, until one ends. Where no stop is left as many transactions are
-/// allowed as a session on a chip of 16 MiB takes at most. At most 64 stops; the vault is empty and unsealed.
+/// Runs a session that may use as many transactions as the first of `stops` says. If that sealed the vault, runs
+/// restores with the following stops, one each, until one ends. If no stop is left, a call may use as many transactions
+/// as a session on a chip of 16 MiB takes at most.
 ///
-/// Afterwards the chip is as before, at every exit.
+/// There are at most 64 stops, and `vault` must be empty and unsealed. `image` and `request` are as for `session`.
+///
+/// On a modelled bus that is steady, or whose chip was idle at the start, the chip's contents and non-volatile status
+/// bits are as before at every exit.
+///
+/// Returns the session's error; if the vault was sealed, it may also be an error of a restore. On an honest bus 12 and
+/// 13 do not occur: a stop of the session or of a restore is part of the result.
 pub fn rehearse<B: Meter>(
     bus: &mut B,
     vault: &mut MemVault,
@@ -63,13 +69,13 @@ pub fn rehearse<B: Meter>(
     })
 }
 
-// The most transactions of an opening: a probe of 65,540, status 2 and the unique ID.
+// The most transactions of an identification: a probe of 65,540, status 2 and the unique ID.
 const OPENING: u64 = 65_542;
 
 // The most transactions of an operation: write enable, its command and 65,536 polls.
 const OPERATION: u64 = 65_538;
 
-// The most transactions that a session sends on a chip of 16 MiB, which are more than any call needs.
+// Returns how many transactions a session on a chip of 16 MiB takes at most. No call needs more.
 fn most_needed() -> u64
     ensures { result ≡ most_of 4096 }
 {
@@ -77,8 +83,7 @@ fn most_needed() -> u64
     OPENING + 3 * sectors + OPERATION * (17 * sectors + 2)
 }
 
-// The transactions that the session is allowed: the first of the stops, or where there is none as many as any call
-// needs.
+// Returns how many transactions the session may use: the first stop, or if there is none as many as any call needs.
 fn first_allowed(stops: &[u64]) -> u64
     ensures { result ≡ first_allowance stops.now }
 {
@@ -88,7 +93,7 @@ fn first_allowed(stops: &[u64]) -> u64
     }
 }
 
-// The stops behind the first.
+// Returns the stops after the first.
 fn later(stops: &[u64]) -> &[u64]
     ensures { result.now ≡ drop 1 stops.now }
 {
@@ -98,7 +103,7 @@ fn later(stops: &[u64]) -> &[u64]
     }
 }
 
-// Runs the session under the first of the stops, and tells whether it ended.
+// Runs the session with the first stop. Returns whether it ended.
 fn stopped_session<B: Meter>(
     bus: &mut B,
     vault: &mut MemVault,
@@ -124,7 +129,7 @@ fn stopped_session<B: Meter>(
     }
 }
 
-// Restores from the journal that the text is. Answers how many restores were run.
+// Restores from the journal that these bytes are. Returns how many restores were run.
 fn undo<B: Meter>(bus: &mut B, text: &[u8], stops: &[u64]) -> Result<u32, Refusal>
     requires few { length stops.now ≤ 64 }
     ensures { LeavesUndo text.now stops.now (B.state bus.old) (B.state bus.new) result }
@@ -135,7 +140,7 @@ fn undo<B: Meter>(bus: &mut B, text: &[u8], stops: &[u64]) -> Result<u32, Refusa
     }
 }
 
-// Restores under these stops in turn, until one ends, and at last under no stop. Answers how many were run.
+// Restores with these stops in turn, and at last without a stop, until one ends. Returns how many were run.
 fn restore_in_turn<B: Meter>(
     bus: &mut B,
     journal: &Journal<'_>,
@@ -160,7 +165,7 @@ fn restore_in_turn<B: Meter>(
     Err(Refusal::Stopped)
 }
 
-// Restores with so many transactions allowed, and tells whether that ended, or the bus stopped.
+// Restores with this many transactions allowed. Returns whether the restore ended; if not, the bus stopped.
 fn ends_under<B: Meter>(bus: &mut B, journal: &Journal<'_>, allowance: u64) -> Result<bool, Refusal>
     ensures leaves { LeavesRestores journal.now 1 (B.state bus.old) (B.state bus.new) }
     ensures shows { IfOk result (ShowsRestore journal.now allowance (B.state bus.old) (B.state bus.new)) }

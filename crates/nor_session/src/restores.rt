@@ -1,4 +1,4 @@
-//! A restore: the chip is made again what a journal says.
+//! A restore: makes the chip again what a journal saved.
 ghost use Rattle.std.specs.Prelude.{◌≡◌, true};
 ghost use Rattle.nor_probe.specs.Known.{IsModelled};
 ghost use Rattle.nor_session.specs.Headline.{GivesBack};
@@ -11,10 +11,16 @@ use nor_chip::Bus;
 use nor_journal::Journal;
 use nor_save::{Refusal, Report};
 
-/// Makes each sector that the journal saved what it was, and the protection code.
+/// Writes the saved sectors and the protection bits of `journal` back to the chip, and reads the sectors back.
 ///
-/// A journal of format 1 fits any chip of its ID and size; one of format 2 its own unit alone. Where it is
-/// stopped, another restore still gives the saved chip back.
+/// A journal of format 1 is accepted for any chip with its ID and size, one of format 2 only for the device whose
+/// unique ID it contains.
+///
+/// On a modelled bus a restore that is stopped can be run again: each chip that the journal could restore at the start,
+/// it can restore at every exit. If there is such a chip, then Ok leaves that chip, and the only possible error is 12.
+///
+/// Returns 1, 2, 16, 20, 17 or 9, checked in this order before anything is modified; or 12 (the bus stopped), 13 (the
+/// chip stayed busy; not on an honest bus) or 14 (the chip holds other bytes than were written).
 pub fn restore<B: Bus>(bus: &mut B, journal: &Journal<'_>) -> Result<Report, Refusal>
     ensures gives_back { IsModelled (B.state bus.old)
         → GivesBack journal.now (B.state bus.old) (B.state bus.new) result }

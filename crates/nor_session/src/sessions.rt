@@ -1,4 +1,4 @@
-//! A session: the chip is saved, and then made what is wanted.
+//! A session: saves what it will change, and then makes the chip what the request asks for.
 ghost use Rattle.std.specs.Prelude.{◌≡◌, ℕ, List, true};
 ghost use Rattle.nor_chip.specs.Chip.{Chip};
 ghost use Rattle.nor_journal.specs.Vault.{IsFresh};
@@ -14,11 +14,20 @@ use nor_chip::Bus;
 use nor_journal::Vault;
 use nor_save::{Refusal, Report, Request, judge_opening, open};
 
-/// Makes the chip what the request says, having saved each sector that it will touch into the vault.
+/// Saves each sector that it will touch to `vault`, and then makes the chip what `request` asks for.
 ///
-/// The vault is empty and unsealed. `image` is the session's one buffer beside fixed arrays: for a write it has the
-/// whole chip's bytes, for an erase as many bytes of any value, for a protection range it isn't used; afterwards its
-/// content is open. Until the vault is sealed nothing changing is sent; from then on its journal leads back.
+/// `vault` must be empty and unsealed. `image` is the session's only buffer besides fixed arrays. For a write it holds
+/// the target contents of the whole chip, for an erase the same number of bytes of any value; for a protection range it
+/// is not used. Its contents afterwards are unspecified.
+///
+/// On every bus no modifying command is sent before the vault is sealed. On a modelled bus the journal of a sealed
+/// `telling` vault can restore the original chip at every exit, even if the bus stopped inside a transaction. On an
+/// honest bus that is steady, or whose chip was idle at the start, an exit before the seal leaves the contents and the
+/// non-volatile status bits as they were.
+///
+/// Returns an error from 1 to 8 before it uses the vault, one from 9 to 11 before the vault is sealed, 14 (the chip
+/// holds other bytes than were written) only after that, and 12 (the bus stopped) or 13 (the chip stayed busy) at any
+/// time. On an honest bus 13 does not occur.
 pub fn session<B: Bus, V: Vault>(
     bus: &mut B,
     vault: &mut V,
@@ -46,7 +55,7 @@ pub fn session<B: Bus, V: Vault>(
     judged.answer()
 }
 
-/// An accepted request has no refusal from 1 to 10.
+/// A request that is accepted has no verdict that refuses it.
 #[tactic(auto, using(nor_save::proofs::OneVerdict::accepted_only))]
 pub fn accepted_alone()
     ensures { (request : Request) (image : List ℕ) (chip : Chip) (refusal : Refusal)

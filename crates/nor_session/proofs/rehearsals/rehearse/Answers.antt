@@ -6,7 +6,7 @@ use Rattle.nor_probe.specs.Known.{IsModelled}
 use Rattle.nor_session.proofs.RehearsedSessions.{led, both_wear, both_aim, both_write, undo_refused}
 use Rattle.nor_session.proofs.rehearsals.rehearse.Goals as goal
 
--- a restore was refused
+-- a restore returned an error
 pub returns-in_err-restores : goal.returns-in_err-restores
 returns-in_err-restores g c =
     let session = c.stopped_session.ensures.leaves in let undone = c.undo.ensures in let is = c.bytes.ensures in

@@ -10,7 +10,7 @@ use Rattle.nor_session.proofs.Naming.{prepare_names, change_names}
 use Rattle.nor_session.proofs.Aiming.{none_written, none_aimed, change_aims, change_writes}
 use Rattle.nor_session.proofs.restores.restore.Goals as goal
 
--- it was judged, or stopped before that
+-- a check failed, or the bus stopped before
 pub returns-in_err-prepared : goal.returns-in_err-prepared
 returns-in_err-prepared g c =
     let journal = c.args.journal.now in let most = most_opening + length journal.saved in
@@ -65,7 +65,7 @@ returns-in_err-work g c =
       };
     })
 
--- they were
+-- the changes were finished
 pub overflow_add-result : goal.overflow_add-result
 overflow_add-result g c =
     let are : AreChanged c.args.journal.now c.in_ok-prepared.prepared (g.B.Bus.state c.args.bus.now)
