@@ -1,10 +1,10 @@
--- What the words of the command line ask for.
+-- What the arguments of the command line ask for.
 use Rattle.std.specs.Prelude.{ℕ, List, [], ◌∷◌, codes, if◌then◌else◌}
 use Rattle.std.specs.Str.{bytes_eq}
 use Rattle.bench.specs.declared.words.Request.{Request}
 use Rattle.bench.specs.declared.words.Request.TheVariants.{Usage, Chip, Plan, Journal, Session, Read, Answers, Unknown}
 
--- what the word of this name asks for
+-- what an argument asks for
 abbrev pub named : List ℕ → Request
 named word =
     if bytes_eq word (codes "chip") then Chip
@@ -15,7 +15,7 @@ named word =
     else if bytes_eq word (codes "answers") then Answers
     else Unknown
 
--- no word asks for the usage, and one for what it asks for
+-- without an argument the usage is printed; one argument asks for a measurement; more are an error
 abbrev pub request_of : List (List ℕ) → Request
 request_of [] = Usage
 request_of (word ∷ []) = named word

@@ -8,7 +8,7 @@ use nor_driver::{Erase, EraseUnit, erase, program_page, read_sector};
 use std::alloc::{AllocError, Global};
 use std::rt::Clock;
 
-/// The bytes of the chip, which has the most sectors, and how many pages it has.
+/// The size of the chip, which has the most sectors of all, and its number of pages.
 const CHIP: usize = 16777216;
 
 const PAGES: u32 = 65536;
@@ -36,8 +36,8 @@ const PROGRAMS: Aim = Aim {
     rounds: 301,
 };
 
-/// Prints how long the simulated chip takes. The plain work copies as many bytes by sectors: beside the reads out of
-/// 16 MiB of memory to one place, and beside the others from one place into that memory.
+/// Prints how long the simulated chip takes. The reference copies the same number of bytes sector by sector: for reads
+/// from 16 MiB of memory to one buffer, for erases and programs from one buffer into that memory.
 pub fn measure<R: Clock + Print + AllocGlobal>(rt: &R) -> Result<u64, Fault> {
     let mut bus = open_bus(rt.alloc())?;
     let mut memory = erased_bytes(rt.alloc())?;
@@ -53,7 +53,7 @@ pub fn measure<R: Clock + Print + AllocGlobal>(rt: &R) -> Result<u64, Fault> {
     Ok(sum)
 }
 
-/// Programs, erases and reads the whole chip once, and prints what that came to.
+/// Programs, erases and reads the whole chip once, and prints the results.
 pub fn answer<R: Print + AllocGlobal>(rt: &R) -> Result<(), Fault> {
     let mut bus = open_bus(rt.alloc())?;
     Programs { bus: &mut bus }.run()?;
@@ -71,7 +71,7 @@ pub fn answer<R: Print + AllocGlobal>(rt: &R) -> Result<(), Fault> {
     Ok(())
 }
 
-// How many of the bytes are this one.
+// Returns how many of the bytes have this value.
 fn count(bytes: &[u8], byte: u8) -> usize {
     bytes.iter().filter(|found| **found == byte).count()
 }
@@ -88,15 +88,15 @@ fn measure_reads<R: Clock + Print>(rt: &R, bus: &mut SimBus, memory: &[u8]) -> R
     compare(rt, READS, &mut reads, &mut copies)
 }
 
-// The bytes of an erased chip.
+// Returns the contents of an erased chip.
 fn erased_bytes(alloc: Global) -> Result<Vec<u8>, AllocError>
     ensures { IfOk result (λ bytes. vec_len bytes ≡ 16777216) }
 {
     vec![in alloc; 0xFF; CHIP]
 }
 
-// The bus to an erased W25Q128FV, which answers one poll BUSY after each operation. It lets more transactions through
-// than any measurement sends.
+// Returns the bus to an erased W25Q128FV, which shows BUSY in one poll after each operation. The bus carries out more
+// transactions than any measurement sends.
 fn open_bus(alloc: Global) -> Result<SimBus, Fault> {
     let delays = Delays { now: 0, each: 1 };
     let bytes = erased_bytes(alloc)?;
@@ -152,7 +152,7 @@ impl Work for Programs<'_> {
     }
 }
 
-// The plain work beside the reads.
+// The reference for reads.
 #[derive(Drop)]
 struct CopiesOut<'a> {
     memory: &'a [u8],
@@ -170,7 +170,7 @@ impl Work for CopiesOut<'_> {
     }
 }
 
-// The plain work beside the erases and the programs.
+// The reference for erases and programs.
 #[derive(Drop)]
 struct CopiesIn<'a> {
     memory: &'a mut [u8],

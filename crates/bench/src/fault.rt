@@ -7,20 +7,20 @@ use nor_session::Refusal;
 use std::alloc::AllocError;
 use std::io;
 
-/// Why there is no result.
+/// Why a measurement has no result.
 #[derive(Debug, Drop)]
 pub enum Fault {
-    /// The clock can't be read, or a line not be printed.
+    /// The clock can't be read, or a line can't be printed.
     System(io::Error),
-    /// Memory ran out.
+    /// The program is out of memory.
     Memory,
-    /// The simulated chip isn't made or doesn't answer.
+    /// The simulated chip can't be created, or its bus stopped.
     Chip,
-    /// The journal isn't written.
+    /// The journal can't be written.
     Vault(VaultFault),
     /// What was written is no journal.
     Journal(JournalFault),
-    /// A session, a restore or a reading gave up.
+    /// A session, a restore or a reading returned an error.
     Refused(Refusal),
 }
 

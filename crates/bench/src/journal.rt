@@ -11,7 +11,7 @@ use sha2::{Digest, Sha256};
 use std::alloc::Global;
 use std::rt::Clock;
 
-/// The bytes of the chip, which has the most sectors.
+/// The size of the chip, which has the most sectors of all.
 const CHIP: u32 = 16777216;
 
 const WRITING: Aim = Aim {
@@ -28,7 +28,7 @@ const READING: Aim = Aim {
     rounds: 15,
 };
 
-/// Prints how long the journal takes. The plain work is the digest of all its bytes.
+/// Prints how long the journal takes. The reference is the digest of all its bytes.
 pub fn measure<R: Clock + Print + AllocGlobal>(rt: &R) -> Result<u64, Fault> {
     let alloc = rt.alloc();
     let mut vault = MemVault::new(alloc);
@@ -50,7 +50,7 @@ pub fn answer<R: Print + AllocGlobal>(rt: &R) -> Result<(), Fault> {
     Ok(())
 }
 
-// Writes the journal of a chip whose bytes are all alike into an empty vault.
+// Writes the journal of a chip whose bytes all have one value to an empty vault.
 fn write<V: Vault>(vault: &mut V) -> Result<(), VaultFault>
     requires { IsFresh (V.state vault.old) }
     ensures { OnOk result ((V.state vault.new).sealed ≡ true) }
@@ -87,7 +87,7 @@ impl Work for Reading<'_> {
     }
 }
 
-// The plain work.
+// The reference.
 #[derive(Drop)]
 struct Digests<'a> {
     bytes: &'a [u8],

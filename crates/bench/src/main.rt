@@ -1,5 +1,5 @@
-//! `bench` measures the parts of this project. Each line says how long something takes, as a ratio to plain work on
-//! as many bytes that is timed in the same run, and the ratio that is wanted.
+//! `bench` measures the parts of this project. Each line has the ratio of something's time to the time of a reference for
+//! the same number of bytes, measured in the same run, and the ratio that is wanted at most.
 #![tactic(auto)]
 
 mod chip;
@@ -51,7 +51,7 @@ fn main(rt: HostRuntime) -> Result<ExitCode, Fault> {
     Ok(ExitCode::SUCCESS)
 }
 
-// What is timed was done: each piece of work once, and what it came to.
+// Does each piece of the timed work once, and prints its result.
 fn answer<R: Print + AllocGlobal>(rt: &R) -> Result<(), Fault> {
     chip::answer(rt)?;
     plan::answer(rt)?;

@@ -1,4 +1,4 @@
-//! The comparisons of two sectors whose last byte alone differs.
+//! The comparisons of two sectors that differ only in the last byte.
 
 use crate::fault::Fault;
 use crate::timing::{Aim, Work, compare, look_at};
@@ -33,7 +33,7 @@ pub fn measure<R: Clock + Print + AllocGlobal>(rt: &R) -> Result<u64, Fault> {
     Ok(sum ^ compare(rt, BOUNDS, &mut work, &mut copies)?)
 }
 
-/// Does each comparison once, and prints what they came to.
+/// Does each comparison once, and prints the results.
 pub fn answer<R: Print + AllocGlobal>(rt: &R) -> Result<(), Fault> {
     let differ = Differs(Sectors::new(rt.alloc())?).run()?;
     let sum = Bounds(Sectors::new(rt.alloc())?).run()?;
@@ -41,7 +41,7 @@ pub fn answer<R: Print + AllocGlobal>(rt: &R) -> Result<(), Fault> {
     Ok(())
 }
 
-// A sector, the same once more, and room for a copy, each in memory of its own as a program's buffers are.
+// A sector, a copy of it, and space for one more, each in an allocation of its own, as in a real program.
 #[derive(Drop)]
 struct Sectors {
     old: Box<[u8; SECTOR_LEN as usize]>,
@@ -57,7 +57,7 @@ impl Sectors {
         Ok(Sectors { old, target, copy })
     }
 
-    // Makes the last byte alone differ, by another difference in each pass.
+    // Changes only the last byte, differently in each pass.
     fn touch(&mut self, pass: u32) {
         self.target[4095] = self.old[4095] ^ ((pass % 255) as u8 + 1);
     }
@@ -95,7 +95,7 @@ impl Work for Bounds {
     }
 }
 
-// The plain work.
+// The reference.
 #[derive(Drop)]
 struct Copies(Sectors);
 

@@ -8,7 +8,7 @@ use nor_read::{read_out, verify};
 use std::alloc::{AllocError, Global};
 use std::rt::Clock;
 
-/// The bytes of the chip.
+/// The size of the chip.
 const CHIP: usize = 16777216;
 
 const READING: Aim = Aim {
@@ -25,8 +25,8 @@ const VERIFYING: Aim = Aim {
     rounds: 31,
 };
 
-/// Prints how long the two take. The plain work copies as many bytes into memory that it takes anew, as the reading
-/// does.
+/// Prints how long the two take. The reference copies the same number of bytes into newly allocated memory, as the
+/// reading does.
 pub fn measure<R: Clock + Print + AllocGlobal>(rt: &R) -> Result<u64, Fault> {
     let alloc = rt.alloc();
     let image = bytes(alloc)?;
@@ -45,7 +45,7 @@ pub fn measure<R: Clock + Print + AllocGlobal>(rt: &R) -> Result<u64, Fault> {
     Ok(sum ^ compare(rt, VERIFYING, &mut verifying, &mut copies)?)
 }
 
-/// Reads the chip out and verifies it once, and prints what that came to.
+/// Reads the chip out and verifies it once, and prints the results.
 pub fn answer<R: Print + AllocGlobal>(rt: &R) -> Result<(), Fault> {
     let alloc = rt.alloc();
     let image = bytes(alloc)?;
@@ -65,12 +65,12 @@ pub fn answer<R: Print + AllocGlobal>(rt: &R) -> Result<(), Fault> {
     Ok(())
 }
 
-// The bytes of the chip, which are all alike.
+// Returns the contents of the chip: one value everywhere.
 fn bytes(alloc: Global) -> Result<Vec<u8>, AllocError> {
     vec![in alloc; 0x5A; CHIP]
 }
 
-// The bus to an idle chip. It lets more transactions through than any measurement sends.
+// Returns the bus to an idle chip. It carries out more transactions than any measurement sends.
 fn open_bus(alloc: Global) -> Result<SimBus, Fault> {
     let delays = Delays { now: 0, each: 0 };
     let mut bus = SimBus::new(Config::w25q128fv(), bytes(alloc)?, [0, 0], delays)?;
@@ -104,7 +104,7 @@ impl Work for Verifying<'_> {
     }
 }
 
-/// The plain work: a copy of an image into new memory.
+/// The reference: a copy of an image into new memory.
 #[derive(Drop)]
 pub struct Copies<'a> {
     pub alloc: Global,

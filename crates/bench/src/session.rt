@@ -11,7 +11,7 @@ use sha2::{Digest, Sha256};
 use std::alloc::Global;
 use std::rt::Clock;
 
-/// The bytes of the chip.
+/// The size of the chip.
 const CHIP: usize = 16_777_216;
 
 const WRITE: Request = Request {
@@ -84,7 +84,7 @@ pub fn measure<R: Clock + Print + AllocGlobal>(rt: &R) -> Result<u64, Fault> {
     Ok(sum ^ compare(rt, TOUCHING, &mut touching, &mut copies)?)
 }
 
-// Bytes without order, all the same in each run: the high bytes of a linear congruence.
+// Returns pseudo-random bytes, the same in each run: the high bytes of a linear congruential generator.
 fn scattered(alloc: Global) -> Result<Vec<u8>, Fault> {
     let mut bytes = vec![in alloc; 0; CHIP]?;
     let mut state: u64 = 1;
@@ -97,7 +97,7 @@ fn scattered(alloc: Global) -> Result<Vec<u8>, Fault> {
     Ok(bytes)
 }
 
-// A bus to an idle chip that nothing stops.
+// Returns a bus to an idle chip that never stops.
 fn chip_of(bytes: Vec<u8>) -> Result<SimBus, Fault> {
     let idle = Delays { now: 0, each: 0 };
     let mut bus = SimBus::new(Config::w25q128fv(), bytes, [0x00, 0x00], idle)?;
@@ -105,7 +105,7 @@ fn chip_of(bytes: Vec<u8>) -> Result<SimBus, Fault> {
     Ok(bus)
 }
 
-// The journal of a chip with these bytes, made by a session that erases it.
+// Returns the journal of a chip with these contents, written by a session that erases it.
 fn saved(alloc: Global, bytes: &[u8]) -> Result<MemVault, Fault> {
     let mut bus = chip_of(bytes.to_vec(alloc)?)?;
     let mut image = vec![in alloc; 0; CHIP]?;
@@ -158,7 +158,7 @@ impl Work for Restoring<'_> {
     }
 }
 
-// A session that writes what is there, but for flipped bits of one byte.
+// A session that writes what is there, except for flipped bits in one byte.
 #[derive(Drop)]
 struct Touching {
     alloc: Global,
@@ -178,7 +178,7 @@ impl Work for Touching {
     }
 }
 
-// The plain work beside a journal.
+// The reference for a journal.
 #[derive(Drop)]
 struct Digests<'a> {
     bytes: &'a [u8],

@@ -1,4 +1,4 @@
-//! Times of two pieces of work that are done in turn.
+//! Measures two pieces of work that are done in turn.
 
 use crate::fault::Fault;
 use nor_chip::SECTOR_LEN;
@@ -8,17 +8,16 @@ use std::time::{Duration, Instant};
 
 /// Work that is timed.
 pub trait Work {
-    /// Does it once. The answer hangs on what was done, so that no compiler leaves the work out.
+    /// Does the work once. The result depends on what was done, so that no compiler leaves the work out.
     fn run(&mut self) -> Result<u64, Fault>;
 }
 
-/// Adds the byte to a sum that lies at a place which the sum names. No compiler knows the place, so none leaves out
-/// what made the bytes.
+/// Adds one of the bytes to a sum. The sum says which byte, so no compiler can leave out the computation of the others.
 pub fn look_at(bytes: &[u8; SECTOR_LEN as usize], sum: u64) -> u64 {
     sum.wrapping_add(u64::from(bytes[(sum % u64::from(SECTOR_LEN)) as usize]))
 }
 
-/// What is measured, beside what plain work, and at most how many times as long it shall take.
+/// What is measured (`what`), the reference (`beside`), and how many times the reference's time it should take at most.
 #[derive(Clone, Copy)]
 pub struct Aim {
     pub what: &'static str,
@@ -28,7 +27,7 @@ pub struct Aim {
     pub rounds: u32,
 }
 
-/// The least times that the work and the plain work took.
+/// The least times of the work and of the reference.
 #[derive(Clone, Copy)]
 struct Outcome {
     aim: Aim,
@@ -57,7 +56,7 @@ impl fmt::Display for Outcome {
     }
 }
 
-/// Prints the lines of work that took 111 ms and 150 ms beside 100 ms.
+/// Prints the lines for work that took 111 ms and 150 ms if the reference took 100 ms.
 pub fn answer<R: Print>(rt: &R) -> Result<(), Fault> {
     let aim = Aim {
         what: "timing",
@@ -73,8 +72,8 @@ pub fn answer<R: Print>(rt: &R) -> Result<(), Fault> {
     Ok(())
 }
 
-/// Measures work beside plain work and prints the ratio of their least times. The two are done in turn, so that what
-/// slows the machine down slows both. Answers the sum of what they answered.
+/// Measures work and its reference, and prints the ratio of their least times. The two are done in turn, so that a slow
+/// moment of the machine affects both. Returns the sum of their results.
 pub fn compare<R: Clock + Print, W: Work, P: Work>(
     rt: &R,
     aim: Aim,
@@ -95,7 +94,7 @@ pub fn compare<R: Clock + Print, W: Work, P: Work>(
     Ok(sum)
 }
 
-// How long the work takes once.
+// Returns how long the work takes once.
 fn time<C: Clock, W: Work>(clock: &C, work: &mut W, sum: &mut u64) -> Result<Duration, Fault> {
     let start = Instant::now(clock)?;
     let answer = work.run()?;

@@ -1,11 +1,11 @@
-//! What the words of the command line ask for.
+//! The arguments of the command line.
 ghost use Rattle.std.specs.Prelude.{◌≡◌, map, string_bytes};
 ghost use Rattle.bench.specs.Words.{named, request_of};
 
-/// What the program shall do.
+/// What the program does.
 #[derive(Clone, Copy, Debug, PartialEq, Eq)]
 pub enum Request {
-    /// No word: print the usage.
+    /// No argument: print the usage.
     Usage,
     /// `chip`: measure the simulated chip.
     Chip,
@@ -17,13 +17,13 @@ pub enum Request {
     Session,
     /// `read`: measure the reading of a whole chip.
     Read,
-    /// `answers`: do the work once, and print what it comes to.
+    /// `answers`: do the work once, and print its results.
     Answers,
     /// Anything else.
     Unknown,
 }
 
-/// What the words after the program's name ask for.
+/// Returns what the arguments ask for.
 pub fn request_of(words: &[String]) -> Request
     ensures { result ≡ request_of (map string_bytes words.now) }
 {
@@ -34,7 +34,7 @@ pub fn request_of(words: &[String]) -> Request
     }
 }
 
-// The measurement of this name.
+// Returns the request of this name.
 fn named(word: &str) -> Request
     ensures { result ≡ named word.now }
 {

@@ -1,4 +1,4 @@
-//! What ends the example.
+//! The errors that end the example.
 
 use nor_chip::WrongLength;
 use nor_journal::{JournalFault, VaultFault};

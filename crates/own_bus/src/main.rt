@@ -1,5 +1,6 @@
-//! A chip behind a bus of one's own is probed, read out into a file, changed under a journal, and given back.
-//! `docs/OWN_BUS.md` tells how to put hardware of your own in the place of `played`.
+//! An example of a bus of your own: it probes a chip, reads it out into a file, changes it with a journal, and restores
+//! it.
+//! `docs/OWN_BUS.md` says how to replace `played` by hardware of your own.
 #![tactic(auto)]
 
 mod fault;
@@ -27,7 +28,7 @@ fn main(rt: HostRuntime) -> Result<(), Fault> {
     cut_off(&rt, &mut bus)
 }
 
-// A chip of 65,536 bytes, all FFh.
+// Returns a chip of 65,536 bytes, all FFh.
 fn erased_chip(alloc: Global) -> Result<SimBus, Fault> {
     let idle = Delays { now: 0, each: 0 };
     let erased = vec![in alloc; 0xFF; 65536]?;
@@ -45,7 +46,7 @@ fn back_up(rt: &HostRuntime, bus: &mut OwnBus<Played>) -> Result<(), Fault> {
     Ok(())
 }
 
-// Writes the backup with another first byte, under a journal.
+// Writes the backup with another first byte, with a journal in a file.
 fn change(rt: &HostRuntime, bus: &mut OwnBus<Played>) -> Result<(), Fault> {
     let mut image = fs::read(rt, "chip.bin")?;
     if let Some(first) = image.first_mut() {
@@ -57,7 +58,7 @@ fn change(rt: &HostRuntime, bus: &mut OwnBus<Played>) -> Result<(), Fault> {
     tell(rt, "Changed", &report, bus)
 }
 
-// Gives the chip back from the journal.
+// Restores the chip from the journal.
 fn give_back(rt: &HostRuntime, bus: &mut OwnBus<Played>) -> Result<(), Fault> {
     let saved = fs::read(rt, "undo.journal")?;
     let report = restore(bus, &Journal::read(&saved)?)?;
@@ -75,7 +76,7 @@ fn tell(rt: &HostRuntime, what: &str, done: &Report, bus: &OwnBus<Played>) -> Re
     Ok(())
 }
 
-// Tries the same where the wires are cut while the chip is scanned.
+// Tries the same change, but the wires are cut while the chip is scanned.
 fn cut_off(rt: &HostRuntime, bus: &mut OwnBus<Played>) -> Result<(), Fault> {
     bus.wires.left = 10_000;
     bus.wires.changing = 0;

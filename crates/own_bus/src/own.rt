@@ -1,23 +1,23 @@
-//! A bus to a chip of your own, of which nothing is known.
+//! A bus to a chip of your own, about which nothing is assumed.
 ghost use Rattle.std.proofs.lemmas.Bool.{false≢true};
 ghost use Rattle.nor_chip.specs.Bus.{unknown_bus};
 
 use nor_chip::{Bus, Sent, Stopped, heard_after};
 
-/// The wires to a chip. This is what you write for hardware of your own.
+/// The wires to a chip. You implement this trait for your hardware.
 pub trait Wires {
-    /// What went wrong on them.
+    /// What went wrong on the wires.
     type Cause: Drop;
 
-    /// Pulls chip select low, where a transaction begins, or lets it go, where it ends.
+    /// Pulls chip select low (`true`, a transaction begins) or releases it (`false`, the transaction ends).
     fn select(&mut self, selected: bool) -> Result<(), Self::Cause>;
 
-    /// Sends a byte, and takes in the one that comes back meanwhile.
+    /// Sends a byte, and returns the byte that the chip sent meanwhile.
     fn exchange(&mut self, byte: u8) -> Result<u8, Self::Cause>;
 }
 
-/// A bus over wires of which nothing is known. It keeps the cause of the last transfer that failed, since a refusal
-/// tells alone that the bus stopped.
+/// A bus over wires about which nothing is assumed. It keeps the cause of the last transfer that failed, since error 12
+/// says only that the bus stopped.
 #[derive(Drop)]
 pub struct OwnBus<W: Wires + Drop> {
     pub wires: W,
@@ -57,7 +57,8 @@ impl<W: Wires + Drop> Bus for OwnBus<W> {
     }
 }
 
-// One transaction. Chip select is let go also where an exchange failed, so that the next transaction begins anew.
+// Carries out one transaction. Chip select is released even if an exchange failed, so that the next transaction starts
+// with an opcode.
 fn carry<W: Wires>(wires: &mut W, out: &[u8], reply: &mut [u8]) -> Result<(), W::Cause> {
     wires.select(true)?;
     let exchanged = exchange_all(wires, out, reply);
@@ -66,7 +67,7 @@ fn carry<W: Wires>(wires: &mut W, out: &[u8], reply: &mut [u8]) -> Result<(), W:
     released
 }
 
-// Sends the bytes `out`, and then takes in as many as `reply` holds.
+// Sends the bytes `out`, and then reads as many bytes as `reply` holds.
 fn exchange_all<W: Wires>(wires: &mut W, out: &[u8], reply: &mut [u8]) -> Result<(), W::Cause> {
     for byte in out {
         wires.exchange(*byte)?;

@@ -1,4 +1,4 @@
-//! Wires that play a chip, so that the example has one.
+//! Wires to a simulated chip, so that the example needs no hardware.
 
 use crate::own::Wires;
 use arrayvec::ArrayVec;
@@ -18,14 +18,14 @@ impl fmt::Display for Cut {
     }
 }
 
-/// Wires to a simulated chip, which are cut after so many exchanges.
+/// Wires to a simulated chip, which are cut after a given number of exchanges.
 #[derive(Drop)]
 pub struct Played {
     pub chip: SimBus,
     pub left: u64,
-    /// How many commands were sent that may change the chip.
+    /// How many modifying commands were sent.
     pub changing: u64,
-    // the bytes of a command, and where they are all there what the chip replies, and how much of it went out
+    // the bytes of the command so far; when they are complete, the chip's reply, and how many of its bytes were read
     sent: ArrayVec<u8, LONGEST>,
     reply: [u8; SECTOR_LEN as usize],
     taken: usize,
@@ -44,7 +44,7 @@ impl Played {
     }
 }
 
-// How many bytes come before the reply to a command that reads.
+// Returns after how many bytes the reply of a reading command begins.
 fn reply_begins(sent: &[u8]) -> Option<usize> {
     match sent.first()? {
         0x05 | 0x35 | 0x9F => Some(1),
@@ -62,7 +62,7 @@ impl Wires for Played {
             self.sent.clear();
             self.taken = 0;
         } else if reply_begins(&self.sent).is_none() {
-            // A chip carries a command that doesn't read out as it is let go.
+            // A chip carries out a command that reads nothing when chip select is released.
             if is_changing(&self.sent) {
                 self.changing = self.changing.saturating_add(1);
             }
