@@ -4,8 +4,8 @@
 The pages are README.md, CONTRIBUTING.md, CHANGELOG.md, docs/, the README files of tests/, the manual page, and the head
 (`//!`) of each file of crates/*/src. What is looked for is a word that ends as a file's name does, or that begins with
 a folder's name; a part `*` or `NAME` stands for anything. `specs/Chip` and the like are files of a crate that the line
-or its title names, in a head of that crate. In heads, ARCHITECTURE.md and CONTRIBUTING.md each name between backticks
-has to stand for something, too. What is missing is told with its line, and then the status is 1.
+or its title names, in a head of that crate. In heads and on the pages of NAMING each name between backticks must be the
+name of something, too. Each missing file or name is printed with its line, and then the status is 1.
 """
 import fnmatch
 import functools
@@ -20,7 +20,7 @@ from sources import CRATES, TOP
 
 FOLDERS = "crates docs scripts tests man completion specs src proofs must-fail".split()
 ENDINGS = "antt rt md case sh py edit bash c".split()
-NAMING = "ARCHITECTURE.md", "CONTRIBUTING.md"
+NAMING = "ARCHITECTURE.md", "CONTRIBUTING.md", "GLOSSARY.md"
 WORD = re.compile(r"[\w*./-]*[\w*/]")
 
 

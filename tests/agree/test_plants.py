@@ -101,6 +101,9 @@ PLANTS = {
         PATHS, "crates/nor_read/src/lib.rt", r"`Verifying`", "`Verified_`", "there is no Verified_"),
     "a page's definitions in another crate": (
         PATHS, "docs/ARCHITECTURE.md", r"`specs/Within` says", "`specs/Guard` says", "there is no specs/Guard"),
+    "a glossary's name that isn't there": (
+        PATHS, "docs/GLOSSARY.md", r"`CanGiveBack`", "`CanGiveBacks`",
+        r"docs/GLOSSARY.md:\d+: there is no CanGiveBacks"),
     "a number of stops": (
         AGREE, "README.md", r"\(\d+ stops\)", "(7 stops)", "and rows has .* for '7'"),
     "a number of runs without power": (
