@@ -24,16 +24,20 @@ take_completion() {
     sed -n 's/) _flashnor_files.*//p' "$work/arms" | tr -d ' ' | tr '|' '\n' | keep "options with files" completion
 }
 
-# Options without the names of their values: in the completion, in examples, and wherever a page speaks of one. The
-# manual page's examples have the options of other commands too, so its text is looked at without them.
+# Options without the names of their values: in the completion, in examples, and wherever a page speaks of one. In
+# FLASHROM.md these are the list of common options and the columns of flashnor. The manual page's examples have the
+# options of other commands too, so its text is looked at without them.
 take_bare_options() {
     local kind
     cut -d' ' -f1 "$work/options of parser" | keep "all options" parser
     sed -n 's/ .*//p' "$work/options of parser" | keep "options with values" parser
     sed -n 's/ FILE$//p' "$work/options of parser" | keep "options with files" parser
     take_completion
-    { table README.md flashrom | cut -d'|' -f2; cat docs/SPECIFICATION.md docs/DECISIONS.md; } | quoted |
-        search '^--?[a-zA-Z][-a-z]*' | keep "all options" pages
+    {
+        table docs/FLASHROM.md flashrom | cut -d'|' -f2
+        grep '^Both programs take' docs/FLASHROM.md
+        cat docs/SPECIFICATION.md docs/DECISIONS.md
+    } | quoted | search '^--?[a-zA-Z][-a-z]*' | keep "all options" pages
     grep -v $'\texample$' "$work/manual" | search '[ (]--?[a-zA-Z][-a-z]*' | tr -d ' (' |
         keep "all options" "manual's text"
     search ' --?[a-zA-Z][-a-z]*( [^- ])?' "$work/examples" | sed 's/^ //' > "$work/given"
@@ -53,14 +57,15 @@ take_keys() {
     sed 's/=.*//' "$work/keys with values of help" | keep keys help
     sed -n 's/=FILE$//p' "$work/keys with values of help" | keep "keys with files" help
     search 'dummy:[^ ]*' "$work/examples" | sed 's/dummy://' | tr ',' '\n' | sed 's/=.*//' | keep keys examples
-    table README.md flashrom | cut -d'|' -f2 | quoted | grep -E '^[a-z]+=[A-Z]+$' | keep "keys with values" README
+    table docs/FLASHROM.md flashrom | cut -d'|' -f2 | quoted | grep -E '^[a-z]+=[A-Z]+$' |
+        keep "keys with values" FLASHROM
     tags PROGRAMMER | keep "keys with values" manual
     sed -n 's/) _flashnor_files "$word" "$front.*//p' completion/flashnor.bash | tr -d ' =*' | tr '|' '\n' |
         keep "keys with files" completion
     same keys parser completion help
     none_but keys parser examples
     same "keys with values" help manual
-    none_but "keys with values" help README
+    none_but "keys with values" help FLASHROM
     same "keys with files" help completion
 }
 

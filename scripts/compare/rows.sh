@@ -1,9 +1,9 @@
 #!/usr/bin/env bash
-# scripts/compare/rows.sh [PROGRAM]: what README says of flashrom's options and ours, run beside flashrom.
+# scripts/compare/rows.sh [PROGRAM]: runs flashrom and flashnor for each row of docs/FLASHROM.md.
 #
-# Each row says which words flashrom takes and refuses and which flashnor does; a refusal is told by its line. Each
-# option that this section of README names must have been tried by some row. The status is 1 where anything is
-# otherwise. This is no part of the gate, since it needs flashrom.
+# Each row has arguments that flashrom takes or refuses, and arguments that flashnor takes or refuses; a refusal is
+# recognized by its printed line. Each option that docs/FLASHROM.md names must have been tried by some row. The status
+# is 1 if anything is otherwise. This is no part of the gate, since it needs flashrom.
 set -euo pipefail
 
 top=$(cd "$(dirname "$0")/../.." && pwd)
@@ -324,14 +324,14 @@ left_out() {
     done
 }
 
-# Each option that README's section on flashrom names is one that was tried.
+# Fails for each option that docs/FLASHROM.md names and no row tried.
 all_tried() {
-    row "README's options"
+    row "the options of docs/FLASHROM.md"
     local option
-    # shellcheck disable=SC2016  # the backticks are README's
-    sed -n "/^## .*flashrom/,/^## /p" "$top/README.md" | grep -oE '`[^`]*`' | tr -d '`' |
+    # shellcheck disable=SC2016  # the backticks are the page's
+    grep -oE '`[^`]*`' "$top/docs/FLASHROM.md" | tr -d '`' |
         grep -oE -- '(^| )--?[A-Za-z][a-z-]*' | tr -d ' ' | sort -u > named
-    [[ -s named ]] || wrong "README has no section on flashrom"
+    [[ -s named ]] || wrong "docs/FLASHROM.md names no option"
     printf '%s\n' "${tried[@]}" | sort -u > were_tried
     while read -r option; do wrong "nothing tries $option"; done < <(comm -23 named were_tried)
 }

@@ -101,6 +101,14 @@ PLANTS = {
         PATHS, "crates/nor_read/src/lib.rt", r"`Verifying`", "`Verified_`", "there is no Verified_"),
     "a page's definitions in another crate": (
         PATHS, "docs/ARCHITECTURE.md", r"`specs/Within` says", "`specs/Guard` says", "there is no specs/Guard"),
+    "an option that flashnor hasn't, beside flashrom's": (
+        AGREE, "docs/FLASHROM.md", r"with `--unlock`", "with `--unlocks`",
+        "all options: pages has '--unlocks', parser hasn't"),
+    "a common option that flashnor hasn't": (
+        AGREE, "docs/FLASHROM.md", r"`-v FILE`, `-n`", "`-v FILE`, `-N`", "all options: pages has '-N', parser hasn't"),
+    "a key that flashnor hasn't, beside flashrom's": (
+        AGREE, "docs/FLASHROM.md", r"`busy=N`", "`busier=N`",
+        "keys with values: FLASHROM has 'busier=N', help hasn't"),
     "a glossary's name that isn't there": (
         PATHS, "docs/GLOSSARY.md", r"`CanGiveBack`", "`CanGiveBacks`",
         r"docs/GLOSSARY.md:\d+: there is no CanGiveBacks"),
