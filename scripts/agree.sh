@@ -2,11 +2,12 @@
 # scripts/agree.sh [PROGRAM]: whether the help, SPECIFICATION.md, the manual page and the completion say what the
 # sources say, word for word: options and keys with the names of their values, chips, printed lines, faults by their
 # numbers, limits, examples, the version; whether README.md says nothing else; whether STATEMENT.md is what statement.py
-# makes of the sources; whether each row of PROMISES.md and README.md names a clause of the very call that it names
-# (promises.py), and each file that a page names is there (paths.py); and whether the pages tell as many runs as rows
-# has (counts.py). A line tells what was compared, how much of it and where; each difference is told with both texts,
-# and then the status is 1. What is looked for must be found, so a text that is put otherwise is told too. The help and
-# the list of chips are those that the program prints; where none is given, those that the sources have.
+# makes of the sources; whether each row of PROMISES.md and README.md names a clause of the very call that it names, and
+# TESTING.md names tests (promises.py); whether each file that a page names exists (paths.py); and whether TESTING.md
+# has the counts of the sources (counts.py). A line tells what was compared, how much of it and where; each difference
+# is told with both texts, and then the status is 1. What is looked for must be found, so a text that is put otherwise
+# is told too. The help and the list of chips are those that the program prints; where none is given, those that the
+# sources have.
 # shellcheck disable=SC1091,SC2034,SC2317  # the parts use what stands here
 set -Eeuo pipefail
 trap 'echo "DIFFERS: broke off at $BASH_COMMAND"' ERR

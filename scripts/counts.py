@@ -1,10 +1,10 @@
 #!/usr/bin/env python3
-"""scripts/counts.py [LOG]: whether README.md and docs/PROMISES.md tell how many runs the gate's parts have.
+"""scripts/counts.py [LOG]: whether docs/TESTING.md has the counts that the sources and the gate's log have.
 
-The runs of crates/rows are those that its tests count: they are worked out from these. The others are what storm, sweep
-and kill print, which LOG has, all that the gate printed; without it they aren't compared. Each difference is told with
-both numbers, and so is a sentence that a page doesn't have (CLAIMS has them), a number that the log doesn't tell, and
-one that no sentence has; then the status is 1. A part that was skipped is told in a line `skipped: ..`.
+The counts of cases, transcripts and rows are worked out from the sources. Those of storm, sweep and kill are read from
+LOG, all that the gate printed; without it they aren't compared. A difference is printed with both numbers. It is also a
+difference if the page lacks a text of CLAIMS, if the log lacks a number, or if no text has a number. Then the status is
+1. A part that was skipped is printed in a line `skipped: ..`.
 """
 import re
 import sys
@@ -12,26 +12,29 @@ import sys
 sys.dont_write_bytecode = True  # nothing else is to be left in scripts/
 from sources import CRATES, TOP
 
+PAGE = "docs/TESTING.md"
+CASES = TOP / "tests/cases"
 WORDS = "none one two three four five six seven eight nine ten eleven twelve".split()
 
-# A number as a page may write it, or a list of numbers.
+# A number as the page may write it, or a list of numbers.
 NUMBER = rf"\d+(?:, \d+)* and \d+|\d[\d,]*|{'|'.join(WORDS)}"
 
-# What the pages say: the part of the gate that has the numbers, the page, and the text with a name for each number.
+# The texts of the page: the part of the gate that has the numbers, and the text with a name for each number.
 CLAIMS = [
-    ("rows", "README.md", "sessions stopped after each of their transactions ({stops} stops)"),
-    ("rows", "README.md", "restores behind {stopped} of these under each number of transactions ({runs} runs, and "
-                          "{losses} that lose their power)"),
-    ("storm", "README.md", "{cases} random sessions beside plain code, one in {share} of them once more on a bus that "
-                           "lies"),
-    ("storm", "docs/PROMISES.md", "given to the {cases} cases of `storm`"),
-    ("sweep", "README.md", "{refused} runs with an allocation refused"),
-    ("sweep", "docs/PROMISES.md", "in {refused} runs each of the {jobs} jobs' {each} allocations was refused in turn. "
-                                  "{own} of these runs ended as they would have otherwise, and {others} printed one line"),
-    ("sweep", "docs/PROMISES.md", "{spans} sessions and their restores ran with every allocation refused"),
-    ("kill", "README.md", "{runs} runs that were killed at a call on a file or had it fail"),
-    ("kill", "README.md", "{machines} lost machines"),
-    ("kill", "docs/PROMISES.md", "`make kill` tests it in {runs} runs of {sessions} jobs and their restores"),
+    ("cases", "| Cases of the built program | {cases} cases |"),
+    ("transcripts", "| Cases of the simulated chips, after the datasheets' examples | {cases} cases |"),
+    ("rows", "| Sessions stopped after each of their transactions | {stops} stops |"),
+    ("rows", "| Restores stopped after each of their transactions | after {stopped} of these stops, {runs} runs |"),
+    ("rows", "| Sessions and restores whose power fails after each of their transactions | {losses} runs |"),
+    ("storm", "| Random sessions, compared with the reference implementation | {cases} sessions, one in {share} again "
+              "on a faulty bus |"),
+    ("storm", "given to the {cases} cases of Storm"),
+    ("sweep", "| Runs with one allocation refused | {refused} runs: {each} in {jobs} jobs |"),
+    ("sweep", "| Outcome of these runs | {own} the usual result, {others} one line that reports it |"),
+    ("sweep", "| Sessions, each with its restore, with every allocation refused | {spans} sessions |"),
+    ("kill", "| Runs that were killed at a call on a file, or whose call failed | {runs} runs of {jobs} jobs and their "
+             "restores |"),
+    ("kill", "| Host crashes, each with one state that it may leave on the disk | {machines} crashes |"),
 ]
 
 
@@ -40,11 +43,30 @@ class Unread(Exception):
 
 
 def only(pattern, text, place):
-    """Returns what this pattern finds in a text, where it stands first."""
+    """Returns the first match of this pattern in a text."""
     found = re.search(pattern, text)
     if not found:
         raise Unread(f"{place} has no '{pattern}'")
     return found
+
+
+# ---- the counts of the sources
+
+
+def of_cases():
+    """Returns the number of cases of tests/cases: each begins with a comment."""
+    count, inside = 0, False
+    for file in sorted(CASES.glob("*.case")):
+        for line in file.read_text(encoding="utf-8").splitlines():
+            count += line.startswith("# ") and not inside
+            inside = line.startswith("# ")
+    return {"cases": count}
+
+
+def of_transcripts():
+    """Returns the number of cases that crates/transcripts plays."""
+    text = (CRATES / "transcripts/stdin").read_text(encoding="utf-8")
+    return {"cases": len(re.findall(r"(?m)^case ", text))}
 
 
 # ---- the runs of rows, from its sources
@@ -140,38 +162,38 @@ def of_kill(log):
     """Returns the numbers of the kill."""
     only(r"(?m)^kill: \d+ passed", log, "the log")
     runs = re.findall(r"(?m)^(\w+)(/restore)?: \d+ calls, (\d+) runs, \d+ lost$", log)
-    found = {"runs": sum(int(count) for *_, count in runs), "sessions": len({name for name, *_ in runs})}
+    found = {"runs": sum(int(count) for *_, count in runs), "jobs": len({name for name, *_ in runs})}
     if machines := re.search(r"(?m)^lost machines: (\d+)\b", log):
         found["machines"] = int(machines[1])
     return found
 
 
-# ---- the pages
+# ---- the page
 
 
 def shown(number):
-    """Returns the ways in which a page may write a number, or a list of numbers."""
+    """Returns the ways in which the page may write a number, or a list of numbers."""
     if isinstance(number, list):
         return [f"{', '.join(map(str, number[:-1]))} and {number[-1]}"] if number else []
     return [f"{number:,}", *WORDS[number : number + 1]]
 
 
-def compare(part, numbers, page, text):
-    """Yields how a page differs from a text with these numbers."""
-    flat = " ".join((TOP / page).read_text(encoding="utf-8").split())
+def compare(part, numbers, text):
+    """Yields how the page differs from a text with these numbers."""
+    flat = " ".join((TOP / PAGE).read_text(encoding="utf-8").split())
     pattern = re.sub(r"\\{(\w+)\\}", lambda name: rf"\b(?P<{name[1]}>{NUMBER})", re.escape(text))
     found = re.search(pattern, flat)
     if not found:
-        yield f"{page} has no '{text}'"
+        yield f"{PAGE} has no '{text}'"
         return
     for name, number in numbers.items():
         if f"{{{name}}}" in text and found[name] not in shown(number):
-            yield f"{page} says '{found[0]}', and {part} has {' or '.join(shown(number)) or number} for '{found[name]}'"
+            yield f"{PAGE} says '{found[0]}', and {part} has {' or '.join(shown(number)) or number} for '{found[name]}'"
 
 
 def numbers_of(log):
-    """Returns the numbers of each part, where they are known, and what can't be read or was skipped."""
-    parts, problems, skipped = {}, [], []
+    """Returns the numbers of each part, as far as they are known, and what can't be read or was skipped."""
+    parts, problems, skipped = {"cases": of_cases(), "transcripts": of_transcripts()}, [], []
     readers = {"rows": lambda log: of_rows(), "storm": of_storm, "sweep": of_sweep, "kill": of_kill}
     for part, reader in readers.items():
         if part != "rows" and log is None:
@@ -187,13 +209,13 @@ def numbers_of(log):
 
 
 def main():
-    """Tells how the pages differ."""
+    """Prints how the page differs."""
     log = open(sys.argv[1], encoding="utf-8", errors="replace").read() if sys.argv[1:] else None
     parts, problems, skipped = numbers_of(log)
-    for part, page, text in CLAIMS:
-        problems += compare(part, parts.get(part, {}), page, text)
+    for part, text in CLAIMS:
+        problems += compare(part, parts.get(part, {}), text)
     for part, numbers in parts.items():
-        said = " ".join(text for claiming, _, text in CLAIMS if claiming == part)
+        said = " ".join(text for claiming, text in CLAIMS if claiming == part)
         problems += [f"CLAIMS of scripts/counts.py has no sentence with the {name} of {part}, {number}"
                      for name, number in numbers.items() if f"{{{name}}}" not in said]
     for problem in problems:

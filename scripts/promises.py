@@ -1,5 +1,5 @@
 #!/usr/bin/env python3
-"""scripts/promises.py: whether the tables of docs/PROMISES.md and README.md name what there is.
+"""scripts/promises.py: whether the tables of docs/PROMISES.md, docs/TESTING.md and README.md name what there is.
 
 A cell that tells where a promise stands has parts between semicolons, each of these forms:
 
@@ -22,9 +22,11 @@ sys.dont_write_bytecode = True  # nothing else is to be left in scripts/
 import contracts
 from sources import CRATES, TOP
 
-PAGES = "docs/PROMISES.md", "README.md"
-# The columns of the tables that tell where a promise stands, by their heads; each page has to have one.
+PAGES = "docs/PROMISES.md", "docs/TESTING.md", "README.md"
+# The heads of the columns that tell where a promise stands, and of those that name tests. TESTING.md must have the
+# first of the latter, each other page one of the former.
 PROMISING = "Call, clause", "The promise that it breaks"
+TESTING = "Test", "Command"
 NAME = re.compile(r"[A-Za-z_]\w*(::\w+)?")
 JOINING = set(", and with".split()) | {","}
 
@@ -288,7 +290,7 @@ def checked(head, cell):
     """Returns what is wrong with a cell of a column with this head."""
     if head in PROMISING:
         return check_promise(cell)
-    if head == "Test":
+    if head in TESTING:
         return check_test(cell)
     return check_names(cell, contracts.names(), "name")
 
@@ -318,8 +320,9 @@ def main():
         if page == "README.md":  # of its tables only that of promises names what the sources have
             lines = {number for number, head, _ in cells if head in PROMISING}
             cells = [cell for cell in cells if cell[0] in lines]
-        if not any(head in PROMISING for _, head, _ in cells):
-            print(f"DIFFERS: promises: {page} has no table with a column '{PROMISING[0]}'")
+        needed = TESTING[:1] if page == "docs/TESTING.md" else PROMISING
+        if not any(head in needed for _, head, _ in cells):
+            print(f"DIFFERS: promises: {page} has no table with a column '{needed[0]}'")
             failed += 1
         for number, head, cell in cells:
             count += len(re.findall(r"`[^`]*`", cell))

@@ -77,12 +77,10 @@ limit_transactions() {
     limit "MiB of the largest chip" $((2 ** $(constant "$sfdp" 'MOST_EXPONENT: u32 = ') >> 23)) 2 'KiB to # MiB'
 }
 
-# How a run ends, and how many cases show it: a case begins with a comment.
+# How a run ends.
 limit_runs() {
     limit "status of a fault" "$(constant "$printing" '  status: ')" 2 \
         'tandard error, (with|and the) status( is)? #'
-    limit "cases of the program" \
-        "$(awk '/^# / && !told { n++ } { told = /^# / } END { print n }' tests/cases/*.case)" 1 '# cases of the built'
     seq 0 "$(constant crates/flashnor/specs/Run.antt 'pub few : ending\.status ≤ ')" | keep "exit statuses" Run.antt
     tags "EXIT STATUS" | keep "exit statuses" manual
     same "exit statuses" Run.antt manual

@@ -1,4 +1,4 @@
-"""The counts of runs, with logs and pages of a few lines."""
+"""The counts of runs, with a log and a page of a few lines."""
 import contextlib
 import io
 import pathlib
@@ -33,32 +33,32 @@ kill: 1205 passed, 1 failed
 """
 NUMBERS = {
     "storm": {"cases": "1,000", "share": "four"},
-    "sweep": {"refused": "18", "jobs": "two", "each": "7 and 11", "own": "two", "others": "16", "spans": "one"},
-    "kill": {"runs": "1,200", "sessions": "two", "machines": "77"},
+    "sweep": {"refused": "18", "jobs": "two", "each": "7 and 11", "own": "2", "others": "16", "spans": "1"},
+    "kill": {"runs": "1,200", "jobs": "2", "machines": "77"},
 }
+# The parts whose numbers are worked out from the sources.
+OF_SOURCES = {"cases": counts.of_cases, "transcripts": counts.of_transcripts, "rows": counts.of_rows}
 
 
 class Counts(unittest.TestCase):
-    """Pages that have just the sentences, with the numbers of the sources and of LOG."""
+    """A page that has only the texts of CLAIMS, with the numbers of the sources and of LOG."""
 
     def setUp(self):
         folder = tempfile.TemporaryDirectory()
         self.addCleanup(folder.cleanup)
         self.top = pathlib.Path(folder.name)
         (self.top / "docs").mkdir()
-        rows = {name: f"{number:,}" for name, number in counts.of_rows().items()}
-        self.pages = {}
-        for part, page, text in counts.CLAIMS:
-            said = text.format(**{"rows": rows, **NUMBERS}[part])
-            self.pages[page] = self.pages.get(page, "") + f"And: {said}.\n"
+        numbers = dict(NUMBERS)
+        for part, reader in OF_SOURCES.items():
+            numbers[part] = {name: f"{number:,}" for name, number in reader().items()}
+        self.page = "".join(f"And: {text.format(**numbers[part])}.\n" for part, text in counts.CLAIMS)
         patch = mock.patch.object(counts, "TOP", self.top)
         self.addCleanup(patch.stop)
         patch.start()
 
     def told(self, log=LOG, planted=None):
-        """Returns what is told of a log, and of the pages with another text for one of them; and the status."""
-        for page, text in {**self.pages, **(planted or {})}.items():
-            (self.top / page).write_text(text, encoding="utf-8")
+        """Returns what is printed for a log and the page, or another text in its place; and the status."""
+        (self.top / counts.PAGE).write_text(self.page if planted is None else planted, encoding="utf-8")
         (self.top / "log").write_text(log or "", encoding="utf-8")
         printed = io.StringIO()
         with mock.patch("sys.argv", ["counts.py", *([str(self.top / "log")] if log else [])]):
@@ -69,21 +69,19 @@ class Counts(unittest.TestCase):
     def test_the_right_numbers_pass(self):
         printed, problems = self.told()
         self.assertEqual(problems, 0, printed)
-        for part in ("rows", *NUMBERS):
+        for part in (*OF_SOURCES, *NUMBERS):
             self.assertIn(f"counts of {part}: ", printed)
 
     def test_each_number_of_a_page_that_is_another_is_refused(self):
         planted = 0
-        for page, text in self.pages.items():
-            numbers = r"\d[\d,]*\d|\b\d\b|\b(one|two)\b(?= (jobs|came|sessions))|(?<=one in )four"
-            for number in re.finditer(numbers, text):
-                last = number.group()[-1]
-                other = "three" if last.isalpha() else number.group()[:-1] + str((int(last) + 1) % 10)
-                changed = text[: number.start()] + other + text[number.end() :]
-                printed, problems = self.told(planted={page: changed})
-                self.assertEqual(problems, 1, f"{number.group()} as {other} in {page}\n{printed}")
-                planted += 1
-        self.assertGreaterEqual(planted, 17)
+        for number in re.finditer(r"\d[\d,]*\d|\b\d\b|\btwo\b(?= jobs)|(?<=one in )four", self.page):
+            last = number.group()[-1]
+            other = "three" if last.isalpha() else number.group()[:-1] + str((int(last) + 1) % 10)
+            printed, problems = self.told(planted=self.page[: number.start()] + other + self.page[number.end() :])
+            self.assertEqual(problems, 1, f"{number.group()} as {other}\n{printed}")
+            planted += 1
+        names = sum(len(re.findall(r"{\w+}", text)) for _, text in counts.CLAIMS)
+        self.assertEqual(planted, names + 1)  # (`each` is a list of two)
 
     def test_each_number_of_the_log_that_is_another_is_refused(self):
         for old, new in [("1000 passed", "999 passed"), ("lies: 120", "lies: 12"), ("7 alloc", "8 alloc"),
@@ -99,7 +97,7 @@ class Counts(unittest.TestCase):
             self.assertIn(f"DIFFERS: counts: {part}: the log has no", printed)
 
     def test_a_number_that_no_sentence_has_is_refused(self):
-        fewer = [claim for claim in counts.CLAIMS if "{machines}" not in claim[2]]
+        fewer = [claim for claim in counts.CLAIMS if "{machines}" not in claim[1]]
         with mock.patch.object(counts, "CLAIMS", fewer):
             printed, problems = self.told()
         self.assertEqual(problems, 1, printed)
@@ -112,20 +110,22 @@ class Counts(unittest.TestCase):
         self.assertIn("skipped: the numbers of kill", printed)
 
     def test_a_sentence_that_is_missing_is_refused(self):
-        for page, text in self.pages.items():
-            for line in text.splitlines(keepends=True):
-                printed, problems = self.told(log=None, planted={page: text.replace(line, "")})
-                self.assertGreater(problems, 0, line)
-                self.assertIn(f"DIFFERS: counts: {page} has no '", printed)
+        for line in self.page.splitlines(keepends=True):
+            printed, problems = self.told(log=None, planted=self.page.replace(line, ""))
+            self.assertEqual(problems, 1, line)
+            self.assertIn(f"DIFFERS: counts: {counts.PAGE} has no '", printed)
 
-    def test_without_a_log_the_runs_of_rows_are_compared(self):
-        readme = self.pages["README.md"]
+    def test_without_a_log_the_counts_of_the_sources_are_compared(self):
         printed, problems = self.told(log=None)
         self.assertEqual(problems, 0, printed)
-        changed = readme.replace("4 stops)", "5 stops)").replace("9 stops)", "8 stops)")
-        self.assertNotEqual(changed, readme)
-        printed, problems = self.told(log=None, planted={"README.md": changed})
-        self.assertEqual(problems, 1, printed)
+        for part, text in (it for it in counts.CLAIMS if it[0] in OF_SOURCES):
+            pattern = re.sub(r"\\{\w+\\}", r"[\\d,]+", re.escape(text))
+            claim = re.search(pattern, self.page)[0]
+            for digit in re.finditer(r"\d\b", claim):
+                other = claim[: digit.start()] + str((int(digit[0]) + 1) % 10) + claim[digit.end() :]
+                printed, problems = self.told(log=None, planted=self.page.replace(claim, other))
+                self.assertEqual(problems, 1, printed)
+                self.assertIn(f", and {part} has ", printed)
 
 
 class Rows(unittest.TestCase):

@@ -112,17 +112,33 @@ PLANTS = {
     "a glossary's name that isn't there": (
         PATHS, "docs/GLOSSARY.md", r"`CanGiveBack`", "`CanGiveBacks`",
         r"docs/GLOSSARY.md:\d+: there is no CanGiveBacks"),
+    "a test that isn't there, for what only tests show": (
+        ROWS, "docs/TESTING.md", r"`a_stop_ends_each_call`", "`a_stop_ends_every_call`",
+        r"docs/TESTING.md:\d+: there is no test `a_stop_ends_every_call`"),
+    "a suite's goal that isn't there": (
+        ROWS, "docs/TESTING.md", r"\| `make storm` \|", "| `make storms` |", "the Makefile has no goal `storms`"),
+    "a mutant of the random test that isn't there": (
+        ROWS, "docs/TESTING.md", r"\| `protected_anywhere` \|", "| `protected_nowhere` |",
+        r"docs/TESTING.md:\d+: there is no name `protected_nowhere`"),
+    "a page without its table of tests": (
+        ROWS, "docs/TESTING.md", r"\| Behaviour \| Test \|", "| Behaviour | Shown by |",
+        "TESTING.md has no table with a column 'Test'"),
     "a number of stops": (
-        AGREE, "README.md", r"\(\d+ stops\)", "(7 stops)", "and rows has .* for '7'"),
+        AGREE, "docs/TESTING.md", r"\d+ stops \|", "7 stops |", "and rows has .* for '7'"),
     "a number of runs without power": (
-        COUNTS, "README.md", r"and [\d,]+ that lose", "and 7 that lose", "for '7'"),
+        COUNTS, "docs/TESTING.md", r"power fails after each of their transactions \| [\d,]+",
+        "power fails after each of their transactions | 7", "and rows has .* for '7'"),
     "a run more in a test": (
-        COUNTS, "crates/rows/src/cuts.rt", r", 0, 29\)", ", 0, 30)", "README.md says '.* stops"),
+        COUNTS, "crates/rows/src/cuts.rt", r", 0, 29\)", ", 0, 30)", "TESTING.md says '.* stops"),
     "a sentence on runs that isn't there": (
-        COUNTS, "README.md", r"random sessions beside plain code, one", "sessions, one",
-        "README.md has no '{cases} random sessions"),
+        COUNTS, "docs/TESTING.md", r"Random sessions, compared", "Sessions, compared",
+        "TESTING.md has no '. Random sessions, compared"),
     "a number of cases": (
-        AGREE, "README.md", r"\d+ cases of the built", "7 cases of the built", "cases of the program"),
+        AGREE, "docs/TESTING.md", r"\d+ cases \|", "7 cases |", r"and cases has \d+ for '7'"),
+    "a case that the page doesn't count": (
+        COUNTS, "tests/cases/help.case", r"\A# ", "# One more.\n$ true\n# ", r"and cases has \d+ for '\d+'"),
+    "a transcript that the page doesn't count": (
+        COUNTS, "crates/transcripts/stdin", r"(?m)^case ", "case one\ncase ", r"and transcripts has \d+ for '\d+'"),
     "a version of the Makefile": (
         AGREE, "Makefile", r"(?m)^VERSION := .*", "VERSION := 9.9", "version: Makefile has '9.9', options.rt hasn't"),
     "a version of the manual page": (
