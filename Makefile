@@ -1,4 +1,4 @@
-# `make help` tells what there is to make, and README how long it takes.
+# `make help` lists what there is to make; README.md and docs/TESTING.md say how long it takes.
 
 PROGRAM := crates/flashnor/out/flashnor
 BENCH := crates/bench/out/bench
@@ -62,20 +62,22 @@ files:
 	@{ printf '\000'; cat '$(SCRATCH)/rest'; } > '$(SCRATCH)/chip.bin'
 	@{ printf '\001'; cat '$(SCRATCH)/rest'; } > '$(SCRATCH)/new.bin'
 
-# The first run, on these files: a session that is stopped after 25 transactions and given back. It ends with the
-# run's own status, and says how to run again on the same files.
-demo: files ## runs the main job: a write that is stopped half-way, and the chip given back
-	@if [ -x '$(PROGRAM)' ] && $(MAKE) -q '$(PROGRAM)'; then \
+# The first example of README, on these files: a session that is stopped after 25 transactions, and its restore. The
+# exit status is the run's own. What is printed first is the command, and last how to go on with README's session.
+demo: files ## rehearses a write that is stopped half-way, and its restore
+	@if [ -x '$(PROGRAM)' ] && $(MAKE) --no-print-directory -q '$(PROGRAM)'; then \
 	  program=$$(realpath '$(PROGRAM)'); \
+	  echo '$$ flashnor $(WORDS)'; \
 	  (cd '$(SCRATCH)' && "$$program" $(WORDS)); status=$$?; \
-	  echo "(again on the same files: cd '$(SCRATCH)' && '$$program' $(WORDS))"; exit $$status; \
+	  echo "(go on in this directory: PATH=\$$PATH:'$${program%/*}'; cd '$(SCRATCH)')"; exit $$status; \
 	else \
 	  $(MAKE) --no-print-directory try; \
 	fi
 
-# The same run where the program isn't built yet. What `rt` says beside the program is shown where the run fails.
+# The same run if the program isn't built yet. If the run fails, the messages of `rt` are shown.
 try: toolchain files
-	@echo "(there is no proved program of these sources: this run compiles it without its proof, and keeps none)"
+	@echo "(no proved program of these sources is built: this run compiles one without its proof, and keeps none)"
+	@echo '$$ flashnor $(WORDS)'
 	@cd crates/flashnor && \
 	rt try --data 'chip.bin=$(SCRATCH)/chip.bin' --data 'new.bin=$(SCRATCH)/new.bin' -- $(WORDS) \
 	  > '$(SCRATCH)/printed' 2> '$(SCRATCH)/said'; status=$$?; \

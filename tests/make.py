@@ -1,10 +1,10 @@
 #!/usr/bin/env python3
 """tests/make.py: whether the Makefile does what it must.
 
-It works on no program that is older than its sources, an archive tells what its program was proved with, and `make
-quick` takes no crate for compiled that was not. All of it is tried on a copy of the repository in a folder with a blank
-in its name, with an `rt` that proves nothing and builds a program that says how many were built. The last line is
-`N passed, M failed`.
+It works on no program that is older than its sources, an archive tells what its program was proved with, `make quick`
+takes no crate for compiled that was not, and `make demo` runs the first example of README. All of it is tried on a copy
+of the repository in a folder with a blank in its name, with an `rt` that proves nothing and builds a program that says
+how many were built. The last line is `N passed, M failed`.
 """
 import os
 import shutil
@@ -21,7 +21,9 @@ case $1 in
     version) echo 'a kit' ;;
     try)
         [ "${PWD##*/}" != bench ] || exit 124
-        [ "${PWD##*/}" != rows ] || exit 6 ;;
+        [ "${PWD##*/}" != rows ] || exit 6
+        echo "run= $*"
+        echo "tried: ${*#*-- }" ;;
     run)
         sleep 0.02
         echo built >> "$WORK/builds"
@@ -165,6 +167,20 @@ def packed(tree, expect):
     expect("no page", tree.packed(), ["a kit", f"commit {third}", str(count + 3)])
 
 
+def shown(tree, expect):
+    """`make demo` prints the first example of README and runs it, even if nothing is built; and how to go on."""
+    readme = (TOP / "README.md").read_text(encoding="utf-8")
+    example = readme[readme.index("$ flashnor ") :].splitlines()[0]
+    said = tree.make("demo")[1].splitlines()
+    expect("a demo without a program", said[1:3], [example, f"tried: {example.removeprefix('$ flashnor ')}"])
+    tree.make("build")
+    said = tree.make("demo")[1].splitlines()
+    expect("a demo of the program", said[:-1], [example, str(tree.builds())])
+    way = said[-1].partition(": ")[2].removesuffix(")")
+    found = tree.run("bash", "-c", f"{way}; ls; command -v flashnor")[1].split("\n")[:-1]
+    expect("how to go on after a demo", [*found[:2], found[-1]], ["chip.bin", "new.bin", str(tree.top / PROGRAM)])
+
+
 def wrong(tree, expect):
     """A Makefile whose program needs no sources is told."""
     path = tree.top / "Makefile"
@@ -186,7 +202,7 @@ def main():
         if got != wanted:
             print(f"FAILED: make.py: {what}: wanted {wanted}, got {got}")
 
-    for trial in (stale, installed, packed, wrong):
+    for trial in (stale, installed, packed, shown, wrong):
         with tempfile.TemporaryDirectory() as work:
             trial(Tree(Path(work)), expect)
     print(f"{counts[True]} passed, {counts[False]} failed")
