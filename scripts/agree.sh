@@ -1,13 +1,13 @@
 #!/usr/bin/env bash
 # scripts/agree.sh [PROGRAM]: whether the help, SPECIFICATION.md, the manual page and the completion say what the
 # sources say, word for word: options and keys with the names of their values, chips, printed lines, faults by their
-# numbers, limits, examples, the version; whether README.md says nothing else; whether STATEMENT.md is what statement.py
-# makes of the sources; whether each row of PROMISES.md and README.md names a clause of the very call that it names, and
-# TESTING.md names tests (promises.py); whether each file that a page names exists (paths.py); and whether TESTING.md
-# has the counts of the sources (counts.py). A line tells what was compared, how much of it and where; each difference
-# is told with both texts, and then the status is 1. What is looked for must be found, so a text that is put otherwise
-# is told too. The help and the list of chips are those that the program prints; where none is given, those that the
-# sources have.
+# numbers, limits, examples, the version; whether README.md says nothing else, and names the kit that is installed;
+# whether STATEMENT.md is what statement.py makes of the sources; whether each row of PROMISES.md and README.md names a
+# clause of the very call that it names, and TESTING.md names tests (promises.py); whether each file that a page names
+# exists (paths.py); and whether TESTING.md has the counts of the sources (counts.py). A line tells what was compared,
+# how much of it and where; each difference is told with both texts, and then the status is 1. What is looked for must
+# be found, so a text that is put otherwise is told too. The help and the list of chips are those that the program
+# prints; where none is given, those that the sources have.
 # shellcheck disable=SC1091,SC2034,SC2317  # the parts use what stands here
 set -Eeuo pipefail
 trap 'echo "DIFFERS: broke off at $BASH_COMMAND"' ERR
@@ -107,6 +107,7 @@ take_words
 take_faults
 take_limits
 take_version
+take_kit
 python3 scripts/statement.py --check || failed
 python3 scripts/promises.py || failed
 python3 scripts/paths.py || failed

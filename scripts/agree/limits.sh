@@ -97,6 +97,15 @@ take_version() {
     same version options.rt help Makefile manual CHANGELOG
 }
 
+# The kit that README trusts is the one that is installed, if one is.
+take_kit() {
+    if command -v rt > /dev/null; then
+        rt version | keep kit rt
+        search 'rattle-kit-[^`]*' README.md | keep kit README
+        same kit rt README
+    fi
+}
+
 take_limits() {
     limit_sizes
     limit_words

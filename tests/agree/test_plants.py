@@ -160,6 +160,10 @@ PLANTS = {
         "most_status_write _ unlock", "'most_status_write _ unlock = .*' belongs to no definition"),
 }
 
+if shutil.which("rt"):
+    PLANTS["another kit"] = (
+        AGREE, "README.md", r"rattle-kit-\w+", "rattle-kit-none", "kit: README has 'rattle-kit-none .*', rt hasn't")
+
 
 class Trees:
     """Copies of what agree reads, one for each processor; each is used by one run at a time."""
