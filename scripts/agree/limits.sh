@@ -93,7 +93,7 @@ take_version() {
     # shellcheck disable=SC2016
     make -s --no-print-directory --eval 'told-version: ; @echo $(VERSION)' told-version | keep version Makefile
     sed -nE 's/^\.TH .*"flashnor ([^"]*)".*/\1/p' man/flashnor.8 | keep version manual
-    sed -nE 's/^## //p' CHANGELOG.md | head -n 1 | keep version CHANGELOG
+    sed -nE 's/^## \[([0-9][^]]*)\] - [0-9]{4}-[0-9]{2}-[0-9]{2}$/\1/p' CHANGELOG.md | head -n 1 | keep version CHANGELOG
     same version options.rt help Makefile manual CHANGELOG
 }
 

@@ -145,7 +145,9 @@ PLANTS = {
         AGREE, "man/flashnor.8", r'"flashnor [^"]*"', '"flashnor 9.9"',
         "version: manual has '9.9', options.rt hasn't"),
     "a version of what has changed": (
-        AGREE, "CHANGELOG.md", r"(?m)^## .*", "## 9.9", "version: CHANGELOG has '9.9', options.rt hasn't"),
+        AGREE, "CHANGELOG.md", r"(?m)^## \[\d[^]]*", "## [9.9", "version: CHANGELOG has '9.9', options.rt hasn't"),
+    "a version without its date": (
+        AGREE, "CHANGELOG.md", r"(?m)^(## \[\d[^]]*\]) - .*", "## [1.0]", "version: nothing found in CHANGELOG"),
     "a version of the program": (
         AGREE, "crates/nor_words/src/options.rt", r'= "flashnor [^:]*:', '= "flashnor 9.9:',
         "version: options.rt has '9.9', manual hasn't"),
