@@ -127,6 +127,17 @@ def check_names(page):
             yield None if name in names() else (number, name)
 
 
+def gaps():
+    """Yields each crate that ARCHITECTURE.md doesn't name in backticks, and each file of crates/*/src without a head."""
+    text = (TOP / "docs/ARCHITECTURE.md").read_text(encoding="utf-8")
+    for crate in sorted(names_of_crates()):
+        if f"`{crate}`" not in text:
+            yield f"docs/ARCHITECTURE.md names no crate {crate}"
+    for page in pages():
+        if page.suffix == ".rt" and not lines_of(page):
+            yield f"{page.relative_to(TOP)} has no head"
+
+
 def main():
     """Tells what the pages name that isn't there, and how much they name."""
     told = {page: list(check(page)) for page in pages()}
@@ -136,6 +147,9 @@ def main():
         for number, name in filter(None, [*told[page], *named.get(page, [])]):
             print(f"DIFFERS: paths: {page.relative_to(TOP)}:{number}: there is no {name}")
             missing += 1
+    for gap in gaps():
+        print(f"DIFFERS: paths: {gap}")
+        missing += 1
     print(f"paths: {sum(map(len, told.values()))} in pages and heads, {sum(map(len, named.values()))} names in heads")
     return missing
 

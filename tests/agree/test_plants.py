@@ -91,6 +91,10 @@ PLANTS = {
         "there is no tests/cases/layout.case"),
     "a source of a page that isn't there": (
         PATHS, "README.md", r"docs/DECISIONS\.md", "docs/REASONS.md", "there is no docs/REASONS.md"),
+    "a crate that the page doesn't name": (
+        PATHS, "docs/ARCHITECTURE.md", r"\| `nor_count` \|.*\n", "", "docs/ARCHITECTURE.md names no crate nor_count"),
+    "a source without a head": (
+        PATHS, "crates/nor_plan/src/set.rt", r"//!.*\n", "", "crates/nor_plan/src/set.rt has no head"),
     "a head's file that isn't there": (
         PATHS, "crates/nor_read/src/lib.rt", r"`specs/Reading\.antt`", "`specs/Readings.antt`",
         r"crates/nor_read/src/lib.rt:\d+: there is no specs/Readings"),
