@@ -1,7 +1,7 @@
 #!/usr/bin/env python3
 """scripts/paths.py: whether the files and names that the pages name are there.
 
-The pages are README.md, CONTRIBUTING.md, CHANGELOG.md, docs/, the README files of tests/, the manual page, and the head
+The pages are README.md, CONTRIBUTING.md, CHANGELOG.md, docs/, the README files of tests/, the manual pages, and the head
 (`//!`) of each file of crates/*/src. What is looked for is a word that ends as a file's name does, or that begins with
 a folder's name; a part `*` or `NAME` stands for anything. `specs/Chip` and the like are files of a crate that the line
 or its title names, in a head of that crate. In heads and on the pages of NAMING each name between backticks must be the
@@ -26,8 +26,8 @@ WORD = re.compile(r"[\w*./-]*[\w*/]")
 
 def pages():
     """Returns the paths of the pages, from the top."""
-    found = [TOP / name for name in ("README.md", "CONTRIBUTING.md", "CHANGELOG.md", "man/flashnor.8")]
-    for pattern in ("docs/*.md", "tests/**/*.md", "crates/*/src/**/*.rt"):
+    found = [TOP / name for name in ("README.md", "CONTRIBUTING.md", "CHANGELOG.md")]
+    for pattern in ("man/*", "docs/*.md", "tests/**/*.md", "crates/*/src/**/*.rt"):
         found += sorted(TOP.glob(pattern))
     return found
 
