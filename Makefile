@@ -19,6 +19,7 @@ PREFIX ?= /usr/local
 INTO = $(DESTDIR)$(PREFIX)
 IN_BIN = $(INTO)/bin/flashnor
 IN_MAN = $(INTO)/share/man/man8/flashnor.8
+IN_MAN5 = $(INTO)/share/man/man5/flashnor-journal.5
 IN_COMPLETIONS = $(INTO)/share/bash-completion/completions/flashnor
 
 # What `make dist` packs.
@@ -98,13 +99,14 @@ compare: $(BUILT) ## runs the program beside flashrom and beside a chip of QEMU,
 	@scripts/compare/rows.sh '$(PROGRAM)'
 	@scripts/compare/qemu.py '$(PROGRAM)'
 
-install: $(BUILT) ## puts program, manual page and completion below PREFIX and DESTDIR
+install: $(BUILT) ## puts program, manual pages and completion below PREFIX and DESTDIR
 	install -D -m 755 '$(PROGRAM)' '$(IN_BIN)'
 	install -D -m 644 man/flashnor.8 '$(IN_MAN)'
+	install -D -m 644 man/flashnor-journal.5 '$(IN_MAN5)'
 	install -D -m 644 completion/flashnor.bash '$(IN_COMPLETIONS)'
 
-uninstall: ## takes these three away again
-	rm -f '$(IN_BIN)' '$(IN_MAN)' '$(IN_COMPLETIONS)'
+uninstall: ## removes these files again
+	rm -f '$(IN_BIN)' '$(IN_MAN)' '$(IN_MAN5)' '$(IN_COMPLETIONS)'
 
 # The first case proves and builds.
 storm: toolchain ## random sessions beside plain code: make storm SEED=7 COUNT=5000
@@ -123,7 +125,8 @@ dist: $(BUILT) ## packs an archive with the program, its pages, and what it was 
 	@cd '$(dir $(PROGRAM))' && tail -n 1 PROVED-WITH 2> /dev/null | sha256sum --check --status 2> /dev/null || \
 	  $(MAKE) --no-print-directory -C '$(CURDIR)' build
 	@rm -rf $(DIST) && mkdir -p $(DIST)
-	@cp '$(PROGRAM)' '$(dir $(PROGRAM))PROVED-WITH' man/flashnor.8 completion/flashnor.bash README.md CHANGELOG.md $(DIST)
+	@cp '$(PROGRAM)' '$(dir $(PROGRAM))PROVED-WITH' man/flashnor.8 man/flashnor-journal.5 docs/SPECIFICATION.md \
+	  completion/flashnor.bash README.md CHANGELOG.md $(DIST)
 	@cd $(DIST) && sha256sum -- * > SHA256SUMS
 	@tar --sort=name --owner=0 --group=0 --numeric-owner -C out -czf $(DIST).tar.gz flashnor-$(VERSION)
 	@echo $(DIST).tar.gz
