@@ -1,4 +1,4 @@
-"""The examples of README.md and of the manual page as cases.
+"""The examples of README.md and of the manual pages as cases.
 
 The lines behind `$` are the steps, in the order in which they stand, and what stands behind them is what both streams
 print. chip.bin and new.bin are those of `make files`, as the pages say, and a file that a page shows by `cat` is the
@@ -8,6 +8,8 @@ import re
 
 from grammar import Case, File, Step
 
+# The pages, first the one that isn't a manual page.
+PAGES = ["README.md", "man/flashnor.8", "man/flashnor-journal.5"]
 FAULT = re.compile(r"(Error|File fault|Layout fault|Usage fault) ")
 
 
@@ -44,7 +46,7 @@ def case_of(name, lines):
     return case
 
 
-def cases(readme, manual):
-    """Returns a case for each of the two pages."""
-    return [case_of("README.md", of_readme(readme.read_text(encoding="utf-8"))),
-            case_of("the manual page", of_manual(manual.read_text(encoding="utf-8")))]
+def cases(readme, *manuals):
+    """Returns a case for each of the pages."""
+    found = [case_of("README.md", of_readme(readme.read_text(encoding="utf-8")))]
+    return found + [case_of(it.name, of_manual(it.read_text(encoding="utf-8"))) for it in manuals]

@@ -1,8 +1,8 @@
 #!/usr/bin/env python3
-"""tests/run.py [PROGRAM [FOLDER]] or tests/run.py PROGRAM README MANUAL: the built program on each case of a folder,
-each case in a folder of its own, or on the examples of these two pages.
+"""tests/run.py [PROGRAM [FOLDER]] or tests/run.py PROGRAM README MANUAL..: the built program on each case of a folder,
+each case in a folder of its own, or on the examples of these pages.
 
-Without a folder these are tests/cases and the examples of README.md and the manual page (pages.py), and it is tried
+Without a folder these are tests/cases and the examples of README.md and the manual pages (pages.py), and it is tried
 that programs that do something else, cases that say what isn't so and an empty folder don't pass (self.py), and whether
 the pages say what the program prints as help and as list of chips (scripts/agree.sh). The program is also run by a
 parent that closes streams, sets limits and has terminals, as no shell does (streams.py). How a case is read stands in
@@ -175,13 +175,13 @@ def main(words):
     with tempfile.TemporaryDirectory() as work:
         os.chmod(work, 0o755)
         machine = Machine(Path(work), program)
-        if len(words) == 3:
-            machine.do_all(pages.cases(Path(words[1]), Path(words[2])), tally)
+        if len(words) > 2:
+            machine.do_all(pages.cases(*map(Path, words[1:])), tally)
         elif len(words) == 2:
             machine.do_all(cases_of(words[1]), tally)
         else:
             cases = cases_of(TOP / "tests/cases")
-            machine.do_all(cases + pages.cases(TOP / "README.md", TOP / "man/flashnor.8"), tally)
+            machine.do_all(cases + pages.cases(*(TOP / it for it in pages.PAGES)), tally)
             tally.add("streams.py", [sys.executable, TOP / "tests/streams.py", machine.program])
             tally.add("self.py", [sys.executable, TOP / "tests/self.py", machine.program])
             agree(machine.program, tally)

@@ -13,6 +13,7 @@ import sys
 import tempfile
 from pathlib import Path
 
+import pages
 from run import SECOND_DISK, Machine
 
 TOP = Path(__file__).resolve().parent.parent
@@ -116,6 +117,7 @@ PAGES = [
     ("transactions in the manual page", "man/flashnor.8", r"^(Done: .*)15\.$", r"\g<1>16.",
      ["actions 15.", "actions 16."]),
     ("a range in the manual page", "man/flashnor.8", r"^Range: 0x7e", "Range: 0x7f", ["Range: 0x7e", "Range: 0x7f"]),
+    ("a header in flashnor-journal.5", "man/flashnor-journal.5", r"(5255 4e44 4f3)2", r"\g<1>1", ["4f32 fe", "4f31 fe"]),
     ("README without its examples", "README.md", r"^\$ flashnor", "$ echo", ["no example was found"]),
 ]
 
@@ -175,8 +177,8 @@ def try_page(work, tally, program, trial):
     if changed == text:
         new = f"nothing was changed by {old}"
     (work / "page").write_text(changed, encoding="utf-8")
-    pages = [work / "page" if it == page else TOP / it for it in ("README.md", "man/flashnor.8")]
-    tally.run(f"{what} ({new})", (1, ["1 passed, 1 failed"]), told, program, *pages)
+    names = [work / "page" if it == page else TOP / it for it in pages.PAGES]
+    tally.run(f"{what} ({new})", (1, [f"{len(names) - 1} passed, 1 failed"]), told, program, *names)
 
 
 def try_wrong(work, tally, program):
