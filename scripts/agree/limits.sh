@@ -48,8 +48,7 @@ limit_words() {
     local numbers=$words/numbers.rt layout=crates/nor_layout/src/address.rt
     limit "stops" "$(constant "$words/stops.rt" 'MOST_STOPS: usize = ')" 2 '1 to # (of them|numbers)'
     limit "digits of a stop" "$(constant "$numbers" 'read_numeral\(text, 10, ')" 2 '1 to # decimal digits,? up to 18'
-    limit "greatest stop" "$(printf %u -1)" 2 \
-        '(up to|Without it|carried out \|) #( are allowed| \||\. The journal| and --rehearse)'
+    limit "greatest stop" "$(printf %u -1)" 1 '1 to 20 decimal digits up to #'
     limit "digits of a place" "$(constant "$numbers" 'None => read_numeral\(text, 10, ')" 2 \
         '1 to # decimal (digits|ones) up to 4'
     limit "greatest place" $((2 ** 32 - 1)) 2 '1 to 10 decimal (digits|ones) up to #'
