@@ -72,8 +72,8 @@ flat_manual() {
             }
             rows = 0
         }
-        /^\.(\\"|br|TH|DT)/ { next }
-        { gsub(/\\-/, "-"); gsub(/\\f[BIR]/, "") }
+        /^\.(\\"|br|TH|DT|na)/ { next }
+        { gsub(/\\-/, "-"); gsub(/\\f[BIR]|\\%/, "") }
         /^\.TS/ { finish(); table = formats = 1; next }
         /^\.TE/ { print_rows(); table = 0; next }
         formats { formats = !/\.$/; next }

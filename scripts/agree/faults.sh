@@ -1,4 +1,4 @@
-# shellcheck shell=bash disable=SC2154
+# shellcheck shell=bash disable=SC2016,SC2154
 # Printed lines, and faults by their numbers, for agree.sh, which sets messages, printing, words and work.
 
 # The line of each refusal: its number and its words, by which the source that has them tells it.
@@ -23,8 +23,10 @@ fault_lines() {
 # The lines of faults in the manual page.
 take_lines() {
     { refusal_lines; fault_lines; } | keep "lines of faults" program
-    { tags Refusals; cut -f2 "$work/manual" | search '"[^"]* fault K[^"]*"' | tr -d '"'; } |
-        keep "lines of faults" manual
+    {
+        rows manual ^Refusals | sed -E 's/^([0-9]+) (.*)/Error \1: \2./'
+        cut -f2 "$work/manual" | search '"[^"]* fault K[^"]*"' | tr -d '"'
+    } | keep "lines of faults" manual
     same "lines of faults" program manual
 }
 
@@ -32,25 +34,26 @@ take_lines() {
 take_shown() {
     local text mark='s/ (0x[0-9a-fA-F]+|[0-9]+|[ICKW])([ .,])/ _\2/g'
     sed -E "$mark" "$work/lines of faults of program" | keep "refusals shown" program
-    for text in README manual; do
+    for text in README manual journal; do
         search "Error [0-9]+: [a-zA-Z][a-zA-Z0-9 ,']*\." "$work/flat/$text" | sed -E "$mark" |
             keep "refusals shown" $text
         none_but "refusals shown" program $text
     done
 }
 
-# The lines of answers, with `_` for what they tell.
+# The lines of results, with `_` for names and numbers: SPECIFICATION has those of the program, and the examples have no
+# others.
 take_answers() {
-    local line told='NAME|ID|SIZE|START|LENGTH|SFDP|[TEPXK]|ended|stopped|open|locked'
+    local told='NAME|ID|SIZE|START|LENGTH|SFDP|W25Q[0-9A-Z]+|[TEPXK]|ended|stopped|open|locked'
     flat "$printing" | search 'writeln!\( ?output, "[^"]*"' | sed -E 's/.*output, "(.*)"/\1/; s/(0x)?\{[^}]*\}/_/g' |
         keep answers program
     table docs/SPECIFICATION.md Job | cut -d'|' -f2 | quoted > "$work/answers"
     sed -E "s/[A-Z0-9]+ [0-9a-f]{6} [0-9]+/_ _ _/; s/\b($told)\b/_/g" "$work/answers" | keep answers SPECIFICATION
     same answers program SPECIFICATION
-    awk -F'\t' '$1 == "OUTPUT" { print $4 }' "$work/manual" > "$work/told"
-    while IFS= read -r line; do
-        grep -qF -- "$line" "$work/told" || differs "answers: SPECIFICATION has '$line', manual hasn't"
-    done < <(grep -v '^W25' "$work/answers")
+    { sed -n '/^```/,/^```/p' README.md; sed -n '/^\.EX/,/^\.EE/p' man/*.[58]; } |
+        search '^(Found|Read|Done|Verified|Range|Mode|Rehearsal|Restores|Chip)[ .:].*' |
+        sed -E "s/\b($told|(0x)?[0-9a-f]{6,}|[0-9]+)\b/_/g" | keep answers examples
+    none_but answers program examples
 }
 
 # The numbers that a source's faults have: as they are written, or counted where the first one is 1.
@@ -60,13 +63,13 @@ numbers_in() {
         search '[0-9]+$'
 }
 
-# The faults of a kind by their numbers.
+# The faults of a kind by their numbers, in a source and in the table of a page, which is standard input.
 take_kind() {
-    local kind=$1 source=${2##*/}
-    tags "^$kind faults" | keep "$kind faults" manual
+    local kind=$1 source=${2##*/} page=$3
+    keep "$kind faults" "$page"
     numbers_in "$2" | keep "numbers of $kind faults" "$source"
-    cut -d' ' -f1 "$work/$kind faults of manual" | keep "numbers of $kind faults" manual
-    same "numbers of $kind faults" "$source" manual
+    cut -d' ' -f1 "$work/$kind faults of $page" | keep "numbers of $kind faults" "$page"
+    same "numbers of $kind faults" "$source" "$page"
 }
 
 # The options of which lines `N: ..` speak, by the lines' numbers.
@@ -89,10 +92,10 @@ take_faults() {
     take_lines
     take_shown
     take_answers
-    take_kind Usage "$words/words.rt"
-    take_kind Layout crates/nor_layout/src/fault.rt
-    take_kind File "$messages"
-    take_kind SFDP crates/nor_probe/src/sfdp.rt
-    take_kind Journal crates/nor_journal/src/fault.rt
+    take_kind Usage "$words/words.rt" manual < <(rows manual '^Usage faults')
+    take_kind Layout crates/nor_layout/src/fault.rt manual < <(rows manual '^Layout faults')
+    take_kind File "$messages" manual < <(rows manual '^File faults')
+    take_kind SFDP crates/nor_probe/src/sfdp.rt SPECIFICATION < <(table docs/SPECIFICATION.md 'SFDP fault')
+    take_kind Journal crates/nor_journal/src/fault.rt journal < <(rows journal ^FAULTS)
     take_usage_options
 }

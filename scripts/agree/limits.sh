@@ -26,38 +26,39 @@ limit_sizes() {
     local files=crates/flashnor/src/files.rt regions=crates/nor_layout/src/region.rt
     local chip=crates/nor_chip/src/config.rt records=crates/nor_journal/src/records.rt image
     image=$(constant "$files" 'MOST_IMAGE_BYTES: u64 = ')
-    limit "bytes of an image" "$image" 2 '[Ii]mages? (is|are) read up to #'
+    limit "bytes of an image" "$image" 2 '(image is read up to|I is at most) #'
     limit "bytes of an image that is too long" "$image" 1 'its length is told as #'
-    limit "bytes of a journal" "$(constant "$files" 'MOST_JOURNAL_BYTES: u64 = ')" 2 'journals? up to #'
-    limit "bytes of a layout" "$(constant "$files" 'MOST_LAYOUT_BYTES: u64 = ')" 3 \
+    limit "bytes of a journal" "$(constant "$files" 'MOST_JOURNAL_BYTES: u64 = ')" 1 'journal up to #'
+    limit "bytes of a layout" "$(constant "$files" 'MOST_LAYOUT_BYTES: u64 = ')" 2 \
         "layout('s file)? (has at most|of more than) #"
     limit "regions" "$(constant "$regions" 'REGIONS: usize = ')" 2 \
         '(more than|layout holds at most|there are at most) #( regions|\.)'
     limit "bytes of a name" "$(constant "$regions" 'NAME_LEN: usize = ')" 2 '1 to # visible'
-    limit "bytes of a sector" "$(constant "$chip" 'SECTOR_LEN: u32 = ')" 2 \
-        '(sector \(|sector is |number and its |multiple of )#'
+    limit "bytes of a sector" "$(constant "$chip" 'SECTOR_LEN: u32 = ')" 3 \
+        '(sector \(|sector\*? is |number and its |multiple of )#'
     limit "greatest sector" $(($(constant "$chip" 'MOST_SECTORS: u32 = ') - 1)) 1 'a number past #'
-    limit "bytes of a sector's record" "$(constant "$records" 'requires \{ ')" 2 'and # for each sector'
+    limit "bytes of a sector's record" "$(constant "$records" 'requires \{ ')" 1 'and # for each sector'
     limit "bytes of a journal of no sector" $(($(constant crates/nor_journal/src/head.rt '^const HEAD: usize = ') +
-        $(constant "$records" 'END_MARK: \[u8; ') + $(constant "$records" 'DIGEST: usize = '))) 2 \
-        '#( bytes)? and 4,100 for each'
+        $(constant "$records" 'END_MARK: \[u8; ') + $(constant "$records" 'DIGEST: usize = '))) 1 \
+        '# bytes and 4,100 for each'
 }
 
 # What the numbers of the command line may be.
 limit_words() {
     local numbers=$words/numbers.rt layout=crates/nor_layout/src/address.rt
     limit "stops" "$(constant "$words/stops.rt" 'MOST_STOPS: usize = ')" 2 '1 to # (of them|numbers)'
-    limit "digits of a stop" "$(constant "$numbers" 'read_numeral\(text, 10, ')" 2 '1 to # decimal digits,? up to 18'
+    limit "digits of a stop" "$(constant "$numbers" 'read_numeral\(text, 10, ')" 1 '1 to # decimal digits up to 18'
     limit "greatest stop" "$(printf %u -1)" 1 '1 to 20 decimal digits up to #'
-    limit "digits of a place" "$(constant "$numbers" 'None => read_numeral\(text, 10, ')" 2 \
-        '1 to # decimal (digits|ones) up to 4'
-    limit "greatest place" $((2 ** 32 - 1)) 2 '1 to 10 decimal (digits|ones) up to #'
+    limit "digits of a place" "$(constant "$numbers" 'None => read_numeral\(text, 10, ')" 1 \
+        '1 to # decimal digits up to 4'
+    limit "greatest place" $((2 ** 32 - 1)) 1 '1 to 10 decimal digits up to #'
     limit "hexadecimal digits of a place" "$(constant "$numbers" 'read_numeral\(digits, 16, ')" 2 \
         '1 to # hexadecimal digits'
     limit "hexadecimal digits in a layout" "$(constant "$layout" 'DIGITS: usize = ')" 2 '1 to # hexadecimal digits'
-    limit "hexadecimal digits of unique" $((2 * $(constant "$numbers" 'Option<\[u8; '))) 2 \
-        '(number, |reads: )# hexadecimal'
-    limit "greatest busy" "$(constant "$numbers" 'text, 10, 20, ')" 4 '(polls from |operation, |BUSY \()0 to #'
+    limit "hexadecimal digits of unique" $((2 * $(constant "$numbers" 'Option<\[u8; '))) 3 \
+        '(number, |ID of the chip, |unique= \| )# hexadecimal'
+    limit "greatest busy" "$(constant "$numbers" 'text, 10, 20, ')" 4 \
+        '(polls from |number from |operation, |BUSY \()0 to #'
 }
 
 # What is sent, and which chips there are.
@@ -65,7 +66,7 @@ limit_transactions() {
     local sfdp=crates/nor_probe/src/sfdp.rt polls opening
     polls=$(constant crates/nor_driver/src/waits.rt 'MOST_POLLS: u32 = ')
     opening=$(constant crates/nor_save/specs/Opening.antt 'most_opening = ')
-    limit "polls" "$polls" 2 '# (polls in a row|polls, after)'
+    limit "polls" "$polls" 1 '# polls in a row'
     limit "polls of an operation" "$polls" 1 'BUSY is clear, at most #'
     limit "transactions of a probe" "$(constant crates/nor_probe/specs/Found.antt 'most_probe = ')" 1 \
         'command and at most # transactions'
