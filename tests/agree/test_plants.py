@@ -155,6 +155,30 @@ PLANTS = {
     "a version of the program": (
         AGREE, "crates/nor_words/src/options.rt", r'= "flashnor [^:]*:', '= "flashnor 9.9:',
         "version: options.rt has '9.9', manual hasn't"),
+    "a message of an error": (
+        AGREE, "man/flashnor.8", r"(?m)^8\trange not", "8\trange never", "manual has 'Error 8: range never offered.'"),
+    "an error less": (
+        AGREE, "man/flashnor.8", r"(?m)^18\t.*\n", "", "manual hasn't"),
+    "a usage fault less": (
+        AGREE, "man/flashnor.8", r"(?m)^10\t.*\n", "", "numbers of Usage faults: words.rt has '10', manual hasn't"),
+    "an option of a usage fault": (
+        AGREE, "man/flashnor.8", r"(?m)^8\t\\-n or", "8\t\\-c or", "options of usage faults: manual has '8 -c'"),
+    "a layout fault of another number": (
+        AGREE, "man/flashnor.8", r"(?m)^3\tthe end is", "9\tthe end is", "numbers of Layout faults: manual has '9'"),
+    "a file fault in two lines": (
+        AGREE, "man/flashnor.8", r"(?m)^5\tT\{\nhas two", "6\tT{\nhas two", "numbers of File faults: manual has '6'"),
+    "an SFDP fault of another number": (
+        AGREE, "docs/SPECIFICATION.md", r"\| 8 \| the 4 KiB", "| 9 | the 4 KiB",
+        "numbers of SFDP faults: SPECIFICATION has '9'"),
+    "a journal fault of another number": (
+        AGREE, "man/flashnor-journal.5", r"(?m)^7\tthe digest", "8\tthe digest",
+        "numbers of Journal faults: journal has '8'"),
+    "the length of a journal": (
+        AGREE, "man/flashnor-journal.5", r"takes 61 bytes", "takes 53 bytes", "bytes of a journal of no sector: 61 in"),
+    "an exit status": (
+        AGREE, "man/flashnor.8", r"(?m)^1\tThere was", "3\tThere was", "exit statuses: manual has '3'"),
+    "a result that isn't printed": (
+        AGREE, "man/flashnor.8", r"(?m)^Mode: open", "Mode: open, idle", "answers: examples has 'Mode: _, idle'"),
     "an equation that the page hasn't": (
         AGREE, "docs/STATEMENT.md", r"(?m)^most_status_writes _ unlock = .*\n", "",
         "STATEMENT.md is to have 'most_status_writes _ unlock = "),
