@@ -47,20 +47,20 @@ PLANTS = {
         ROWS, "docs/PROMISES.md", r"`honest` \(`IsNoHalt`\)", "`modelled` (`IsNoHalt`)",
         "`modelled` doesn't say `IsNoHalt`"),
     "a field of another clause": (
-        ROWS, "docs/PROMISES.md", r"`done` \(`latch`\)", "`spares` (`latch`)", "`spares` doesn't say `latch`"),
+        ROWS, "docs/PROMISES.md", r"`done` \(`latch`, ", "`spares` (`latch`, ", "`spares` doesn't say `latch`"),
     "a field that a record hasn't": (
         ROWS, "docs/PROMISES.md", r"`MayChange`: `gentle`", "`MayChange`: `gently`", "`MayChange` has no `gently`"),
     "a law among laws that isn't there": (
         ROWS, "docs/PROMISES.md", r"`restore_written_over`, `same_written_over`",
         "`restore_written_over`, `same_written`", "no clause `same_written`"),
-    "a broken promise that isn't there": (
-        ROWS, "docs/PROMISES.md", r"`write_code`, `leaves` \|", "`write_code`, `leave` |",
-        "`write_code` has no clause `leave`"),
+    "a clause of an operation that isn't there": (
+        ROWS, "docs/PROMISES.md", r"`write_status`: `leaves` \|", "`write_status`: `leave` |",
+        "`program_page` has no clause `leave`"),
     "two promises as one": (
         ROWS, "docs/PROMISES.md", r"`session`, `restore`: `unwritten`, `spares`",
         "`session`: `unwritten`, `restore`: `spares`", "two colons between names"),
     "a parenthesis that is open": (
-        ROWS, "docs/PROMISES.md", r"`done` \(`latch`\) \|", "`done` (`latch` |", "a parenthesis isn't closed"),
+        ROWS, "docs/PROMISES.md", r"`done` \(`IsReported`\) \|", "`done` (`IsReported` |", "a parenthesis isn't closed"),
     "a test that isn't there": (
         ROWS, "docs/PROMISES.md", r"`a_busy_chip_is_waited_for`", "`a_busy_chip_waits`",
         "there is no test `a_busy_chip_waits`"),
@@ -68,23 +68,22 @@ PLANTS = {
         ROWS, "docs/PROMISES.md", r"`a_busy_chip_is_waited_for`", "`stop_at_each`",
         "there is no test `stop_at_each`"),
     "a goal that isn't there": (
-        ROWS, "docs/PROMISES.md", r"\| `make sweep`", "| `make sweeps`", "the Makefile has no goal `sweeps`"),
+        ROWS, "docs/PROMISES.md", r", `make sweep`", ", `make sweeps`", "the Makefile has no goal `sweeps`"),
     "a transcript that isn't there": (
         ROWS, "docs/PROMISES.md", r"`all sets of W25Q64FV`", "`all sets of W25Q32FV`",
         "has no case `all sets of W25Q32FV`"),
-    "a wrong body that isn't there": (
-        ROWS, "docs/PROMISES.md", r"\| `protected_anywhere` \|", "| `protected_nowhere` |",
-        "there is no name `protected_nowhere`"),
+    "a definition of a premise that isn't there": (
+        ROWS, "docs/PROMISES.md", r"`AreAtRest` \|", "`AreAtRests` |", "there is no name `AreAtRests`"),
     "a premise that isn't there": (
         ROWS, "docs/PROMISES.md", r"\| `IsModelled` \|", "| `IsModeled` |", "there is no name `IsModeled`"),
     "a table without its column": (
         ROWS, "README.md", r"\| Promise \| Call, clause \|", "| Promise | Call |",
         "README.md has no table with a column 'Call, clause'"),
     "an edit that isn't there": (
-        AGREE, "docs/PROMISES.md", r"nor_save/must-fail/seal_when_stopped\.edit",
-        "nor_save/must-fail/seal_when_stoped.edit", r"docs/PROMISES.md:\d+: there is no nor_save"),
+        AGREE, "docs/PROMISES.md", r"crates/\*/must-fail", "nor_save/must-fail/seal_when_stoped.edit",
+        r"docs/PROMISES.md:\d+: there is no nor_save"),
     "an edit of another crate": (
-        PATHS, "docs/PROMISES.md", r"nor_save/must-fail/seal_when", "nor_plan/must-fail/seal_when",
+        PATHS, "docs/PROMISES.md", r"crates/\*/must-fail", "nor_plan/must-fail/seal_when_stopped.edit",
         "there is no nor_plan/must-fail/seal_when_stopped.edit"),
     "a case's file that isn't there": (
         PATHS, "docs/PROMISES.md", r"`tests/cases/layouts\.case`", "`tests/cases/layout.case`",
