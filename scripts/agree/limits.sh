@@ -27,7 +27,7 @@ limit_sizes() {
     local chip=crates/nor_chip/src/config.rt records=crates/nor_journal/src/records.rt image
     image=$(constant "$files" 'MOST_IMAGE_BYTES: u64 = ')
     limit "bytes of an image" "$image" 2 '(image is read up to|I is at most) #'
-    limit "bytes of an image that is too long" "$image" 1 'its length is told as #'
+    limit "bytes of an image that is too long" "$image" 1 'its length is reported as #'
     limit "bytes of a journal" "$(constant "$files" 'MOST_JOURNAL_BYTES: u64 = ')" 1 'journal up to #'
     limit "bytes of a layout" "$(constant "$files" 'MOST_LAYOUT_BYTES: u64 = ')" 2 \
         "layout('s file)? (has at most|of more than) #"
