@@ -25,7 +25,7 @@ from sources import CRATES, TOP
 PAGES = "docs/PROMISES.md", "docs/TESTING.md", "README.md"
 # The heads of the columns that tell where a promise stands, and of those that name tests. TESTING.md must have the
 # first of the latter, each other page one of the former.
-PROMISING = "Call, clause", "The promise that it breaks"
+PROMISING = ("Call, clause",)
 TESTING = "Test", "Command"
 NAME = re.compile(r"[A-Za-z_]\w*(::\w+)?")
 JOINING = set(", and with".split()) | {","}

@@ -1,4 +1,4 @@
-"""The examples of README.md and of the manual pages as cases.
+"""The examples of README.md, of the FAQ and of the manual pages as cases.
 
 The lines behind `$` are the steps, in the order in which they stand, and what stands behind them is what both streams
 print. chip.bin and new.bin are those of `make files`, as the pages say, and a file that a page shows by `cat` is the
@@ -8,12 +8,11 @@ import re
 
 from grammar import Case, File, Step
 
-# The pages, first the one that isn't a manual page.
-PAGES = ["README.md", "man/flashnor.8", "man/flashnor-journal.5"]
+PAGES = ["README.md", "docs/FAQ.md", "man/flashnor.8", "man/flashnor-journal.5"]
 FAULT = re.compile(r"(Error|File fault|Layout fault|Usage fault) ")
 
 
-def of_readme(text):
+def of_markdown(text):
     """Returns the lines within the examples of a page of Markdown."""
     return [line for block in text.split("```")[1::2] for line in block.split("\n")[1:]]
 
@@ -46,7 +45,8 @@ def case_of(name, lines):
     return case
 
 
-def cases(readme, *manuals):
-    """Returns a case for each of the pages."""
-    found = [case_of("README.md", of_readme(readme.read_text(encoding="utf-8")))]
-    return found + [case_of(it.name, of_manual(it.read_text(encoding="utf-8"))) for it in manuals]
+def cases(*files):
+    """Returns a case for each of the pages, whose texts are in these files."""
+    texts = [file.read_text(encoding="utf-8") for file in files]
+    kinds = [of_markdown if page.endswith(".md") else of_manual for page in PAGES]
+    return [case_of(page.rpartition("/")[2], kind(text)) for page, kind, text in zip(PAGES, kinds, texts)]
