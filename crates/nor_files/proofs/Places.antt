@@ -1,9 +1,9 @@
 -- The places of files in a list, by their names.
 use Rattle.std.proofs.Common.{◌≡◌, ◌≢◌, ◌∙◌, ◌+◌, ◌<◌, ℕ, suc, zero, Bool, true, false, cond, List, [], ◌∷◌, ◌++◌}
-use Rattle.std.proofs.Common.{Option, None, Some, refl, sym, ap, arith, length, get_or, set, position}
+use Rattle.std.proofs.Common.{Option, None, Some, refl, sym, ap, arith, length, get_or, not, set, position}
 use Rattle.std.specs.List.{position_or_len}
 use Rattle.std.specs.Cmp.Lexicographic.{same_text}
-use Rattle.std.proofs.lemmas.Bool.{lt-ltb, cond_both, false_from_ne_true}
+use Rattle.std.proofs.lemmas.Bool.{lt-ltb, cond_both, false_from_ne_true, false≢true}
 use Rattle.std.proofs.lemmas.Bool.Decides.{nat_tests}
 use Rattle.std.proofs.lemmas.Cmp.{nat_list_eq_equiv}
 use Rattle.std.proofs.lemmas.List.{get_or-set_same, get_or_append_left, length-append, length-set}
@@ -12,7 +12,8 @@ use Rattle.std.proofs.lemmas.List.Quantifiers.{position-Some}
 use Rattle.std.proofs.lemmas.List.Recursion as recursion
 use Rattle.std.proofs.lemmas.List.Sums.{fails_before_first, position_or_len_is}
 use Rattle.std.proofs.Math.Seq.{get_or-append_seam}
-use Rattle.nor_files.specs.Files.{Name}
+use Rattle.nor_files.specs.Files.{AreApart, Name}
+use Rattle.nor_files.specs.Memory.{memory_nature}
 use Rattle.nor_files.specs.Named.{file_of, is_name, is_lent_there, is_named, is_there}
 use Rattle.nor_files.specs.Stored.{file_in, missing}
 use Rattle.nor_files.specs.declared.stored.Stored.{Stored}
@@ -92,12 +93,18 @@ set_there any (first ∷ files) zero now d same = ap (λ named. cond named true 
 set_there any (first ∷ files) (suc at) now d same =
     ap (cond (is_named any first) true) (set_there any files at now d same)
 
--- The file of that name is another now, and each other one is the same.
+-- The file of that name is another now, and each file whose name is apart from it is the same.
 pub record IsUpdated (name : Name) (old new : List Stored) (was now : Stored) : Type 0 where
   pub before : file_of old name ≡ file_in was
   pub after : file_of new name ≡ file_in now
-  pub others : (other : Name) → other ≢ name → file_of new other ≡ file_of old other
+  pub others : (other : Name) → AreApart memory_nature name other → file_of new other ≡ file_of old other
   pub there : is_there new name ≡ true
+
+-- names that are apart differ
+apart_differ : (name other : Name) → AreApart memory_nature name other → other ≢ name
+apart_differ name other apart same =
+    let is : is_name name other ≡ true = rw same (nat_list_eq_equiv.refl name) in
+    false≢true (sym (ap not is) ∙ (apart refl).0)
 
 other_named : (name other : Name) (stored : Stored) → is_named name stored ≡ true → other ≢ name
     → is_named other stored ≡ false
@@ -123,8 +130,10 @@ module _ (files : List Stored) (at : ℕ) (was now : Stored) (place : was ≡ ge
         before = found_at name files at was is place;
         after = found_at name (set files at now) at now (still_at name at is)
             (sym (get_or-set_same files at now now first.0));
-        others = λ other ne. recursion.found_set_other (λ all. file_of all other) (is_named other) file_in missing refl
-            (λ _ _. refl) files at now was (other_named name other (get_or files at was) first.1 ne)
+        others = λ other apart.
+            let ne = apart_differ name other apart in
+            recursion.found_set_other (λ all. file_of all other) (is_named other) file_in missing refl (λ _ _. refl) files
+            at now was (other_named name other (get_or files at was) first.1 ne)
             (other_named name other now (still_named name ∙ first.1) ne);
         there = looked_up name (λ all. is_there all name) (λ _. true) false refl (λ _ _. refl) (set files at now) at now
             (still_at name at is) (sym (get_or-set_same files at now now first.0));
@@ -142,6 +151,6 @@ pub updated_since : {name : Name} {old kept new : List Stored} {was now : Stored
 updated_since {name} same is = record {
   before = sym (same name) ∙ is.before;
   after = is.after;
-  others = λ other ne. is.others other ne ∙ same other;
+  others = λ other apart. is.others other apart ∙ same other;
   there = is.there;
 }

@@ -1,8 +1,8 @@
 -- What the calls on files do, where these keep the law.
-use Rattle.std.specs.Prelude.{◌≡◌, ◌≤◌, ◌+◌, ◌-◌, ◌⊎◌, ◌++◌, ℕ, Bool, true, false, List, [], Option, None, Some, Result, Ok, Err}
+use Rattle.std.specs.Prelude.{◌≡◌, ◌≤◌, ◌+◌, ◌-◌, ◌⊎◌, ◌++◌, ℕ, Bool, true, false, List, [], None, Some, Result, Ok, Err}
 use Rattle.std.specs.Prelude.{drop, is_some, length, max, option_map, replicate, slice_index, take}
 use Rattle.nor_journal.specs.Vault.{VaultState}
-use Rattle.nor_files.specs.Files.{AllStay, FilesState, Found, IsKnown, IsSettled, Name, OthersStay, Stays, View, is_lawful}
+use Rattle.nor_files.specs.Files.{AllStay, FilesState, Found, IsKnown, IsSettled, Name, OthersStay, Stays, View}
 
 -- ---- reading
 
@@ -25,7 +25,7 @@ abbrev pub Counts : {T E : Type 0} → Result T E → (old new : FilesState) →
 Counts (Ok _) old new = Succeeds old new
 Counts (Err _) old new = Fails old new
 
--- A call on that one file, which hands no vault out.
+-- A call on that one file, which hands no vault out. Each file whose name is apart from it stays.
 pub record WorksOn {T E : Type 0} (name : Name) (result : Result T E) (old new : FilesState) : Type 0 where
   pub counts : Counts result old new
   pub lent : new.lent ≡ old.lent
@@ -58,6 +58,10 @@ pub record IsPlaced (name : Name) (old new : FilesState) : Type 0 where
 -- nothing may be left of the file that couldn't be left before
 abbrev pub LeavesNoMore : Name → (old new : FilesState) → Type 0
 LeavesNoMore name old new = (left : Found) → new.may_leave name left → old.may_leave name left
+
+-- Nothing may be left of any file that could not be left before.
+abbrev pub LeaveNoMore : (old new : FilesState) → Type 0
+LeaveNoMore old new = (name : Name) → LeavesNoMore name old new
 
 -- Nothing may be left of the file that could not be left before, except an empty file if it was missing.
 abbrev pub LeavesOrEmpty : Name → (old new : FilesState) → Type 0

@@ -6,7 +6,7 @@ use Rattle.nor_files.specs.Files.{FilesState}
 abbrev pub unknown : FilesState
 unknown = record {
   view = record {
-    nature = record { lawful = false; fails = λ failure. true };
+    nature = record { lawful = false; fails = λ failure. true; apart = λ one other. false };
     out = λ name. false;
     seen = λ name. None;
   };

@@ -1,5 +1,5 @@
 -- What contracts see of the files of a run, by their names.
-use Rattle.std.specs.Prelude.{◌≡◌, ◌≢◌, ℕ, Bool, true, false, List, Option}
+use Rattle.std.specs.Prelude.{◌≡◌, ℕ, Bool, true, false, List, Option}
 
 -- a name, by its bytes
 abbrev pub Name : Type 0
@@ -34,6 +34,9 @@ pub record Nature : Type 0 where
   pub lawful : Bool
   -- what goes wrong, at whatever time
   pub fails : Failure → Bool
+  -- whether two names refer to different files: a call on the first leaves the second as it is. A file may have several
+  -- names (`a` and `./a`, links), so two names that differ may be names of one file
+  pub apart : Name → Name → Bool
 
 -- What reads give.
 pub record View : Type 0 where
@@ -56,6 +59,11 @@ pub record FilesState : Type 1 where
 
 abbrev pub is_lawful : View → Bool
 is_lawful view = view.nature.lawful
+
+-- If the files keep the law, the two names refer to different files, whichever of them is given first.
+abbrev pub AreApart : Nature → (one other : Name) → Type 0
+AreApart nature one other =
+    nature.lawful ≡ true → (nature.apart one other ≡ true) × (nature.apart other one ≡ true)
 
 -- The files keep the law, and that one is in nobody's hands.
 pub record IsKnown (name : Name) (view : View) : Type 0 where
@@ -82,9 +90,13 @@ pub record AreUntouched (old new : FilesState) : Type 0 where
 abbrev pub AllStay : (old new : FilesState) → Type 0
 AllStay old new = (name : Name) → Stays name old new
 
--- each but that one is
+-- On lawful files, each file stays that has no borrowed vault or log.
+abbrev pub KnownStay : (old new : FilesState) → Type 0
+KnownStay old new = (name : Name) → IsKnown name old.view → Stays name old new
+
+-- Each file stays whose name is apart from that one. Nothing is said about other names of the same file.
 abbrev pub OthersStay : Name → (old new : FilesState) → Type 0
-OthersStay name old new = (other : Name) → other ≢ name → Stays other old new
+OthersStay name old new = (other : Name) → AreApart old.view.nature name other → Stays other old new
 
 -- The file is just this, and stays so whatever becomes of the machine.
 pub record IsSettled (name : Name) (content : Found) (files : FilesState) : Type 0 where

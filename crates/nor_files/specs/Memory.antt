@@ -1,16 +1,19 @@
 -- Files in memory, as contracts see them.
-use Rattle.std.specs.Prelude.{ℕ, true, List, Option, option_map}
-use Rattle.nor_files.specs.Files.{FilesState, Name}
-use Rattle.nor_files.specs.Named.{file_of}
+use Rattle.std.specs.Prelude.{ℕ, true, List, Option, not, option_map}
+use Rattle.nor_files.specs.Files.{FilesState, Name, Nature}
+use Rattle.nor_files.specs.Named.{file_of, is_name}
 use Rattle.nor_files.specs.Stored.{MayLeave}
 use Rattle.nor_files.specs.declared.memory.Memory.{Memory}
 use Rattle.nor_files.specs.declared.stored.Stored.{Stored}
 
--- files that keep the law; anything may go wrong with them
+-- files that keep the law, each of which has one name; anything may go wrong with them
+abbrev pub memory_nature : Nature
+memory_nature = record { lawful = true; fails = λ failure. true; apart = λ one other. not (is_name one other) }
+
 abbrev pub state_of : List Stored → (left : ℕ) (lent : Option Name) → FilesState
 state_of files left lent = record {
   view = record {
-    nature = record { lawful = true; fails = λ failure. true };
+    nature = memory_nature;
     out = λ name. (file_of files name).out;
     seen = λ name. (file_of files name).seen;
   };

@@ -89,13 +89,18 @@ impl From<MakeFault> for io::Error {
 /// and leaves what it says of that; and at each moment the state says what a machine that is lost then may leave.
 /// A promise over every lawful store speaks of each moment at which a run can be cut off, since a call with none left
 /// fails, and changes nothing.
+///
+/// A file may have several names. A call on a name leaves each file whose name is apart from it as it was, and
+/// `is_one_file` returns which names are apart. Nothing is promised about other names of the same file, except that a
+/// sync that succeeds does not change what a read gives of them.
 pub trait Store: AllocGlobal {
-    ghost use Rattle.std.specs.Prelude.{◌≡◌, ◌⊎◌, true, None, IfErr, IfOk, Ok, OnErr, OnOk, option_map};
+    ghost use Rattle.std.specs.Prelude.{◌≡◌, ◌⊎◌, false, true, None, IfErr, IfOk, Ok, OnErr, OnOk, option_map};
     ghost use Rattle.nor_journal.specs.Vault.{IsFresh};
-    ghost use Rattle.nor_files.specs.Files.{AreUntouched, FilesState, IsKnown, Name, OthersStay, Stays, is_lawful};
+    ghost use Rattle.nor_files.specs.Files.{AreApart, AreUntouched, FilesState, IsKnown, KnownStay, Name};
+    ghost use Rattle.nor_files.specs.Files.{OthersStay, Stays, is_lawful};
     ghost use Rattle.nor_files.specs.Files.Failure.{Printed, Shared, There, Unread, Unwritten};
-    ghost use Rattle.nor_files.specs.Calls.{Fails, Holds, Lends, LendsNone, Makes, Places, Reads, SetsLength, Syncs};
-    ghost use Rattle.nor_files.specs.Calls.{TakesBack, WorksOn, WritesOver};
+    ghost use Rattle.nor_files.specs.Calls.{Fails, Holds, LeaveNoMore, Lends, LendsNone, Makes, Places, Reads};
+    ghost use Rattle.nor_files.specs.Calls.{SetsLength, Syncs, TakesBack, WorksOn, WritesOver};
     ghost use Rattle.nor_files.specs.Faults.{IsHoldFault, IsMakeFault};
 
     ghost state: { Self → FilesState };
@@ -106,11 +111,14 @@ pub trait Store: AllocGlobal {
     /// A file that is written in pieces.
     type Log: Write + Drop;
 
-    /// Whether the two names are one file: the same text, the same file of the system, or the same name in the same
-    /// folder if no file is there yet. An error is the name that can't be looked at.
+    /// Returns whether the two names refer to one file: the same text, the same file of the system, or the same name in
+    /// the same directory if no file exists yet. If not, they are apart: on lawful files a call on one of them leaves the
+    /// other as it is. Returns the name as the error if it can't be looked at.
     fn is_one_file<'n>(&self, one: &'n str, other: &'n str) -> Result<bool, &'n str>
         ensures shared { IfOk result (λ is_one. is_one ≡ true
             → (state self.now).view.nature.fails (Shared one.now other.now) ≡ true) }
+        ensures apart { IfOk result (λ is_one. is_one ≡ false
+            → AreApart (state self.now).view.nature one.now other.now) }
         ensures differs { one.now ≡ other.now → result ≡ Ok true }
         ensures either { IfErr result (λ name. name.now ≡ one.now ⊎ name.now ≡ other.now) }
         ensures unseen { IfErr result (λ name. (state self.now).view.nature.fails (Unread name.now) ≡ true) };
@@ -151,20 +159,25 @@ pub trait Store: AllocGlobal {
         ensures same { AreUntouched (state self.old) (state self.new) }
         ensures fails { IfErr result (IsHoldFault (state self.old).view.nature name.now) };
 
-    /// Syncs what the file of this name has: its bytes and its length.
+    /// Syncs what the file of this name has: its bytes and its length. If this succeeds, a read gives the same of every
+    /// name, including the file's other names.
     fn sync(&mut self, name: &str) -> io::Result<()>
         ensures nature { (state self.new).view.nature ≡ (state self.old).view.nature }
         ensures alone { is_lawful (state self.old).view ≡ true
             → WorksOn name.now result (state self.old) (state self.new) }
+        ensures stay { OnOk result (KnownStay (state self.old) (state self.new)) }
+        ensures no_more { is_lawful (state self.old).view ≡ true
+            → LeaveNoMore (state self.old) (state self.new) }
         ensures syncs { IsKnown name.now (state self.old).view
             → Syncs name.now result (state self.old) (state self.new) }
         ensures fails { OnErr result ((state self.old).view.nature.fails (Unwritten name.now) ≡ true) };
 
-    /// Syncs the folder of the file of this name: whether it is there.
+    /// Syncs the directory of the file of this name: whether the file exists. A read gives the same of every name.
     fn sync_folder(&mut self, name: &str) -> io::Result<()>
         ensures nature { (state self.new).view.nature ≡ (state self.old).view.nature }
         ensures alone { is_lawful (state self.old).view ≡ true
             → WorksOn name.now result (state self.old) (state self.new) }
+        ensures stay { KnownStay (state self.old) (state self.new) }
         ensures places { IsKnown name.now (state self.old).view
             → Places name.now result (state self.old) (state self.new) }
         ensures fails { OnErr result ((state self.old).view.nature.fails (Unwritten name.now) ≡ true) };
