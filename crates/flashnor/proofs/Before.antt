@@ -1,8 +1,8 @@
 -- What a run leaves of files that ends before its call, or whose task doesn't change the chip.
-use Rattle.std.proofs.Common.{◌≡◌, ◌∙◌, Option, None, Some, arith, false, inl, inr, refl, sym, true, true≢false}
+use Rattle.std.proofs.Common.{◌≡◌, ◌∙◌, Option, None, Some, arith, false, inl, inr, refl, subst, sym, true, true≢false}
 use Rattle.std.specs.Borrow.{Bor}
-use Rattle.nor_files.specs.Files.{AreAtRest, FilesState, Name, Stays}
-use Rattle.nor_files.specs.Calls.{LeavesNoMore, LeavesOrEmpty}
+use Rattle.nor_files.specs.Calls.{LeaveNoMore, LeavesNoMore, LeavesOrEmpty}
+use Rattle.nor_files.specs.Files.{AreAtRest, FilesState, KnownStay, Name, Nature, Stays}
 use Rattle.nor_words.specs.Text.{Text}
 use Rattle.nor_words.specs.declared.job.ChipJob.{ChipJob}
 use Rattle.nor_words.specs.declared.job.JournalUse.{JournalUse}
@@ -10,12 +10,11 @@ use Rattle.nor_words.specs.declared.job.JournalUse.TheVariants as uses
 use Rattle.nor_words.specs.declared.job.Task.{Task}
 use Rattle.nor_words.specs.declared.job.Task.TheVariants as task
 use Rattle.nor_words.specs.declared.programmer.Programmer.{Programmer}
-use Rattle.flashnor.specs.Holding.{KnownStay, LeaveNoMore}
 use Rattle.flashnor.specs.Roles.{HasOwnTrace, HaveOneRole, named_by}
 use Rattle.flashnor.specs.Run.{KeepsChange, KeepsFiles, StayBut}
 use Rattle.flashnor.specs.Stored.{AreTwo, IsNot, LeavesNoMoreOf, MakesNothing, StaysOf}
 use Rattle.flashnor.specs.Tasks.{journal_by, journal_of, keeps_journal, made_by, puts_back}
-use Rattle.flashnor.proofs.Stays.{StayApart, apart, known_after, known_at_rest, not_that, stays_same}
+use Rattle.flashnor.proofs.Stays.{StayApart, apart, known_after, known_at_rest, not_after, not_that, stays_same}
 
 -- a file that is named is one of all
 pub leaves_of : (old new : FilesState) (name : Option (Bor Text)) → LeaveNoMore old new → LeavesNoMoreOf name old new
@@ -28,39 +27,51 @@ same_of files (Some name) = stays_same name.now files
 
 -- ---- the file that a task makes is no file of the chip
 
-two_made : (done : Task) (one : Option (Bor Text)) → AreTwo one (named_by done).output
-    → AreTwo one (named_by done).journal → AreTwo one (made_by done)
-two_made done one output journal = grind arith
+two_none : (nature : Nature) (one : Option (Bor Text)) → AreTwo nature one None
+two_none nature None = tt
+two_none nature (Some one) = tt
+
+two_made : (nature : Nature) (done : Task) (one : Option (Bor Text)) → AreTwo nature one (named_by done).output
+    → AreTwo nature one (named_by done).journal → AreTwo nature one (made_by done)
+two_made nature (task.Read file regions) one output journal = output
+two_made nature (task.Change change) one output journal = journal
+two_made nature _ one output journal = two_none nature one
 
 -- nor is the trace the journal that a change keeps
-pub two_kept : (done : Task) (one : Option (Bor Text)) → AreTwo one (named_by done).journal
-    → AreTwo one (journal_by done)
-two_kept done one two = grind arith
+pub two_kept : (nature : Nature) (done : Task) (one : Option (Bor Text)) → AreTwo nature one (named_by done).journal
+    → AreTwo nature one (journal_by done)
+two_kept nature (task.Change change) one two = two
+two_kept nature _ one two = two_none nature one
 
-module _ (job : ChipJob) (roles : HaveOneRole job) where
-  pub image_made : AreTwo job.programmer.image (made_by job.task)
-  image_made = two_made job.task job.programmer.image roles.image_output roles.image_journal
+-- files that are apart stay so
+pub roles_after : {old new : Nature} (job : ChipJob) → new ≡ old → HaveOneRole old job → HaveOneRole new job
+roles_after job same roles = subst (λ (n : Nature). HaveOneRole n job) (sym same) roles
 
-  pub status_made : AreTwo job.programmer.status (made_by job.task)
-  status_made = two_made job.task job.programmer.status roles.status_output roles.status_journal
+module _ (nature : Nature) (job : ChipJob) (roles : HaveOneRole nature job) where
+  pub image_made : AreTwo nature job.programmer.image (made_by job.task)
+  image_made = two_made nature job.task job.programmer.image roles.image_output roles.image_journal
 
-  -- where all but the trace and that one stay
-  pub stays_but : (old new : FilesState) → StayApart job.programmer.trace (made_by job.task) old new
-      → StayBut job.programmer (made_by job.task) old new
-  stays_but old new stay = record {
-    image = apart (λ n. StaysOf n old new) tt job.programmer.image job.programmer.trace (made_by job.task)
-        roles.image_trace image_made (λ file. stay file.now);
-    status = apart (λ n. StaysOf n old new) tt job.programmer.status job.programmer.trace (made_by job.task)
-        roles.status_trace status_made (λ file. stay file.now);
-    others = stay;
-  }
+  pub status_made : AreTwo nature job.programmer.status (made_by job.task)
+  status_made = two_made nature job.task job.programmer.status roles.status_output roles.status_journal
+
+-- where all but the trace and that one stay
+pub stays_but : (job : ChipJob) (old new : FilesState) → HaveOneRole old.view.nature job
+    → StayApart job.programmer.trace (made_by job.task) old new → StayBut job.programmer (made_by job.task) old new
+stays_but job old new roles stay = record {
+  image = apart old.view.nature (λ n. StaysOf n old new) tt job.programmer.image job.programmer.trace (made_by job.task)
+      roles.image_trace (image_made old.view.nature job roles) (λ file. stay file.now);
+  status = apart old.view.nature (λ n. StaysOf n old new) tt job.programmer.status job.programmer.trace
+      (made_by job.task) roles.status_trace (status_made old.view.nature job roles) (λ file. stay file.now);
+  others = stay;
+}
 
 -- ---- where nothing more may be left, but an empty file for a journal
 
 module _ (programmer : Programmer) (old new : FilesState) (image : LeavesNoMoreOf programmer.image old new)
     (status : LeavesNoMoreOf programmer.status old new) where
   keeps_begun : (kept : JournalUse) → (keeps_journal kept ≡ false → StayBut programmer (journal_of kept) old new)
-      → ((any : Name) → IsNot programmer.trace any → IsNot (journal_of kept) any → LeavesNoMore any old new)
+      → ((any : Name) → IsNot old.view.nature programmer.trace any → IsNot old.view.nature (journal_of kept) any
+      → LeavesNoMore any old new)
       → ((file : Bor Text) → journal_of kept ≡ Some file → LeavesOrEmpty file.now old new)
       → KeepsChange programmer kept old new
   keeps_begun (uses.Journal file) still leave empty =
@@ -68,7 +79,8 @@ module _ (programmer : Programmer) (old new : FilesState) (image : LeavesNoMoreO
   keeps_begun (uses.Rehearse stops) still leave empty = still refl
 
   keeps_unmade : (done : Task) → (puts_back done ≡ false → StayBut programmer (made_by done) old new)
-      → ((any : Name) → IsNot programmer.trace any → IsNot (made_by done) any → LeavesNoMore any old new)
+      → ((any : Name) → IsNot old.view.nature programmer.trace any → IsNot old.view.nature (made_by done) any
+      → LeavesNoMore any old new)
       → ((journal : Bor Text) → done ≡ task.Restore journal → LeavesNoMore journal.now old new)
       → ((file : Bor Text) → journal_by done ≡ Some file → LeavesOrEmpty file.now old new)
       → KeepsFiles programmer done old new
@@ -95,27 +107,26 @@ keeps_still files programmer done =
     (λ any _ _. (same any).leaves) (λ journal _. (same journal.now).leaves) (λ file _ left can. inl can)
 
 -- a session whose journal's file is there already, and that wrote nothing but its trace
-two_none : (one : Option (Bor Text)) → AreTwo one None
-two_none one = grind arith
-
 puts_journal : (done : Task) (file : Bor Text) → journal_by done ≡ Some file → puts_back done ≡ true
 puts_journal done file is = grind arith
 
 pub keeps_existing : (job : ChipJob) (old new : FilesState) (file : Bor Text) → journal_by job.task ≡ Some file
-    → HasOwnTrace job → ((any : Name) → IsNot job.programmer.trace any → Stays any old new)
+    → HasOwnTrace old.view.nature job
+    → ((any : Name) → IsNot old.view.nature job.programmer.trace any → Stays any old new)
     → KeepsFiles job.programmer job.task old new
 keeps_existing job old new file is own stay =
-    let leave : (any : Name) → IsNot job.programmer.trace any → LeavesNoMore any old new =
+    let nature = old.view.nature in
+    let leave : (any : Name) → IsNot old.view.nature job.programmer.trace any → LeavesNoMore any old new =
     λ any not. (stay any not).leaves in
     keeps_unmade job.programmer old new
-    (apart (λ n. LeavesNoMoreOf n old new) tt job.programmer.image job.programmer.trace None own.image
-    (two_none job.programmer.image) (λ one not _. leave one.now not))
-    (apart (λ n. LeavesNoMoreOf n old new) tt job.programmer.status job.programmer.trace None own.status
-    (two_none job.programmer.status) (λ one not _. leave one.now not))
+    (apart nature (λ n. LeavesNoMoreOf n old new) tt job.programmer.image job.programmer.trace None own.image
+    (two_none nature job.programmer.image) (λ one not _. leave one.now not))
+    (apart nature (λ n. LeavesNoMoreOf n old new) tt job.programmer.status job.programmer.trace None own.status
+    (two_none nature job.programmer.status) (λ one not _. leave one.now not))
     job.task (λ no. absurd (true≢false (sym (puts_journal job.task file is) ∙ no))) (λ any not _. leave any not)
-    (λ journal it. leave journal.now (not_that job.programmer.trace journal (rw it at own.journal)))
-    (λ journal it left can. inl (leave journal.now
-    (not_that job.programmer.trace journal (rw it at (two_kept job.task job.programmer.trace own.journal))) left can))
+    (λ journal it. leave journal.now (not_that nature job.programmer.trace journal (rw it at own.journal)))
+    (λ journal it left can. inl (leave journal.now (not_that nature job.programmer.trace journal
+    (rw it at (two_kept nature job.task job.programmer.trace own.journal))) left can))
 
 module _ (old mid new : FilesState) (rest : AreAtRest old) (nature : mid.view.nature ≡ old.view.nature)
     (known : KnownStay old mid) (first : LeaveNoMore old mid) where
@@ -131,17 +142,22 @@ module _ (old mid new : FilesState) (rest : AreAtRest old) (nature : mid.view.na
       ]
 
   -- a call that wasn't made, for its trace or for the files of its task
-  pub keeps_before : (job : ChipJob) → HaveOneRole job → puts_back job.task ≡ true
+  pub keeps_before : (job : ChipJob) → HaveOneRole old.view.nature job → puts_back job.task ≡ true
       → StayApart job.programmer.trace (made_by job.task) mid new → MakesNothing (journal_by job.task) mid new
       → KeepsFiles job.programmer job.task old new
   keeps_before job roles puts stay makes =
-      let leave : (any : Name) → IsNot job.programmer.trace any → IsNot (made_by job.task) any → LeavesNoMore any old new =
-      λ any traced other left can. first any left ((stay any traced other).leaves left can) in
+      let was = old.view.nature in
+      let leave : (any : Name) → IsNot old.view.nature job.programmer.trace any
+      → IsNot old.view.nature (made_by job.task) any → LeavesNoMore any old new =
+      λ any traced other left can.
+      let stays = stay any (not_after job.programmer.trace any nature traced)
+      (not_after (made_by job.task) any nature other) in
+      first any left (stays.leaves left can) in
       keeps_unmade job.programmer old new
-      (apart (λ n. LeavesNoMoreOf n old new) tt job.programmer.image job.programmer.trace (made_by job.task)
-      roles.image_trace (image_made job roles) (λ file. leave file.now))
-      (apart (λ n. LeavesNoMoreOf n old new) tt job.programmer.status job.programmer.trace (made_by job.task)
-      roles.status_trace (status_made job roles) (λ file. leave file.now))
+      (apart was (λ n. LeavesNoMoreOf n old new) tt job.programmer.image job.programmer.trace (made_by job.task)
+      roles.image_trace (image_made was job roles) (λ file. leave file.now))
+      (apart was (λ n. LeavesNoMoreOf n old new) tt job.programmer.status job.programmer.trace (made_by job.task)
+      roles.status_trace (status_made was job roles) (λ file. leave file.now))
       job.task (λ no. absurd (true≢false (sym puts ∙ no))) leave
-      (λ file is. leave file.now (not_that job.programmer.trace file (rw is at roles.trace_journal)) (rw is tt))
+      (λ file is. leave file.now (not_that was job.programmer.trace file (rw is at roles.trace_journal)) (rw is tt))
       (λ file is. or_empty (journal_by job.task) file is makes)

@@ -1,65 +1,16 @@
 -- What the reading of the chip's files leaves of all files.
-use Rattle.std.proofs.Common.{◌≡◌, ◌≢◌, ◌+◌, ◌⊎◌, ◌∙◌, ℕ, Bool, Option, None, Some, Result, Ok, Err, IsSomeAnd, ap}
-use Rattle.std.proofs.Common.{arith, bytes_eq, false, inl, inr, is_some, option_map, refl, sym, take, true}
+use Rattle.std.proofs.Common.{◌≡◌, ◌+◌, ◌∙◌, ℕ, Bool, Option, None, Some, Ok, IsSomeAnd, ap, arith, false, inl, inr}
+use Rattle.std.proofs.Common.{is_some, option_map, refl, sym, take}
 use Rattle.std.specs.Borrow.{Bor}
-use Rattle.std.proofs.lemmas.Bool.{cases_Bool, false≢true}
-use Rattle.std.proofs.lemmas.Slice.Eq.{bytes_eq-Decides}
-use Rattle.nor_files.specs.Calls.{Holds, IsPlaced, IsSynced, LeavesNoMore, Places, Reads, WorksOn}
-use Rattle.nor_files.specs.Files.{AreAtRest, FilesState, Found, IsKnown, IsSettled, Name, is_lawful}
+use Rattle.nor_files.specs.Calls.{Holds, IsPlaced, Reads}
+use Rattle.nor_files.specs.Files.{FilesState, Found, IsKnown, IsSettled, KnownStay, Name}
 use Rattle.nor_words.specs.Text.{Text}
 use Rattle.flashnor.specs.Files.{IsHoldingFault}
-use Rattle.flashnor.specs.Holding.{KnownStay, LeaveNoMore}
 use Rattle.flashnor.specs.Stored.{IsFileFound}
 use Rattle.flashnor.specs.declared.messages.Fault.{Fault}
 use Rattle.flashnor.specs.declared.messages.Fault.TheVariants as end
 use Rattle.flashnor.specs.declared.messages.FileFault.TheVariants as file
-use Rattle.flashnor.proofs.Stays.{known_after, known_at_rest}
-
--- ---- files stay
-
-same_name : (one other : Name) → (one ≡ other) ⊎ (one ≢ other)
-same_name one other = elim (cases_Bool (bytes_eq one other)) [
-  | inl same ↦ inl ((bytes_eq-Decides one other).0 same)
-  | inr differ ↦ inr (λ is. false≢true (sym differ ∙ (bytes_eq-Decides one other).1 is))
-]
-
--- after a call on one file those whose name is another stay, and that one as is shown
-alone_stay : {T E : Type 0} {name : Name} {result : Result T E} {old new : FilesState}
-    → (is_lawful old.view ≡ true → WorksOn name result old new)
-    → (IsKnown name old.view → new.view.seen name ≡ old.view.seen name)
-    → (IsKnown name old.view → LeavesNoMore name old new) → KnownStay old new
-alone_stay {name = name} alone seen leaves any known = elim (same_name any name) [
-  | inl same ↦
-      let is = rw same at known in
-      rw same (record { out = (alone known.lawful).out; seen = seen is; leaves = leaves is })
-  | inr differ ↦ (alone known.lawful).others any differ
-]
-
-module _ {T E : Type 0} {name : Name} {old new : FilesState} where
-  -- a file is synced
-  pub synced_stay : {one : T} → old.may_leave name (old.view.seen name)
-      → (is_lawful old.view ≡ true → WorksOn {E = E} name (Ok one) old new)
-      → (IsKnown name old.view → IsSynced name old new) → KnownStay old new
-  synced_stay may alone syncs = alone_stay alone (λ known. (syncs known).seen)
-      (λ known left can. elim ((syncs known).leaves left can) [
-        | inl is ↦ rw is may
-        | inr missing ↦ rw missing.0 missing.1
-      ])
-
-  pub unsynced_no_more : {error : E} → AreAtRest old
-      → (is_lawful old.view ≡ true → WorksOn {T = T} name (Err error) old new)
-      → (IsKnown name old.view → LeavesNoMore name old new) → LeaveNoMore old new
-  unsynced_no_more rest alone no_more any = elim (same_name any name) [
-    | inl same ↦ rw same (no_more (known_at_rest rest name))
-    | inr differ ↦ ((alone rest.lawful).others any differ).leaves
-  ]
-
-  -- its folder is, or not
-  pub placed_stay : (result : Result T E) → (is_lawful old.view ≡ true → WorksOn name result old new)
-      → (IsKnown name old.view → Places name result old new) → KnownStay old new
-  placed_stay (Ok _) alone places =
-      alone_stay alone (λ known. (places known).seen) (λ known left can. ((places known).leaves left can).0)
-  placed_stay (Err _) alone stays = alone_stay alone (λ known. (stays known).seen) (λ known. (stays known).leaves)
+use Rattle.flashnor.proofs.Stays.{known_after}
 
 -- ---- a file that isn't there
 

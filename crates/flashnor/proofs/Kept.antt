@@ -47,8 +47,8 @@ use Rattle.flashnor.specs.declared.holding.Held.{Held}
 use Rattle.flashnor.specs.declared.holding.Unwritten.{Unwritten}
 use Rattle.flashnor.proofs.Before.{image_made, status_made}
 use Rattle.flashnor.proofs.Shown.{size_with}
-use Rattle.flashnor.proofs.Stays.{StayApart, known_after, known_at_rest, lawful_after, not_that, rest_on, settled_after}
-use Rattle.flashnor.proofs.Stays.{stays_on}
+use Rattle.flashnor.proofs.Stays.{StayApart, known_after, known_at_rest, lawful_after, not_after, not_that, rest_on}
+use Rattle.flashnor.proofs.Stays.{settled_after, stays_on}
 use Rattle.flashnor.proofs.Traced.{missing_before, reads_before}
 
 -- ---- as many bytes as a file is to have
@@ -151,17 +151,21 @@ setup_done _ amid after programmer named old new outcome puts does = absurd cc
 -- and its journal is kept while the chip's files are written
 module _ (programmer : Programmer) (s2 s3 : FilesState) (nature : s3.view.nature ≡ s2.view.nature)
     (last : is_lawful s2.view ≡ true → StayApart programmer.image programmer.status s2 s3) where
-  kept_in_after : (kept : JournalUse) (vault vault' : VaultState) → AreTwo programmer.image (journal_of kept)
-      → AreTwo programmer.status (journal_of kept) → IsKeptIn kept vault vault' s2 → IsKeptIn kept vault vault' s3
+  kept_in_after : (kept : JournalUse) (vault vault' : VaultState)
+      → AreTwo s2.view.nature programmer.image (journal_of kept)
+      → AreTwo s2.view.nature programmer.status (journal_of kept) → IsKeptIn kept vault vault' s2
+      → IsKeptIn kept vault vault' s3
   kept_in_after (uses.Journal file) vault vault' one other before = λ lawful.
       let was' = lawful_after (sym nature) lawful in
-      kept_after (last was' file.now (not_that programmer.image file one) (not_that programmer.status file other))
-      (before was')
+      kept_after (last was' file.now (not_that s2.view.nature programmer.image file one)
+      (not_that s2.view.nature programmer.status file other)) (before was')
   kept_in_after (uses.Rehearse stops) vault vault' one other before = before
 
   pub does_after : (done : Task) (amid : View) (named : Option ChipName) (old new : BusState)
-      (outcome : Result Answer Refusal) → puts_back done ≡ true → AreTwo programmer.image (named_by done).journal
-      → AreTwo programmer.status (named_by done).journal → DoesJob amid s2 programmer named done old new outcome
+      (outcome : Result Answer Refusal) → puts_back done ≡ true
+      → AreTwo s2.view.nature programmer.image (named_by done).journal
+      → AreTwo s2.view.nature programmer.status (named_by done).journal
+      → DoesJob amid s2 programmer named done old new outcome
       → DoesJob amid s3 programmer named done old new outcome
   does_after (task.Change change) amid named old new outcome puts one other does = record {
     ranges = does.ranges;
@@ -183,29 +187,31 @@ module _ (programmer : Programmer) (s2 s3 : FilesState) (nature : s3.view.nature
 -- ---- what was read before the trace was made
 
 pub ranges_before : (trace : Option (Bor Text)) (old amid : View) (regions : Option Regions)
-    (ranges : Option (List Span)) → AreTwo trace (layout_of regions) → IsViewBut trace old amid
+    (ranges : Option (List Span)) → AreTwo old.nature trace (layout_of regions) → IsViewBut trace old amid
     → AreRangesOf amid regions ranges → AreRangesOf old regions ranges
 ranges_before trace old amid None ranges two but are = are
 ranges_before trace old amid (Some regions) None two but are = absurd are
 ranges_before trace old amid (Some regions) (Some ranges) two but are = record {
   text = are.text;
-  read = reads_before trace regions.layout.now 16777217 _ old amid (not_that trace regions.layout two) but are.read;
+  read = reads_before trace regions.layout.now 16777217 _ old amid (not_that old.nature trace regions.layout two) but
+      are.read;
   whole = are.whole;
   included = are.included;
 }
 
 pub buffer_before : (trace : Option (Bor Text)) (old amid : View) (chip : Emulated) (what : Wanted)
-    (bytes : List ℕ) → AreTwo trace (image_of what) → IsViewBut trace old amid
+    (bytes : List ℕ) → AreTwo old.nature trace (image_of what) → IsViewBut trace old amid
     → IsBufferOf amid chip what bytes → IsBufferOf old chip what bytes
 buffer_before trace old amid chip (wanted.Write image) bytes two but is =
-    reads_before trace image.now 16777217 _ old amid (not_that trace image two) but is
+    reads_before trace image.now 16777217 _ old amid (not_that old.nature trace image two) but is
 buffer_before trace old amid chip wanted.Erase bytes two but is = is
 buffer_before trace old amid chip (wanted.Range start len) bytes two but is = is
 
 -- ---- the chip's files
 
-module _ (job : ChipJob) (held : Held) (s0 s1 s2 : FilesState) (bus bus' : BusState) (roles : HaveOneRole job)
-    (read : IsContentOf s0.view job.programmer held.content) (opens : OpensChip job.programmer held.content bus)
+module _ (job : ChipJob) (held : Held) (s0 s1 s2 : FilesState) (bus bus' : BusState)
+    (roles : HaveOneRole s0.view.nature job) (read : IsContentOf s0.view job.programmer held.content)
+    (opens : OpensChip job.programmer held.content bus)
     (rest : AreAtRest s0) (is_held : AreHeld job.programmer held s0 s1)
     (nature1 : s1.view.nature ≡ s0.view.nature) (nature2 : s2.view.nature ≡ s1.view.nature)
     (stay : is_lawful s1.view ≡ true → StayApart job.programmer.trace (made_by job.task) s1 s2)
@@ -220,12 +226,14 @@ module _ (job : ChipJob) (held : Held) (s0 s1 s2 : FilesState) (bus bus' : BusSt
   status_many = as_many s0.view job.programmer.status 2 _ _ read.status refl
 
   -- a file is ready to be written over that was held, and isn't the trace or the one that the task makes
-  ready : (name : Option (Bor Text)) (there : Bool) (had put : List ℕ) → AreTwo name job.programmer.trace
-      → AreTwo name (made_by job.task) → Settles name (was there had) s1 → length had ≡ length put
+  ready : (name : Option (Bor Text)) (there : Bool) (had put : List ℕ)
+      → AreTwo s0.view.nature name job.programmer.trace → AreTwo s0.view.nature name (made_by job.task)
+      → Settles name (was there had) s1 → length had ≡ length put
       → IsReady name there had put s2
   ready None there had put traced other settled many = tt
   ready (Some name) there had put traced other settled many =
-      let stays = stay still.lawful name.now traced other in
+      let stays = stay still.lawful name.now (not_after job.programmer.trace name.now nature1 traced)
+      (not_after (made_by job.task) name.now nature1 other) in
       record {
         known = known_after nature2 stays (known_at_rest still name.now);
         settled = settled_after stays settled;
@@ -236,10 +244,11 @@ module _ (job : ChipJob) (held : Held) (s0 s1 s2 : FilesState) (bus bus' : BusSt
   pub ready_both : AreReady job.programmer held.image_there held.status_there held.content.bytes.items
       held.content.status bus'.chip s2
   ready_both = record {
-    image = λ put are. ready job.programmer.image held.image_there _ put roles.image_trace (image_made job roles)
+    image = λ put are. ready job.programmer.image held.image_there _ put roles.image_trace
+        (image_made s0.view.nature job roles)
         is_held.image (opened_many first ∙ sym (ap (λ (c : Config). c.size) setup) ∙ sym are.len);
     status = ready job.programmer.status held.status_there _ (status_of bus'.chip) roles.status_trace
-        (status_made job roles) is_held.status status_many;
+        (status_made s0.view.nature job roles) is_held.status status_many;
   }
 
   -- ---- what they may be left as
@@ -302,18 +311,31 @@ module _ (job : ChipJob) (held : Held) (s0 s1 s2 : FilesState) (bus bus' : BusSt
           idle = from.idle;
         }
 
-    -- a file stays that is not the programmer's and is not made by the task
+    -- from the time when the files are held, until the call ends
+    call_stays : (made : Option (Bor Text)) → StayApart job.programmer.trace made s1 s2 → (name : Text)
+        → IsNot s0.view.nature job.programmer.trace name → IsNot s0.view.nature made name → Stays name s1 s2
+    call_stays made stay' name traced other =
+        stay' name (not_after job.programmer.trace name nature1 traced) (not_after made name nature1 other)
+
+    -- from then on
+    last_stays : (name : Text) → IsNot s0.view.nature job.programmer.image name
+        → IsNot s0.view.nature job.programmer.status name → Stays name s2 s3
+    last_stays name image status =
+        last (lawful_after nature2 still.lawful) name (not_after job.programmer.image name (nature2 ∙ nature1) image)
+        (not_after job.programmer.status name (nature2 ∙ nature1) status)
+
+    file_stays : (file : Bor Text) → AreTwo s0.view.nature job.programmer.image (Some file)
+        → AreTwo s0.view.nature job.programmer.status (Some file) → Stays file.now s2 s3
+    file_stays file one other =
+        last_stays file.now (not_that s0.view.nature job.programmer.image file one)
+        (not_that s0.view.nature job.programmer.status file other)
+
+    -- a file stays whose name is apart from those of the programmer's files and of the one that the task makes
     others_stay : (made : Option (Bor Text)) → StayApart job.programmer.trace made s1 s2 → (name : Text)
-        → IsNoFileOf job.programmer name → IsNot made name → Stays name s0 s3
+        → IsNoFileOf s0.view.nature job.programmer name → IsNot s0.view.nature made name → Stays name s0 s3
     others_stay made stay' name none other =
         stays_on (is_held.stay name)
-        (stays_on (stay' name none.trace other) (last (lawful_after nature2 still.lawful) name none.image none.status))
-
-    last_stays : (file : Bor Text) → AreTwo job.programmer.image (Some file) → AreTwo job.programmer.status (Some file)
-        → Stays file.now s2 s3
-    last_stays file one other =
-        last (lawful_after nature2 still.lawful) file.now (not_that job.programmer.image file one)
-        (not_that job.programmer.status file other)
+        (stays_on (call_stays made stay' name none.trace other) (last_stays name none.image none.status))
 
     -- a sealed journal restores the original chip, and stays in its file
     leads_kept : {request : Request} {image : List ℕ} {outcome : Result Answer Refusal} (file : Bor Text)
@@ -336,13 +358,14 @@ module _ (job : ChipJob) (held : Held) (s0 s1 s2 : FilesState) (bus bus' : BusSt
     -- behind a session, whose journal is in its file
     keeps_change : {request : Request} {image : List ℕ} {outcome : Result Answer Refusal} (kept : JournalUse)
         → keeps_journal kept ≡ true → StayApart job.programmer.trace (journal_of kept) s1 s2
-        → AreTwo job.programmer.image (journal_of kept)
-        → AreTwo job.programmer.status (journal_of kept) → AreTwo job.programmer.trace (journal_of kept)
+        → AreTwo s0.view.nature job.programmer.image (journal_of kept)
+        → AreTwo s0.view.nature job.programmer.status (journal_of kept)
+        → AreTwo s0.view.nature job.programmer.trace (journal_of kept)
         → HasMadeChange request image kept bus bus' amid s2 outcome
         → KeepsChange job.programmer kept s0 s3
     keeps_change (uses.Journal file) keeps stay' one other traced made =
-        let in_file = kept_after (last_stays file one other) (made.kept_in (lawful_after nature2 still.lawful)) in
-        let not = not_that job.programmer.trace file traced in
+        let in_file = kept_after (file_stays file one other) (made.kept_in (lawful_after nature2 still.lawful)) in
+        let not = not_that s0.view.nature job.programmer.trace file traced in
         inr (record {
           missing = missing_before job.programmer.trace file s0.view amid not but made.missing (known_at_rest rest file.now);
           others = others_stay (Some file) stay';
@@ -357,13 +380,14 @@ module _ (job : ChipJob) (held : Held) (s0 s1 s2 : FilesState) (bus bus' : BusSt
 
     pub keeps_files : (done : Task) (named : Option ChipName) (outcome : Result Answer Refusal) → puts_back done ≡ true
         → StayApart job.programmer.trace (made_by done) s1 s2
-        → AreTwo job.programmer.image (named_by done).journal → AreTwo job.programmer.status (named_by done).journal
-        → AreTwo job.programmer.trace (named_by done).journal
+        → AreTwo s0.view.nature job.programmer.image (named_by done).journal
+        → AreTwo s0.view.nature job.programmer.status (named_by done).journal
+        → AreTwo s0.view.nature job.programmer.trace (named_by done).journal
         → DoesJob amid s2 job.programmer named done bus bus' outcome → KeepsFiles job.programmer done s0 s3
     keeps_files (task.Change change) named outcome puts stay' one other traced does =
         keeps_change change.journal_use puts stay' one other traced does.changed
     keeps_files (task.Restore journal) named outcome puts stay' one other traced does =
-        let not = not_that job.programmer.trace journal traced in
+        let not = not_that s0.view.nature job.programmer.trace journal traced in
         inr (record {
           others = λ name none. others_stay None stay' name none tt;
           image = image_whole;
@@ -373,7 +397,7 @@ module _ (job : ChipJob) (held : Held) (s0 s1 s2 : FilesState) (bus bus' : BusSt
           sound = does.sound;
           read = reads_before job.programmer.trace journal.now 16793662 _ s0.view amid not but does.read;
           stays = stays_on (is_held.stay journal.now)
-              (stays_on (stay' journal.now not tt) (last_stays journal one other));
+              (stays_on (call_stays None stay' journal.now not tt) (file_stays journal one other));
           back = λ chip can i s later left left_status from.
               does.restored.over chip later can (over i s later left left_status from);
         })
@@ -387,15 +411,16 @@ module _ (job : ChipJob) (held : Held) (s0 s1 s2 : FilesState) (bus bus' : BusSt
       put_all = rw all at put
 
       holds_change : (change : Change) (named : Option ChipName) (found : Answer) (kept : JournalUse)
-          → keeps_journal kept ≡ true → AreTwo job.programmer.trace (layout_of change.regions)
-          → AreTwo job.programmer.trace (image_of change.wanted) → AreTwo job.programmer.image (journal_of kept)
-          → AreTwo job.programmer.status (journal_of kept) → (ranges : Option (List Span))
+          → keeps_journal kept ≡ true → AreTwo s0.view.nature job.programmer.trace (layout_of change.regions)
+          → AreTwo s0.view.nature job.programmer.trace (image_of change.wanted)
+          → AreTwo s0.view.nature job.programmer.image (journal_of kept)
+          → AreTwo s0.view.nature job.programmer.status (journal_of kept) → (ranges : Option (List Span))
           → AreRangesOf amid change.regions ranges → (image : List ℕ)
           → IsBufferOf amid job.programmer.chip change.wanted image
           → HasMadeChange (request_for change named ranges) image kept bus bus' amid s2 (Ok found)
           → HoldsChange job.programmer named change kept found s0 s3
       holds_change change named found (uses.Journal file) keeps two_layout two_image one other ranges are image is made =
-          let in_file = kept_after (last_stays file one other) (made.kept_in (lawful_after nature2 still.lawful)) in
+          let in_file = kept_after (file_stays file one other) (made.kept_in (lawful_after nature2 still.lawful)) in
           let sealed = made.done.sealed refl in
           let leads = leads_kept file made in_file sealed in
           record {
@@ -416,16 +441,18 @@ module _ (job : ChipJob) (held : Held) (s0 s1 s2 : FilesState) (bus bus' : BusSt
 
       pub holds_task : (done : Task) (named : Option ChipName) (found : Answer) → puts_back done ≡ true
           → StayApart job.programmer.trace (made_by done) s1 s2
-          → AreTwo job.programmer.trace (named_by done).layout → AreTwo job.programmer.trace (named_by done).wanted
-          → AreTwo job.programmer.image (named_by done).journal → AreTwo job.programmer.status (named_by done).journal
-          → AreTwo job.programmer.trace (named_by done).journal
+          → AreTwo s0.view.nature job.programmer.trace (named_by done).layout
+          → AreTwo s0.view.nature job.programmer.trace (named_by done).wanted
+          → AreTwo s0.view.nature job.programmer.image (named_by done).journal
+          → AreTwo s0.view.nature job.programmer.status (named_by done).journal
+          → AreTwo s0.view.nature job.programmer.trace (named_by done).journal
           → DoesJob amid s2 job.programmer named done bus bus' (Ok found)
           → HoldsTask job.programmer named done found s0 s3
       holds_task (task.Change change) named found puts stay' two_layout two_image one other traced does =
           holds_change change named found change.journal_use puts two_layout two_image one other does.ranges
           does.included does.image does.buffer does.changed
       holds_task (task.Restore journal) named found puts stay' two_layout two_image one other traced does =
-          let not = not_that job.programmer.trace journal traced in
+          let not = not_that s0.view.nature job.programmer.trace journal traced in
           record {
             opened = first;
             last = bus';
@@ -438,6 +465,6 @@ module _ (job : ChipJob) (held : Held) (s0 s1 s2 : FilesState) (bus bus' : BusSt
             back = does.restored.back;
             held = put_all;
             stays = stays_on (is_held.stay journal.now)
-                (stays_on (stay' journal.now not tt) (last_stays journal one other));
+                (stays_on (call_stays None stay' journal.now not tt) (file_stays journal one other));
           }
       holds_task _ named found puts stay' two_layout two_image one other traced does = absurd cc

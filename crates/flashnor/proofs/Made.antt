@@ -5,10 +5,11 @@ use Rattle.std.proofs.lemmas.Bool.{false≢true}
 use Rattle.std.proofs.lemmas.List.{append-nil, length-append, length-drop, length-replicate, drop_all, take_all}
 use Rattle.std.proofs.lemmas.Option.{same_Some}
 use Rattle.std.proofs.Math.Seq.{take-append_seam, take-nil}
-use Rattle.nor_files.specs.Calls.{Makes, Places, SetsLength, Syncs, WorksOn, WritesOver, with_length, written_over}
-use Rattle.nor_files.specs.Files.{FilesState, Found, IsKnown, IsSettled, Name, is_lawful, OthersStay}
+use Rattle.nor_files.specs.Calls.{LeaveNoMore, Makes, Places, SetsLength, Syncs, WorksOn, WritesOver, with_length}
+use Rattle.nor_files.specs.Calls.{written_over}
+use Rattle.nor_files.specs.Files.{FilesState, Found, IsKnown, IsSettled, KnownStay, Name, OthersStay, is_lawful}
 use Rattle.flashnor.specs.Holding.{IsReadyFile, LeavesFileAmid}
-use Rattle.flashnor.proofs.Stays.{lawful_after, stays_on}
+use Rattle.flashnor.proofs.Stays.{apart_after, lawful_after, stays_on}
 
 -- ---- calls on one file
 
@@ -28,7 +29,8 @@ then_on one two = record {
   nature = two.nature ∙ one.nature;
   out = λ lawful. two.out (lawful_after one.nature lawful) ∙ one.out lawful;
   others = λ lawful other differ.
-      stays_on (one.others lawful other differ) (two.others (lawful_after one.nature lawful) other differ);
+      stays_on (one.others lawful other differ)
+      (two.others (lawful_after one.nature lawful) other (apart_after one.nature differ));
 }
 
 pub known_on : {name : Name} {old new : FilesState} → WorkOn name old new → IsKnown name old.view
@@ -170,7 +172,14 @@ module _ {T E : Type 0} (F : Type 0) (name : Name) (result : Result T E) (old ne
       record { nature : Keeps; alone : Alone; writes : Known → WritesOver name bytes result old new; fails : F }
 
   abbrev SyncCall : Type 0
-  SyncCall = record { nature : Keeps; alone : Alone; syncs : Known → Syncs name result old new; fails : F }
+  SyncCall = record {
+    nature : Keeps;
+    alone : Alone;
+    stay : OnOk result (KnownStay old new);
+    no_more : is_lawful old.view ≡ true → LeaveNoMore old new;
+    syncs : Known → Syncs name result old new;
+    fails : F;
+  }
 
 pub made : {T E F : Type 0} {name : Name} {bytes : List ℕ} {one : T} {old new : FilesState}
     → MakeCall {E = E} F name (Ok one) old new → IsNew name bytes [] old new

@@ -1,18 +1,11 @@
 -- A session whose journal's file is there already.
-use Rattle.std.proofs.Common.{◌≡◌, ◌⊎◌, ℕ, Option, None, Some, IsSomeAnd, arith, inl, inr, refl, sym, true, false}
+use Rattle.std.proofs.Common.{ℕ, Option, None, Some, IsSomeAnd, inl, inr}
 use Rattle.std.specs.Borrow.{Bor}
-use Rattle.nor_files.specs.Files.{FilesState, Name, Stays, View}
+use Rattle.nor_files.specs.Files.{View}
 use Rattle.nor_words.specs.Text.{Text}
-use Rattle.nor_words.specs.declared.job.ChipJob.{ChipJob}
-use Rattle.nor_words.specs.declared.job.Task.{Task}
-use Rattle.nor_words.specs.declared.job.Task.TheVariants as task
 use Rattle.nor_words.specs.declared.programmer.Programmer.{Programmer}
 use Rattle.flashnor.specs.Chips.{FailsToHold, FailsToOpen}
 use Rattle.flashnor.specs.Files.{IsHoldingFault, IsOpeningFault}
-use Rattle.flashnor.specs.Roles.{HasOwnTrace}
-use Rattle.flashnor.specs.Run.{KeepsFiles}
-use Rattle.flashnor.specs.Stored.{IsNot}
-use Rattle.flashnor.specs.Tasks.{journal_by}
 use Rattle.flashnor.specs.declared.messages.Fault.{Fault}
 use Rattle.flashnor.specs.declared.messages.Fault.TheVariants as end
 use Rattle.flashnor.specs.declared.messages.FileFault.TheVariants as file

@@ -1,13 +1,12 @@
 -- Files that stay as they were, over several calls.
-use Rattle.std.proofs.Common.{◌≡◌, ◌≢◌, ◌∙◌, Option, None, Some, ap, arith, inl, refl, sym, true}
+use Rattle.std.proofs.Common.{◌≡◌, ◌∙◌, Option, None, Some, ap, inl, refl, subst, sym, true}
 use Rattle.std.specs.Borrow.{Bor}
 use Rattle.nor_files.specs.Calls.{Lends, TakesBack}
-use Rattle.nor_files.specs.Files.{AllStay, AreAtRest, FilesState, Found, IsKnown, IsSettled, Name, Nature, Stays}
-use Rattle.nor_files.specs.Files.{is_lawful}
+use Rattle.nor_files.specs.Files.{AllStay, AreApart, AreAtRest, FilesState, Found, IsKnown, IsSettled, KnownStay, Name}
+use Rattle.nor_files.specs.Files.{Nature, Stays, is_lawful}
 use Rattle.nor_journal.specs.Vault.{VaultState}
 use Rattle.nor_words.specs.Text.{Text}
 use Rattle.flashnor.specs.Changes.{IsKeptFile}
-use Rattle.flashnor.specs.Holding.{KnownStay}
 use Rattle.flashnor.specs.Stored.{AreTwo, IsNot, MakesNothing}
 
 pub stays_same : (name : Name) (files : FilesState) → Stays name files files
@@ -20,20 +19,39 @@ stays_on one other = record {
   leaves = λ left can. one.leaves left (other.leaves left can);
 }
 
--- the other way round
-pub not_that : (one : Option (Bor Text)) (file : Bor Text) → AreTwo one (Some file) → IsNot one file.now
-not_that one file two = grind arith
+-- ---- names that are apart
 
--- each file stays but these two, if they are named
+-- in either order
+pub apart_swapped : (nature : Nature) (one other : Name) → AreApart nature one other → AreApart nature other one
+apart_swapped nature one other apart = λ lawful. let both = apart lawful in (both.1, both.0)
+
+-- after calls, which keep the nature of the files
+pub apart_after : {old new : Nature} {one other : Name} → new ≡ old → AreApart old one other → AreApart new one other
+apart_after {one = one} {other = other} same apart = subst (λ (n : Nature). AreApart n one other) (sym same) apart
+
+pub not_after : {old new : Nature} (one : Option (Bor Text)) (any : Text) → new ≡ old → IsNot old one any
+    → IsNot new one any
+not_after one any same not = subst (λ (n : Nature). IsNot n one any) (sym same) not
+
+-- the other way round
+pub not_that : (nature : Nature) (one : Option (Bor Text)) (file : Bor Text) → AreTwo nature one (Some file)
+    → IsNot nature one file.now
+not_that nature None file two = tt
+not_that nature (Some one) file two = apart_swapped nature file.now one.now two
+
+-- each file stays whose name is apart from these two, if they are given
 abbrev pub StayApart : (one other : Option (Bor Text)) → (old new : FilesState) → Type 0
-StayApart one other old new = (any : Name) → IsNot one any → IsNot other any → Stays any old new
+StayApart one other old new = (any : Name) → IsNot old.view.nature one any → IsNot old.view.nature other any
+    → Stays any old new
 
 -- what holds where no file is named, and of each file that is neither of two, holds of a name that is neither
-pub apart : (Holds : Option (Bor Text) → Type 0) → Holds None
-    → (name one other : Option (Bor Text)) → AreTwo name one → AreTwo name other
-    → ((file : Bor Text) → IsNot one file.now → IsNot other file.now → Holds (Some file)) → Holds name
-apart Holds none None one other first second each = none
-apart Holds none (Some file) one other first second each = each file first second
+pub apart : (nature : Nature) (Holds : Option (Bor Text) → Type 0) → Holds None
+    → (name one other : Option (Bor Text)) → AreTwo nature name one → AreTwo nature name other
+    → ((file : Bor Text) → IsNot nature one file.now → IsNot nature other file.now → Holds (Some file)) → Holds name
+apart nature Holds none None one other first second each = none
+apart nature Holds none (Some file) one other first second each = each file first second
+
+-- ---- what is made by no call
 
 pub nothing_same : (name : Option (Bor Text)) (files : FilesState) → MakesNothing name files files
 nothing_same None files = tt
@@ -86,5 +104,5 @@ module _ (name : Name) (old mid new : FilesState) (vault : VaultState)
       let t = taken (lawful_after (sym (back ∙ made)) is) in
       record { telling = t.telling; seen = t.seen; settled = t.settled }
 
-  pub others_stay : is_lawful old.view ≡ true → (any : Name) → any ≢ name → Stays any old new
-  others_stay is any other = stays_on ((lends is).others any other) ((taken is).others any other)
+  pub others_stay : is_lawful old.view ≡ true → (any : Name) → AreApart old.view.nature name any → Stays any old new
+  others_stay is any other = stays_on ((lends is).others any other) ((taken is).others any (apart_after made other))

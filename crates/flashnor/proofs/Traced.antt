@@ -2,15 +2,14 @@
 use Rattle.std.proofs.Common.{◌≡◌, ◌∙◌, ℕ, Option, None, Some, IsSomeAnd, ap, arith, inl, inr, option_map, sym, take, true}
 use Rattle.std.specs.Borrow.{Bor}
 use Rattle.nor_files.specs.Calls.{Reads}
-use Rattle.nor_files.specs.Files.{FilesState, Found, Name, OthersStay, Stays, View, is_lawful}
+use Rattle.nor_files.specs.Files.{FilesState, Found, KnownStay, Name, OthersStay, Stays, View, is_lawful}
 use Rattle.nor_words.specs.Text.{Text}
 use Rattle.nor_words.specs.declared.job.ChipJob.{ChipJob}
-use Rattle.flashnor.specs.Holding.{KnownStay}
 use Rattle.flashnor.specs.Files.{IsMaking}
 use Rattle.flashnor.specs.Run.{FailsTraced, IsViewBut}
 use Rattle.flashnor.specs.declared.messages.Fault.{Fault}
 use Rattle.flashnor.specs.Stored.{IsMissing, IsNot, MakesNothing}
-use Rattle.flashnor.proofs.Stays.{known_after, lawful_after}
+use Rattle.flashnor.proofs.Stays.{apart_swapped, known_after, lawful_after, not_after}
 
 pub view_but : (trace : Option (Bor Text)) (name : Bor Text) (old mid : FilesState) → trace ≡ Some name
     → mid.view.nature ≡ old.view.nature → (is_lawful old.view ≡ true → OthersStay name.now old mid)
@@ -22,7 +21,7 @@ view_but trace name old mid is nature others = record {
 
 -- the same of a trace that may not be named
 pub view_apart : (trace : Option (Bor Text)) (old mid : FilesState) → mid.view.nature ≡ old.view.nature
-    → (is_lawful old.view ≡ true → (name : Name) → IsNot trace name → Stays name old mid)
+    → (is_lawful old.view ≡ true → (name : Name) → IsNot old.view.nature trace name → Stays name old mid)
     → IsViewBut trace old.view mid.view
 view_apart trace old mid nature others = record {
   nature = nature;
@@ -36,13 +35,13 @@ view_before trace old mid amid nature stay but = record {
   nature = but.nature ∙ nature;
   stays = λ name not known.
       let stays = stay name known in
-      let same = but.stays name not (known_after nature stays known) in
+      let same = but.stays name (not_after trace name nature not) (known_after nature stays known) in
       (same.0 ∙ stays.out, same.1 ∙ stays.seen);
 }
 
 -- what was read once the trace was made is what was there before
 pub reads_before : (trace : Option (Bor Text)) (file : Text) (most : ℕ) (found : Found) (old amid : View)
-    → IsNot trace file
+    → IsNot old.nature trace file
     → IsViewBut trace old amid → Reads file most found amid → Reads file most found old
 reads_before trace file most found old amid not but reads = λ known.
     let same = but.stays file not known in
@@ -50,7 +49,7 @@ reads_before trace file most found old amid not but reads = λ known.
     ∙ ap (option_map (take most)) same.1
 
 -- a file that was missing once the trace was made was missing before
-pub missing_before : (trace : Option (Bor Text)) (file : Bor Text) (old amid : View) → IsNot trace file.now
+pub missing_before : (trace : Option (Bor Text)) (file : Bor Text) (old amid : View) → IsNot old.nature trace file.now
     → IsViewBut trace old amid → IsMissing (Some file) amid → IsMissing (Some file) old
 missing_before trace file old amid not but gone = λ known.
     let same = but.stays file.now not known in
@@ -58,12 +57,12 @@ missing_before trace file old amid not but gone = λ known.
 
 -- of a file that isn't the trace nothing may be left but what could be left before the trace was made
 pub makes_nothing_before : (name : Bor Text) (journal : Option (Bor Text)) (old mid new : FilesState)
-    → mid.view.nature ≡ old.view.nature → IsNot journal name.now
+    → mid.view.nature ≡ old.view.nature → IsNot old.view.nature journal name.now
     → (is_lawful old.view ≡ true → OthersStay name.now old mid) → MakesNothing journal mid new
     → MakesNothing journal old new
 makes_nothing_before name None old mid new nature not others made = tt
 makes_nothing_before name (Some file) old mid new nature not others made = λ known left may.
-    let stays = others known.lawful file.now (λ same. not (sym same)) in
+    let stays = others known.lawful file.now (apart_swapped old.view.nature file.now name.now not) in
     elim (made (known_after nature stays known) left may) [ inl was ↦ inl (stays.leaves left was) | inr empty ↦ inr (sym stays.seen ∙ empty.0, empty.1) ]
 
 -- ---- faults

@@ -414,7 +414,8 @@ module _ (programmer : Programmer) (file : Text) (start : FilesState) (first : O
       let (journal, task', named) = restores file on_chip.task ran.restores in
       let (amid, but, job) = called.does in
       let does = rw (task', named) at job in
-      let apart = rw named at (not_that on_chip.programmer.trace journal (rw task' at called.roles.trace_journal)) in
+      let apart = rw named at (not_that mid.view.nature on_chip.programmer.trace journal
+      (rw task' at called.roles.trace_journal)) in
       let reads = reads_before on_chip.programmer.trace file 16793662 _ mid.view amid apart but does.read in
       let can = can_back programmer file start first on_chip.programmer ran.same mid ran.follows.rest still
       (leads_mid all_written (Ok answer) ran)

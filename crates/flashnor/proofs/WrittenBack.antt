@@ -10,11 +10,11 @@ use Rattle.nor_words.specs.declared.programmer.Programmer.{Programmer}
 use Rattle.flashnor.specs.Chips.{ArePutBack}
 use Rattle.flashnor.specs.Holding.{AreAmid, AreReady, IsReady, LeavesAmid, Settles}
 use Rattle.flashnor.specs.Stored.{ArePut, AreTwo, Happens, IsNot, IsToldOf}
-use Rattle.flashnor.proofs.Stays.{known_after, lawful_after, not_that, settled_after}
+use Rattle.flashnor.proofs.Stays.{known_after, lawful_after, not_after, not_that, settled_after}
 
--- each file stays whose name isn't that one
+-- each file stays whose name is apart from that one
 abbrev OthersOf : Option (Bor Text) → (old new : FilesState) → Type 0
-OthersOf name old new = is_lawful old.view ≡ true → (any : Name) → IsNot name any → Stays any old new
+OthersOf name old new = is_lawful old.view ≡ true → (any : Name) → IsNot old.view.nature name any → Stays any old new
 
 -- A file was put back, if one is named, or failed to be.
 abbrev PutsBack : Option (Bor Text) → (there : Bool) → (bytes : List ℕ) → (failed : Option (Bor Text))
@@ -30,11 +30,12 @@ PutsBack name there bytes failed old new = record {
 -- ---- the other file stays
 
 ready_still : (one other : Option (Bor Text)) (there : Bool) (had bytes : List ℕ) (a b : FilesState)
-    → AreTwo one other → b.view.nature ≡ a.view.nature → OthersOf one a b → IsReady other there had bytes a
+    → AreTwo a.view.nature one other → b.view.nature ≡ a.view.nature → OthersOf one a b
+    → IsReady other there had bytes a
     → IsReady other there had bytes b
 ready_still one None there had bytes a b two same others ready = tt
 ready_still one (Some name) there had bytes a b two same others ready =
-    let stays = others ready.known.lawful name.now (not_that one name two) in
+    let stays = others ready.known.lawful name.now (not_that a.view.nature one name two) in
     record {
       known = known_after same stays ready.known;
       settled = settled_after stays ready.settled;
@@ -42,13 +43,14 @@ ready_still one (Some name) there had bytes a b two same others ready =
     }
 
 -- and so does what was put into it, or is left of it
-still : (there : Bool) (had bytes : List ℕ) (a b c : FilesState) (one other : Option (Bor Text)) → AreTwo one other
-    → b.view.nature ≡ a.view.nature → OthersOf other b c → IsReady one there had bytes a
+still : (there : Bool) (had bytes : List ℕ) (a b c : FilesState) (one other : Option (Bor Text))
+    → AreTwo a.view.nature one other → b.view.nature ≡ a.view.nature → OthersOf other b c
+    → IsReady one there had bytes a
     → (Settles one (Some bytes) b → Settles one (Some bytes) c)
     × (LeavesAmid one there had bytes b → LeavesAmid one there had bytes c)
 still there had bytes a b c None other two same others ready = (λ _. tt, λ _. tt)
 still there had bytes a b c (Some name) other two same others ready =
-    let stays = others (lawful_after same ready.known.lawful) name.now two in
+    let stays = others (lawful_after same ready.known.lawful) name.now (not_after other name.now same two) in
     (settled_after stays, λ amid left can. amid left (stays.leaves left can))
 
 -- ---- what is told of each
@@ -73,7 +75,7 @@ told_before name failed old mid same is = grind arith
 
 module _ {programmer : Programmer} {image_there status_there : Bool} {had bits : List ℕ} {chip : Chip}
     {bytes flags : List ℕ} {image status : Option (Bor Text)} {a b c : FilesState} (are : AreChipBytes chip bytes)
-    (is : flags ≡ status_of chip) (two : AreTwo programmer.image programmer.status)
+    (is : flags ≡ status_of chip) (two : AreTwo a.view.nature programmer.image programmer.status)
     (ready : AreReady programmer image_there status_there had bits chip a)
     (first : PutsBack programmer.image image_there bytes image a b)
     (second' : PutsBack programmer.status status_there flags status b c) where

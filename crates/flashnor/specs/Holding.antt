@@ -1,22 +1,14 @@
 -- The chip's files in a run that changes it: held from before they are read until they are written over.
 use Rattle.std.specs.Prelude.{◌≡◌, ◌⊎◌, ◌∷◌, [], ℕ, Bool, true, false, List, Option, None, Some, ⊤, length, replicate}
 use Rattle.std.specs.Borrow.{Bor}
-use Rattle.nor_files.specs.Calls.{IsMixed, LeavesNoMore}
+use Rattle.nor_files.specs.Calls.{IsMixed}
 use Rattle.nor_chip.specs.Chip.{Chip}
 use Rattle.nor_chip.specs.Start.{AreChipBytes, status_of}
-use Rattle.nor_files.specs.Files.{AllStay, FilesState, Found, IsKnown, IsSettled, Name, Stays}
+use Rattle.nor_files.specs.Files.{AllStay, FilesState, Found, IsKnown, IsSettled}
 use Rattle.nor_words.specs.declared.programmer.Programmer.{Programmer}
 use Rattle.nor_words.specs.Text.{Text}
 use Rattle.flashnor.specs.Found.{emulated_part}
 use Rattle.flashnor.specs.declared.holding.Held.{Held}
-
--- nothing may be left of any file that couldn't be left before
-abbrev pub LeaveNoMore : (old new : FilesState) → Type 0
-LeaveNoMore old new = (name : Name) → LeavesNoMore name old new
-
--- each file that is in nobody's hands is as it was
-abbrev pub KnownStay : (old new : FilesState) → Type 0
-KnownStay old new = (name : Name) → IsKnown name old.view → Stays name old new
 
 -- the file that is named, if one is, is just this, whatever becomes of the machine
 abbrev pub Settles : Option (Bor Text) → Found → FilesState → Type 0

@@ -1,12 +1,12 @@
 -- What a machine that is lost leaves of a chip's files and its journal, and what a later run opens from it.
-use Rattle.std.specs.Prelude.{◌≡◌, ◌≢◌, ◌⊎◌, ◌∷◌, [], ℕ, Bool, true, false, List, Option, None, Some}
+use Rattle.std.specs.Prelude.{◌≡◌, ◌⊎◌, ◌∷◌, [], ℕ, Bool, true, false, List, Option, None, Some}
 use Rattle.std.specs.Prelude.{IfSome, IsSomeAnd, length, replicate, slice_index, unwrap_or, ⊤}
 use Rattle.std.specs.Borrow.{Bor}
 use Rattle.nor_chip.specs.Bus.{BusState}
 use Rattle.nor_chip.specs.Chip.{Chip, IsSame, kept_in}
 use Rattle.nor_chip.specs.declared.config.Config.{Config}
 use Rattle.nor_files.specs.Calls.{LeavesNoMore, LeavesOrEmpty}
-use Rattle.nor_files.specs.Files.{FilesState, Found, Stays}
+use Rattle.nor_files.specs.Files.{AreApart, FilesState, Found, Nature, Stays}
 use Rattle.nor_journal.specs.Text.{Content as Journal, IsContent, text}
 use Rattle.nor_session.specs.Headline.{CanGiveBack}
 use Rattle.nor_words.specs.declared.programmer.Programmer.{Programmer}
@@ -60,11 +60,11 @@ pub record LeadsBack {programmer : Programmer} {old : FilesState} (file : Text) 
   pub left : LeavesJournal file journal files
   pub back : LeavesOnly first (CanGiveBack journal first.bus.chip) files
 
--- The name is that of no file of the programmer: of neither its image, nor its status bytes, nor its trace.
-pub record IsNoFileOf (programmer : Programmer) (name : Text) : Type 0 where
-  pub image : IsNot programmer.image name
-  pub status : IsNot programmer.status name
-  pub trace : IsNot programmer.trace name
+-- The name is apart from those of the programmer's files: its image, its status bytes and its trace.
+pub record IsNoFileOf (nature : Nature) (programmer : Programmer) (name : Text) : Type 0 where
+  pub image : IsNot nature programmer.image name
+  pub status : IsNot nature programmer.status name
+  pub trace : IsNot nature programmer.trace name
 
 -- where the file that is named was there it is, whatever may be left of it, and has as many bytes
 abbrev pub LeavesAsLong : Option (Bor Text) → (old new : FilesState) → Type 0
@@ -75,10 +75,12 @@ LeavesAsLong (Some name) old new = (had : List ℕ) → old.view.seen name.now �
 -- At an exit of a run that changes a chip, with its journal in the file of this name, which was missing before. Until
 -- the journal is sealed whatever may be left of the chip's files opens to the original chip. From then on the journal's
 -- file is one journal, and whatever may be left opens to a chip from which that journal restores the original one. A
--- file of the chip that was missing may be moved aside. One that was there keeps its length. All other files stay.
+-- file of the chip that was missing may be moved aside. One that was there keeps its length. Each file
+-- stays whose name is apart from those of the trace, the chip's files and the journal.
 pub record LeavesWayBack (programmer : Programmer) (file : Text) (old new : FilesState) : Type 0 where
   pub missing : old.view.seen file ≡ None
-  pub others : (name : Text) → IsNoFileOf programmer name → name ≢ file → Stays name old new
+  pub others : (name : Text) → IsNoFileOf old.view.nature programmer name → AreApart old.view.nature file name
+      → Stays name old new
   pub image : LeavesAsLong programmer.image old new
   pub status : LeavesAsLong programmer.status old new
   pub first : Opened programmer old
@@ -91,7 +93,8 @@ pub record LeavesWayBack (programmer : Programmer) (file : Text) (old new : File
 pub record LeavesAll (programmer : Programmer) (file : Text) (old new : FilesState) : Type 0 where
   pub image : LeavesNoMoreOf programmer.image old new
   pub status : LeavesNoMoreOf programmer.status old new
-  pub others : (name : Text) → IsNot programmer.trace name → name ≢ file → LeavesNoMore name old new
+  pub others : (name : Text) → IsNot old.view.nature programmer.trace name → AreApart old.view.nature file name
+      → LeavesNoMore name old new
   pub empty : LeavesOrEmpty file old new
 
 -- or it was cut off before anything was changed
@@ -105,13 +108,14 @@ pub record LeavesSources (programmer : Programmer) (file : Text) (old new : File
   pub image : LeavesNoMoreOf programmer.image old new
   pub status : LeavesNoMoreOf programmer.status old new
   pub journal : LeavesNoMore file old new
-  pub others : (name : Text) → IsNot programmer.trace name → LeavesNoMore name old new
+  pub others : (name : Text) → IsNot old.view.nature programmer.trace name → LeavesNoMore name old new
 
 -- At an exit of a run that restores from the journal in the file of this name. Each chip that the journal could restore
 -- from what the run opened it can still restore, from whatever may be left of the chip's files. A file of the chip that
--- was missing may be moved aside. One that was there keeps its length. The journal and all other files stay.
+-- was missing may be moved aside. One that was there keeps its length. The journal stays, and so does each file whose
+-- name is apart from those of the trace and the chip's files.
 pub record LeavesRestorable (programmer : Programmer) (file : Text) (old new : FilesState) : Type 0 where
-  pub others : (name : Text) → IsNoFileOf programmer name → Stays name old new
+  pub others : (name : Text) → IsNoFileOf old.view.nature programmer name → Stays name old new
   pub image : LeavesAsLong programmer.image old new
   pub status : LeavesAsLong programmer.status old new
   pub found : Opened programmer old

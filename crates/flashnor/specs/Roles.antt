@@ -44,33 +44,33 @@ named_by (task.Change change) = record {
 named_by (task.Restore journal) = record { layout = None; wanted = None; output = None; journal = Some journal }
 named_by _ = record { layout = None; wanted = None; output = None; journal = None }
 
--- Files of a job that are two: the chip's own, where it is changed, and those that it doesn't only read.
-pub record HaveOneRole (job : ChipJob) : Type 0 where
-  pub status : puts_back job.task ≡ true → AreTwo job.programmer.image job.programmer.status
-  pub image_layout : puts_back job.task ≡ true → AreTwo job.programmer.image (named_by job.task).layout
-  pub status_layout : puts_back job.task ≡ true → AreTwo job.programmer.status (named_by job.task).layout
-  pub status_wanted : puts_back job.task ≡ true → AreTwo job.programmer.status (named_by job.task).wanted
-  pub image_trace : AreTwo job.programmer.image job.programmer.trace
-  pub status_trace : AreTwo job.programmer.status job.programmer.trace
-  pub trace_layout : AreTwo job.programmer.trace (named_by job.task).layout
-  pub trace_wanted : AreTwo job.programmer.trace (named_by job.task).wanted
-  pub image_output : AreTwo job.programmer.image (named_by job.task).output
-  pub status_output : AreTwo job.programmer.status (named_by job.task).output
-  pub trace_output : AreTwo job.programmer.trace (named_by job.task).output
-  pub layout_output : AreTwo (named_by job.task).layout (named_by job.task).output
-  pub image_journal : AreTwo job.programmer.image (named_by job.task).journal
-  pub status_journal : AreTwo job.programmer.status (named_by job.task).journal
-  pub trace_journal : AreTwo job.programmer.trace (named_by job.task).journal
-  pub layout_journal : AreTwo (named_by job.task).layout (named_by job.task).journal
-  pub wanted_journal : AreTwo (named_by job.task).wanted (named_by job.task).journal
+-- Files of a job whose names are apart: the chip's own, where it is changed, and those that it doesn't only read.
+pub record HaveOneRole (nature : Nature) (job : ChipJob) : Type 0 where
+  pub status : puts_back job.task ≡ true → AreTwo nature job.programmer.image job.programmer.status
+  pub image_layout : puts_back job.task ≡ true → AreTwo nature job.programmer.image (named_by job.task).layout
+  pub status_layout : puts_back job.task ≡ true → AreTwo nature job.programmer.status (named_by job.task).layout
+  pub status_wanted : puts_back job.task ≡ true → AreTwo nature job.programmer.status (named_by job.task).wanted
+  pub image_trace : AreTwo nature job.programmer.image job.programmer.trace
+  pub status_trace : AreTwo nature job.programmer.status job.programmer.trace
+  pub trace_layout : AreTwo nature job.programmer.trace (named_by job.task).layout
+  pub trace_wanted : AreTwo nature job.programmer.trace (named_by job.task).wanted
+  pub image_output : AreTwo nature job.programmer.image (named_by job.task).output
+  pub status_output : AreTwo nature job.programmer.status (named_by job.task).output
+  pub trace_output : AreTwo nature job.programmer.trace (named_by job.task).output
+  pub layout_output : AreTwo nature (named_by job.task).layout (named_by job.task).output
+  pub image_journal : AreTwo nature job.programmer.image (named_by job.task).journal
+  pub status_journal : AreTwo nature job.programmer.status (named_by job.task).journal
+  pub trace_journal : AreTwo nature job.programmer.trace (named_by job.task).journal
+  pub layout_journal : AreTwo nature (named_by job.task).layout (named_by job.task).journal
+  pub wanted_journal : AreTwo nature (named_by job.task).wanted (named_by job.task).journal
 
--- The trace is no other file of the job.
-pub record HasOwnTrace (job : ChipJob) : Type 0 where
-  pub image : AreTwo job.programmer.image job.programmer.trace
-  pub status : AreTwo job.programmer.status job.programmer.trace
-  pub layout : AreTwo job.programmer.trace (named_by job.task).layout
-  pub wanted : AreTwo job.programmer.trace (named_by job.task).wanted
-  pub journal : AreTwo job.programmer.trace (named_by job.task).journal
+-- The trace's name is apart from that of each other file of the job.
+pub record HasOwnTrace (nature : Nature) (job : ChipJob) : Type 0 where
+  pub image : AreTwo nature job.programmer.image job.programmer.trace
+  pub status : AreTwo nature job.programmer.status job.programmer.trace
+  pub layout : AreTwo nature job.programmer.trace (named_by job.task).layout
+  pub wanted : AreTwo nature job.programmer.trace (named_by job.task).wanted
+  pub journal : AreTwo nature job.programmer.trace (named_by job.task).journal
 
 -- ---- the fault of a file in two roles
 

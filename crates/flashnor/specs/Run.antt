@@ -116,10 +116,10 @@ AreTold true programmer unwritten view =
     IsToldOf programmer.image unwritten.image view × IsToldOf programmer.status unwritten.status view
 AreTold false programmer unwritten view = (unwritten.image ≡ None) × (unwritten.status ≡ None)
 
--- What reads gave once the file of that name was made, if one is: all other files were as before.
+-- What reads gave once the file of that name was made, if one is: each file whose name is apart from it was as before.
 pub record IsViewBut (trace : Option (Bor Text)) (old amid : View) : Type 0 where
   pub nature : amid.nature ≡ old.nature
-  pub stays : (name : Name) → IsNot trace name → IsKnown name old
+  pub stays : (name : Name) → IsNot old.nature trace name → IsKnown name old
       → (amid.out name ≡ old.out name) × (amid.seen name ≡ old.seen name)
 
 -- the job's call was made, once the trace was: what it read of its own files it read then
@@ -131,7 +131,7 @@ DoesTraced files after job old new outcome = (amid : View) × IsViewBut job.prog
 -- says, to the chip as its files tell it, into which it was put back; and a trace that lost a line is the programmer's.
 pub record IsCalled (files after : FilesState) (job : ChipJob) (unwritten : Unwritten)
     (outcome : Result Answer Refusal) : Type 0 where
-  pub roles : HaveOneRole job
+  pub roles : HaveOneRole files.view.nature job
   pub nature : after.view.nature ≡ files.view.nature
   pub content : Content
   pub read : IsContentOf files.view job.programmer content
@@ -196,12 +196,13 @@ FailsJob view on_chip fault = FailsRoles view.nature on_chip fault
 
 -- ---- what a run leaves of files, at every exit
 
--- Each file is as it was but the trace and the one that the task makes; where one of these has the name of one of the
--- chip's files, that is as it was, too.
+-- Each file is as it was whose name is apart from those of the trace and of the file that the task makes; the chip's
+-- files are as they were in any case.
 pub record StayBut (programmer : Programmer) (made : Option (Bor Text)) (old new : FilesState) : Type 0 where
   pub image : StaysOf programmer.image old new
   pub status : StaysOf programmer.status old new
-  pub others : (name : Name) → IsNot programmer.trace name → IsNot made name → Stays name old new
+  pub others : (name : Name) → IsNot old.view.nature programmer.trace name → IsNot old.view.nature made name
+      → Stays name old new
 
 -- of a change: with a journal in a file the way back is kept, and a rehearsal leaves the files as they were
 abbrev pub KeepsChange : Programmer → JournalUse → (old new : FilesState) → Type 0

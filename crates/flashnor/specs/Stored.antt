@@ -1,8 +1,8 @@
 -- What was read of the files of a run, and what they have after it.
-use Rattle.std.specs.Prelude.{◌≡◌, ◌≢◌, ◌+◌, ℕ, List, Option, None, Some, IfSome, ⊤, length, true, unwrap_or}
+use Rattle.std.specs.Prelude.{◌≡◌, ◌+◌, ℕ, List, Option, None, Some, IfSome, ⊤, length, true, unwrap_or}
 use Rattle.std.specs.Borrow.{Bor}
 use Rattle.nor_files.specs.Calls.{LeavesNoMore, LeavesOrEmpty, Reads}
-use Rattle.nor_files.specs.Files.{Failure, FilesState, IsKnown, IsSettled, Stays, View, is_lawful}
+use Rattle.nor_files.specs.Files.{AreApart, Failure, FilesState, IsKnown, IsSettled, Nature, Stays, View, is_lawful}
 use Rattle.nor_files.specs.Files.Failure.{Unwritten}
 use Rattle.nor_words.specs.Text.{Text}
 
@@ -41,15 +41,16 @@ abbrev pub IsToldOf : (name failed : Option (Bor Text)) → View → Type 0
 IsToldOf name None view = ⊤
 IsToldOf name (Some failed) view = (name ≡ Some failed) × Happens view (Unwritten failed.now)
 
--- the name isn't that one, if one is given
-abbrev pub IsNot : Option (Bor Text) → Text → Type 0
-IsNot None name = ⊤
-IsNot (Some other) name = name ≢ other.now
+-- True if no other name is given, or if it is given and apart from the name: on lawful files the two refer to different
+-- files.
+abbrev pub IsNot : Nature → Option (Bor Text) → Text → Type 0
+IsNot nature None name = ⊤
+IsNot nature (Some other) name = AreApart nature other.now name
 
--- the two names are two, if both are given
-abbrev pub AreTwo : (one other : Option (Bor Text)) → Type 0
-AreTwo None other = ⊤
-AreTwo (Some one) other = IsNot other one.now
+-- the two names are apart, if both are given
+abbrev pub AreTwo : Nature → (one other : Option (Bor Text)) → Type 0
+AreTwo nature None other = ⊤
+AreTwo nature (Some one) other = IsNot nature other one.now
 
 -- the file that is named, if one is, is as it was
 abbrev pub StaysOf : Option (Bor Text) → (old new : FilesState) → Type 0

@@ -38,7 +38,8 @@ pub fn change_chip<'a, R: Store, B: Meter>(
 ) -> Result<Outcome, Fault<'a>>
     ensures nature { (R.state rt.new).view.nature ≡ (R.state rt.old).view.nature }
     ensures others { is_lawful (R.state rt.old).view ≡ true → (name : Name)
-        → IsNot (journal_of change.now.journal_use) name → Stays name (R.state rt.old) (R.state rt.new) }
+        → IsNot (R.state rt.old).view.nature (journal_of change.now.journal_use) name
+        → Stays name (R.state rt.old) (R.state rt.new) }
     ensures unmade { is_lawful (R.state rt.old).view ≡ true
         → OnErr result (MakesNothing (journal_of change.now.journal_use) (R.state rt.old) (R.state rt.new)) }
     ensures ok { IsModelled (B.state bus.old) → IsCalm (B.state bus.old)
@@ -80,7 +81,8 @@ fn change_with<'a, R: Store, B: Meter>(
 ) -> Result<Outcome, Fault<'a>>
     ensures nature { (R.state rt.new).view.nature ≡ (R.state rt.old).view.nature }
     ensures others { is_lawful (R.state rt.old).view ≡ true → (name : Name)
-        → IsNot (journal_of journal_use.now) name → Stays name (R.state rt.old) (R.state rt.new) }
+        → IsNot (R.state rt.old).view.nature (journal_of journal_use.now) name
+        → Stays name (R.state rt.old) (R.state rt.new) }
     ensures unmade { is_lawful (R.state rt.old).view ≡ true
         → OnErr result (MakesNothing (journal_of journal_use.now) (R.state rt.old) (R.state rt.new)) }
     ensures ok { IsModelled (B.state bus.old) → IsCalm (B.state bus.old)

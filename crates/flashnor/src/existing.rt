@@ -34,7 +34,7 @@ pub fn existing_journal<'a, R: Store>(rt: &R, task: &Task<'a>) -> Option<&'a str
 }
 
 /// The first fault of a session whose journal's file is there: what is read before a journal is made may fail, too.
-/// Nothing is written but the trace, which has to be no other file of the run.
+/// Only the trace is written. Its name must be apart from that of each other file of the run.
 pub fn fault_before<'a, R: Store>(rt: &mut R, job: &ChipJob<'a>, journal: &'a str) -> Fault<'a>
     requires makes { journal_by job.now.task ≡ Some journal }
     requires there { Happens (R.state rt.old).view (There journal.now) }
@@ -59,7 +59,8 @@ pub fn fault_before<'a, R: Store>(rt: &mut R, job: &ChipJob<'a>, journal: &'a st
 fn read_all<'a, R: Store>(rt: &mut R, job: &ChipJob<'a>) -> Result<(), Fault<'a>>
     requires { IsSome (journal_by job.now.task) }
     ensures fails { IfErr result (FailsJob (R.state rt.old).view job.now) }
-    ensures others { is_lawful (R.state rt.old).view ≡ true → (name : Name) → IsNot job.now.programmer.trace name
+    ensures others { is_lawful (R.state rt.old).view ≡ true → (name : Name)
+        → IsNot (R.state rt.old).view.nature job.now.programmer.trace name
         → Stays name (R.state rt.old) (R.state rt.new) }
 {
     let _content = read_content(rt, &job.programmer)?;
@@ -71,8 +72,8 @@ fn read_all<'a, R: Store>(rt: &mut R, job: &ChipJob<'a>) -> Result<(), Fault<'a>
 // Makes the file of the trace, if one is asked for, or empties it.
 fn make_trace<'a, R: Store>(rt: &mut R, trace: Option<&'a str>) -> Result<(), Fault<'a>>
     ensures nature { (R.state rt.new).view.nature ≡ (R.state rt.old).view.nature }
-    ensures others { is_lawful (R.state rt.old).view ≡ true → (name : Name) → IsNot trace.entry name
-        → Stays name (R.state rt.old) (R.state rt.new) }
+    ensures others { is_lawful (R.state rt.old).view ≡ true → (name : Name)
+        → IsNot (R.state rt.old).view.nature trace.entry name → Stays name (R.state rt.old) (R.state rt.new) }
     ensures err { IfErr result (λ fault. IsSomeAnd trace.entry (λ name. IsMaking (R.state rt.old).view name.now fault)) }
 {
     let Some(name) = trace else {

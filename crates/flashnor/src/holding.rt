@@ -1,13 +1,14 @@
 //! The chip's files in a run that changes the chip: held from before they are read until they are written over.
 ghost use Rattle.std.specs.Prelude.{◌≡◌, ◌+◌, true, false, List, ℕ, None, Some, IfErr, IfOk, IfSome, IsSomeAnd, OnErr, OnOk};
 ghost use Rattle.std.specs.Prelude.{option_map, vec_len};
-ghost use Rattle.nor_files.specs.Files.{AreAtRest, IsSettled, Name, OthersStay, Stays, is_lawful};
+ghost use Rattle.nor_files.specs.Calls.{LeaveNoMore};
+ghost use Rattle.nor_files.specs.Files.{AreAtRest, IsSettled, KnownStay, Name, OthersStay, Stays, is_lawful};
 ghost use Rattle.nor_files.specs.Files.Failure.{Unwritten as FailsWrite};
 ghost use Rattle.flashnor.specs.Chips.{ArePutBack, FailsToHold, IsContentOf};
 ghost use Rattle.flashnor.specs.Files.{IsHoldingFault, IsUnheldFault};
 ghost use Rattle.flashnor.specs.Found.{emulated_part};
-ghost use Rattle.flashnor.specs.Holding.{AreAmid, AreHeld, AreReady, IsHeld, IsReady, IsReadyFile, KnownStay};
-ghost use Rattle.flashnor.specs.Holding.{LeaveNoMore, LeavesAmid, LeavesFileAmid, Settles, StandsFor};
+ghost use Rattle.flashnor.specs.Holding.{AreAmid, AreHeld, AreReady, IsHeld, IsReady, IsReadyFile};
+ghost use Rattle.flashnor.specs.Holding.{LeavesAmid, LeavesFileAmid, Settles, StandsFor};
 ghost use Rattle.flashnor.specs.Stored.{AreTwo, Happens, IsFileFound, IsNot, IsRead, IsToldOf};
 
 use crate::chips::{Content, content_of, read_whole};
@@ -139,16 +140,18 @@ pub fn write_back<'a, R: Store>(
     bus: &SimBus,
 ) -> (Option<&'a str>, Option<&'a str>)
     ensures nature { (R.state rt.new).view.nature ≡ (R.state rt.old).view.nature }
-    ensures others { is_lawful (R.state rt.old).view ≡ true → (any : Name) → IsNot programmer.now.image any
-        → IsNot programmer.now.status any → Stays any (R.state rt.old) (R.state rt.new) }
+    ensures others { is_lawful (R.state rt.old).view ≡ true → (any : Name)
+        → IsNot (R.state rt.old).view.nature programmer.now.image any
+        → IsNot (R.state rt.old).view.nature programmer.now.status any
+        → Stays any (R.state rt.old) (R.state rt.new) }
     ensures fails { IsToldOf programmer.now.image result.0 (R.state rt.old).view
         × IsToldOf programmer.now.status result.1 (R.state rt.old).view }
-    ensures put { AreTwo programmer.now.image programmer.now.status → (bytes bits : List ℕ)
-        → AreReady programmer.now image_there status_there bytes bits
+    ensures put { AreTwo (R.state rt.old).view.nature programmer.now.image programmer.now.status
+        → (bytes bits : List ℕ) → AreReady programmer.now image_there status_there bytes bits
         (⟦<SimBus as Bus>⟧.state bus.now).chip (R.state rt.old)
         → ArePutBack programmer.now (⟦<SimBus as Bus>⟧.state bus.now).chip result.0 result.1 (R.state rt.new) }
-    ensures amid { AreTwo programmer.now.image programmer.now.status → (bytes bits : List ℕ)
-        → AreReady programmer.now image_there status_there bytes bits
+    ensures amid { AreTwo (R.state rt.old).view.nature programmer.now.image programmer.now.status
+        → (bytes bits : List ℕ) → AreReady programmer.now image_there status_there bytes bits
         (⟦<SimBus as Bus>⟧.state bus.now).chip (R.state rt.old)
         → AreAmid programmer.now image_there status_there bytes bits (⟦<SimBus as Bus>⟧.state bus.now).chip
         (R.state rt.new) }
@@ -166,8 +169,8 @@ fn put_back<'a, R: Store>(
     bytes: &[u8],
 ) -> Option<&'a str>
     ensures nature { (R.state rt.new).view.nature ≡ (R.state rt.old).view.nature }
-    ensures others { is_lawful (R.state rt.old).view ≡ true → (any : Name) → IsNot name.entry any
-        → Stays any (R.state rt.old) (R.state rt.new) }
+    ensures others { is_lawful (R.state rt.old).view ≡ true → (any : Name)
+        → IsNot (R.state rt.old).view.nature name.entry any → Stays any (R.state rt.old) (R.state rt.new) }
     ensures fails { IfSome result (λ failed. (name.entry ≡ Some failed)
         × Happens (R.state rt.old).view (FailsWrite failed.now)) }
     ensures put { result ≡ None → (had : List ℕ) → IsReady name.entry there had bytes.now (R.state rt.old)

@@ -37,7 +37,7 @@ enum Role {
 /// output, journal. Then it refuses a job of which a file that isn't only read is standard output or standard error.
 /// A name that can't be looked at is the fault of a file that can't be read.
 pub fn have_one_role<'a, R: Store>(rt: &R, job: &ChipJob<'a>) -> Result<(), Fault<'a>>
-    ensures ok { OnOk result (HaveOneRole job.now) }
+    ensures ok { OnOk result (HaveOneRole (R.state rt.now).view.nature job.now) }
     ensures err { IfErr result (FailsRoles (R.state rt.now).view.nature job.now) }
 {
     are_apart(rt, job)?;
@@ -46,7 +46,7 @@ pub fn have_one_role<'a, R: Store>(rt: &R, job: &ChipJob<'a>) -> Result<(), Faul
 
 /// Refuses a job whose trace has another role, too, as `have_one_role` does.
 pub fn has_own_trace<'a, R: Store>(rt: &R, job: &ChipJob<'a>) -> Result<(), Fault<'a>>
-    ensures ok { OnOk result (HasOwnTrace job.now) }
+    ensures ok { OnOk result (HasOwnTrace (R.state rt.now).view.nature job.now) }
     ensures err { IfErr result (FailsRoles (R.state rt.now).view.nature job.now) }
 {
     apart(rt, job, Role::Image, Role::Trace)?;
@@ -57,9 +57,9 @@ pub fn has_own_trace<'a, R: Store>(rt: &R, job: &ChipJob<'a>) -> Result<(), Faul
     unprinted(rt, job, Role::Trace)
 }
 
-// Each two files of the job that have to be two are.
+// Checks that each two files of the job that have to be two are: the store says that their names are apart.
 fn are_apart<'a, R: Store>(rt: &R, job: &ChipJob<'a>) -> Result<(), Fault<'a>>
-    ensures ok { OnOk result (HaveOneRole job.now) }
+    ensures ok { OnOk result (HaveOneRole (R.state rt.now).view.nature job.now) }
     ensures err { IfErr result (FailsRoles (R.state rt.now).view.nature job.now) }
 {
     if puts_back(&job.task) {
@@ -189,7 +189,8 @@ fn apart<'a, R: Store>(
     later: Role,
 ) -> Result<(), Fault<'a>>
     requires { must_differ job.now earlier later ≡ true }
-    ensures ok { OnOk result (AreTwo (file_in job.now earlier) (file_in job.now later)) }
+    ensures ok { OnOk result
+        (AreTwo (R.state rt.now).view.nature (file_in job.now earlier) (file_in job.now later)) }
     ensures err { IfErr result (FailsRoles (R.state rt.now).view.nature job.now) }
 {
     match (file_in(job, earlier), file_in(job, later)) {

@@ -177,7 +177,7 @@ fn work_on_chip<'a, R: Store>(rt: &mut R, job: &ChipJob<'a>) -> Result<Work<'a>,
 // Reads the chip's files, does a task that leaves them as they are.
 fn look_at_files<'a, R: Store>(rt: &mut R, job: &ChipJob<'a>) -> Result<Work<'a>, Fault<'a>>
     requires looks { puts_back job.now.task ≡ false }
-    requires roles { HaveOneRole job.now }
+    requires roles { HaveOneRole (R.state rt.old).view.nature job.now }
     ensures ok { IfOk result (λ work.
         EndsJob (R.state rt.old) (R.state rt.new) job.now work.unwritten work.answer) }
     ensures err { IfErr result (FailsJob (R.state rt.old).view job.now) }
@@ -200,7 +200,7 @@ fn look_at_files<'a, R: Store>(rt: &mut R, job: &ChipJob<'a>) -> Result<Work<'a>
 // Holds the chip's files, does a task that changes the chip, and writes it over them.
 fn change_files<'a, R: Store>(rt: &mut R, job: &ChipJob<'a>) -> Result<Work<'a>, Fault<'a>>
     requires changes { puts_back job.now.task ≡ true }
-    requires roles { HaveOneRole job.now }
+    requires roles { HaveOneRole (R.state rt.old).view.nature job.now }
     ensures ok { IfOk result (λ work.
         EndsJob (R.state rt.old) (R.state rt.new) job.now work.unwritten work.answer) }
     ensures err { IfErr result (FailsJob (R.state rt.old).view job.now) }
@@ -273,9 +273,12 @@ fn call_on<'a, R: Store>(
     job: &ChipJob<'a>,
 ) -> Result<Called<'a>, Fault<'a>>
     ensures nature { (R.state rt.new).view.nature ≡ (R.state rt.old).view.nature }
-    ensures others { is_lawful (R.state rt.old).view ≡ true → (name : Name) → IsNot job.now.programmer.trace name
-        → IsNot (made_by job.now.task) name → Stays name (R.state rt.old) (R.state rt.new) }
-    ensures unmade { is_lawful (R.state rt.old).view ≡ true → AreTwo job.now.programmer.trace (journal_by job.now.task)
+    ensures others { is_lawful (R.state rt.old).view ≡ true → (name : Name)
+        → IsNot (R.state rt.old).view.nature job.now.programmer.trace name
+        → IsNot (R.state rt.old).view.nature (made_by job.now.task) name
+        → Stays name (R.state rt.old) (R.state rt.new) }
+    ensures unmade { is_lawful (R.state rt.old).view ≡ true
+        → AreTwo (R.state rt.old).view.nature job.now.programmer.trace (journal_by job.now.task)
         → OnErr result (MakesNothing (journal_by job.now.task) (R.state rt.old) (R.state rt.new)) }
     ensures ok { let old = ⟦<SimBus as Bus>⟧.state bus in IsReady job.now.programmer old
         → IfOk result (λ called. DoesTraced (R.state rt.old) (R.state rt.new) job.now old
@@ -307,7 +310,8 @@ fn do_task<'a, R: Store, B: Meter>(
 ) -> Result<Outcome, Fault<'a>>
     ensures nature { (R.state rt.new).view.nature ≡ (R.state rt.old).view.nature }
     ensures others { is_lawful (R.state rt.old).view ≡ true → (name : Name)
-        → IsNot (made_by job.now.task) name → Stays name (R.state rt.old) (R.state rt.new) }
+        → IsNot (R.state rt.old).view.nature (made_by job.now.task) name
+        → Stays name (R.state rt.old) (R.state rt.new) }
     ensures unmade { is_lawful (R.state rt.old).view ≡ true
         → OnErr result (MakesNothing (journal_by job.now.task) (R.state rt.old) (R.state rt.new)) }
     ensures ok { IsReady job.now.programmer (B.state bus.old)

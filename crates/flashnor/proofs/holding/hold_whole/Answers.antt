@@ -1,5 +1,5 @@
-use Rattle.flashnor.proofs.Holds.{missing_settled, placed_stay}
-use Rattle.flashnor.proofs.Stays.{known_at_rest, rest_on, stays_on}
+use Rattle.flashnor.proofs.Holds.{missing_settled}
+use Rattle.flashnor.proofs.Stays.{known_after, known_at_rest, rest_on, stays_on}
 use Rattle.flashnor.proofs.holding.hold_whole.Goals as goal
 
 pub returns-in_err-read_held-in-Ok-true-clause-no_more :
@@ -24,13 +24,23 @@ pub returns-in_ok-read_held-in-Ok-true-clause-no_more :
 returns-in_ok-read_held-in-Ok-true-clause-no_more g c = λ rest name.
     ((returns-in_ok-read_held-in-Ok-true-clause-held g c rest).stay name).leaves
 
+pub returns-in_ok-read_held-in-Ok-true-clause-stay :
+    goal.returns-in_ok-read_held-in-Ok-true-clause-stay
+returns-in_ok-read_held-in-Ok-true-clause-stay g c = λ name known.
+    let one = (c.in-Ok-true.ensures.holds known.lawful).stay name in
+    stays_on one (c.in_ok-read_held-in-Ok-true.ensures.stay name (known_after c.in-Ok-true.ensures.nature one known))
+
+pub returns-in-Ok-clause-stay : goal.returns-in-Ok-clause-stay
+returns-in-Ok-clause-stay g c = λ name known.
+    let one = (c.in-Ok-false.ensures.holds known.lawful).stay name in
+    stays_on one (c.in-Ok.ensures.stay name (known_after c.in-Ok-false.ensures.nature one known))
+
 pub returns-in-Ok-clause-held : goal.returns-in-Ok-clause-held
 returns-in-Ok-clause-held g c = λ rest.
     let holds = c.in-Ok-false.ensures.holds rest.lawful in
     let held = rest_on c.in-Ok-false.ensures.nature rest holds.stay in
-    let two = placed_stay _ c.in-Ok.ensures.alone c.in-Ok.ensures.places in
     record {
-      stay = λ name. stays_on (holds.stay name) (two name (known_at_rest held name));
+      stay = λ name. stays_on (holds.stay name) (c.in-Ok.ensures.stay name (known_at_rest held name));
       settled = rw c.in-Some.is (missing_settled c.in-Ok-false.field-0-test (known_at_rest rest c.in-Some.name.now) holds
           (c.in-Ok.ensures.places (known_at_rest held c.in-Some.name.now)));
     }
@@ -42,8 +52,7 @@ pub returns-in-Err-sync_folder-clause-no_more : goal.returns-in-Err-sync_folder-
 returns-in-Err-sync_folder-clause-no_more g c = λ rest name.
     let one = (c.in-Ok-false.ensures.holds rest.lawful).stay in
     let held = rest_on c.in-Ok-false.ensures.nature rest one in
-    let two = placed_stay _ c.in-Err-sync_folder.ensures.alone c.in-Err-sync_folder.ensures.places in
-    (stays_on (one name) (two name (known_at_rest held name))).leaves
+    (stays_on (one name) (c.in-Err-sync_folder.ensures.stay name (known_at_rest held name))).leaves
 
 pub returns-in-Err-clause-no_more : goal.returns-in-Err-clause-no_more
 returns-in-Err-clause-no_more g c = λ rest name. ((c.in-Err.ensures.holds rest.lawful).stay name).leaves

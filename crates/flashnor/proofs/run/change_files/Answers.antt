@@ -7,7 +7,7 @@ use Rattle.flashnor.proofs.Kept.{does_after, holds_task, keeps_files, ready_both
 use Rattle.flashnor.proofs.Stays.{lawful_after}
 use Rattle.flashnor.proofs.Traced.{fails_before, view_before}
 use Rattle.flashnor.proofs.WrittenBack.{told_before}
-use Rattle.flashnor.proofs.Before.{keeps_before, two_kept}
+use Rattle.flashnor.proofs.Before.{keeps_before, roles_after, two_kept}
 use Rattle.flashnor.proofs.run.change_files.Goals as goal
 
 pub returns-in_err-called-clause-err : goal.returns-in_err-called-clause-err
@@ -21,10 +21,12 @@ pub returns-in_err-called-clause-keeps : goal.returns-in_err-called-clause-keeps
 returns-in_err-called-clause-keeps g c = λ rest.
     let held = c.in_ok-held.ensures in
     let lawful1 = lawful_after held.nature rest.lawful in
+    let roles1 = roles_after c.args.job.now held.nature c.requires.roles in
     keeps_before (g.R.Store.state c.args.rt.now) (g.R.Store.state c.hold_content.new.rt)
     (g.R.Store.state c.call_on.new.rt) rest held.nature held.stay (held.no_more rest) c.args.job.now c.requires.roles
     c.requires.changes (c.in_err-called.ensures.others lawful1)
-    (c.in_err-called.ensures.unmade lawful1 (two_kept c.args.job.now.task _ c.requires.roles.trace_journal))
+    (c.in_err-called.ensures.unmade lawful1
+    (two_kept (g.R.Store.state c.hold_content.new.rt).view.nature c.args.job.now.task _ roles1.trace_journal))
 
 pub returns : goal.returns
 returns g c =
@@ -41,6 +43,7 @@ returns g c =
     let opens = c.start-bus.ensures.opens in
     let called = c.in_ok-called.ensures in
     let back = c.write_back.ensures in
+    let roles2 = roles_after job (called.nature ∙ held.nature) roles in
     let d = called.ok opens.ready in
     let but = view_before job.programmer.trace s0 s1 d.0 held.nature held.stay d.1 in
     let setup = setup_done job.task d.0 s2 job.programmer job.named _ _ _ puts d.2 in
@@ -58,26 +61,26 @@ returns g c =
         does = (
           d.0,
           but,
-          does_after job.programmer s2 s3 back.nature back.others job.task d.0 job.named _ _ _ puts roles.image_journal
-              roles.status_journal d.2,
+          does_after job.programmer s2 s3 back.nature back.others job.task d.0 job.named _ _ _ puts roles2.image_journal
+              roles2.status_journal d.2,
         );
         told_of = rw puts (
           told_before _ _ s0.view s2.view (called.nature ∙ held.nature) back.fails.0,
           told_before _ _ s0.view s2.view (called.nature ∙ held.nature) back.fails.1,
         );
-        left = λ rest puts. back.put (roles.status puts) _ _ (ready rest);
+        left = λ rest puts. back.put (roles2.status puts) _ _ (ready rest);
         traced = called.lost;
       }) c.told-answer.ensures;
       err = tt;
       keeps = λ rest. keeps_files job c.in_ok-held.held s0 s1 s2 bus bus' roles held.ok opens rest (held.held rest)
           held.nature called.nature called.others setup s3 d.0 held.stands c.in_ok-called.called.bus.flash.kept2_in but
-          back.others (back.amid (roles.status puts) _ _ (ready rest)) job.task job.named _ puts
+          back.others (back.amid (roles2.status puts) _ _ (ready rest)) job.task job.named _ puts
           (called.others (lawful_after held.nature rest.lawful)) roles.image_journal roles.status_journal
           roles.trace_journal d.2;
       holds = λ rest. holds_told job _ _ _ s0 s3 c.told-answer.ensures (λ found is all. holds_task job
           c.in_ok-held.held s0 s1 s2 bus bus' roles held.ok opens rest (held.held rest) held.nature called.nature
           called.others setup s3 d.0 held.stands c.in_ok-called.called.bus.flash.kept2_in but back.others
-          (back.amid (roles.status puts) _ _ (ready rest)) _ all (back.put (roles.status puts) _ _ (ready rest)) job.task
+          (back.amid (roles2.status puts) _ _ (ready rest)) _ all (back.put (roles2.status puts) _ _ (ready rest)) job.task
           job.named found puts (called.others (lawful_after held.nature rest.lawful)) roles.trace_layout
           roles.trace_wanted roles.image_journal roles.status_journal roles.trace_journal (rw is at d.2));
     }

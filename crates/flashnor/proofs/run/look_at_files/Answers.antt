@@ -23,15 +23,16 @@ returns-clause-ok g c =
 
 pub returns-in_err-content-clause-keeps : goal.returns-in_err-content-clause-keeps
 returns-in_err-content-clause-keeps g c = λ lawful.
-    stays_but c.args.job.now c.requires.roles _ _ (λ name _ _. stays_same name (g.R.Store.state c.args.rt.now))
+    stays_but c.args.job.now (g.R.Store.state c.args.rt.now) _ c.requires.roles
+    (λ name _ _. stays_same name (g.R.Store.state c.args.rt.now))
 
 pub returns-in_err-called-clause-keeps : goal.returns-in_err-called-clause-keeps
 returns-in_err-called-clause-keeps g c = λ lawful.
-    stays_but c.args.job.now c.requires.roles _ _ (c.in_err-called.ensures.others lawful)
+    stays_but c.args.job.now (g.R.Store.state c.args.rt.now) _ c.requires.roles (c.in_err-called.ensures.others lawful)
 
 pub returns-clause-keeps : goal.returns-clause-keeps
 returns-clause-keeps g c = λ lawful.
-    stays_but c.args.job.now c.requires.roles _ _ (c.in_ok-called.ensures.others lawful)
+    stays_but c.args.job.now (g.R.Store.state c.args.rt.now) _ c.requires.roles (c.in_ok-called.ensures.others lawful)
 
 pub returns-in_err-called-clause-err : goal.returns-in_err-called-clause-err
 returns-in_err-called-clause-err g c =
