@@ -1,211 +1,48 @@
--- What a run that changes a chip leaves of files, whatever its task.
+-- What a run that changes a chip leaves of files, whatever its task, and what they hold at its end.
 use Rattle.std.proofs.Common.{◌≡◌, ◌<◌, ◌/◌, ◌%◌, ◌∙◌, ◌∷◌, [], ℕ, Bool, List, Option, None, Some}
-use Rattle.std.proofs.Common.{Result, Ok, ◌⊎◌, IfSome, ap, arith, false, inl, inr, length, refl, replicate}
-use Rattle.std.proofs.Common.{slice_index, subst, sym, true, unwrap_or}
+use Rattle.std.proofs.Common.{Result, Ok, IfSome, ap, arith, inl, inr, length, refl, replicate}
+use Rattle.std.proofs.Common.{subst, sym, true}
 use Rattle.std.specs.Borrow.{Bor}
-use Rattle.std.proofs.lemmas.Bool.{cases_Bool, cases_lt}
-use Rattle.std.proofs.lemmas.List.{get_or_past, length-replicate}
-use Rattle.std.proofs.lemmas.Option.{same_Some}
+use Rattle.std.proofs.lemmas.Bool.{cases_lt}
+use Rattle.std.proofs.lemmas.List.{get_or_past}
 use Rattle.nor_chip.specs.Bus.{BusState}
 use Rattle.nor_chip.specs.Chip.{KeptBits}
 use Rattle.nor_chip.specs.Start.{status_of}
 use Rattle.nor_chip.proofs.Kept.{kept_told}
 use Rattle.nor_chip.specs.declared.config.Config.{Config}
 use Rattle.nor_probe.specs.declared.table.ChipName.{ChipName}
-use Rattle.nor_files.specs.Files.{AllStay, AreAtRest, FilesState, Found, IsSettled, Stays, View, is_lawful}
+use Rattle.nor_files.specs.Files.{AreAtRest, FilesState, Found, IsSettled, Stays, View, is_lawful}
 use Rattle.nor_journal.specs.Text.{text}
-use Rattle.nor_journal.specs.Vault.{VaultState}
 use Rattle.nor_call.specs.declared.refusal.Refusal.{Refusal}
 use Rattle.nor_call.specs.declared.request.Request.{Request}
 use Rattle.nor_session.specs.WrittenOver.{IsWrittenOver}
 use Rattle.nor_words.specs.Text.{Text}
 use Rattle.nor_layout.specs.declared.ranges.Span.{Span}
 use Rattle.nor_words.specs.declared.job.Change.{Change}
-use Rattle.nor_words.specs.declared.job.Regions.{Regions}
-use Rattle.nor_words.specs.declared.job.Wanted.{Wanted}
-use Rattle.nor_words.specs.declared.job.Wanted.TheVariants as wanted
-use Rattle.nor_words.specs.declared.programmer.Emulated.{Emulated}
 use Rattle.nor_words.specs.declared.job.ChipJob.{ChipJob}
 use Rattle.nor_words.specs.declared.job.JournalUse.{JournalUse}
 use Rattle.nor_words.specs.declared.job.JournalUse.TheVariants as uses
 use Rattle.nor_words.specs.declared.job.Task.{Task}
 use Rattle.nor_words.specs.declared.job.Task.TheVariants as task
-use Rattle.nor_words.specs.declared.programmer.Programmer.{Programmer}
-use Rattle.flashnor.specs.Changes.{HasMadeChange, IsKeptFile, IsKeptIn}
+use Rattle.flashnor.specs.Changes.{HasMadeChange, IsKeptFile}
 use Rattle.flashnor.specs.Chips.{ArePutBack, IsContentOf, OpensChip}
 use Rattle.flashnor.specs.Endings.{all_written}
-use Rattle.flashnor.specs.Found.{emulated_part}
-use Rattle.flashnor.specs.Holding.{AreAmid, AreHeld, AreReady, IsAmid, IsReady, LeavesAmid, Settles, StandsFor, was}
+use Rattle.flashnor.specs.Holding.{AreAmid, AreHeld, AreReady, IsReady, Settles, StandsFor, was}
 use Rattle.flashnor.specs.Left.{IsNoFileOf, IsOpenedFrom, LeadsBack, LeavesAsLong, MayFind, Opened}
 use Rattle.flashnor.specs.Requests.{AreRangesOf, IsBufferOf, request_for}
 use Rattle.flashnor.specs.Roles.{HaveOneRole, image_of, layout_of, named_by}
 use Rattle.flashnor.specs.Run.{DoesJob, HoldsChange, HoldsTask, IsViewBut, KeepsChange, KeepsFiles}
-use Rattle.flashnor.specs.Stored.{AreOfFile, AreTwo, IsNot}
+use Rattle.flashnor.specs.Stored.{AreTwo, IsNot}
 use Rattle.flashnor.specs.Tasks.{journal_of, keeps_journal, made_by, puts_back}
 use Rattle.flashnor.specs.declared.answers.Answer.{Answer}
 use Rattle.flashnor.specs.declared.holding.Held.{Held}
 use Rattle.flashnor.specs.declared.holding.Unwritten.{Unwritten}
 use Rattle.flashnor.proofs.Before.{image_made, status_made}
-use Rattle.flashnor.proofs.Shown.{size_with}
 use Rattle.flashnor.proofs.Stays.{StayApart, known_after, known_at_rest, lawful_after, not_after, not_that, rest_on}
 use Rattle.flashnor.proofs.Stays.{settled_after, stays_on}
 use Rattle.flashnor.proofs.Traced.{missing_before, reads_before}
-
--- ---- as many bytes as a file is to have
-
--- where no file is named the missing bytes stand for it
-pub of_none : (view : View) (name : Option (Bor Text)) (len : ℕ) (missing bytes : List ℕ) → name ≡ None
-    → AreOfFile view name len missing bytes → bytes ≡ missing
-of_none view name len missing bytes none are = grind arith
-
--- if the file that is named was not found, the missing bytes stand for it
-pub of_gone : {view : View} {name : Option (Bor Text)} {len : ℕ} {missing bytes : List ℕ}
-    → (are : AreOfFile view name len missing bytes) → are.found ≡ None → bytes ≡ missing
-of_gone {missing = missing} are gone = are.same ∙ ap (λ (found : Found). unwrap_or found missing) gone
-
-as_many : (view : View) (name : Option (Bor Text)) (len : ℕ) (missing bytes : List ℕ)
-    → AreOfFile view name len missing bytes → length missing ≡ len → length bytes ≡ len
-as_many view name len missing bytes are many = ap length are.same
-    ∙ (elim are.found as (λ f. IfSome f (λ all. length all ≡ len) → length (unwrap_or f missing) ≡ len)
-    [ None ↦ λ _. many | Some all ↦ λ whole. whole ]) are.whole
-
--- a chip that was opened has as many bytes as were read of it
-module _ {programmer : Programmer} {files : FilesState} (first : Opened programmer files) where
-  pub opened_size : first.bus.chip.config.size ≡ (emulated_part programmer.chip).size
-  opened_size = size_with programmer.chip programmer.unique first.bus.chip.config first.opens.ready.config
-
-  pub opened_many : length first.content.bytes.items ≡ first.bus.chip.config.size
-  opened_many =
-      as_many files.view programmer.image _ _ _ first.read.bytes (length-replicate {A = ℕ} _ 255) ∙ sym opened_size
-
--- ---- what is opened from what may be left
-
--- byte by byte it is what was there or what is written
-abbrev IsEither : (had bytes has : List ℕ) → Type 0
-IsEither had bytes has = (i : ℕ) → (slice_index has i ≡ slice_index had i) ⊎ (slice_index has i ≡ slice_index bytes i)
-
-left_either : (had bytes missing : List ℕ) (there : Bool) (left : Found) → (there ≡ false → had ≡ missing)
-    → IsAmid there had bytes left → IfSome left (λ has. length has ≡ length bytes)
-    → IsEither had bytes (unwrap_or left missing)
-left_either had bytes missing true left stood amid whole i = let (has, is, mix) = amid in rw is (mix.each i)
-left_either had bytes missing false left stood amid whole i = elim amid [
-  | inl gone ↦ inl (rw (gone, stood refl) refl)
-  | inr made ↦ inr (rw made.1 (ap (λ (l : List ℕ). slice_index l i) (made.2 (rw made.1 at whole))))
-]
-
--- each byte of what a later run may find is the old or the new one, even if a file that was missing is moved aside
-found_either : (had bytes missing : List ℕ) (named : Option (Bor Text)) (there : Bool) (files : FilesState)
-    (was' left : Found) → (there ≡ false → had ≡ missing) → (named ≡ None → had ≡ missing)
-    → (was' ≡ None → had ≡ missing) → LeavesAmid named there had bytes files → MayFind named was' left files
-    → IfSome left (λ has. length has ≡ length bytes) → IsEither had bytes (unwrap_or left missing)
-found_either had bytes missing None there files was' left stood unnamed moved amid can whole i =
-    inl (rw (can, unnamed refl) refl)
-found_either had bytes missing (Some name) there files was' left stood unnamed moved amid can whole i = elim can [
-  | inl may ↦ left_either had bytes missing there left stood (amid left may) whole i
-  | inr aside ↦ inl (rw (aside.1, moved aside.0) refl)
-]
-
--- a file that was there has all its bytes while it is written over
-as_long : (name : Option (Bor Text)) (there : Bool) (had put : List ℕ) (s0 s1 s3 : FilesState) → AllStay s0 s1
-    → Settles name (was there had) s1 → length had ≡ length put → LeavesAmid name there had put s3
-    → LeavesAsLong name s0 s3
-as_long None there had put s0 s1 s3 stay settled many amid = tt
-as_long (Some name) true had put s0 s1 s3 stay settled many amid = λ all seen left can.
-    let (has, is, mix) = amid left can in
-    let same : all ≡ had = same_Some all had (sym seen ∙ sym (stay name.now).seen ∙ settled.seen) in
-    rw is (omega (arith, mix.shortest, mix.longest, many, ap length same))
-as_long (Some name) false had put s0 s1 s3 stay settled many amid = λ all seen left can.
-    let both : None ≡ Some all = sym settled.seen ∙ (stay name.now).seen ∙ seen in
-    absurd cc
-
--- ---- the chip and the journal that the call left
-
--- the file of a journal stays while others are written
-kept_after : {file : Text} {vault : VaultState} {s2 s3 : FilesState} → Stays file s2 s3 → IsKeptFile file vault s2
-    → IsKeptFile file vault s3
-kept_after stays kept = record {
-  telling = kept.telling;
-  seen = stays.seen ∙ kept.seen;
-  settled = λ is. settled_after stays (kept.settled is);
-}
-
--- the chip that a change leaves has the same configuration
-setup_kept : {request : Request} {image : List ℕ} {old new : BusState} {after : FilesState}
-    {outcome : Result Answer Refusal} (before : View) (kept : JournalUse) → keeps_journal kept ≡ true
-    → HasMadeChange request image kept old new before after outcome → new.chip.config ≡ old.chip.config
-setup_kept before (uses.Journal file) keeps made =
-    elim (cases_Bool made.vault'.sealed) [
-      | inl sealed ↦ (made.done.undo sealed).changes.within.config
-      | inr open' ↦ (made.done.same open').config
-    ]
-setup_kept before (uses.Rehearse stops) keeps made = absurd cc
-
-pub setup_done : (done : Task) (amid : View) (after : FilesState) (programmer : Programmer) (named : Option ChipName)
-    (old new : BusState) (outcome : Result Answer Refusal) → puts_back done ≡ true
-    → DoesJob amid after programmer named done old new outcome → new.chip.config ≡ old.chip.config
-setup_done (task.Change change) amid after programmer named old new outcome puts does =
-    setup_kept amid change.journal_use puts does.changed
-setup_done (task.Restore journal) amid after programmer named old new outcome puts does = does.restored.config
-setup_done _ amid after programmer named old new outcome puts does = absurd cc
-
--- and its journal is kept while the chip's files are written
-module _ (programmer : Programmer) (s2 s3 : FilesState) (nature : s3.view.nature ≡ s2.view.nature)
-    (last : is_lawful s2.view ≡ true → StayApart programmer.image programmer.status s2 s3) where
-  kept_in_after : (kept : JournalUse) (vault vault' : VaultState)
-      → AreTwo s2.view.nature programmer.image (journal_of kept)
-      → AreTwo s2.view.nature programmer.status (journal_of kept) → IsKeptIn kept vault vault' s2
-      → IsKeptIn kept vault vault' s3
-  kept_in_after (uses.Journal file) vault vault' one other before = λ lawful.
-      let was' = lawful_after (sym nature) lawful in
-      kept_after (last was' file.now (not_that s2.view.nature programmer.image file one)
-      (not_that s2.view.nature programmer.status file other)) (before was')
-  kept_in_after (uses.Rehearse stops) vault vault' one other before = before
-
-  pub does_after : (done : Task) (amid : View) (named : Option ChipName) (old new : BusState)
-      (outcome : Result Answer Refusal) → puts_back done ≡ true
-      → AreTwo s2.view.nature programmer.image (named_by done).journal
-      → AreTwo s2.view.nature programmer.status (named_by done).journal
-      → DoesJob amid s2 programmer named done old new outcome
-      → DoesJob amid s3 programmer named done old new outcome
-  does_after (task.Change change) amid named old new outcome puts one other does = record {
-    ranges = does.ranges;
-    included = does.included;
-    image = does.image;
-    buffer = does.buffer;
-    changed = record {
-      missing = does.changed.missing;
-      vault = does.changed.vault;
-      vault' = does.changed.vault';
-      fresh = does.changed.fresh;
-      kept_in = kept_in_after change.journal_use _ _ one other does.changed.kept_in;
-      done = does.changed.done;
-    };
-  }
-  does_after (task.Restore journal) amid named old new outcome puts one other does = does
-  does_after _ amid named old new outcome puts one other does = absurd cc
-
--- ---- what was read before the trace was made
-
-pub ranges_before : (trace : Option (Bor Text)) (old amid : View) (regions : Option Regions)
-    (ranges : Option (List Span)) → AreTwo old.nature trace (layout_of regions) → IsViewBut trace old amid
-    → AreRangesOf amid regions ranges → AreRangesOf old regions ranges
-ranges_before trace old amid None ranges two but are = are
-ranges_before trace old amid (Some regions) None two but are = absurd are
-ranges_before trace old amid (Some regions) (Some ranges) two but are = record {
-  text = are.text;
-  read = reads_before trace regions.layout.now 16777217 _ old amid (not_that old.nature trace regions.layout two) but
-      are.read;
-  whole = are.whole;
-  included = are.included;
-}
-
-pub buffer_before : (trace : Option (Bor Text)) (old amid : View) (chip : Emulated) (what : Wanted)
-    (bytes : List ℕ) → AreTwo old.nature trace (image_of what) → IsViewBut trace old amid
-    → IsBufferOf amid chip what bytes → IsBufferOf old chip what bytes
-buffer_before trace old amid chip (wanted.Write image) bytes two but is =
-    reads_before trace image.now 16777217 _ old amid (not_that old.nature trace image two) but is
-buffer_before trace old amid chip wanted.Erase bytes two but is = is
-buffer_before trace old amid chip (wanted.Range start len) bytes two but is = is
+use Rattle.flashnor.proofs.AfterCall.{buffer_before, kept_after, ranges_before}
+use Rattle.flashnor.proofs.Reopened.{as_long, as_many, found_either, of_gone, of_none, opened_many, opened_size}
 
 -- ---- the chip's files
 

@@ -6,7 +6,10 @@ pub mod Stays
 pub mod Unread
 pub mod Traced
 pub mod Before
+pub mod Reopened
+pub mod AfterCall
 pub mod Kept
+pub mod Aside
 pub mod Undone
 pub mod Ended
 pub mod Printed

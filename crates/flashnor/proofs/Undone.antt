@@ -1,24 +1,23 @@
 -- Runs one behind another: each restore leads back as its predecessors did, and one that ends has left the first chip.
 use mathlib.Core.HLevel.{is_prop→PathP}
-use Rattle.std.proofs.Common.{◌≡◌, ◌<◌, ◌+◌, ◌∙◌, ◌++◌, ◌∷◌, [], ℕ, Bool, List, Option, None, Some, Result}
-use Rattle.std.proofs.Common.{Ok, ◌⊎◌, IfSome, IsSomeAnd, IsTrue, ap, arith, drop, inl, inr, length, option_map, refl, replicate}
+use Rattle.std.proofs.Common.{◌≡◌, ◌<◌, ◌∙◌, ◌++◌, ◌∷◌, [], ℕ, Bool, List, Option, None, Some, Result}
+use Rattle.std.proofs.Common.{Ok, ◌⊎◌, IfSome, IsTrue, ap, arith, drop, inl, inr, length, option_map, refl, replicate}
 use Rattle.std.proofs.Common.{slice_index, subst, sym, take, true, unwrap_or}
 use Rattle.std.specs.Borrow.{Bor}
 use Rattle.std.proofs.Math.Bool.{Bool-set}
 use Rattle.std.proofs.lemmas.Bool.{cases_lt}
-use Rattle.std.proofs.lemmas.List.{append-nil, get_or_past, length-take, take-append-drop, take_all}
+use Rattle.std.proofs.lemmas.List.{append-nil, get_or_past, take-append-drop}
 use Rattle.nor_chip.specs.Bus.{BusState}
 use Rattle.nor_chip.specs.Chip.{Chip, IsSame, KeptBits, kept_in}
 use Rattle.nor_chip.specs.Makers.{HasParts}
 use Rattle.nor_chip.specs.Sim.{state_of}
 use Rattle.nor_chip.specs.Size.{is_chip_size}
 use Rattle.nor_chip.specs.Start.{status_of}
-use Rattle.nor_driver.specs.StatusWrites.{fixed_of}
 use Rattle.nor_chip.proofs.Kept.{kept_told}
 use Rattle.nor_chip.specs.declared.config.Config.{Config}
 use Rattle.nor_chip.specs.declared.config.Kinds.{Kinds}
 use Rattle.nor_files.specs.Calls.{LeavesNoMore}
-use Rattle.nor_files.specs.Files.{AreAtRest, FilesState, Found, Name, View, is_lawful}
+use Rattle.nor_files.specs.Files.{AreAtRest, FilesState, Found, Name, is_lawful}
 use Rattle.nor_journal.specs.Text.{Content as Journal, IsContent, text}
 use Rattle.nor_journal.proofs.OneForm.{one_text}
 use Rattle.nor_session.specs.Headline.{CanGiveBack}
@@ -33,15 +32,16 @@ use Rattle.nor_words.specs.declared.programmer.Programmer.{Programmer}
 use Rattle.flashnor.specs.Chips.{ArePutBack, IsConfigWith}
 use Rattle.flashnor.specs.Endings.{all_written}
 use Rattle.flashnor.specs.Found.{emulated_part}
-use Rattle.flashnor.specs.Left.{IsOpenedFrom, KeepsRestorable, LeadsBack, LeavesAsLong, LeavesRestorable, MayFind, Opened}
-use Rattle.flashnor.specs.Stored.{ArePut, IsFileFound, IsRead, LeavesNoMoreOf}
+use Rattle.flashnor.specs.Left.{IsOpenedFrom, KeepsRestorable, LeadsBack, LeavesRestorable, MayFind, Opened}
+use Rattle.flashnor.specs.Stored.{ArePut, IsRead, LeavesNoMoreOf}
 use Rattle.flashnor.specs.Undone.{HaveOneChip, LeavesFirst, NameOne, Restores, RestoresFirst}
 use Rattle.flashnor.specs.declared.answers.Answer.{Answer}
 use Rattle.flashnor.specs.declared.holding.Unwritten.{Unwritten}
 use Rattle.flashnor.specs.declared.messages.Fault.{Fault}
-use Rattle.flashnor.proofs.Kept.{of_gone, opened_many, opened_size}
+use Rattle.flashnor.proofs.Reopened.{of_gone, opened_many, opened_size}
 use Rattle.flashnor.proofs.Stays.{known_at_rest, lawful_after, not_that}
 use Rattle.flashnor.proofs.Traced.{reads_before}
+use Rattle.flashnor.proofs.Aside.{left_seen, mixed_back, none_found, pick}
 
 -- ---- a chip and its number have one configuration
 
@@ -73,31 +73,6 @@ same_with chip (Some number) one other a b =
     let zeros = replicate 8 0 in
     let bare = same_emulated chip (record one { unique = zeros }) (record other { unique = zeros }) a.0 b.0 in
     λ i. record (bare i) { unique = (a.1 ∙ sym b.1) i }
-
--- ---- what a run reads of a file is what may be left of it
-
--- a file that has just so many bytes was read as it is
-whole_seen : (len : ℕ) (seen found : Found) → found ≡ option_map (take (len + 1)) seen
-    → IfSome found (λ all. length all ≡ len) → found ≡ seen
-whole_seen len seen found is whole = grind (arith, take_all, length-take)
-
-left_seen : (files : FilesState) → AreAtRest files → ((name : Name) → files.may_leave name (files.view.seen name))
-    → (name : Option (Bor Text)) (len : ℕ) (found : Found) → IsFileFound files.view name len found
-    → IfSome found (λ all. length all ≡ len) → (was : Found) → MayFind name was found files
-left_seen files rest still None len found is whole was = is
-left_seen files rest still (Some name) len found is whole was =
-    inl (rw (whole_seen len (files.view.seen name.now) found (is (known_at_rest rest name.now)) whole) (still name.now))
-
-whole_of : (found : Found) (n m : ℕ) → n ≡ m → IsSomeAnd found (λ all. length all ≡ n)
-    → IfSome found (λ all. length all ≡ m)
-whole_of None n m same many = absurd many
-whole_of (Some all) n m same many = many ∙ same
-
--- if no file is named, none is found
-none_found : (view : View) (name : Option (Bor Text)) (len : ℕ) (found : Found) → IsFileFound view name len found
-    → name ≡ None → found ≡ None
-none_found view None len found is none = is
-none_found view (Some name) len found is none = absurd cc
 
 -- ---- names
 
@@ -140,58 +115,6 @@ same_journal journal other n sound is reads =
     ap (λ (t : List ℕ). t ++ drop n (text journal)) (sym begins) ∙ take-append-drop n (text journal)
     ∙ sym (append-nil (text journal)) in
     (one_text other journal (drop n (text journal)) [] is sound e).0
-
--- ---- a file that is moved aside
-
--- a file that a run found keeps its length; a file that the run did not find may be moved aside again
-aside_of : (other : Bor Text) (was found left : Found) (len : ℕ) (mid new : FilesState) → AreAtRest mid
-    → ((name : Name) → new.may_leave name (new.view.seen name)) → IsFileFound mid.view (Some other) len found
-    → IfSome found (λ all. length all ≡ len) → LeavesAsLong (Some other) mid new → (was ≡ None) × (left ≡ None)
-    → (kept : Found) × MayFind (Some other) found kept new × IfSome kept (λ all. length all ≡ len)
-    × ((left ≡ kept) ⊎ ((was ≡ None) × (left ≡ None)))
-aside_of other was None left len mid new rest still is whole long aside = (None, inr (refl, refl), tt, inr aside)
-aside_of other was (Some all) left len mid new rest still is whole long aside =
-    let seen = whole_seen len (mid.view.seen other.now) (Some all) (is (known_at_rest rest other.now)) whole in
-    let has = new.view.seen other.now in (
-      has,
-      inl (still other.now),
-      whole_of has (length all) len whole (long all (sym seen) has (still other.now)),
-      inr aside,
-    )
-
--- what is found is something that a run may have left, or nothing if there was no file at first
-pick : (one other : Option (Bor Text)) (was found left : Found) (len : ℕ) (mid new : FilesState) → NameOne one other
-    → AreAtRest mid → ((name : Name) → new.may_leave name (new.view.seen name)) → IsFileFound mid.view other len found
-    → IfSome found (λ all. length all ≡ len) → LeavesAsLong other mid new → MayFind one was left new
-    → IfSome left (λ all. length all ≡ len)
-    → (kept : Found) × MayFind other found kept new × IfSome kept (λ all. length all ≡ len)
-    × ((left ≡ kept) ⊎ ((was ≡ None) × (left ≡ None)))
-pick None None was found left len mid new same rest still is whole long can fits = (left, can, fits, inl refl)
-pick (Some one) (Some other) was found left len mid new same rest still is whole long can fits = elim can [
-  | inl may ↦ (left, inl (rw same may), fits, inl refl)
-  | inr aside ↦ aside_of other was found left len mid new rest still is whole long aside
-]
-pick None (Some other) was found left len mid new same rest still is whole long can fits = absurd same
-pick (Some one) None was found left len mid new same rest still is whole long can fits = absurd same
-
--- A chip can be restored if each of its bytes is that of a chip that can be restored or that of the original chip, and
--- its bits are those of one of them.
-mixed_back : (journal : Journal) (first : Chip) (state later : BusState) → CanGiveBack journal first state
-    → later.chip.config ≡ first.config
-    → ((a : ℕ) → (later.chip.bytes a ≡ state.chip.bytes a) ⊎ (later.chip.bytes a ≡ first.bytes a))
-    → (later.chip.kept ≡ state.chip.kept) ⊎ (later.chip.kept ≡ first.kept) → later.chip.busy ≡ 0
-    → CanGiveBack journal first later
-mixed_back journal first state later can config bytes kept idle = record {
-  known = can.known;
-  saves = can.saves;
-  within = record {
-    config = config;
-    bytes = λ a out. elim (bytes a) [ inl is ↦ is ∙ can.within.bytes a out | inr is ↦ is ];
-    fixed = elim kept [ inl is ↦ ap fixed_of is ∙ can.within.fixed | inr is ↦ ap fixed_of is ];
-    kept = λ shut. elim kept [ inl is ↦ is ∙ can.within.kept shut | inr is ↦ is ];
-    runs = λ power busy. absurd (busy idle);
-  };
-}
 
 -- ---- one run
 

@@ -3,7 +3,8 @@ use Rattle.std.proofs.lemmas.Result.{err_from_is_err_and}
 use Rattle.nor_chip.specs.Sim.{state_of}
 use Rattle.nor_files.specs.Files.{AreAtRest}
 use Rattle.flashnor.proofs.Ended.{ends_called, holds_told}
-use Rattle.flashnor.proofs.Kept.{does_after, holds_task, keeps_files, ready_both, setup_done}
+use Rattle.flashnor.proofs.AfterCall.{does_after, setup_done}
+use Rattle.flashnor.proofs.Kept.{holds_task, keeps_files, ready_both}
 use Rattle.flashnor.proofs.Stays.{lawful_after}
 use Rattle.flashnor.proofs.Traced.{fails_before, view_before}
 use Rattle.flashnor.proofs.WrittenBack.{told_before}

@@ -1,0 +1,122 @@
+-- What a call leaves of the chip and of its journal, and what it read of other files.
+use Rattle.std.proofs.Common.{◌≡◌, ◌∙◌, ℕ, List, Option, None, Some}
+use Rattle.std.proofs.Common.{Result, inl, inr}
+use Rattle.std.proofs.Common.{sym, true}
+use Rattle.std.specs.Borrow.{Bor}
+use Rattle.std.proofs.lemmas.Bool.{cases_Bool}
+use Rattle.nor_chip.specs.Bus.{BusState}
+use Rattle.nor_probe.specs.declared.table.ChipName.{ChipName}
+use Rattle.nor_files.specs.Files.{FilesState, Stays, View, is_lawful}
+use Rattle.nor_journal.specs.Vault.{VaultState}
+use Rattle.nor_call.specs.declared.refusal.Refusal.{Refusal}
+use Rattle.nor_call.specs.declared.request.Request.{Request}
+use Rattle.nor_words.specs.Text.{Text}
+use Rattle.nor_layout.specs.declared.ranges.Span.{Span}
+use Rattle.nor_words.specs.declared.job.Regions.{Regions}
+use Rattle.nor_words.specs.declared.job.Wanted.{Wanted}
+use Rattle.nor_words.specs.declared.job.Wanted.TheVariants as wanted
+use Rattle.nor_words.specs.declared.programmer.Emulated.{Emulated}
+use Rattle.nor_words.specs.declared.job.JournalUse.{JournalUse}
+use Rattle.nor_words.specs.declared.job.JournalUse.TheVariants as uses
+use Rattle.nor_words.specs.declared.job.Task.{Task}
+use Rattle.nor_words.specs.declared.job.Task.TheVariants as task
+use Rattle.nor_words.specs.declared.programmer.Programmer.{Programmer}
+use Rattle.flashnor.specs.Changes.{HasMadeChange, IsKeptFile, IsKeptIn}
+use Rattle.flashnor.specs.Requests.{AreRangesOf, IsBufferOf}
+use Rattle.flashnor.specs.Roles.{image_of, layout_of, named_by}
+use Rattle.flashnor.specs.Run.{DoesJob, IsViewBut}
+use Rattle.flashnor.specs.Stored.{AreTwo}
+use Rattle.flashnor.specs.Tasks.{journal_of, keeps_journal, puts_back}
+use Rattle.flashnor.specs.declared.answers.Answer.{Answer}
+use Rattle.flashnor.proofs.Stays.{StayApart, lawful_after, not_that}
+use Rattle.flashnor.proofs.Stays.{settled_after}
+use Rattle.flashnor.proofs.Traced.{reads_before}
+
+-- ---- the chip and the journal that the call left
+
+-- the file of a journal stays while others are written
+pub kept_after : {file : Text} {vault : VaultState} {s2 s3 : FilesState} → Stays file s2 s3 → IsKeptFile file vault s2
+    → IsKeptFile file vault s3
+kept_after stays kept = record {
+  telling = kept.telling;
+  seen = stays.seen ∙ kept.seen;
+  settled = λ is. settled_after stays (kept.settled is);
+}
+
+-- the chip that a change leaves has the same configuration
+setup_kept : {request : Request} {image : List ℕ} {old new : BusState} {after : FilesState}
+    {outcome : Result Answer Refusal} (before : View) (kept : JournalUse) → keeps_journal kept ≡ true
+    → HasMadeChange request image kept old new before after outcome → new.chip.config ≡ old.chip.config
+setup_kept before (uses.Journal file) keeps made =
+    elim (cases_Bool made.vault'.sealed) [
+      | inl sealed ↦ (made.done.undo sealed).changes.within.config
+      | inr open' ↦ (made.done.same open').config
+    ]
+setup_kept before (uses.Rehearse stops) keeps made = absurd cc
+
+pub setup_done : (done : Task) (amid : View) (after : FilesState) (programmer : Programmer) (named : Option ChipName)
+    (old new : BusState) (outcome : Result Answer Refusal) → puts_back done ≡ true
+    → DoesJob amid after programmer named done old new outcome → new.chip.config ≡ old.chip.config
+setup_done (task.Change change) amid after programmer named old new outcome puts does =
+    setup_kept amid change.journal_use puts does.changed
+setup_done (task.Restore journal) amid after programmer named old new outcome puts does = does.restored.config
+setup_done _ amid after programmer named old new outcome puts does = absurd cc
+
+-- and its journal is kept while the chip's files are written
+module _ (programmer : Programmer) (s2 s3 : FilesState) (nature : s3.view.nature ≡ s2.view.nature)
+    (last : is_lawful s2.view ≡ true → StayApart programmer.image programmer.status s2 s3) where
+  kept_in_after : (kept : JournalUse) (vault vault' : VaultState)
+      → AreTwo s2.view.nature programmer.image (journal_of kept)
+      → AreTwo s2.view.nature programmer.status (journal_of kept) → IsKeptIn kept vault vault' s2
+      → IsKeptIn kept vault vault' s3
+  kept_in_after (uses.Journal file) vault vault' one other before = λ lawful.
+      let was' = lawful_after (sym nature) lawful in
+      kept_after (last was' file.now (not_that s2.view.nature programmer.image file one)
+      (not_that s2.view.nature programmer.status file other)) (before was')
+  kept_in_after (uses.Rehearse stops) vault vault' one other before = before
+
+  pub does_after : (done : Task) (amid : View) (named : Option ChipName) (old new : BusState)
+      (outcome : Result Answer Refusal) → puts_back done ≡ true
+      → AreTwo s2.view.nature programmer.image (named_by done).journal
+      → AreTwo s2.view.nature programmer.status (named_by done).journal
+      → DoesJob amid s2 programmer named done old new outcome
+      → DoesJob amid s3 programmer named done old new outcome
+  does_after (task.Change change) amid named old new outcome puts one other does = record {
+    ranges = does.ranges;
+    included = does.included;
+    image = does.image;
+    buffer = does.buffer;
+    changed = record {
+      missing = does.changed.missing;
+      vault = does.changed.vault;
+      vault' = does.changed.vault';
+      fresh = does.changed.fresh;
+      kept_in = kept_in_after change.journal_use _ _ one other does.changed.kept_in;
+      done = does.changed.done;
+    };
+  }
+  does_after (task.Restore journal) amid named old new outcome puts one other does = does
+  does_after _ amid named old new outcome puts one other does = absurd cc
+
+-- ---- what was read before the trace was made
+
+pub ranges_before : (trace : Option (Bor Text)) (old amid : View) (regions : Option Regions)
+    (ranges : Option (List Span)) → AreTwo old.nature trace (layout_of regions) → IsViewBut trace old amid
+    → AreRangesOf amid regions ranges → AreRangesOf old regions ranges
+ranges_before trace old amid None ranges two but are = are
+ranges_before trace old amid (Some regions) None two but are = absurd are
+ranges_before trace old amid (Some regions) (Some ranges) two but are = record {
+  text = are.text;
+  read = reads_before trace regions.layout.now 16777217 _ old amid (not_that old.nature trace regions.layout two) but
+      are.read;
+  whole = are.whole;
+  included = are.included;
+}
+
+pub buffer_before : (trace : Option (Bor Text)) (old amid : View) (chip : Emulated) (what : Wanted)
+    (bytes : List ℕ) → AreTwo old.nature trace (image_of what) → IsViewBut trace old amid
+    → IsBufferOf amid chip what bytes → IsBufferOf old chip what bytes
+buffer_before trace old amid chip (wanted.Write image) bytes two but is =
+    reads_before trace image.now 16777217 _ old amid (not_that old.nature trace image two) but is
+buffer_before trace old amid chip wanted.Erase bytes two but is = is
+buffer_before trace old amid chip (wanted.Range start len) bytes two but is = is
