@@ -1,0 +1,82 @@
+-- The commands of serprog as bytes. (serprog protocol version 1, flashrom's Documentation/serprog-protocol.txt: the
+-- table of commands, and its notes on O_SPIOP.)
+use Rattle.std.specs.Prelude.{◌≡◌, ◌<◌, ◌≤◌, ◌+◌, ◌*◌, ◌/◌, ◌%◌, ◌++◌, ◌==◌, ◌||◌, ℕ, Bool, true, false, List, [], ◌∷◌, Option, None, Some, length, drop, slice_index, if◌then◌else◌, ⊤}
+use Rattle.nor_serprog.specs.declared.command.Command.{Command}
+use Rattle.nor_serprog.specs.declared.command.Command.TheVariants.{Nop, QueryInterface, QueryCommands, QueryName, QuerySerialBuffer, QueryBuses, QueryLongestWrite, SyncNop, QueryLongestRead, SetBuses, Operate, SetFrequency, SetPins}
+
+-- A 24-bit number as three bytes, the lowest first.
+abbrev pub three_of : ℕ → List ℕ
+three_of n = n % 256 ∷ n / 256 % 256 ∷ n / 65536 % 256 ∷ []
+
+-- A 32-bit number as four bytes, the lowest first.
+abbrev pub four_of : ℕ → List ℕ
+four_of n = n % 256 ∷ n / 256 % 256 ∷ n / 65536 % 256 ∷ n / 16777216 % 256 ∷ []
+
+-- The 24-bit number that three bytes hold, the lowest first.
+abbrev pub number_of : (a b c : ℕ) → ℕ
+number_of a b c = a + 256 * b + 65536 * c
+
+-- The frame of O_SPIOP: the opcode, the number of bytes to send, the number of replies, and the bytes to send.
+abbrev pub operation_frame : (out : List ℕ) → (replies : ℕ) → List ℕ
+operation_frame out replies = 0x13 ∷ three_of (length out) ++ three_of replies ++ out
+
+-- The frame of a command.
+abbrev pub frame_of : Command → List ℕ
+frame_of Nop = 0x00 ∷ []
+frame_of QueryInterface = 0x01 ∷ []
+frame_of QueryCommands = 0x02 ∷ []
+frame_of QueryName = 0x03 ∷ []
+frame_of QuerySerialBuffer = 0x04 ∷ []
+frame_of QueryBuses = 0x05 ∷ []
+frame_of QueryLongestWrite = 0x08 ∷ []
+frame_of SyncNop = 0x10 ∷ []
+frame_of QueryLongestRead = 0x11 ∷ []
+frame_of (SetBuses flags) = 0x12 ∷ flags ∷ []
+frame_of (Operate out replies) = operation_frame out.now replies
+frame_of (SetFrequency hertz) = 0x14 ∷ four_of hertz
+frame_of (SetPins enabled) = 0x15 ∷ (if enabled then 1 else 0) ∷ []
+
+-- The command fits into one frame of this crate: O_SPIOP sends at most 260 bytes, and its number of replies has 24 bits.
+abbrev pub Fits : Command → Type 0
+Fits (Operate out replies) = (length out.now ≤ 260) × (replies < 16777216)
+Fits _ = ⊤
+
+-- How many bytes of arguments follow an opcode. O_SPIOP and "write n" (0Dh) have more, and are described below.
+abbrev pub arguments_of : (opcode : ℕ) → ℕ
+arguments_of opcode =
+    if opcode == 0x12 || opcode == 0x15 then 1
+    else if opcode == 0x09 then 3
+    else if opcode == 0x0C || opcode == 0x0E || opcode == 0x14 then 4
+    else if opcode == 0x0A then 6
+    else 0
+
+-- The length of a frame of O_SPIOP or "write n", by what follows its opcode: two numbers of three bytes, of which the
+-- first is the number of bytes behind them.
+abbrev pub long_len : List ℕ → Option ℕ
+long_len (a ∷ b ∷ c ∷ rest) = Some (7 + number_of a b c)
+long_len _ = None
+
+-- The length of the frame that begins with these bytes, as a programmer reads it: `None` until the bytes determine it.
+abbrev pub frame_len : (begun : List ℕ) → Option ℕ
+frame_len [] = None
+frame_len (opcode ∷ rest) =
+    if opcode == 0x13 || opcode == 0x0D then long_len rest else Some (1 + arguments_of opcode)
+
+-- The bytes are one whole frame.
+abbrev pub IsFrame : List ℕ → Type 0
+IsFrame bytes = frame_len bytes ≡ Some (length bytes)
+
+-- The bytes that a frame of O_SPIOP sends to the chip.
+abbrev pub out_in : List ℕ → List ℕ
+out_in frame = drop 7 frame
+
+-- The number of replies that a frame of O_SPIOP asks for.
+abbrev pub replies_in : List ℕ → ℕ
+replies_in frame = number_of (slice_index frame 4) (slice_index frame 5) (slice_index frame 6)
+
+-- A programmer that reads this frame carries out this command: the opcode is the command's, and O_SPIOP has its bytes
+-- and its number of replies.
+abbrev pub Reads : List ℕ → Command → Type 0
+Reads frame (Operate out replies) =
+    (slice_index frame 0 ≡ 0x13) × (out_in frame ≡ out.now) × (replies_in frame ≡ replies)
+Reads frame command = frame ≡ frame_of command

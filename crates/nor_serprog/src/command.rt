@@ -1,0 +1,182 @@
+//! The commands of serprog as bytes, and the first byte of each answer.
+
+ghost use Rattle.std.specs.Prelude.{◌≡◌, ◌<◌, ◌≤◌, ◌↔◌, [], ◌++◌, ℕ, List, length, IfOk, IsOk, IsSome, if◌then◌else◌, ◌==◌};
+ghost use Rattle.nor_serprog.specs.Frame.{frame_of, operation_frame, arguments_of, Fits, IsFrame, Reads, frame_len as frame_len_of};
+ghost use Rattle.nor_serprog.specs.declared.command.Answer.TheVariants as Answers;
+
+use arrayvec::ArrayVec;
+use thiserror::Error;
+
+/// The most bytes that an O_SPIOP of this crate sends to the chip: an opcode, three address bytes and a page of 256.
+pub const LONGEST_OUT: usize = 260;
+
+// The opcode of O_SPIOP and its two lengths.
+const HEADER_LEN: usize = 7;
+
+const LONGEST_FRAME: usize = HEADER_LEN + LONGEST_OUT;
+
+// The number of replies has 24 bits.
+const REPLIES_END: u32 = 1 << 24;
+
+/// The bytes of one command.
+pub type Frame = ArrayVec<u8, LONGEST_FRAME>;
+
+/// A command of the serprog protocol, version 1 (flashrom's Documentation/serprog-protocol.txt). Commands for parallel
+/// chips are left out.
+#[derive(Clone, Copy, Debug, PartialEq, Eq)]
+pub enum Command<'a> {
+    /// 00h, NOP: no effect.
+    Nop,
+    /// 01h, Q_IFACE: the version of the protocol, 2 bytes.
+    QueryInterface,
+    /// 02h, Q_CMDMAP: the map of the commands that the programmer has, 32 bytes.
+    QueryCommands,
+    /// 03h, Q_PGMNAME: the name of the programmer, 16 bytes padded with zeros.
+    QueryName,
+    /// 04h, Q_SERBUF: the size of the serial buffer, 2 bytes.
+    QuerySerialBuffer,
+    /// 05h, Q_BUSTYPE: the types of bus that the programmer supports, 1 byte of flags.
+    QueryBuses,
+    /// 08h, Q_WRNMAXLEN: the most bytes that an O_SPIOP may send, 3 bytes; 0 means 2^24.
+    QueryLongestWrite,
+    /// 10h, SYNCNOP: no effect; the answer is NAK and then ACK.
+    SyncNop,
+    /// 11h, Q_RDNMAXLEN: the most bytes that an O_SPIOP may read, 3 bytes; 0 means 2^24.
+    QueryLongestRead,
+    /// 12h, S_BUSTYPE: use one of these types of bus (flags as in the answer to Q_BUSTYPE).
+    SetBuses(u8),
+    /// 13h, O_SPIOP: one SPI transaction that sends `out` and then reads `replies` bytes.
+    Operate { out: &'a [u8], replies: u32 },
+    /// 14h, S_SPI_FREQ: the clock in hertz. The answer has the frequency that was set, 4 bytes.
+    SetFrequency(u32),
+    /// 15h, S_PIN_STATE: switch the programmer's pin drivers on or off.
+    SetPins(bool),
+}
+
+/// The command does not fit into a frame: it sends more than 260 bytes to the chip, or reads 2^24 or more.
+#[derive(Clone, Copy, Debug, PartialEq, Eq, Error)]
+#[error("a transaction that sends more than 260 bytes or reads 16777216 or more does not fit into a serprog frame")]
+pub struct TooLong;
+
+impl Command<'_> {
+    /// Returns the frame of the command. Only `Operate` can be too long.
+    ///
+    /// A frame is always whole, a programmer reads exactly this command from it, and no longer frame begins with it
+    /// (serprog protocol, flashrom's Documentation/serprog-protocol.txt).
+    pub fn encode(self) -> Result<Frame, TooLong>
+        ensures fits { IsOk result ↔ Fits self.entry }
+        ensures exact { IfOk result (λ frame. frame.items ≡ frame_of self.entry) }
+        ensures whole { IfOk result (λ frame. IsFrame frame.items) }
+        ensures reads { IfOk result (λ frame. Reads frame.items self.entry) }
+        ensures alone { IfOk result (λ frame. (more : List ℕ) → IsFrame (frame.items ++ more) → more ≡ []) }
+    {
+        match self {
+            Command::Nop => short(&[0x00]),
+            Command::QueryInterface => short(&[0x01]),
+            Command::QueryCommands => short(&[0x02]),
+            Command::QueryName => short(&[0x03]),
+            Command::QuerySerialBuffer => short(&[0x04]),
+            Command::QueryBuses => short(&[0x05]),
+            Command::QueryLongestWrite => short(&[0x08]),
+            Command::SyncNop => short(&[0x10]),
+            Command::QueryLongestRead => short(&[0x11]),
+            Command::SetBuses(flags) => short(&[0x12, flags]),
+            Command::Operate { out, replies } => operation(out, replies),
+            Command::SetFrequency(hertz) => {
+                let [a, b, c, d] = hertz.to_le_bytes();
+                short(&[0x14, a, b, c, d])
+            }
+            Command::SetPins(enabled) => short(&[0x15, u8::from(enabled)]),
+        }
+    }
+}
+
+// A frame of these bytes.
+fn short(bytes: &[u8]) -> Result<Frame, TooLong>
+    requires { length bytes.now ≤ 267 }
+    ensures fits { IsOk result }
+    ensures exact { IfOk result (λ frame. frame.items ≡ bytes.now) }
+{
+    let mut frame = Frame::new();
+    frame.try_extend_from_slice(bytes).map_err(|_| TooLong)?;
+    Ok(frame)
+}
+
+// The frame of O_SPIOP.
+fn operation(out: &[u8], replies: u32) -> Result<Frame, TooLong>
+    ensures fits { IsOk result ↔ (length out.now ≤ 260) × (replies < 16777216) }
+    ensures exact { IfOk result (λ frame. frame.items ≡ operation_frame out.now replies) }
+{
+    if out.len() > LONGEST_OUT || replies >= REPLIES_END {
+        return Err(TooLong);
+    }
+    let [sent_low, sent_middle, sent_high, _] = (out.len() as u32).to_le_bytes();
+    let [read_low, read_middle, read_high, _] = replies.to_le_bytes();
+    let mut frame = short(&[
+        0x13,
+        sent_low,
+        sent_middle,
+        sent_high,
+        read_low,
+        read_middle,
+        read_high,
+    ])?;
+    frame.try_extend_from_slice(out).map_err(|_| TooLong)?;
+    Ok(frame)
+}
+
+/// Returns the length of the frame that begins with these bytes, as a programmer reads it: `None` until the bytes
+/// determine it. Bytes that follow never change a length that is known, so no frame begins another.
+///
+/// All commands of the protocol are known here, those for parallel chips too.
+pub fn frame_len(begun: &[u8]) -> Option<usize>
+    ensures value { result ≡ frame_len_of begun.now }
+    ensures known { (more : List ℕ) → IsSome result → frame_len_of (begun.now ++ more) ≡ result }
+{
+    match begun {
+        [0x13 | 0x0D, low, middle, high, ..] => {
+            let len = u32::from_le_bytes([*low, *middle, *high, 0]);
+            Some(HEADER_LEN + len as usize)
+        }
+        [0x13 | 0x0D, ..] => None,
+        [opcode, ..] => Some(1 + arguments_len(*opcode)),
+        [] => None,
+    }
+}
+
+// How many bytes of arguments follow an opcode that has a fixed number of them.
+fn arguments_len(opcode: u8) -> usize
+    ensures { result ≡ arguments_of opcode }
+{
+    match opcode {
+        0x12 | 0x15 => 1,
+        0x09 => 3,
+        0x0C | 0x0E | 0x14 => 4,
+        0x0A => 6,
+        _ => 0,
+    }
+}
+
+/// The first byte of an answer.
+#[derive(Clone, Copy, Debug, PartialEq, Eq)]
+pub enum Answer {
+    /// 06h, ACK: the command was carried out, and the bytes that it returns follow.
+    Ack,
+    /// 15h, NAK: the command was refused, and nothing follows.
+    Nak,
+    /// Neither of them, so this is no answer.
+    Other(u8),
+}
+
+impl Answer {
+    /// Returns what the first byte of an answer means.
+    pub fn of(byte: u8) -> Answer
+        ensures { result ≡ (if byte == 0x06 then Answers.Ack else if byte == 0x15 then Answers.Nak else Answers.Other byte) }
+    {
+        match byte {
+            0x06 => Answer::Ack,
+            0x15 => Answer::Nak,
+            other => Answer::Other(other),
+        }
+    }
+}
