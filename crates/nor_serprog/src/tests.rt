@@ -1,40 +1,6 @@
-//! Frames, and sessions over a port in memory.
+//! Frames, handshakes, and transactions over a port in memory.
 
-use crate::{Command, frame_len};
-
-// Frames as flashrom 1.3 sends them, by the table of the protocol.
-#[test]
-fn frames_are_those_of_the_protocol(rt: HostRuntime) {
-    let read_id = Command::Operate {
-        out: &[0x9F],
-        replies: 3,
-    };
-    let long_read = Command::Operate {
-        out: &[0x03, 0x12, 0x34, 0x56],
-        replies: 0x01_02_03,
-    };
-    let cases: [(Command<'_>, &[u8]); 5] = [
-        (Command::SyncNop, &[0x10]),
-        (Command::SetBuses(0x08), &[0x12, 0x08]),
-        (
-            Command::SetFrequency(12_000_000),
-            &[0x14, 0x00, 0x1B, 0xB7, 0x00],
-        ),
-        (read_id, &[0x13, 1, 0, 0, 3, 0, 0, 0x9F]),
-        (
-            long_read,
-            &[0x13, 4, 0, 0, 0x03, 0x02, 0x01, 0x03, 0x12, 0x34, 0x56],
-        ),
-    ];
-    for (command, want) in cases {
-        let frame = command.encode().unwrap();
-        assert_eq!(rt; frame.as_slice(), want);
-        assert_eq!(rt; frame_len(&frame), Some(want.len()));
-    }
-    let page = [0; 261];
-    let too_long = Command::Operate {
-        out: &page,
-        replies: 0,
-    };
-    assert!(rt; too_long.encode().is_err());
-}
+mod buses;
+mod frames;
+mod handshakes;
+mod model;

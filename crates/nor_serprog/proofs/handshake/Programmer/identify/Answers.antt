@@ -1,0 +1,13 @@
+use Rattle.nor_serprog.proofs.handshake.Programmer.identify.Goals as goal
+
+-- Each step keeps the link in step.
+pub returns-clause-in_step : goal.returns-clause-in_step
+returns-clause-in_step g c =
+    c.in_ok-enable_pins.ensures
+    (c.in_ok-frequency.ensures
+    (c.in_ok-name.ensures
+    (c.in_ok-check_buffer.ensures
+    (c.in_ok-longest_read.ensures
+    (c.in_ok-longest_write.ensures
+    (c.in_ok-select_spi.ensures
+    (c.in_ok-commands.ensures c.in_ok-synchronize.ensures)))))))

@@ -1,0 +1,21 @@
+-- A link to a programmer, as contracts see it.
+use Rattle.std.specs.Prelude.{Bool, true, false}
+use Rattle.nor_serprog.specs.declared.link.Link.{Link}
+use Rattle.nor_serprog.specs.declared.link.Sync.{Sync}
+use Rattle.nor_serprog.specs.declared.link.Sync.TheVariants.{InStep, Lost, Cut}
+
+-- The port of a link.
+abbrev pub port_of : {P C : Type 0} → Link P C → P
+port_of link = link.port
+
+-- Whether the answers can be matched to the frames.
+abbrev pub sync_of : {P C : Type 0} → Link P C → Sync
+sync_of link = link.sync
+
+-- Each frame was answered, and each answer was read.
+abbrev pub is_in_step : {P C : Type 0} → Link P C → Bool
+is_in_step link = elim link.sync [ InStep ↦ true | Lost ↦ false | Cut ↦ false ]
+
+-- A frame may have been sent in part.
+abbrev pub is_cut : {P C : Type 0} → Link P C → Bool
+is_cut link = elim link.sync [ InStep ↦ false | Lost ↦ false | Cut ↦ true ]

@@ -1,0 +1,276 @@
+//! The handshake: what is asked of a programmer before the first transaction.
+ghost use Rattle.std.specs.Prelude.{◌≡◌, ◌≤◌, true, IfOk, OnOk};
+ghost use Rattle.nor_serprog.specs.Link.{is_in_step};
+ghost use Rattle.nor_serprog.specs.Programmer.{reads_most, writes_most};
+
+use crate::{Command, Failure, LONGEST_OUT, Link, Port};
+use thiserror::Error;
+
+/// The most bytes that a transaction of flashnor reads: a sector.
+pub const LONGEST_REPLY: u32 = 4096;
+
+// The flag of SPI in the answer to Q_BUSTYPE, and in S_BUSTYPE.
+const SPI: u8 = 0x08;
+
+// What a limit of 0 means, and what is assumed if the programmer has no such query.
+const NO_LIMIT: u32 = 1 << 24;
+
+// A whole frame of a page program.
+const LONGEST_FRAME: u16 = 267;
+
+const S_BUSTYPE: u8 = 0x12;
+
+const O_SPIOP: u8 = 0x13;
+
+/// Why a programmer cannot be used. `C` is the cause of the port.
+#[derive(Debug, Drop, Error)]
+#[error_bound(C: std::fmt::Display)]
+pub enum HandshakeFault<C> {
+    /// An exchange failed.
+    #[error("{0}")]
+    Failure(Failure<C>),
+    /// The programmer speaks another version of the protocol.
+    #[error("the programmer speaks version {0} of serprog, and only version 1 is known")]
+    Version(u16),
+    /// The programmer lacks the command with this opcode: O_SPIOP (13h), or S_SPI_FREQ (14h) if a clock was asked for.
+    #[error("the programmer lacks command {0:02X}h, which is needed here")]
+    Lacks(u8),
+    /// The programmer supports no SPI, or other types of bus too and no command that selects one. The value is the flags
+    /// that it returned: 1 parallel, 2 LPC, 4 FWH, 8 SPI.
+    #[error("the programmer cannot be set to SPI: its types of bus are {0:02X}h")]
+    NotSpi(u8),
+    /// An O_SPIOP may send at most this many bytes, and a page program needs 260.
+    #[error("the programmer sends at most {0} bytes in a transaction, and a page program needs 260")]
+    WriteLimit(u32),
+    /// An O_SPIOP may read at most this many bytes, and reading a sector needs 4,096.
+    #[error("the programmer reads at most {0} bytes in a transaction, and a sector needs 4096")]
+    ReadLimit(u32),
+    /// The serial buffer has this many bytes, and the programmer does not say that it takes longer frames. The longest
+    /// frame has 267 bytes.
+    #[error("the serial buffer of the programmer has {0} bytes, and a page program needs 267")]
+    SmallBuffer(u16),
+}
+
+/// What a programmer replied when it was identified.
+#[derive(Clone, Copy, Debug, PartialEq, Eq)]
+pub struct Programmer {
+    name: [u8; 16],
+    longest_write: u32,
+    longest_read: u32,
+    frequency: Option<u32>,
+}
+
+impl Programmer {
+    /// Identifies the programmer behind a new link, and makes it ready for SPI transactions. No transaction is sent, so
+    /// the chip is not selected.
+    ///
+    /// The steps are: synchronize; require version 1 (Q_IFACE) and O_SPIOP (Q_CMDMAP); select SPI (S_BUSTYPE), or
+    /// require that the programmer has SPI only (Q_BUSTYPE); require that a transaction may send 260 bytes
+    /// (Q_WRNMAXLEN) and read 4,096 (Q_RDNMAXLEN), or that 267 bytes fit into the serial buffer (Q_SERBUF) if there is
+    /// no limit of writes; read the name (Q_PGMNAME); set the clock to at most `hertz` if that is given (S_SPI_FREQ);
+    /// switch the pin drivers on (S_PIN_STATE). Commands that the programmer's map lacks are left out, and a clock that
+    /// was asked for is then an error. (serprog protocol, flashrom's Documentation/serprog-protocol.txt.)
+    pub fn identify<P: Port + Drop>(
+        link: &mut Link<P>,
+        hertz: Option<u32>,
+    ) -> Result<Programmer, HandshakeFault<P::Cause>>
+        ensures in_step { OnOk result (is_in_step link.new ≡ true) }
+        ensures writes { IfOk result (λ programmer. 260 ≤ writes_most programmer) }
+        ensures reads { IfOk result (λ programmer. 4096 ≤ reads_most programmer) }
+    {
+        synchronize(link)?;
+        let commands = query_commands(link)?;
+        select_spi(link, &commands)?;
+        let longest_write = query_limit(link, &commands, Command::QueryLongestWrite, 0x08)?;
+        if longest_write < LONGEST_OUT as u32 {
+            return Err(HandshakeFault::WriteLimit(longest_write));
+        }
+        let longest_read = query_limit(link, &commands, Command::QueryLongestRead, 0x11)?;
+        if longest_read < LONGEST_REPLY {
+            return Err(HandshakeFault::ReadLimit(longest_read));
+        }
+        check_buffer(link, &commands)?;
+        let name = query_name(link, &commands)?;
+        let frequency = set_frequency(link, &commands, hertz)?;
+        enable_pins(link, &commands)?;
+        Ok(Programmer {
+            name,
+            longest_write,
+            longest_read,
+            frequency,
+        })
+    }
+
+    /// Returns the name of the programmer, 16 bytes padded with zeros. It is all zeros if the programmer has none.
+    pub fn name(&self) -> [u8; 16] {
+        self.name
+    }
+
+    /// Returns the most bytes that a transaction may send.
+    pub fn longest_write(&self) -> u32
+        ensures { result ≡ writes_most self.now }
+    {
+        self.longest_write
+    }
+
+    /// Returns the most bytes that a transaction may read.
+    pub fn longest_read(&self) -> u32
+        ensures { result ≡ reads_most self.now }
+    {
+        self.longest_read
+    }
+
+    /// Returns the clock in hertz that the programmer set, if a clock was asked for.
+    pub fn frequency(&self) -> Option<u32> {
+        self.frequency
+    }
+}
+
+/// The commands that a programmer has: command `n` is bit `n % 8` of byte `n / 8`.
+type Map = [u8; 32];
+
+fn offers(commands: &Map, opcode: u8) -> bool {
+    let byte = commands.get(usize::from(opcode / 8)).copied().unwrap_or(0);
+    byte >> (opcode % 8) & 1 == 1
+}
+
+fn synchronize<P: Port + Drop>(link: &mut Link<P>) -> Result<(), HandshakeFault<P::Cause>>
+    ensures { OnOk result (is_in_step link.new ≡ true) }
+{
+    link.synchronize().map_err(HandshakeFault::Failure)
+}
+
+// An exchange of the handshake.
+fn ask<P: Port + Drop>(
+    link: &mut Link<P>,
+    command: Command<'_>,
+    reply: &mut [u8],
+) -> Result<(), HandshakeFault<P::Cause>>
+    ensures { OnOk result (is_in_step link.new ≡ true) }
+{
+    link.exchange(command, reply)
+        .map_err(HandshakeFault::Failure)
+}
+
+// The map of commands of a programmer that speaks version 1 and has O_SPIOP.
+fn query_commands<P: Port + Drop>(link: &mut Link<P>) -> Result<Map, HandshakeFault<P::Cause>>
+    ensures { is_in_step link.old ≡ true → OnOk result (is_in_step link.new ≡ true) }
+{
+    let mut version = [0; 2];
+    ask(link, Command::QueryInterface, &mut version)?;
+    let version = u16::from_le_bytes(version);
+    if version != 1 {
+        return Err(HandshakeFault::Version(version));
+    }
+    let mut commands = [0; 32];
+    ask(link, Command::QueryCommands, &mut commands)?;
+    if !offers(&commands, O_SPIOP) {
+        return Err(HandshakeFault::Lacks(O_SPIOP));
+    }
+    Ok(commands)
+}
+
+fn select_spi<P: Port + Drop>(
+    link: &mut Link<P>,
+    commands: &Map,
+) -> Result<(), HandshakeFault<P::Cause>>
+    ensures { is_in_step link.old ≡ true → OnOk result (is_in_step link.new ≡ true) }
+{
+    let mut buses = [SPI];
+    if offers(commands, 0x05) {
+        ask(link, Command::QueryBuses, &mut buses)?;
+    }
+    let [buses] = buses;
+    let selects = offers(commands, S_BUSTYPE);
+    if buses & SPI == 0 || buses != SPI && !selects {
+        return Err(HandshakeFault::NotSpi(buses));
+    }
+    if selects {
+        ask(link, Command::SetBuses(SPI), &mut [])?;
+    }
+    Ok(())
+}
+
+// A limit that the programmer returns, if it has the query with this opcode.
+fn query_limit<P: Port + Drop>(
+    link: &mut Link<P>,
+    commands: &Map,
+    query: Command<'_>,
+    opcode: u8,
+) -> Result<u32, HandshakeFault<P::Cause>>
+    ensures { is_in_step link.old ≡ true → OnOk result (is_in_step link.new ≡ true) }
+{
+    if !offers(commands, opcode) {
+        return Ok(NO_LIMIT);
+    }
+    let mut limit = [0; 3];
+    ask(link, query, &mut limit)?;
+    let [low, middle, high] = limit;
+    match u32::from_le_bytes([low, middle, high, 0]) {
+        0 => Ok(NO_LIMIT),
+        limit => Ok(limit),
+    }
+}
+
+// A programmer that returns a limit of writes takes frames of that length, whatever the size of its buffer.
+fn check_buffer<P: Port + Drop>(
+    link: &mut Link<P>,
+    commands: &Map,
+) -> Result<(), HandshakeFault<P::Cause>>
+    ensures { is_in_step link.old ≡ true → OnOk result (is_in_step link.new ≡ true) }
+{
+    if offers(commands, 0x08) || !offers(commands, 0x04) {
+        return Ok(());
+    }
+    let mut size = [0; 2];
+    ask(link, Command::QuerySerialBuffer, &mut size)?;
+    let size = u16::from_le_bytes(size);
+    if size < LONGEST_FRAME {
+        return Err(HandshakeFault::SmallBuffer(size));
+    }
+    Ok(())
+}
+
+fn query_name<P: Port + Drop>(
+    link: &mut Link<P>,
+    commands: &Map,
+) -> Result<[u8; 16], HandshakeFault<P::Cause>>
+    ensures { is_in_step link.old ≡ true → OnOk result (is_in_step link.new ≡ true) }
+{
+    let mut name = [0; 16];
+    if offers(commands, 0x03) {
+        ask(link, Command::QueryName, &mut name)?;
+    }
+    Ok(name)
+}
+
+fn set_frequency<P: Port + Drop>(
+    link: &mut Link<P>,
+    commands: &Map,
+    hertz: Option<u32>,
+) -> Result<Option<u32>, HandshakeFault<P::Cause>>
+    ensures { is_in_step link.old ≡ true → OnOk result (is_in_step link.new ≡ true) }
+{
+    let hertz = match hertz {
+        Some(hertz) => hertz,
+        None => return Ok(None),
+    };
+    if !offers(commands, 0x14) {
+        return Err(HandshakeFault::Lacks(0x14));
+    }
+    let mut set = [0; 4];
+    ask(link, Command::SetFrequency(hertz), &mut set)?;
+    Ok(Some(u32::from_le_bytes(set)))
+}
+
+fn enable_pins<P: Port + Drop>(
+    link: &mut Link<P>,
+    commands: &Map,
+) -> Result<(), HandshakeFault<P::Cause>>
+    ensures { is_in_step link.old ≡ true → OnOk result (is_in_step link.new ≡ true) }
+{
+    if offers(commands, 0x15) {
+        ask(link, Command::SetPins(true), &mut [])?;
+    }
+    Ok(())
+}

@@ -1,0 +1,211 @@
+//! Exchanges with a programmer: a frame, and its answer.
+ghost use Rattle.std.specs.Prelude.{◌≡◌, ◌≤◌, true, false, length, IsErr, OnOk, OnErr};
+ghost use Rattle.nor_serprog.specs.Link.{port_of, sync_of, is_in_step, is_cut};
+
+use crate::{Answer, Command, Port};
+use thiserror::Error;
+
+/// Why an exchange with a programmer failed. `C` is the cause of the port.
+#[derive(Debug, Drop, Error)]
+#[error_bound(C: std::fmt::Display)]
+pub enum Failure<C> {
+    /// The port failed.
+    #[error("the port failed: {0}")]
+    Port(C),
+    /// The programmer replied NAK (15h) to the command with this opcode.
+    #[error("the programmer refused command {0:02X}h")]
+    Refused(u8),
+    /// The answer began with this byte, which is neither ACK (06h) nor NAK (15h).
+    #[error("the programmer answered {0:02X}h, which is neither ACK nor NAK")]
+    Strange(u8),
+    /// The transaction sends more than 260 bytes, or reads more than the programmer can return. Nothing was sent.
+    #[error("a transaction of this length does not fit into one serprog frame")]
+    TooLong,
+    /// Nothing was sent, because an earlier exchange failed and the programmer was not synchronized since.
+    #[error("an earlier exchange with the programmer failed, and it was not synchronized since")]
+    OutOfStep,
+    /// Nothing was sent, because a frame may have been cut off: any further byte could complete it.
+    #[error("a frame may have been cut off: disconnect the programmer from power before it is used again")]
+    CutFrame,
+    /// The programmer replied to the row of SYNCNOP and NOP with other bytes.
+    #[error("the programmer did not reply to SYNCNOP as it must")]
+    NoSync,
+}
+
+/// Whether the answers that a programmer sends can be matched to the frames that were sent.
+#[derive(Clone, Copy, Debug, PartialEq, Eq)]
+pub enum Sync {
+    /// Each frame was answered, and each answer was read.
+    InStep,
+    /// An exchange failed after its whole frame was sent, so bytes of its answer may still arrive.
+    Lost,
+    /// A frame may have been sent in part, so the programmer may take the next bytes as the rest of it.
+    Cut,
+}
+
+/// A programmer behind a port, and whether its answers can be matched to the frames.
+#[derive(Drop)]
+pub struct Link<P: Port + Drop> {
+    port: P,
+    sync: Sync,
+}
+
+// Commands of one byte each, which have no effect (10h SYNCNOP, 00h NOP).
+const ROW: [u8; 16] = [
+    0x10, 0x10, 0x00, 0x10, 0x00, 0x00, 0x10, 0x10, 0x10, 0x00, 0x00, 0x00, 0x10, 0x00, 0x10, 0x10,
+];
+
+const ROW_ANSWERS_LEN: usize = 25;
+
+// The answers to `ROW`: NAK ACK (15h 06h) to each SYNCNOP, and ACK to each NOP.
+const ROW_ANSWERS: [u8; ROW_ANSWERS_LEN] = [
+    0x15, 0x06, 0x15, 0x06, 0x06, 0x15, 0x06, 0x06, 0x06, 0x15, 0x06, 0x15, 0x06, 0x15, 0x06, 0x06,
+    0x06, 0x06, 0x15, 0x06, 0x06, 0x15, 0x06, 0x15, 0x06,
+];
+
+// The most bytes that are received while the answers to `ROW` are looked for.
+const MOST_STALE: u32 = 1 << 16;
+
+impl<P: Port + Drop> Link<P> {
+    /// A link over this port, which is not synchronized yet.
+    pub fn new(port: P) -> Link<P>
+        ensures port { port_of result ≡ port }
+        ensures lost { is_in_step result ≡ false }
+        ensures not_cut { is_cut result ≡ false }
+    {
+        Link {
+            port,
+            sync: Sync::Lost,
+        }
+    }
+
+    /// Returns the port.
+    pub fn port(&self) -> &P
+        ensures { result.now ≡ port_of self.now }
+    {
+        &self.port
+    }
+
+    /// Returns whether the answers can be matched to the frames.
+    pub fn sync(&self) -> Sync
+        ensures { result ≡ sync_of self.now }
+    {
+        self.sync
+    }
+
+    /// Sends the frame of a command, and reads its answer: ACK, and as many bytes as `reply` holds.
+    ///
+    /// After any error nothing more is sent, until `synchronize` returns `Ok`. If the link was out of step, the call
+    /// returns `OutOfStep` or `CutFrame` and does not use the port.
+    pub fn exchange(
+        &mut self,
+        command: Command<'_>,
+        reply: &mut [u8],
+    ) -> Result<(), Failure<P::Cause>>
+        ensures silent { is_in_step self.old ≡ false → self.new ≡ self.old }
+        ensures was_in_step { OnOk result (is_in_step self.old ≡ true) }
+        ensures ok { OnOk result (is_in_step self.new ≡ true) }
+        ensures err { OnErr result (is_in_step self.new ≡ false) }
+    {
+        match self.sync {
+            Sync::InStep => self.exchange_in_step(command, reply),
+            Sync::Lost => Err(Failure::OutOfStep),
+            Sync::Cut => Err(Failure::CutFrame),
+        }
+    }
+
+    /// Refuses a command that is too long: sends nothing, and returns `TooLong`, or `OutOfStep` or `CutFrame` if the link
+    /// was out of step. As after any error, nothing more is sent until `synchronize` returns `Ok`.
+    pub(crate) fn refuse(&mut self) -> Result<(), Failure<P::Cause>>
+        ensures silent { is_in_step self.old ≡ false → self.new ≡ self.old }
+        ensures port { port_of self.new ≡ port_of self.old }
+        ensures fails { IsErr result }
+        ensures err { is_in_step self.new ≡ false }
+    {
+        match self.sync {
+            Sync::InStep => {
+                self.sync = Sync::Lost;
+                Err(Failure::TooLong)
+            }
+            Sync::Lost => Err(Failure::OutOfStep),
+            Sync::Cut => Err(Failure::CutFrame),
+        }
+    }
+
+    fn exchange_in_step(
+        &mut self,
+        command: Command<'_>,
+        reply: &mut [u8],
+    ) -> Result<(), Failure<P::Cause>>
+        ensures ok { OnOk result (is_in_step self.new ≡ true) }
+        ensures err { OnErr result (is_in_step self.new ≡ false) }
+    {
+        self.sync = Sync::Lost;
+        let frame = command.encode().map_err(|_| Failure::TooLong)?;
+        self.sync = Sync::Cut;
+        self.port.send(&frame).map_err(Failure::Port)?;
+        self.sync = Sync::Lost;
+        let opcode = frame.first().copied().unwrap_or(0);
+        receive_answer(&mut self.port, opcode, reply)?;
+        self.sync = Sync::InStep;
+        Ok(())
+    }
+
+    /// Brings the answers into step with the frames: sends SYNCNOP, and then a row of SYNCNOP and NOP, and skips all
+    /// bytes before the answers to that row (serprog protocol, flashrom's Documentation/serprog-protocol.txt, 10h).
+    ///
+    /// If a frame may have been cut off, the call returns `CutFrame` and does not use the port: the bytes could complete
+    /// the frame, and the chip would carry out what nobody asked for. A frame that another run cut off is not known
+    /// here, so disconnect the programmer from power after a run that was killed.
+    ///
+    /// Returns `Port` if the port fails, and `NoSync` if the answers to the row are not among the next 65,536 bytes.
+    pub fn synchronize(&mut self) -> Result<(), Failure<P::Cause>>
+        ensures silent { is_cut self.old ≡ true → self.new ≡ self.old }
+        ensures was_whole { OnOk result (is_cut self.old ≡ false) }
+        ensures ok { OnOk result (is_in_step self.new ≡ true) }
+        ensures err { OnErr result (is_in_step self.new ≡ false) }
+    {
+        if self.sync == Sync::Cut {
+            return Err(Failure::CutFrame);
+        }
+        self.sync = Sync::Lost;
+        // If the programmer waits for the rest of a frame, it gets one byte and no more.
+        self.port.send(&[0x10]).map_err(Failure::Port)?;
+        skip_past(&mut self.port, &[0x15, 0x06])?;
+        self.port.send(&ROW).map_err(Failure::Port)?;
+        skip_past(&mut self.port, &ROW_ANSWERS)?;
+        self.sync = Sync::InStep;
+        Ok(())
+    }
+}
+
+// Receives the answer to the command with this opcode.
+fn receive_answer<P: Port>(
+    port: &mut P,
+    opcode: u8,
+    reply: &mut [u8],
+) -> Result<(), Failure<P::Cause>> {
+    let mut first = [0];
+    port.receive(&mut first).map_err(Failure::Port)?;
+    match Answer::of(first[0]) {
+        Answer::Ack => port.receive(reply).map_err(Failure::Port),
+        Answer::Nak => Err(Failure::Refused(opcode)),
+        Answer::Other(byte) => Err(Failure::Strange(byte)),
+    }
+}
+
+// Receives bytes until the last of them are these.
+fn skip_past<P: Port>(port: &mut P, wanted: &[u8]) -> Result<(), Failure<P::Cause>>
+    requires { length wanted.now ≤ 25 }
+{
+    let mut last = [0; ROW_ANSWERS_LEN];
+    for _ in 0..MOST_STALE {
+        last.rotate_left(1);
+        port.receive(&mut last[ROW_ANSWERS_LEN - 1..])
+            .map_err(Failure::Port)?;
+        if last.ends_with(wanted) {
+            return Ok(());
+        }
+    }
+    Err(Failure::NoSync)
+}

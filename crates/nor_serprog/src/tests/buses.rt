@@ -1,0 +1,99 @@
+//! Transactions over a port in memory, and what each fault leaves.
+
+use crate::tests::model::{Fault, Model};
+use crate::{Link, Programmer, SerprogBus};
+use nor_chip::Bus;
+use std::alloc::Global;
+use std::test::Fail;
+
+fn open(alloc: Global, model: Model) -> Result<SerprogBus<Model>, Fail> {
+    let mut link = Link::new(model);
+    let programmer = Programmer::identify(&mut link, None).map_err(|_| "not identified")?;
+    Ok(SerprogBus::new(link, programmer))
+}
+
+#[test]
+fn a_chip_is_read_and_programmed(rt: HostRuntime) -> Result<(), Fail> {
+    let mut bus = open(rt.alloc(), Model::new(rt.alloc())?)?;
+    let mut id = [0; 3];
+    bus.transfer(&[0x9F], &mut id)?;
+    assert_eq!(rt; id, [0xFE, 0x10, 0x10]);
+    let mut program = [0x5A; 260];
+    program[0] = 0x02;
+    program[1] = 0x00;
+    program[2] = 0x11;
+    program[3] = 0x00;
+    bus.transfer(&[0x06], &mut [])?;
+    bus.transfer(&program, &mut [])?;
+    let mut sector = [0; 4096];
+    bus.transfer(&[0x03, 0x00, 0x10, 0x00], &mut sector)?;
+    assert_eq!(rt; sector[0x0FF], 0xFF);
+    assert_eq!(rt; sector[0x100], 0x5A);
+    assert_eq!(rt; sector[0x1FF], 0x5A);
+    assert_eq!(rt; sector[0x200], 0xFF);
+    assert!(rt; bus.cause().is_none());
+    Ok(())
+}
+
+// The text of the cause that a bus keeps.
+fn cause(alloc: Global, bus: &SerprogBus<Model>) -> Result<String, Fail> {
+    match bus.cause() {
+        Some(cause) => Ok(format!(in alloc; "{cause}")?),
+        None => Ok(String::new(alloc)),
+    }
+}
+
+// Each fault stops the bus with a cause of its own. Nothing more is sent before the programmer is in step again.
+#[test]
+fn each_fault_stops_the_bus(rt: HostRuntime) -> Result<(), Fail> {
+    let faults = [
+        (Fault::Nak, "the programmer refused command 13h"),
+        (Fault::Silent, "the port failed: silent"),
+        (Fault::Short, "the port failed: silent"),
+        (
+            Fault::Strange,
+            "the programmer answered 99h, which is neither ACK nor NAK",
+        ),
+    ];
+    for (fault, text) in faults {
+        let mut model = Model::new(rt.alloc())?;
+        model.fault = Some(fault);
+        let mut bus = open(rt.alloc(), model)?;
+        let mut id = [0; 3];
+        assert!(rt; bus.transfer(&[0x9F], &mut id).is_err());
+        assert_eq!(rt; cause(rt.alloc(), &bus)?.as_str(), text);
+        let received = bus.port().received;
+        assert!(rt; bus.transfer(&[0x06], &mut []).is_err());
+        assert_eq!(rt; bus.port().received, received, "{fault:?}");
+        assert_eq!(rt; cause(rt.alloc(), &bus)?.as_str(), text);
+        assert!(rt; bus.synchronize().is_ok(), "{fault:?}");
+        bus.transfer(&[0x9F], &mut id)?;
+        assert_eq!(rt; id, [0xFE, 0x10, 0x10], "{fault:?}");
+    }
+    Ok(())
+}
+
+// After a frame that was cut off nothing is sent again, not even to synchronize.
+#[test]
+fn a_cut_frame_is_never_completed(rt: HostRuntime) -> Result<(), Fail> {
+    let mut model = Model::new(rt.alloc())?;
+    model.fault = Some(Fault::Cut);
+    let mut bus = open(rt.alloc(), model)?;
+    let mut id = [0; 3];
+    assert!(rt; bus.transfer(&[0x9F], &mut id).is_err());
+    assert_eq!(rt; cause(rt.alloc(), &bus)?.as_str(), "the port failed: cut");
+    let received = bus.port().received;
+    assert!(rt; bus.synchronize().is_err());
+    assert!(rt; bus.transfer(&[0x9F], &mut id).is_err());
+    assert_eq!(rt; bus.port().received, received);
+    Ok(())
+}
+
+#[test]
+fn a_transaction_that_is_too_long_is_not_sent(rt: HostRuntime) -> Result<(), Fail> {
+    let mut bus = open(rt.alloc(), Model::new(rt.alloc())?)?;
+    let received = bus.port().received;
+    assert!(rt; bus.transfer(&[0x02; 261], &mut []).is_err());
+    assert_eq!(rt; bus.port().received, received);
+    Ok(())
+}

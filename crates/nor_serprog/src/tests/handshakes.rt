@@ -1,0 +1,104 @@
+//! What is asked of a programmer before the first transaction.
+
+use crate::tests::model::Model;
+use crate::{Link, Programmer};
+use std::alloc::Global;
+use std::test::Fail;
+
+#[test]
+fn a_programmer_is_identified(rt: HostRuntime) -> Result<(), Fail> {
+    let mut link = Link::new(Model::new(rt.alloc())?);
+    let programmer = Programmer::identify(&mut link, Some(12_000_000)).map_err(
+        |_| "not identified",
+    )?;
+    assert_eq!(rt; &programmer.name(), b"in memory\0\0\0\0\0\0\0");
+    assert_eq!(rt; programmer.longest_write(), 1 << 24);
+    assert_eq!(rt; programmer.longest_read(), 1 << 24);
+    assert_eq!(rt; programmer.frequency(), Some(12_000_000));
+    Ok(())
+}
+
+// The text of the error that identifying a programmer ends with.
+fn refusal(alloc: Global, model: Model) -> Result<String, Fail> {
+    let mut link = Link::new(model);
+    match Programmer::identify(&mut link, Some(1_000_000)) {
+        Ok(_) => Ok(String::from_str(alloc, "identified")?),
+        Err(fault) => Ok(format!(in alloc; "{fault}")?),
+    }
+}
+
+#[test]
+fn each_flaw_is_an_error_of_its_own(rt: HostRuntime) -> Result<(), Fail> {
+    let alloc = rt.alloc();
+    let mut model = Model::new(alloc)?;
+    model.version = 2;
+    assert_eq!(rt;
+        refusal(alloc, model)?.as_str(),
+        "the programmer speaks version 2 of serprog, and only version 1 is known"
+    );
+    let mut model = Model::new(alloc)?;
+    model.lacks = Some(0x13);
+    assert_eq!(rt;
+        refusal(alloc, model)?.as_str(),
+        "the programmer lacks command 13h, which is needed here"
+    );
+    let mut model = Model::new(alloc)?;
+    model.lacks = Some(0x14);
+    assert_eq!(rt;
+        refusal(alloc, model)?.as_str(),
+        "the programmer lacks command 14h, which is needed here"
+    );
+    let mut model = Model::new(alloc)?;
+    model.buses = 0x01;
+    assert_eq!(rt;
+        refusal(alloc, model)?.as_str(),
+        "the programmer cannot be set to SPI: its types of bus are 01h"
+    );
+    Ok(())
+}
+
+#[test]
+fn a_limit_that_is_too_small_is_an_error(rt: HostRuntime) -> Result<(), Fail> {
+    let alloc = rt.alloc();
+    let mut model = Model::new(alloc)?;
+    model.longest_write = [0x03, 0x01, 0];
+    assert_eq!(rt;
+        refusal(alloc, model)?.as_str(),
+        "the programmer sends at most 259 bytes in a transaction, and a page program needs 260"
+    );
+    let mut model = Model::new(alloc)?;
+    model.longest_read = [0xFF, 0x0F, 0];
+    assert_eq!(rt;
+        refusal(alloc, model)?.as_str(),
+        "the programmer reads at most 4095 bytes in a transaction, and a sector needs 4096"
+    );
+    let mut model = Model::new(alloc)?;
+    model.lacks = Some(0x08);
+    model.buffer = [0x0A, 0x01];
+    assert_eq!(rt;
+        refusal(alloc, model)?.as_str(),
+        "the serial buffer of the programmer has 266 bytes, and a page program needs 267"
+    );
+    let mut model = Model::new(alloc)?;
+    model.longest_write = [0x04, 0x01, 0];
+    model.longest_read = [0x00, 0x10, 0];
+    assert_eq!(rt; refusal(alloc, model)?.as_str(), "identified");
+    Ok(())
+}
+
+// What an earlier run left unread is skipped, also if it ends like an answer to SYNCNOP.
+#[test]
+fn stale_bytes_are_skipped(rt: HostRuntime) -> Result<(), Fail> {
+    let stale: [&[u8]; 4] = [
+        &[0x06],
+        &[0xFF, 0x15],
+        &[0x15, 0x06],
+        &[0x15, 0x06, 0x15, 0x06, 0x06, 0x15],
+    ];
+    for bytes in stale {
+        let mut model = Model::new(rt.alloc())?;
+        let _ = model.pending.try_extend_from_slice(bytes);
+        assert_eq!(rt; refusal(rt.alloc(), model)?.as_str(), "identified");
+    }
+    Ok(())
+}

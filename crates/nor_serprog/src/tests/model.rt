@@ -1,0 +1,205 @@
+//! A programmer in memory, in front of a simulated chip.
+
+use crate::{Port, frame_len};
+use arrayvec::ArrayVec;
+use nor_chip::{Bus, Config, Delays, Meter, SimBus};
+use std::alloc::Global;
+use std::test::Fail;
+use std::{fmt, mem};
+
+// A frame, and an answer to a read of a sector with what may stand before it.
+const MOST_BEGUN: usize = 300;
+
+const MOST_PENDING: usize = 5000;
+
+/// What the model does at one O_SPIOP in place of answering it.
+#[derive(Clone, Copy, Debug, PartialEq, Eq)]
+pub enum Fault {
+    /// Replies NAK, and the chip is not selected.
+    Nak,
+    /// Carries it out, and the answer is lost.
+    Silent,
+    /// Carries it out, and only ACK and half of the replies arrive.
+    Short,
+    /// Replies with a byte that is neither ACK nor NAK.
+    Strange,
+    /// Flips a bit of the first reply.
+    Flip,
+    /// Receives the opcode and the lengths, and then the port fails.
+    Cut,
+}
+
+/// The port failed: the programmer is silent, or the port was cut.
+#[derive(Clone, Copy, Debug, PartialEq, Eq)]
+pub enum Cause {
+    Silent,
+    Cut,
+}
+
+impl fmt::Display for Cause {
+    fn fmt<W: fmt::Write>(&self, f: &mut fmt::Formatter<W>) -> fmt::Result {
+        f.write_str(match self {
+            Cause::Silent => "silent",
+            Cause::Cut => "cut",
+        })
+    }
+}
+
+/// A programmer, by the document of the protocol. The fields are what it replies to queries.
+#[derive(Drop)]
+pub struct Model {
+    pub chip: SimBus,
+    pub version: u8,
+    pub buses: u8,
+    pub longest_write: [u8; 3],
+    pub longest_read: [u8; 3],
+    pub buffer: [u8; 2],
+    /// The opcode of a command that the map leaves out.
+    pub lacks: Option<u8>,
+    /// The number of the O_SPIOP at which `fault` happens.
+    pub fault_at: u32,
+    pub fault: Option<Fault>,
+    pub operations: u32,
+    /// How many bytes were sent to the model.
+    pub received: u32,
+    begun: ArrayVec<u8, MOST_BEGUN>,
+    pub pending: ArrayVec<u8, MOST_PENDING>,
+}
+
+impl Model {
+    /// A programmer without faults, in front of an erased chip of 64 KiB that carries out any number of transactions.
+    pub fn new(alloc: Global) -> Result<Model, Fail> {
+        let idle = Delays { now: 0, each: 0 };
+        let erased = vec![in alloc; 0xFF; 65536]?;
+        let mut chip = SimBus::new(Config::tiny64(), erased, [0x00, 0x00], idle)?;
+        chip.allow(u64::MAX);
+        Ok(Model {
+            chip,
+            version: 1,
+            buses: 0x08,
+            longest_write: [0, 0, 0],
+            longest_read: [0, 0, 0],
+            buffer: [0xFF, 0xFF],
+            lacks: None,
+            fault_at: 0,
+            fault: None,
+            operations: 0,
+            received: 0,
+            begun: ArrayVec::new(),
+            pending: ArrayVec::new(),
+        })
+    }
+
+    fn reply(&mut self, bytes: &[u8]) {
+        let _ = self.pending.try_extend_from_slice(bytes);
+    }
+
+    // Carries out the command that is whole.
+    fn carry_out(&mut self) {
+        let frame = mem::replace(&mut self.begun, ArrayVec::new());
+        match frame.as_slice() {
+            [0x00 | 0x12 | 0x15, ..] => self.reply(&[0x06]),
+            [0x10] => self.reply(&[0x15, 0x06]),
+            [0x01] => self.reply(&[0x06, self.version, 0]),
+            [0x02] => self.reply_map(),
+            [0x03] => self.reply(b"\x06in memory\0\0\0\0\0\0\0"),
+            [0x04] => self.reply(&[0x06, self.buffer[0], self.buffer[1]]),
+            [0x05] => self.reply(&[0x06, self.buses]),
+            [0x08] => {
+                let [low, middle, high] = self.longest_write;
+                self.reply(&[0x06, low, middle, high]);
+            }
+            [0x11] => {
+                let [low, middle, high] = self.longest_read;
+                self.reply(&[0x06, low, middle, high]);
+            }
+            [0x14, a, b, c, d] => self.reply(&[0x06, *a, *b, *c, *d]),
+            [0x13, _, _, _, low, middle, _, out @ ..] => {
+                self.operate(out, u16::from_le_bytes([*low, *middle]))
+            }
+            _ => self.reply(&[0x15]),
+        }
+    }
+
+    fn reply_map(&mut self) {
+        let mut answer = [0; 33];
+        answer[0] = 0x06;
+        for opcode in [
+            0x00_u8, 0x01, 0x02, 0x03, 0x04, 0x05, 0x08, 0x10, 0x11, 0x12, 0x13, 0x14, 0x15,
+        ] {
+            let index = 1 + usize::from(opcode / 8);
+            if Some(opcode) != self.lacks
+                && let Some(byte) = answer.get_mut(index)
+            {
+                *byte |= 1 << (opcode % 8);
+            }
+        }
+        self.reply(&answer);
+    }
+
+    // One transaction with the chip.
+    fn operate(&mut self, out: &[u8], replies: u16) {
+        let fault = if self.operations == self.fault_at {
+            self.fault
+        } else {
+            None
+        };
+        self.operations = self.operations.saturating_add(1);
+        if fault == Some(Fault::Nak) {
+            return self.reply(&[0x15]);
+        }
+        let mut reply = [0; 4096];
+        let len = usize::from(replies).min(4096);
+        let reply = &mut reply[..len];
+        let _ = self.chip.transfer(out, &mut *reply);
+        match fault {
+            Some(Fault::Silent) => return,
+            Some(Fault::Strange) => return self.reply(&[0x99]),
+            Some(Fault::Short) => {
+                self.reply(&[0x06]);
+                return self.reply(&reply[..len / 2]);
+            }
+            Some(Fault::Flip) => {
+                if let Some(first) = reply.first_mut() {
+                    *first ^= 0x01;
+                }
+            }
+            _ => {}
+        }
+        self.reply(&[0x06]);
+        self.reply(reply);
+    }
+}
+
+impl Port for Model {
+    type Cause = Cause;
+
+    fn send(&mut self, bytes: &[u8]) -> Result<(), Cause> {
+        let cut = self.fault == Some(Fault::Cut) && self.operations == self.fault_at;
+        for byte in bytes {
+            self.received = self.received.saturating_add(1);
+            let _ = self.begun.try_push(*byte);
+            let len = self.begun.len();
+            if cut && len == 7 && self.begun.first() == Some(&0x13) {
+                return Err(Cause::Cut);
+            }
+            if frame_len(&self.begun) == Some(len) {
+                self.carry_out();
+            }
+        }
+        Ok(())
+    }
+
+    fn receive(&mut self, bytes: &mut [u8]) -> Result<(), Cause> {
+        let len = bytes.len();
+        if self.pending.len() < len {
+            return Err(Cause::Silent);
+        }
+        let mut rest = ArrayVec::new();
+        let (taken, later) = self.pending.as_slice().split_at(len);
+        bytes.copy_from_slice(taken);
+        let _ = rest.try_extend_from_slice(later);
+        self.pending = rest;
+        Ok(())
+    }
+}
