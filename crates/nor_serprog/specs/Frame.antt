@@ -1,6 +1,6 @@
 -- The commands of serprog as bytes. (serprog protocol version 1, flashrom's Documentation/serprog-protocol.txt: the
 -- table of commands, and its notes on O_SPIOP.)
-use Rattle.std.specs.Prelude.{◌≡◌, ◌<◌, ◌≤◌, ◌+◌, ◌*◌, ◌/◌, ◌%◌, ◌++◌, ◌==◌, ◌||◌, ℕ, Bool, true, false, List, [], ◌∷◌, Option, None, Some, length, drop, slice_index, if◌then◌else◌, ⊤}
+use Rattle.std.specs.Prelude.{◌≡◌, ◌<◌, ◌≤◌, ◌+◌, ◌*◌, ◌/◌, ◌%◌, ◌++◌, ◌==◌, ◌||◌, ℕ, List, [], ◌∷◌, Option, None, Some, length, drop, slice_index, if◌then◌else◌, ⊤}
 use Rattle.nor_serprog.specs.declared.command.Command.{Command}
 use Rattle.nor_serprog.specs.declared.command.Command.TheVariants.{Nop, QueryInterface, QueryCommands, QueryName, QuerySerialBuffer, QueryBuses, QueryLongestWrite, SyncNop, QueryLongestRead, SetBuses, Operate, SetFrequency, SetPins}
 
@@ -36,7 +36,8 @@ frame_of (Operate out replies) = operation_frame out.now replies
 frame_of (SetFrequency hertz) = 0x14 ∷ four_of hertz
 frame_of (SetPins enabled) = 0x15 ∷ (if enabled then 1 else 0) ∷ []
 
--- The command fits into one frame of this crate: O_SPIOP sends at most 260 bytes, and its number of replies has 24 bits.
+-- The command fits into one frame of this crate: O_SPIOP sends at most 260 bytes, and its number of replies has 24
+-- bits.
 abbrev pub Fits : Command → Type 0
 Fits (Operate out replies) = (length out.now ≤ 260) × (replies < 16777216)
 Fits _ = ⊤

@@ -9,8 +9,8 @@ ghost use Rattle.nor_serprog.specs.Link.{port_of, is_in_step};
 use crate::{Command, Failure, Link, Port, Programmer, Sync};
 use nor_chip::{Bus, Sent, Stopped, heard_after};
 
-/// A bus to the chip behind a serial programmer, over any port. One transaction is one O_SPIOP, so the chip sees exactly
-/// the bytes of the transaction, with chip select held from the first byte to the last.
+/// A bus to the chip behind a serial programmer, over any port. One transaction is one O_SPIOP (serprog protocol,
+/// flashrom's Documentation/serprog-protocol.txt).
 ///
 /// Nothing is assumed of the programmer and the chip, so the bus is not honest in the sense of `Bus`: its contract
 /// notes what was sent that may modify a chip, and what polls replied. A modifying command is noted before its first
@@ -80,7 +80,8 @@ impl<P: Port + Drop> Bus for SerprogBus<P> {
 
     fn transfer(&mut self, out: &[u8], reply: &mut [u8]) -> Result<(), Stopped>
         ensures sends { Sends out.now (state_of self.old) (state_of self.new) }
-        ensures stops { (state_of self.old).honest ≡ true → OnErr result (Stops out.now (state_of self.old) (state_of self.new)) }
+        ensures stops { (state_of self.old).honest ≡ true
+            → OnErr result (Stops out.now (state_of self.old) (state_of self.new)) }
         ensures unread { (state_of self.old).honest ≡ true → OnErr result (reply.new ≡ reply.old) }
         ensures carries { (state_of self.old).honest ≡ true
             → OnOk result (Carries out.now reply.new (state_of self.old) (state_of self.new)) }

@@ -171,7 +171,8 @@ pub enum Answer {
 impl Answer {
     /// Returns what the first byte of an answer means.
     pub fn of(byte: u8) -> Answer
-        ensures { result ≡ (if byte == 0x06 then Answers.Ack else if byte == 0x15 then Answers.Nak else Answers.Other byte) }
+        ensures { result
+            ≡ (if byte == 0x06 then Answers.Ack else if byte == 0x15 then Answers.Nak else Answers.Other byte) }
     {
         match byte {
             0x06 => Answer::Ack,

@@ -35,8 +35,8 @@ pub enum HandshakeFault<C> {
     /// The programmer lacks the command with this opcode: O_SPIOP (13h), or S_SPI_FREQ (14h) if a clock was asked for.
     #[error("the programmer lacks command {0:02X}h, which is needed here")]
     Lacks(u8),
-    /// The programmer supports no SPI, or other types of bus too and no command that selects one. The value is the flags
-    /// that it returned: 1 parallel, 2 LPC, 4 FWH, 8 SPI.
+    /// The programmer supports no SPI, or supports other types of bus too and has no command that selects one. The
+    /// value is the flags that it returned: 1 parallel, 2 LPC, 4 FWH, 8 SPI.
     #[error("the programmer cannot be set to SPI: its types of bus are {0:02X}h")]
     NotSpi(u8),
     /// An O_SPIOP may send at most this many bytes, and a page program needs 260.

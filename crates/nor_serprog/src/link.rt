@@ -114,8 +114,8 @@ impl<P: Port + Drop> Link<P> {
         }
     }
 
-    /// Refuses a command that is too long: sends nothing, and returns `TooLong`, or `OutOfStep` or `CutFrame` if the link
-    /// was out of step. As after any error, nothing more is sent until `synchronize` returns `Ok`.
+    /// Refuses a command that is too long. Sends nothing, and returns `TooLong`, or if the link was out of step
+    /// `OutOfStep` or `CutFrame`. As after any error, nothing more is sent until `synchronize` returns `Ok`.
     pub(crate) fn refuse(&mut self) -> Result<(), Failure<P::Cause>>
         ensures silent { is_in_step self.old ≡ false → self.new ≡ self.old }
         ensures port { port_of self.new ≡ port_of self.old }
@@ -154,9 +154,9 @@ impl<P: Port + Drop> Link<P> {
     /// Brings the answers into step with the frames: sends SYNCNOP, and then a row of SYNCNOP and NOP, and skips all
     /// bytes before the answers to that row (serprog protocol, flashrom's Documentation/serprog-protocol.txt, 10h).
     ///
-    /// If a frame may have been cut off, the call returns `CutFrame` and does not use the port: the bytes could complete
-    /// the frame, and the chip would carry out what nobody asked for. A frame that another run cut off is not known
-    /// here, so disconnect the programmer from power after a run that was killed.
+    /// If a frame may have been cut off, the call returns `CutFrame` and does not use the port, because the bytes could
+    /// complete the frame, and the chip would carry out what nobody asked for. A frame that another run cut off is not
+    /// known here, so disconnect the programmer from power after a run that was killed.
     ///
     /// Returns `Port` if the port fails, and `NoSync` if the answers to the row are not among the next 65,536 bytes.
     pub fn synchronize(&mut self) -> Result<(), Failure<P::Cause>>

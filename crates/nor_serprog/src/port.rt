@@ -2,8 +2,8 @@
 
 /// A port to a serial programmer: a terminal device, a socket, or a model in tests.
 ///
-/// Nothing is assumed of it except that each call returns. An implementation that can block for ever needs a time-out of
-/// its own.
+/// Nothing is assumed of it except that each call returns. An implementation that can block for ever needs a time-out
+/// of its own.
 pub trait Port {
     /// What went wrong at the port.
     type Cause: Drop;

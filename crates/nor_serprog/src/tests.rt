@@ -4,3 +4,4 @@ mod buses;
 mod frames;
 mod handshakes;
 mod model;
+mod wrappers;

@@ -1,0 +1,2 @@
+pub mod Pauses
+pub mod SameReply

@@ -1,0 +1,14 @@
+-- The pauses of a wait last long enough.
+use Rattle.std.proofs.Common.{ℕ, zero, suc, ◌≤◌, ◌*◌, ◌-◌, arith}
+use Rattle.std.proofs.lemmas.Bool.Decides.{nat_tests}
+use Rattle.nor_serprog.specs.Pace.{pauses}
+
+-- Each poll from the 513th on adds 8 ms.
+pub long_pauses : (n : ℕ) → 8 * (n - 512) ≤ pauses n
+unfolding pauses
+long_pauses zero = omega arith
+long_pauses (suc n) = grind (arith, nat_tests, long_pauses n)
+
+-- The pauses of all polls of a wait, 65,536, are at least 400 s.
+pub wait_lasts : 400000 ≤ pauses 65536
+wait_lasts = omega (arith, long_pauses 65536)

@@ -1,0 +1,113 @@
+//! A bus that gives a busy chip time.
+ghost use Rattle.std.specs.Prelude.{◌≡◌, ◌≤◌, true, OnOk, OnErr};
+ghost use Rattle.nor_chip.specs.Bus.{Sends, Stops, Carries, Hears};
+ghost use Rattle.nor_serprog.specs.Pace.{pause_before, pauses, busy_row_after, busy_row, paced_of};
+
+use nor_chip::{Bus, Stopped, heard_after};
+use std::thread;
+use std::time::{Clock, Duration};
+
+// The first polls of a wait follow one another without a pause, so that the end of a page program (typically 0.7 ms,
+// W25Q64FV datasheet, AC characteristics) is seen at once.
+const EAGER_POLLS: u64 = 16;
+
+// Up to this poll the pause is short. An operation that takes longer than half a second is an erase.
+const SHORT_POLLS: u64 = 512;
+
+const SHORT_MILLIS: u64 = 1;
+
+const LONG_MILLIS: u64 = 8;
+
+/// A bus that pauses between polls that show BUSY. Without pauses a fast bus uses up the 65,536 polls of a wait before
+/// an erase ends.
+///
+/// The pause before a transaction depends on how many polls in a row showed BUSY before it: none for fewer than 16,
+/// 1 ms for fewer than 512, and otherwise 8 ms. The pauses of a wait whose 65,536 polls all show BUSY add up to at
+/// least 400 s. The longest operation of the chips that are known is the erase of a whole W25Q128FV, at most 200 s
+/// (datasheet, AC characteristics). It is not proved that `Clock::sleep` is called, or that it waits for as long as it is
+/// asked to.
+///
+/// The state is that of the bus inside, so a paced bus is honest if and only if the bus inside is.
+#[derive(Drop)]
+pub struct Paced<B, C> {
+    bus: B,
+    clock: C,
+    busy_polls: u64,
+}
+
+impl<B: Bus + Drop, C: Clock + Drop> Paced<B, C> {
+    /// Paces this bus by this clock.
+    pub fn new(bus: B, clock: C) -> Paced<B, C>
+        ensures bus { paced_of result ≡ bus }
+        ensures none_yet { busy_row result ≡ 0 }
+        ensures lasts { 400000 ≤ pauses 65536 }
+    {
+        Paced {
+            bus,
+            clock,
+            busy_polls: 0,
+        }
+    }
+
+    /// Returns the bus inside.
+    pub fn inner(&self) -> &B
+        ensures { result.now ≡ paced_of self.now }
+    {
+        &self.bus
+    }
+
+    /// Returns the bus inside as it is, and ends the pacing.
+    pub fn into_inner(self) -> B
+        ensures { result ≡ paced_of self }
+    {
+        let Paced {
+            bus,
+            clock: _,
+            busy_polls: _,
+        } = self;
+        bus
+    }
+}
+
+impl<B: Bus, C: Clock> Bus for Paced<B, C> {
+    ghost state = { λ paced. B.state paced.bus };
+
+    ghost reaches = { λ paced honest. B.reaches paced.bus honest };
+
+    fn transfer(&mut self, out: &[u8], reply: &mut [u8]) -> Result<(), Stopped>
+        ensures sends { Sends out.now (B.state (paced_of self.old)) (B.state (paced_of self.new)) }
+        ensures stops { (B.state (paced_of self.old)).honest ≡ true
+            → OnErr result (Stops out.now (B.state (paced_of self.old)) (B.state (paced_of self.new))) }
+        ensures unread { (B.state (paced_of self.old)).honest ≡ true → OnErr result (reply.new ≡ reply.old) }
+        ensures carries { (B.state (paced_of self.old)).honest ≡ true
+            → OnOk result (Carries out.now reply.new (B.state (paced_of self.old)) (B.state (paced_of self.new))) }
+        ensures hears { Hears out.now reply.new result (B.state (paced_of self.old)) (B.state (paced_of self.new)) }
+        ensures row { OnOk result (busy_row self.new ≡ busy_row_after out.now reply.new (busy_row self.old)) }
+        ensures stopped { OnErr result (busy_row self.new ≡ busy_row self.old) }
+    {
+        let millis = pause_millis(self.busy_polls);
+        if millis > 0 {
+            thread::sleep(&self.clock, Duration::from_millis(millis));
+        }
+        self.bus.transfer(out, reply)?;
+        self.busy_polls = if heard_after(out, reply, true) {
+            0
+        } else {
+            self.busy_polls.saturating_add(1)
+        };
+        Ok(())
+    }
+}
+
+/// Returns the pause in milliseconds before a transaction that follows this many polls in a row which showed BUSY.
+fn pause_millis(busy_polls: u64) -> u64
+    ensures { result ≡ pause_before busy_polls }
+{
+    if busy_polls >= SHORT_POLLS {
+        LONG_MILLIS
+    } else if busy_polls >= EAGER_POLLS {
+        SHORT_MILLIS
+    } else {
+        0
+    }
+}

@@ -1,0 +1,107 @@
+//! A bus that reads everything twice.
+ghost use Rattle.std.specs.Prelude.{◌≡◌, ◌≢◌, ◌≤◌, true, false, length, OnOk, OnErr};
+ghost use Rattle.std.proofs.lemmas.Bool.{false≢true};
+ghost use Rattle.nor_chip.specs.Bus.{Sends, Stops, Carries, Hears, unknown_bus};
+ghost use Rattle.nor_serprog.specs.Twice.{twice_of, has_differed, begins_read, ReadsTwice, view_of};
+
+use nor_chip::{Bus, Stopped};
+
+// The most bytes of a read: a sector.
+const LONGEST_READ: usize = 4096;
+
+const READ_DATA: u8 = 0x03;
+
+/// A bus that carries out each read of data (03h) twice, and stops if the replies differ. A poor contact flips bits of
+/// some reads. Without a second reading a flipped bit gets into the journal, and a restore writes it into the chip.
+///
+/// An error that is the same in both readings is not detected. A read over this bus is two transactions over the bus
+/// inside, so this bus is not honest in the sense of `Bus`, even if the bus inside is. If the bus inside is honest,
+/// a read that succeeds had the same reply twice, and a difference never occurs.
+#[derive(Drop)]
+pub struct ReadTwice<B> {
+    bus: B,
+    differed: bool,
+}
+
+impl<B: Bus + Drop> ReadTwice<B> {
+    /// Reads everything twice over this bus.
+    pub fn new(bus: B) -> ReadTwice<B>
+        ensures bus { twice_of result ≡ bus }
+        ensures differed { has_differed result ≡ false }
+    {
+        ReadTwice {
+            bus,
+            differed: false,
+        }
+    }
+
+    /// Returns the bus inside.
+    pub fn inner(&self) -> &B
+        ensures { result.now ≡ twice_of self.now }
+    {
+        &self.bus
+    }
+
+    /// Returns whether two readings of the same bytes differed. Once they did, this stays so.
+    pub fn differed(&self) -> bool
+        ensures { result ≡ has_differed self.now }
+    {
+        self.differed
+    }
+}
+
+impl<B: Bus> Bus for ReadTwice<B> {
+    ghost state = { λ twice. view_of (B.state twice.bus) };
+
+    ghost reaches = { λ twice honest. absurd (false≢true honest) };
+
+    fn transfer(&mut self, out: &[u8], reply: &mut [u8]) -> Result<(), Stopped>
+        ensures sends { Sends out.now (view_of (B.state (twice_of self.old))) (view_of (B.state (twice_of self.new))) }
+        ensures stops { (view_of (B.state (twice_of self.old))).honest ≡ true
+            → OnErr result
+            (Stops out.now (view_of (B.state (twice_of self.old))) (view_of (B.state (twice_of self.new)))) }
+        ensures unread { (view_of (B.state (twice_of self.old))).honest ≡ true → OnErr result (reply.new ≡ reply.old) }
+        ensures carries { (view_of (B.state (twice_of self.old))).honest ≡ true
+            → OnOk result (Carries out.now reply.new
+            (view_of (B.state (twice_of self.old))) (view_of (B.state (twice_of self.new)))) }
+        ensures hears { Hears out.now reply.new result
+            (view_of (B.state (twice_of self.old))) (view_of (B.state (twice_of self.new))) }
+        ensures once { (B.state (twice_of self.old)).honest ≡ true → begins_read out.now ≡ false
+            → OnOk result (Carries out.now reply.new (B.state (twice_of self.old)) (B.state (twice_of self.new))) }
+        ensures twice { (B.state (twice_of self.old)).honest ≡ true → begins_read out.now ≡ true
+            → OnOk result (ReadsTwice out.now reply.new (B.state (twice_of self.old)) (B.state (twice_of self.new))) }
+        ensures no_difference { (B.state (twice_of self.old)).honest ≡ true → length reply.old ≤ 4096
+            → OnErr result ((B.state (twice_of self.new)).left ≡ 0) }
+        ensures remembers { has_differed self.old ≡ true → has_differed self.new ≡ true }
+    {
+        if !reads_data(out) {
+            return self.bus.transfer(out, reply);
+        }
+        if reply.len() > LONGEST_READ {
+            return Err(Stopped);
+        }
+        self.bus.transfer(out, &mut *reply)?;
+        let mut again = [0; LONGEST_READ];
+        let again = &mut again[..reply.len()];
+        self.bus.transfer(out, &mut *again)?;
+        if !are_same(reply, again) {
+            self.differed = true;
+            return Err(Stopped);
+        }
+        Ok(())
+    }
+}
+
+// A transaction reads data.
+fn reads_data(out: &[u8]) -> bool
+    ensures { result ≡ begins_read out.now }
+{
+    matches!(out, [READ_DATA, ..])
+}
+
+fn are_same(first: &[u8], second: &[u8]) -> bool
+    ensures same { result ≡ true → second.now ≡ first.now }
+    ensures differ { result ≡ false → second.now ≢ first.now }
+{
+    first == second
+}
