@@ -1,2 +1,3 @@
 pub mod Pauses
 pub mod SameReply
+pub mod Exchanges

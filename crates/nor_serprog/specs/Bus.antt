@@ -11,6 +11,10 @@ use Rattle.nor_serprog.specs.Link.{is_in_step}
 abbrev pub link_of : {P C : Type 0} → SerprogBus P C → Link P C
 link_of bus = bus.link
 
+-- The port to the programmer.
+abbrev pub port_in : {P C : Type 0} → SerprogBus P C → P
+port_in bus = bus.link.port
+
 -- What was sent that may modify a chip, or was tried.
 abbrev pub sent_of : {P C : Type 0} → SerprogBus P C → Sent
 sent_of bus = bus.sent

@@ -52,7 +52,7 @@ arguments_of opcode =
     else 0
 
 -- The length of a frame of O_SPIOP or "write n", by what follows its opcode: two numbers of three bytes, of which the
--- first is the number of bytes behind them.
+-- first is the number of bytes after them.
 abbrev pub long_len : List ℕ → Option ℕ
 long_len (a ∷ b ∷ c ∷ rest) = Some (7 + number_of a b c)
 long_len _ = None

@@ -1,9 +1,10 @@
 //! A bus to the chip behind a programmer.
-ghost use Rattle.std.specs.Prelude.{◌≡◌, true, false, OnOk, OnErr, IsSome, option_copied};
+ghost use Rattle.std.specs.Prelude.{◌≡◌, ◌≤◌, true, false, length, OnOk, OnErr, IsSome, option_copied};
 ghost use Rattle.std.proofs.lemmas.Bool.{false≢true};
 ghost use Rattle.nor_chip.specs.Sent.{IsNothing};
 ghost use Rattle.nor_chip.specs.Bus.{Sends, Hears, Stops, Carries};
-ghost use Rattle.nor_serprog.specs.Bus.{link_of, sent_of, heard_of, cause_of, is_ready, state_of};
+ghost use Rattle.nor_serprog.specs.Bus.{link_of, port_in, sent_of, heard_of, cause_of, is_ready, state_of};
+ghost use Rattle.nor_serprog.specs.Device.{IsIdle, Exchanged, Interrupted};
 ghost use Rattle.nor_serprog.specs.Link.{port_of, is_in_step};
 
 use crate::{Command, Failure, Link, Port, Programmer, Sync};
@@ -12,9 +13,13 @@ use nor_chip::{Bus, Sent, Stopped, heard_after};
 /// A bus to the chip behind a serial programmer, over any port. One transaction is one O_SPIOP (serprog protocol,
 /// flashrom's Documentation/serprog-protocol.txt).
 ///
-/// Nothing is assumed of the programmer and the chip, so the bus is not honest in the sense of `Bus`: its contract
-/// notes what was sent that may modify a chip, and what polls replied. A modifying command is noted before its first
-/// byte is sent. After a transaction that failed, nothing more is sent until `synchronize` returns `Ok`.
+/// In the sense of `Bus` this bus is not honest, because it refuses a transaction of more than 260 bytes. Over any port
+/// its contract notes what was sent that may modify a chip, and what polls replied. A modifying command is noted before
+/// its first byte is sent. After a transaction that failed, nothing more is sent until `synchronize` returns `Ok`.
+///
+/// Over an honest port to an idle programmer, a transaction that succeeds is one step of the chip, and leaves the
+/// programmer idle (`Exchanged`). A transaction of at most 260 bytes and 4,096 replies fails only if fewer than three
+/// calls of the port were left; the chip has then made its step or is as it was (`Interrupted`).
 #[derive(Drop)]
 pub struct SerprogBus<P: Port + Drop> {
     link: Link<P>,
@@ -47,7 +52,7 @@ impl<P: Port + Drop> SerprogBus<P> {
 
     /// Returns the port.
     pub fn port(&self) -> &P
-        ensures { result.now ≡ port_of (link_of self.now) }
+        ensures { result.now ≡ port_in self.now }
     {
         self.link.port()
     }
@@ -86,6 +91,13 @@ impl<P: Port + Drop> Bus for SerprogBus<P> {
         ensures carries { (state_of self.old).honest ≡ true
             → OnOk result (Carries out.now reply.new (state_of self.old) (state_of self.new)) }
         ensures hears { Hears out.now reply.new result (state_of self.old) (state_of self.new) }
+        ensures exchanged { (P.state (port_in self.old)).honest ≡ true
+            → IsIdle (P.state (port_in self.old)).device → OnOk result
+            (Exchanged out.now reply.new (P.state (port_in self.old)) (P.state (port_in self.new))) }
+        ensures interrupted { (P.state (port_in self.old)).honest ≡ true
+            → IsIdle (P.state (port_in self.old)).device → is_ready self.old ≡ true
+            → length out.now ≤ 260 → length reply.old ≤ 4096 → OnErr result
+            (Interrupted out.now (P.state (port_in self.old)) (P.state (port_in self.new))) }
         ensures silent { is_ready self.old ≡ false → link_of self.new ≡ link_of self.old }
         ensures was_ready { OnOk result (is_ready self.old ≡ true) }
         ensures ok { OnOk result (is_ready self.new ≡ true) }
@@ -117,14 +129,20 @@ fn carry<P: Port + Drop>(
     out: &[u8],
     reply: &mut [u8],
 ) -> Result<(), Failure<P::Cause>>
+    requires { 4096 ≤ longest_read }
+    ensures exchanged { (P.state (port_of link.old)).honest ≡ true → IsIdle (P.state (port_of link.old)).device
+        → OnOk result (Exchanged out.now reply.new (P.state (port_of link.old)) (P.state (port_of link.new))) }
+    ensures interrupted { (P.state (port_of link.old)).honest ≡ true → IsIdle (P.state (port_of link.old)).device
+        → is_in_step link.old ≡ true → length out.now ≤ 260 → length reply.old ≤ 4096
+        → OnErr result (Interrupted out.now (P.state (port_of link.old)) (P.state (port_of link.new))) }
     ensures silent { is_in_step link.old ≡ false → link.new ≡ link.old }
     ensures was_in_step { OnOk result (is_in_step link.old ≡ true) }
     ensures ok { OnOk result (is_in_step link.new ≡ true) }
     ensures err { OnErr result (is_in_step link.new ≡ false) }
 {
-    let replies = u32::try_from(reply.len()).unwrap_or(u32::MAX);
-    if replies > longest_read {
+    if reply.len() > longest_read as usize {
         return link.refuse();
     }
+    let replies = reply.len() as u32;
     link.exchange(Command::Operate { out, replies }, reply)
 }

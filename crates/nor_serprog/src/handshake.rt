@@ -1,7 +1,6 @@
 //! The handshake: what is asked of a programmer before the first transaction.
-ghost use Rattle.std.specs.Prelude.{◌≡◌, ◌≤◌, true, IfOk, OnOk};
+ghost use Rattle.std.specs.Prelude.{◌≡◌, ◌≤◌, true, OnOk};
 ghost use Rattle.nor_serprog.specs.Link.{is_in_step};
-ghost use Rattle.nor_serprog.specs.Programmer.{reads_most, writes_most};
 
 use crate::{Command, Failure, LONGEST_OUT, Link, Port};
 use thiserror::Error;
@@ -58,9 +57,14 @@ pub struct Programmer {
     longest_write: u32,
     longest_read: u32,
     frequency: Option<u32>,
+    // a page program fits into a transaction, and a sector into its reply
+    ghost writes: { 260 ≤ longest_write },
+    ghost reads: { 4096 ≤ longest_read },
 }
 
 impl Programmer {
+    ghost use Rattle.nor_serprog.specs.Programmer.{reads_most, writes_most};
+
     /// Identifies the programmer behind a new link, and makes it ready for SPI transactions. No transaction is sent, so
     /// the chip is not selected.
     ///
@@ -74,9 +78,7 @@ impl Programmer {
         link: &mut Link<P>,
         hertz: Option<u32>,
     ) -> Result<Programmer, HandshakeFault<P::Cause>>
-        ensures in_step { OnOk result (is_in_step link.new ≡ true) }
-        ensures writes { IfOk result (λ programmer. 260 ≤ writes_most programmer) }
-        ensures reads { IfOk result (λ programmer. 4096 ≤ reads_most programmer) }
+        ensures { OnOk result (is_in_step link.new ≡ true) }
     {
         synchronize(link)?;
         let commands = query_commands(link)?;
@@ -106,16 +108,18 @@ impl Programmer {
         self.name
     }
 
-    /// Returns the most bytes that a transaction may send.
+    /// Returns the most bytes that a transaction may send, at least 260.
     pub fn longest_write(&self) -> u32
-        ensures { result ≡ writes_most self.now }
+        ensures value { result ≡ writes_most self.now }
+        ensures enough { 260 ≤ result }
     {
         self.longest_write
     }
 
-    /// Returns the most bytes that a transaction may read.
+    /// Returns the most bytes that a transaction may read, at least 4,096.
     pub fn longest_read(&self) -> u32
-        ensures { result ≡ reads_most self.now }
+        ensures value { result ≡ reads_most self.now }
+        ensures enough { 4096 ≤ result }
     {
         self.longest_read
     }

@@ -1,8 +1,10 @@
 //! Exchanges with a programmer: a frame, and its answer.
-ghost use Rattle.std.specs.Prelude.{◌≡◌, ◌≤◌, true, false, length, IsErr, OnOk, OnErr};
+ghost use Rattle.std.specs.Prelude.{◌≡◌, ◌≤◌, true, false, length, ◌↔◌, IsOk, IfOk, IsErr, OnOk, OnErr};
+ghost use Rattle.nor_serprog.specs.Device.{IsIdle, IsSent, IsCutOff, IfOperates, Exchanged, Interrupted, AnswerBegins, TakesAnswer, MissesAnswer};
+ghost use Rattle.nor_serprog.specs.Frame.{Fits, IsFrame, Reads};
 ghost use Rattle.nor_serprog.specs.Link.{port_of, sync_of, is_in_step, is_cut};
 
-use crate::{Answer, Command, Port};
+use crate::{Answer, Command, Frame, Port};
 use thiserror::Error;
 
 /// Why an exchange with a programmer failed. `C` is the cause of the port.
@@ -106,6 +108,13 @@ impl<P: Port + Drop> Link<P> {
         ensures was_in_step { OnOk result (is_in_step self.old ≡ true) }
         ensures ok { OnOk result (is_in_step self.new ≡ true) }
         ensures err { OnErr result (is_in_step self.new ≡ false) }
+        ensures exchanged { (P.state (port_of self.old)).honest ≡ true → IsIdle (P.state (port_of self.old)).device
+            → OnOk result (IfOperates command.entry (λ out replies. length reply.old ≡ replies
+            → Exchanged out reply.new (P.state (port_of self.old)) (P.state (port_of self.new)))) }
+        ensures interrupted { (P.state (port_of self.old)).honest ≡ true → IsIdle (P.state (port_of self.old)).device
+            → is_in_step self.old ≡ true → Fits command.entry → OnErr result (IfOperates command.entry (λ out replies.
+            Interrupted out (P.state (port_of self.old)) (P.state (port_of self.new)))) }
+        ensures unread { (P.state (port_of self.old)).honest ≡ true → OnErr result (reply.new ≡ reply.old) }
     {
         match self.sync {
             Sync::InStep => self.exchange_in_step(command, reply),
@@ -139,11 +148,18 @@ impl<P: Port + Drop> Link<P> {
     ) -> Result<(), Failure<P::Cause>>
         ensures ok { OnOk result (is_in_step self.new ≡ true) }
         ensures err { OnErr result (is_in_step self.new ≡ false) }
+        ensures exchanged { (P.state (port_of self.old)).honest ≡ true → IsIdle (P.state (port_of self.old)).device
+            → OnOk result (IfOperates command.entry (λ out replies. length reply.old ≡ replies
+            → Exchanged out reply.new (P.state (port_of self.old)) (P.state (port_of self.new)))) }
+        ensures interrupted { (P.state (port_of self.old)).honest ≡ true → IsIdle (P.state (port_of self.old)).device
+            → Fits command.entry → OnErr result (IfOperates command.entry (λ out replies.
+            Interrupted out (P.state (port_of self.old)) (P.state (port_of self.new)))) }
+        ensures unread { (P.state (port_of self.old)).honest ≡ true → OnErr result (reply.new ≡ reply.old) }
     {
         self.sync = Sync::Lost;
-        let frame = command.encode().map_err(|_| Failure::TooLong)?;
+        let frame = encode(command)?;
         self.sync = Sync::Cut;
-        self.port.send(&frame).map_err(Failure::Port)?;
+        send(&mut self.port, &frame)?;
         self.sync = Sync::Lost;
         let opcode = frame.first().copied().unwrap_or(0);
         receive_answer(&mut self.port, opcode, reply)?;
@@ -179,12 +195,36 @@ impl<P: Port + Drop> Link<P> {
     }
 }
 
+fn encode<C>(command: Command<'_>) -> Result<Frame, Failure<C>>
+    ensures fits { IsOk result ↔ Fits command.entry }
+    ensures whole { IfOk result (λ frame. IsFrame frame.items) }
+    ensures reads { IfOk result (λ frame. Reads frame.items command.entry) }
+{
+    command.encode().map_err(|_| Failure::TooLong)
+}
+
+fn send<P: Port>(port: &mut P, frame: &Frame) -> Result<(), Failure<P::Cause>>
+    ensures nature { (P.state port.new).honest ≡ (P.state port.old).honest }
+    ensures sent { (P.state port.old).honest ≡ true
+        → OnOk result (IsSent frame.now.items (P.state port.old) (P.state port.new)) }
+    ensures cut_off { (P.state port.old).honest ≡ true
+        → OnErr result (IsCutOff frame.now.items (P.state port.old) (P.state port.new)) }
+{
+    port.send(frame).map_err(Failure::Port)
+}
+
 // Receives the answer to the command with this opcode.
 fn receive_answer<P: Port>(
     port: &mut P,
     opcode: u8,
     reply: &mut [u8],
-) -> Result<(), Failure<P::Cause>> {
+) -> Result<(), Failure<P::Cause>>
+    ensures answered { (P.state port.old).honest ≡ true
+        → OnOk result (TakesAnswer reply.new (P.state port.old) (P.state port.new)) }
+    ensures missed { (P.state port.old).honest ≡ true → AnswerBegins (P.state port.old)
+        → OnErr result (MissesAnswer (P.state port.old) (P.state port.new)) }
+    ensures unread { (P.state port.old).honest ≡ true → OnErr result (reply.new ≡ reply.old) }
+{
     let mut first = [0];
     port.receive(&mut first).map_err(Failure::Port)?;
     match Answer::of(first[0]) {

@@ -24,8 +24,8 @@ const LONG_MILLIS: u64 = 8;
 /// The pause before a transaction depends on how many polls in a row showed BUSY before it: none for fewer than 16,
 /// 1 ms for fewer than 512, and otherwise 8 ms. The pauses of a wait whose 65,536 polls all show BUSY add up to at
 /// least 400 s. The longest operation of the chips that are known is the erase of a whole W25Q128FV, at most 200 s
-/// (datasheet, AC characteristics). It is not proved that `Clock::sleep` is called, or that it waits for as long as it is
-/// asked to.
+/// (datasheet, AC characteristics). It is not proved that `Clock::sleep` is called, or that it waits for as long as it
+/// is asked to.
 ///
 /// The state is that of the bus inside, so a paced bus is honest if and only if the bus inside is.
 #[derive(Drop)]

@@ -1,16 +1,34 @@
 //! The port to a programmer.
+ghost use Rattle.std.specs.Prelude.{◌≡◌, true, OnOk, OnErr};
+ghost use Rattle.nor_serprog.specs.Device.{PortState, IsSent, IsCutOff, IsReceived, IsSilent};
 
 /// A port to a serial programmer: a terminal device, a socket, or a model in tests.
 ///
-/// Nothing is assumed of it except that each call returns. An implementation that can block for ever needs a time-out
-/// of its own.
+/// Contracts see a port as a `PortState`. An *honest* port fails if and only if no call is left. It passes what is sent
+/// to a programmer that carries out O_SPIOP as the protocol says, and returns the answers in their order. If it fails,
+/// any number of bytes may have been sent, and the chip may then have lost its power. Nothing is assumed of any other
+/// port, except that its honesty never changes. A port of an operating system is never honest (`unknown_port`).
+///
+/// Each call must return, so an implementation that can block for ever needs a time-out of its own.
 pub trait Port {
     /// What went wrong at the port.
     type Cause: Drop;
 
+    ghost state: { Self → PortState };
+
     /// Sends all of these bytes. After an error, any number of them may have been sent.
-    fn send(&mut self, bytes: &[u8]) -> Result<(), Self::Cause>;
+    fn send(&mut self, bytes: &[u8]) -> Result<(), Self::Cause>
+        ensures nature { (state self.new).honest ≡ (state self.old).honest }
+        ensures sent { (state self.old).honest ≡ true
+            → OnOk result (IsSent bytes.now (state self.old) (state self.new)) }
+        ensures cut_off { (state self.old).honest ≡ true
+            → OnErr result (IsCutOff bytes.now (state self.old) (state self.new)) };
 
     /// Fills `bytes` with what the programmer sent. After an error, any number of bytes may have been received.
-    fn receive(&mut self, bytes: &mut [u8]) -> Result<(), Self::Cause>;
+    fn receive(&mut self, bytes: &mut [u8]) -> Result<(), Self::Cause>
+        ensures nature { (state self.new).honest ≡ (state self.old).honest }
+        ensures received { (state self.old).honest ≡ true
+            → OnOk result (IsReceived bytes.new (state self.old) (state self.new)) }
+        ensures silent { (state self.old).honest ≡ true → OnErr result (IsSilent (state self.old) (state self.new)) }
+        ensures unread { (state self.old).honest ≡ true → OnErr result (bytes.new ≡ bytes.old) };
 }

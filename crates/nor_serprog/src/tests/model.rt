@@ -1,5 +1,7 @@
 //! A programmer in memory, in front of a simulated chip.
 
+ghost use Rattle.nor_serprog.specs.Device.{unknown_port};
+
 use crate::{Port, frame_len};
 use arrayvec::ArrayVec;
 use nor_chip::{Bus, Config, Delays, Meter, SimBus};
@@ -7,7 +9,7 @@ use std::alloc::Global;
 use std::test::Fail;
 use std::{fmt, mem};
 
-// A frame, and an answer to a read of a sector with what may stand before it.
+// A frame; and the answer to a read of a sector, after stale bytes.
 const MOST_BEGUN: usize = 300;
 
 const MOST_PENDING: usize = 5000;
@@ -173,6 +175,8 @@ impl Model {
 
 impl Port for Model {
     type Cause = Cause;
+
+    ghost state = { λ _. unknown_port };
 
     fn send(&mut self, bytes: &[u8]) -> Result<(), Cause> {
         let cut = self.fault == Some(Fault::Cut) && self.operations == self.fault_at;

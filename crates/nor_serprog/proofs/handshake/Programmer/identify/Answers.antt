@@ -1,8 +1,8 @@
 use Rattle.nor_serprog.proofs.handshake.Programmer.identify.Goals as goal
 
 -- Each step keeps the link in step.
-pub returns-clause-in_step : goal.returns-clause-in_step
-returns-clause-in_step g c =
+pub returns : goal.returns
+returns g c =
     c.in_ok-enable_pins.ensures
     (c.in_ok-frequency.ensures
     (c.in_ok-name.ensures

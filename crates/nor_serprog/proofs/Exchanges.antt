@@ -1,0 +1,118 @@
+-- An exchange over an honest port, from what its calls did.
+use Rattle.std.proofs.Common.{◌≡◌, ◌∙◌, ◌<◌, ◌++◌, ℕ, List, [], ◌∷◌, length, refl, sym, subst, ap, arith, inr, length-append}
+use Rattle.std.specs.Prelude.{◌⊎◌, slice_index, Result, Ok, Err, OnErr}
+use Rattle.std.proofs.lemmas.List.{append-nil}
+use Rattle.nor_chip.specs.Chip.{Chip}
+use Rattle.nor_chip.specs.Step.{Step}
+use Rattle.nor_serprog.specs.Frame.{IsFrame, Reads, out_in, replies_in}
+use Rattle.nor_serprog.specs.declared.command.Command.{Command}
+use Rattle.nor_serprog.specs.declared.command.Command.TheVariants.{Operate}
+use Rattle.nor_serprog.specs.Device.{PortState, IsIdle, IfOperates, Operates, AnswerBegins, IsSent, IsCutOff, TakesAnswer, MissesAnswer, Exchanged, Interrupted}
+
+-- A whole frame of O_SPIOP reaches an idle programmer: it is carried out.
+pub operated : (frame : List ℕ) (old sent : PortState) → IsIdle old.device → IsFrame frame
+    → slice_index frame 0 ≡ 0x13 → IsSent frame old sent → Operates frame old.device sent.device
+operated frame old sent idle whole opcode s =
+    let e : frame ≡ old.device.begun ++ frame = sym (ap (λ (b : List ℕ). b ++ frame) idle.begun) in
+    let P : List ℕ → Type 0 = λ b. IsFrame b in
+    let Q : List ℕ → Type 0 = λ b. slice_index b 0 ≡ 0x13 in
+    let R : List ℕ → Type 0 = λ b. Operates b old.device sent.device in
+    subst R (sym e) (s.done (record { whole = subst P e whole; opcode = subst Q e opcode }))
+
+-- All of an answer was received, if as many bytes were received as it has.
+pub none_rest : (answer reply rest : List ℕ) → answer ≡ reply ++ rest → length answer ≡ length reply → rest ≡ []
+none_rest answer reply [] e len = refl
+none_rest answer reply (x ∷ rest) e len =
+    absurd (omega (arith, length-append reply (x ∷ rest), ap length e))
+
+pub exchanged : (frame out : List ℕ) (replies : ℕ) (reply : List ℕ) (old sent new : PortState)
+    → IsIdle old.device → IsFrame frame → slice_index frame 0 ≡ 0x13 → out_in frame ≡ out → replies_in frame ≡ replies
+    → IsSent frame old sent → TakesAnswer reply sent new → length reply ≡ replies → Exchanged out reply old new
+exchanged frame out replies reply old sent new idle whole opcode goes comes s t len =
+    let o = operated frame old sent idle whole opcode s in
+    let e : sent.device.pending ≡ 0x06 ∷ o.answer =
+    o.pending ∙ ap (λ (p : List ℕ). p ++ 0x06 ∷ o.answer) idle.pending in
+    let both : 0x06 ∷ o.answer ≡ 0x06 ∷ (reply ++ new.device.pending) = sym e ∙ t.pending in
+    let f : o.answer ≡ reply ++ new.device.pending = cc in
+    let rest : new.device.pending ≡ [] = none_rest o.answer reply new.device.pending f (o.len ∙ comes ∙ sym len) in
+    let got : o.answer ≡ reply = f ∙ ap (λ (r : List ℕ). reply ++ r) rest ∙ append-nil reply in
+    let P : List ℕ → Type 0 = λ b. Step old.device.chip b o.answer sent.device.chip in
+    let Q : List ℕ → Type 0 = λ a. Step old.device.chip out a sent.device.chip in
+    let R : Chip → Type 0 = λ chip. Step old.device.chip out reply chip in
+    record {
+      left = omega (arith, s.left, t.left);
+      idle = record { begun = t.begun ∙ o.begun; pending = rest };
+      step = subst R (sym t.chip) (subst Q got (subst P goes o.step));
+    }
+
+-- The answer of an operation begins with ACK.
+pub begins_with_ack : (frame : List ℕ) (old sent : PortState) → IsIdle old.device
+    → Operates frame old.device sent.device → AnswerBegins sent
+begins_with_ack frame old sent idle o =
+    let e : sent.device.pending ≡ 0x06 ∷ o.answer =
+    o.pending ∙ ap (λ (p : List ℕ). p ++ 0x06 ∷ o.answer) idle.pending in
+    let P : List ℕ → Type 0 = λ p. 0 < length p in
+    let Q : List ℕ → Type 0 = λ p. slice_index p 0 ≡ 6 in
+    record { some = subst P (sym e) (omega arith); ack = subst Q (sym e) refl }
+
+-- The port failed while the frame was sent.
+pub cut_off : (frame out : List ℕ) (old new : PortState) → IsIdle old.device → IsFrame frame
+    → slice_index frame 0 ≡ 0x13 → out_in frame ≡ out → IsCutOff frame old new → Interrupted out old new
+cut_off frame out old new idle whole opcode goes c =
+    let e : frame ≡ old.device.begun ++ frame = sym (ap (λ (b : List ℕ). b ++ frame) idle.begun) in
+    let P : List ℕ → Type 0 = λ b. IsFrame b in
+    let Q : List ℕ → Type 0 = λ b. slice_index b 0 ≡ 0x13 in
+    let R : List ℕ → Type 0 = λ b. (c.reached ≡ old.device.chip)
+    ⊎ ((answer : List ℕ) × Step old.device.chip (out_in b) answer c.reached) in
+    let S : List ℕ → Type 0 = λ b. (c.reached ≡ old.device.chip)
+    ⊎ ((answer : List ℕ) × Step old.device.chip b answer c.reached) in
+    record {
+      few_left = omega (arith, c.none_left);
+      few = omega (arith, c.left);
+      reached = c.reached;
+      step = subst S goes
+          (subst R (sym e) (c.sent (record { whole = subst P e whole; opcode = subst Q e opcode })));
+      chip = c.chip;
+    }
+
+-- The port failed while the answer was received.
+pub missed : (frame out : List ℕ) (old sent new : PortState) → IsIdle old.device → IsFrame frame
+    → slice_index frame 0 ≡ 0x13 → out_in frame ≡ out → IsSent frame old sent → MissesAnswer sent new
+    → Interrupted out old new
+missed frame out old sent new idle whole opcode goes s m =
+    let o = operated frame old sent idle whole opcode s in
+    let P : List ℕ → Type 0 = λ b. Step old.device.chip b o.answer sent.device.chip in
+    record {
+      few_left = omega (arith, s.left, m.few_left);
+      few = m.few;
+      reached = sent.device.chip;
+      step = inr (o.answer, subst P goes o.step);
+      chip = m.chip;
+    }
+
+-- The three for any command.
+pub exchanged_by : (command : Command) (frame reply : List ℕ) (len : ℕ) (old sent new : PortState)
+    → IsIdle old.device → IsFrame frame → Reads frame command → IsSent frame old sent → TakesAnswer reply sent new
+    → length reply ≡ len → IfOperates command (λ out replies. len ≡ replies → Exchanged out reply old new)
+exchanged_by (Operate out replies) frame reply len old sent new idle whole reads s t has =
+    λ same. exchanged frame out.now replies reply old sent new idle whole reads.0 reads.1 reads.2 s t (has ∙ same)
+exchanged_by _ frame reply len old sent new idle whole reads s t has = tt
+
+pub cut_off_by : (command : Command) (frame : List ℕ) (old new : PortState) → IsIdle old.device → IsFrame frame
+    → Reads frame command → IsCutOff frame old new → IfOperates command (λ out replies. Interrupted out old new)
+cut_off_by (Operate out replies) frame old new idle whole reads c =
+    cut_off frame out.now old new idle whole reads.0 reads.1 c
+cut_off_by _ frame old new idle whole reads c = tt
+
+pub missed_by : (command : Command) (frame : List ℕ) (old sent new : PortState) → IsIdle old.device → IsFrame frame
+    → Reads frame command → IsSent frame old sent → (AnswerBegins sent → MissesAnswer sent new)
+    → IfOperates command (λ out replies. Interrupted out old new)
+missed_by (Operate out replies) frame old sent new idle whole reads s m =
+    missed frame out.now old sent new idle whole reads.0 reads.1 s
+    (m (begins_with_ack frame old sent idle (operated frame old sent idle whole reads.0 s)))
+missed_by _ frame old sent new idle whole reads s m = tt
+
+-- A fact holds on an error if it holds.
+pub on_err : {T E : Type 0} (result : Result T E) (P : Type 0) → P → OnErr result P
+on_err (Ok x) P p = tt
+on_err (Err e) P p = p
