@@ -43,6 +43,8 @@ mod stages;
 #[cfg(test)]
 mod texts;
 #[cfg(test)]
+mod torn;
+#[cfg(test)]
 mod traced;
 #[cfg(test)]
 mod undone;

@@ -5,10 +5,11 @@ use nor_session::{Request, What};
 use std::alloc::Global;
 use std::process::Abort;
 
-// The bytes of a whole chip: FFh, but for so many of one value from address 0 on, and for a run of others from one
-// address on.
+// The bytes of a whole chip: FFh, except `count` bytes of one value from address `from` on, and a run of others from
+// one address on.
 #[derive(Clone, Copy)]
 struct Bytes {
+    from: usize,
     count: usize,
     byte: u8,
     at: usize,
@@ -19,8 +20,8 @@ impl Bytes {
     fn whole(self, rt: &impl Abort, alloc: Global, sectors: u32) -> Vec<u8> {
         let size = sectors as usize * SECTOR_LEN as usize;
         let mut whole = vec![in alloc; 0xFF; size].expect(rt, "memory");
-        for place in 0..self.count {
-            put(&mut whole, place, self.byte);
+        for place in whole.iter_mut().skip(self.from).take(self.count) {
+            *place = self.byte;
         }
         put_run(&mut whole, self.at, self.run);
         whole
@@ -49,6 +50,8 @@ pub struct Start {
     pub latch: bool,
     /// At a stop the power is lost, and what runs becomes this byte.
     pub fill: Option<u8>,
+    /// How many bytes of its transaction a stop sends.
+    pub torn: Option<u32>,
 }
 
 impl Start {
@@ -57,6 +60,7 @@ impl Start {
         delays: Delays { now: 0, each: 0 },
         latch: false,
         fill: None,
+        torn: None,
     };
 
     /// A chip that answers BUSY three times at first, and twice after each operation.
@@ -94,6 +98,15 @@ impl Start {
             delays: Delays { now: 0, each: 2 },
             latch: false,
             fill: Some(fill),
+            torn: None,
+        }
+    }
+
+    /// Returns this start, with stops that send the first `count` bytes of their transaction.
+    pub const fn torn(self, count: u32) -> Start {
+        Start {
+            torn: Some(count),
+            ..self
         }
     }
 }
@@ -122,6 +135,8 @@ pub enum Row {
     /// All of a TINY64 with no erases but those of sectors and of the whole chip is changed: fifteen sectors are
     /// erased, and of all sixteen each page is programmed.
     EachPageIsProgrammed,
+    /// The sectors 8 to 39 of a chip of 256 KiB are erased, with three erases of 32, 64 and 32 KiB.
+    ThirtyTwoSectorsAreErased,
 }
 
 // The chips of the rows.
@@ -130,6 +145,8 @@ enum Chip {
     Tiny64,
     // A TINY64 that lacks the erases of 32 and 64 KiB.
     SectorsAlone,
+    // A chip of 256 KiB that is known by its SFDP.
+    Large,
     W25q64fv,
 }
 
@@ -138,6 +155,7 @@ impl Chip {
         match self {
             Chip::Tiny64 => Config::tiny64(),
             Chip::SectorsAlone => sectors_alone(rt),
+            Chip::Large => large(rt, true, true),
             Chip::W25q64fv => Config::w25q64fv(),
         }
     }
@@ -145,6 +163,7 @@ impl Chip {
     fn sectors(self) -> u32 {
         match self {
             Chip::Tiny64 | Chip::SectorsAlone => 16,
+            Chip::Large => 64,
             Chip::W25q64fv => 2048,
         }
     }
@@ -155,6 +174,19 @@ fn sectors_alone(rt: &impl Abort) -> Config {
     sfdp[0x2E] = 0x00;
     sfdp[0x30] = 0x00;
     Config::new([0xFE, 0x10, 0x10], 65_536, false, false, false, &sfdp).expect(rt, "a size")
+}
+
+/// Returns a chip of 256 KiB that is known by its SFDP, with or without erases of 32 and 64 KiB.
+pub fn large(rt: &impl Abort, k32: bool, k64: bool) -> Config {
+    let mut sfdp = TINY64_SFDP;
+    sfdp[0x16] = 0x1F;
+    if !k32 {
+        sfdp[0x2E] = 0x00;
+    }
+    if !k64 {
+        sfdp[0x30] = 0x00;
+    }
+    Config::new([0xAA, 0x11, 0x22], 262_144, k32, k64, false, &sfdp).expect(rt, "a size")
 }
 
 // What a row's session writes, and what it sends where nothing stops it.
@@ -209,6 +241,7 @@ impl Row {
             "as many bytes as the chip has",
         );
         bus.lose(start.fill);
+        bus.tear(start.torn);
         bus
     }
 
@@ -256,6 +289,7 @@ impl Row {
             }
             Row::AGuardedByteIsProgrammed => on_w25q64fv(run(0x7E_0000, &[0x00]), true, 2063, 3),
             Row::EachPageIsProgrammed => each_page_is_programmed(),
+            Row::ThirtyTwoSectorsAreErased => thirty_two_sectors_are_erased(),
         }
     }
 }
@@ -279,6 +313,7 @@ pub fn included(rt: &impl Abort, alloc: Global, layout: Option<&[u8]>) -> Option
 }
 
 const ERASED: Bytes = Bytes {
+    from: 0,
     count: 0,
     byte: 0xFF,
     at: 0,
@@ -346,5 +381,18 @@ fn each_page_is_programmed() -> Written {
     Written {
         chip: Chip::SectorsAlone,
         ..on_tiny64(old, image, length, operations)
+    }
+}
+
+// The scan has 64 transactions, and the comparison 32.
+fn thirty_two_sectors_are_erased() -> Written {
+    let old = Bytes {
+        from: 0x8000,
+        ..first(131_072, 0x00)
+    };
+    Written {
+        chip: Chip::Large,
+        sealed: 71,
+        ..on_tiny64(old, ERASED, 112, 3)
     }
 }

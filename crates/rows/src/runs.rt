@@ -62,6 +62,8 @@ pub struct Runs {
     row: Row,
     start: Start,
     before: Vec<u8>,
+    // how many bytes of its transaction a restore's stop sends
+    torn: Option<u32>,
 }
 
 impl Runs {
@@ -71,6 +73,15 @@ impl Runs {
             row,
             start,
             before: row.before(rt, alloc),
+            torn: start.torn,
+        }
+    }
+
+    /// Returns these runs, with restores whose stops send the first `count` bytes of their transaction.
+    pub fn with_restores_torn(self, count: u32) -> Runs {
+        Runs {
+            torn: Some(count),
+            ..self
         }
     }
 
@@ -131,10 +142,36 @@ impl Runs {
         runs
     }
 
+    /// Stops the session after each number of transactions from `first` up to the last one that is too small for it,
+    /// and restores if its vault is sealed. If the vault isn't sealed, the session sent no write enable. Each run
+    /// leaves the chip as before. Returns how many sessions were stopped.
+    pub fn stop_sessions(&self, rt: &impl Abort, first: u64) -> u64 {
+        let mut stops: u64 = 0;
+        for n in first..self.row.ends_at(self.start) {
+            let mut cut = self.cut(rt, n);
+            if cut.vault.is_sealed() {
+                cut.restore(rt, AMPLE).expect(rt, "the restore ends");
+            } else {
+                assert_held(rt, cut.bus.status()[0] & 0x02 == 0, n);
+            }
+            self.assert_as_before(rt, &cut.bus);
+            stops = stops.saturating_add(1);
+        }
+        stops
+    }
+
+    /// Stops the session after `n` transactions, and the restore after each number of transactions that is too small
+    /// for it, with a second restore after each of these stops. Each run leaves the chip as before. Returns how many
+    /// restores were stopped.
+    pub fn stop_restores(&self, rt: &impl Abort, n: u64) -> u64 {
+        self.stop_restores_behind(rt, n).saturating_sub(1)
+    }
+
     // Stops the restore behind one stop of the session, after each number of transactions until it ends.
     fn stop_restores_behind(&self, rt: &impl Abort, n: u64) -> u64 {
         for m in 0..AMPLE {
             let mut cut = self.cut(rt, n);
+            cut.bus.tear(self.torn);
             let is_last = ends_within(rt, &mut cut, m);
             self.assert_as_before(rt, &cut.bus);
             if is_last {

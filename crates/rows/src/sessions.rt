@@ -1,7 +1,7 @@
 //! Sessions on chips that no file of a chip gives.
 use crate::held::assert_held;
-use crate::row::{Row, Start};
-use nor_chip::{Config, Delays, Meter, SimBus, TINY64_SFDP};
+use crate::row::{Row, Start, large};
+use nor_chip::{Config, Delays, Meter, SimBus};
 use nor_journal::MemVault;
 use nor_session::{Report, session};
 use std::alloc::Global;
@@ -28,19 +28,6 @@ fn blank(
     session(&mut bus, &mut vault, &mut image, &request).expect(rt, "the session ends")
 }
 
-// A chip of 256 KiB that is known by its SFDP, with these erase kinds.
-fn chip_by_sfdp(rt: &impl Abort, k32: bool, k64: bool) -> Config {
-    let mut sfdp = TINY64_SFDP;
-    sfdp[0x16] = 0x1F;
-    if !k32 {
-        sfdp[0x2E] = 0x00;
-    }
-    if !k64 {
-        sfdp[0x30] = 0x00;
-    }
-    Config::new([0xAA, 0x11, 0x22], 262_144, k32, k64, false, &sfdp).expect(rt, "a size")
-}
-
 // Sectors 8 to 39. Beside the erases' three each, seven transactions open, 64 scan and 32 check.
 const UNITS: [(bool, bool, u32, u64); 4] = [
     (false, true, 17, 154),
@@ -52,7 +39,7 @@ const UNITS: [(bool, bool, u32, u64); 4] = [
 #[test]
 fn sectors_are_erased_by_the_largest_units(rt: HostRuntime) {
     for (k32, k64, erases, transactions) in UNITS {
-        let config = chip_by_sfdp(&rt, k32, k64);
+        let config = large(&rt, k32, k64);
         let idle = Start::IDLE.delays;
         let report = blank(&rt, rt.alloc(), config, 131_072, [0x00, 0x00], idle);
         let told = (report.touched, report.programs, report.erases);

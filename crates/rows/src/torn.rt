@@ -1,0 +1,261 @@
+//! Sessions and restores whose stops cut a transaction: each stop sends the first bytes of the next transaction, and
+//! then the chip keeps its power or loses it.
+//!
+//! Each test asserts how many sessions or restores it stopped.
+use crate::row::{Row, Start};
+use crate::runs::Runs;
+use std::alloc::Global;
+use std::process::Abort;
+
+// How many bytes a stop sends: none, each number up to that of the longest transaction, and for most rows more than
+// that. A transaction that reads the SFDP has five bytes, and one that programs two bytes has six.
+const SHORT: [u32; 7] = [0, 1, 2, 3, 4, 5, 6];
+
+// The numbers of bytes for the row that programs whole pages. Such a transaction has 260 bytes, of which four precede
+// the data. To try each number would take minutes.
+const LONG: [u32; 10] = [0, 1, 2, 3, 4, 5, 6, 132, 259, 260];
+
+// Two chips that keep their power, of which one is busy at first and after each operation, and chips that lose it, one
+// for each fill of `power`.
+fn starts() -> [Start; 5] {
+    [
+        Start::IDLE,
+        Start::SLOW,
+        Start::losing(0x00),
+        Start::losing(0x5A),
+        Start::losing(0xFF),
+    ]
+}
+
+// The chips of the rows with protection, which take longest. An even fill leaves the old bits of a status write, and
+// an odd fill the new bits.
+fn few_starts() -> [Start; 3] {
+    [Start::IDLE, Start::losing(0x5A), Start::losing(0xFF)]
+}
+
+// How many stops kept the chip's power, and how many lost it.
+#[derive(Clone, Copy, PartialEq, Eq)]
+struct Stops {
+    kept: u64,
+    lost: u64,
+}
+
+impl Stops {
+    const NONE: Stops = Stops { kept: 0, lost: 0 };
+
+    // Returns these stops with more of them, in runs with this start.
+    fn with(self, start: Start, more: u64) -> Stops {
+        let Stops { kept, lost } = self;
+        if start.fill.is_some() {
+            let lost = lost.saturating_add(more);
+            Stops { kept, lost }
+        } else {
+            let kept = kept.saturating_add(more);
+            Stops { kept, lost }
+        }
+    }
+
+    // Returns the sum of these stops and others.
+    fn and(self, others: Stops) -> Stops {
+        Stops {
+            kept: self.kept.saturating_add(others.kept),
+            lost: self.lost.saturating_add(others.lost),
+        }
+    }
+}
+
+// Stops a row's session after each number of transactions from `first` on, for each start and each number of bytes.
+fn stop_sessions(
+    rt: &impl Abort,
+    alloc: Global,
+    (row, first): (Row, u64),
+    starts: &[Start],
+    counts: &[u32],
+) -> Stops {
+    let mut stops = Stops::NONE;
+    for start in starts {
+        for count in counts {
+            let torn = Runs::new(rt, alloc, row, start.torn(*count));
+            stops = stops.with(*start, torn.stop_sessions(rt, first));
+        }
+    }
+    stops
+}
+
+// Stops the session at each transaction that follows the seal, and the restore after each of these stops.
+fn stop_restores(rt: &impl Abort, torn: &Runs, row: Row, start: Start) -> Stops {
+    let mut stops = Stops::NONE;
+    for n in row.sealed_at(start)..row.ends_at(start) {
+        stops = stops.with(start, torn.stop_restores(rt, n));
+    }
+    stops
+}
+
+// Stops sessions and restores for each start and each number of bytes, which is the same for both stops.
+fn stop_all(rt: &impl Abort, alloc: Global, row: Row, counts: &[u32]) -> Stops {
+    let mut stops = Stops::NONE;
+    for start in starts() {
+        for count in counts {
+            let torn = Runs::new(rt, alloc, row, start.torn(*count));
+            stops = stops.and(stop_restores(rt, &torn, row, start));
+        }
+    }
+    stops
+}
+
+// The sessions send 28, 30, 30, 31, 38 and 42 transactions on an idle chip. On the other chips each operation takes
+// two more polls, and on the slow chip the first wait takes three more.
+const SESSIONS: [(Row, u64, u64); 6] = [
+    (Row::AByteIsProgrammed, 7 * 61, 7 * 3 * 30),
+    (Row::ABitRises, 7 * 67, 7 * 3 * 34),
+    (Row::ABitFalls, 7 * 61, 7 * 3 * 30),
+    (Row::TwoPagesAreProgrammed, 7 * 69, 7 * 3 * 35),
+    (Row::NineSectorsAreErased, 7 * 83, 7 * 3 * 42),
+    (Row::TheChipIsErased, 7 * 89, 7 * 3 * 44),
+];
+
+#[test]
+fn each_cut_of_a_session(rt: HostRuntime) {
+    for (row, kept, lost) in SESSIONS {
+        let stops = stop_sessions(&rt, rt.alloc(), (row, 0), &starts(), &SHORT);
+        assert!(rt; stops == Stops { kept, lost });
+    }
+}
+
+// The session sends 57 transactions on an idle chip, with 16 operations.
+const SESSIONS_OF_PAGES: Stops = Stops {
+    kept: 10 * 149,
+    lost: 10 * 3 * 89,
+};
+
+#[test]
+fn each_cut_of_a_session_that_programs_pages(rt: HostRuntime) {
+    let row = Row::TheRestOfASectorStays;
+    let stops = stop_sessions(&rt, rt.alloc(), (row, 0), &starts(), &LONG);
+    assert!(rt; stops == SESSIONS_OF_PAGES);
+}
+
+// The session sends 112 transactions on an idle chip, with three operations, and seals after 71. The first stop comes
+// three transactions before the seal.
+const SESSIONS_OF_LARGE_ERASES: Stops = Stops {
+    kept: 7 * 44,
+    lost: 7 * 50,
+};
+
+#[test]
+fn each_cut_of_a_session_with_large_erases(rt: HostRuntime) {
+    let row = Row::ThirtyTwoSectorsAreErased;
+    let starts = [Start::IDLE, Start::losing(0x5A)];
+    let stops = stop_sessions(&rt, rt.alloc(), (row, 68), &starts, &SHORT);
+    assert!(rt; stops == SESSIONS_OF_LARGE_ERASES);
+}
+
+// Here too the first stop comes three transactions before the seal. There are 8 stops on an idle chip, and one
+// operation.
+const SESSIONS_BELOW_THE_RANGE: Stops = Stops {
+    kept: 7 * 8,
+    lost: 7 * 2 * 10,
+};
+
+// There are 14 stops on an idle chip, and three operations, of which two are status writes.
+const SESSIONS_IN_THE_RANGE: Stops = Stops {
+    kept: 7 * 14,
+    lost: 7 * 2 * 20,
+};
+
+#[test]
+fn each_cut_of_a_session_on_a_protected_chip(rt: HostRuntime) {
+    let below = (Row::AByteBelowTheGuardIsProgrammed, 2049);
+    let stops = stop_sessions(&rt, rt.alloc(), below, &few_starts(), &SHORT);
+    assert!(rt; stops == SESSIONS_BELOW_THE_RANGE);
+    let inside = (Row::AGuardedByteIsProgrammed, 2049);
+    let stops = stop_sessions(&rt, rt.alloc(), inside, &few_starts(), &SHORT);
+    assert!(rt; stops == SESSIONS_IN_THE_RANGE);
+}
+
+// The restore's stop sends as many bytes as the session's stop. The numbers are the lengths of all restores. For the
+// programmed byte they were worked out too:
+//
+// - On an idle chip three stops that send up to four bytes leave the byte as it was, and two leave it programmed. These
+//   restores have 8 and 12 transactions. The third stop programs the byte if it sends five: 5 * 48 + 2 * 52 = 344.
+// - On a slow chip the next restore also waits for the polls that are left. A poll that was cut is no longer left:
+//   83 + 4 * 81 + 2 * 89 = 585.
+// - On a chip that loses its power a restore has 14 transactions if it erases. 10 restores for each fill follow a loss
+//   during the page program, and erase unless the fill is FFh. The other restores have 432 transactions for each fill.
+const RESTORES: [(Row, u64, u64); 4] = [
+    (Row::AByteIsProgrammed, 344 + 585, 3 * 432 + 10 * 36),
+    (Row::ABitRises, 1688, 3402),
+    (Row::ABitFalls, 1127, 2126),
+    (Row::TwoPagesAreProgrammed, 1684, 3126),
+];
+
+#[test]
+fn each_cut_of_a_restore(rt: HostRuntime) {
+    for (row, kept, lost) in RESTORES {
+        let stops = stop_all(&rt, rt.alloc(), row, &SHORT);
+        assert!(rt; stops == Stops { kept, lost });
+    }
+}
+
+// The session's stop sends no data of a page program, one byte, or all, and the restore's stop each number of bytes.
+const RESTORES_OF_TWO_PAGES: Stops = Stops {
+    kept: 5_152,
+    lost: 9_492,
+};
+
+#[test]
+fn each_cut_of_a_restore_after_a_part_of_a_page(rt: HostRuntime) {
+    let row = Row::TwoPagesAreProgrammed;
+    let mut stops = Stops::NONE;
+    for start in starts() {
+        for first in [4, 5, 6] {
+            for second in SHORT {
+                let torn = Runs::new(&rt, rt.alloc(), row, start.torn(first));
+                let torn = torn.with_restores_torn(second);
+                stops = stops.and(stop_restores(&rt, &torn, row, start));
+            }
+        }
+    }
+    assert!(rt; stops == RESTORES_OF_TWO_PAGES);
+}
+
+// A restore has 8 transactions if the sector is as it was. Otherwise it has 10, and an operation for each page that
+// differs. Before these it waits for the polls that are left.
+const RESTORES_OF_PAGES: Stops = Stops {
+    kept: 60_106,
+    lost: 127_387,
+};
+
+#[test]
+fn each_cut_of_a_restore_that_programs_pages(rt: HostRuntime) {
+    let row = Row::TheRestOfASectorStays;
+    let stops = stop_all(&rt, rt.alloc(), row, &LONG);
+    assert!(rt; stops == RESTORES_OF_PAGES);
+}
+
+// The session is stopped three times, since each run on this chip takes long: in the status write that lifts the
+// protection, in the page program, and in the status write that restores the protection. An operation takes three
+// transactions and the polls that show BUSY. The sector is read before its program. No transaction has more than five
+// bytes.
+const RESTORES_IN_THE_RANGE: Stops = Stops {
+    kept: 172,
+    lost: 408,
+};
+
+#[test]
+fn each_cut_of_a_restore_on_a_protected_chip(rt: HostRuntime) {
+    let row = Row::AGuardedByteIsProgrammed;
+    let mut stops = Stops::NONE;
+    for start in few_starts() {
+        let each = u64::from(start.delays.each);
+        for count in 0..=5 {
+            let torn = Runs::new(&rt, rt.alloc(), row, start.torn(count));
+            for (polls, others) in [(0, 1), (each, 5), (each.saturating_mul(2), 8)] {
+                let n = row.sealed_at(start).saturating_add(others);
+                let stopped = torn.stop_restores(&rt, n.saturating_add(polls));
+                stops = stops.with(start, stopped);
+            }
+        }
+    }
+    assert!(rt; stops == RESTORES_IN_THE_RANGE);
+}
