@@ -4,6 +4,7 @@ use crate::cases::Case;
 use crate::chips::Chip;
 use crate::contents::sector_at;
 use crate::fault::{Fault, agree, agree_all};
+use crate::model::Stop;
 use crate::pace::Pace;
 use crate::wanted::{Wanted, Work};
 use crate::{guards, lengths, traces, transactions, verdicts};
@@ -30,10 +31,10 @@ impl Ran {
     }
 }
 
-/// Runs a session that is allowed so many transactions. With a fill a stop loses the power.
-pub fn run(alloc: Global, case: &Case, allowed: u64, fill: Option<u8>) -> Result<Ran, Fault> {
+/// Runs a session under a stop.
+pub fn run(alloc: Global, case: &Case, stop: Stop) -> Result<Ran, Fault> {
     let mut image = case.image.to_vec(alloc)?;
-    let bus = case.chip.bus(alloc, allowed, fill)?;
+    let bus = case.chip.bus(alloc, stop)?;
     run_on(alloc, bus, image.as_mut_slice(), &case.request)
 }
 

@@ -4,6 +4,7 @@ use crate::contents;
 use crate::dice::Dice;
 use crate::fault::Fault;
 use crate::guards::Status;
+use crate::model::Stop;
 use crate::parameters::{self, Told};
 use nor_chip::{Config, Delays, Meter, SECTOR_LEN, SimBus};
 use std::alloc::Global;
@@ -19,12 +20,13 @@ pub struct Chip {
 }
 
 impl Chip {
-    /// A bus to this chip that lets so many transactions through. With a fill a stop loses the power.
-    pub fn bus(&self, alloc: Global, allowed: u64, fill: Option<u8>) -> Result<SimBus, Fault> {
+    /// Returns a bus to this chip, with this stop.
+    pub fn bus(&self, alloc: Global, stop: Stop) -> Result<SimBus, Fault> {
         let bytes = self.bytes.to_vec(alloc)?;
         let mut bus = SimBus::new(self.config, bytes, self.status, self.delays)?;
-        bus.lose(fill);
-        bus.allow(allowed);
+        bus.lose(stop.fill);
+        bus.tear(stop.cut);
+        bus.allow(stop.after);
         Ok(bus)
     }
 

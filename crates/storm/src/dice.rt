@@ -7,6 +7,8 @@ use rand_pcg::Pcg32;
 #[derive(Drop)]
 pub struct Dice {
     words: Pcg32,
+    // the numbers for cut transactions, apart from the others so that the rest of a case stays as it was without them
+    cuts: Pcg32,
 }
 
 impl Dice {
@@ -15,12 +17,24 @@ impl Dice {
         let mixed = case.wrapping_mul(0x9E37_79B9_7F4A_7C15);
         Dice {
             words: Pcg32::new(seed.wrapping_add(mixed), case),
+            cuts: Pcg32::new(!seed.wrapping_add(mixed), case),
         }
     }
 
     /// A number below `n`, or 0 where that is 0.
     pub fn below(&mut self, n: u32) -> u32 {
-        self.words.next_u32().checked_rem(n).unwrap_or(0)
+        below(&mut self.words, n)
+    }
+
+    /// Returns how many bytes of its transaction a stop sends. One in three stops has a number: up to 6, up to the 260
+    /// of a page program, or all.
+    pub fn cut(&mut self) -> Option<u32> {
+        match below(&mut self.cuts, 12) {
+            0 | 1 => Some(below(&mut self.cuts, 7)),
+            2 => Some(below(&mut self.cuts, 261)),
+            3 => Some(u32::MAX),
+            _ => None,
+        }
     }
 
     /// A number from 0 to `most`.
@@ -53,4 +67,8 @@ impl Dice {
             Err(_) => first,
         }
     }
+}
+
+fn below(words: &mut Pcg32, n: u32) -> u32 {
+    words.next_u32().checked_rem(n).unwrap_or(0)
 }

@@ -5,12 +5,12 @@ use crate::checks::{self, Ran};
 use crate::chips::Chip;
 use crate::fault::{Fault, agree};
 use crate::lines::{self, Lines};
-use crate::pace::Pace;
+use crate::model::{Model, Stop};
 use crate::restores::{self, Restored};
 use crate::verdicts::Saved;
 use crate::wanted::Wanted;
 use crate::{traces, transactions};
-use nor_chip::{Delays, SimBus};
+use nor_chip::SimBus;
 use nor_journal::{Journal, MemVault};
 use nor_session::Refusal;
 use std::alloc::Global;
@@ -31,76 +31,26 @@ pub struct Left {
     pub sent: Vec<u8>,
     /// The call ended.
     pub ended: bool,
-    power: Power,
+    // the chip of the reference implementation
+    model: Model,
 }
 
-// What becomes of BUSY and the latch.
-#[derive(Clone, Copy)]
-struct Power {
-    // at a stop the power is lost
-    loses: bool,
-    pace: Pace,
-}
-
-// A call under a stop: all that it would send, how much of it it may send, and the chip's power before it.
+// A call under a stop, with all that it would send.
 #[derive(Clone, Copy)]
 struct Call<'a> {
     whole: &'a str,
-    allowed: u64,
-    power: Power,
+    stop: Stop,
 }
 
 impl<'a> Call<'a> {
     // It ends exactly where it may send all that it sends.
     fn ends(self) -> bool {
-        self.allowed >= lines::count(self.whole)
+        self.stop.after >= lines::count(self.whole)
     }
 
-    // What it sends.
+    // Returns what it sends, without the bytes of a transaction that the stop cuts.
     fn lines(self) -> &'a str {
-        lines::first(self.whole, self.allowed)
-    }
-
-    // The power behind it.
-    fn power(self) -> Power {
-        let Power { loses, pace } = self.power;
-        let pace = pace.behind_lines(self.lines());
-        let pace = if loses && !self.ends() {
-            pace.without_power()
-        } else {
-            pace
-        };
-        Power { loses, pace }
-    }
-
-    // The chip shows what it has to behind the call.
-    fn check_power(self, bus: &SimBus) -> Result<(), Fault> {
-        let shown = bus.status()[0] & 0b0000_0011;
-        agree(
-            shown == self.power().pace.bits(),
-            "BUSY and the latch behind a call",
-        )
-    }
-}
-
-impl Left {
-    // The chip as it stands.
-    fn chip(&self, alloc: Global, before: &Chip) -> Result<Chip, Fault> {
-        Ok(Chip {
-            config: before.config,
-            bytes: self.bus.bytes().to_vec(alloc)?,
-            status: self.bus.status(),
-            delays: Delays {
-                now: self.power.pace.busy,
-                each: before.delays.each,
-            },
-        })
-    }
-
-    // All that a restore sends that gives back what an accepted session changed.
-    fn restore_lines(&self, alloc: Global, accepted: Accepted<'_>) -> Result<Lines, Fault> {
-        let chip = self.chip(alloc, &accepted.case.chip)?;
-        restore_lines_on(alloc, accepted, &chip)
+        lines::first(self.whole, self.stop.after)
     }
 }
 
@@ -113,31 +63,31 @@ fn restore_lines_on(alloc: Global, accepted: Accepted<'_>, chip: &Chip) -> Resul
     transactions::restore(alloc, chip, saved.sectors, &restored)
 }
 
-/// Runs an accepted session under so many transactions. It ends exactly where they are enough, and sends the first
-/// lines of all that it sends. With a fill a stop loses the power.
-pub fn run(
-    alloc: Global,
-    accepted: Accepted<'_>,
-    allowed: u64,
-    fill: Option<u8>,
-) -> Result<(Left, MemVault), Fault> {
-    let ran = checks::run(alloc, accepted.case, allowed, fill)?;
+/// Runs an accepted session under a stop. The session ends if and only if the stop comes after all of its
+/// transactions; else it sends the first of them. It leaves the chip as the model does.
+pub fn run(alloc: Global, accepted: Accepted<'_>, stop: Stop) -> Result<(Left, MemVault), Fault> {
+    let ran = checks::run(alloc, accepted.case, stop)?;
     let call = Call {
         whole: accepted.lines,
-        allowed,
-        power: Power {
-            loses: fill.is_some(),
-            pace: Pace::of(&accepted.case.chip),
-        },
+        stop,
     };
     check_session(call, &ran)?;
+    let model = model_behind(alloc, &accepted.case.chip, call, &ran.bus)?;
     let left = Left {
         bus: ran.bus,
         sent: ran.sent,
         ended: call.ends(),
-        power: call.power(),
+        model,
     };
     Ok((left, ran.vault))
+}
+
+// Returns the model of a chip after a call, with which the chip on the bus agrees.
+fn model_behind(alloc: Global, chip: &Chip, call: Call<'_>, bus: &SimBus) -> Result<Model, Fault> {
+    let mut model = Model::of(alloc, chip)?;
+    model.call(call.whole, call.stop);
+    model.check(bus)?;
+    Ok(model)
 }
 
 fn check_session(call: Call<'_>, ran: &Ran) -> Result<(), Fault> {
@@ -152,42 +102,50 @@ fn check_session(call: Call<'_>, ran: &Ran) -> Result<(), Fault> {
             "a session with too few transactions",
         )?;
     }
-    traces::check_trace(ran.sent.as_slice(), call.lines(), "a stopped session")?;
-    call.check_power(&ran.bus)
+    traces::check_trace(ran.sent.as_slice(), call.lines(), "a stopped session")
 }
 
-/// Restores from the journal of a session under so many transactions, on the chip that the call before left. It ends
-/// exactly where they are enough, and sends the first lines of what gives this chip back.
+/// Restores from the journal of a session under a stop, on the chip that the call before left. The restore ends if and
+/// only if the stop comes after all of its transactions; else it sends the first of them. It leaves the chip as the
+/// model does.
 pub fn restore(
     alloc: Global,
     accepted: Accepted<'_>,
     journal: &Journal<'_>,
     left: Left,
-    allowed: u64,
+    stop: Stop,
 ) -> Result<Left, Fault> {
-    let whole = left.restore_lines(alloc, accepted)?;
+    let whole = restore_lines_on(alloc, accepted, &left.model.chip)?;
     let call = Call {
         whole: whole.text(),
-        allowed,
-        power: left.power,
+        stop,
     };
-    restore_under(alloc, accepted, journal, left.bus, call)
+    restore_under(alloc, accepted, journal, left, call)
 }
 
 fn restore_under(
     alloc: Global,
     accepted: Accepted<'_>,
     journal: &Journal<'_>,
-    bus: SimBus,
+    left: Left,
     call: Call<'_>,
 ) -> Result<Left, Fault> {
-    let ran = restores::run(alloc, bus, journal, call.allowed)?;
+    let Left {
+        mut bus,
+        mut model,
+        ..
+    } = left;
+    bus.lose(call.stop.fill);
+    bus.tear(call.stop.cut);
+    model.call(call.whole, call.stop);
+    let ran = restores::run(alloc, bus, journal, call.stop.after)?;
     check_restore(accepted, call, &ran)?;
+    model.check(&ran.bus)?;
     Ok(Left {
         bus: ran.bus,
         sent: ran.sent,
         ended: call.ends(),
-        power: call.power(),
+        model,
     })
 }
 
@@ -207,6 +165,5 @@ fn check_restore(accepted: Accepted<'_>, call: Call<'_>, ran: &Restored) -> Resu
             "a restore with too few transactions",
         )?;
     }
-    traces::check_trace(ran.sent.as_slice(), call.lines(), "a restore behind a stop")?;
-    call.check_power(&ran.bus)
+    traces::check_trace(ran.sent.as_slice(), call.lines(), "a restore behind a stop")
 }

@@ -4,6 +4,7 @@ use crate::cases::Case;
 use crate::chips::Chip;
 use crate::dice::Dice;
 use crate::fault::{Fault, agree};
+use crate::model::Stop;
 use crate::readings::{self, Reading};
 use crate::told::{Caller, Halt};
 use crate::verdicts::Saved;
@@ -231,6 +232,6 @@ fn spoil_for(dice: &mut Dice, count: u64) -> Spoil {
 
 // A bus to a chip that lies so, and never stops.
 fn liar(alloc: Global, chip: &Chip, spoil: Spoil) -> Result<SpoiltBus<SimBus>, Fault> {
-    let bus = chip.bus(alloc, u64::MAX, None)?;
+    let bus = chip.bus(alloc, Stop::NEVER)?;
     Ok(SpoiltBus::new(bus, spoil))
 }

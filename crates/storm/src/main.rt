@@ -15,6 +15,7 @@ mod left;
 mod lengths;
 mod lies;
 mod lines;
+mod model;
 mod pace;
 mod parameters;
 mod readings;

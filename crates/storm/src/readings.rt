@@ -4,6 +4,7 @@ use crate::cases::Case;
 use crate::dice::Dice;
 use crate::fault::{Fault, agree, agree_all};
 use crate::lines::{self, Lines};
+use crate::model::Stop;
 use crate::pace::Pace;
 use crate::{checks, guards, lengths, lies, traces, transactions, verdicts};
 use nor_chip::{Bus, SimBus, TraceBus};
@@ -125,7 +126,7 @@ impl Reading {
         } else {
             self.refusal(case)
         };
-        let bus = case.chip.bus(alloc, allowed, None)?;
+        let bus = case.chip.bus(alloc, Stop::after(allowed))?;
         let ran = self.run(alloc, case, bus)?;
         check_ran(alloc, case, refusal, lines::first(whole, allowed), &ran)
     }
@@ -280,7 +281,7 @@ struct Copied {
 fn check_refused_copy(alloc: Global, dice: &mut Dice, case: &Case) -> Result<(), Fault> {
     let nth = u64::from(dice.below(case.chip.sectors() / 16)).saturating_add(1);
     let kept = dice.pick(0, &[1, 4095, 65_535]);
-    let bus = case.chip.bus(alloc, u64::MAX, None)?;
+    let bus = case.chip.bus(alloc, Stop::NEVER)?;
     let copied = copy_out(alloc, case, bus, (nth, kept));
     if let Err(Refusal::Output { written }) = copied.answer {
         return check_part(alloc, case, written, &copied);

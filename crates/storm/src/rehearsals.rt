@@ -4,6 +4,7 @@ use crate::cases::Case;
 use crate::dice::Dice;
 use crate::fault::{Fault, agree, agree_all};
 use crate::left::{self, Accepted, Left};
+use crate::model::Stop;
 use crate::{checks, lengths, stops, traces};
 use nor_chip::{SimBus, TraceBus};
 use nor_journal::{Journal, MemVault};
@@ -15,8 +16,21 @@ use std::alloc::Global;
 struct Plan {
     // the session's stop, and those of the restores
     stops: [u64; 3],
+    // how many bytes of its transaction each stop sends
+    cut: Option<u32>,
     // where a stop loses the power
     fill: Option<u8>,
+}
+
+impl Plan {
+    // Returns a stop of the session or of a restore, after the given number of transactions.
+    fn stop(self, after: u64) -> Stop {
+        Stop {
+            after,
+            cut: self.cut,
+            fill: self.fill,
+        }
+    }
 }
 
 // What a rehearsal came to.
@@ -44,7 +58,8 @@ fn plan_for(dice: &mut Dice, accepted: Accepted<'_>) -> Plan {
         stops::stop_of_restore(dice, whole),
     ];
     let fill = stops::fill_for(dice, accepted.case);
-    Plan { stops, fill }
+    let cut = dice.cut();
+    Plan { stops, cut, fill }
 }
 
 // How many transactions the session sends that nothing stops.
@@ -56,7 +71,7 @@ fn whole_of(accepted: Accepted<'_>) -> u64 {
 fn run(alloc: Global, case: &Case, plan: Plan) -> Result<Ran, Fault> {
     let mut image = case.image.to_vec(alloc)?;
     // A rehearsal allows as many transactions as it needs.
-    let bus = case.chip.bus(alloc, 0, plan.fill)?;
+    let bus = case.chip.bus(alloc, plan.stop(0))?;
     run_on(alloc, bus, image.as_mut_slice(), &case.request, plan.stops)
 }
 
@@ -127,10 +142,10 @@ fn run_each(
     sent: &mut Vec<u8>,
 ) -> Result<u32, Fault> {
     let [first, second, third] = plan.stops;
-    let (left, vault) = left::run(alloc, accepted, first, plan.fill)?;
+    let (left, vault) = left::run(alloc, accepted, plan.stop(first))?;
     sent.extend_from_slice(left.sent.as_slice())?;
     if vault.is_sealed() {
-        let stops = [second, third, u64::MAX];
+        let stops = [plan.stop(second), plan.stop(third), Stop::NEVER];
         restore_each(alloc, accepted, vault.bytes(), left, stops, sent)
     } else {
         Ok(0)
@@ -142,7 +157,7 @@ fn restore_each(
     accepted: Accepted<'_>,
     journal: &[u8],
     left: Left,
-    stops: [u64; 3],
+    stops: [Stop; 3],
     sent: &mut Vec<u8>,
 ) -> Result<u32, Fault> {
     let journal = Journal::read(journal)?;

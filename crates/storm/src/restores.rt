@@ -6,6 +6,7 @@ use crate::chips::{self, Chip};
 use crate::dice::Dice;
 use crate::fault::{Fault, agree};
 use crate::lines::{self, Lines};
+use crate::model::{Model, Stop};
 use crate::verdicts::{self, Saved};
 use crate::wanted::{Wanted, touched_in};
 use crate::{contents, guards, lengths, lies, traces, transactions};
@@ -103,7 +104,7 @@ fn check_lines(alloc: Global, dice: &mut Dice, whole: Whole<'_>, lines: &str) ->
 }
 
 fn check_unstopped(alloc: Global, whole: Whole<'_>, lines: &str) -> Result<(), Fault> {
-    let bus = whole.chip.bus(alloc, u64::MAX, None)?;
+    let bus = whole.chip.bus(alloc, Stop::NEVER)?;
     let ran = run(alloc, bus, whole.journal, u64::MAX)?;
     check_ran(whole, lines, &ran)
 }
@@ -141,15 +142,32 @@ fn check_stopped(
     whole: Whole<'_>,
     lines: &str,
 ) -> Result<(), Fault> {
-    let stop = dice.up_to(lines::count(lines));
-    let bus = whole.chip.bus(alloc, stop, None)?;
-    let ran = run(alloc, bus, whole.journal, stop)?;
-    let wanted = if stop < lines::count(lines) {
+    let stop = Stop {
+        cut: dice.cut(),
+        ..Stop::after(dice.up_to(lines::count(lines)))
+    };
+    let bus = whole.chip.bus(alloc, stop)?;
+    let ran = run(alloc, bus, whole.journal, stop.after)?;
+    let wanted = if stop.after < lines::count(lines) {
         Some(Refusal::Stopped)
     } else {
         whole.refusal
     };
-    check_stop(wanted, lines::first(lines, stop), &ran)
+    check_stop(wanted, lines::first(lines, stop.after), &ran)?;
+    check_left(alloc, whole.chip, lines, stop, &ran)
+}
+
+// Returns a fault unless the stop leaves the chip as the model does.
+fn check_left(
+    alloc: Global,
+    chip: &Chip,
+    lines: &str,
+    stop: Stop,
+    ran: &Restored,
+) -> Result<(), Fault> {
+    let mut model = Model::of(alloc, chip)?;
+    model.call(lines, stop);
+    model.check(&ran.bus)
 }
 
 fn check_stop(wanted: Option<Refusal>, lines: &str, ran: &Restored) -> Result<(), Fault> {

@@ -5,6 +5,7 @@ use crate::checks::{self, Ran};
 use crate::dice::Dice;
 use crate::fault::{Fault, agree};
 use crate::left::Accepted;
+use crate::model::Stop;
 use crate::tally::Tally;
 use crate::wanted::Wanted;
 use crate::words::Job;
@@ -57,7 +58,7 @@ fn check_case(
     case: &Case,
     tally: &mut Tally,
 ) -> Result<(), Fault> {
-    let ran = checks::run(alloc, case, u64::MAX, None)?;
+    let ran = checks::run(alloc, case, Stop::NEVER)?;
     if other.hits(1, 4) {
         lies::check_session(alloc, other, case, lines::count(ran.lines()?))?;
         tally.count_lie();
@@ -135,7 +136,7 @@ fn go_on(
     } = accepted;
     checks::check_ended(case, wanted, lines, ran)?;
     tally.count_session(None);
-    stops::check(alloc, dice, accepted)?;
+    tally.count_cuts(stops::check(alloc, dice, accepted)?);
     if dice.hits(1, 4) {
         rehearsals::check(alloc, dice, accepted)?;
         tally.count_rehearsal();

@@ -7,6 +7,8 @@ use crate::contents::sector_at;
 use crate::dice::Dice;
 use crate::fault::{Fault, agree, agree_all};
 use crate::left::{self, Accepted, Left};
+use crate::model::Stop;
+use crate::tally::Cuts;
 use crate::wanted::Wanted;
 use crate::{guards, journals, lengths, lines, traces, transactions};
 use nor_chip::SimBus;
@@ -14,38 +16,43 @@ use nor_journal::{Journal, MemVault};
 use nor_session::Refusal;
 use std::alloc::Global;
 
-/// Stops an accepted session somewhere, and restores under stops until one restore ends.
-pub fn check(alloc: Global, dice: &mut Dice, accepted: Accepted<'_>) -> Result<(), Fault> {
-    let stop = stop_for(dice, accepted.case, accepted.wanted);
-    let fill = fill_for(dice, accepted.case);
-    let (left, vault) = left::run(alloc, accepted, stop, fill)?;
-    check_stop(alloc, accepted, (stop, fill), &left.bus, &vault)?;
+/// Stops an accepted session somewhere, and restores under stops until one restore ends. Returns how many of these
+/// stops cut a transaction.
+pub fn check(alloc: Global, dice: &mut Dice, accepted: Accepted<'_>) -> Result<Cuts, Fault> {
+    let stop = Stop {
+        after: stop_for(dice, accepted.case, accepted.wanted),
+        cut: dice.cut(),
+        fill: fill_for(dice, accepted.case),
+    };
+    let (left, vault) = left::run(alloc, accepted, stop)?;
+    check_stop(alloc, accepted, stop, &left.bus, &vault)?;
+    let cuts = Cuts::NONE.with_session(stop, left.ended);
     if vault.is_sealed() {
-        give_back(alloc, dice, accepted, left, vault.bytes())
+        give_back(alloc, dice, accepted, (left, vault.bytes()), (stop, cuts))
     } else {
-        Ok(())
+        Ok(cuts)
     }
 }
 
-// What a stop, with its fill, leaves of the chip and in the vault.
+// What a stop leaves of the chip and in the vault.
 fn check_stop(
     alloc: Global,
     accepted: Accepted<'_>,
-    (stop, fill): (u64, Option<u8>),
+    stop: Stop,
     bus: &SimBus,
     vault: &MemVault,
 ) -> Result<(), Fault> {
     let (case, wanted) = (accepted.case, accepted.wanted);
-    let sealed = stop >= lengths::saving(case);
+    let sealed = stop.after >= lengths::saving(case);
     agree(
         vault.is_sealed() == sealed,
         "whether a stopped session sealed",
     )?;
     if sealed {
         check_within(case, wanted, bus)?;
-        check_gentle(case, wanted, bus, fill)
+        check_gentle(case, wanted, bus, stop.fill)
     } else {
-        journals::check_stopped(alloc, case, wanted, stop, vault.bytes())?;
+        journals::check_stopped(alloc, case, wanted, stop.after, vault.bytes())?;
         agree(checks::is_same(bus, &case.chip), "the chip before the seal")
     }
 }
@@ -58,9 +65,12 @@ pub fn check_refused(
     refusal: Refusal,
 ) -> Result<(), Fault> {
     let whole = transactions::refused_session(alloc, case, refusal)?;
-    let stop = dice.up_to(lines::count(whole.text()));
-    let ran = checks::run(alloc, case, stop, None)?;
-    check_refusal(case, refusal, (whole.text(), stop), &ran)
+    let stop = Stop {
+        cut: dice.cut(),
+        ..Stop::after(dice.up_to(lines::count(whole.text())))
+    };
+    let ran = checks::run(alloc, case, stop)?;
+    check_refusal(case, refusal, (whole.text(), stop.after), &ran)
 }
 
 fn check_refusal(
@@ -157,37 +167,50 @@ fn is_gentle(old: &[u8], new: &[u8], now: &[u8]) -> bool {
         .all(|((old, new), now)| *new & !*now == 0 && *now & !*old == 0)
 }
 
-// Restores under a few stops, and then under none.
+// Restores under a few stops, at which the chip loses its power if it did at the session's, and then without a stop.
+// Returns how many stops cut a transaction, with the session's.
 fn give_back(
     alloc: Global,
     dice: &mut Dice,
     accepted: Accepted<'_>,
-    left: Left,
-    journal: &[u8],
-) -> Result<(), Fault> {
+    (left, journal): (Left, &[u8]),
+    (first, cuts): (Stop, Cuts),
+) -> Result<Cuts, Fault> {
     let journal = Journal::read(journal)?;
-    let mut left = left;
+    let (mut left, mut cuts) = (left, cuts);
     for _ in 0..dice.below(5) {
-        left = give_some(alloc, dice, accepted, &journal, left)?;
+        let stop = next_stop(dice, accepted, first);
+        left = give_some(alloc, accepted, &journal, left, stop)?;
+        cuts = cuts.with_restore(stop, left.ended);
         if left.ended {
-            return Ok(());
+            return Ok(cuts);
         }
     }
-    let left = left::restore(alloc, accepted, &journal, left, u64::MAX)?;
-    agree(left.ended, "a restore that nothing stops")
+    let left = left::restore(alloc, accepted, &journal, left, Stop::NEVER)?;
+    agree(left.ended, "a restore that nothing stops")?;
+    Ok(cuts)
+}
+
+// Returns a stop of a restore. The chip loses its power if it did at the session's stop.
+fn next_stop(dice: &mut Dice, accepted: Accepted<'_>, first: Stop) -> Stop {
+    let (case, wanted) = (accepted.case, accepted.wanted);
+    let most = lengths::session(case, wanted.work(&case.chip));
+    Stop {
+        after: stop_of_restore(dice, most),
+        cut: dice.cut(),
+        fill: first.fill,
+    }
 }
 
 // Restores under a stop.
 fn give_some(
     alloc: Global,
-    dice: &mut Dice,
     accepted: Accepted<'_>,
     journal: &Journal<'_>,
     left: Left,
+    stop: Stop,
 ) -> Result<Left, Fault> {
     let (case, wanted) = (accepted.case, accepted.wanted);
-    let most = lengths::session(case, wanted.work(&case.chip));
-    let stop = stop_of_restore(dice, most);
     let left = left::restore(alloc, accepted, journal, left, stop)?;
     if !left.ended {
         check_within(case, wanted, &left.bus)?;

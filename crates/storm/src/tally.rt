@@ -1,5 +1,6 @@
 //! How many cases there were of each kind.
 
+use crate::model::Stop;
 use nor_session::Refusal;
 use std::fmt;
 
@@ -25,6 +26,60 @@ pub struct Tally {
     pub read: u64,
     /// Sessions that went over a bus that lies too.
     pub lied: u64,
+    /// Stops that cut a transaction.
+    pub cuts: Cuts,
+}
+
+/// The stops of accepted sessions, and of the restores from their journals, that cut a transaction: they sent its first
+/// bytes, none or all.
+#[derive(Clone, Copy)]
+pub struct Cuts {
+    /// The stops of sessions.
+    pub sessions: u64,
+    /// The stops of restores.
+    pub restores: u64,
+    /// The stops of sessions and restores at which the chip lost its power.
+    pub losses: u64,
+}
+
+impl Cuts {
+    /// No stop yet.
+    pub const NONE: Cuts = Cuts {
+        sessions: 0,
+        restores: 0,
+        losses: 0,
+    };
+
+    /// Returns these stops with that of a session, unless the session ended.
+    pub fn with_session(self, stop: Stop, ended: bool) -> Cuts {
+        let more = u64::from(!ended && stop.cut.is_some());
+        Cuts {
+            sessions: self.sessions.wrapping_add(more),
+            ..self.with_loss(stop, more)
+        }
+    }
+
+    /// Returns these stops with that of a restore, unless the restore ended.
+    pub fn with_restore(self, stop: Stop, ended: bool) -> Cuts {
+        let more = u64::from(!ended && stop.cut.is_some());
+        Cuts {
+            restores: self.restores.wrapping_add(more),
+            ..self.with_loss(stop, more)
+        }
+    }
+
+    fn with_loss(self, stop: Stop, more: u64) -> Cuts {
+        let more = if stop.fill.is_some() { more } else { 0 };
+        Cuts {
+            losses: self.losses.wrapping_add(more),
+            ..self
+        }
+    }
+
+    // True if each kind occurred at least this often.
+    fn are_telling(self, least: u64) -> bool {
+        self.sessions >= least && self.restores >= least && self.losses >= least
+    }
 }
 
 impl Tally {
@@ -37,16 +92,18 @@ impl Tally {
         rehearsed: 0,
         read: 0,
         lied: 0,
+        cuts: Cuts::NONE,
     };
 
     /// In so many cases each kind came often enough to say something: sessions and restores that are accepted,
-    /// readings, and each of a session's ten refusals. No other refusal came.
+    /// readings, stops that cut a transaction, and each of a session's ten refusals. No other refusal came.
     pub fn is_telling(&self, cases: u64) -> bool {
         let least = least(cases);
         let mut refused = self.refused.iter().enumerate();
         self.accepted >= least
             && self.restored >= least
             && self.read >= least
+            && self.cuts.are_telling(least)
             && refused.all(|(number, count)| if 1 <= number && number <= 10 {
                 *count >= least
             } else {
@@ -80,6 +137,15 @@ impl Tally {
         self.read = self.read.wrapping_add(1);
     }
 
+    /// Counts stops that cut a transaction.
+    pub fn count_cuts(&mut self, cuts: Cuts) {
+        self.cuts = Cuts {
+            sessions: self.cuts.sessions.wrapping_add(cuts.sessions),
+            restores: self.cuts.restores.wrapping_add(cuts.restores),
+            losses: self.cuts.losses.wrapping_add(cuts.losses),
+        };
+    }
+
     /// Counts a session on a bus that lies.
     pub fn count_lie(&mut self) {
         self.lied = self.lied.wrapping_add(1);
@@ -106,7 +172,14 @@ impl Tally {
     fn write_others<W: fmt::Write>(&self, f: &mut fmt::Formatter<W>) -> fmt::Result {
         write!(f, "\nrehearsals: {}", self.rehearsed)?;
         write!(f, "\nchips read: {}", self.read)?;
-        write!(f, "\nsessions on a bus that lies: {}", self.lied)
+        write!(f, "\nsessions on a bus that lies: {}", self.lied)?;
+        let Cuts {
+            sessions,
+            restores,
+            losses,
+        } = self.cuts;
+        write!(f, "\nstops inside a transaction: {sessions} of sessions, ")?;
+        write!(f, "{restores} of restores, {losses} that lost the power")
     }
 }
 

@@ -4,8 +4,9 @@ use crate::cases::Case;
 use crate::checks::{self, Ran};
 use crate::dice::Dice;
 use crate::fault::Fault;
+use crate::model::{Model, Stop};
 use crate::wanted::Wanted;
-use crate::{traces, transactions, verdicts};
+use crate::{lines, traces, transactions, verdicts};
 use nor_session::Refusal;
 use std::alloc::Global;
 
@@ -13,6 +14,7 @@ use std::alloc::Global;
 pub fn check(alloc: Global) -> Result<(), Fault> {
     check_places()?;
     check_session(alloc)?;
+    check_cut(alloc)?;
     check_refusal(alloc)
 }
 
@@ -49,7 +51,7 @@ fn check_places() -> Result<(), Fault> {
 // Of an accepted session a wrong byte, and a line more that changes before the seal or erases too much.
 fn check_session(alloc: Global) -> Result<(), Fault> {
     let case = Case::next(alloc, &mut Dice::new(1, 0))?;
-    let ran = checks::run(alloc, &case, u64::MAX, None)?;
+    let ran = checks::run(alloc, &case, Stop::NEVER)?;
     check_accepted(alloc, &case, &ran)
 }
 
@@ -85,13 +87,46 @@ fn check_byte(case: &Case, wanted: &mut Wanted, lines: &str, ran: &Ran) -> Resul
     must_tell(told, "the bytes at the end")
 }
 
+// A stop inside a page program of which the model has one byte less.
+fn check_cut(alloc: Global) -> Result<(), Fault> {
+    let case = Case::next(alloc, &mut Dice::new(1, 0))?;
+    let wanted = Wanted::of_case(alloc, &case)?;
+    let whole = transactions::session(alloc, &case, &wanted)?;
+    let Some((before, _)) = whole.text().split_once("\n02") else {
+        return Err(Fault::Case);
+    };
+    check_cut_after(alloc, &case, whole.text(), lines::count(before))
+}
+
+// The first byte of the data follows four other bytes, and differs from the byte of the chip.
+fn check_cut_after(alloc: Global, case: &Case, lines: &str, after: u64) -> Result<(), Fault> {
+    let stop = Stop {
+        cut: Some(5),
+        ..Stop::after(after)
+    };
+    let ran = checks::run(alloc, case, stop)?;
+    model_behind(alloc, case, lines, stop)?.check(&ran.bus)?;
+    let less = Stop {
+        cut: Some(4),
+        ..stop
+    };
+    let told = model_behind(alloc, case, lines, less)?.check(&ran.bus);
+    must_tell(told, "the bytes after a call")
+}
+
+fn model_behind(alloc: Global, case: &Case, lines: &str, stop: Stop) -> Result<Model, Fault> {
+    let mut model = Model::of(alloc, &case.chip)?;
+    model.call(lines, stop);
+    Ok(model)
+}
+
 // Of a refused session a line more, and one that changes.
 fn check_refusal(alloc: Global) -> Result<(), Fault> {
     let case = Case::next(alloc, &mut Dice::new(1, 18))?;
     let Some(refusal) = verdicts::of_opening(&case) else {
         return Err(Fault::Case);
     };
-    let ran = checks::run(alloc, &case, u64::MAX, None)?;
+    let ran = checks::run(alloc, &case, Stop::NEVER)?;
     check_refused(alloc, &case, refusal, ran.lines()?)
 }
 

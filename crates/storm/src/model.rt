@@ -1,0 +1,260 @@
+//! A plain model of the chip: what it does at each transaction, which is given as its line of a trace, and what a stop
+//! leaves of it.
+
+use crate::chips::Chip;
+use crate::fault::{Fault, agree_all};
+use crate::guards::{self, Status};
+use crate::lines;
+use crate::pace::Pace;
+use nor_chip::SimBus;
+use std::alloc::Global;
+
+/// Where a bus stops, and what the stop does.
+#[derive(Clone, Copy)]
+pub struct Stop {
+    /// How many transactions are carried out before it.
+    pub after: u64,
+    /// How many bytes of the next transaction are sent: all, if it has fewer. With `None` no byte is sent.
+    pub cut: Option<u32>,
+    /// The byte that each byte of a running program or erase becomes when the chip then loses its power. With `None`
+    /// the chip keeps its power.
+    pub fill: Option<u8>,
+}
+
+impl Stop {
+    /// No stop.
+    pub const NEVER: Stop = Stop {
+        after: u64::MAX,
+        cut: None,
+        fill: None,
+    };
+
+    /// Returns a stop between two transactions, at which the chip keeps its power.
+    pub const fn after(after: u64) -> Stop {
+        Stop {
+            after,
+            cut: None,
+            fill: None,
+        }
+    }
+}
+
+/// A chip and the operation that it performs while it is busy.
+#[derive(Drop)]
+pub struct Model {
+    pub chip: Chip,
+    work: Work,
+}
+
+// The operation of a busy chip.
+#[derive(Clone, Copy)]
+enum Work {
+    // An operation of which nothing is known.
+    Unknown,
+    // A program or an erase: its first address, and the number of bytes.
+    Bytes(u32, u32),
+    // A status write: the non-volatile bits before it.
+    Status(Status),
+}
+
+impl Model {
+    /// Returns a model of a chip. If the chip is busy, nothing is known of its operation.
+    pub fn of(alloc: Global, chip: &Chip) -> Result<Model, Fault> {
+        Ok(Model {
+            chip: chip.copy(alloc)?,
+            work: Work::Unknown,
+        })
+    }
+
+    /// Carries out a call under a stop. Without a stop the call sends the transactions of all these lines.
+    pub fn call(&mut self, whole: &str, stop: Stop) {
+        let first = lines::first(whole, stop.after);
+        for line in first.lines() {
+            self.carry_out(sent_by(line));
+        }
+        if let Some(rest) = whole.get(first.len()..)
+            && let Some(next) = rest.lines().next()
+        {
+            self.stop(sent_by(next), stop);
+        }
+    }
+
+    /// Returns a fault unless the chip on the bus has the bytes and the status of this chip.
+    pub fn check(&self, bus: &SimBus) -> Result<(), Fault> {
+        let now = bus.status();
+        let shown = now[0] & 0b0000_0011;
+        agree_all(&[
+            (
+                bus.bytes() == self.chip.bytes.as_slice(),
+                "the bytes after a call",
+            ),
+            (
+                guards::kept(now) == guards::kept(self.chip.status),
+                "the non-volatile status bits after a call",
+            ),
+            (
+                shown == self.pace().bits(),
+                "BUSY and the latch behind a call",
+            ),
+        ])
+    }
+
+    // Stops at a transaction. `sent` has the digits of the bytes that it sends if nothing stops it.
+    fn stop(&mut self, sent: &str, stop: Stop) {
+        if let Some(count) = stop.cut {
+            let digits = (count as usize).saturating_mul(2);
+            self.carry_out(sent.get(..digits).unwrap_or(sent));
+        }
+        if let Some(fill) = stop.fill {
+            self.lose_power(fill);
+        }
+    }
+
+    // Carries out a transaction that sends these bytes. A transaction that only reads changes nothing.
+    fn carry_out(&mut self, sent: &str) {
+        let opcode = sent.get(..2).unwrap_or("");
+        match (opcode, sent.len() / 2) {
+            ("05", 1) => self.pass(opcode),
+            ("06", 1) if self.pace().busy == 0 => self.pass(opcode),
+            ("01", 3) => self.write_status(byte_at(sent, 1), byte_at(sent, 2)),
+            ("20", 4) => self.erase_unit(opcode, 4096, sent),
+            ("52", 4) if self.chip.config.kinds.k32 => self.erase_unit(opcode, 32_768, sent),
+            ("d8", 4) if self.chip.config.kinds.k64 => self.erase_unit(opcode, 65_536, sent),
+            ("c7", 1) => self.erase(opcode, 0, self.chip.config.size),
+            ("02", count) if count > 4 => self.program(sent),
+            _ => {}
+        }
+    }
+
+    fn pace(&self) -> Pace {
+        Pace::of(&self.chip)
+    }
+
+    // Sets BUSY and the latch as a transaction with this opcode does.
+    fn pass(&mut self, opcode: &str) {
+        self.set_pace(self.pace().behind(opcode));
+    }
+
+    fn set_pace(&mut self, pace: Pace) {
+        self.chip.delays.now = pace.busy;
+        self.chip.status[0] = guards::kept(self.chip.status)[0] | pace.bits();
+    }
+
+    // True if the chip carries out an operation on these addresses: it is idle, its latch is set, and none is
+    // protected.
+    fn takes(&self, start: u32, len: u32) -> bool {
+        let Chip { config, status, .. } = &self.chip;
+        let (first, count) = guards::guarded_places(guards::code_of(*status), config.size);
+        let guarded = config.scheme
+            && start < first.saturating_add(count)
+            && first < start.saturating_add(len);
+        self.is_ready() && !guarded
+    }
+
+    fn is_ready(&self) -> bool {
+        self.pace().bits() == 0b0000_0010
+    }
+
+    // Writes SRP, QE, BP, TB, SEC and CMP as sent. An LB bit that is set stays set, and the reserved bit isn't
+    // written.
+    fn write_status(&mut self, one: u8, two: u8) {
+        let before = guards::kept(self.chip.status);
+        if !self.is_ready() || guards::is_locked(before) {
+            return;
+        }
+        let stays = before[1] & 0b0011_1100;
+        self.chip.status = [one & 0b1111_1100, two & 0b0111_1011 | stays];
+        self.work = Work::Status(before);
+        self.pass("01");
+    }
+
+    fn erase_unit(&mut self, opcode: &str, len: u32, sent: &str) {
+        let address = self.address_of(sent);
+        self.erase(opcode, aligned(address, len), len);
+    }
+
+    fn erase(&mut self, opcode: &str, start: u32, len: u32) {
+        if self.takes(start, len) {
+            self.fill(start, len, 0xFF);
+            self.work = Work::Bytes(start, len);
+            self.pass(opcode);
+        }
+    }
+
+    fn fill(&mut self, start: u32, len: u32, byte: u8) {
+        for place in self
+            .chip
+            .bytes
+            .iter_mut()
+            .skip(start as usize)
+            .take(len as usize)
+        {
+            *place = byte;
+        }
+    }
+
+    // Clears bits from an address on. After the last byte of the page the first byte comes next.
+    fn program(&mut self, sent: &str) {
+        let address = self.address_of(sent);
+        if !self.takes(address, 1) {
+            return;
+        }
+        let page = aligned(address, 256);
+        for place in 4..sent.len() / 2 {
+            let at = (address as usize).saturating_add(place.saturating_sub(4)) % 256;
+            self.lower((page as usize).saturating_add(at), byte_at(sent, place));
+        }
+        self.work = Work::Bytes(page, 256);
+        self.pass("02");
+    }
+
+    fn lower(&mut self, at: usize, byte: u8) {
+        if let Some(old) = self.chip.bytes.get_mut(at) {
+            *old &= byte;
+        }
+    }
+
+    // Returns the address after the opcode, modulo the size.
+    fn address_of(&self, sent: &str) -> u32 {
+        let digits = sent.get(2..8).unwrap_or("");
+        let address = u32::from_str_radix(digits, 16).unwrap_or(0);
+        address.checked_rem(self.chip.config.size).unwrap_or(0)
+    }
+
+    fn lose_power(&mut self, fill: u8) {
+        let pace = self.pace();
+        if pace.busy > 0 {
+            self.cut_off(fill);
+        }
+        self.set_pace(pace.without_power());
+    }
+
+    // Interrupts the operation. A status write leaves the old bits if the fill is even, and else the new bits.
+    fn cut_off(&mut self, fill: u8) {
+        match self.work {
+            Work::Bytes(start, len) => self.fill(start, len, fill),
+            Work::Status(before) if fill % 2 == 0 => self.chip.status = before,
+            Work::Status(_) | Work::Unknown => {}
+        }
+    }
+}
+
+// Returns the digits of the bytes that a transaction sends, from its line.
+fn sent_by(line: &str) -> &str {
+    match line.split_once(' ') {
+        Some((sent, _)) => sent,
+        None => line,
+    }
+}
+
+// Returns a byte of those sent, by its position.
+fn byte_at(sent: &str, place: usize) -> u8 {
+    let from = place.saturating_mul(2);
+    let digits = sent.get(from..from.saturating_add(2)).unwrap_or("");
+    u8::from_str_radix(digits, 16).unwrap_or(0)
+}
+
+// Returns the first address of the aligned block of this length that holds the address.
+fn aligned(address: u32, len: u32) -> u32 {
+    address.saturating_sub(address.checked_rem(len).unwrap_or(0))
+}
