@@ -26,6 +26,9 @@ CLAIMS = [
     ("rows", "| Sessions stopped after each of their transactions | {stops} stops |"),
     ("rows", "| Restores stopped after each of their transactions | after {stopped} of these stops, {runs} runs |"),
     ("rows", "| Sessions and restores whose power fails after each of their transactions | {losses} runs |"),
+    ("rows", "| Sessions stopped inside a transaction | {cut_sessions} stops, {lost_sessions} of which lose the power |"),
+    ("rows", "| Restores stopped inside a transaction, after such sessions | {cut_restores} stops, {lost_restores} of "
+             "which lose the power |"),
     ("storm", "| Random sessions, compared with the reference implementation | {cases} sessions, one in {share} again "
               "on a faulty bus |"),
     ("storm", "given to the {cases} cases of Storm"),
@@ -131,11 +134,26 @@ def lost_powers():
     return total
 
 
+def cut_transactions(calls):
+    """Returns how many of these calls are stopped inside a transaction, and how many of them lose their power."""
+    code = code_of("torn")
+    listed = "".join(re.findall(rf"const {calls}: \[.*?\] = \[(.*?)\];", code))
+    found = re.findall(r"\(Row::\w+, ([^,()]+), ([^,()]+)\)", listed)
+    found += re.findall(rf"const {calls}_\w+: Stops = Stops {{ kept: ([^,}}]+), lost: ([^,}}]+),? }}", code)
+    if not listed or not found:
+        raise Unread(f"crates/rows/src/torn.rt has no numbers of {calls}")
+    lost = sum(value(lost, {}) for _, lost in found)
+    return lost + sum(value(kept, {}) for kept, _ in found), lost
+
+
 def of_rows():
     """Returns the numbers of rows."""
     stopped, runs = stopped_restores()
     single = re.findall(r"\(Row::\w+, \d+, (\d+)\)", code_of("cuts"))
-    return {"stops": stopped + sum(map(int, single)), "stopped": stopped, "runs": runs, "losses": lost_powers()}
+    sessions, restores = cut_transactions("SESSIONS"), cut_transactions("RESTORES")
+    return {"stops": stopped + sum(map(int, single)), "stopped": stopped, "runs": runs, "losses": lost_powers(),
+            "cut_sessions": sessions[0], "lost_sessions": sessions[1],
+            "cut_restores": restores[0], "lost_restores": restores[1]}
 
 
 # ---- the runs of the other parts, from the gate's log
