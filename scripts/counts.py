@@ -31,6 +31,8 @@ CLAIMS = [
              "which lose the power |"),
     ("storm", "| Random sessions, compared with the reference implementation | {cases} sessions, one in {share} again "
               "on a faulty bus |"),
+    ("storm", "| Random calls stopped inside a transaction | {sessions} sessions and {restores} restores, {lost} of "
+              "which lose the power |"),
     ("storm", "given to the {cases} cases of Storm"),
     ("sweep", "| Runs with one allocation refused | {refused} runs: {each} in {jobs} jobs |"),
     ("sweep", "| Outcome of these runs | {own} the usual result, {others} one line that reports it |"),
@@ -163,7 +165,11 @@ def of_storm(log):
     """Returns the numbers of storm: its cases, and the share of those that went over a bus that lies too."""
     cases = int(only(r"(?m)^storm: (\d+) passed", log, "the log")[1])
     lied = sum(map(int, re.findall(r"(?m)^sessions on a bus that lies: (\d+)$", log)))
-    return {"cases": cases, "share": round(cases / lied) if lied else 0}
+    cut = r"(?m)^stops inside a transaction: (\d+) of sessions, (\d+) of restores, (\d+) that lost the power$"
+    only(cut, log, "the log")
+    sessions, restores, lost = (sum(map(int, numbers)) for numbers in zip(*re.findall(cut, log)))
+    return {"cases": cases, "share": round(cases / lied) if lied else 0,
+            "sessions": sessions, "restores": restores, "lost": lost}
 
 
 def of_sweep(log):

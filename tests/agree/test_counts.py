@@ -17,8 +17,10 @@ restores on other chips: 3 accepted
 rehearsals: 12
 chips read: 7
 sessions on a bus that lies: 130
+stops inside a transaction: 51 of sessions, 64 of restores, 20 that lost the power
 Seed 2. sessions: 310 accepted
 sessions on a bus that lies: 120
+stops inside a transaction: 60 of sessions, 70 of restores, 21 that lost the power
 storm: 1000 passed, 0 failed
 first_job: 7 allocations refused in turn, 2 own answers, the rest by Error 18 (5); no difference
 second_job: 11 allocations refused in turn, 0 own answers, the rest by Error 18 (11); no difference
@@ -32,7 +34,7 @@ lost machines: 77 (30 without a whole journal, 40 with one, 7 done; seed 1), 0 l
 kill: 1205 passed, 1 failed
 """
 NUMBERS = {
-    "storm": {"cases": "1,000", "share": "four"},
+    "storm": {"cases": "1,000", "share": "four", "sessions": "111", "restores": "134", "lost": "41"},
     "sweep": {"refused": "18", "jobs": "two", "each": "7 and 11", "own": "2", "others": "16", "spans": "1"},
     "kill": {"runs": "1,200", "jobs": "2", "machines": "77"},
 }
