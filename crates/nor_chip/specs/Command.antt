@@ -1,5 +1,5 @@
 -- What the bytes of a transaction ask for. (W25Q64FV datasheet, instruction set table.)
-use Rattle.std.specs.Prelude.{◌+◌, ◌*◌, ◌/◌, ◌%◌, ◌==◌, ◌&&◌, ◌||◌, not, ℕ, Bool, false, List, [], ◌∷◌, if◌then◌else◌}
+use Rattle.std.specs.Prelude.{◌+◌, ◌*◌, ◌/◌, ◌%◌, ◌==◌, ◌&&◌, ◌||◌, not, ℕ, Bool, true, false, List, [], ◌∷◌, if◌then◌else◌}
 use Rattle.nor_chip.specs.declared.config.Config.{Config}
 use Rattle.nor_chip.specs.declared.command.Command.{Command}
 use Rattle.nor_chip.specs.declared.command.Command.TheVariants.{WriteEnable, WriteDisable, Poll, ReadStatus2, WriteStatus, Program, Erase, ReadData, ReadId, ReadSfdp, ReadUnique, Ignored}
@@ -54,12 +54,29 @@ is_quiet_opcode opcode =
     opcode == 0x03 || opcode == 0x04 || opcode == 0x05 || opcode == 0x35
     || opcode == 0x4B || opcode == 0x5A || opcode == 0x9F
 
--- Any other may change a chip or ready it for a change: write enable, write status, program and erases, and what a real
--- chip may take that a modelled one ignores (60h erases it).
-abbrev pub is_changing_opcode : (opcode : ℕ) → Bool
-is_changing_opcode opcode = not (is_quiet_opcode opcode)
+-- the opcodes of an erase
+abbrev pub is_erase_opcode : (opcode : ℕ) → Bool
+is_erase_opcode opcode = opcode == 0x20 || opcode == 0x52 || opcode == 0xD8 || opcode == 0xC7
 
--- a transaction that sends `out` begins with such an opcode
+-- the seven modifying opcodes: write enable, write status, page program and the erases
+abbrev pub is_changing_opcode : (opcode : ℕ) → Bool
+is_changing_opcode opcode = opcode == 0x06 || opcode == 0x01 || opcode == 0x02 || is_erase_opcode opcode
+
+-- a transaction that sends `out` begins with a modifying opcode
 abbrev pub begins_change : (out : List ℕ) → Bool
 begins_change [] = false
 begins_change (opcode ∷ rest) = is_changing_opcode opcode
+
+-- a transaction that sends `out` sends nothing, or begins with an opcode that changes nothing
+abbrev pub begins_quiet : (out : List ℕ) → Bool
+begins_quiet [] = true
+begins_quiet (opcode ∷ rest) = is_quiet_opcode opcode
+
+-- `out` has the form of a modifying command: one of the seven opcodes, with as many bytes after it as the command has
+abbrev pub is_change : (out : List ℕ) → Bool
+is_change [] = false
+is_change (opcode ∷ []) = opcode == 0x06 || opcode == 0xC7
+is_change (opcode ∷ x ∷ []) = false
+is_change (opcode ∷ x ∷ y ∷ []) = opcode == 0x01
+is_change (opcode ∷ x ∷ y ∷ z ∷ []) = opcode == 0x20 || opcode == 0x52 || opcode == 0xD8
+is_change (opcode ∷ x ∷ y ∷ z ∷ byte ∷ rest) = opcode == 0x02

@@ -1,8 +1,9 @@
--- What was sent that may change a chip, whatever the chip makes of it. (W25Q64FV datasheet, instruction set table.)
-use Rattle.std.specs.Prelude.{◌≡◌, ◌+◌, ◌*◌, ◌/◌, ◌-◌, ◌^◌, ◌==◌, ◌&&◌, ◌||◌, ℕ, Bool, true, false, List, [], ◌∷◌, min, nat_le, nat_lt, slice_index_or, if◌then◌else◌}
+-- What was sent over a bus that may modify a chip, by its bytes, even if the chip ignored it. (W25Q64FV datasheet,
+-- instruction set table.)
+use Rattle.std.specs.Prelude.{◌≡◌, ◌+◌, ◌*◌, ◌/◌, ◌-◌, ◌^◌, ◌==◌, ◌&&◌, ◌||◌, not, ℕ, Bool, true, false, List, [], ◌∷◌, min, nat_le, nat_lt, slice_index_or, if◌then◌else◌}
 use Rattle.nor_chip.specs.declared.sent.Aim.{Aim}
 use Rattle.nor_chip.specs.declared.sent.Sent.{Sent}
-use Rattle.nor_chip.specs.Command.{begins_change, is_quiet_opcode}
+use Rattle.nor_chip.specs.Command.{begins_change, begins_quiet, is_change, is_erase_opcode}
 
 -- every sector that 24 bits can name, and none
 abbrev pub aim_all : Aim
@@ -11,16 +12,15 @@ aim_all = record { first = 0; count = 4096 }
 abbrev pub aim_none : Aim
 aim_none = record { first = 0; count = 0 }
 
--- the aligned unit of so many sectors that holds this one
+-- the aligned unit of `count` sectors that holds this one
 abbrev pub aim_unit : (count sector : ℕ) → Aim
 aim_unit count sector = record { first = sector / count * count; count = count }
 
--- where an opcode without an address is aimed, or one of which no more is known: write enable and a status write at no
--- sector, and what else may change a chip at any
+-- the sectors that an opcode without an address targets: the erase of the chip targets all
 abbrev pub bare_aim : (opcode : ℕ) → Aim
-bare_aim opcode = if opcode == 0x06 || opcode == 0x01 || is_quiet_opcode opcode then aim_none else aim_all
+bare_aim opcode = if opcode == 0xC7 then aim_all else aim_none
 
--- where an opcode and an address in this sector are aimed
+-- the sectors that an opcode and an address in this sector target
 abbrev pub addressed_aim : (opcode sector : ℕ) → Aim
 addressed_aim opcode sector =
     if opcode == 0x02 || opcode == 0x20 then aim_unit 1 sector
@@ -36,43 +36,87 @@ aim_of (opcode ∷ x ∷ []) = bare_aim opcode
 aim_of (opcode ∷ x ∷ y ∷ []) = bare_aim opcode
 aim_of (opcode ∷ x ∷ y ∷ z ∷ rest) = addressed_aim opcode ((65536 * x + 256 * y + z) / 4096)
 
--- a sector lies there
+-- the sector is one of these
 abbrev pub is_in_aim : Aim → ℕ → Bool
 is_in_aim aim s = nat_le aim.first s && nat_lt s (aim.first + aim.count)
 
--- a transaction is aimed at a sector
+-- the transaction targets the sector
 abbrev pub aims : (out : List ℕ) → ℕ → Bool
 aims out s = is_in_aim (aim_of out) s
 
--- a transaction begins with the opcode of a status write
+-- the transaction begins with the opcode of an erase, of a page program, of a status write
+abbrev pub begins_erase : (out : List ℕ) → Bool
+begins_erase [] = false
+begins_erase (opcode ∷ rest) = is_erase_opcode opcode
+
+abbrev pub begins_program : (out : List ℕ) → Bool
+begins_program [] = false
+begins_program (opcode ∷ rest) = opcode == 0x02
+
 abbrev pub begins_status_write : (out : List ℕ) → Bool
 begins_status_write [] = false
 begins_status_write (opcode ∷ rest) = opcode == 0x01
 
--- what was sent holds a sector that something was aimed at
-abbrev pub is_aimed_at : Sent → ℕ → Bool
-is_aimed_at sent s = slice_index_or sent.aimed s false
+-- the transaction is a status write of these two bytes
+abbrev pub writes_status : (out : List ℕ) → (one two : ℕ) → Bool
+writes_status (opcode ∷ x ∷ y ∷ []) one two = opcode == 0x01 && x == one && y == two
+writes_status _ one two = false
 
--- how many status writes were sent; it stays at the greatest u64
-abbrev pub status_writes_of : Sent → ℕ
-status_writes_of sent = sent.status_writes
+-- the transaction neither begins with an opcode that changes nothing nor has the form of a modifying command: no more is
+-- known of what a real chip makes of it (60h erases it, 31h writes status 2, 01h with one byte clears status 2)
+abbrev pub is_strange_to_model : (out : List ℕ) → Bool
+is_strange_to_model out = not (begins_quiet out || is_change out)
 
--- a changing opcode was sent
+-- ---- what a record of them says
+
+-- a modifying opcode was sent
 abbrev pub is_stirred : Sent → Bool
 is_stirred sent = sent.stirred
 
--- Nothing was sent that may change a chip.
+-- a transaction was sent that the model does not know
+abbrev pub is_strange : Sent → Bool
+is_strange sent = sent.strange
+
+-- the sector was targeted
+abbrev pub is_aimed_at : Sent → ℕ → Bool
+is_aimed_at sent s = slice_index_or sent.aimed s false
+
+-- a status write of these two bytes was sent
+abbrev pub has_written : Sent → (one two : ℕ) → Bool
+has_written sent one two = nat_lt two 256 && slice_index_or sent.written (256 * one + two) false
+
+-- how many erases, page programs and status writes were sent; each number stays at the greatest u64
+abbrev pub erases_of : Sent → ℕ
+erases_of sent = sent.erases
+
+abbrev pub programs_of : Sent → ℕ
+programs_of sent = sent.programs
+
+abbrev pub status_writes_of : Sent → ℕ
+status_writes_of sent = sent.status_writes
+
+-- Nothing was sent that may modify a chip.
 pub record IsNothing (sent : Sent) : Type 0 where
   pub stirred : is_stirred sent ≡ false
+  pub strange : is_strange sent ≡ false
   pub aimed : (s : ℕ) → is_aimed_at sent s ≡ false
+  pub written : (one two : ℕ) → has_written sent one two ≡ false
+  pub erases : erases_of sent ≡ 0
+  pub programs : programs_of sent ≡ 0
   pub status_writes : status_writes_of sent ≡ 0
 
--- A transaction was sent, or tried. One that doesn't begin with a changing opcode leaves all as it was; another stirs
--- for good, adds the sectors that it is aimed at, and counts if it is a status write.
+-- one more if it is so, as a u64 can count
+abbrev pub one_more : (is : Bool) → (before : ℕ) → ℕ
+one_more is before = if is then min (before + 1) (2 ^ 64 - 1) else before
+
+-- A transaction was sent, or tried. One that changes nothing leaves the record as it was. Any other adds to it what its
+-- bytes say.
 pub record Notes (out : List ℕ) (old new : Sent) : Type 0 where
-  pub quiet : begins_change out ≡ false → new ≡ old
-  pub stirred : begins_change out ≡ true → is_stirred new ≡ true
-  pub aimed : begins_change out ≡ true → (s : ℕ) → is_aimed_at new s ≡ (is_aimed_at old s || aims out s)
-  pub status_writes : begins_change out ≡ true
-      → status_writes_of new
-      ≡ (if begins_status_write out then min (status_writes_of old + 1) (2 ^ 64 - 1) else status_writes_of old)
+  pub quiet : begins_quiet out ≡ true → new ≡ old
+  pub stirred : is_stirred new ≡ (is_stirred old || begins_change out)
+  pub strange : is_strange new ≡ (is_strange old || is_strange_to_model out)
+  pub aimed : (s : ℕ) → is_aimed_at new s ≡ (is_aimed_at old s || aims out s)
+  pub written : (one two : ℕ) → has_written new one two ≡ (has_written old one two || writes_status out one two)
+  pub erases : erases_of new ≡ one_more (begins_erase out) (erases_of old)
+  pub programs : programs_of new ≡ one_more (begins_program out) (programs_of old)
+  pub status_writes : status_writes_of new ≡ one_more (begins_status_write out) (status_writes_of old)

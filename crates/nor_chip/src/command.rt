@@ -1,6 +1,6 @@
 //! What the bytes of a transaction ask for.
 ghost use Rattle.std.specs.Prelude.{◌≡◌, ◌<◌};
-ghost use Rattle.nor_chip.specs.Command.{command_of, bare_command, addressed_command, aligned_erase, address_of, begins_change};
+ghost use Rattle.nor_chip.specs.Command.{command_of, bare_command, addressed_command, aligned_erase, address_of, begins_change, begins_quiet, is_change};
 
 use crate::{Config, SECTOR_LEN};
 
@@ -96,13 +96,37 @@ fn address(config: &Config, x: u8, y: u8, z: u8) -> u32
     u32::from_be_bytes([0, x, y, z]) % config.size
 }
 
-/// The transaction begins with an opcode that may change a chip or ready it for a change: any but 03h, 05h, 35h, 4Bh,
-/// 5Ah and 9Fh, which read, and 04h, which clears the latch.
+/// True if a transaction that sends `out` begins with one of the seven modifying opcodes: 06h, 01h, 02h, 20h, 52h, D8h
+/// or C7h. (W25Q64FV datasheet, instruction set table.)
 pub fn is_changing(out: &[u8]) -> bool
     ensures { result ≡ begins_change out.now }
 {
-    !matches!(
+    matches!(
+        out,
+        [0x06 | 0x01 | 0x02 | 0x20 | 0x52 | 0xD8 | 0xC7, ..]
+    )
+}
+
+/// True if it sends nothing, or begins with an opcode that reads (03h, 05h, 35h, 4Bh, 5Ah, 9Fh) or with write disable.
+pub(crate) fn is_quiet(out: &[u8]) -> bool
+    ensures { result ≡ begins_quiet out.now }
+{
+    matches!(
         out,
         [] | [0x03 | 0x04 | 0x05 | 0x35 | 0x4B | 0x5A | 0x9F, ..]
     )
+}
+
+/// True if `out` has the form of a modifying command: one of the seven opcodes, and as many bytes after it as that
+/// command has.
+pub(crate) fn is_change(out: &[u8]) -> bool
+    ensures { result ≡ is_change out.now }
+{
+    match out {
+        [opcode] => matches!(opcode, 0x06 | 0xC7),
+        [opcode, _, _] => matches!(opcode, 0x01),
+        [opcode, _, _, _] => matches!(opcode, 0x20 | 0x52 | 0xD8),
+        [opcode, _, _, _, _, ..] => matches!(opcode, 0x02),
+        _ => false,
+    }
 }

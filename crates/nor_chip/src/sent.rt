@@ -1,41 +1,69 @@
-//! What was sent over a bus that may change a chip.
+//! What was sent over a bus that may modify a chip.
 ghost use Rattle.std.specs.Prelude.{◌≡◌, ◌<◌, ◌≤◌, ◌+◌, ◌||◌, ℕ, false, length, slice_index_or};
-ghost use Rattle.nor_chip.specs.Sent.{aim_of, bare_aim, addressed_aim, aim_unit, is_in_aim, IsNothing, Notes};
+ghost use Rattle.nor_chip.specs.Sent.{aim_of, bare_aim, addressed_aim, aim_unit, is_in_aim, has_written, writes_status, IsNothing, Notes};
 
-use crate::{MOST_SECTORS, SECTOR_LEN, is_changing};
+use crate::command::{is_change, is_changing, is_quiet};
+use crate::{MOST_SECTORS, SECTOR_LEN};
 
-/// What was sent over a bus that may change a chip, or was tried: whether anything, which sectors erases and programs
-/// were aimed at, and how many status writes there were. A bus holds one, and notes each transaction in it before
-/// anything else.
+/// A record of what was sent over a bus, or tried, that may modify a chip: whether anything was, whether a transaction was
+/// that the model does not know, which sectors erases and programs targeted, which bytes status writes had, and how many
+/// of each there were. A bus holds one, and notes each transaction in it before anything else.
 #[derive(Drop)]
 pub struct Sent {
     stirred: bool,
+    strange: bool,
     aimed: [bool; MOST_SECTORS as usize],
+    written: [bool; 65536],
+    erases: u64,
+    programs: u64,
     status_writes: u64,
 }
 
 impl Sent {
-    /// Nothing was sent yet.
+    /// Returns the record of a bus over which nothing was sent.
     pub fn new() -> Sent
         ensures { IsNothing result }
     {
         Sent {
             stirred: false,
+            strange: false,
             aimed: [false; MOST_SECTORS as usize],
+            written: [false; 65536],
+            erases: 0,
+            programs: 0,
             status_writes: 0,
         }
     }
 
-    /// A transaction sends these bytes.
+    /// Notes a transaction that sends these bytes.
     pub fn note(&mut self, out: &[u8])
         ensures { Notes out.now self.old self.new }
     {
-        if is_changing(out) {
-            self.stirred = true;
-            mark(&mut self.aimed, Aim::of(out));
-            if let [0x01, ..] = out {
+        if is_quiet(out) {
+            return;
+        }
+        self.stirred |= is_changing(out);
+        self.strange |= !is_change(out);
+        mark(&mut self.aimed, Aim::of(out));
+        match out {
+            [0x01, ..] => {
                 self.status_writes = self.status_writes.saturating_add(1);
+                self.note_status(out);
             }
+            [0x02, ..] => self.programs = self.programs.saturating_add(1),
+            [0x20 | 0x52 | 0xD8 | 0xC7, ..] => self.erases = self.erases.saturating_add(1),
+            _ => {}
+        }
+    }
+
+    // Notes the two bytes of a status write.
+    fn note_status(&mut self, out: &[u8])
+        ensures written { (one two : ℕ) → has_written self.new one two
+            ≡ (has_written self.old one two || writes_status out.now one two) }
+        ensures others { self.new ≡ record self.old { written = self.new.written } }
+    {
+        if let [0x01, one, two] = out {
+            self.written[256 * usize::from(*one) + usize::from(*two)] = true;
         }
     }
 }
@@ -68,9 +96,8 @@ impl Aim {
         ensures within { result.first + result.count ≤ 4096 }
     {
         let count = match opcode {
-            0x06 | 0x01 => 0,
-            _ if !is_changing(&[opcode]) => 0,
-            _ => MOST_SECTORS as usize,
+            0xC7 => MOST_SECTORS as usize,
+            _ => 0,
         };
         Aim { first: 0, count }
     }
