@@ -1,9 +1,10 @@
 -- Each prefix of an operation's bytes asks for that operation or for none.
-use Rattle.std.proofs.Common.{◌≡◌, ◌∙◌, ◌⊎◌, ℕ, zero, suc, true, List, [], ◌∷◌, take, refl, sym, arith, inl, inr}
+use Rattle.std.proofs.Common.{◌≡◌, ◌<◌, ◌∙◌, ◌⊎◌, ℕ, zero, suc, true, false, List, length, [], ◌∷◌, take, refl, sym, arith, inl, inr}
 use Rattle.std.proofs.Math.Seq.{take-nil}
 use Rattle.nor_chip.specs.declared.config.Config.{Config}
 use Rattle.nor_chip.specs.declared.command.Command.TheVariants.{Program, Ignored}
 use Rattle.nor_chip.specs.Command.{address_of, command_of}
+use Rattle.nor_chip.specs.Sent.{is_strange_to_model}
 use Rattle.nor_driver.specs.declared.units.EraseUnit.{EraseUnit}
 use Rattle.nor_driver.specs.declared.units.EraseUnit.TheVariants as Units
 use Rattle.nor_driver.specs.Operations.{is_operation_or_none, IsCommandAt, AsksForOperation}
@@ -37,8 +38,14 @@ program_begun config x y z [] (suc (suc (suc (suc (suc n))))) = inl refl
 program_begun config x y z (byte ∷ rest) (suc (suc (suc (suc (suc n))))) =
     inr (programs config x y z byte (take n rest) ∙ sym (programs config x y z byte rest))
 
-pub asks_program : (at : ℕ) (sent command : List ℕ) → IsCommandAt 2 at sent command → AsksForOperation command
-asks_program at sent command sends = rw sends.4 record {
+program_known : (x y z : ℕ) (sent : List ℕ) → 0 < length sent → is_strange_to_model (2 ∷ x ∷ y ∷ z ∷ sent) ≡ false
+program_known x y z [] some = absurd (omega (arith, some))
+program_known x y z (byte ∷ rest) some = refl
+
+pub asks_program : (at : ℕ) (sent command : List ℕ) → 0 < length sent → IsCommandAt 2 at sent command
+    → AsksForOperation command
+asks_program at sent command some sends = rw sends.4 record {
+  known = program_known sends.0 sends.1 sends.2 sent some;
   whole = λ config. program_whole config sends.0 sends.1 sends.2 sent;
   begun = λ config count. program_begun config sends.0 sends.1 sends.2 sent count;
 }
@@ -60,9 +67,14 @@ erase_begun _ config x y z (suc (suc zero)) = inl refl
 erase_begun _ config x y z (suc (suc (suc zero))) = inl refl
 erase_begun _ config x y z (suc (suc (suc (suc n)))) = inr (rw (take-nil {A = ℕ} n) refl)
 
+erase_known : (unit : EraseUnit) (x y z : ℕ) → is_strange_to_model (erase_bytes unit x y z) ≡ false
+erase_known Units.Chip x y z = refl
+erase_known _ x y z = grind arith
+
 pub asks_erase : (unit : EraseUnit) (x y z : ℕ) (command : List ℕ) → command ≡ erase_bytes unit x y z
     → AsksForOperation command
 asks_erase unit x y z command is = rw is record {
+  known = erase_known unit x y z;
   whole = λ config. erase_whole unit config x y z;
   begun = λ config count. erase_begun unit config x y z count;
 }
@@ -77,6 +89,7 @@ status_begun config one two (suc (suc (suc n))) = inr (rw (take-nil {A = ℕ} n)
 
 pub asks_status : (one two : ℕ) → AsksForOperation (1 ∷ one ∷ two ∷ [])
 asks_status one two = record {
+  known = refl;
   whole = λ config. refl;
   begun = λ config count. status_begun config one two count;
 }

@@ -1,5 +1,5 @@
 -- What the erase of a unit does, from what an operation does.
-use Rattle.std.proofs.Common.{◌≡◌, ◌<◌, ◌+◌, ◌*◌, ◌/◌, ◌&&◌, ◌∙◌, ℕ, Bool, true, not, cond, nat_lt, nat_le, List, [], ◌∷◌, drop, ap, refl, arith}
+use Rattle.std.proofs.Common.{◌≡◌, ◌<◌, ◌+◌, ◌*◌, ◌/◌, ◌&&◌, ◌∙◌, ℕ, Bool, true, false, not, cond, nat_lt, nat_le, List, [], ◌∷◌, drop, ap, sym, refl, arith}
 use Rattle.std.proofs.lemmas.Bool.{eqb-true}
 use Rattle.std.proofs.lemmas.Bool.Decides.{nat_tests}
 use Rattle.std.proofs.Math.Bool.{and-false}
@@ -10,28 +10,41 @@ use Rattle.nor_chip.specs.Chip.{Chip}
 use Rattle.nor_chip.specs.Guard.{is_unit_guarded}
 use Rattle.nor_chip.specs.Command.{address_of}
 use Rattle.nor_chip.specs.Step.{is_idle, is_carried_out}
-use Rattle.nor_chip.specs.Sent.{aims}
+use Rattle.nor_chip.specs.Sent.{aims, writes_status, begins_erase, begins_program, begins_status_write}
 use Rattle.nor_chip.specs.Bus.{BusState}
 use Rattle.nor_chip.proofs.Sizes.{sized_bounds}
 use Rattle.nor_driver.specs.declared.units.Erase.{Erase}
 use Rattle.nor_driver.specs.declared.units.EraseUnit.{EraseUnit}
 use Rattle.nor_driver.specs.declared.units.EraseUnit.TheVariants as Units
 use Rattle.nor_driver.specs.Units.{opcode_of, sectors_in, has_unit}
-use Rattle.nor_driver.specs.Operations.{operation_of, writes_in, MayOperate, HasOperated, LeavesOperation, Operates}
+use Rattle.nor_driver.specs.Limits.{limits_of, erasing}
+use Rattle.nor_driver.specs.Operations.{operation_of, MayOperate, HasOperated, LeavesOperation, Operates}
 use Rattle.nor_driver.specs.Erases.{sectors_of, unit_length, IsOnChip, takes_erase, is_sector_in_unit, is_place_in_unit, is_sector_named, MayErase, HasErased, LeavesErase, Erases}
-use Rattle.nor_driver.proofs.Aims.{stirs_more}
+use Rattle.nor_driver.proofs.Limits.{IsPartOf, stirs_more}
 use Rattle.nor_driver.proofs.Programming.{same_address}
 use Rattle.nor_driver.proofs.Taken.{may_taken, has_taken, may_refused, has_refused}
 
--- the bytes that are sent for a unit: no status write, and no data behind an address
+-- the bytes that are sent for an erase block: they hold no data
 abbrev pub erase_bytes : EraseUnit → ℕ → ℕ → ℕ → List ℕ
 erase_bytes Units.Chip x y z = 0xC7 ∷ []
 erase_bytes unit x y z = opcode_of unit ∷ x ∷ y ∷ z ∷ []
 
-plain : (unit : EraseUnit) (x y z : ℕ)
-    → (drop 4 (erase_bytes unit x y z) ≡ []) × (writes_in (erase_bytes unit x y z) ≡ 0)
-plain Units.Chip x y z = (refl, refl)
-plain _ x y z = (refl, refl)
+plain : (unit : EraseUnit) (x y z : ℕ) → drop 4 (erase_bytes unit x y z) ≡ []
+plain Units.Chip x y z = refl
+plain _ x y z = refl
+
+-- they are one erase, no page program and no status write
+one_erase : (unit : EraseUnit) (x y z : ℕ)
+    → (begins_erase (erase_bytes unit x y z) ≡ true) × (begins_program (erase_bytes unit x y z) ≡ false)
+    × (begins_status_write (erase_bytes unit x y z) ≡ false)
+one_erase Units.Chip x y z = (refl, refl, refl)
+one_erase Units.Sector x y z = (refl, refl, refl)
+one_erase Units.Block32 x y z = (refl, refl, refl)
+one_erase Units.Block64 x y z = (refl, refl, refl)
+
+no_status_in : (unit : EraseUnit) (x y z one two : ℕ) → writes_status (erase_bytes unit x y z) one two ≡ false
+no_status_in Units.Chip x y z one two = refl
+no_status_in _ x y z one two = refl
 
 pub chip_bytes : (unit : EraseUnit) (opcode x y z : ℕ) → opcode ≡ opcode_of unit → unit ≡ Units.Chip
     → opcode ∷ [] ≡ erase_bytes unit x y z
@@ -110,14 +123,20 @@ module _ (erase : Erase) (x y z : ℕ) (names : 65536 * x + 256 * y + z ≡ 4096
   asked on = rw sent (erase_command old.chip erase.unit erase.sector x y z names on)
 
   bare : drop 4 out ≡ []
-  bare = rw sent (plain erase.unit x y z).0
+  bare = rw sent (plain erase.unit x y z)
+
+  is_erasing : IsPartOf (limits_of out) (erasing (is_sector_named erase) 1)
+  is_erasing = rw sent record {
+    sectors = named erase.unit erase.sector x y z names below;
+    status = λ one two is. sym (no_status_in erase.unit x y z one two) ∙ is;
+    erases = rw (one_erase erase.unit x y z).0 (omega arith);
+    programs = rw (one_erase erase.unit x y z).1 (omega arith);
+    status_writes = rw (one_erase erase.unit x y z).2 (omega arith);
+  }
 
   pub leaves_erase : LeavesOperation out old new → LeavesErase erase old new
   leaves_erase leaves = record {
-    stirs = stirs_more (aims out) (is_sector_named erase) (writes_in out) 0 old new
-        (rw sent (named erase.unit erase.sector x y z names below))
-        (rw sent (omega (arith, (plain erase.unit x y z).1)))
-        leaves.stirs;
+    stirs = stirs_more (limits_of out) (erasing (is_sector_named erase) 1) old new is_erasing leaves.stirs;
     falls = leaves.falls;
     reached = λ honest can. may_erase erase old new (rw bare at (may_taken out _ (takes_erase old.chip erase) old new
         (asked can.on_chip) honest leaves refl (rw (can.idle, can.offered, can.free) refl)));
@@ -127,6 +146,9 @@ module _ (erase : Erase) (x y z : ℕ) (names : 65536 * x + 256 * y + z ≡ 4096
   pub does_erase : (count : ℕ) → Operates out old new count → Erases erase old new count
   does_erase count does = record {
     ends = does.ends;
+    sends =
+        let one = one_erase erase.unit x y z in
+        rw (one.0, one.1, one.2) at (rw sent at does.sends);
     done = λ honest can. has_erased erase old new (rw bare at (has_taken out _ (takes_erase old.chip erase) old new
         (asked can.on_chip) honest does refl (rw (can.idle, can.offered, can.free) refl)));
     ignored = λ honest on takes. has_refused out _ _ old new (asked on) honest does takes;

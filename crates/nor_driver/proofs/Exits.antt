@@ -1,7 +1,8 @@
 -- What an operation leaves wherever it ends: at its write enable or its command, in its wait, or well.
 use Rattle.std.proofs.Common.{◌≡◌, ◌+◌, ◌∙◌, ◌⊎◌, ℕ, true, false, List, [], ◌∷◌, length, drop, take, ap, refl, sym, subst, arith, inl, inr}
+use Rattle.std.proofs.Math.Bool.{or-true}
 use Rattle.nor_chip.specs.declared.command.Command.{Command}
-use Rattle.nor_chip.specs.Sent.{aims}
+use Rattle.nor_chip.specs.Sent.{is_stirred}
 use Rattle.nor_chip.specs.Step.{Does, is_operation, done_of}
 use Rattle.nor_chip.specs.Bus.{BusState, Sends, AtStop, Stops, Carries}
 use Rattle.nor_chip.proofs.Nature.{nature_then}
@@ -9,8 +10,9 @@ use Rattle.nor_driver.specs.declared.waits.Waited.{Waited}
 use Rattle.nor_driver.specs.Looks.{Unchanged, Stays, Falls, Looks}
 use Rattle.nor_driver.specs.Waits.{Waits}
 use Rattle.nor_driver.specs.Reads.{HasRead}
-use Rattle.nor_driver.specs.Operations.{operation_of, AsksForOperation, Stirs, writes_in, most_operation, MayOperate, LeavesOperation, Operates}
-use Rattle.nor_driver.proofs.Aims.{enable_aims, command_aims, still_stirred}
+use Rattle.nor_driver.specs.Limits.{limits_of, Stirs}
+use Rattle.nor_driver.specs.Operations.{operation_of, AsksForOperation, most_operation, MayOperate, LeavesOperation, Operates}
+use Rattle.nor_driver.proofs.Limits.{enable_sends, command_sends, command_exactly, still_stirred, sends_same, exactly_same}
 use Rattle.nor_driver.proofs.Cuts.{stays_after, unchanged_then}
 use Rattle.nor_driver.proofs.Torn.{Wore, StandsStill, still_or_torn, still_stays, reached, reached_stays, none_begun, enable_stays}
 use Rattle.nor_driver.proofs.Readings.{carried_ignored}
@@ -18,18 +20,21 @@ use Rattle.nor_driver.proofs.Begun.{IsEnabled, enabled, then_done, part_done, op
 
 module _ (out : List ℕ) (asks : AsksForOperation out) (old : BusState) where
   -- the command wasn't carried out
-  not_begun : (new : BusState) → Stirs (aims out) (writes_in out) old new
+  not_begun : (new : BusState) → Stirs (limits_of out) old new
       → (old.honest ≡ true → Falls most_operation old new) → (old.honest ≡ true → Stays old new)
       → LeavesOperation out old new
   not_begun new stirs falls stays =
       search (may-before (operation_of old.chip out) (drop 4 out) old new, idle-takes old.chip out asks, stays)
 
+  enabled_stirs : (new : BusState) → Sends (6 ∷ []) old new → is_stirred new.sent ≡ true
+  enabled_stirs new sends = sends.sent.stirred ∙ or-true (is_stirred old.sent)
+
   -- the write enable itself was the last thing sent
   pub leaves-at_enable : (new : BusState) → Sends (6 ∷ []) old new → (old.honest ≡ true → Stops (6 ∷ []) old new)
       → LeavesOperation out old new
   leaves-at_enable new sends stops =
-      let aimed = enable_aims (aims out) (writes_in out) old new sends in
-      not_begun new record { nature = sends.nature; stirred = sends.sent.stirred refl; aims = aimed }
+      let within = enable_sends (limits_of out) old new sends in
+      not_begun new record { nature = sends.nature; stirred = enabled_stirs new sends; sends = within }
       (λ honest. omega (arith, (stops honest).left)) (λ honest. enable_stays old new (stops honest))
 
   module _ (ready : BusState) (first : List ℕ) (none : length first ≡ 0) (sends : Sends (6 ∷ []) old ready)
@@ -41,11 +46,14 @@ module _ (out : List ℕ) (asks : AsksForOperation out) (old : BusState) where
     honest-still honest = sends.nature.honest ∙ honest
 
     -- the command itself was the last thing sent
-    stirs-by : (new : BusState) → Sends out ready new → Stirs (aims out) (writes_in out) old new
+    stirs-by : (new : BusState) → Sends out ready new → Stirs (limits_of out) old new
     stirs-by new sends' =
         let nature = nature_then old ready new sends'.nature sends.nature in
-        let aimed = command_aims out old ready new sends sends' in
-        search (nature, aimed, still_stirred out ready new (sends.sent.stirred refl) sends')
+        record {
+          nature = nature;
+          stirred = still_stirred out ready new (enabled_stirs ready sends) sends';
+          sends = command_sends out old ready new asks.known sends sends';
+        }
 
     -- The bytes that were sent of the command were no operation, or the operation itself.
     module _ (honest : old.honest ≡ true) (new : BusState) where
@@ -111,7 +119,7 @@ module _ (out : List ℕ) (asks : AsksForOperation out) (old : BusState) where
       carried : old.honest ≡ true → Carries out second ready begun
       carried honest = carries' (honest-still honest)
 
-      stirs : Stirs (aims out) (writes_in out) old begun
+      stirs : Stirs (limits_of out) old begun
       stirs = stirs-by begun sends'
 
       has-begun : old.honest ≡ true → is_operation (operation_of old.chip out) ≡ true
@@ -134,7 +142,11 @@ module _ (out : List ℕ) (asks : AsksForOperation out) (old : BusState) where
           let nature = nature_then old begun new looks.nature stirs.nature in
           let looked = λ (honest : old.honest ≡ true). looks.looked (stirs.nature.honest ∙ honest) in
           record {
-            stirs = grind (arith, nature, stirs.aims.aimed);
+            stirs = record {
+              nature = nature;
+              stirred = ap is_stirred looks.sent ∙ stirs.stirred;
+              sends = sends_same (limits_of out) old begun new looks.sent stirs.sends;
+            };
             falls = λ honest. omega (arith, (looked honest).falls, (enabling honest).count, (carried honest).left);
             reached = λ honest is.
                 may-after _ _ old begun new is stirs.nature.steady (has-begun honest is) (looked honest).stays;
@@ -142,12 +154,13 @@ module _ (out : List ℕ) (asks : AsksForOperation out) (old : BusState) where
                 stays_after old begun new stirs.nature.steady (unchanged honest is) (looked honest).stays;
           }
 
-      pub operates-with : (new : BusState) (waited : Waited) → Waits begun new waited
+      pub operates-with : (new : BusState) (waited : Waited) → new.sent ≡ begun.sent → Waits begun new waited
           → Operates out old new (waited.polls + 2)
-      operates-with new waited waits =
+      operates-with new waited same waits =
           let wait = λ (honest : old.honest ≡ true). waits.done (stirs.nature.honest ∙ honest) in
           record {
             ends = grind (arith, waits.some, waits.few, waits.heard, wait, enabling, carried);
+            sends = exactly_same same (command_exactly out old ready begun sends sends');
             done = λ honest is. operated _ _ old begun new waited (has-begun honest is) (wait honest);
             ignored = λ honest is.
                 let same = unchanged_then old begun new (unchanged honest is) (wait honest).rested.unchanged in

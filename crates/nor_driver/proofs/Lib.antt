@@ -1,4 +1,4 @@
-pub mod Aims
+pub mod Limits
 pub mod Asks
 pub mod Cuts
 pub mod LooksInTurn

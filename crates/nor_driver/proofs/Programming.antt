@@ -7,12 +7,12 @@ use Rattle.nor_chip.specs.declared.command.Command.TheVariants.{Program, Ignored
 use Rattle.nor_chip.specs.Chip.{Chip}
 use Rattle.nor_chip.specs.Command.{address_of}
 use Rattle.nor_chip.specs.Step.{is_idle}
-use Rattle.nor_chip.specs.Sent.{aims}
 use Rattle.nor_chip.specs.Bus.{BusState}
 use Rattle.nor_chip.proofs.Page.{byte_after-program}
-use Rattle.nor_driver.specs.Operations.{operation_of, writes_in, IsCommandAt, MayOperate, HasOperated, LeavesOperation, Operates}
+use Rattle.nor_driver.specs.Limits.{limits_of, programming}
+use Rattle.nor_driver.specs.Operations.{operation_of, IsCommandAt, MayOperate, HasOperated, LeavesOperation, Operates}
 use Rattle.nor_driver.specs.Programs.{takes_program, is_sector_of, MayProgram, HasProgrammed, LeavesProgram, Programs}
-use Rattle.nor_driver.proofs.Aims.{stirs_more}
+use Rattle.nor_driver.proofs.Limits.{IsPartOf, stirs_more}
 use Rattle.nor_driver.proofs.Taken.{may_taken, has_taken, may_refused, has_refused}
 
 -- an address below the chip's size is itself
@@ -50,10 +50,18 @@ module _ (at : ℕ) (sent command : List ℕ) (sends : IsCommandAt 0x02 at sent 
   bare : drop 4 command ≡ sent
   bare = rw sends.4 refl
 
+  is_programming : IsPartOf (limits_of command) (programming (is_sector_of at) 1)
+  is_programming = rw sends.4 record {
+    sectors = rw sends.3 (λ s aimed. aimed);
+    status = λ one two is. is;
+    erases = omega arith;
+    programs = omega arith;
+    status_writes = omega arith;
+  }
+
   pub leaves_program : LeavesOperation command old new → LeavesProgram at sent old new
   leaves_program leaves = record {
-    stirs = stirs_more (aims command) (is_sector_of at) (writes_in command) 0 old new
-        (rw (sends.4, sends.3) (λ s aimed. aimed)) (rw sends.4 (omega arith)) leaves.stirs;
+    stirs = stirs_more (limits_of command) (programming (is_sector_of at) 1) old new is_programming leaves.stirs;
     falls = leaves.falls;
     reached = λ honest can. may_program at sent fits old new (rw bare at (may_taken command _
         (takes_program old.chip at) old new (asked (omega (arith, can.inside))) honest leaves refl
@@ -64,6 +72,7 @@ module _ (at : ℕ) (sent command : List ℕ) (sends : IsCommandAt 0x02 at sent 
   pub does_program : (count : ℕ) → Operates command old new count → Programs at sent old new count
   does_program count does = record {
     ends = does.ends;
+    sends = rw sends.4 at does.sends;
     done = λ honest can. has_programmed at sent fits old new (rw bare at (has_taken command _
         (takes_program old.chip at) old new (asked (omega (arith, can.inside))) honest does refl
         (rw (can.idle, can.free) refl)));

@@ -3,6 +3,7 @@ use Rattle.std.proofs.Common.{◌≡◌, ◌<◌, ◌+◌, ◌*◌, ◌/◌, ◌
 use Rattle.std.specs.Prelude.{◌==◌, bit_and, bit_or}
 use Rattle.std.specs.List.{list_all, range_with_len}
 use Rattle.std.proofs.lemmas.Bool.{eqb-true}
+use Rattle.std.proofs.lemmas.Bool.Decides.{nat_tests}
 use Rattle.std.proofs.lemmas.List.Sums.{AllPass-from_list_all}
 use Rattle.std.proofs.lemmas.List.FromFn.{get_or-range_with_len, length-range_with_len}
 use Rattle.std.proofs.lemmas.Nat.{and_assoc, and_mask}
@@ -13,10 +14,11 @@ use Rattle.nor_chip.specs.Chip.{Chip, kept_in}
 use Rattle.nor_chip.specs.Status.{bytes_of, bytes_with_code}
 use Rattle.nor_chip.specs.Step.{is_idle}
 use Rattle.nor_chip.specs.Bus.{BusState}
-use Rattle.nor_chip.specs.Sent.{aims}
+use Rattle.nor_chip.specs.Sent.{aim_none, is_in_aim, writes_status}
+use Rattle.nor_driver.specs.Limits.{limits_of, writing}
 use Rattle.nor_driver.specs.Operations.{operation_of, MayOperate, HasOperated, LeavesOperation, Operates}
-use Rattle.nor_driver.specs.StatusWrites.{fixed_of, with_code, takes_status, MayWriteStatus, HasWrittenStatus, LeavesStatusWrite, WritesStatus}
-use Rattle.nor_driver.proofs.Aims.{stirs_more, in_none}
+use Rattle.nor_driver.specs.StatusWrites.{fixed_of, with_code, has_code, takes_status, MayWriteStatus, HasWrittenStatus, LeavesStatusWrite, WritesStatus}
+use Rattle.nor_driver.proofs.Limits.{IsPartOf, stirs_more, in_none}
 use Rattle.nor_driver.proofs.Taken.{may_taken, has_taken, may_refused, has_refused}
 
 -- what a status write leaves of the kept bits of status 2
@@ -53,6 +55,9 @@ module _ (status : Status) (code : ℕ) (below : code < 64) where
       → operation_of chip (1 ∷ one ∷ two ∷ []) ≡ cond (takes_status chip) (WriteStatus one two) Ignored
   asked chip = rw (and-true (is_idle chip)) refl
 
+  is_code : (a b : ℕ) → writes_status (1 ∷ one ∷ two ∷ []) a b ≡ true → has_code status code a b ≡ true
+  is_code a b is = grind (arith, nat_tests)
+
   module _ (old new : BusState) where
     module _ (fixed : fixed_of old.chip.kept ≡ fixed_of (kept_in (bytes_of status))) where
       -- the kept bits afterwards
@@ -82,10 +87,18 @@ module _ (status : Status) (code : ℕ) (below : code < 64) where
       asked_as : operation_of old.chip out ≡ cond (takes_status old.chip) (WriteStatus one two) Ignored
       asked_as = rw sent (asked old.chip)
 
+      is_writing : IsPartOf (limits_of out) (writing (has_code status code) 1)
+      is_writing = rw sent record {
+        sectors = λ s is. absurd (in_none s is);
+        status = λ a b is. is_code a b is;
+        erases = omega arith;
+        programs = omega arith;
+        status_writes = omega arith;
+      }
+
       pub leaves_status : LeavesOperation out old new → LeavesStatusWrite status code old new
       leaves_status leaves = record {
-        stirs = stirs_more (aims out) (λ _. false) 1 1 old new (λ s is. absurd (in_none s is)) (omega arith)
-            leaves.stirs;
+        stirs = stirs_more (limits_of out) (writing (has_code status code) 1) old new is_writing leaves.stirs;
         falls = leaves.falls;
         reached = λ honest can. may_write can.fixed
             (may_taken out _ (takes_status old.chip) old new asked_as honest leaves refl
@@ -96,6 +109,7 @@ module _ (status : Status) (code : ℕ) (below : code < 64) where
       pub does_status : (count : ℕ) → Operates out old new count → WritesStatus status code old new count
       does_status count does = record {
         ends = does.ends;
+        sends = does.sends;
         done = λ honest can. has_written can.fixed
             (has_taken out _ (takes_status old.chip) old new asked_as honest does refl
             (rw (can.idle, can.open_to) refl));

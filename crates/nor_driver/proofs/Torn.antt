@@ -8,7 +8,7 @@ use Rattle.nor_chip.specs.declared.config.Config.{Config}
 use Rattle.nor_chip.specs.declared.command.Command.{Command}
 use Rattle.nor_chip.specs.declared.command.Command.TheVariants.{WriteEnable, WriteStatus, Program, Erase}
 use Rattle.nor_chip.specs.Chip.{Chip}
-use Rattle.nor_chip.specs.Command.{command_of, begins_change, is_quiet_opcode}
+use Rattle.nor_chip.specs.Command.{command_of, begins_quiet, is_quiet_opcode}
 use Rattle.nor_chip.specs.Power.{PowerLost}
 use Rattle.nor_chip.specs.Step.{Does, is_operation, done_of, wears}
 use Rattle.nor_chip.specs.Bus.{BusState, AtStop, Stops}
@@ -98,13 +98,13 @@ quiet_asks config opcode (x ∷ y ∷ z ∷ []) quiet = grind (arith, nat_tests)
 quiet_asks config opcode (x ∷ y ∷ z ∷ fifth ∷ []) quiet = grind (arith, nat_tests)
 quiet_asks config opcode (x ∷ y ∷ z ∷ fifth ∷ sixth ∷ rest) quiet = grind (arith, nat_tests)
 
-quiet_part : (config : Config) (count : ℕ) (out : List ℕ) → begins_change out ≡ false
+quiet_part : (config : Config) (count : ℕ) (out : List ℕ) → begins_quiet out ≡ true
     → is_quiet (command_of config (take count out) 0) ≡ true
 quiet_part config zero out quiet = refl
 quiet_part config (suc n) [] quiet = refl
 quiet_part config (suc n) (opcode ∷ rest) quiet = quiet_asks config opcode (take n rest) (grind (arith, quiet))
 
-quiet_done : (chip : Chip) (count : ℕ) (out : List ℕ) → begins_change out ≡ false
+quiet_done : (chip : Chip) (count : ℕ) (out : List ℕ) → begins_quiet out ≡ true
     → is_quiet (done_of chip (take count out) 0) ≡ true
 quiet_done chip count out quiet = grind (arith, quiet_part chip.config count out quiet)
 
@@ -120,7 +120,7 @@ latch_then : (mid new : Chip) → (new ≡ mid) ⊎ PowerLost mid new → new.la
 latch_then mid new (inl same) latch = ap (λ (c : Chip). c.latch) (sym same) ∙ latch
 latch_then mid new (inr lost) latch = absurd (true≢false (sym latch ∙ lost.latch))
 
-pub looked_at_stop : (out : List ℕ) (old new : BusState) (most : ℕ) → begins_change out ≡ false
+pub looked_at_stop : (out : List ℕ) (old new : BusState) (most : ℕ) → begins_quiet out ≡ true
     → Stops out old new → LooksHonest most old new
 looked_at_stop out old new most quiet stops = elim (still_or_torn _ old new stops.at_stop) [
   | inl still ↦ grind (arith, still_stays old new still)

@@ -9,7 +9,8 @@ use Rattle.nor_chip.specs.Bus.{BusState}
 use Rattle.nor_driver.specs.declared.units.Erase.{Erase}
 use Rattle.nor_driver.specs.Units.{sectors_in, has_unit, is_aligned, erases_sector}
 use Rattle.nor_driver.specs.Looks.{Stays, Falls}
-use Rattle.nor_driver.specs.Operations.{ChangesOnly, Stirs, EndsWaiting, HasIgnored, most_operation}
+use Rattle.nor_driver.specs.Limits.{erasing, Stirs, SendsExactly}
+use Rattle.nor_driver.specs.Operations.{ChangesOnly, EndsWaiting, HasIgnored, most_operation}
 
 -- how many sectors the chip has
 abbrev pub sectors_of : Chip → ℕ
@@ -67,7 +68,7 @@ pub record HasErased (erase : Erase) (old new : BusState) : Type 0 where
 
 -- What an erase leaves at every exit, by whether the chip can carry it out or ignores it.
 pub record LeavesErase (erase : Erase) (old new : BusState) : Type 0 where
-  pub stirs : Stirs (is_sector_named erase) 0 old new
+  pub stirs : Stirs (erasing (is_sector_named erase) 1) old new
   pub falls : old.honest ≡ true → Falls most_operation old new
   pub reached : old.honest ≡ true → CanErase erase old.chip → MayErase erase old new
   pub ignored : old.honest ≡ true → IsOnChip erase old.chip → takes_erase old.chip erase ≡ false → Stays old new
@@ -75,5 +76,6 @@ pub record LeavesErase (erase : Erase) (old new : BusState) : Type 0 where
 -- What an erase that succeeded leaves, likewise.
 pub record Erases (erase : Erase) (old new : BusState) (sent : ℕ) : Type 0 where
   pub ends : EndsWaiting old new sent
+  pub sends : SendsExactly 1 0 0 old new
   pub done : old.honest ≡ true → CanErase erase old.chip → HasErased erase old new
   pub ignored : old.honest ≡ true → IsOnChip erase old.chip → takes_erase old.chip erase ≡ false → HasIgnored old new

@@ -3,6 +3,7 @@ pub mod Ready
 pub mod Waits
 pub mod Reads
 pub mod Units
+pub mod Limits
 pub mod Operations
 pub mod Programs
 pub mod Erases

@@ -6,10 +6,11 @@ use Rattle.nor_chip.specs.declared.command.Command.TheVariants.{WriteStatus, Pro
 use Rattle.nor_chip.specs.Chip.{Chip, IsSame}
 use Rattle.nor_chip.specs.Power.{is_in_work}
 use Rattle.nor_chip.specs.Command.{command_of}
-use Rattle.nor_chip.specs.Sent.{aims, begins_status_write, is_aimed_at, is_stirred, status_writes_of}
+use Rattle.nor_chip.specs.Sent.{begins_erase, begins_program, begins_status_write, is_strange_to_model}
 use Rattle.nor_chip.specs.Step.{is_idle, is_operation, done_of, byte_after, kept_after, running_after, wears}
-use Rattle.nor_chip.specs.Bus.{BusState, KeepsNature}
+use Rattle.nor_chip.specs.Bus.{BusState}
 use Rattle.nor_driver.specs.Looks.{Stays, Falls}
+use Rattle.nor_driver.specs.Limits.{limits_of, Stirs, SendsExactly}
 
 -- the most transactions of an operation: write enable, its command and 65,536 polls
 abbrev pub most_operation : ℕ
@@ -33,7 +34,9 @@ is_operation_or_none Ignored = true
 is_operation_or_none _ = false
 
 -- These bytes ask no chip for anything except an operation, and each prefix of them asks for the same one, or for none.
+-- The model knows what they are.
 pub record AsksForOperation (out : List ℕ) : Type 0 where
+  pub known : is_strange_to_model out ≡ false
   pub whole : (config : Config) → is_operation_or_none (command_of config out 0) ≡ true
   pub begun : (config : Config) (count : ℕ) → (command_of config (take count out) 0 ≡ Ignored)
       ⊎ (command_of config (take count out) 0 ≡ command_of config out 0)
@@ -42,18 +45,6 @@ pub record AsksForOperation (out : List ℕ) : Type 0 where
 abbrev pub ChangesOnly : Bool → (ℕ → Bool) → (wanted old new : ℕ → ℕ) → Type 0
 ChangesOnly steady places wanted old new =
     (a : ℕ) → (new a ≡ old a) ⊎ ((places a ≡ true) × (steady ≡ true → new a ≡ wanted a))
-
--- On every bus: no sector but these was aimed at, and at most so many status writes were sent.
-pub record AimsWithin (sectors : ℕ → Bool) (most_writes : ℕ) (old new : BusState) : Type 0 where
-  pub aimed : (s : ℕ) → (is_aimed_at new.sent s ≡ is_aimed_at old.sent s) ⊎ (sectors s ≡ true)
-  pub writes : status_writes_of new.sent ≤ status_writes_of old.sent + most_writes
-
--- On every bus, at every exit of an operation: it is stirred, keeps its honesty and its steadiness, and was aimed no
--- further.
-pub record Stirs (sectors : ℕ → Bool) (most_writes : ℕ) (old new : BusState) : Type 0 where
-  pub nature : KeepsNature old new
-  pub stirred : is_stirred new.sent ≡ true
-  pub aims : AimsWithin sectors most_writes old new
 
 -- On an honest bus, an operation that was ignored has ended: nothing changed but the latch, which is set now, unless
 -- the chip was busy with something else that has ended too.
@@ -92,13 +83,9 @@ pub record HasOperated (command : Command) (sent : List ℕ) (old new : BusState
   pub worn : (s : ℕ) → new.worn s ≡ (old.worn s || wears command s)
   pub latch : new.chip.latch ≡ false
 
--- how many status writes a command is
-abbrev pub writes_in : List ℕ → ℕ
-writes_in out = if begins_status_write out then 1 else 0
-
 -- What an operation leaves at every exit.
 pub record LeavesOperation (out : List ℕ) (old new : BusState) : Type 0 where
-  pub stirs : Stirs (aims out) (writes_in out) old new
+  pub stirs : Stirs (limits_of out) old new
   pub falls : old.honest ≡ true → Falls most_operation old new
   pub reached : old.honest ≡ true → is_operation (operation_of old.chip out) ≡ true
       → MayOperate (operation_of old.chip out) (drop 4 out) old new
@@ -107,6 +94,8 @@ pub record LeavesOperation (out : List ℕ) (old new : BusState) : Type 0 where
 -- What an operation that succeeded leaves.
 pub record Operates (out : List ℕ) (old new : BusState) (sent : ℕ) : Type 0 where
   pub ends : EndsWaiting old new sent
+  pub sends : SendsExactly (if begins_erase out then 1 else 0) (if begins_program out then 1 else 0)
+      (if begins_status_write out then 1 else 0) old new
   pub done : old.honest ≡ true → is_operation (operation_of old.chip out) ≡ true
       → HasOperated (operation_of old.chip out) (drop 4 out) old new
   pub ignored : old.honest ≡ true → is_operation (operation_of old.chip out) ≡ false → HasIgnored old new

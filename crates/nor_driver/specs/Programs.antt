@@ -7,7 +7,8 @@ use Rattle.nor_chip.specs.Step.{is_idle}
 use Rattle.nor_chip.specs.Sent.{is_in_aim, aim_unit}
 use Rattle.nor_chip.specs.Bus.{BusState}
 use Rattle.nor_driver.specs.Looks.{Stays, Falls}
-use Rattle.nor_driver.specs.Operations.{ChangesOnly, Stirs, EndsWaiting, HasIgnored, most_operation}
+use Rattle.nor_driver.specs.Limits.{programming, Stirs, SendsExactly}
+use Rattle.nor_driver.specs.Operations.{ChangesOnly, EndsWaiting, HasIgnored, most_operation}
 
 -- The chip is idle, and a part of a page of it free to program.
 pub record CanProgram (at len : ℕ) (chip : Chip) : Type 0 where
@@ -51,7 +52,7 @@ pub record HasProgrammed (at : ℕ) (sent : List ℕ) (old new : BusState) : Typ
 
 -- What a program leaves at every exit, by whether the chip can carry it out or ignores it.
 pub record LeavesProgram (at : ℕ) (sent : List ℕ) (old new : BusState) : Type 0 where
-  pub stirs : Stirs (is_sector_of at) 0 old new
+  pub stirs : Stirs (programming (is_sector_of at) 1) old new
   pub falls : old.honest ≡ true → Falls most_operation old new
   pub reached : old.honest ≡ true → CanProgram at (length sent) old.chip → MayProgram at sent old new
   pub ignored : old.honest ≡ true → at < old.chip.config.size → takes_program old.chip at ≡ false → Stays old new
@@ -59,5 +60,6 @@ pub record LeavesProgram (at : ℕ) (sent : List ℕ) (old new : BusState) : Typ
 -- What a program that succeeded leaves, likewise.
 pub record Programs (at : ℕ) (bytes : List ℕ) (old new : BusState) (sent : ℕ) : Type 0 where
   pub ends : EndsWaiting old new sent
+  pub sends : SendsExactly 0 1 0 old new
   pub done : old.honest ≡ true → CanProgram at (length bytes) old.chip → HasProgrammed at bytes old new
   pub ignored : old.honest ≡ true → at < old.chip.config.size → takes_program old.chip at ≡ false → HasIgnored old new

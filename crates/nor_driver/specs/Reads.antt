@@ -5,7 +5,7 @@ use Rattle.nor_chip.specs.declared.config.Config.{Config}
 use Rattle.nor_chip.specs.declared.command.Command.{Command}
 use Rattle.nor_chip.specs.declared.command.Command.TheVariants.{ReadStatus2, ReadData, ReadId, ReadSfdp, ReadUnique, Ignored}
 use Rattle.nor_chip.specs.Chip.{sfdp_byte}
-use Rattle.nor_chip.specs.Command.{command_of, begins_change}
+use Rattle.nor_chip.specs.Command.{command_of, begins_quiet}
 use Rattle.nor_chip.specs.Step.{done_of, reply_byte}
 use Rattle.nor_chip.specs.Bus.{BusState}
 use Rattle.nor_driver.specs.Looks.{Rested}
@@ -22,7 +22,7 @@ changes_nothing _ = false
 
 -- These bytes ask no chip for anything but a reading.
 pub record IsReading (out : List ℕ) : Type 0 where
-  pub quiet : begins_change out ≡ false
+  pub quiet : begins_quiet out ≡ true
   pub reading : (config : Config) (replies : ℕ) → changes_nothing (command_of config out replies) ≡ true
 
 -- On an honest bus, one transaction read: nothing changed, neither latch nor `busy`.

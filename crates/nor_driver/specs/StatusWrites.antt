@@ -1,5 +1,5 @@
 -- What a status write leaves that sends the fixed bits as they were read, and another protection code.
-use Rattle.std.specs.Prelude.{◌≡◌, ◌≢◌, ◌+◌, ◌*◌, ◌/◌, ◌%◌, ◌&&◌, ◌⊎◌, ℕ, Bool, true, false, not}
+use Rattle.std.specs.Prelude.{◌≡◌, ◌≢◌, ◌+◌, ◌*◌, ◌/◌, ◌%◌, ◌==◌, ◌&&◌, ◌⊎◌, ℕ, Bool, true, false, not}
 use Rattle.nor_chip.specs.declared.running.Running.TheVariants as Runs
 use Rattle.nor_chip.specs.declared.status.Status.{Status}
 use Rattle.nor_chip.specs.Status.{bytes_of}
@@ -7,7 +7,8 @@ use Rattle.nor_chip.specs.Chip.{Chip, KeptBits, is_locked, kept_in}
 use Rattle.nor_chip.specs.Step.{is_idle}
 use Rattle.nor_chip.specs.Bus.{BusState}
 use Rattle.nor_driver.specs.Looks.{Stays, Falls}
-use Rattle.nor_driver.specs.Operations.{Stirs, EndsWaiting, HasIgnored, most_operation}
+use Rattle.nor_driver.specs.Limits.{writing, Stirs, SendsExactly}
+use Rattle.nor_driver.specs.Operations.{EndsWaiting, HasIgnored, most_operation}
 
 -- the fixed bits, all kept ones but those of the protection code: SRP0; SRP1, QE, the reserved bit and the LB bits
 abbrev pub fixed_of : KeptBits → ℕ × ℕ
@@ -16,6 +17,12 @@ fixed_of kept = (kept.one / 32, kept.two % 64)
 -- the same kept bits but for their protection code, which is this one
 abbrev pub with_code : (code : ℕ) → KeptBits → KeptBits
 with_code code kept = record { one = 32 * (kept.one / 32) + code % 32; two = 64 * (code / 32) + kept.two % 64 }
+
+-- these two bytes of a status write are the status that was read with another protection code: the bits that flashnor
+-- never changes as they were read, and BUSY, WEL and SUS clear
+abbrev pub has_code : Status → (code one two : ℕ) → Bool
+has_code status code one two =
+    one == 128 * (status.one.0 / 128) + 4 * (code % 32) && two == status.two.0 % 64 + 64 * (code / 32)
 
 -- The chip is idle, and its status, of these fixed bits, isn't locked.
 pub record CanWriteStatus (status : Status) (chip : Chip) : Type 0 where
@@ -46,7 +53,7 @@ pub record HasWrittenStatus (code : ℕ) (old new : BusState) : Type 0 where
 
 -- What a status write leaves at every exit, by whether the chip can carry it out or ignores it.
 pub record LeavesStatusWrite (status : Status) (code : ℕ) (old new : BusState) : Type 0 where
-  pub stirs : Stirs (λ _. false) 1 old new
+  pub stirs : Stirs (writing (has_code status code) 1) old new
   pub falls : old.honest ≡ true → Falls most_operation old new
   pub reached : old.honest ≡ true → CanWriteStatus status old.chip → MayWriteStatus code old new
   pub ignored : old.honest ≡ true → takes_status old.chip ≡ false → Stays old new
@@ -54,5 +61,6 @@ pub record LeavesStatusWrite (status : Status) (code : ℕ) (old new : BusState)
 -- What a status write that succeeded leaves, likewise.
 pub record WritesStatus (status : Status) (code : ℕ) (old new : BusState) (sent : ℕ) : Type 0 where
   pub ends : EndsWaiting old new sent
+  pub sends : SendsExactly 0 0 1 old new
   pub done : old.honest ≡ true → CanWriteStatus status old.chip → HasWrittenStatus code old new
   pub ignored : old.honest ≡ true → takes_status old.chip ≡ false → HasIgnored old new

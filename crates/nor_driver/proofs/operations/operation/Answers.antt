@@ -26,4 +26,4 @@ pub returns-clause-does : goal.returns-clause-does
 returns-clause-does g c =
     operates-with _ c.requires _ _ _ c.transfer.auto.reply c.transfer.ensures.sends
     c.in_ok-transfer.ensures.carries _ _ c.transfer-2.auto.reply c.transfer-2.ensures.sends
-    c.in_ok-transfer-2.ensures.carries _ _ c.in_ok-waited.ensures.does
+    c.in_ok-transfer-2.ensures.carries _ _ c.wait.ensures.leaves.sent c.in_ok-waited.ensures.does

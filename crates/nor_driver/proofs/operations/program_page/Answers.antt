@@ -11,7 +11,7 @@ sent g c = rw c.deref.ensures.0 c.program_command-command.ensures
 
 pub operation-requires : goal.operation-requires
 operation-requires g c =
-    asks_program c.args.address c.args.bytes.now c.deref.result.now
+    asks_program c.args.address c.args.bytes.now c.deref.result.now c.requires.some
     (rw c.deref.ensures.0 c.program_command-command.ensures)
 
 pub returns-clause-leaves : goal.returns-clause-leaves

@@ -1,0 +1,148 @@
+-- Limits of what is sent, over one transaction after another.
+use Rattle.std.proofs.Common.{◌≡◌, ◌≤◌, ◌<◌, ◌+◌, ◌-◌, ◌^◌, ℕ, Bool, true, false, cond, List, [], ◌∷◌, ap, arith, refl, ◌∙◌}
+use Rattle.std.specs.Prelude.{min}
+use Rattle.std.proofs.lemmas.Bool.Decides.{nat_tests}
+use Rattle.std.proofs.Math.Bool.{or-false}
+use Rattle.nor_chip.specs.Sent.{aim_none, is_in_aim, begins_erase, begins_program, begins_status_write, is_stirred, is_strange_to_model, erases_of, programs_of, status_writes_of, one_more}
+use Rattle.nor_chip.specs.Bus.{BusState, Sends}
+use Rattle.nor_driver.specs.Limits.{Limits, limits_of, SendsWithin, SendsExactly, CountsUp, Stirs}
+
+-- What the first limits allow, the second ones do.
+pub record IsPartOf (less more : Limits) : Type 0 where
+  pub sectors : (s : ℕ) → less.sectors s ≡ true → more.sectors s ≡ true
+  pub status : (one two : ℕ) → less.status one two ≡ true → more.status one two ≡ true
+  pub erases : less.erases ≤ more.erases
+  pub programs : less.programs ≤ more.programs
+  pub status_writes : less.status_writes ≤ more.status_writes
+
+-- What two limits allow together, a third one does.
+pub record AreParts (first second all : Limits) : Type 0 where
+  pub sectors : (s : ℕ) → first.sectors s ≡ true → all.sectors s ≡ true
+  pub sectors' : (s : ℕ) → second.sectors s ≡ true → all.sectors s ≡ true
+  pub status : (one two : ℕ) → first.status one two ≡ true → all.status one two ≡ true
+  pub status' : (one two : ℕ) → second.status one two ≡ true → all.status one two ≡ true
+  pub erases : first.erases + second.erases ≤ all.erases
+  pub programs : first.programs + second.programs ≤ all.programs
+  pub status_writes : first.status_writes + second.status_writes ≤ all.status_writes
+
+pub sends_none : (limits : Limits) (old new : BusState) → new.sent ≡ old.sent → SendsWithin limits old new
+sends_none limits old new same = grind arith
+
+pub sends_more : (less more : Limits) (old new : BusState) → IsPartOf less more → SendsWithin less old new
+    → SendsWithin more old new
+sends_more less more old new part sends = grind (arith, sends.aimed, sends.written, part.sectors, part.status)
+
+pub sends_then : (first second all : Limits) (old mid new : BusState) → AreParts first second all
+    → SendsWithin first old mid → SendsWithin second mid new → SendsWithin all old new
+sends_then first second all old mid new parts before after =
+    grind (arith, before.aimed, after.aimed, before.written, after.written, parts.sectors, parts.sectors', parts.status, parts.status')
+
+-- what follows sent nothing that may modify a chip
+pub sends_same : (limits : Limits) (old mid new : BusState) → new.sent ≡ mid.sent → SendsWithin limits old mid
+    → SendsWithin limits old new
+sends_same limits old mid new same sends = grind (arith, sends.aimed, sends.written)
+
+-- ---- exact numbers
+
+pub exactly_none : (old new : BusState) → new.sent ≡ old.sent → SendsExactly 0 0 0 old new
+exactly_none old new same = grind arith
+
+pub exactly_same : {e p w : ℕ} {old mid new : BusState} → new.sent ≡ mid.sent → SendsExactly e p w old mid
+    → SendsExactly e p w old new
+exactly_same {e} {p} {w} {old} {mid} {new} same exactly = record {
+  erased = λ fits. ap erases_of same ∙ exactly.erased fits;
+  programmed = λ fits. ap programs_of same ∙ exactly.programmed fits;
+  wrote_status = λ fits. ap status_writes_of same ∙ exactly.wrote_status fits;
+}
+
+up_then : (m n all before mid after : ℕ) → m + n ≡ all → CountsUp m before mid → CountsUp n mid after
+    → CountsUp all before after
+up_then m n all before mid after sum first second fits =
+    let reached : mid ≡ before + m = first (omega (arith, sum, fits)) in
+    let ends : after ≡ mid + n = second (omega (arith, sum, fits, reached)) in
+    omega (arith, sum, reached, ends)
+
+pub exactly_then : {e p w e' p' w' e'' p'' w'' : ℕ} {old mid new : BusState} → e + e' ≡ e'' → p + p' ≡ p''
+    → w + w' ≡ w'' → SendsExactly e p w old mid → SendsExactly e' p' w' mid new → SendsExactly e'' p'' w'' old new
+exactly_then erases programs status before after = record {
+  erased = up_then _ _ _ _ _ _ erases before.erased after.erased;
+  programmed = up_then _ _ _ _ _ _ programs before.programmed after.programmed;
+  wrote_status = up_then _ _ _ _ _ _ status before.wrote_status after.wrote_status;
+}
+
+-- ---- one transaction
+
+counts_most : (is : Bool) (before after : ℕ) → after ≡ one_more is before → after ≤ before + cond is 1 0
+counts_most true before after same = grind arith
+counts_most false before after same = omega arith
+
+counts_up : (is : Bool) (before after : ℕ) → after ≡ one_more is before → CountsUp (cond is 1 0) before after
+counts_up true before after same = grind arith
+counts_up false before after same = λ fits. omega arith
+
+pub sends_one : (out : List ℕ) (old new : BusState) → is_strange_to_model out ≡ false → Sends out old new
+    → SendsWithin (limits_of out) old new
+sends_one out old new known sends = record {
+  aimed = grind (arith, sends.sent.aimed, or-false);
+  written = grind (arith, sends.sent.written, or-false);
+  erases = counts_most (begins_erase out) (erases_of old.sent) (erases_of new.sent) sends.sent.erases;
+  programs = counts_most (begins_program out) (programs_of old.sent) (programs_of new.sent) sends.sent.programs;
+  status_writes = counts_most (begins_status_write out) (status_writes_of old.sent) (status_writes_of new.sent)
+      sends.sent.status_writes;
+  strange = grind (arith, or-false, sends.sent.strange);
+}
+
+pub exactly_one : (out : List ℕ) (old new : BusState) → Sends out old new
+    → SendsExactly (limits_of out).erases (limits_of out).programs (limits_of out).status_writes old new
+exactly_one out old new sends = record {
+  erased = counts_up (begins_erase out) (erases_of old.sent) (erases_of new.sent) sends.sent.erases;
+  programmed = counts_up (begins_program out) (programs_of old.sent) (programs_of new.sent) sends.sent.programs;
+  wrote_status = counts_up (begins_status_write out) (status_writes_of old.sent) (status_writes_of new.sent)
+      sends.sent.status_writes;
+}
+
+-- ---- an operation: write enable, which targets nothing, and then a command
+
+pub in_none : (s : ℕ) → is_in_aim aim_none s ≡ true → ⊥
+in_none s is = grind (arith, nat_tests)
+
+enable_part : (limits : Limits) → IsPartOf (limits_of (6 ∷ [])) limits
+enable_part limits = record {
+  sectors = λ s is. absurd (in_none s is);
+  status = λ one two is. grind arith;
+  erases = omega arith;
+  programs = omega arith;
+  status_writes = omega arith;
+}
+
+pub enable_sends : (limits : Limits) (old new : BusState) → Sends (6 ∷ []) old new → SendsWithin limits old new
+enable_sends limits old new sends =
+    sends_more (limits_of (6 ∷ [])) limits old new (enable_part limits) (sends_one (6 ∷ []) old new refl sends)
+
+pub command_sends : (out : List ℕ) (old ready new : BusState) → is_strange_to_model out ≡ false
+    → Sends (6 ∷ []) old ready → Sends out ready new → SendsWithin (limits_of out) old new
+command_sends out old ready new known enables sends =
+    sends_then (limits_of (6 ∷ [])) (limits_of out) (limits_of out) old ready new (record {
+      sectors = (enable_part (limits_of out)).sectors;
+      sectors' = λ s is. is;
+      status = (enable_part (limits_of out)).status;
+      status' = λ one two is. is;
+      erases = omega arith;
+      programs = omega arith;
+      status_writes = omega arith;
+    }) (sends_one (6 ∷ []) old ready refl enables) (sends_one out ready new known sends)
+
+pub command_exactly : (out : List ℕ) (old ready new : BusState) → Sends (6 ∷ []) old ready → Sends out ready new
+    → SendsExactly (limits_of out).erases (limits_of out).programs (limits_of out).status_writes old new
+command_exactly out old ready new enables sends =
+    exactly_then (omega arith) (omega arith) (omega arith) (exactly_one (6 ∷ []) old ready enables)
+    (exactly_one out ready new sends)
+
+-- a modifying opcode that was sent stays noted
+pub still_stirred : (out : List ℕ) (old new : BusState) → is_stirred old.sent ≡ true → Sends out old new
+    → is_stirred new.sent ≡ true
+still_stirred out old new is sends = grind (arith, sends.sent.stirred)
+
+pub stirs_more : (less more : Limits) (old new : BusState) → IsPartOf less more → Stirs less old new
+    → Stirs more old new
+stirs_more less more old new part stirs = search (sends_more less more old new part)
