@@ -1,16 +1,19 @@
 -- What applying changes leaves at each exit, how many transactions it takes, and what it comes to at its end.
 use Rattle.std.proofs.Common.{ℕ, zero, suc, ◌≡◌, ◌<◌, ◌≤◌, ◌+◌, ◌*◌, ◌/◌, ◌∙◌, Bool, true, false, refl, sym, ap, arith, true≢false}
-use Rattle.std.specs.Prelude.{◌||◌, if◌then◌else◌}
-use Rattle.std.proofs.lemmas.Bool.{or_right}
+use Rattle.std.specs.Prelude.{◌&&◌, ◌||◌, length, if◌then◌else◌}
+use Rattle.std.proofs.lemmas.Bool.{or_left, or_right}
 use Rattle.nor_count.specs.Below.{count_below}
 use Rattle.nor_count.specs.Counts.{sector_count}
 use Rattle.nor_count.proofs.Counting.{count_below-most}
 use Rattle.nor_chip.specs.Bus.{BusState}
 use Rattle.nor_driver.specs.declared.waits.Halt.{Halt}
 use Rattle.nor_driver.specs.Waits.{Halts}
-use Rattle.nor_driver.specs.Operations.{AimsWithin, most_operation}
-use Rattle.nor_driver.proofs.Aims.{aims_more}
+use Rattle.nor_driver.specs.StatusWrites.{has_code}
+use Rattle.nor_driver.specs.Limits.{Limits, erasing, programming, writing, SendsWithin, SendsExactly}
+use Rattle.nor_driver.specs.Operations.{most_operation}
+use Rattle.nor_driver.proofs.Limits.{IsPartOf, AreParts, IsSum, sum_parts, sends_more, sends_exactly}
 use Rattle.nor_plan.specs.Content.{once_erased, is_programmed}
+use Rattle.nor_plan.specs.Planned.{planned}
 use Rattle.nor_plan.specs.SectorSet.{none}
 use Rattle.nor_apply.specs.declared.changes.Changes.{Changes}
 use Rattle.nor_apply.specs.declared.changes.Work.{Work}
@@ -21,8 +24,8 @@ use Rattle.nor_apply.specs.Spending.{Spends, Tallies, may_aim_at, NamesTimeoutIn
 use Rattle.nor_apply.specs.Protecting.{LeavesCode, DoesCode, HaltsWriting}
 use Rattle.nor_apply.specs.Erasing.{LeavesErases, DoesErases}
 use Rattle.nor_apply.specs.Programming.{LeavesPrograms, DoesPrograms, most_sector}
-use Rattle.nor_apply.specs.Applying.{touched_in, raised_in, writes_code, status_writes, most_applied, CanApply, LeavesApply, DoesApply, NamesChange}
-use Rattle.nor_apply.proofs.InTurn.{Ran, ran_none, ran_after, aims_after, spends_ended, spends_after, halts_after}
+use Rattle.nor_apply.specs.Applying.{touched_in, raised_in, writes_code, status_writes, is_status_asked, sending, most_sent, most_applied, CanApply, LeavesApply, DoesApply, NamesChange}
+use Rattle.nor_apply.proofs.InTurn.{Ran, ran_none, ran_after, sends_after, spends_ended, spends_after, halts_after}
 use Rattle.nor_apply.proofs.Aiming.{aim_here, aim_wider}
 use Rattle.nor_apply.proofs.Changing.{change_as, change_then, same_change}
 use Rattle.nor_apply.proofs.ApplyingSteps.{code_read, code_once, Stands, stands_first, stands_changed, code_change, stands_code, can_erase_all, can_program_all, applied}
@@ -45,22 +48,39 @@ raised_few changes inside = count_below-fewer 4096 (raised_in changes) (touched_
 pub write_most : (b : Bool) → (if b then most_operation else 0) ≤ most_operation
 write_most b = grind arith
 
+-- ---- limits
+
+-- those of a status write that is sent only if it is needed
+abbrev pub code_limits : Changes → (needed : Bool) → (code : ℕ) → Limits
+code_limits changes needed code =
+    writing (λ one two. needed && has_code changes.status code one two) (if needed then 1 else 0)
+
 -- ---- a part of the changes, after others
 
--- The changes have come so far, to these bytes, worn sectors and this code, by so many status writes and readings and
--- no more transactions than were to be spent.
-pub record SoFar (changes : Changes) (wanted bytes : ℕ → ℕ) (worn : ℕ → Bool) (code writes readings spent : ℕ)
-    (old now : BusState) (tally : Tally) : Type 0 where
-  pub ran : Ran (may_aim_at (touched_in changes) changes.size) writes readings old now tally
+-- How many erases, page programs and status writes were sent.
+pub record Numbers : Type 0 where
+  pub erases : ℕ
+  pub programs : ℕ
+  pub status_writes : ℕ
+
+abbrev pub sending_these : Changes → Numbers → Limits
+sending_these changes n = sending changes n.erases n.programs n.status_writes
+
+-- The changes have come so far, to these bytes, worn sectors and this code, with these numbers of operations and
+-- readings and no more transactions than were to be spent.
+pub record SoFar (changes : Changes) (wanted bytes : ℕ → ℕ) (worn : ℕ → Bool) (code : ℕ) (numbers : Numbers)
+    (readings spent : ℕ) (old now : BusState) (tally : Tally) : Type 0 where
+  pub ran : Ran (sending_these changes numbers) readings old now tally
   pub few : tally.transactions ≤ spent
   pub may : old.honest ≡ true → CanApply changes wanted old.chip
       → MayChange (touched_in changes) (raised_in changes) wanted old now
   pub stands : old.honest ≡ true → CanApply changes wanted old.chip → Stands bytes worn code old now
 
 -- What a part leaves at every exit.
-pub record Leaves (changes : Changes) (wanted : ℕ → ℕ) (most writes : ℕ) (old mid new : BusState) : Type 0 where
+pub record Leaves (changes : Changes) (wanted : ℕ → ℕ) (most : ℕ) (limits : Limits) (old mid new : BusState) : Type 0
+    where
   pub spends : Spends most mid new
-  pub aims : AimsWithin (may_aim_at (touched_in changes) changes.size) writes mid new
+  pub sends : SendsWithin limits mid new
   pub may : old.honest ≡ true → CanApply changes wanted old.chip
       → MayChange (touched_in changes) (raised_in changes) wanted mid new
 
@@ -70,40 +90,42 @@ Halted changes wanted old new halt =
     LeavesApply changes wanted old new × Halts (most_applied (sector_count (touched_in changes))) old new halt
     × NamesChange changes halt
 
-module _ {changes : Changes} {wanted bytes : ℕ → ℕ} {worn : ℕ → Bool} {code writes readings spent : ℕ}
-    {old mid : BusState} {done : Tally}
-    (so : SoFar changes wanted bytes worn code writes readings spent old mid done) where
+module _ {changes : Changes} {wanted bytes : ℕ → ℕ} {worn : ℕ → Bool} {code : ℕ} {numbers : Numbers}
+    {readings spent : ℕ} {old mid : BusState} {done : Tally}
+    (so : SoFar changes wanted bytes worn code numbers readings spent old mid done) where
   now_honest : old.honest ≡ true → mid.honest ≡ true
   now_honest honest = so.ran.nature.honest ∙ honest
 
-  module _ {most n : ℕ} {new : BusState} (leaves : Leaves changes wanted most n old mid new) where
+  module _ {most : ℕ} {limits : Limits} {new : BusState} (leaves : Leaves changes wanted most limits old mid new) where
     may_on : old.honest ≡ true → CanApply changes wanted old.chip
         → MayChange (touched_in changes) (raised_in changes) wanted old new
     may_on honest can = change_then so.ran.nature.steady (so.may honest can) (leaves.may honest can)
 
-    halted : {halt : Halt} → writes + n ≤ status_writes changes
+    halted : {halt : Halt} → AreParts (sending_these changes numbers) limits (most_sent changes)
         → spent + most ≤ most_applied (sector_count (touched_in changes)) → Halts most mid new halt
         → NamesChange changes halt → Halted changes wanted old new halt
-    halted counts fits halts names = (
+    halted parts fits halts names = (
       record {
         spends = spends_after so.ran leaves.spends (omega (arith, so.few));
-        aims = aims_after (λ s is. is) so.ran leaves.aims counts;
+        sends = sends_after so.ran parts leaves.sends;
         reached = may_on;
       },
       halts_after so.ran halts (omega (arith, so.few)),
       names,
     )
 
-    goes_on : {bytes' : ℕ → ℕ} {worn' : ℕ → Bool} {code' k w r most' : ℕ} {more all : Tally} → Tallies k mid new more
-        → writes + n ≤ w → readings + k ≤ r → all.count ≡ done.count + more.count
+    goes_on : {bytes' : ℕ → ℕ} {worn' : ℕ → Bool} {code' k r most' : ℕ} {numbers' : Numbers} {more all : Tally}
+        → Tallies k mid new more
+        → IsSum (sending_these changes numbers) limits (sending_these changes numbers')
+        → SendsExactly limits.erases limits.programs limits.status_writes mid new → readings + k ≤ r → all.count ≡ done.count + more.count
         → all.transactions ≡ done.transactions + more.transactions → all.transactions ≤ most'
         → (old.honest ≡ true → CanApply changes wanted old.chip → Stands bytes' worn' code' old new)
-        → SoFar changes wanted bytes' worn' code' w r most' old new all
-    goes_on {k = k} {more = more} tallies counts reads count transactions few stands =
-        let part : Ran (may_aim_at (touched_in changes) changes.size) n k mid new more =
-        record { nature = leaves.spends.nature; aims = leaves.aims; tallies = tallies } in
+        → SoFar changes wanted bytes' worn' code' numbers' r most' old new all
+    goes_on {k = k} {more = more} tallies sum exactly reads count transactions few stands =
+        let part : Ran limits k mid new more =
+        record { nature = leaves.spends.nature; sends = leaves.sends; exactly = exactly; tallies = tallies } in
         record {
-          ran = ran_after (λ s is. is) so.ran part counts reads count transactions;
+          ran = ran_after so.ran sum part reads count transactions;
           few = few;
           may = may_on;
           stands = stands;
@@ -113,25 +135,27 @@ module _ {changes : Changes} {wanted bytes : ℕ → ℕ} {worn : ℕ → Bool} 
   module _ {needed : Bool} {code' : ℕ} {new : BusState}
       (writable : needed ≡ true → CanApply changes wanted old.chip → is_writable old.chip ≡ true)
       (leaves : LeavesCode changes.status code' needed mid new) where
-    code_leaves : Leaves changes wanted most_operation (if needed then 1 else 0) old mid new
+    code_leaves : Leaves changes wanted most_operation (code_limits changes needed code') old mid new
     code_leaves = record {
       spends = record {
         nature = leaves.spends.nature;
         falls = λ honest. let falls = leaves.spends.falls honest in omega (arith, write_most needed);
       };
-      aims = aims_more _ _ _ _ _ _ (λ s is. absurd (true≢false (sym is))) (omega arith) leaves.aims;
+      sends = leaves.sends;
       may = λ honest can.
           code_change can (λ writes. writable writes can) (so.stands honest can) (now_honest honest) leaves;
     }
 
-    code_written : {sent w most : ℕ} {all : Tally} → DoesCode changes.status code' needed mid new sent
-        → writes + (if needed then 1 else 0) ≤ w → all.count ≡ done.count + (if needed then 1 else 0)
+    code_written : {sent most : ℕ} {numbers' : Numbers} {all : Tally}
+        → DoesCode changes.status code' needed mid new sent
+        → IsSum (sending_these changes numbers) (code_limits changes needed code') (sending_these changes numbers')
+        → all.count ≡ done.count + (if needed then 1 else 0)
         → all.transactions ≡ done.transactions + sent → spent + most_operation ≤ most
-        → SoFar changes wanted bytes worn (if needed then code' else code) w readings most old new all
-    code_written {sent} does counts count transactions fits =
+        → SoFar changes wanted bytes worn (if needed then code' else code) numbers' readings most old new all
+    code_written {sent} does sum count transactions fits =
         let tallies : Tallies 0 mid new (record { count = if needed then 1 else 0; transactions = sent }) =
         grind (arith, does.heard, does.count) in
-        goes_on code_leaves tallies counts (omega arith) count transactions
+        goes_on code_leaves tallies sum does.exactly (omega arith) count transactions
         (omega (arith, so.few, does.few, write_most needed))
         (λ honest can.
         stands_code can (λ writes. writable writes can) (so.stands honest can) (now_honest honest) leaves does)
@@ -148,11 +172,18 @@ names_sectors changes sectors halt inside told = grind (arith, inside)
 
 -- ---- the four parts
 
+-- the numbers of operations after protection was lifted if that is asked, and those with erases and page programs too
+abbrev pub lifting : Changes → Numbers
+lifting changes = record { erases = 0; programs = 0; status_writes = if changes.unlock then 1 else 0 }
+
+abbrev pub and_more : Numbers → (erases programs : ℕ) → Numbers
+and_more n erases programs =
+    record { erases = n.erases + erases; programs = n.programs + programs; status_writes = n.status_writes }
+
 -- Protection was lifted where that was asked.
 abbrev pub Lifted : Changes → (ℕ → ℕ) → (old now : BusState) → Tally → Type 0
 Lifted changes wanted old now tally =
-    SoFar changes wanted old.chip.bytes old.worn (code_once changes) (if changes.unlock then 1 else 0) 0 most_operation
-    old now tally
+    SoFar changes wanted old.chip.bytes old.worn (code_once changes) (lifting changes) 0 most_operation old now tally
 
 pub names_lifting : (changes : Changes) (halt : Halt) → HaltsWriting changes.unlock halt → NamesChange changes halt
 names_lifting changes halt = names_writing changes changes.unlock halt (λ lifts. rw lifts (omega arith))
@@ -161,84 +192,161 @@ pub lifted : (changes : Changes) {old new : BusState} {sent : ℕ} (wanted : ℕ
     → LeavesCode changes.status 0 changes.unlock old new → DoesCode changes.status 0 changes.unlock old new sent
     → Lifted changes wanted old new (record { count = if changes.unlock then 1 else 0; transactions = sent })
 lifted changes {old} wanted leaves does =
-    let nothing : SoFar changes wanted old.chip.bytes old.worn (code_read changes) 0 0 0 old old
+    let nothing : SoFar changes wanted old.chip.bytes old.worn (code_read changes)
+    (record { erases = 0; programs = 0; status_writes = 0 }) 0 0 old old
     (record { count = 0; transactions = 0 }) = record {
-      ran = ran_none old;
+      ran = ran_none old (refl, refl, refl);
       few = omega arith;
       may = λ honest can. same_change (search) can.idle (λ s. refl);
       stands = λ honest can. stands_first can;
     } in
-    code_written nothing (λ lifts can. can.writable (rw lifts refl)) leaves does (omega arith) (omega arith)
-    (omega arith) (omega arith)
+    code_written nothing (λ lifts can. can.writable (rw lifts refl)) leaves does (record {
+      sectors = λ s aimed. aimed;
+      sectors' = λ s aimed. absurd (true≢false (sym aimed));
+      status = λ one two written. written;
+      status' = λ one two written. or_left _ _ written;
+      erases = refl;
+      programs = refl;
+      status_writes = omega arith;
+    }) (omega arith) (omega arith) (omega arith)
 
 -- The raised sectors were erased too.
-abbrev pub Erased : Changes → (ℕ → ℕ) → (old now : BusState) → Tally → Type 0
-Erased changes wanted old now tally =
+abbrev pub Erased : Changes → (ℕ → ℕ) → (erases : ℕ) → (old now : BusState) → Tally → Type 0
+Erased changes wanted erases old now tally =
     SoFar changes wanted (once_erased (raised_in changes) old.chip.bytes) (λ s. old.worn s || raised_in changes s)
-    (code_once changes) (if changes.unlock then 1 else 0) 0 (most_operation * (1 + sector_count (touched_in changes)))
+    (code_once changes) (and_more (lifting changes) erases 0) 0
+    (most_operation * (1 + sector_count (touched_in changes)))
     old now tally
 
 module _ {changes : Changes} {wanted : ℕ → ℕ} {old mid new : BusState} {done : Tally}
     (so : Lifted changes wanted old mid done)
     (inside : (s : ℕ) → raised_in changes s ≡ true → touched_in changes s ≡ true)
     (leaves : LeavesErases (raised_in changes) changes.kinds changes.size mid new) where
-  erase_leaves : Leaves changes wanted (most_operation * sector_count (raised_in changes)) 0 old mid new
+  erase_leaves : Leaves changes wanted (most_operation * sector_count (raised_in changes))
+      (erasing (may_aim_at (raised_in changes) changes.size)
+      (length (planned changes.kinds (changes.size / 4096) (raised_in changes)))) old mid new
   erase_leaves = record {
     spends = leaves.spends;
-    aims = aims_more _ _ _ _ _ _ (λ s aimed. aim_wider _ _ changes.size s inside aimed) (omega arith) leaves.aims;
+    sends = leaves.sends;
     may = λ honest can.
         change_as inside (λ s raised. raised) (λ a plain raised. absurd (true≢false (sym raised ∙ plain)))
         (leaves.reached (now_honest so honest) (can_erase_all can (so.stands honest can)));
   }
 
+  aims_raised : (s : ℕ) → may_aim_at (raised_in changes) changes.size s ≡ true
+      → may_aim_at (touched_in changes) changes.size s ≡ true
+  aims_raised s = aim_wider _ _ changes.size s inside
+
+  erase_parts : AreParts (sending_these changes (lifting changes)) (erasing (may_aim_at (raised_in changes) changes.size)
+      (length (planned changes.kinds (changes.size / 4096) (raised_in changes)))) (most_sent changes)
+  erase_parts = record {
+    sectors = λ s aimed. aimed;
+    sectors' = aims_raised;
+    status = λ one two written. written;
+    status' = λ one two written. absurd (true≢false (sym written));
+    erases = omega arith;
+    programs = omega arith;
+    status_writes = omega arith;
+  }
+
+  erase_sum : (n : ℕ) → IsSum (sending_these changes (lifting changes))
+      (erasing (may_aim_at (raised_in changes) changes.size) n) (sending_these changes (and_more (lifting changes) n 0))
+  erase_sum n = record {
+    sectors = λ s aimed. aimed;
+    sectors' = aims_raised;
+    status = λ one two written. written;
+    status' = λ one two written. absurd (true≢false (sym written));
+    erases = refl;
+    programs = refl;
+    status_writes = omega arith;
+  }
+
   pub erases_halted : {halt : Halt} → Halts (most_operation * sector_count (raised_in changes)) mid new halt
       → NamesTimeoutIn (raised_in changes) halt → Halted changes wanted old new halt
   erases_halted {halt} halts names =
-      halted so erase_leaves (omega arith) (omega (arith, raised_few changes inside)) halts
+      halted so erase_leaves erase_parts (omega (arith, raised_few changes inside)) halts
       (names_sectors changes (raised_in changes) halt inside names)
 
   pub erased : {more : Tally} → DoesErases (raised_in changes) changes.kinds changes.size mid new more
-      → Erased changes wanted old new
+      → Erased changes wanted more.count old new
       (record { count = done.count + more.count; transactions = done.transactions + more.transactions })
-  erased does =
-      goes_on so erase_leaves does.tallies (omega arith) (omega arith) refl refl
+  erased {more} does =
+      let leaves : Leaves changes wanted (most_operation * sector_count (raised_in changes))
+      (erasing (may_aim_at (raised_in changes) changes.size) more.count) old mid new = record {
+        spends = erase_leaves.spends;
+        sends = sends_exactly erase_leaves.sends does.exactly;
+        may = erase_leaves.may;
+      } in
+      goes_on so leaves does.tallies (erase_sum more.count) does.exactly (omega arith) refl refl
       (omega (arith, so.few, does.fewer, does.tallies.few, raised_few changes inside))
       (λ honest can.
       let is = so.stands honest can in stands_changed is (does.done (now_honest so honest) (can_erase_all can is)))
 
 -- The touched ones were programmed too.
-abbrev pub Programmed : Changes → (ℕ → ℕ) → (old now : BusState) → Tally → Type 0
-Programmed changes wanted old now tally =
+abbrev pub Programmed : Changes → (ℕ → ℕ) → (erases programs : ℕ) → (old now : BusState) → Tally → Type 0
+Programmed changes wanted erases programs old now tally =
     SoFar changes wanted
     (λ a. if touched_in changes (a / 4096) then wanted a else once_erased (raised_in changes) old.chip.bytes a)
-    (λ s. (old.worn s || raised_in changes s) || none s) (code_once changes) (if changes.unlock then 1 else 0)
-    (sector_count (touched_in changes))
+    (λ s. (old.worn s || raised_in changes s) || none s) (code_once changes)
+    (and_more (and_more (lifting changes) erases 0) 0 programs) (sector_count (touched_in changes))
     (sector_count (touched_in changes) + most_operation * (1 + 17 * sector_count (touched_in changes))) old now tally
 
-module _ {changes : Changes} {wanted : ℕ → ℕ} {old mid new : BusState} {done : Tally}
-    (so : Erased changes wanted old mid done)
+module _ {changes : Changes} {wanted : ℕ → ℕ} (erases : ℕ) {old mid new : BusState} {done : Tally}
+    (so : Erased changes wanted erases old mid done)
     (leaves : LeavesPrograms (touched_in changes) (raised_in changes) wanted mid new) where
-  program_leaves : Leaves changes wanted (most_sector * sector_count (touched_in changes)) 0 old mid new
+  program_leaves : Leaves changes wanted (most_sector * sector_count (touched_in changes))
+      (programming (touched_in changes) (16 * sector_count (touched_in changes))) old mid new
   program_leaves = record {
     spends = leaves.spends;
-    aims = aims_more _ _ _ _ _ _ (λ s touched. aim_here (touched_in changes) changes.size s touched)
-        (omega arith) leaves.aims;
+    sends = leaves.sends;
     may = λ honest can.
         change_as (λ s touched. touched) (λ s no. absurd (true≢false (sym no))) (λ a plain touched. refl)
         (leaves.reached (now_honest so honest) (can_program_all can (so.stands honest can)));
   }
 
-  pub programs_halted : {halt : Halt} → Halts (most_sector * sector_count (touched_in changes)) mid new halt
+  program_parts : erases ≤ length (planned changes.kinds (changes.size / 4096) (raised_in changes))
+      → AreParts (sending_these changes (and_more (lifting changes) erases 0))
+      (programming (touched_in changes) (16 * sector_count (touched_in changes))) (most_sent changes)
+  program_parts fits = record {
+    sectors = λ s aimed. aimed;
+    sectors' = λ s touched. aim_here (touched_in changes) changes.size s touched;
+    status = λ one two written. written;
+    status' = λ one two written. absurd (true≢false (sym written));
+    erases = omega (arith, fits);
+    programs = omega arith;
+    status_writes = omega arith;
+  }
+
+  program_sum : (n : ℕ) → IsSum (sending_these changes (and_more (lifting changes) erases 0))
+      (programming (touched_in changes) n) (sending_these changes (and_more (and_more (lifting changes) erases 0) 0 n))
+  program_sum n = record {
+    sectors = λ s aimed. aimed;
+    sectors' = λ s touched. aim_here (touched_in changes) changes.size s touched;
+    status = λ one two written. written;
+    status' = λ one two written. absurd (true≢false (sym written));
+    erases = refl;
+    programs = refl;
+    status_writes = omega arith;
+  }
+
+  pub programs_halted : {halt : Halt} → erases ≤ length (planned changes.kinds (changes.size / 4096) (raised_in changes))
+      → Halts (most_sector * sector_count (touched_in changes)) mid new halt
       → NamesTimeoutIn (touched_in changes) halt → Halted changes wanted old new halt
-  programs_halted {halt} halts names =
-      halted so program_leaves (omega arith) (omega arith) halts
+  programs_halted {halt} fits halts names =
+      halted so program_leaves (program_parts fits) (omega arith) halts
       (names_sectors changes (touched_in changes) halt (λ s is. is) names)
 
   pub programmed : {more : Tally} → DoesPrograms (touched_in changes) (raised_in changes) wanted mid new more
-      → Programmed changes wanted old new
+      → Programmed changes wanted erases more.count old new
       (record { count = done.count + more.count; transactions = done.transactions + more.transactions })
-  programmed does =
-      goes_on so program_leaves does.tallies (omega arith) (omega arith) refl refl
+  programmed {more} does =
+      let leaves : Leaves changes wanted (most_sector * sector_count (touched_in changes))
+      (programming (touched_in changes) more.count) old mid new = record {
+        spends = program_leaves.spends;
+        sends = sends_exactly program_leaves.sends does.exactly;
+        may = program_leaves.may;
+      } in
+      goes_on so leaves does.tallies (program_sum more.count) does.exactly (omega arith) refl refl
       (omega (arith, so.few, does.fewer, does.tallies.few))
       (λ honest can.
       let is = so.stands honest can in stands_changed is (does.done (now_honest so honest) (can_program_all can is)))
@@ -258,16 +366,16 @@ pub record Parts (changes : Changes) (wanted : ℕ → ℕ) (old free mid made :
 
 module _ {changes : Changes} {wanted : ℕ → ℕ} {old free mid made : BusState} {sent : ℕ} {erases programs : Tally}
     (parts : Parts changes wanted old free mid made sent erases programs) where
-  second : Erased changes wanted old mid
+  second : Erased changes wanted erases.count old mid
       (record { count = (if changes.unlock then 1 else 0) + erases.count; transactions = sent + erases.transactions })
   second = erased (lifted changes wanted parts.lift_leaves parts.lifts) parts.inside parts.erases_leave parts.erase
 
-  third : Programmed changes wanted old made
+  third : Programmed changes wanted erases.count programs.count old made
       (record {
         count = (if changes.unlock then 1 else 0) + erases.count + programs.count;
         transactions = sent + erases.transactions + programs.transactions;
       })
-  third = programmed second parts.programs_leave parts.program
+  third = programmed erases.count second parts.programs_leave parts.program
 
   -- the sum fits
   pub few_sent : sent + erases.transactions + programs.transactions < 18446744073709486078
@@ -278,10 +386,28 @@ module _ {changes : Changes} {wanted : ℕ → ℕ} {old free mid made : BusStat
     last_writable : needed ≡ true → CanApply changes wanted old.chip → is_writable old.chip ≡ true
     last_writable writes can = can.writable (or_right changes.unlock (writes_code changes) (sym is ∙ writes))
 
+    last_asked : (one two : ℕ) → (needed && has_code changes.status changes.code one two) ≡ true
+        → is_status_asked changes one two ≡ true
+    last_asked one two written =
+        or_right (changes.unlock && has_code changes.status 0 one two)
+        (writes_code changes && has_code changes.status changes.code one two) (rw (sym is) written)
+
+    last_parts : AreParts (sending_these changes (and_more (and_more (lifting changes) erases.count 0) 0 programs.count))
+        (code_limits changes needed changes.code) (most_sent changes)
+    last_parts = record {
+      sectors = λ s aimed. aimed;
+      sectors' = λ s aimed. absurd (true≢false (sym aimed));
+      status = λ one two written. written;
+      status' = last_asked;
+      erases = omega (arith, parts.erase.count);
+      programs = omega (arith, parts.program.fewer);
+      status_writes = rw is (omega arith);
+    }
+
     pub last_halted : {halt : Halt} → Halts most_operation made new halt → HaltsWriting needed halt
         → Halted changes wanted old new halt
     last_halted {halt} halts names =
-        halted third (code_leaves third last_writable leaves) (rw is (omega arith)) (omega arith) halts
+        halted third (code_leaves third last_writable leaves) last_parts (omega arith) halts
         (names_writing changes needed halt (λ writes. rw (sym is ∙ writes) (omega arith)) names)
 
     pub does_applied : {last : ℕ} {work : Work} → DoesCode changes.status changes.code needed made new last
@@ -292,17 +418,37 @@ module _ {changes : Changes} {wanted : ℕ → ℕ} {old free mid made : BusStat
         let all : Tally =
         record { count = work.erases + work.programs + status_writes changes; transactions = work.transactions } in
         let fourth : SoFar changes wanted _ _ (if needed then changes.code else code_once changes)
-        (status_writes changes) (sector_count (touched_in changes)) (most_applied (sector_count (touched_in changes)))
+        (record { erases = work.erases; programs = work.programs; status_writes = status_writes changes })
+        (sector_count (touched_in changes)) (most_applied (sector_count (touched_in changes)))
         old new all =
-        code_written third last_writable leaves does (rw is (omega arith))
+        code_written third last_writable leaves does (record {
+          sectors = λ s aimed. aimed;
+          sectors' = λ s aimed. absurd (true≢false (sym aimed));
+          status = λ one two written. written;
+          status' = last_asked;
+          erases = omega (arith, erase_count);
+          programs = omega (arith, program_count);
+          status_writes = rw is (omega arith);
+        })
         (rw is (omega (arith, erase_count, program_count))) sum (omega arith) in (
-          record { spends = spends_ended fourth.ran fourth.few; aims = fourth.ran.aims; reached = fourth.may },
+          record {
+            spends = spends_ended fourth.ran fourth.few;
+            sends = sends_more _ _ old new (record {
+              sectors = λ s aimed. aimed;
+              status = λ one two written. written;
+              erases = omega (arith, erase_count, parts.erase.count);
+              programs = omega (arith, program_count, parts.program.fewer);
+              status_writes = omega arith;
+            }) fourth.ran.sends;
+            reached = fourth.may;
+          },
           record {
             erases = erase_count ∙ parts.erase.count;
             fewer_erases = omega (arith, erase_count, parts.erase.fewer);
             fewer_programs = omega (arith, program_count, parts.program.fewer);
             few = fourth.ran.tallies.few;
             least = fourth.ran.tallies.least;
+            exactly = fourth.ran.exactly;
             heard = fourth.ran.tallies.heard;
             sent = fourth.ran.tallies.sent;
             still = λ nothing.

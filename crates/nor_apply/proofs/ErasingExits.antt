@@ -15,9 +15,11 @@ use Rattle.nor_driver.specs.declared.units.EraseUnit.{EraseUnit}
 use Rattle.nor_driver.specs.declared.waits.Halt.{Halt}
 use Rattle.nor_driver.specs.Units.{sectors_in, erases_sector}
 use Rattle.nor_driver.specs.Waits.{Halts, NamesTimeout}
+use Rattle.nor_driver.specs.Limits.{erasing}
 use Rattle.nor_driver.specs.Operations.{most_operation}
 use Rattle.nor_driver.specs.StatusWrites.{fixed_of}
 use Rattle.nor_driver.specs.Erases.{sectors_of, is_sector_in_unit, CanErase, MayErase, HasErased, is_sector_named, LeavesErase, Erases}
+use Rattle.nor_driver.proofs.Limits.{AreParts, IsSum}
 use Rattle.nor_plan.specs.Erase.{IsErase, Covers, erased_by}
 use Rattle.nor_plan.specs.Planned.{planned}
 use Rattle.nor_apply.specs.declared.tally.Tally.{Tally}
@@ -93,7 +95,7 @@ pub record ErasesSoFar (kinds : Kinds) (size : ℕ) (set : ℕ → Bool) (units 
   pub below : (s : ℕ) → set s ≡ true → s < size / 4096
   pub covers : Covers kinds (size / 4096) (planned kinds (size / 4096) set) set
   pub few : length (planned kinds (size / 4096) set) ≤ sector_count set
-  pub listed : Listed (planned kinds (size / 4096) set) units left (may_aim_at set size) old new tally
+  pub listed : Listed (planned kinds (size / 4096) set) units left (erasing (may_aim_at set size)) old new tally
   pub still : tally.count ≡ 0 → new.sent ≡ old.sent
   pub done : old.honest ≡ true → CanEraseAll set kinds size old.chip
       → HasMade (places_of (erased_by (size / 4096) units)) blank (erased_by (size / 4096) units) old new
@@ -106,7 +108,7 @@ none_so_far state below same covers few all = record {
   below = below;
   covers = rw (← same) covers;
   few = rw (← same) few;
-  listed = listed_none state (all ∙ same);
+  listed = listed_none state (refl, refl, refl) (all ∙ same);
   still = λ none. refl;
   done = λ honest can. made_none state (λ a. refl) (λ s. refl) can.can.idle;
 }
@@ -129,6 +131,7 @@ module _ {kinds : Kinds} {size : ℕ} {set : ℕ → Bool} {units left : List Er
           count = so.listed.count ∙ ap length all;
           still = so.still;
           fewer = omega (arith, so.few, so.listed.count, ap length all);
+          exactly = so.listed.ran.exactly;
           tallies = so.listed.ran.tallies;
           done = λ honest can. changed_of (made_same (λ a. same (a / 4096)) same (so.done honest can));
         }
@@ -136,7 +139,7 @@ module _ {kinds : Kinds} {size : ℕ} {set : ℕ → Bool} {units left : List Er
     pub leaves_ended : LeavesErases set kinds size old mid
     leaves_ended = record {
       spends = spends_ended so.listed.ran (omega (arith, does_ended.fewer));
-      aims = so.listed.ran.aims;
+      sends = rw (so.listed.count ∙ ap length (come_all so.listed none)) at so.listed.ran.sends;
       reached = λ honest can. made_may (λ a. erased_inside (a / 4096)) erased_inside (so.done honest can);
     }
 
@@ -177,16 +180,43 @@ module _ {kinds : Kinds} {size : ℕ} {set : ℕ → Bool} {units left : List Er
         let some = of_plan.some in
         grind (arith, nat_tests)
 
+    -- one erase more
+    one_more : (n more : ℕ) → more ≡ n + 1
+        → IsSum (erasing (may_aim_at set size) n) (erasing (is_sector_named unit) 1) (erasing (may_aim_at set size) more)
+    one_more n more is = record {
+      sectors = λ s aimed. aimed;
+      sectors' = aims_next;
+      status = λ one two written. written;
+      status' = λ one two written. written;
+      erases = omega (arith, is);
+      programs = refl;
+      status_writes = refl;
+    }
+
+    in_all : AreParts (erasing (may_aim_at set size) tally.count) (erasing (is_sector_named unit) 1)
+        (erasing (may_aim_at set size) (length (planned kinds (size / 4096) set)))
+    in_all =
+        let sum = one_more tally.count (tally.count + 1) refl in
+        record {
+          sectors = sum.sectors;
+          sectors' = sum.sectors';
+          status = sum.status;
+          status' = sum.status';
+          erases = come_fewer so.listed next;
+          programs = omega arith;
+          status_writes = omega arith;
+        }
+
     module _ {new : BusState} (leaves : LeavesErase unit mid new) where
       pub erases_halted : {halt : Halt} → Halts most_operation mid new halt → NamesTimeout (4096 * unit.sector) halt
           → LeavesErases set kinds size old new × Halts (most_operation * sector_count set) old new halt
           × NamesTimeoutIn set halt
       erases_halted {halt} halts names =
-          let exit = listed_halted so.listed next aims_next leaves.stirs (most_operation * sector_count set)
+          let exit = listed_halted so.listed next leaves.stirs (most_operation * sector_count set) in_all
           leaves.falls halts (omega (arith, so.few)) in (
             record {
               spends = exit.0;
-              aims = exit.1;
+              sends = exit.1;
               reached = λ honest can.
                   let has = so.done honest can in
                   change_then so.listed.ran.nature.steady
@@ -210,7 +240,8 @@ module _ {kinds : Kinds} {size : ℕ} {set : ℕ → Bool} {units left : List Er
             below = so.below;
             covers = so.covers;
             few = so.few;
-            listed = listed_more so.listed next aims_next leaves.stirs erases.ends count transactions;
+            listed = listed_more so.listed next leaves.stirs (one_more _ _ count) erases.sends erases.ends count
+                transactions;
             still = λ none. absurd (omega arith);
             done = λ honest can.
                 let has = so.done honest can in

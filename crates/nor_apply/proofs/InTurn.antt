@@ -8,49 +8,68 @@ use Rattle.nor_chip.proofs.Nature.{nature_refl, nature_then}
 use Rattle.nor_driver.specs.declared.waits.Halt.{Halt}
 use Rattle.nor_driver.specs.Looks.{Falls}
 use Rattle.nor_driver.specs.Waits.{Halts}
-use Rattle.nor_driver.specs.Operations.{AimsWithin, Stirs, EndsWaiting, most_operation}
-use Rattle.nor_driver.proofs.Aims.{aims_none, aims_more, aims_then}
+use Rattle.nor_driver.specs.Limits.{Limits, SendsWithin, SendsExactly, Stirs}
+use Rattle.nor_driver.specs.Operations.{EndsWaiting, most_operation}
+use Rattle.nor_driver.proofs.Limits.{IsPartOf, AreParts, IsSum, sum_parts, sends_none, sends_more, sends_then, exactly_none, exactly_then}
 use Rattle.nor_apply.specs.declared.tally.Tally.{Tally}
 use Rattle.nor_apply.specs.Spending.{Spends, Tallies}
 
 -- ---- parts that ran
 
--- A part ran to its end.
-pub record Ran (sectors : ℕ → Bool) (writes readings : ℕ) (old new : BusState) (tally : Tally) : Type 0 where
+-- A part ran to its end. It sent as many erases, page programs and status writes as these limits say.
+pub record Ran (limits : Limits) (readings : ℕ) (old new : BusState) (tally : Tally) : Type 0 where
   pub nature : KeepsNature old new
-  pub aims : AimsWithin sectors writes old new
+  pub sends : SendsWithin limits old new
+  pub exactly : SendsExactly limits.erases limits.programs limits.status_writes old new
   pub tallies : Tallies readings old new tally
 
-pub ran_none : {sectors : ℕ → Bool} {writes readings : ℕ} (state : BusState)
-    → Ran sectors writes readings state state (record { count = 0; transactions = 0 })
-ran_none state = search (nature_refl state, aims_none, arith)
+-- These limits allow no erase, page program or status write.
+abbrev pub AllowsNone : Limits → Type 0
+AllowsNone limits = (limits.erases ≡ 0) × (limits.programs ≡ 0) × (limits.status_writes ≡ 0)
+
+pub ran_none : {limits : Limits} {readings : ℕ} (state : BusState) → AllowsNone limits
+    → Ran limits readings state state (record { count = 0; transactions = 0 })
+ran_none {limits} state none = record {
+  nature = nature_refl state;
+  sends = sends_none limits state state refl;
+  exactly = rw (none.0, none.1, none.2) (exactly_none state state refl);
+  tallies = search arith;
+}
 
 -- one operation
-ran_one : {sectors : ℕ → Bool} {writes sent : ℕ} {old new : BusState} → Stirs sectors writes old new
-    → EndsWaiting old new sent → Ran sectors writes 0 old new (record { count = 1; transactions = sent })
-ran_one stirs ends = search arith
+ran_one : {limits : Limits} {sent : ℕ} {old new : BusState} → Stirs limits old new
+    → SendsExactly limits.erases limits.programs limits.status_writes old new
+    → EndsWaiting old new sent → Ran limits 0 old new (record { count = 1; transactions = sent })
+ran_one stirs exactly ends = record {
+  nature = stirs.nature;
+  sends = stirs.sends;
+  exactly = exactly;
+  tallies = search arith;
+}
 
 -- ---- one after another
 
-module _ {p q : ℕ → Bool} {n m r : ℕ} {old mid new : BusState} {done : Tally}
-    (within : (s : ℕ) → q s ≡ true → p s ≡ true)
-    (ran : Ran p n r old mid done) where
-  pub aims_after : {most : ℕ} → AimsWithin q m mid new → n + m ≤ most → AimsWithin p most old new
-  aims_after aims fits =
-      aims_then p n m _ old mid new fits ran.aims (aims_more q p m m mid new within (omega arith) aims)
+module _ {first : Limits} {r : ℕ} {old mid new : BusState} {done : Tally} (ran : Ran first r old mid done) where
+  pub sends_after : {second most : Limits} → AreParts first second most → SendsWithin second mid new
+      → SendsWithin most old new
+  sends_after {second} {most} parts sends = sends_then first second most old mid new parts ran.sends sends
 
-  pub ran_after : {k writes readings : ℕ} {more all : Tally} → Ran q m k mid new more → n + m ≤ writes
-      → r + k ≤ readings
+  pub ran_after : {second both : Limits} {k readings : ℕ} {more all : Tally} → IsSum first second both
+      → Ran second k mid new more → r + k ≤ readings
       → all.count ≡ done.count + more.count → all.transactions ≡ done.transactions + more.transactions
-      → Ran p writes readings old new all
-  ran_after after writes readings count transactions =
+      → Ran both readings old new all
+  ran_after {second} {both} sum after readings count transactions =
       let nature = nature_then old mid new after.nature ran.nature in
-      let aims = aims_after after.aims writes in
-      grind (arith, nature, aims, ran.nature.honest, ran.tallies.sent, after.tallies.sent)
+      record {
+        nature = nature;
+        sends = sends_after (sum_parts first second both sum) after.sends;
+        exactly = exactly_then sum.erases sum.programs sum.status_writes ran.exactly after.exactly;
+        tallies = grind (arith, ran.nature.honest, ran.tallies.sent, after.tallies.sent);
+      }
 
 -- ---- exits
 
-module _ {p : ℕ → Bool} {n r : ℕ} {old mid : BusState} {done : Tally} (ran : Ran p n r old mid done) where
+module _ {limits : Limits} {r : ℕ} {old mid : BusState} {done : Tally} (ran : Ran limits r old mid done) where
   pub spends_ended : {all : ℕ} → done.transactions ≤ all → Spends all old mid
   spends_ended fits = grind (arith, ran.tallies.sent)
 
@@ -67,23 +86,23 @@ module _ {p : ℕ → Bool} {n r : ℕ} {old mid : BusState} {done : Tally} (ran
 
 -- ---- an operation for each of a list
 
--- So many have run, and those are left.
-pub record Listed {A : Type 0} (all done left : List A) (sectors : ℕ → Bool) (old new : BusState)
+-- These operations have run, and those are left. The limits grow with their number.
+pub record Listed {A : Type 0} (all done left : List A) (limits : ℕ → Limits) (old new : BusState)
     (tally : Tally) : Type 0 where
   pub split : done ++ left ≡ all
-  pub ran : Ran sectors 0 0 old new tally
+  pub ran : Ran (limits tally.count) 0 old new tally
   pub count : tally.count ≡ length done
 
-pub listed_none : {A : Type 0} {all left : List A} {sectors : ℕ → Bool} (state : BusState) → left ≡ all
-    → Listed all [] left sectors state state (record { count = 0; transactions = 0 })
-listed_none state is = record { split = is; ran = ran_none state; count = refl }
+pub listed_none : {A : Type 0} {all left : List A} {limits : ℕ → Limits} (state : BusState) → AllowsNone (limits 0)
+    → left ≡ all → Listed all [] left limits state state (record { count = 0; transactions = 0 })
+listed_none state none is = record { split = is; ran = ran_none state none; count = refl }
 
 all_middle : {X : Type 0} (P : X → Type 0) (xs : List X) (x : X) (rest : List X) → All P (xs ++ x ∷ rest) → P x
 all_middle P [] x rest all = All-head P x rest all
 all_middle P (y ∷ ys) x rest all = all_middle P ys x rest (All-tail P y (ys ++ x ∷ rest) all)
 
-module _ {A : Type 0} {all done left : List A} {p : ℕ → Bool} {old mid : BusState} {tally : Tally}
-    (listed : Listed all done left p old mid tally) where
+module _ {A : Type 0} {all done left : List A} {limits : ℕ → Limits} {old mid : BusState} {tally : Tally}
+    (listed : Listed all done left limits old mid tally) where
   pub come_all : left ≡ [] → done ≡ all
   come_all none = sym (append-nil done) ∙ ap (λ (rest : List A). done ++ rest) (sym none) ∙ listed.split
 
@@ -97,23 +116,25 @@ module _ {A : Type 0} {all done left : List A} {p : ℕ → Bool} {old mid : Bus
     pub come_fewer : tally.count + 1 ≤ length all
     come_fewer = omega (arith, ap length come_before, length-append done (x ∷ rest), listed.count)
 
-    module _ {q : ℕ → Bool} {new : BusState} (within : (s : ℕ) → q s ≡ true → p s ≡ true)
-        (stirs : Stirs q 0 mid new) where
+    module _ {one : Limits} {new : BusState} (stirs : Stirs one mid new) where
       -- the next one halted
-      pub listed_halted : {halt : Halt} (most : ℕ) → (mid.honest ≡ true → Falls most_operation mid new)
+      pub listed_halted : {halt : Halt} (most : ℕ) → AreParts (limits tally.count) one (limits (length all))
+          → (mid.honest ≡ true → Falls most_operation mid new)
           → Halts most_operation mid new halt → most_operation * length all ≤ most
-          → Spends most old new × AimsWithin p 0 old new × Halts most old new halt
-      listed_halted most falls halts fits = (
+          → Spends most old new × SendsWithin (limits (length all)) old new × Halts most old new halt
+      listed_halted most parts falls halts fits = (
         spends_after listed.ran (record { nature = stirs.nature; falls = falls }) (omega (arith, come_fewer)),
-        aims_after within listed.ran stirs.aims (omega arith),
+        sends_after listed.ran parts stirs.sends,
         halts_after listed.ran halts (omega (arith, come_fewer)),
       )
 
       -- it ran too
-      pub listed_more : {sent : ℕ} {more : Tally} → EndsWaiting mid new sent → more.count ≡ tally.count + 1
-          → more.transactions ≡ tally.transactions + sent → Listed all (done ++ x ∷ []) rest p old new more
-      listed_more ends count transactions = record {
+      pub listed_more : {sent : ℕ} {more : Tally} → IsSum (limits tally.count) one (limits more.count)
+          → SendsExactly one.erases one.programs one.status_writes mid new → EndsWaiting mid new sent
+          → more.count ≡ tally.count + 1
+          → more.transactions ≡ tally.transactions + sent → Listed all (done ++ x ∷ []) rest limits old new more
+      listed_more sum exactly ends count transactions = record {
         split = append_assoc done (x ∷ []) rest ∙ come_before;
-        ran = ran_after within listed.ran (ran_one stirs ends) (omega arith) (omega arith) count transactions;
+        ran = ran_after listed.ran sum (ran_one stirs exactly ends) (omega arith) count transactions;
         count = omega (arith, count, listed.count, length_push done x);
       }

@@ -25,7 +25,9 @@ use Rattle.nor_count.proofs.Counting.{any_below-zero, any_below-more, any_below-
 use Rattle.nor_count.proofs.CountedRanges.{count_by-range}
 use Rattle.nor_driver.specs.declared.waits.Halt.{Halt}
 use Rattle.nor_driver.specs.Waits.{Halts, NamesTimeout}
+use Rattle.nor_driver.specs.Limits.{programming}
 use Rattle.nor_driver.specs.Operations.{most_operation}
+use Rattle.nor_driver.proofs.Limits.{IsPartOf, AreParts, IsSum, sends_more}
 use Rattle.nor_plan.specs.Content.{is_other, is_page_other}
 use Rattle.nor_plan.specs.Span.{page_differs, pages_changed, page_count, spans_of}
 use Rattle.nor_apply.specs.declared.tally.Tally.{Tally}
@@ -230,7 +232,7 @@ pub record SpansSoFar (sector : ℕ) (old wanted : List ℕ) (spans left : List 
   pub whole : length old ≡ 4096
   pub wanted_whole : length wanted ≡ 4096
   pub are : AreSpans old wanted (spans_of old wanted)
-  pub listed : Listed (spans_of old wanted) spans left (only sector) first now tally
+  pub listed : Listed (spans_of old wanted) spans left (programming (only sector)) first now tally
   pub done : first.honest ≡ true → CanProgramSpans sector old wanted first.chip
       → HasFilled sector wanted spans first now
 
@@ -241,12 +243,22 @@ spans_none state whole wanted_whole same are all = record {
   whole = whole;
   wanted_whole = wanted_whole;
   are = rw (← same) are;
-  listed = listed_none state (all ∙ same);
+  listed = listed_none state (refl, refl, refl) (all ∙ same);
   done = λ honest can. made_none state (λ a. refl) (λ s. refl) can.can.idle;
 }
 
 module _ {sector : ℕ} {old wanted : List ℕ} {spans left : List PageSpan} {first now : BusState} {tally : Tally}
     (so : SpansSoFar sector old wanted spans left first now tally) where
+  -- no more than sixteen
+  sixteen : (n : ℕ) → n ≤ 16 → IsPartOf (programming (only sector) n) (programming (only sector) 16)
+  sixteen n few = record {
+    sectors = λ s aimed. aimed;
+    status = λ one two written. written;
+    erases = omega arith;
+    programs = few;
+    status_writes = omega arith;
+  }
+
   -- at the end
   module _ (none : left ≡ []) where
     pub does_ended : DoesSpans sector old wanted first now tally
@@ -255,6 +267,7 @@ module _ {sector : ℕ} {old wanted : List ℕ} {spans left : List PageSpan} {fi
         let counted : tally.count ≡ pages_changed old wanted = so.listed.count ∙ ap length all ∙ so.are.count in
         record {
           fewer = omega (arith, pages_most old wanted so.whole);
+          exactly = so.listed.ran.exactly;
           tallies = so.listed.ran.tallies;
           done = λ honest can. filled_all so.whole (rw all so.are) can (so.done honest can);
           counted = λ honest can. counted ∙ pages_other first.chip.bytes sector old wanted so.whole can.shown;
@@ -263,7 +276,7 @@ module _ {sector : ℕ} {old wanted : List ℕ} {spans left : List PageSpan} {fi
     pub leaves_ended : LeavesSpans sector old wanted first now
     leaves_ended = record {
       spends = spends_ended so.listed.ran (omega (arith, does_ended.fewer));
-      aims = so.listed.ran.aims;
+      sends = sends_more _ _ first now (sixteen tally.count does_ended.fewer) so.listed.ran.sends;
       reached = λ honest can. changed_may (does_ended.done honest can);
     }
 
@@ -287,6 +300,35 @@ module _ {sector : ℕ} {old wanted : List ℕ} {spans left : List PageSpan} {fi
         let at = named_in 1 ((4096 * sector + span.first) / 4096) s (omega arith) (omega arith) named in
         only-here (omega arith)
 
+    -- one page program more
+    one_more : (n more : ℕ) → more ≡ n + 1
+        → IsSum (programming (only sector) n) (programming (is_sector_of (4096 * sector + span.first)) 1)
+        (programming (only sector) more)
+    one_more n more is = record {
+      sectors = λ s aimed. aimed;
+      sectors' = aims_next;
+      status = λ one two written. written;
+      status' = λ one two written. written;
+      erases = refl;
+      programs = omega (arith, is);
+      status_writes = refl;
+    }
+
+    in_all : AreParts (programming (only sector) tally.count)
+        (programming (is_sector_of (4096 * sector + span.first)) 1)
+        (programming (only sector) (length (spans_of old wanted)))
+    in_all =
+        let sum = one_more tally.count (tally.count + 1) refl in
+        record {
+          sectors = sum.sectors;
+          sectors' = sum.sectors';
+          status = sum.status;
+          status' = sum.status';
+          erases = omega arith;
+          programs = come_fewer so.listed next;
+          status_writes = omega arith;
+        }
+
     -- a timeout names a place of the sector
     names_place : (halt : Halt) → NamesTimeout (4096 * sector + span.first) halt → NamesTimeoutIn (only sector) halt
     names_place halt told =
@@ -301,11 +343,11 @@ module _ {sector : ℕ} {old wanted : List ℕ} {spans left : List PageSpan} {fi
           × NamesTimeoutIn (only sector) halt
       spans_halted {halt} halts names =
           let few = pages_most old wanted so.whole in
-          let exit = listed_halted so.listed next aims_next leaves.stirs most_pages leaves.falls halts
+          let exit = listed_halted so.listed next leaves.stirs most_pages in_all leaves.falls halts
           (omega (arith, so.are.count, few)) in (
             record {
               spends = exit.0;
-              aims = exit.1;
+              sends = sends_more _ _ first new (sixteen _ (omega (arith, so.are.count, few))) exit.1;
               reached = λ honest can.
                   let filled = so.done honest can in
                   span_may spanned spans can filled so.listed.ran.nature.steady
@@ -323,7 +365,8 @@ module _ {sector : ℕ} {old wanted : List ℕ} {spans left : List PageSpan} {fi
         whole = so.whole;
         wanted_whole = so.wanted_whole;
         are = so.are;
-        listed = listed_more so.listed next aims_next leaves.stirs programs.ends count transactions;
+        listed = listed_more so.listed next leaves.stirs (one_more _ _ count) programs.sends programs.ends count
+            transactions;
         done = λ honest can.
             let filled = so.done honest can in
             let still = so.listed.ran.nature.honest ∙ honest in

@@ -13,7 +13,8 @@ use Rattle.nor_chip.proofs.Sizes.{sized_bounds}
 use Rattle.nor_driver.specs.declared.waits.Halt.{Halt}
 use Rattle.nor_driver.specs.Reads.{IsSectorOf}
 use Rattle.nor_driver.specs.Waits.{Halts}
-use Rattle.nor_driver.proofs.Aims.{aims_none}
+use Rattle.nor_driver.specs.Limits.{programming}
+use Rattle.nor_driver.proofs.Limits.{IsPartOf, AreParts, IsSum, sum_parts, sends_none, sends_more, exactly_none, sends_exactly}
 use Rattle.nor_plan.specs.Content.{is_other, is_page_other, is_programmed}
 use Rattle.nor_plan.specs.SectorSet.{none}
 use Rattle.nor_apply.specs.declared.tally.Tally.{Tally}
@@ -21,7 +22,7 @@ use Rattle.nor_apply.specs.Within.{places_of}
 use Rattle.nor_apply.specs.Change.{only, byte_of}
 use Rattle.nor_apply.specs.Spending.{NamesTimeoutIn}
 use Rattle.nor_apply.specs.Programming.{CanProgramSpans, LeavesSpans, DoesSpans, CanProgramSector, Loads, LeavesSector, DoesSector, CanProgramAll, LeavesPrograms, DoesPrograms, most_sector}
-use Rattle.nor_apply.proofs.InTurn.{Ran, aims_after, ran_after, spends_after, ran_none, spends_ended, halts_after}
+use Rattle.nor_apply.proofs.InTurn.{Ran, sends_after, ran_after, spends_after, ran_none, spends_ended, halts_after}
 use Rattle.nor_apply.proofs.Alone.{only-here, count_below-next, only-is, shown_byte}
 use Rattle.nor_apply.proofs.Changing.{can_after, change_then, change_as, HasMade, made_of, changed_of, made_may, changed_may, made_none, made_same, made_then}
 
@@ -30,11 +31,28 @@ use Rattle.nor_apply.proofs.Changing.{can_after, change_then, change_as, HasMade
 module _ {sector : ℕ} {erased : Bool} {bytes bytes' : List ℕ} {reads : ℕ} {first mid : BusState}
     (loads : Loads sector erased bytes bytes' (Ok reads) first mid) where
   -- at most one transaction was sent
-  loads_ran : Ran (only sector) 0 1 first mid (record { count = 0; transactions = reads })
+  loads_ran : Ran (programming (only sector) 0) 1 first mid (record { count = 0; transactions = reads })
   loads_ran =
       let ends = loads.ends in
-      let aims = aims_none (only sector) 0 first mid loads.looks.sent in
-      grind (arith, loads.looks.nature, aims, ends.reads_once, ends.heard, ends.kept, ends.read)
+      record {
+        nature = loads.looks.nature;
+        sends = sends_none (programming (only sector) 0) first mid loads.looks.sent;
+        exactly = exactly_none first mid loads.looks.sent;
+        tallies = grind (arith, ends.reads_once, ends.heard, ends.kept, ends.read);
+      }
+
+  -- page programs after it
+  then_programs : (n : ℕ)
+      → IsSum (programming (only sector) 0) (programming (only sector) n) (programming (only sector) n)
+  then_programs n = record {
+    sectors = λ s aimed. aimed;
+    sectors' = λ s aimed. aimed;
+    status = λ one two written. written;
+    status' = λ one two written. written;
+    erases = refl;
+    programs = omega arith;
+    status_writes = refl;
+  }
 
   module _ {wanted : List ℕ} (blank : (i : ℕ) → i < 4096 → slice_index bytes i ≡ 255) (honest : first.honest ≡ true)
       (can : CanProgramSector sector wanted erased first.chip) where
@@ -71,7 +89,7 @@ module _ {sector : ℕ} {erased : Bool} {bytes bytes' : List ℕ} {reads : ℕ} 
     pub sector_leaves : LeavesSector sector wanted erased first new
     sector_leaves = record {
       spends = spends_after loads_ran leaves.spends (omega (arith, loads_ran.tallies.few));
-      aims = aims_after (λ s is. is) loads_ran leaves.aims (omega arith);
+      sends = sends_after loads_ran (sum_parts _ _ _ (then_programs 16)) leaves.sends;
       reached = λ honest can.
           change_then loads.looks.nature.steady
           (made_may (λ a no. absurd (true≢false (sym no))) (λ s no. no) (has_loaded blank honest can).0)
@@ -81,12 +99,17 @@ module _ {sector : ℕ} {erased : Bool} {bytes bytes' : List ℕ} {reads : ℕ} 
     pub sector_does : {tally all : Tally} → DoesSpans sector bytes' wanted mid new tally → all.count ≡ tally.count
         → all.transactions ≡ tally.transactions + reads → DoesSector sector wanted erased first new all
     sector_does {tally} {all} does count transactions =
-        let spans : Ran (only sector) 0 0 mid new tally =
-        record { nature = leaves.spends.nature; aims = leaves.aims; tallies = does.tallies } in
-        let ran : Ran (only sector) 0 1 first new all =
-        ran_after (λ s is. is) loads_ran spans (omega arith) (omega arith) (omega arith) (omega arith) in
+        let spans : Ran (programming (only sector) tally.count) 0 mid new tally = record {
+          nature = leaves.spends.nature;
+          sends = sends_exactly leaves.sends does.exactly;
+          exactly = does.exactly;
+          tallies = does.tallies;
+        } in
+        let ran : Ran (programming (only sector) tally.count) 1 first new all =
+        ran_after loads_ran (then_programs tally.count) spans (omega arith) (omega arith) (omega arith) in
         record {
           fewer = omega (arith, does.fewer);
+          exactly = rw count ran.exactly;
           tallies = ran.tallies;
           done = λ honest can.
               changed_of (made_then (λ a. refl) (λ s. refl) (λ a is. refl) (has_loaded blank honest can).0
@@ -114,7 +137,7 @@ before_skip touched n free s = grind (arith, nat_tests)
 -- The touched sectors below a number were programmed, and nothing else was sent.
 pub record SectorsSoFar (touched raised : ℕ → Bool) (wanted : ℕ → ℕ) (n : ℕ) (first now : BusState)
     (tally : Tally) : Type 0 where
-  pub ran : Ran touched 0 (count_below n touched) first now tally
+  pub ran : Ran (programming touched tally.count) (count_below n touched) first now tally
   pub fewer : tally.count ≤ 16 * count_below n touched
   pub still : count_below n touched ≡ 0 → now.sent ≡ first.sent
   pub done : first.honest ≡ true → CanProgramAll touched raised wanted first.chip
@@ -125,7 +148,7 @@ pub record SectorsSoFar (touched raised : ℕ → Bool) (wanted : ℕ → ℕ) (
 pub sectors_none : {touched raised : ℕ → Bool} {wanted : ℕ → ℕ} (state : BusState)
     → SectorsSoFar touched raised wanted 0 state state (record { count = 0; transactions = 0 })
 sectors_none {touched} {wanted = wanted} state = record {
-  ran = ran_none state;
+  ran = ran_none state (refl, refl, refl);
   fewer = omega arith;
   still = λ none. refl;
   done = λ honest can. made_none state (λ a. grind (arith, nat_tests)) (λ s. refl) can.can.idle;
@@ -210,6 +233,33 @@ module _ {touched raised : ℕ → Bool} {wanted : ℕ → ℕ} {n : ℕ} {first
             let able = can_after now.chip only_touched can.can done.config done.kept done.idle in
             grind (arith, still_old, only_touched, wanted_byte, can.blank, can.falls, nat_tests)
 
+      -- one sector more
+      pages_after : (n' more all : ℕ) → all ≡ n' + more
+          → IsSum (programming touched n') (programming (only n) more) (programming touched all)
+      pages_after n' more all is = record {
+        sectors = λ s aimed. aimed;
+        sectors' = only_touched;
+        status = λ one two written. written;
+        status' = λ one two written. written;
+        erases = refl;
+        programs = omega (arith, is);
+        status_writes = refl;
+      }
+
+      in_all : AreParts (programming touched tally.count) (programming (only n) 16)
+          (programming touched (16 * sector_count touched))
+      in_all =
+          let sum = pages_after tally.count 16 (tally.count + 16) refl in
+          record {
+            sectors = sum.sectors;
+            sectors' = sum.sectors';
+            status = sum.status;
+            status' = sum.status';
+            erases = omega arith;
+            programs = omega (arith, so.fewer, room touched n is.below is.is);
+            status_writes = omega arith;
+          }
+
       pub sectors_halted : {halt : Halt} → Halts most_sector now new halt → NamesTimeoutIn (only n) halt
           → LeavesPrograms touched raised wanted first new
           × Halts (most_sector * sector_count touched) first new halt × NamesTimeoutIn touched halt
@@ -218,7 +268,7 @@ module _ {touched raised : ℕ → Bool} {wanted : ℕ → ℕ} {n : ℕ} {first
           omega (arith, so.fewer, room touched n is.below is.is) in (
             record {
               spends = spends_after so.ran leaves.spends fits;
-              aims = aims_after only_touched so.ran leaves.aims (omega arith);
+              sends = sends_after so.ran in_all leaves.sends;
               reached = λ honest can.
                   let may = leaves.reached (so.ran.nature.honest ∙ honest) (can_sector honest can) in
                   change_then so.ran.nature.steady
@@ -235,10 +285,14 @@ module _ {touched raised : ℕ → Bool} {wanted : ℕ → ℕ} {n : ℕ} {first
           → SectorsSoFar touched raised wanted (n + 1) first new all
       sectors_more {more} does count transactions =
           let one = count_below-with n touched is.is in
-          let sector : Ran (only n) 0 1 now new more =
-          record { nature = leaves.spends.nature; aims = leaves.aims; tallies = does.tallies } in
+          let sector : Ran (programming (only n) more.count) 1 now new more = record {
+            nature = leaves.spends.nature;
+            sends = sends_exactly leaves.sends does.exactly;
+            exactly = does.exactly;
+            tallies = does.tallies;
+          } in
           record {
-            ran = ran_after only_touched so.ran sector (omega arith) (omega arith) count transactions;
+            ran = ran_after so.ran (pages_after _ _ _ count) sector (omega arith) count transactions;
             fewer = omega (arith, so.fewer, does.fewer);
             still = λ none. absurd (omega arith);
             done = λ honest can.
@@ -269,6 +323,7 @@ module _ {touched raised : ℕ → Bool} {wanted : ℕ → ℕ} {n : ℕ} {first
       let so = rw end at so_far in
       record {
         fewer = so.fewer;
+        exactly = so.ran.exactly;
         still = so.still;
         tallies = so.ran.tallies;
         done = λ honest can.
@@ -281,9 +336,19 @@ module _ {touched raised : ℕ → Bool} {wanted : ℕ → ℕ} {n : ℕ} {first
         counted = λ honest can. so.counted honest can;
       }
 
+  all_pages : (m : ℕ) → m ≤ 16 * sector_count touched
+      → IsPartOf (programming touched m) (programming touched (16 * sector_count touched))
+  all_pages m few = record {
+    sectors = λ s aimed. aimed;
+    status = λ one two written. written;
+    erases = omega arith;
+    programs = few;
+    status_writes = omega arith;
+  }
+
   pub leaves_ended : LeavesPrograms touched raised wanted first now
   leaves_ended = record {
     spends = spends_ended so_far.ran (omega (arith, does_ended.fewer, does_ended.tallies.few));
-    aims = so_far.ran.aims;
+    sends = sends_more _ _ first now (all_pages tally.count (does_ended.fewer)) so_far.ran.sends;
     reached = λ honest can. changed_may (does_ended.done honest can);
   }

@@ -1,14 +1,15 @@
 -- What the whole of the changes of a session or restore leaves: unlock, erases, programs, the status.
-use Rattle.std.specs.Prelude.{◌≡◌, ◌≤◌, ◌<◌, ◌+◌, ◌*◌, ◌/◌, ◌||◌, ◌⊎◌, ◌==◌, ℕ, Bool, true, false, not, length, bit_and, if◌then◌else◌, ⊤}
+use Rattle.std.specs.Prelude.{◌≡◌, ◌≤◌, ◌<◌, ◌+◌, ◌*◌, ◌/◌, ◌&&◌, ◌||◌, ◌⊎◌, ◌==◌, ℕ, Bool, true, false, not, length, bit_and, if◌then◌else◌, ⊤}
 use Rattle.nor_chip.specs.Status.{bytes_of}
 use Rattle.nor_chip.specs.Chip.{Chip, kept_in}
 use Rattle.nor_chip.specs.Guard.{is_guarded, code_of}
 use Rattle.nor_chip.specs.Bus.{BusState}
 use Rattle.nor_driver.specs.declared.waits.Halt.{Halt}
 use Rattle.nor_driver.specs.declared.waits.Halt.TheVariants.{Stopped, Timeout}
-use Rattle.nor_driver.specs.StatusWrites.{with_code}
+use Rattle.nor_driver.specs.StatusWrites.{has_code, with_code}
 use Rattle.nor_driver.specs.Ready.{StaysReady}
-use Rattle.nor_driver.specs.Operations.{AimsWithin, most_operation}
+use Rattle.nor_driver.specs.Limits.{Limits, SendsWithin, SendsExactly}
+use Rattle.nor_driver.specs.Operations.{most_operation}
 use Rattle.nor_plan.specs.Planned.{planned}
 use Rattle.nor_plan.specs.SectorSet.{has}
 use Rattle.nor_apply.specs.declared.changes.Changes.{Changes}
@@ -35,6 +36,30 @@ writes_code changes = not ((if changes.unlock then 0 else code_of (kept_in (byte
 -- how many status writes there are
 abbrev pub status_writes : Changes → ℕ
 status_writes changes = (if changes.unlock then 1 else 0) + (if writes_code changes then 1 else 0)
+
+-- these two bytes are a status write that the changes ask for: the status that was read, without protection bits where
+-- protection is lifted, or with the wanted ones where these are written at the end
+abbrev pub is_status_asked : Changes → (one two : ℕ) → Bool
+is_status_asked changes one two =
+    (changes.unlock && has_code changes.status 0 one two)
+    || (writes_code changes && has_code changes.status changes.code one two)
+
+-- what the changes may send, with at most these numbers of erases, page programs and status writes
+abbrev pub sending : Changes → (erases programs status_writes : ℕ) → Limits
+sending changes erases programs status_writes = record {
+  sectors = may_aim_at (touched_in changes) changes.size;
+  status = is_status_asked changes;
+  erases = erases;
+  programs = programs;
+  status_writes = status_writes;
+}
+
+-- The most that the changes may send: the fewest erases that clear the raised sectors, sixteen page programs for each
+-- touched sector, and the status writes that are asked for.
+abbrev pub most_sent : Changes → Limits
+most_sent changes =
+    sending changes (length (planned changes.kinds (changes.size / 4096) (raised_in changes)))
+    (16 * sector_count (touched_in changes)) (status_writes changes)
 
 -- The changes can be made: the chip is idle, of this size and these erase kinds, and has the status that was read;
 -- the touched sectors lie inside it, and hold a guarded place only where protection is lifted first; the status is
@@ -67,11 +92,11 @@ pub record HasApplied (changes : Changes) (wanted : ℕ → ℕ) (old new : BusS
 abbrev pub most_applied : ℕ → ℕ
 most_applied touched = touched + most_operation * (17 * touched + 2)
 
--- At every exit; whatever the bus, nothing is aimed beside the touched sectors, and the status is written no more often
--- than is asked.
+-- At every exit. On every bus only touched sectors are targeted, no more is sent than the changes may send, and the
+-- status is written only as the changes ask.
 pub record LeavesApply (changes : Changes) (wanted : ℕ → ℕ) (old new : BusState) : Type 0 where
   pub spends : Spends (most_applied (sector_count (touched_in changes))) old new
-  pub aims : AimsWithin (may_aim_at (touched_in changes) changes.size) (status_writes changes) old new
+  pub sends : SendsWithin (most_sent changes) old new
   pub reached : old.honest ≡ true → CanApply changes wanted old.chip
       → MayChange (touched_in changes) (raised_in changes) wanted old new
 
@@ -83,6 +108,7 @@ pub record DoesApply (changes : Changes) (wanted : ℕ → ℕ) (old new : BusSt
   pub few : work.transactions
       ≤ sector_count (touched_in changes) + most_operation * (work.erases + work.programs + status_writes changes)
   pub least : 3 * (work.erases + work.programs + status_writes changes) ≤ work.transactions
+  pub exactly : SendsExactly work.erases work.programs (status_writes changes) old new
   pub heard : StaysReady old new
   pub sent : old.honest ≡ true → old.left ≡ new.left + work.transactions
   pub still : sector_count (touched_in changes) + status_writes changes ≡ 0 → new.sent ≡ old.sent

@@ -2,7 +2,8 @@
 use Rattle.std.specs.Prelude.{◌≡◌, ◌≤◌, ◌*◌, ◌/◌, ℕ, Bool, true, length}
 use Rattle.nor_chip.specs.Chip.{Chip}
 use Rattle.nor_chip.specs.Bus.{BusState}
-use Rattle.nor_driver.specs.Operations.{AimsWithin, most_operation}
+use Rattle.nor_driver.specs.Limits.{erasing, SendsWithin, SendsExactly}
+use Rattle.nor_driver.specs.Operations.{most_operation}
 use Rattle.nor_chip.specs.declared.config.Kinds.{Kinds}
 use Rattle.nor_plan.specs.Planned.{planned}
 use Rattle.nor_apply.specs.declared.tally.Tally.{Tally}
@@ -15,10 +16,11 @@ pub record CanEraseAll (sectors : ℕ → Bool) (kinds : Kinds) (size : ℕ) (ch
   pub can : CanChange sectors chip
   pub sized : IsSized size kinds chip
 
--- At every exit, on the way to sectors that are all FFh; whatever the bus, no erase is aimed elsewhere.
+-- At every exit, on the way to sectors that are all FFh. On every bus no erase targets another sector, and no more
+-- erases are sent than the planner's list has.
 pub record LeavesErases (sectors : ℕ → Bool) (kinds : Kinds) (size : ℕ) (old new : BusState) : Type 0 where
   pub spends : Spends (most_operation * sector_count sectors) old new
-  pub aims : AimsWithin (may_aim_at sectors size) 0 old new
+  pub sends : SendsWithin (erasing (may_aim_at sectors size) (length (planned kinds (size / 4096) sectors))) old new
   pub reached : old.honest ≡ true → CanEraseAll sectors kinds size old.chip → MayChange sectors sectors blank old new
 
 -- At the end. There were as many erases as the planner's list has, which is the shortest that covers the set; where
@@ -28,5 +30,6 @@ pub record DoesErases (sectors : ℕ → Bool) (kinds : Kinds) (size : ℕ) (old
   pub count : tally.count ≡ length (planned kinds (size / 4096) sectors)
   pub still : tally.count ≡ 0 → new.sent ≡ old.sent
   pub fewer : tally.count ≤ sector_count sectors
+  pub exactly : SendsExactly tally.count 0 0 old new
   pub tallies : Tallies 0 old new tally
   pub done : old.honest ≡ true → CanEraseAll sectors kinds size old.chip → HasChanged sectors blank sectors old new

@@ -5,7 +5,7 @@ use Rattle.nor_chip.specs.Chip.{Chip}
 use Rattle.nor_chip.specs.Bus.{BusState}
 use Rattle.nor_driver.specs.Looks.{Looks, RanOutIfHonest}
 use Rattle.nor_driver.specs.Reads.{IsSectorOf, HasRead}
-use Rattle.nor_driver.specs.Operations.{AimsWithin}
+use Rattle.nor_driver.specs.Limits.{programming, SendsWithin, SendsExactly}
 use Rattle.nor_apply.specs.declared.tally.Tally.{Tally}
 use Rattle.nor_count.specs.Below.{count_below}
 use Rattle.nor_count.specs.Counts.{sector_count}
@@ -32,13 +32,14 @@ pub record CanProgramSpans (sector : ℕ) (old wanted : List ℕ) (chip : Chip) 
 
 pub record LeavesSpans (sector : ℕ) (bytes wanted : List ℕ) (old new : BusState) : Type 0 where
   pub spends : Spends most_pages old new
-  pub aims : AimsWithin (only sector) 0 old new
+  pub sends : SendsWithin (programming (only sector) 16) old new
   pub reached : old.honest ≡ true → CanProgramSpans sector bytes wanted old.chip
       → MayChange (only sector) none (byte_of sector wanted) old new
 
 -- At the end: a program for each page of the sector that isn't as wanted.
 pub record DoesSpans (sector : ℕ) (bytes wanted : List ℕ) (old new : BusState) (tally : Tally) : Type 0 where
   pub fewer : tally.count ≤ 16
+  pub exactly : SendsExactly 0 tally.count 0 old new
   pub tallies : Tallies 0 old new tally
   pub done : old.honest ≡ true → CanProgramSpans sector bytes wanted old.chip
       → HasChanged (only sector) (byte_of sector wanted) none old new
@@ -73,12 +74,13 @@ pub record Loads (sector : ℕ) (erased : Bool) (bytes bytes' : List ℕ) (outco
 
 pub record LeavesSector (sector : ℕ) (wanted : List ℕ) (erased : Bool) (old new : BusState) : Type 0 where
   pub spends : Spends most_sector old new
-  pub aims : AimsWithin (only sector) 0 old new
+  pub sends : SendsWithin (programming (only sector) 16) old new
   pub reached : old.honest ≡ true → CanProgramSector sector wanted erased old.chip
       → MayChange (only sector) none (byte_of sector wanted) old new
 
 pub record DoesSector (sector : ℕ) (wanted : List ℕ) (erased : Bool) (old new : BusState) (tally : Tally) : Type 0 where
   pub fewer : tally.count ≤ 16
+  pub exactly : SendsExactly 0 tally.count 0 old new
   pub tallies : Tallies 1 old new tally
   pub done : old.honest ≡ true → CanProgramSector sector wanted erased old.chip
       → HasChanged (only sector) (byte_of sector wanted) none old new
@@ -93,16 +95,18 @@ pub record CanProgramAll (touched raised : ℕ → Bool) (wanted : ℕ → ℕ) 
   pub blank : (a : ℕ) → touched (a / 4096) ≡ true → raised (a / 4096) ≡ true → chip.bytes a ≡ 255
   pub falls : OnlyFalls touched wanted chip.bytes
 
--- At every exit, on the way to the wanted bytes; whatever the bus, no program is aimed elsewhere.
+-- At every exit, on the way to the wanted bytes. On every bus no page program targets another sector, and there are at
+-- most sixteen for each of these.
 pub record LeavesPrograms (touched raised : ℕ → Bool) (wanted : ℕ → ℕ) (old new : BusState) : Type 0 where
   pub spends : Spends (most_sector * sector_count touched) old new
-  pub aims : AimsWithin touched 0 old new
+  pub sends : SendsWithin (programming touched (16 * sector_count touched)) old new
   pub reached : old.honest ≡ true → CanProgramAll touched raised wanted old.chip → MayChange touched none wanted old new
 
 -- At the end: a program for each page of the touched sectors that wasn't as wanted; nothing changing was sent where no
 -- sector is touched.
 pub record DoesPrograms (touched raised : ℕ → Bool) (wanted : ℕ → ℕ) (old new : BusState) (tally : Tally) : Type 0 where
   pub fewer : tally.count ≤ 16 * sector_count touched
+  pub exactly : SendsExactly 0 tally.count 0 old new
   pub still : sector_count touched ≡ 0 → new.sent ≡ old.sent
   pub tallies : Tallies (sector_count touched) old new tally
   pub done : old.honest ≡ true → CanProgramAll touched raised wanted old.chip → HasChanged touched wanted none old new

@@ -25,6 +25,27 @@ pub record AreParts (first second all : Limits) : Type 0 where
   pub programs : first.programs + second.programs ≤ all.programs
   pub status_writes : first.status_writes + second.status_writes ≤ all.status_writes
 
+-- What two limits allow together, with numbers that are exact.
+pub record IsSum (first second all : Limits) : Type 0 where
+  pub sectors : (s : ℕ) → first.sectors s ≡ true → all.sectors s ≡ true
+  pub sectors' : (s : ℕ) → second.sectors s ≡ true → all.sectors s ≡ true
+  pub status : (one two : ℕ) → first.status one two ≡ true → all.status one two ≡ true
+  pub status' : (one two : ℕ) → second.status one two ≡ true → all.status one two ≡ true
+  pub erases : first.erases + second.erases ≡ all.erases
+  pub programs : first.programs + second.programs ≡ all.programs
+  pub status_writes : first.status_writes + second.status_writes ≡ all.status_writes
+
+pub sum_parts : (first second all : Limits) → IsSum first second all → AreParts first second all
+sum_parts first second all sum = record {
+  sectors = sum.sectors;
+  sectors' = sum.sectors';
+  status = sum.status;
+  status' = sum.status';
+  erases = omega (arith, sum.erases);
+  programs = omega (arith, sum.programs);
+  status_writes = omega (arith, sum.status_writes);
+}
+
 pub sends_none : (limits : Limits) (old new : BusState) → new.sent ≡ old.sent → SendsWithin limits old new
 sends_none limits old new same = grind arith
 
@@ -47,20 +68,26 @@ sends_same limits old mid new same sends = grind (arith, sends.aimed, sends.writ
 pub exactly_none : (old new : BusState) → new.sent ≡ old.sent → SendsExactly 0 0 0 old new
 exactly_none old new same = grind arith
 
+up_same : {n before after after' : ℕ} → after' ≡ after → CountsUp n before after → CountsUp n before after'
+up_same same up = record { most = omega (arith, same, up.most); exact = λ fits. same ∙ up.exact fits }
+
 pub exactly_same : {e p w : ℕ} {old mid new : BusState} → new.sent ≡ mid.sent → SendsExactly e p w old mid
     → SendsExactly e p w old new
 exactly_same {e} {p} {w} {old} {mid} {new} same exactly = record {
-  erased = λ fits. ap erases_of same ∙ exactly.erased fits;
-  programmed = λ fits. ap programs_of same ∙ exactly.programmed fits;
-  wrote_status = λ fits. ap status_writes_of same ∙ exactly.wrote_status fits;
+  erased = up_same (ap erases_of same) exactly.erased;
+  programmed = up_same (ap programs_of same) exactly.programmed;
+  wrote_status = up_same (ap status_writes_of same) exactly.wrote_status;
 }
 
 up_then : (m n all before mid after : ℕ) → m + n ≡ all → CountsUp m before mid → CountsUp n mid after
     → CountsUp all before after
-up_then m n all before mid after sum first second fits =
-    let reached : mid ≡ before + m = first (omega (arith, sum, fits)) in
-    let ends : after ≡ mid + n = second (omega (arith, sum, fits, reached)) in
-    omega (arith, sum, reached, ends)
+up_then m n all before mid after sum first second = record {
+  most = omega (arith, sum, first.most, second.most);
+  exact = λ fits.
+      let reached : mid ≡ before + m = first.exact (omega (arith, sum, fits)) in
+      let ends : after ≡ mid + n = second.exact (omega (arith, sum, fits, reached)) in
+      omega (arith, sum, reached, ends);
+}
 
 pub exactly_then : {e p w e' p' w' e'' p'' w'' : ℕ} {old mid new : BusState} → e + e' ≡ e'' → p + p' ≡ p''
     → w + w' ≡ w'' → SendsExactly e p w old mid → SendsExactly e' p' w' mid new → SendsExactly e'' p'' w'' old new
@@ -68,6 +95,19 @@ exactly_then erases programs status before after = record {
   erased = up_then _ _ _ _ _ _ erases before.erased after.erased;
   programmed = up_then _ _ _ _ _ _ programs before.programmed after.programmed;
   wrote_status = up_then _ _ _ _ _ _ status before.wrote_status after.wrote_status;
+}
+
+-- what was sent within limits is within the exact numbers
+pub sends_exactly : {limits : Limits} {e p w : ℕ} {old new : BusState} → SendsWithin limits old new
+    → SendsExactly e p w old new
+    → SendsWithin (record limits { erases = e; programs = p; status_writes = w }) old new
+sends_exactly sends exactly = record {
+  aimed = sends.aimed;
+  written = sends.written;
+  erases = exactly.erased.most;
+  programs = exactly.programmed.most;
+  status_writes = exactly.wrote_status.most;
+  strange = sends.strange;
 }
 
 -- ---- one transaction
@@ -78,7 +118,7 @@ counts_most false before after same = omega arith
 
 counts_up : (is : Bool) (before after : ℕ) → after ≡ one_more is before → CountsUp (cond is 1 0) before after
 counts_up true before after same = grind arith
-counts_up false before after same = λ fits. omega arith
+counts_up false before after same = omega arith
 
 pub sends_one : (out : List ℕ) (old new : BusState) → is_strange_to_model out ≡ false → Sends out old new
     → SendsWithin (limits_of out) old new

@@ -51,9 +51,10 @@ pub record SendsWithin (limits : Limits) (old new : BusState) : Type 0 where
   pub status_writes : status_writes_of new.sent ≤ status_writes_of old.sent + limits.status_writes
   pub strange : is_strange new.sent ≡ is_strange old.sent
 
--- n more were counted, unless a u64 can't count them
-abbrev pub CountsUp : (n before after : ℕ) → Type 0
-CountsUp n before after = before + n < 2 ^ 64 → after ≡ before + n
+-- n more were counted; a count stays at the greatest u64.
+pub record CountsUp (n before after : ℕ) : Type 0 where
+  pub most : after ≤ before + n
+  pub exact : before + n < 2 ^ 64 → after ≡ before + n
 
 -- These numbers of erases, page programs and status writes were sent.
 pub record SendsExactly (erases programs status_writes : ℕ) (old new : BusState) : Type 0 where
