@@ -58,7 +58,7 @@ journalled_none {bus = bus} {saved = saved} blank = record {
 -- the head alone
 pub with_none : {V : Type 0} {state : V → VaultState} {writer : Writer V} {id : List ℕ} {unique : Option (List ℕ)}
     {status : List ℕ} {size : ℕ} → HasWritten state writer (empty_content id unique status size)
-    → HasBegunWith state writer size 0 none
+    → HasBegunWith state writer (empty_content id unique status size) 0 none
 with_none {id = id} {unique = unique} {status = status} {size = size} written = record {
   begun = record {
     content = empty_content id unique status size;
@@ -121,23 +121,26 @@ module _ {V : Type 0} {state : V → VaultState} {old new : Writer V} {size n : 
   }
 
   -- what that makes of a journal that was begun
-  pub begun_on : HasBegun state old size 0 → HasBegun state new size n
-  begun_on begun =
-      let added = was.added begun.content begun.written begun.same begun.next in
+  pub begun_on : (head : Content) → head.size ≡ size → HasBegun state old head 0 → HasBegun state new head n
+  begun_on head sized begun =
+      let size_now = sym (size_of head begun.content begun.same) ∙ sized in
+      let added = was.added begun.content begun.written size_now begun.next in
       record {
         content = added.content;
         written = added.written;
-        same = sym (size_of begun.content added.content added.same) ∙ begun.same;
+        same = begun.same ∙ added.same;
         next = added.next;
       }
 
-  pub with_on : HasBegunWith state old size 0 none → HasBegunWith state new size n saved
+  pub with_on : (head : Content) → head.size ≡ size → HasBegunWith state old head 0 none
+      → HasBegunWith state new head n saved
   unfolding begun_on
-  with_on held =
+  with_on head sized held =
       let begun = held.begun in
+      let size_now = sym (size_of head begun.content begun.same) ∙ sized in
       record {
-        begun = begun_on begun;
-        saved = (was.added begun.content begun.written begun.same begun.next).set held.saved;
+        begun = begun_on head sized begun;
+        saved = (was.added begun.content begun.written size_now begun.next).set held.saved;
       }
 
   pub kept_on : {head : Content} → IsOpen size bus → head.size ≡ size

@@ -19,7 +19,7 @@ use Rattle.nor_call.specs.declared.request.Request.{Request}
 use Rattle.nor_call.specs.declared.refusal.Refusal.{Refusal}
 use Rattle.nor_call.specs.declared.refusal.Refusal.TheVariants.{StatusLocked, Protected, Vault}
 use Rattle.nor_save.specs.Scanning.{Scans, AreRight, HoldsCut, HasKeptBelow, wanted_at}
-use Rattle.nor_save.specs.Saving.{IsOpening, Shows, head_of}
+use Rattle.nor_save.specs.Saving.{IsOpening, Shows, head_of, kept_read}
 use Rattle.nor_save.specs.Verdict.{IsVerdict}
 use Rattle.nor_save.specs.Judging.{IsScanRefusal, OfTouched}
 use Rattle.nor_save.proofs.Planned.{only_inside, touched_past, raised_past}
@@ -99,10 +99,6 @@ begins_touched : (request : Request) (image bytes : List ℕ) (chip : Chip)
     → BeginsText (head_of chip) chip.bytes (touched_of request image chip) bytes
 begins_touched request image bytes chip =
     subst (λ (set : ℕ → Bool). BeginsText (head_of chip) chip.bytes set bytes) (only_touched request image chip)
-
--- the kept bits of the two status bytes that were read
-abbrev pub kept_read : Opening → List ℕ
-kept_read opening = opening.found.status1 / 4 * 4 ∷ opening.status2 % 128 ∷ []
 
 -- the head with these status bytes
 abbrev pub head_read : Opening → (status : List ℕ) → Content

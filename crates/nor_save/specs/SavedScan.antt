@@ -32,12 +32,12 @@ pub record IsJournal (bytes : List ℕ) : Type 0 where
   pub is : IsContent content
   pub same : bytes ≡ text content
 
--- The bytes are a journal of a chip of this size, and of just these sectors.
-pub record IsJournalOf (size : ℕ) (sectors : ℕ → Bool) (bytes : List ℕ) : Type 0 where
+-- The bytes are a journal with this header, which saves exactly these sectors.
+pub record IsJournalOf (head : Content) (sectors : ℕ → Bool) (bytes : List ℕ) : Type 0 where
   pub content : Content
   pub is : IsContent content
   pub same : bytes ≡ text content
-  pub sized : content.size ≡ size
+  pub head_same : SameHead head content
   pub saved : (s : ℕ) → is_saved content s ≡ sectors s
 
 -- once it is sealed a telling vault has a journal, whatever the bus

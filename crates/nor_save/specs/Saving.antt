@@ -1,5 +1,5 @@
 -- What an opening shows of a chip, what a request asks of it, and what a session saves.
-use Rattle.std.specs.Prelude.{◌≡◌, ◌≢◌, ◌<◌, ◌*◌, ◌/◌, ◌&&◌, ℕ, Bool, true, false, Some, [], ◌∷◌}
+use Rattle.std.specs.Prelude.{◌≡◌, ◌≢◌, ◌<◌, ◌*◌, ◌/◌, ◌&&◌, ℕ, Bool, true, false, Some, [], ◌∷◌, ◌%◌, List}
 use Rattle.nor_chip.specs.Chip.{Chip, IsSame}
 use Rattle.nor_chip.specs.Bus.{BusState}
 use Rattle.nor_chip.specs.Guard.{code_of, is_unit_guarded}
@@ -57,6 +57,16 @@ NeedsStatus (WpRange start len) unlock code touched chip = code ≢ code_of chip
 NeedsStatus _ unlock code touched chip = (unlock ≡ true) × SomeHeld touched chip
 
 -- ---- what is saved
+
+-- the non-volatile bits of the two status bytes that the identification read
+abbrev pub kept_read : Opening → List ℕ
+kept_read opening = (opening.found.status1 / 4 * 4) ∷ (opening.status2 % 128) ∷ []
+
+-- the header of the journal that is written after this identification: ID, unique ID, non-volatile status bits and size,
+-- as they were read
+abbrev pub head_found : Opening → Content
+head_found opening =
+    empty_content opening.found.id (Some opening.unique) (kept_read opening) opening.found.size
 
 -- the head of a chip's journal: ID, own number, kept bits, size
 abbrev pub head_of : Chip → Content

@@ -3,7 +3,7 @@ use Rattle.std.specs.Prelude.{◌≡◌, ◌≢◌, ◌<◌, ◌≤◌, ◌+◌,
 use Rattle.nor_chip.specs.Bus.{BusState}
 use Rattle.nor_driver.specs.Looks.{Rested, RanOutIfHonest, IsOpen}
 use Rattle.nor_journal.specs.declared.writer.Writer.{Writer}
-use Rattle.nor_journal.specs.Text.{Content, next_number}
+use Rattle.nor_journal.specs.Text.{Content, SameHead, next_number}
 use Rattle.nor_journal.specs.Saved.{is_saved, BeginsText}
 use Rattle.nor_journal.specs.Vault.{VaultState, Refused, Accepted}
 use Rattle.nor_journal.specs.Writer.{HasWritten, HasPutSectors}
@@ -90,17 +90,17 @@ abbrev pub ScanPuts : {T : Type 0} → Result T Refusal → (old new : VaultStat
 ScanPuts (Err Vault) old new = Refused old new
 ScanPuts _ old new = Accepted old new
 
--- Whatever the bus: the head of a journal of a chip of this size went in, and records of sectors below n.
-pub record HasBegun {V : Type 0} (state : V → VaultState) (writer : Writer V) (size n : ℕ) : Type 0 where
+-- On every bus, this header of a journal was written, and records of sectors below n.
+pub record HasBegun {V : Type 0} (state : V → VaultState) (writer : Writer V) (head : Content) (n : ℕ) : Type 0 where
   pub content : Content
   pub written : HasWritten state writer content
-  pub same : content.size ≡ size
+  pub same : SameHead head content
   pub next : next_number content ≤ n
 
 -- And the records are those of just these sectors.
-pub record HasBegunWith {V : Type 0} (state : V → VaultState) (writer : Writer V) (size n : ℕ)
+pub record HasBegunWith {V : Type 0} (state : V → VaultState) (writer : Writer V) (head : Content) (n : ℕ)
     (sectors : ℕ → Bool) : Type 0 where
-  pub begun : HasBegun state writer size n
+  pub begun : HasBegun state writer head n
   pub saved : (s : ℕ) → is_saved begun.content s ≡ sectors s
 
 -- this holds, unless the vault refused

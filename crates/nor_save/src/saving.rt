@@ -5,6 +5,7 @@ ghost use Rattle.nor_driver.specs.Looks.{Looks};
 ghost use Rattle.nor_journal.specs.Vault.{IsFresh};
 ghost use Rattle.nor_plan.specs.SectorSet.{has};
 ghost use Rattle.nor_call.specs.Request.{scanned_sectors, is_data};
+ghost use Rattle.nor_save.specs.Saving.{head_found};
 ghost use Rattle.nor_save.specs.SavedScan.{HasSaved, SaveTells, SavePuts, HoldsJournal, IsJournalOf, SaveBegins, SaveCuts};
 
 use crate::judging::judge_scan;
@@ -38,7 +39,7 @@ pub fn save<B: Bus, V: Vault>(
     ensures puts { SavePuts result (V.state vault.old) (V.state vault.new) }
     ensures holds { HoldsJournal (V.state vault.new) }
     ensures saves { IfOk result (λ saved. (V.state vault.new).telling ≡ true
-        → IsJournalOf opening.now.found.size (has saved.scanned.touched) (V.state vault.new).bytes) }
+        → IsJournalOf (head_found opening.now) (has saved.scanned.touched) (V.state vault.new).bytes) }
     ensures keeps { IfOk result
         (HasSaved request.now opening.now code image.old image.new
         (B.state bus.old) (B.state bus.new) (V.state vault.new)) }

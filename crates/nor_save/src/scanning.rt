@@ -116,10 +116,10 @@ pub fn scan_all<B: Bus, V: Vault>(
         → OnErr result (HoldsCut (vault_seen V.state writer.new) head (B.state bus.old).chip.bytes
         (is_touched (B.state bus.old).chip.bytes
         (wanted_at request.now image.old size (B.state bus.old).chip.bytes)) (size / 4096)) }
-    ensures writes { HasBegun V.state writer.old size 0
-        → UnlessVault result (HasBegun V.state writer.new size (size / 4096)) }
-    ensures saves { HasBegunWith V.state writer.old size 0 none
-        → IfOk result (λ scanned. HasBegunWith V.state writer.new size (size / 4096) (has scanned.touched)) }
+    ensures writes { (head : Content) → head.size ≡ size → HasBegun V.state writer.old head 0
+        → UnlessVault result (HasBegun V.state writer.new head (size / 4096)) }
+    ensures saves { (head : Content) → head.size ≡ size → HasBegunWith V.state writer.old head 0 none
+        → IfOk result (λ scanned. HasBegunWith V.state writer.new head (size / 4096) (has scanned.touched)) }
 {
     let mut scanned = Scanned::none();
     let mut bytes = [0; SECTOR_LEN as usize];

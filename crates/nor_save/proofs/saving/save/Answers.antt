@@ -1,8 +1,8 @@
 use Rattle.std.proofs.Common.{◌≡◌, refl, rules, arith}
 use Rattle.std.proofs.lemmas.Grind.{common_steps}
 use Rattle.nor_journal.specs.Writer.{vault_seen}
-use Rattle.nor_save.specs.Saving.{head_of}
-use Rattle.nor_save.proofs.Cuts.{same_bytes, is_open, touched_right, raised_right, kept_read, head_put, judged_tells}
+use Rattle.nor_save.specs.Saving.{head_of, kept_read}
+use Rattle.nor_save.proofs.Cuts.{same_bytes, is_open, touched_right, raised_right, head_put, judged_tells}
 use Rattle.nor_save.proofs.Cuts.{cut_in_head, cut_in_scan, begins_scan, all_put, cut_at_end, begins_all}
 use Rattle.nor_save.proofs.Begun.{with_none, is_err}
 use Rattle.nor_save.proofs.saving.save.Goals as goal
@@ -36,21 +36,22 @@ returns-clause-keeps g c =
 pub returns-clause-holds : goal.returns-clause-holds
 returns-clause-holds g c = λ sealed telling.
     let head = with_none (c.in_ok-header.ensures.written c.on-writer.ensures.nothing) in
-    let begun = c.in_ok-scanned.ensures.writes head.begun in
+    let begun = c.in_ok-scanned.ensures.writes _ refl head.begun in
     let done = c.in_ok-end.ensures.written begun.content begun.written in
     record { content = begun.content; is = begun.written.is; same = search rules }
 
 pub returns-clause-saves : goal.returns-clause-saves
 returns-clause-saves g c = λ telling.
-    let held = c.in_ok-scanned.ensures.saves
-    (with_none (c.in_ok-header.ensures.written c.on-writer.ensures.nothing)) in
+    let read : c.bytes.result ≡ kept_read c.args.opening.now = grind (arith, common_steps) in
+    let held = c.in_ok-scanned.ensures.saves _ refl
+    (with_none (rw read at (c.in_ok-header.ensures.written c.on-writer.ensures.nothing))) in
     let begun = held.begun in
     let done = c.in_ok-end.ensures.written begun.content begun.written in
     record {
       content = begun.content;
       is = begun.written.is;
       same = search rules;
-      sized = begun.same;
+      head_same = begun.same;
       saved = held.saved;
     }
 

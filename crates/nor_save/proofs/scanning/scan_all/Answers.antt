@@ -88,8 +88,9 @@ returns-in_err-plan g c =
           kept_below (here.scanned.right is_open) (kept_on here.journal is_open sized kept) (omega arith);
       cut = λ is_open head sized kept. cut_between c.args.size sized
           (kept_below (here.scanned.right is_open) (kept_on here.journal is_open sized kept) (omega arith));
-      writes = λ begun other. begun_on (journalled_later here.journal (omega arith) (λ s. refl)) begun;
-      saves = λ held. tt;
+      writes = λ head sized begun other.
+          begun_on (journalled_later here.journal (omega arith) (λ s. refl)) head sized begun;
+      saves = λ head sized held. tt;
     })
 
 pub returns-in_err-add : goal.returns-in_err-add
@@ -114,8 +115,8 @@ returns-in_err-add g c =
           (sym (planned_before here.scanned at scans (omega arith) is_open).0 ∙ c.if-plan.true)
           (read_before here.scanned at scans (omega arith) (omega arith) is_open)
           (c.in_err-add.ensures.cut held.content held.written);
-      writes = λ begun other. absurd (other refl);
-      saves = λ held. tt;
+      writes = λ head sized begun other. absurd (other refl);
+      saves = λ head sized held. tt;
     })
 
 pub returns-clause-scans : goal.returns-clause-scans
@@ -132,11 +133,11 @@ returns-clause-keeps g c = λ is_open head size kept.
     kept_on (journalled_later here.journal (grind (arith, here.aims)) (λ s. refl)) is_open size kept
 
 pub returns-clause-writes : goal.returns-clause-writes
-returns-clause-writes g c = λ begun.
+returns-clause-writes g c = λ head sized begun.
     let here = c.loop-sector.invariant in
-    begun_on (journalled_later here.journal (grind (arith, here.aims)) (λ s. refl)) begun
+    begun_on (journalled_later here.journal (grind (arith, here.aims)) (λ s. refl)) head sized begun
 
 pub returns-clause-saves : goal.returns-clause-saves
-returns-clause-saves g c = λ held.
+returns-clause-saves g c = λ head sized held.
     let here = c.loop-sector.invariant in
-    with_on (journalled_later here.journal (grind (arith, here.aims)) (λ s. refl)) held
+    with_on (journalled_later here.journal (grind (arith, here.aims)) (λ s. refl)) head sized held
