@@ -1,6 +1,6 @@
 -- What applying changes leaves at each exit, how many transactions it takes, and what it comes to at its end.
 use Rattle.std.proofs.Common.{ℕ, zero, suc, ◌≡◌, ◌<◌, ◌≤◌, ◌+◌, ◌*◌, ◌/◌, ◌∙◌, Bool, true, false, refl, sym, ap, arith, true≢false}
-use Rattle.std.specs.Prelude.{◌&&◌, ◌||◌, length, if◌then◌else◌}
+use Rattle.std.specs.Prelude.{◌&&◌, ◌||◌, if◌then◌else◌}
 use Rattle.std.proofs.lemmas.Bool.{or_left, or_right}
 use Rattle.nor_count.specs.Below.{count_below}
 use Rattle.nor_count.specs.Counts.{sector_count}
@@ -13,7 +13,6 @@ use Rattle.nor_driver.specs.Limits.{Limits, erasing, programming, writing, Sends
 use Rattle.nor_driver.specs.Operations.{most_operation}
 use Rattle.nor_driver.proofs.Limits.{IsPartOf, AreParts, IsSum, sum_parts, sends_more, sends_exactly}
 use Rattle.nor_plan.specs.Content.{once_erased, is_programmed}
-use Rattle.nor_plan.specs.Planned.{planned}
 use Rattle.nor_plan.specs.SectorSet.{none}
 use Rattle.nor_apply.specs.declared.changes.Changes.{Changes}
 use Rattle.nor_apply.specs.declared.changes.Work.{Work}
@@ -35,7 +34,7 @@ use Rattle.nor_apply.proofs.ApplyingSteps.{code_read, code_once, Stands, stands_
 one_fewer : (b c : Bool) → (b ≡ true → c ≡ true) → (if b then 1 else 0) ≤ (if c then 1 else 0)
 one_fewer b c wider = grind arith
 
-count_below-fewer : (n : ℕ) (p q : ℕ → Bool) → ((k : ℕ) → p k ≡ true → q k ≡ true) → count_below n p ≤ count_below n q
+pub count_below-fewer : (n : ℕ) (p q : ℕ → Bool) → ((k : ℕ) → p k ≡ true → q k ≡ true) → count_below n p ≤ count_below n q
 unfolding count_below
 count_below-fewer zero p q wider = omega arith
 count_below-fewer (suc n) p q wider =
@@ -223,8 +222,7 @@ module _ {changes : Changes} {wanted : ℕ → ℕ} {old mid new : BusState} {do
     (inside : (s : ℕ) → raised_in changes s ≡ true → touched_in changes s ≡ true)
     (leaves : LeavesErases (raised_in changes) changes.kinds changes.size mid new) where
   erase_leaves : Leaves changes wanted (most_operation * sector_count (raised_in changes))
-      (erasing (may_aim_at (raised_in changes) changes.size)
-      (length (planned changes.kinds (changes.size / 4096) (raised_in changes)))) old mid new
+      (erasing (may_aim_at (raised_in changes) changes.size) (sector_count (raised_in changes))) old mid new
   erase_leaves = record {
     spends = leaves.spends;
     sends = leaves.sends;
@@ -238,7 +236,7 @@ module _ {changes : Changes} {wanted : ℕ → ℕ} {old mid new : BusState} {do
   aims_raised s = aim_wider _ _ changes.size s inside
 
   erase_parts : AreParts (sending_these changes (lifting changes)) (erasing (may_aim_at (raised_in changes) changes.size)
-      (length (planned changes.kinds (changes.size / 4096) (raised_in changes)))) (most_sent changes)
+      (sector_count (raised_in changes))) (most_sent changes)
   erase_parts = record {
     sectors = λ s aimed. aimed;
     sectors' = aims_raised;
@@ -304,7 +302,7 @@ module _ {changes : Changes} {wanted : ℕ → ℕ} (erases : ℕ) {old mid new 
         (leaves.reached (now_honest so honest) (can_program_all can (so.stands honest can)));
   }
 
-  program_parts : erases ≤ length (planned changes.kinds (changes.size / 4096) (raised_in changes))
+  program_parts : erases ≤ sector_count (raised_in changes)
       → AreParts (sending_these changes (and_more (lifting changes) erases 0))
       (programming (touched_in changes) (16 * sector_count (touched_in changes))) (most_sent changes)
   program_parts fits = record {
@@ -329,7 +327,7 @@ module _ {changes : Changes} {wanted : ℕ → ℕ} (erases : ℕ) {old mid new 
     status_writes = omega arith;
   }
 
-  pub programs_halted : {halt : Halt} → erases ≤ length (planned changes.kinds (changes.size / 4096) (raised_in changes))
+  pub programs_halted : {halt : Halt} → erases ≤ sector_count (raised_in changes)
       → Halts (most_sector * sector_count (touched_in changes)) mid new halt
       → NamesTimeoutIn (touched_in changes) halt → Halted changes wanted old new halt
   programs_halted {halt} fits halts names =
@@ -399,7 +397,7 @@ module _ {changes : Changes} {wanted : ℕ → ℕ} {old free mid made : BusStat
       sectors' = λ s aimed. absurd (true≢false (sym aimed));
       status = λ one two written. written;
       status' = last_asked;
-      erases = omega (arith, parts.erase.count);
+      erases = omega (arith, parts.erase.fewer);
       programs = omega (arith, parts.program.fewer);
       status_writes = rw is (omega arith);
     }
@@ -436,7 +434,7 @@ module _ {changes : Changes} {wanted : ℕ → ℕ} {old free mid made : BusStat
             sends = sends_more _ _ old new (record {
               sectors = λ s aimed. aimed;
               status = λ one two written. written;
-              erases = omega (arith, erase_count, parts.erase.count);
+              erases = omega (arith, erase_count, parts.erase.fewer);
               programs = omega (arith, program_count, parts.program.fewer);
               status_writes = omega arith;
             }) fourth.ran.sends;

@@ -19,7 +19,7 @@ use Rattle.nor_driver.specs.Limits.{erasing}
 use Rattle.nor_driver.specs.Operations.{most_operation}
 use Rattle.nor_driver.specs.StatusWrites.{fixed_of}
 use Rattle.nor_driver.specs.Erases.{sectors_of, is_sector_in_unit, CanErase, MayErase, HasErased, is_sector_named, LeavesErase, Erases}
-use Rattle.nor_driver.proofs.Limits.{AreParts, IsSum}
+use Rattle.nor_driver.proofs.Limits.{IsPartOf, AreParts, IsSum, sends_more}
 use Rattle.nor_plan.specs.Erase.{IsErase, Covers, erased_by}
 use Rattle.nor_plan.specs.Planned.{planned}
 use Rattle.nor_apply.specs.declared.tally.Tally.{Tally}
@@ -121,6 +121,17 @@ module _ {kinds : Kinds} {size : ℕ} {set : ℕ → Bool} {units left : List Er
       sym (so.covers.union s)
       ∙ rw (← so.listed.split, list_any-append (erases_sector (size / 4096) s) units left, erased) refl
 
+  -- at most as many erases as sectors
+  within_count : {n : ℕ} → n ≤ sector_count set
+      → IsPartOf (erasing (may_aim_at set size) n) (erasing (may_aim_at set size) (sector_count set))
+  within_count few = record {
+    sectors = λ s aimed. aimed;
+    status = λ one two written. written;
+    erases = few;
+    programs = omega arith;
+    status_writes = omega arith;
+  }
+
   -- at the end
   module _ (none : left ≡ []) where
     pub does_ended : DoesErases set kinds size old mid tally
@@ -139,7 +150,7 @@ module _ {kinds : Kinds} {size : ℕ} {set : ℕ → Bool} {units left : List Er
     pub leaves_ended : LeavesErases set kinds size old mid
     leaves_ended = record {
       spends = spends_ended so.listed.ran (omega (arith, does_ended.fewer));
-      sends = rw (so.listed.count ∙ ap length (come_all so.listed none)) at so.listed.ran.sends;
+      sends = sends_more _ _ old mid (within_count does_ended.fewer) so.listed.ran.sends;
       reached = λ honest can. made_may (λ a. erased_inside (a / 4096)) erased_inside (so.done honest can);
     }
 
@@ -216,7 +227,7 @@ module _ {kinds : Kinds} {size : ℕ} {set : ℕ → Bool} {units left : List Er
           leaves.falls halts (omega (arith, so.few)) in (
             record {
               spends = exit.0;
-              sends = exit.1;
+              sends = sends_more _ _ old new (within_count so.few) exit.1;
               reached = λ honest can.
                   let has = so.done honest can in
                   change_then so.listed.ran.nature.steady

@@ -54,12 +54,11 @@ sending changes erases programs status_writes = record {
   status_writes = status_writes;
 }
 
--- The most that the changes may send: the fewest erases that clear the raised sectors, sixteen page programs for each
--- touched sector, and the status writes that are asked for.
+-- The most that the changes may send: an erase for each raised sector, sixteen page programs for each touched one, and
+-- the status writes that are asked for.
 abbrev pub most_sent : Changes → Limits
 most_sent changes =
-    sending changes (length (planned changes.kinds (changes.size / 4096) (raised_in changes)))
-    (16 * sector_count (touched_in changes)) (status_writes changes)
+    sending changes (sector_count (raised_in changes)) (16 * sector_count (touched_in changes)) (status_writes changes)
 
 -- The changes can be made: the chip is idle, of this size and these erase kinds, and has the status that was read;
 -- the touched sectors lie inside it, and hold a guarded place only where protection is lifted first; the status is

@@ -17,10 +17,10 @@ pub record CanEraseAll (sectors : ℕ → Bool) (kinds : Kinds) (size : ℕ) (ch
   pub sized : IsSized size kinds chip
 
 -- At every exit, on the way to sectors that are all FFh. On every bus no erase targets another sector, and no more
--- erases are sent than the planner's list has.
+-- erases are sent than there are sectors.
 pub record LeavesErases (sectors : ℕ → Bool) (kinds : Kinds) (size : ℕ) (old new : BusState) : Type 0 where
   pub spends : Spends (most_operation * sector_count sectors) old new
-  pub sends : SendsWithin (erasing (may_aim_at sectors size) (length (planned kinds (size / 4096) sectors))) old new
+  pub sends : SendsWithin (erasing (may_aim_at sectors size) (sector_count sectors)) old new
   pub reached : old.honest ≡ true → CanEraseAll sectors kinds size old.chip → MayChange sectors sectors blank old new
 
 -- At the end. There were as many erases as the planner's list has, which is the shortest that covers the set; where

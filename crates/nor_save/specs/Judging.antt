@@ -1,12 +1,17 @@
 -- Which refusals are judged where, on every bus, and when protection is lifted.
 use Rattle.std.specs.Prelude.{◌≡◌, ℕ, Bool, true, List, length, Option, Result, IfOk, IfErr, MatchBool, MatchOption, ⊤}
-use Rattle.nor_chip.specs.Chip.{Chip}
+use Rattle.nor_chip.specs.Chip.{Chip, kept_in}
+use Rattle.nor_chip.specs.Guard.{code_of}
+use Rattle.nor_chip.specs.Offer.{IsLeastCode}
 use Rattle.nor_plan.specs.declared.set.SectorSet.{SectorSet}
 use Rattle.nor_plan.specs.SectorSet.{HasSome}
 use Rattle.nor_plan.specs.Content.{is_touched}
 use Rattle.nor_call.specs.Request.{wanted}
 use Rattle.nor_save.specs.declared.opening.Opening.{Opening}
 use Rattle.nor_call.specs.declared.request.Request.{Request}
+use Rattle.nor_call.specs.declared.request.What.{What}
+use Rattle.nor_call.specs.declared.request.What.TheVariants.{WpRange}
+use Rattle.nor_save.specs.Opening.{status_read}
 use Rattle.nor_call.specs.declared.refusal.Refusal.{Refusal}
 use Rattle.nor_call.specs.declared.refusal.Refusal.TheVariants.{ImageSize, RegionOutside, NoProtection, UndefinedProtection, RangeNotOffered, StatusLocked, Protected}
 use Rattle.nor_save.specs.Saving.{IsOpening, IsLeastHeld, NoneHeld, SomeHeld, NeedsStatus}
@@ -22,6 +27,12 @@ IsOpeningRefusal NoProtection = ⊤
 IsOpeningRefusal UndefinedProtection = ⊤
 IsOpeningRefusal RangeNotOffered = ⊤
 IsOpeningRefusal _ = ⊥
+
+-- The protection bits that a session leaves: for a protection range the least that protect exactly it on a chip of the
+-- size that was found, else those that were read.
+abbrev pub IsFoundCode : What → Opening → ℕ → Type 0
+IsFoundCode (WpRange start len) opening code = IsLeastCode opening.found.size start len code
+IsFoundCode _ opening code = code ≡ code_of (kept_in (status_read opening))
 
 -- by the scan
 abbrev pub IsScanRefusal : Refusal → Type 0

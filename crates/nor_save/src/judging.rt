@@ -6,7 +6,7 @@ ghost use Rattle.nor_chip.specs.Size.{is_chip_size};
 ghost use Rattle.nor_plan.specs.SectorSet.{has, LiesBelow};
 ghost use Rattle.nor_call.specs.Request.{is_data};
 ghost use Rattle.nor_save.specs.Opening.{status_read};
-ghost use Rattle.nor_save.specs.Judging.{IsOpeningRefusal, IsScanRefusal, Lifts};
+ghost use Rattle.nor_save.specs.Judging.{IsFoundCode, IsOpeningRefusal, IsScanRefusal, Lifts};
 ghost use Rattle.nor_save.specs.Judging.{AcceptsOpening, RefusesOpening, FindsHeld, FindsNeed, AcceptsScan, RefusesScan};
 
 use crate::opening::Opening;
@@ -24,6 +24,7 @@ pub fn judge_opening(request: &Request, opening: &Opening, image: usize) -> Resu
     ensures faults { IfErr result IsOpeningRefusal }
     ensures same_code { IfOk result (λ code. is_data request.now.what ≡ true
         → code ≡ code_of (kept_in (status_read opening.now))) }
+    ensures found { IfOk result (IsFoundCode request.now.what opening.now) }
     ensures accepts { AcceptsOpening request.now image opening.now result }
     ensures tells { RefusesOpening request.now image opening.now result }
 {

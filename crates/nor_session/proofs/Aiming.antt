@@ -1,53 +1,198 @@
--- Which sectors a session or a restore targets, and how often it writes the status, on every bus.
-use Rattle.std.proofs.Common.{◌≡◌, ◌≤◌, ◌∙◌, ℕ, true, List, inl, inr, ap, arith}
+-- What a session or a restore sends that may modify a chip, on every bus.
+use Rattle.std.proofs.Common.{◌≡◌, ◌≤◌, ◌<◌, ◌+◌, ◌-◌, ◌*◌, ◌/◌, ◌%◌, ◌∙◌, ◌⊎◌, ℕ, Bool, true, List, [], ◌∷◌, inl, inr, ap, refl, arith}
+use Rattle.std.specs.Prelude.{◌&&◌, ◌||◌}
+use Rattle.std.proofs.Math.Nat.{add-mul}
+use Rattle.std.proofs.lemmas.Bool.Decides.{nat_tests}
 use Rattle.nor_chip.specs.declared.sent.Sent.{Sent}
-use Rattle.nor_chip.specs.Sent.{is_aimed_at, status_writes_of}
+use Rattle.nor_chip.specs.declared.status.Status.{Status}
+use Rattle.nor_chip.specs.Chip.{kept_in}
+use Rattle.nor_chip.specs.Guard.{code_of}
+use Rattle.nor_chip.specs.Status.{bytes_of}
+use Rattle.nor_chip.specs.Sent.{is_aimed_at, has_written, is_strange, erases_of, programs_of, status_writes_of}
 use Rattle.nor_chip.specs.Bus.{BusState}
+use Rattle.nor_driver.specs.StatusWrites.{fixed_of, has_code}
+use Rattle.nor_count.specs.Counts.{sector_count}
+use Rattle.nor_count.proofs.Counting.{count_below-most}
 use Rattle.nor_journal.specs.Text.{Content}
 use Rattle.nor_journal.specs.Saved.{is_saved}
 use Rattle.nor_apply.specs.declared.changes.Changes.{Changes}
-use Rattle.nor_apply.specs.Applying.{touched_in, status_writes}
+use Rattle.nor_apply.specs.Applying.{touched_in, raised_in, status_writes, is_status_asked}
 use Rattle.nor_apply.proofs.Aiming.{aim_split}
-use Rattle.nor_save.specs.SavedScan.{IsJournal, IsJournalOf}
+use Rattle.nor_apply.proofs.ApplyingExits.{count_below-fewer}
 use Rattle.nor_session.specs.Changing.{LeavesChange}
-use Rattle.nor_session.specs.Session.{AimsAtSaved, WritesStatusAtMost}
+use Rattle.nor_session.specs.Session.{SendsSaved, SendsFew, WritesOnly, WritesStatusAtMost}
 
--- no modifying command was sent
+-- ---- no modifying command was sent
+
 pub none_written : (most : ℕ) (old new : BusState) → new.sent ≡ old.sent → WritesStatusAtMost most old new
 none_written most old new same = let count = ap status_writes_of same in omega (arith, count)
 
-pub none_aimed : (journal : Content) (old new : BusState) → new.sent ≡ old.sent → AimsAtSaved journal old new
-none_aimed journal old new same s = inl (ap (λ (sent : Sent). is_aimed_at sent s) same)
+pub none_sent : (IsCode : ℕ → Type 0) (calls : ℕ) (journal : Content) (old new : BusState) → new.sent ≡ old.sent
+    → SendsSaved IsCode calls journal old new
+none_sent IsCode calls journal old new same = record {
+  aimed = λ s. inl (ap (λ (sent : Sent). is_aimed_at sent s) same);
+  written = λ one two. inl (ap (λ (sent : Sent). has_written sent one two) same);
+  erases = let count = ap erases_of same in omega (arith, count);
+  programs = let count = ap programs_of same in omega (arith, count);
+  strange = ap is_strange same;
+}
 
--- only saved sectors were targeted, twice in turn
-pub aims_then : (journal : Content) (old mid new : BusState) → AimsAtSaved journal old mid → AimsAtSaved journal mid new → AimsAtSaved journal old new
-aims_then journal old mid new before after s = let earlier = before s in let later = after s in grind arith
+pub few_none : (old new : BusState) → new.sent ≡ old.sent → SendsFew old new
+few_none old new same = record {
+  erases = let count = ap erases_of same in omega (arith, count);
+  programs = let count = ap programs_of same in omega (arith, count);
+  strange = ap is_strange same;
+}
 
--- ---- behind what only looked
+-- ---- calls with one journal, one after another
+
+pub sends_then : (IsCode : ℕ → Type 0) (m n : ℕ) (journal : Content) (old mid new : BusState)
+    → SendsSaved IsCode m journal old mid → SendsSaved IsCode n journal mid new
+    → SendsSaved IsCode (m + n) journal old new
+sends_then IsCode m n journal old mid new before after = record {
+  aimed = λ s. let earlier = before.aimed s in let later = after.aimed s in grind arith;
+  written = λ one two. let earlier = before.written one two in let later = after.written one two in grind arith;
+  erases =
+      let first = before.erases in let second = after.erases in
+      let sum = add-mul m n (sector_count (is_saved journal)) in
+      omega (arith, first, second, sum);
+  programs =
+      let first = before.programs in let second = after.programs in
+      let sum = add-mul m n (16 * sector_count (is_saved journal)) in
+      omega (arith, first, second, sum);
+  strange = after.strange ∙ before.strange;
+}
+
+-- at most this many calls
+pub sends_most : (IsCode : ℕ → Type 0) (n most : ℕ) (journal : Content) (old new : BusState) → n ≤ most
+    → SendsSaved IsCode n journal old new → SendsSaved IsCode most journal old new
+sends_most IsCode n most journal old new few sends = record {
+  aimed = sends.aimed;
+  written = sends.written;
+  erases = let some = sends.erases in let more = times_more (sector_count (is_saved journal)) in omega (arith, some, more);
+  programs =
+      let some = sends.programs in let more = times_more (16 * sector_count (is_saved journal)) in
+      omega (arith, some, more);
+  strange = sends.strange;
+}
+  where
+    times_more : (k : ℕ) → n * k ≤ most * k
+    times_more k =
+        let split : most ≡ n + (most - n) = omega (arith, few) in
+        let sum : most * k ≡ n * k + (most - n) * k = ap (λ (m : ℕ). m * k) split ∙ add-mul n (most - n) k in
+        omega (arith, sum)
+
+-- more protection bits may be written
+pub sends_wider : (IsCode IsWider : ℕ → Type 0) (calls : ℕ) (journal : Content) (old new : BusState)
+    → ((code : ℕ) → IsCode code → IsWider code) → SendsSaved IsCode calls journal old new
+    → SendsSaved IsWider calls journal old new
+sends_wider IsCode IsWider calls journal old new wider sends = record {
+  aimed = sends.aimed;
+  written = λ one two. elim (sends.written one two) [
+    | inl same ↦ inl same
+    | inr writes ↦ inr record {
+      fixed = writes.fixed;
+      code = wider _ writes.code;
+      clear1 = writes.clear1;
+      clear2 = writes.clear2;
+    }
+  ];
+  erases = sends.erases;
+  programs = sends.programs;
+  strange = sends.strange;
+}
+
+-- ---- the bytes of a status write
+
+-- the status that was read with other protection bits
+pub coded_only : (IsCode : ℕ → Type 0) (journal : Content) (status : Status) (code one two : ℕ) → code < 64
+    → fixed_of (kept_in (bytes_of status)) ≡ fixed_of (kept_in journal.status) → IsCode code
+    → has_code status code one two ≡ true → WritesOnly IsCode journal one two
+coded_only IsCode journal status code one two small fixed is written =
+    let first : one ≡ 128 * (status.one.0 / 128) + 4 * (code % 32) = grind (arith, nat_tests) in
+    let second : two ≡ status.two.0 % 64 + 64 * (code / 32) = grind (arith, nat_tests) in
+    let same : code_of (kept_in (one ∷ two ∷ [])) ≡ code = omega (arith, first, second) in
+    let bits1 : one / 4 / 32 ≡ status.one.0 / 4 / 32 = omega (arith, first) in
+    let bits2 : two % 128 % 64 ≡ status.two.0 % 128 % 64 = omega (arith, second) in
+    record {
+      fixed = rw (bits1, bits2) fixed;
+      code = rw same is;
+      clear1 = omega (arith, first);
+      clear2 = omega (arith, second);
+    }
+
+-- ---- after what only looked
+
+-- The changes are those of sectors that a journal saves, and the status that was read fits the journal.
+pub record AreOfJournal (IsCode : ℕ → Type 0) (journal : Content) (changes : Changes) : Type 0 where
+  pub sized : journal.size ≡ changes.size
+  pub saved : (s : ℕ) → touched_in changes s ≡ true → is_saved journal s ≡ true
+  pub raised : (s : ℕ) → raised_in changes s ≡ true → touched_in changes s ≡ true
+  pub fixed : fixed_of (kept_in (bytes_of changes.status)) ≡ fixed_of (kept_in journal.status)
+  pub small : changes.code < 64
+  pub lifted : changes.unlock ≡ true → IsCode 0
+  pub code : IsCode changes.code
+
+asked_parts : (changes : Changes) (one two : ℕ) → is_status_asked changes one two ≡ true
+    → ((changes.unlock ≡ true) × (has_code changes.status 0 one two ≡ true))
+    ⊎ (has_code changes.status changes.code one two ≡ true)
+asked_parts changes one two asked = or_parts changes.unlock (has_code changes.status 0 one two) _ _ asked
+  where
+    or_parts : (a b c d : Bool) → (a && b || c && d) ≡ true → ((a ≡ true) × (b ≡ true)) ⊎ (d ≡ true)
+    or_parts a b c d is = grind arith
 
 module _ {changes : Changes} {wanted : ℕ → ℕ} (old : BusState) {mid new : BusState} (still : mid.sent ≡ old.sent)
     (leaves : LeavesChange changes wanted mid new) where
   pub change_writes : {most : ℕ} → status_writes changes ≤ most → WritesStatusAtMost most old new
   change_writes few =
-      let same = ap status_writes_of still in let most = leaves.aims.writes in omega (arith, same, few, most)
+      let same = ap status_writes_of still in let most = leaves.sends.status_writes in omega (arith, same, few, most)
 
-  -- a change of some saved sectors targets only saved sectors
-  pub change_aims : (journal : Content) → journal.size ≡ changes.size
-      → ((s : ℕ) → touched_in changes s ≡ true → is_saved journal s ≡ true) → AimsAtSaved journal old new
-  change_aims journal sized saved s = elim (leaves.aims.aimed s) [
-    | inl same ↦ inl (same ∙ ap (λ (sent : Sent). is_aimed_at sent s) still)
-    | inr aimed ↦ elim (aim_split (touched_in changes) changes.size s aimed) [
-      | inl here ↦ inr (inl (saved s here))
-      | inr behind ↦ inr (inr record {
-        whole = λ k below. saved k (behind.1 k (omega (arith, below, sized)));
-        behind = let past = behind.0 in omega (arith, past, sized);
-      })
+  module _ (IsCode : ℕ → Type 0) (journal : Content) (are : AreOfJournal IsCode journal changes) where
+    touched_few : sector_count (touched_in changes) ≤ sector_count (is_saved journal)
+    touched_few = count_below-fewer 4096 (touched_in changes) (is_saved journal) are.saved
+
+    raised_fewer : sector_count (raised_in changes) ≤ sector_count (touched_in changes)
+    raised_fewer = count_below-fewer 4096 (raised_in changes) (touched_in changes) are.raised
+
+    asked_only : (one two : ℕ) → is_status_asked changes one two ≡ true → WritesOnly IsCode journal one two
+    asked_only one two asked = elim (asked_parts changes one two asked) [
+      | inl lifts ↦ coded_only IsCode journal changes.status 0 one two (omega arith) are.fixed (are.lifted lifts.0) lifts.1
+      | inr writes ↦ coded_only IsCode journal changes.status changes.code one two are.small are.fixed are.code writes
     ]
-  ]
 
-  pub change_aims_in : {bytes : List ℕ} → IsJournalOf changes.size (touched_in changes) bytes
-      → (journal : IsJournal bytes) × AimsAtSaved journal.content old new
-  change_aims_in journal = (
-    record { content = journal.content; is = journal.is; same = journal.same },
-    change_aims journal.content journal.sized (λ s touched. journal.saved s ∙ touched),
-  )
+    pub change_sends : SendsSaved IsCode 1 journal old new
+    change_sends = record {
+      aimed = λ s. elim (leaves.sends.aimed s) [
+        | inl same ↦ inl (same ∙ ap (λ (sent : Sent). is_aimed_at sent s) still)
+        | inr aimed ↦ elim (aim_split (touched_in changes) changes.size s aimed) [
+          | inl here ↦ inr (inl (are.saved s here))
+          | inr behind ↦ inr (inr record {
+            whole = λ k below. are.saved k (behind.1 k (omega (arith, below, are.sized)));
+            behind = let past = behind.0 in omega (arith, past, are.sized);
+          })
+        ]
+      ];
+      written = λ one two. elim (leaves.sends.written one two) [
+        | inl same ↦ inl (same ∙ ap (λ (sent : Sent). has_written sent one two) still)
+        | inr asked ↦ inr (asked_only one two asked)
+      ];
+      erases =
+          let same = ap erases_of still in let most = leaves.sends.erases in
+          omega (arith, same, most, touched_few, raised_fewer);
+      programs =
+          let same = ap programs_of still in let most = leaves.sends.programs in
+          omega (arith, same, most, touched_few);
+      strange = leaves.sends.strange ∙ ap is_strange still;
+    }
+
+  pub change_few : ((s : ℕ) → raised_in changes s ≡ true → touched_in changes s ≡ true) → SendsFew old new
+  change_few inside =
+      let few = count_below-most 4096 (touched_in changes) in
+      let raised_fewer = count_below-fewer 4096 (raised_in changes) (touched_in changes) inside in
+      let same1 = ap erases_of still in let same2 = ap programs_of still in
+      let most1 = leaves.sends.erases in let most2 = leaves.sends.programs in
+      record {
+        erases = omega (arith, same1, most1, few, raised_fewer);
+        programs = omega (arith, same2, most2, few);
+        strange = leaves.sends.strange ∙ ap is_strange still;
+      }

@@ -11,6 +11,7 @@ use Rattle.nor_chip.proofs.Kept.{kept_same}
 use Rattle.nor_chip.specs.Bus.{BusState}
 use Rattle.nor_chip.proofs.Sizes.{sized_bounds}
 use Rattle.nor_driver.specs.Looks.{Looks, Rested, IsOpen}
+use Rattle.nor_driver.specs.StatusWrites.{fixed_of}
 use Rattle.nor_journal.specs.Text.{Content}
 use Rattle.nor_journal.specs.Saved.{is_saved, saved_byte}
 use Rattle.nor_plan.specs.SectorSet.{has}
@@ -28,7 +29,7 @@ use Rattle.nor_plan.specs.Content.{is_touched, is_raised}
 use Rattle.nor_probe.specs.Known.{IsModelled}
 use Rattle.nor_session.specs.Changing.{touched_count}
 use Rattle.nor_session.specs.Restore.{restored, NeedsStatusFrom}
-use Rattle.nor_session.specs.Prepare.{NeedsStatusWith, Fits, IsOfKindFound, FitsOpening, PrepareTells, ScansSaved, AreChanges, MayChangeStatus, IsShut, IsPreparedFor, IsPrepared}
+use Rattle.nor_session.specs.Prepare.{NeedsStatusWith, Fits, IsOfKindFound, FitsOpening, HasFixedRead, PrepareTells, ScansSaved, AreChanges, MayChangeStatus, IsShut, IsPreparedFor, IsPrepared}
 use Rattle.nor_save.proofs.Held.{code_same}
 use Rattle.nor_session.proofs.Changed.{writes_other}
 use Rattle.nor_session.proofs.JudgedStatus.{held_scheme, free_place, writable_for}
@@ -42,6 +43,7 @@ pub record AreRead (journal : Content) (opening : Opening) (scanned : Scanned) (
   pub opens : Opens None old mid opening
   pub kind : IsOfKindFound journal opening.found
   pub fits : FitsOpening journal opening
+  pub fixed : HasFixedRead journal opening
   pub small : old.honest ≡ true → old.chip.kept.two < 128
   pub scans : ScansSaved journal mid new scanned
 
@@ -163,4 +165,6 @@ module _ {journal : Content} {opening : Opening} {scanned : Scanned} {changes : 
       let opened = read.opens.count honest in
       let left = read.scans.sent (read.looks.nature.honest ∙ honest) in
       omega arith in
+      let fixed : fixed_of (kept_in (bytes_of changes.status)) ≡ fixed_of (kept_in journal.status)
+      = rw (are.one, are.two) read.fixed in
       search (rules, arith, below, saved, rises_touched, rested_all read, prepared_for sent)

@@ -15,6 +15,7 @@ pub mod Changeable
 pub mod GivenBack
 pub mod Restoring
 pub mod Aiming
+pub mod OfJournal
 pub mod GivesBack
 pub mod BegunBack
 pub mod WrittenBack

@@ -49,10 +49,10 @@ change_names changes (Mismatch address) such touched = such (address / 4096) tou
 change_names changes _ such names = tt
 
 -- only saved sectors are changed, so a sealed vault has them
-pub work_names : (changes : Changes) (vault : VaultState) (refusal : Refusal) → vault.sealed ≡ true
-    → (vault.telling ≡ true → IsJournalOf changes.size (touched_in changes) vault.bytes)
+pub work_names : (changes : Changes) (head : Content) (vault : VaultState) (refusal : Refusal) → vault.sealed ≡ true
+    → (vault.telling ≡ true → IsJournalOf head (touched_in changes) vault.bytes)
     → NamesTouchedSector changes refusal → NamesAddress vault refusal
-work_names changes vault refusal sealed saves names = record {
+work_names changes head vault refusal sealed saves names = record {
   early = λ unsealed. absurd cc;
   late = λ is telling.
       let journal = saves telling in

@@ -20,9 +20,10 @@ use Rattle.nor_session.specs.Headline.{CanGiveBack, GivesBack}
 use Rattle.nor_session.specs.Restore.{RestoreAlways, RestoreHonest, RestoreModelled}
 use Rattle.nor_session.specs.Session.{HonestTells}
 use Rattle.nor_session.specs.Rehearsal.{IsNoHalt}
-use Rattle.nor_session.specs.Rehearsing.{LeadsBack, LeavesRestores, ShowsRestore, ShowsRestores, StopsRestores, Undoes, WearsSaved, AimsAtText, RefusesUndo}
+use Rattle.nor_session.specs.Rehearsing.{LeadsBack, LeavesRestores, ShowsRestore, ShowsRestores, StopsRestores, Undoes, WearsSaved, SendsText, RefusesUndo}
 use Rattle.nor_session.proofs.Rescanned.{unraised_other}
-use Rattle.nor_session.proofs.Aiming.{none_aimed, aims_then, none_written}
+use Rattle.nor_session.specs.Session.{IsSavedCode}
+use Rattle.nor_session.proofs.Aiming.{none_sent, sends_then, sends_most, none_written}
 use Rattle.nor_session.proofs.GivesBack.{can_give_back}
 use Rattle.nor_session.proofs.Naming.{saved_names}
 use Rattle.nor_session.proofs.SavedBytes.{saved_room, saved_count}
@@ -37,10 +38,13 @@ modelled_at old new honest config modelled =
 -- a new allowance keeps what can be restored
 allow_leaves : {n : ℕ} (journal : Content) (old new : BusState) → Allows n old new → LeavesRestores journal 0 old new
 allow_leaves journal old new allows =
-    search (arith, modelled_at, none_aimed, none_written, allows.chip, allows.nature.steady)
+    search (arith, modelled_at, none_sent, none_written, allows.chip, allows.nature.steady)
 
 pub restores_then : (journal : Content) (m n most : ℕ) (old mid new : BusState) → m + n ≤ most → LeavesRestores journal m old mid → LeavesRestores journal n mid new → LeavesRestores journal most old new
-restores_then journal m n most old mid new fits before after = search (arith, aims_then, nature_then)
+restores_then journal m n most old mid new fits before after =
+    let both = sends_then (IsSavedCode journal) m n journal old mid new before.sends after.sends in
+    let sends = sends_most (IsSavedCode journal) (m + n) most journal old new fits both in
+    search (arith, nature_then)
 
 -- it returned another error than a stop
 pub no_halt : (most : ℕ) (IsEarly : Refusal → Type 0) (old new : BusState) (refusal : Refusal) → (refusal ≡ Stopped → ⊥)
@@ -143,9 +147,9 @@ module _ {bytes : List ℕ} {journal : Content} (is : IsContent journal) (same :
         (sym (Saves-set first.bytes saved journal s (saves_all saved first leads)) ∙ other)
 
     -- the bytes are no other journal than the one that was read
-    pub undo_aims : AimsAtText bytes old new
-    undo_aims other =
-        rw (is_read bytes (Ok journal) other.content (is, same) tt other.is other.same) at leaves.aims
+    pub undo_sends : SendsText bytes n old new
+    undo_sends other =
+        rw (is_read bytes (Ok journal) other.content (is, same) tt other.is other.same) at leaves.sends
 
   pub undo_refuses : (refusal : Refusal) → StopsRestores journal old refusal → RefusesUndo bytes old refusal
   undo_refuses refusal refuses = record {

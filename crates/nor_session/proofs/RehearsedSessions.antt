@@ -20,12 +20,12 @@ use Rattle.nor_session.specs.Bounds.{most_of}
 use Rattle.nor_session.specs.Made.{AreFewestErases}
 use Rattle.nor_save.specs.Verdict.{IsAccepted}
 use Rattle.nor_session.specs.Headline.{KeepsFirst}
-use Rattle.nor_session.specs.Session.{SessionAlways, SessionHonest, SessionModelled, SessionTells, HonestTells, IsDone, NamesAddress, most_status_writes, AimsAtSaved, WritesStatusAtMost}
-use Rattle.nor_session.specs.Rehearsal.{CanEnd, IsRehearsalRefusal, RehearsalTells, first_allowance, least_needed}
+use Rattle.nor_session.specs.Session.{SessionAlways, SessionHonest, SessionModelled, SessionTells, HonestTells, IsDone, NamesAddress, IsSavedCode, IsWrittenCode, most_status_writes, SendsSaved, WritesStatusAtMost}
+use Rattle.nor_session.specs.Rehearsal.{IsRehearsedCode, CanEnd, IsRehearsalRefusal, RehearsalTells, first_allowance, least_needed}
 use Rattle.nor_session.specs.Rehearsing.{HasWantedBits, LeadsBack, LeavesSession, ShowsSession, RefusesSession, LeavesUndo, RefusesUndo}
 use Rattle.nor_session.proofs.RestoredBytes.{untouched_unraised}
 use Rattle.nor_session.proofs.GivesBack.{leads_back}
-use Rattle.nor_session.proofs.Aiming.{none_aimed, aims_then}
+use Rattle.nor_session.proofs.Aiming.{none_sent, sends_then, sends_most, sends_wider}
 use Rattle.nor_session.proofs.RehearsedRestores.{modelled_at, no_halt}
 
 -- ---- the session
@@ -76,9 +76,11 @@ module _ {n : ℕ} {old mid : BusState} (allows : Allows n old mid) where
             | inr unsealed ↦ ((always.looks unsealed).looked is.honest).stays.worn s ∙ allows.worn s
           ];
       still = search arith;
-      aims = λ sealed.
-          let (journal, aimed) = always.aims sealed telling in
-          (journal, aims_then journal.content old mid new (none_aimed journal.content old mid allows.sent) aimed);
+      sends = λ sealed.
+          let (journal, sent) = always.sends sealed telling in
+          let IsCode = IsWrittenCode request.what journal.content in
+          (journal, sends_then IsCode 0 1 journal.content old mid new
+          (none_sent IsCode 0 journal.content old mid allows.sent) sent);
       writes = search arith;
     }
 
@@ -133,6 +135,16 @@ behind_first : (stops : List ℕ) → length (drop 1 stops) + 1 ≡ max 1 (lengt
 behind_first [] = refl
 behind_first (first ∷ later) = omega arith
 
+-- a session alone sends no more than a rehearsal may
+pub session_sends : {request : Request} {image : List ℕ} {old new : BusState} {vault : VaultState} (stops : List ℕ)
+    → LeavesSession request image old new vault → vault.sealed ≡ true → (journal : IsJournal vault.bytes)
+    × SendsSaved (IsRehearsedCode request.what journal.content) (1 + max 1 (length stops)) journal.content old new
+session_sends {request = request} {old = old} {new = new} stops leaves sealed =
+    let (journal, sent) = leaves.sends sealed in
+    let c = journal.content in
+    (journal, sends_most (IsRehearsedCode request.what c) 1 (1 + max 1 (length stops)) c old new (omega arith)
+    (sends_wider (IsWrittenCode request.what c) (IsRehearsedCode request.what c) 1 c old new (λ code is. inl is) sent))
+
 -- a session that sealed its vault, and the restores from its bytes
 module _ {request : Request} {image text later : List ℕ} {old mid new : BusState} {vault : VaultState}
     {result : Result ℕ Refusal} (session : LeavesSession request image old mid vault) (sealed : vault.sealed ≡ true)
@@ -147,10 +159,20 @@ module _ {request : Request} {image text later : List ℕ} {old mid new : BusSta
       let (still, leads) = led modelled in undone.wears still _ _ leads s other ∙ session.wears modelled s other
 
   -- both target only sectors that the journal saves
-  pub both_aim : (journal : IsJournal vault.bytes) × AimsAtSaved journal.content old new
-  both_aim =
-      let (journal, aimed) = session.aims sealed in
-      (journal, aims_then journal.content old mid new aimed ((rw is at undone.aims) journal))
+  pub both_send : (stops : List ℕ) → later ≡ drop 1 stops → (journal : IsJournal vault.bytes)
+      × SendsSaved (IsRehearsedCode request.what journal.content) (1 + max 1 (length stops)) journal.content old new
+  both_send stops behind =
+      let (journal, sent) = session.sends sealed in
+      let c = journal.content in
+      let first = sends_wider (IsWrittenCode request.what c) (IsRehearsedCode request.what c) 1 c old mid
+      (λ code is. inl is) sent in
+      let restores = (rw is at undone.sends) journal in
+      let then = sends_wider (IsSavedCode c) (IsRehearsedCode request.what c) (length later + 1) c mid new
+      (λ code is. inr is) restores in
+      let count : length later + 1 ≡ max 1 (length stops)
+      = ap (λ (l : List ℕ). length l + 1) behind ∙ behind_first stops in
+      (journal, sends_then (IsRehearsedCode request.what c) 1 (max 1 (length stops)) c old mid new first
+      (rw count at then))
 
   -- each restore writes the status at most twice
   pub both_write : (stops : List ℕ) → later ≡ drop 1 stops
@@ -164,7 +186,7 @@ module _ {request : Request} {image text later : List ℕ} {old mid new : BusSta
   pub undo_refused : (had : VaultState) (refusal : Refusal) → RefusesUndo text mid refusal
       → IsRehearsalRefusal had vault refusal × NamesAddress vault refusal
   undo_refused had refusal refuses = (
-    inr (sealed, refuses.answers (rw is (session.aims sealed).0)),
+    inr (sealed, refuses.answers (rw is (session.sends sealed).0)),
     record {
       early = λ unsealed. absurd (true≢false (sym sealed ∙ unsealed));
       late = λ again telling. rw is at refuses.names;

@@ -3,7 +3,8 @@ use Rattle.std.specs.Prelude.{◌≡◌, ◌≤◌, ◌+◌, ◌*◌, ◌/◌, �
 use Rattle.nor_chip.specs.Bus.{BusState}
 use Rattle.nor_driver.specs.Ready.{StaysReady}
 use Rattle.nor_driver.specs.Looks.{Rested, RanOut, RanOutIfHonest}
-use Rattle.nor_driver.specs.Operations.{AimsWithin, most_operation}
+use Rattle.nor_driver.specs.Limits.{SendsWithin, SendsExactly}
+use Rattle.nor_driver.specs.Operations.{most_operation}
 use Rattle.nor_count.specs.Below.{count_below}
 use Rattle.nor_plan.specs.Planned.{fewest_erases}
 use Rattle.nor_apply.specs.declared.changes.Changes.{Changes}
@@ -12,8 +13,8 @@ use Rattle.nor_count.specs.Counts.{sector_count}
 use Rattle.nor_plan.specs.Content.{once_erased, is_programmed}
 use Rattle.nor_apply.specs.Change.{MayChange}
 use Rattle.nor_apply.specs.Checking.{CanCheck, IsFirstMismatch}
-use Rattle.nor_apply.specs.Spending.{Spends, may_aim_at}
-use Rattle.nor_apply.specs.Applying.{touched_in, raised_in, status_writes, most_applied, CanApply, HasApplied}
+use Rattle.nor_apply.specs.Spending.{Spends}
+use Rattle.nor_apply.specs.Applying.{touched_in, raised_in, status_writes, most_sent, most_applied, CanApply, HasApplied}
 use Rattle.nor_call.specs.declared.refusal.Refusal.{Refusal}
 use Rattle.nor_call.specs.declared.refusal.Refusal.TheVariants.{Stopped, Timeout, Mismatch}
 
@@ -55,11 +56,11 @@ CheckRefuses changes wanted old new _ = ⊥
 
 -- ---- the changes and their check
 
--- At every exit. On every bus only touched sectors are targeted, and the status is written no more often than the
--- changes ask for.
+-- At every exit. On every bus only touched sectors are targeted, no more is sent than the changes may send, and the
+-- status is written only as they ask.
 pub record LeavesChange (changes : Changes) (wanted : ℕ → ℕ) (old new : BusState) : Type 0 where
   pub spends : Spends (most_changed changes) old new
-  pub aims : AimsWithin (may_aim_at (touched_in changes) changes.size) (status_writes changes) old new
+  pub sends : SendsWithin (most_sent changes) old new
   pub reached : old.honest ≡ true → CanApply changes wanted old.chip
       → MayChange (touched_in changes) (raised_in changes) wanted old new
 
@@ -73,6 +74,7 @@ pub record DoesChange (changes : Changes) (wanted : ℕ → ℕ) (verify : Bool)
       ≤ touched_count changes + read_back changes verify
       + most_operation * (work.erases + work.programs + status_writes changes)
   pub least : 3 * (work.erases + work.programs + status_writes changes) + read_back changes verify ≤ work.transactions
+  pub exactly : SendsExactly work.erases work.programs (status_writes changes) old new
   pub heard : StaysReady old new
   pub sent : old.honest ≡ true → old.left ≡ new.left + work.transactions
   pub still : touched_count changes + status_writes changes ≡ 0 → new.sent ≡ old.sent

@@ -13,6 +13,7 @@ use Rattle.nor_call.specs.declared.refusal.Refusal.{Refusal}
 use Rattle.nor_journal.specs.Vault.{VaultState}
 use Rattle.nor_call.specs.Request.{is_data}
 use Rattle.nor_save.specs.Opening.{status_read, Opens, most_opening}
+use Rattle.nor_save.specs.Judging.{IsFoundCode}
 use Rattle.nor_save.specs.Saving.{IsOpening}
 use Rattle.nor_save.specs.Verdict.{IsNamed, OpeningAccepts}
 use Rattle.nor_probe.specs.Known.{IsModelled}
@@ -25,6 +26,7 @@ pub record IsJudged (request : Request) (image : ℕ) (opening : Opening) (code 
   pub few : opening.transactions ≤ most_opening
   pub six_bits : code < 64
   pub sized : is_data request.what ≡ true → image ≡ opening.found.size
+  pub found_code : IsFoundCode request.what opening code
   pub same_code : is_data request.what ≡ true → code ≡ code_of (kept_in (status_read opening))
   pub accepts : (chip : Chip) (bytes : List ℕ) → IsOpening chip opening → IsNamed request.named chip.config
       → length bytes ≡ image → OpeningAccepts request bytes chip code

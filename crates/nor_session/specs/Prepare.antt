@@ -2,9 +2,12 @@
 use Rattle.std.specs.Prelude.{◌≡◌, ◌≢◌, ◌<◌, ◌≤◌, ◌+◌, ◌/◌, ◌||◌, ◌⊎◌, ℕ, Bool, true, List, Result, None, Ok, Err, IfErr, OnOk, OnErr, IfOk, MatchBool, length, slice_index, ⊤}
 use Rattle.nor_chip.specs.Guard.{code_of}
 use Rattle.nor_chip.specs.Chip.{Chip, IsSame, is_locked, status1_of, kept_in}
+use Rattle.nor_chip.specs.Status.{bytes_of}
 use Rattle.nor_chip.specs.Bus.{BusState}
+use Rattle.nor_save.specs.Opening.{status_read}
 use Rattle.nor_driver.specs.Looks.{Rested, RanOutIfHonest, IsOpen}
 use Rattle.nor_driver.specs.Ready.{StaysReady}
+use Rattle.nor_driver.specs.StatusWrites.{fixed_of}
 use Rattle.nor_driver.specs.Reads.{ReadsSector}
 use Rattle.nor_plan.specs.Content.{is_touched, is_raised}
 use Rattle.nor_journal.specs.Text.{Content}
@@ -65,6 +68,10 @@ pub record RestoreAccepts (journal : Content) (chip : Chip) : Type 0 where
 pub record IsOfKindFound (journal : Content) (found : Found) : Type 0 where
   pub id : journal.id ≡ found.id
   pub size : journal.size ≡ found.size
+
+-- the status bits that flashnor never changes were read as the journal has them
+abbrev pub HasFixedRead : Content → Opening → Type 0
+HasFixedRead journal opening = fixed_of (kept_in (status_read opening)) ≡ fixed_of (kept_in journal.status)
 
 -- the errors that are checked by the unique ID and by the status
 abbrev pub IsUnitRefusal : Refusal → Type 0
@@ -196,6 +203,8 @@ pub record IsPrepared (journal : Content) (old new : BusState) (prepared : Prepa
   pub sized : prepared.changes.size ≡ journal.size
   pub six_bits : prepared.changes.code < 64
   pub saved : (s : ℕ) → has prepared.changes.touched s ≡ true → is_saved journal s ≡ true
+  pub fixed : fixed_of (kept_in (bytes_of prepared.changes.status)) ≡ fixed_of (kept_in journal.status)
+  pub code : prepared.changes.code ≡ code_of (kept_in journal.status)
   pub count : prepared.touched ≡ touched_count prepared.changes
   pub few : prepared.touched ≤ length journal.saved
   pub room : length journal.saved ≤ 4096

@@ -7,7 +7,9 @@ use Rattle.nor_journal.specs.Vault.{VaultState, Rose}
 use Rattle.nor_journal.specs.Saved.{JournalSaves}
 use Rattle.nor_count.specs.Counts.{sector_count}
 use Rattle.nor_plan.specs.Content.{is_touched}
+use Rattle.nor_journal.specs.Text.{Content}
 use Rattle.nor_call.specs.declared.request.Request.{Request}
+use Rattle.nor_call.specs.declared.request.What.{What}
 use Rattle.nor_call.specs.declared.refusal.Refusal.{Refusal}
 use Rattle.nor_call.specs.declared.refusal.Refusal.TheVariants.{Vault}
 use Rattle.nor_call.specs.Refusal.{number_of}
@@ -18,7 +20,7 @@ use Rattle.nor_session.specs.declared.rehearsals.Rehearsal.{Rehearsal}
 use Rattle.nor_session.specs.Bounds.{most_looked, most_of}
 use Rattle.nor_session.specs.Made.{AreFewestErases, pages_of}
 use Rattle.nor_save.specs.Verdict.{IsVerdict, IsAccepted}
-use Rattle.nor_session.specs.Session.{AnswersSession, NamesAddress, most_status_writes, AimsAtSaved, WritesStatusAtMost}
+use Rattle.nor_session.specs.Session.{AnswersSession, NamesAddress, IsSavedCode, IsWrittenCode, most_status_writes, SendsSaved, WritesStatusAtMost}
 use Rattle.nor_session.specs.Restore.{IsRestoreRefusal}
 
 -- how many transactions the session may use: the first stop, or without a stop the most that one may need on 16 MiB
@@ -88,6 +90,10 @@ abbrev pub RehearsalTells : Request → List ℕ → Chip → (old new : VaultSt
 RehearsalTells request image chip old new Vault = Rose old new
 RehearsalTells request image chip old new refusal = IsVerdict request image chip refusal
 
+-- the protection bits that its session may write, or its restores
+abbrev pub IsRehearsedCode : What → Content → (code : ℕ) → Type 0
+IsRehearsedCode what journal code = IsWrittenCode what journal code ⊎ IsSavedCode journal code
+
 -- ---- the promises of a rehearsal
 
 -- On every bus.
@@ -105,8 +111,10 @@ pub record RehearsalAlways (request : Request) (stops : List ℕ) (old new : Bus
   pub heard : IfOk result (λ rehearsal. rehearsal.sealed ≡ true → new.heard ≡ true)
   -- if the vault isn't sealed, no modifying command was sent
   pub still : vault'.sealed ≡ false → new.sent ≡ old.sent
-  -- after the seal its journal saves the sectors that the session and the restores targeted
-  pub aims : vault'.sealed ≡ true → (journal : IsJournal vault'.bytes) × AimsAtSaved journal.content old new
+  -- after the seal its journal saves the sectors that the session and the restores targeted, and the status bits that
+  -- were written and are not protection bits
+  pub sends : vault'.sealed ≡ true → (journal : IsJournal vault'.bytes)
+      × SendsSaved (IsRehearsedCode request.what journal.content) (1 + max 1 (length stops)) journal.content old new
   -- at every exit the status was written no more often than the request may need, and at most twice by each restore;
   -- the restores are at most as many as the stops, or one
   pub writes : WritesStatusAtMost (most_status_writes request.what request.unlock + 2 * max 1 (length stops)) old new

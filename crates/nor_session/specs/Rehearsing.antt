@@ -19,7 +19,7 @@ use Rattle.nor_save.specs.Saving.{head_of, NoneHeld}
 use Rattle.nor_save.specs.SavedScan.{IsJournal}
 use Rattle.nor_session.specs.Bounds.{most_of}
 use Rattle.nor_save.specs.Verdict.{IsAccepted}
-use Rattle.nor_session.specs.Session.{AnswersSession, SavesSector, NamesSector, NamesAddress, most_status_writes, AimsAtSaved, WritesStatusAtMost}
+use Rattle.nor_session.specs.Session.{AnswersSession, SavesSector, NamesSector, NamesAddress, IsSavedCode, IsWrittenCode, most_status_writes, SendsSaved, WritesStatusAtMost}
 use Rattle.nor_session.specs.Headline.{CanGiveBack}
 use Rattle.nor_session.specs.Restore.{IsRestoreRefusal}
 use Rattle.nor_session.specs.Rehearsal.{CanEnd, SealFits, AreRestores, FitsLastStop, LeavesRefused, IsNoHalt, RehearsalTells}
@@ -49,7 +49,8 @@ pub record LeavesSession (request : Request) (image : List ℕ) (old new : BusSt
   pub wears : IsModelled old → (s : ℕ) → is_touched old.chip.bytes (wanted request image old.chip) s ≡ false
       → new.worn s ≡ old.worn s
   pub still : vault.sealed ≡ false → new.sent ≡ old.sent
-  pub aims : vault.sealed ≡ true → (journal : IsJournal vault.bytes) × AimsAtSaved journal.content old new
+  pub sends : vault.sealed ≡ true → (journal : IsJournal vault.bytes)
+      × SendsSaved (IsWrittenCode request.what journal.content) 1 journal.content old new
   pub writes : WritesStatusAtMost (most_status_writes request.what request.unlock) old new
 
 -- The wanted non-volatile status bits: those of before with the wanted protection bits.
@@ -89,7 +90,7 @@ pub record LeavesRestores (journal : Content) (restores : ℕ) (old new : BusSta
   pub modelled : IsModelled old → IsModelled new
   pub can : IsModelled old → (first : Chip) → CanGiveBack journal first old → CanGiveBack journal first new
   pub worn : IsModelled old → (s : ℕ) → is_saved journal s ≡ false → new.worn s ≡ old.worn s
-  pub aims : AimsAtSaved journal old new
+  pub sends : SendsSaved (IsSavedCode journal) restores journal old new
   pub writes : WritesStatusAtMost (2 * restores) old new
 
 -- One restore might use this many transactions. It ended, and restored each chip that the journal could restore; or it
@@ -133,9 +134,10 @@ abbrev pub WearsSaved : List ℕ → (old new : BusState) → Type 0
 WearsSaved text old new = IsModelled old → (saved : ℕ → Bool) (first : Chip) → LeadsBack saved first text old
     → (s : ℕ) → saved s ≡ false → new.worn s ≡ old.worn s
 
--- on every bus, if the bytes are a journal, it saves the sectors that were targeted
-abbrev pub AimsAtText : List ℕ → (old new : BusState) → Type 0
-AimsAtText text old new = (journal : IsJournal text) → AimsAtSaved journal.content old new
+-- on every bus, if the bytes are a journal, it saves the sectors and the status bits of what this many restores sent
+abbrev pub SendsText : List ℕ → (restores : ℕ) → (old new : BusState) → Type 0
+SendsText text restores old new =
+    (journal : IsJournal text) → SendsSaved (IsSavedCode journal.content) restores journal.content old new
 
 -- They returned an error: one of restores if the bytes are a journal, on an honest bus never a stop, and none at all if
 -- the bytes can restore the chip.
@@ -152,7 +154,7 @@ pub record LeavesUndo (text stops : List ℕ) (old new : BusState) (result : Res
   -- at every exit only sectors were erased that the bytes save
   pub wears : WearsSaved text old new
   -- only sectors were targeted that the bytes save
-  pub aims : AimsAtText text old new
+  pub sends : SendsText text (length stops + 1) old new
   -- each restore wrote the status at most twice, and at most one ran without a stop
   pub writes : WritesStatusAtMost (2 * (length stops + 1)) old new
   -- they ended, and restored the first chip

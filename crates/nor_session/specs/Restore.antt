@@ -22,7 +22,7 @@ use Rattle.nor_save.specs.Saving.{SomeHeld}
 use Rattle.nor_session.specs.Bounds.{most_looked, most_of}
 use Rattle.nor_session.specs.Made.{IsMade, IsReported}
 use Rattle.nor_session.specs.Headline.{IsOfKind}
-use Rattle.nor_session.specs.Session.{NamesSector, IsWithinBound, AimsAtSaved, WritesStatusAtMost, HonestTells}
+use Rattle.nor_session.specs.Session.{NamesSector, IsWithinBound, IsSavedCode, SendsSaved, SendsCounted, WritesStatusAtMost, HonestTells}
 
 -- ---- what is wanted
 
@@ -116,8 +116,8 @@ pub record IsRestored (journal : Content) (old new : BusState) (report : Report)
 pub record RestoreAlways (journal : Content) (old new : BusState) (result : Result Report Refusal) : Type 0 where
   -- at every exit no more was sent than a restore of this many sectors may need
   pub spends : Spends (most_of (length journal.saved)) old new
-  -- at every exit the journal saves the sectors that were targeted
-  pub aims : AimsAtSaved journal old new
+  -- at every exit the journal saves the sectors that were targeted, and the status bits that were written
+  pub sends : SendsSaved (IsSavedCode journal) 1 journal old new
   -- at every exit the status was written at most twice
   pub writes : WritesStatusAtMost 2 old new
   -- an error is one that a restore returns
@@ -127,8 +127,9 @@ pub record RestoreAlways (journal : Content) (old new : BusState) (result : Resu
   -- an error that is checked first comes after reading only, with at most the transactions of identifying and scanning
   -- the largest chip
   pub looks : IfErr result (λ refusal. IsJudgedFirst refusal → Looks (most_looked 4096) old new)
-  -- at the end the report is within its bounds
+  -- at the end the report is within its bounds, and counts the erases and page programs that were sent
   pub bounded : IfOk result (IsWithinBound (length journal.saved) 2 true)
+  pub reported : IfOk result (λ report. SendsCounted report.erases report.programs old new)
   -- a restore ends only if the last poll showed that the chip is ready
   pub heard : OnOk result (new.heard ≡ true)
 

@@ -1,10 +1,14 @@
 -- What a session promises.
-use Rattle.std.specs.Prelude.{◌≡◌, ◌≢◌, ◌≤◌, ◌<◌, ◌+◌, ◌*◌, ◌/◌, ◌⊎◌, ℕ, Bool, true, false, List, [], Result, IfOk, IfErr, OnOk, OnErr, if◌then◌else◌, ⊤}
-use Rattle.nor_chip.specs.Chip.{Chip, IsSame}
-use Rattle.nor_chip.specs.Sent.{is_aimed_at, status_writes_of}
+use Rattle.std.specs.Prelude.{◌≡◌, ◌∷◌, ◌%◌, ◌≢◌, ◌≤◌, ◌<◌, ◌+◌, ◌*◌, ◌/◌, ◌⊎◌, ℕ, Bool, true, false, List, [], Result, IfOk, IfErr, OnOk, OnErr, if◌then◌else◌, ⊤}
+use Rattle.nor_chip.specs.Chip.{Chip, IsSame, kept_in}
+use Rattle.nor_chip.specs.Guard.{code_of}
+use Rattle.nor_chip.specs.Offer.{IsLeastCode}
+use Rattle.nor_chip.specs.Sent.{is_aimed_at, has_written, is_strange, erases_of, programs_of, status_writes_of}
 use Rattle.nor_chip.specs.Bus.{BusState}
 use Rattle.nor_driver.specs.Looks.{Looks, Falls, RanOut}
-use Rattle.nor_driver.specs.StatusWrites.{with_code}
+use Rattle.nor_driver.specs.StatusWrites.{fixed_of, with_code}
+use Rattle.nor_driver.specs.Limits.{CountsUp}
+use Rattle.nor_count.specs.Counts.{sector_count}
 use Rattle.nor_driver.specs.Operations.{most_operation}
 use Rattle.nor_plan.specs.Content.{is_touched, is_raised}
 use Rattle.nor_journal.specs.Text.{Content}
@@ -46,7 +50,8 @@ NamesSector IsSuch (Timeout address) = (address ≡ 0) ⊎ IsSuch (address / 409
 NamesSector IsSuch (Mismatch address) = IsSuch (address / 4096)
 NamesSector IsSuch _ = ⊤
 
--- Which address an error names: before the seal none in a sector, after it one in a sector that the journal saves.
+-- Which address an error names: before the seal none in a sector, after it one in a sector that the journal of a
+-- faithful vault saves.
 pub record NamesAddress (vault : VaultState) (refusal : Refusal) : Type 0 where
   pub early : vault.sealed ≡ false → NamesSector (λ s. ⊥) refusal
   pub late : vault.sealed ≡ true → vault.telling ≡ true → NamesSector (λ s. SavesSector s vault.bytes) refusal
@@ -63,11 +68,49 @@ pub record IsBehindWhole (journal : Content) (sector : ℕ) : Type 0 where
   pub whole : (s : ℕ) → s < journal.size / 4096 → is_saved journal s ≡ true
   pub behind : journal.size / 4096 ≤ sector
 
--- Each sector that was targeted is one that had been targeted before, or that the journal saves, or it lies past the
--- end of a chip that the journal saves whole.
-abbrev pub AimsAtSaved : Content → (old new : BusState) → Type 0
-AimsAtSaved journal old new = (s : ℕ) → (is_aimed_at new.sent s ≡ is_aimed_at old.sent s)
-    ⊎ ((is_saved journal s ≡ true) ⊎ IsBehindWhole journal s)
+-- the protection bits of the chip that the journal saves, or none
+abbrev pub IsSavedCode : Content → (code : ℕ) → Type 0
+IsSavedCode journal code = (code ≡ 0) ⊎ (code ≡ code_of (kept_in journal.status))
+
+-- The protection bits that a request may write: for a protection range the least that protect exactly it on a chip of
+-- the journal's size; else none (to lift protection), or those that the journal saves.
+abbrev pub IsWrittenCode : What → Content → (code : ℕ) → Type 0
+IsWrittenCode (WpRange start len) journal code = IsLeastCode journal.size start len code
+IsWrittenCode _ journal code = IsSavedCode journal code
+
+-- A status write of these two bytes: the status bits that flashnor never changes are those that the journal saves, the
+-- protection bits are such as may be written, and BUSY, WEL and SUS are clear.
+pub record WritesOnly (IsCode : (code : ℕ) → Type 0) (journal : Content) (one two : ℕ) : Type 0 where
+  pub fixed : fixed_of (kept_in (one ∷ two ∷ [])) ≡ fixed_of (kept_in journal.status)
+  pub code : IsCode (code_of (kept_in (one ∷ two ∷ [])))
+  pub clear1 : one % 4 ≡ 0
+  pub clear2 : two < 128
+
+-- What was sent that may modify a chip, by a number of calls with the same journal. Each sector that was targeted is one
+-- that had been targeted before, or that the journal saves, or it lies past the end of a chip that the journal saves
+-- whole. Each call sent at most one erase for each saved sector, and sixteen page programs. Each status write has bytes
+-- that had been written before, or such as this. Nothing was sent that the model does not know.
+pub record SendsSaved (IsCode : (code : ℕ) → Type 0) (calls : ℕ) (journal : Content) (old new : BusState) : Type 0
+    where
+  pub aimed : (s : ℕ) → (is_aimed_at new.sent s ≡ is_aimed_at old.sent s)
+      ⊎ ((is_saved journal s ≡ true) ⊎ IsBehindWhole journal s)
+  pub written : (one two : ℕ) → (has_written new.sent one two ≡ has_written old.sent one two)
+      ⊎ WritesOnly IsCode journal one two
+  pub erases : erases_of new.sent ≤ erases_of old.sent + calls * sector_count (is_saved journal)
+  pub programs : programs_of new.sent ≤ programs_of old.sent + calls * (16 * sector_count (is_saved journal))
+  pub strange : is_strange new.sent ≡ is_strange old.sent
+
+-- No more erases and page programs were sent than the largest chip has sectors and pages, and nothing that the model
+-- does not know.
+pub record SendsFew (old new : BusState) : Type 0 where
+  pub erases : erases_of new.sent ≤ erases_of old.sent + 4096
+  pub programs : programs_of new.sent ≤ programs_of old.sent + 65536
+  pub strange : is_strange new.sent ≡ is_strange old.sent
+
+-- These numbers of erases and page programs were sent.
+pub record SendsCounted (erases programs : ℕ) (old new : BusState) : Type 0 where
+  pub erased : CountsUp erases (erases_of old.sent) (erases_of new.sent)
+  pub programmed : CountsUp programs (programs_of old.sent) (programs_of new.sent)
 
 -- at most this many more status writes were sent
 abbrev pub WritesStatusAtMost : ℕ → (old new : BusState) → Type 0
@@ -87,9 +130,11 @@ pub record IsWithinBound (scanned writes : ℕ) (verify : Bool) (report : Report
   pub least : 4 + scanned + (if verify then report.touched else 0) + 3 * (report.erases + report.programs)
       ≤ report.transactions
 
--- The session ended: the vault is sealed, and the report is within its bounds.
-pub record EndsSealed (request : Request) (vault : VaultState) (report : Report) : Type 0 where
+-- The session ended: the vault is sealed, and the report is within its bounds and counts the erases and page programs
+-- that were sent.
+pub record EndsSealed (request : Request) (old new : BusState) (vault : VaultState) (report : Report) : Type 0 where
   pub sealed : vault.sealed ≡ true
+  pub sent : SendsCounted report.erases report.programs old new
   pub bounded : IsWithinBound (scanned_sectors request report.found.size)
       (most_status_writes request.what request.unlock) request.verify report
 
@@ -153,21 +198,24 @@ pub record SessionAlways (request : Request) (old new : BusState) (vault vault' 
   pub looks : vault'.sealed ≡ false → Looks (most_looked 4096) old new
   -- at every exit no more was sent than a session on the largest chip may need
   pub spends : Spends (most_of 4096) old new
+  -- at every exit no more erases and page programs were sent than the largest chip has sectors and pages
+  pub few : SendsFew old new
   -- at every exit the status was written no more often than the request may need
   pub writes : WritesStatusAtMost (most_status_writes request.what request.unlock) old new
   -- the vault is faithful at every exit if and only if it was so at the start
   pub telling : vault'.telling ≡ vault.telling
-  -- after the seal the journal of a faithful vault saves the sectors that were targeted
-  pub aims : vault'.sealed ≡ true → vault'.telling ≡ true
-      → (journal : IsJournal vault'.bytes) × AimsAtSaved journal.content old new
+  -- after the seal the journal of a faithful vault saves the sectors that were targeted, and the status bits that were
+  -- written and are not protection bits
+  pub sends : vault'.sealed ≡ true → vault'.telling ≡ true → (journal : IsJournal vault'.bytes)
+      × SendsSaved (IsWrittenCode request.what journal.content) 1 journal.content old new
   -- after the seal a faithful vault holds a journal
   pub holds : HoldsJournal vault'
   -- an error is one that a session returns
   pub answers : IfErr result (AnswersSession vault vault')
-  -- an error names an address in a sector that the journal saves, or 0
+  -- an error names an address in a sector that the journal of a faithful vault saves, or 0
   pub names : IfErr result (NamesAddress vault')
-  -- at the end the vault is sealed, and the report is within its bounds
-  pub ends : IfOk result (EndsSealed request vault')
+  -- at the end the vault is sealed, and the report is within its bounds and counts what was sent
+  pub ends : IfOk result (EndsSealed request old new vault')
   -- a session ends only if the last poll showed that the chip is ready
   pub heard : OnOk result (new.heard ≡ true)
 

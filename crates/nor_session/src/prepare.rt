@@ -1,13 +1,13 @@
 //! What a restore does before it changes anything: it identifies the chip, which must be one that the journal fits,
 //! reads the saved sectors, and finds out what must be changed.
-ghost use Rattle.std.specs.Prelude.{◌≡◌, ◌<◌, ◌≤◌, ◌/◌, None, length, IfOk, IfErr, OnErr, MatchBool, IsTrue};
+ghost use Rattle.std.specs.Prelude.{◌≡◌, ◌<◌, ◌≤◌, ◌/◌, true, None, length, IfOk, IfErr, OnOk, OnErr, MatchBool, IsTrue};
 ghost use Rattle.nor_chip.specs.Size.{is_chip_size};
 ghost use Rattle.nor_driver.specs.Looks.{Looks, RanOutIfHonest};
 ghost use Rattle.nor_plan.specs.SectorSet.{has, LiesBelow};
 ghost use Rattle.nor_save.specs.Opening.{Opens, most_opening};
 ghost use Rattle.nor_call.specs.declared.refusal.Refusal.TheVariants as Refusals;
 ghost use Rattle.nor_session.specs.Bounds.{most_looked};
-ghost use Rattle.nor_session.specs.Prepare.{IsOfKindFound, IsUnitRefusal, FitsOpening, ShowsFixed};
+ghost use Rattle.nor_session.specs.Prepare.{IsOfKindFound, IsUnitRefusal, FitsOpening, HasFixedRead, ShowsFixed};
 ghost use Rattle.nor_session.specs.Prepare.{AcceptsUnit, RefusesUnit, PlansSaved, ScansSaved};
 ghost use Rattle.nor_session.specs.Prepare.{AreChanges, MakesChanges, RefusesShut, IsPrepared, PrepareTells};
 
@@ -55,6 +55,7 @@ fn open_saved<B: Bus>(bus: &mut B, journal: &Journal<'_>) -> Result<Opening, Ref
     ensures opens { IfOk result (Opens None (B.state bus.old) (B.state bus.new)) }
     ensures kind { IfOk result (λ opening. IsOfKindFound journal.now opening.found) }
     ensures fits { IfOk result (FitsOpening journal.now) }
+    ensures fixed { IfOk result (HasFixedRead journal.now) }
     ensures tells { IfErr result (PrepareTells journal.now most_opening (B.state bus.old) (B.state bus.new)) }
 {
     let opening = open_of_kind(bus, journal)?;
@@ -88,6 +89,7 @@ fn is_of_kind(journal: &Journal<'_>, found: &Found) -> bool
 fn judge_unit(journal: &Journal<'_>, opening: &Opening) -> Result<(), Refusal>
     ensures faults { IfErr result IsUnitRefusal }
     ensures fits { AcceptsUnit journal.now opening.now result }
+    ensures fixed { OnOk result (HasFixedRead journal.now opening.now) }
     ensures tells { RefusesUnit journal.now opening.now result }
 {
     if let Some(unique) = journal.unique()
@@ -104,7 +106,8 @@ fn judge_unit(journal: &Journal<'_>, opening: &Opening) -> Result<(), Refusal>
 
 // Whether the fixed status bits are those of the journal; without block protection, whether all non-volatile ones are.
 fn has_fixed(journal: &Journal<'_>, opening: &Opening) -> bool
-    ensures { ShowsFixed journal.now opening.now result }
+    ensures shows { ShowsFixed journal.now opening.now result }
+    ensures fixed { result ≡ true → HasFixedRead journal.now opening.now }
 {
     let told = Status::of(journal.status());
     let read = opening.status();

@@ -22,7 +22,7 @@ returns-in_err-programmed g c =
     let so = lifted c.args.changes.now (g.S.Source.wanted c.args.source.now) c.write_code.ensures.leaves
     c.in_ok-lifted.ensures.does in
     let then = erased so c.requires.raised c.erase_all.ensures.leaves c.in_ok-erased.ensures.does in
-    let halted = programs_halted c.in_ok-erased.erased.count then c.program_all.ensures.leaves (omega (arith, c.in_ok-erased.ensures.does.count))
+    let halted = programs_halted c.in_ok-erased.erased.count then c.program_all.ensures.leaves (omega (arith, c.in_ok-erased.ensures.does.fewer))
     c.in_err-programmed.ensures.halts
     c.in_err-programmed.ensures.names in
     grind (arith, common_steps, halted)

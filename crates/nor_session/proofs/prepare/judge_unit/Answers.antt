@@ -18,7 +18,7 @@ returns-then-has_fixed-clause-fits c = λ chip small is kind. record {
     | in_default-via-in-None-1 w ↦ no_unit c.args.journal.now chip.config (search rules)
     | in_default-via-in-Some+else-ne w ↦ let read = is.unique in same_unit c.args.journal.now chip.config w.in-Some.unique (search rules) (search rules)
   ];
-  fixed = let told = c.has_fixed.ensures chip small is in search rules;
+  fixed = let told = c.has_fixed.ensures.shows chip small is in search rules;
 }
 
 pub returns-else-has_fixed-clause-tells : goal.returns-else-has_fixed-clause-tells
@@ -29,5 +29,5 @@ returns-else-has_fixed-clause-tells c = λ chip small is kind. (
     | in_default-via-in-None-1 w ↦ no_unit c.args.journal.now chip.config (search rules)
     | in_default-via-in-Some+else-ne w ↦ let read = is.unique in same_unit c.args.journal.now chip.config w.in-Some.unique (search rules) (search rules)
   ],
-  (let told = c.has_fixed.ensures chip small is in search rules),
+  (let told = c.has_fixed.ensures.shows chip small is in search rules),
 )

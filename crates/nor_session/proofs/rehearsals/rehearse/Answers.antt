@@ -1,10 +1,17 @@
-use Rattle.std.proofs.Common.{rules, ◌∙◌, refl, sym}
+use Rattle.std.proofs.Common.{rules, arith, ◌∙◌, refl, sym}
 use Rattle.std.proofs.lemmas.Bool.{true≢false}
 use Rattle.std.proofs.lemmas.Result.{err_from_is_err_and}
 use Rattle.nor_journal.specs.MemVault.{held_by}
 use Rattle.nor_probe.specs.Known.{IsModelled}
-use Rattle.nor_session.proofs.RehearsedSessions.{led, both_wear, both_aim, both_write, undo_refused}
+use Rattle.nor_session.proofs.RehearsedSessions.{session_sends, led, both_wear, both_send, both_write, undo_refused}
 use Rattle.nor_session.proofs.rehearsals.rehearse.Goals as goal
+
+-- the session returned an error
+pub returns-in_err-ended-clause-always : goal.returns-in_err-ended-clause-always
+returns-in_err-ended-clause-always g c =
+    let sends = session_sends c.args.stops.now c.stopped_session.ensures.leaves in
+    let p = err_from_is_err_and c.from_residual.result c.from_residual.ensures.1 in
+    rw (p.1, p.2) (search (rules, arith))
 
 -- a restore returned an error
 pub returns-in_err-restores : goal.returns-in_err-restores
@@ -15,7 +22,7 @@ returns-in_err-restores g c =
     let never = λ (modelled : IsModelled (g.B.Bus.state c.args.bus.now)).
     let (still, leads) = led session sealed is undone modelled in refuses.never still _ _ leads in
     let told = undo_refused session sealed is undone (held_by c.args.vault.now) _ refuses in
-    let aims = both_aim session sealed is undone in
+    let sends = both_send session sealed is undone c.args.stops.now c.later.ensures in
     let writes = both_write session sealed is undone c.args.stops.now c.later.ensures in
     let p = err_from_is_err_and c.from_residual-in_err-restores.result c.from_residual-in_err-restores.ensures.1 in
     rw (p.1, p.2) (record {
@@ -48,7 +55,7 @@ returns g c =
         names = search rules;
         heard = search rules;
         still = λ unsealed. absurd (true≢false (sym sealed ∙ unsealed));
-        aims = λ again. both_aim session sealed is undone;
+        sends = λ again. both_send session sealed is undone c.args.stops.now c.later.ensures;
         writes = both_write session sealed is undone c.args.stops.now c.later.ensures;
       };
       honest = search rules;

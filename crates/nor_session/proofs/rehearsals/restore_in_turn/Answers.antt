@@ -1,12 +1,19 @@
 use Rattle.std.proofs.Common.{rules, arith}
+use Rattle.nor_call.specs.declared.refusal.Refusal.TheVariants.{Stopped}
 use Rattle.nor_session.proofs.RehearsedRestores.{leaves_more, stopped_more, ended_at, refuses_before, last_ends}
 use Rattle.nor_session.proofs.rehearsals.restore_in_turn.Goals as goal
 
 pub loop-stop-preserved : goal.loop-stop-preserved
-loop-stop-preserved g c = search (rules, arith, stopped_more)
+loop-stop-preserved g c = record {
+  restores = omega (arith, c.loop-stop.invariant.restores);
+  stopped = stopped_more c.loop-stop.invariant.stopped _ c.ends_under.ensures.leaves
+      (rw c.if-branch.false at c.in_ok-ends_under.ensures.shows);
+}
 
 pub returns-clause-refuses : goal.returns-clause-refuses
-returns-clause-refuses g c = search (rules, refuses_before, last_ends)
+returns-clause-refuses g c =
+    refuses_before Stopped c.loop-stop.invariant.stopped.leaves
+    (last_ends c.most_needed.ensures (rw c.if-branch-2.false at c.in_ok-ends_under-2.ensures.shows))
 
 pub returns-in_err-ends_under-clause-refuses : goal.returns-in_err-ends_under-clause-refuses
 returns-in_err-ends_under-clause-refuses g c =
@@ -15,7 +22,8 @@ returns-in_err-ends_under-clause-refuses g c =
     search rules
 
 pub returns-then-branch-clause-leaves : goal.returns-then-branch-clause-leaves
-returns-then-branch-clause-leaves g c = search (rules, arith, leaves_more)
+returns-then-branch-clause-leaves g c =
+    leaves_more c.loop-stop.invariant.stopped _ (omega (arith, c.loop-stop-test.true)) c.ends_under.ensures.leaves
 
 pub returns-then-branch-clause-shows : goal.returns-then-branch-clause-shows
 returns-then-branch-clause-shows g c = search (rules, arith, ended_at)
@@ -30,10 +38,12 @@ pub returns-clause-leaves : goal.returns-clause-leaves
 returns-clause-leaves g c = search (rules, arith, leaves_more)
 
 pub returns-in_err-ends_under-clause-leaves : goal.returns-in_err-ends_under-clause-leaves
-returns-in_err-ends_under-clause-leaves g c = search (rules, arith, leaves_more)
+returns-in_err-ends_under-clause-leaves g c =
+    leaves_more c.loop-stop.invariant.stopped _ (omega (arith, c.loop-stop-test.true)) c.ends_under.ensures.leaves
 
 pub returns-in_err-ends_under-2-clause-leaves : goal.returns-in_err-ends_under-2-clause-leaves
-returns-in_err-ends_under-2-clause-leaves g c = search (rules, arith, leaves_more)
+returns-in_err-ends_under-2-clause-leaves g c =
+    leaves_more c.loop-stop.invariant.stopped _ (omega (arith, c.loop-stop.auto.stop-index-end)) c.ends_under-2.ensures.leaves
 
 pub returns-then-branch-2-clause-leaves : goal.returns-then-branch-2-clause-leaves
 returns-then-branch-2-clause-leaves g c = search (rules, arith, leaves_more)

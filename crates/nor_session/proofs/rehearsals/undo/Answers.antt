@@ -1,6 +1,6 @@
 use Rattle.std.proofs.Common.{rules}
 use Rattle.std.proofs.lemmas.Result.{IfOk-weaker, IfErr-weaker}
-use Rattle.nor_session.proofs.RehearsedRestores.{undoes, undo_wears, undo_aims, undo_refuses, unread}
+use Rattle.nor_session.proofs.RehearsedRestores.{undoes, undo_wears, undo_sends, undo_refuses, unread}
 use Rattle.nor_session.proofs.rehearsals.undo.Goals as goal
 
 pub returns-in-Ok : goal.returns-in-Ok
@@ -9,7 +9,7 @@ returns-in-Ok g c =
     record {
       nature = search rules;
       wears = undo_wears is same kept _ _ ends.leaves;
-      aims = undo_aims is same kept _ _ ends.leaves;
+      sends = undo_sends is same kept _ _ ends.leaves;
       writes = search rules;
       undoes = IfOk-weaker c.restore_in_turn.result _ _ (undoes is same kept _) ends.shows;
       heard = search rules;

@@ -1,4 +1,4 @@
-use Rattle.std.proofs.Common.{◌+◌, length, sym, rules, arith}
+use Rattle.std.proofs.Common.{◌+◌, length, rules, arith}
 use Rattle.std.proofs.lemmas.Bool.{false_from_ne_true}
 use Rattle.std.proofs.lemmas.Result.{err_from_is_err_and}
 use Rattle.nor_save.specs.Opening.{most_opening}
@@ -7,7 +7,8 @@ use Rattle.nor_session.proofs.Restoring.{AreChanged, looks_most, looks_spend, pr
 use Rattle.nor_session.proofs.Changed.{two_writes, no_write}
 use Rattle.nor_session.proofs.GivenBack.{only_stopped}
 use Rattle.nor_session.proofs.Naming.{prepare_names, change_names}
-use Rattle.nor_session.proofs.Aiming.{none_written, none_aimed, change_aims, change_writes}
+use Rattle.nor_session.proofs.Aiming.{none_written, none_sent, change_sends, change_writes}
+use Rattle.nor_session.proofs.OfJournal.{restore_of_journal, counted}
 use Rattle.nor_session.proofs.restores.restore.Goals as goal
 
 -- a check failed, or the bus stopped before
@@ -25,7 +26,7 @@ returns-in_err-prepared g c =
       always =
           let spends = looks_spend most (most_of (length journal.saved)) old new (omega arith) looks in
           let looks = looks_most most (most_looked 4096) old new (omega arith) looks in
-          search (rules, arith, none_aimed, none_written, prepare_answers, prepare_names);
+          search (rules, arith, none_sent, none_written, prepare_answers, prepare_names);
       honest = λ honest.
           let gives_up = prepare_gives_up journal most old new refusal (omega arith) honest tells in search rules;
       modelled = λ modelled.
@@ -47,7 +48,7 @@ returns-in_err-work g c =
           let told = change_tells journal prepared old mid new refusal are modelled tells in
           search (rules, changed_back, only_stopped);
       always =
-          let aims = change_aims old are.looks.sent are.leaves journal (sym are.is.sized) are.is.saved in
+          let sends = change_sends old are.looks.sent are.leaves _ journal (restore_of_journal are.is) in
           let writes = change_writes old are.looks.sent are.leaves (two_writes prepared.changes) in
           let answers = change_answers prepared.changes _ mid new refusal tells in
           let names = change_names prepared.changes refusal are.is.saved c.in_err-work.ensures.names in
@@ -85,10 +86,11 @@ returns g c =
           let done = restored_done journal prepared old mid new work sent are does modelled in
           search (rules, changed_back, restored_back);
       always =
-          let aims = change_aims old are.looks.sent are.leaves journal (sym are.is.sized) are.is.saved in
+          let sends = change_sends old are.looks.sent are.leaves _ journal (restore_of_journal are.is) in
           let writes = change_writes old are.looks.sent are.leaves (two_writes prepared.changes) in
           let bounded = restored_bounded journal prepared old mid new work sent are does (omega arith) in
           let heard = does.heard are.is.heard in
+          let counts = counted old are.looks.sent does in
           search (rules, changed_spends);
       honest = λ honest.
           let counted = restored_counted journal prepared old mid new work sent are does (omega arith) honest in

@@ -1,7 +1,7 @@
 use Rattle.std.proofs.Common.{refl, rules}
 use Rattle.std.proofs.lemmas.Result.{err_from_is_err_and}
 use Rattle.nor_session.proofs.Naming.{judged_names}
-use Rattle.nor_session.proofs.Aiming.{none_written}
+use Rattle.nor_session.proofs.Aiming.{none_written, few_none}
 use Rattle.nor_session.proofs.ReadyChip.{opening_of, named, open_tells, judge_tells}
 use Rattle.nor_session.proofs.GivesBack.{keeps_first}
 use Rattle.nor_session.proofs.sessions.session.Goals as goal
@@ -16,7 +16,7 @@ pub returns-in_err-code-clause-always : goal.returns-in_err-code-clause-always
 returns-in_err-code-clause-always g c =
     let names = judged_names c.in_err-code.field-0.0 c.in_err-code.ensures.faults in
     let p = err_from_is_err_and c.from_residual-in_err-code.result c.from_residual-in_err-code.ensures.1 in
-    rw (p.1, p.2) (search (rules, none_written))
+    rw (p.1, p.2) (search (rules, none_written, few_none))
 
 pub returns-in_err-opening-clause-modelled : goal.returns-in_err-opening-clause-modelled
 returns-in_err-opening-clause-modelled g c = λ modelled.

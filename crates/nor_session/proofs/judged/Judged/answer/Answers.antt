@@ -13,7 +13,9 @@ use Rattle.nor_session.proofs.ReadyChip.{small_first, opening_of, shows, named, 
 use Rattle.nor_session.proofs.SessionChanges.{never_written, change_gives_up, change_tells}
 use Rattle.nor_session.proofs.SessionEnds.{ready_chip, can_be_undone, done, spared}
 use Rattle.nor_session.proofs.Naming.{save_names, save_number, work_names}
-use Rattle.nor_session.proofs.Aiming.{none_written, change_writes, change_aims_in}
+use Rattle.nor_save.specs.Saving.{head_found}
+use Rattle.nor_session.proofs.Aiming.{none_written, few_none, change_writes, change_few}
+use Rattle.nor_session.proofs.OfJournal.{session_sends, counted}
 use Rattle.nor_session.proofs.judged.Judged.answer.Goals as goal
 
 pub finish-requires-clause-sourced : goal.finish-requires-clause-sourced
@@ -49,9 +51,10 @@ returns-in_err-saved g c = λ first looks opens.
           record {
             looks = λ off. looked_on;
             spends = spends;
+            few = few_none first new looked_on.sent;
             writes = writes;
             telling = puts.0;
-            aims = λ on telling. absurd (never on);
+            sends = λ on telling. absurd (never on);
             holds = λ on telling. absurd (never on);
             answers = record {
               own = omega (arith, number.1);
@@ -89,10 +92,12 @@ returns-in_err-work g c = λ first looks opens.
       always =
           let spends : Spends (most_of 4096) first _ = spends_more (omega arith) spent in
           let writes = change_writes first is.looked.same_sent leaves (writes_few is) in
-          let aims = λ (telling : vault'.telling ≡ true).
-          change_aims_in first is.looked.same_sent leaves (c.in_ok-saved.ensures.saves telling) in
+          let few_sent = change_few first is.looked.same_sent leaves is.marks.inside in
+          let sends = λ (telling : vault'.telling ≡ true).
+          session_sends is c.requires.judged.six_bits c.requires.judged.found_code is.looked.same_sent leaves
+          (c.in_ok-saved.ensures.saves telling) in
           let names = work_names (changes_of c.args.self.opening c.in_ok-saved.saved c.status.result c.args.self.code)
-          vault' refusal (search rules) c.in_ok-saved.ensures.saves told.names in
+          (head_found c.args.self.opening) vault' refusal (search rules) c.in_ok-saved.ensures.saves told.names in
           search rules;
       honest = λ honest.
           let tells = change_gives_up _ _ _ _ _ _ _ _ _ refusal honest is told.tells in search rules;
@@ -120,10 +125,13 @@ returns g c = λ first looks opens.
       always =
           let spends : Spends (most_of 4096) first _ = spends_more (omega arith) spent in
           let writes = change_writes first is.looked.same_sent leaves (writes_few is) in
-          let aims = λ (telling : vault'.telling ≡ true).
-          change_aims_in first is.looked.same_sent leaves (c.in_ok-saved.ensures.saves telling) in
+          let few_sent = change_few first is.looked.same_sent leaves is.marks.inside in
+          let sends = λ (telling : vault'.telling ≡ true).
+          session_sends is c.requires.judged.six_bits c.requires.judged.found_code is.looked.same_sent leaves
+          (c.in_ok-saved.ensures.saves telling) in
           let bounded = bounded_by _ _ _ _ _ _ _ _ _ _ _ c.from.result _ c.from.ensures is (writes_few is) does in
           let heard = does.heard (keeps.scans.heard opens.heard) in
+          let counts = counted first is.looked.same_sent does in
           search rules;
       honest = λ honest. search rules;
       modelled = λ modelled.
