@@ -130,10 +130,12 @@ pub record IsWithinBound (scanned writes : ℕ) (verify : Bool) (report : Report
   pub least : 4 + scanned + (if verify then report.touched else 0) + 3 * (report.erases + report.programs)
       ≤ report.transactions
 
--- The session ended: the vault is sealed, and the report is within its bounds and counts the erases and page programs
--- that were sent.
-pub record EndsSealed (request : Request) (old new : BusState) (vault : VaultState) (report : Report) : Type 0 where
-  pub sealed : vault.sealed ≡ true
+-- The session ended: the vault is sealed and did not fail, and the report is within its bounds and counts the erases and
+-- page programs that were sent.
+pub record EndsSealed (request : Request) (old new : BusState) (vault vault' : VaultState) (report : Report) : Type 0
+    where
+  pub sealed : vault'.sealed ≡ true
+  pub failures : vault'.failures ≡ vault.failures
   pub sent : SendsCounted report.erases report.programs old new
   pub bounded : IsWithinBound (scanned_sectors request report.found.size)
       (most_status_writes request.what request.unlock) request.verify report
@@ -214,8 +216,8 @@ pub record SessionAlways (request : Request) (old new : BusState) (vault vault' 
   pub answers : IfErr result (AnswersSession vault vault')
   -- an error names an address in a sector that the journal of a faithful vault saves, or 0
   pub names : IfErr result (NamesAddress vault')
-  -- at the end the vault is sealed, and the report is within its bounds and counts what was sent
-  pub ends : IfOk result (EndsSealed request old new vault')
+  -- at the end the vault is sealed and did not fail, and the report is within its bounds and counts what was sent
+  pub ends : IfOk result (EndsSealed request old new vault vault')
   -- a session ends only if the last poll showed that the chip is ready
   pub heard : OnOk result (new.heard ≡ true)
 
