@@ -14,7 +14,7 @@ PARTS = {
 stopped, the vault has a journal from which the chip can be made the first one (`leads_back`). Reading gives that journal
 (`only`). A restore from it leaves, wherever it is stopped, a chip of which that holds still (`within`); nothing but a stop
 keeps it from ending (`only_stops`); and the one that ends has left the first chip, each byte and each kept bit (`back`).""",
-        650,
+        665,
     ),
     "what is promised beside it": (
         {
@@ -33,7 +33,7 @@ keeps it from ending (`only_stops`); and the one that ends has left the first ch
             "undone_in_turn": "nor_session/src/laws.rt",
         },
         "",
-        600,
+        640,
     ),
     "what is left of files": (
         {"work_on_chip": "flashnor/src/run.rt keeps holds"},
@@ -47,7 +47,7 @@ open to (`LeavesWayBack`). A restore leaves its journal as it was, and what it c
 asked for, or the restored one, and a crash of the host loses neither that chip nor the journal (`HoldsResult`). Which
 addresses the regions of a layout have is said by `AreIncluded` in crates/flashnor/specs/Requests.antt. `run_over` promises
 this of each job on a chip.""",
-        370,
+        375,
     ),
 }
 # What the page leaves out: the trait of files with the law that each of its calls keeps, what a run answers, and the
@@ -68,7 +68,7 @@ SUBJECTS = {
     "What a chip says by SFDP": "nor_probe: src/sfdp specs/Sfdp",
     "What a chip shows itself as": "nor_probe: src/table specs/Table src/probes specs/Known specs/Found",
     "The fewest erases": "nor_driver: src/units specs/Units nor_plan: specs/Erase specs/Planned",
-    "The most transactions": "nor_driver: specs/Operations nor_save: specs/Opening nor_session: specs/Bounds",
+    "The most transactions": "nor_driver: specs/Operations specs/Limits nor_save: specs/Opening nor_session: specs/Bounds",
     "What a request includes": "nor_count: specs/Below nor_layout: src/ranges specs/Ranges specs/Sectors nor_call: src/request",
     "Touched and raised sectors": "nor_count: specs/Counts nor_plan: specs/Content",
     "What a request wants": "nor_call: specs/Request",
