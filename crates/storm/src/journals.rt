@@ -3,10 +3,14 @@
 use crate::cases::Case;
 use crate::chips::Chip;
 use crate::contents::sector_at;
-use crate::fault::{Fault, agree};
+use crate::fault::{Fault, agree, agree_all};
 use crate::wanted::Wanted;
 use crate::{guards, lengths};
+use nor_journal::{Journal, MemVault};
 use std::alloc::Global;
+
+// The length of what follows the records: an end mark of four bytes and a SHA-256.
+const END_LEN: usize = 36;
 
 /// The journal up to its end mark, of which sectors below this one were scanned: the head, and a record for each
 /// touched sector, rising.
@@ -46,6 +50,22 @@ fn put_record(text: &mut Vec<u8>, number: u32, sector: &[u8]) -> Result<(), Faul
     text.extend_from_slice(&number.to_le_bytes())?;
     text.extend_from_slice(sector)?;
     Ok(())
+}
+
+/// After a session on a bus that lies, the vault holds exactly what the reference put by the same replies: nothing, the
+/// journal up to its end mark, or a complete journal that begins so.
+pub fn check_put(vault: &MemVault, begun: &[u8], sealed: bool) -> Result<(), Fault> {
+    let held = vault.bytes();
+    let same = if sealed {
+        Journal::read(held)?;
+        held.len().checked_sub(begun.len()) == Some(END_LEN) && held.starts_with(begun)
+    } else {
+        held == begun
+    };
+    agree_all(&[
+        (vault.is_sealed() == sealed, "the seal on a bus that lies"),
+        (same, "the journal on a bus that lies"),
+    ])
 }
 
 /// A session that scanned all it scans, and was refused then, left the journal up to its end mark.

@@ -4,11 +4,12 @@ use crate::cases::Case;
 use crate::chips::Chip;
 use crate::dice::Dice;
 use crate::fault::{Fault, agree};
+use crate::high::{High, HighBus};
 use crate::model::Stop;
 use crate::readings::{self, Reading};
-use crate::told::{Caller, Halt};
+use crate::told::{Caller, Halt, Put};
 use crate::verdicts::Saved;
-use crate::{lines, traces};
+use crate::{journals, lines, traces};
 use nor_chip::{SimBus, Spoil, SpoiltBus, TraceBus};
 use nor_journal::{Journal, MemVault};
 use nor_session::{Refusal, Report, Request, restore, session};
@@ -30,35 +31,49 @@ struct Told {
 
 /// A session on a bus that lies at some of so many transactions.
 pub fn check_session(alloc: Global, dice: &mut Dice, case: &Case, count: u64) -> Result<(), Fault> {
-    let spoil = spoil_for(dice, count);
+    let lie = lie_for(dice, count);
     let mut image = case.image.to_vec(alloc)?;
-    let bus = liar(alloc, &case.chip, spoil)?;
-    let ran = run_session(alloc, bus, image.as_mut_slice(), &case.request);
-    compare_session(alloc, case, spoil, &ran)
+    let mut vault = MemVault::new(alloc);
+    let bus = liar(alloc, &case.chip, lie)?;
+    let ran = run_session(alloc, bus, &mut vault, image.as_mut_slice(), &case.request);
+    compare_session(alloc, case, lie, &ran, &vault)
 }
 
-fn run_session(alloc: Global, bus: SpoiltBus<SimBus>, image: &mut [u8], request: &Request) -> Ran {
+fn run_session(
+    alloc: Global,
+    bus: Faulty,
+    vault: &mut MemVault,
+    image: &mut [u8],
+    request: &Request,
+) -> Ran {
     let mut sent = Vec::new(alloc);
     let mut bus = TraceBus::new(bus, &mut sent);
-    let mut vault = MemVault::new(alloc);
-    let answer = session(&mut bus, &mut vault, image, request);
+    let answer = session(&mut bus, vault, image, request);
     drop(bus);
     Ran { answer, sent }
 }
 
-fn compare_session(alloc: Global, case: &Case, spoil: Spoil, ran: &Ran) -> Result<(), Fault> {
-    let bus = liar(alloc, &case.chip, spoil)?;
-    let told = tell_session(alloc, bus, case);
-    check(ran, told, "a session on a bus that lies")
+fn compare_session(
+    alloc: Global,
+    case: &Case,
+    lie: Lie,
+    ran: &Ran,
+    vault: &MemVault,
+) -> Result<(), Fault> {
+    let bus = liar(alloc, &case.chip, lie)?;
+    let (told, put) = tell_session(alloc, bus, case);
+    check(ran, told, "a session on a bus that lies")?;
+    journals::check_put(vault, put.begun.as_slice(), put.sealed)
 }
 
-fn tell_session(alloc: Global, bus: SpoiltBus<SimBus>, case: &Case) -> Told {
+fn tell_session(alloc: Global, bus: Faulty, case: &Case) -> (Told, Put) {
     let mut sent = Vec::new(alloc);
     let bus = TraceBus::new(bus, &mut sent);
-    let mut caller = Caller { bus, alloc };
+    let mut caller = Caller::new(alloc, bus);
     let answer = caller.session(case);
-    drop(caller);
-    Told { answer, sent }
+    let Caller { bus, put, alloc: _ } = caller;
+    drop(bus);
+    (Told { answer, sent }, put)
 }
 
 /// A restore of a chip on such a bus, from a journal that says this.
@@ -69,13 +84,13 @@ pub fn check_restore(
     (journal, saved): (&Journal<'_>, Saved<'_>),
     count: u64,
 ) -> Result<(), Fault> {
-    let spoil = spoil_for(dice, count);
-    let bus = liar(alloc, chip, spoil)?;
+    let lie = lie_for(dice, count);
+    let bus = liar(alloc, chip, lie)?;
     let ran = run_restore(alloc, bus, journal);
-    compare_restore(alloc, chip, saved, spoil, &ran)
+    compare_restore(alloc, chip, saved, lie, &ran)
 }
 
-fn run_restore(alloc: Global, bus: SpoiltBus<SimBus>, journal: &Journal<'_>) -> Ran {
+fn run_restore(alloc: Global, bus: Faulty, journal: &Journal<'_>) -> Ran {
     let mut sent = Vec::new(alloc);
     let mut bus = TraceBus::new(bus, &mut sent);
     let answer = restore(&mut bus, journal);
@@ -87,18 +102,18 @@ fn compare_restore(
     alloc: Global,
     chip: &Chip,
     saved: Saved<'_>,
-    spoil: Spoil,
+    lie: Lie,
     ran: &Ran,
 ) -> Result<(), Fault> {
-    let bus = liar(alloc, chip, spoil)?;
+    let bus = liar(alloc, chip, lie)?;
     let told = tell_restore(alloc, bus, saved);
     check(ran, told, "a restore on a bus that lies")
 }
 
-fn tell_restore(alloc: Global, bus: SpoiltBus<SimBus>, saved: Saved<'_>) -> Told {
+fn tell_restore(alloc: Global, bus: Faulty, saved: Saved<'_>) -> Told {
     let mut sent = Vec::new(alloc);
     let bus = TraceBus::new(bus, &mut sent);
-    let mut caller = Caller { bus, alloc };
+    let mut caller = Caller::new(alloc, bus);
     let answer = caller.restore(saved);
     drop(caller);
     Told { answer, sent }
@@ -157,13 +172,13 @@ pub fn check_reading(
     reading: Reading,
     count: u64,
 ) -> Result<(), Fault> {
-    let spoil = spoil_for(dice, count);
-    let bus = liar(alloc, &case.chip, spoil)?;
+    let lie = lie_for(dice, count);
+    let bus = liar(alloc, &case.chip, lie)?;
     let read = run_reading(alloc, bus, case, reading);
-    compare_reading(alloc, case, reading, spoil, &read)
+    compare_reading(alloc, case, reading, lie, &read)
 }
 
-fn run_reading(alloc: Global, bus: SpoiltBus<SimBus>, case: &Case, reading: Reading) -> Read {
+fn run_reading(alloc: Global, bus: Faulty, case: &Case, reading: Reading) -> Read {
     let mut sent = Vec::new(alloc);
     let mut bus = TraceBus::new(bus, &mut sent);
     let answer = reading.call(alloc, case, &mut bus);
@@ -175,18 +190,18 @@ fn compare_reading(
     alloc: Global,
     case: &Case,
     reading: Reading,
-    spoil: Spoil,
+    lie: Lie,
     read: &Read,
 ) -> Result<(), Fault> {
-    let bus = liar(alloc, &case.chip, spoil)?;
+    let bus = liar(alloc, &case.chip, lie)?;
     let known = tell_reading(alloc, bus, case, reading);
     check_read(alloc, read, known)
 }
 
-fn tell_reading(alloc: Global, bus: SpoiltBus<SimBus>, case: &Case, reading: Reading) -> Known {
+fn tell_reading(alloc: Global, bus: Faulty, case: &Case, reading: Reading) -> Known {
     let mut sent = Vec::new(alloc);
     let bus = TraceBus::new(bus, &mut sent);
-    let mut caller = Caller { bus, alloc };
+    let mut caller = Caller::new(alloc, bus);
     let answer = caller.reading(reading, case);
     drop(caller);
     Known { answer, sent }
@@ -214,7 +229,28 @@ fn check_known(
     }
 }
 
-// A lie. Half of those that stand at a transaction stand behind three quarters of the call.
+// How a bus lies.
+#[derive(Clone, Copy)]
+enum Lie {
+    Spoilt(Spoil),
+    Sets(High),
+}
+
+// A bus that lies in one of these ways.
+type Faulty = HighBus<SpoiltBus<SimBus>>;
+
+// A lie: one in eight sets a bit in the replies to one opcode.
+fn lie_for(dice: &mut Dice, count: u64) -> Lie {
+    if dice.hits(1, 8) {
+        let opcode = dice.pick(0x35, &[0x03, 0x05, 0x4B, 0x9F]);
+        let bit = u8::try_from(dice.below(8)).unwrap_or(0);
+        Lie::Sets(High { opcode, bit })
+    } else {
+        Lie::Spoilt(spoil_for(dice, count))
+    }
+}
+
+// A lie of a spoilt bus. Half of those at a transaction are in the last quarter of the call.
 fn spoil_for(dice: &mut Dice, count: u64) -> Spoil {
     let late = count / 4 * 3;
     let number = if dice.hits(1, 2) {
@@ -231,7 +267,11 @@ fn spoil_for(dice: &mut Dice, count: u64) -> Spoil {
 }
 
 // A bus to a chip that lies so, and never stops.
-fn liar(alloc: Global, chip: &Chip, spoil: Spoil) -> Result<SpoiltBus<SimBus>, Fault> {
+fn liar(alloc: Global, chip: &Chip, lie: Lie) -> Result<Faulty, Fault> {
     let bus = chip.bus(alloc, Stop::NEVER)?;
-    Ok(SpoiltBus::new(bus, spoil))
+    let (spoil, high) = match lie {
+        Lie::Spoilt(spoil) => (spoil, None),
+        Lie::Sets(high) => (Spoil::Low(8), Some(high)),
+    };
+    Ok(HighBus::new(SpoiltBus::new(bus, spoil), high))
 }

@@ -10,6 +10,7 @@ mod damages;
 mod dice;
 mod fault;
 mod guards;
+mod high;
 mod journals;
 mod left;
 mod lengths;

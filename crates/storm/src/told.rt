@@ -5,19 +5,20 @@ use crate::chips::Chip;
 use crate::contents::sector_at;
 use crate::fault::Fault;
 use crate::guards::Status;
+use crate::high::HighBus;
 use crate::lines::Lines;
 use crate::parameters::{self, Shown};
 use crate::readings::Reading;
 use crate::verdicts::{self, Saved};
 use crate::wanted::{Wanted, touches};
-use crate::{restores, transactions};
+use crate::{journals, restores, transactions};
 use nor_chip::{Bus, Config, Delays, SECTOR_LEN, SimBus, SpoiltBus, Stopped, TraceBus};
 use nor_probe::ChipName;
 use nor_session::{Refusal, Request, What};
 use std::alloc::{AllocError, AllocFailed, Global};
 
 /// A bus that lies about a chip, with the trace of all that is sent over it.
-pub type Liar<'a> = TraceBus<SpoiltBus<SimBus>, &'a mut Vec<u8>>;
+pub type Liar<'a> = TraceBus<HighBus<SpoiltBus<SimBus>>, &'a mut Vec<u8>>;
 
 /// The most polls of a wait.
 const MOST_POLLS: u32 = 65_536;
@@ -29,11 +30,30 @@ pub enum Halt {
     Failed(Fault),
 }
 
+/// What a session must have put into its vault: its journal up to the end mark, and whether it was completed and sealed.
+#[derive(Drop)]
+pub struct Put {
+    pub begun: Vec<u8>,
+    pub sealed: bool,
+}
+
 /// A caller of a bus.
 #[derive(Drop)]
 pub struct Caller<'a> {
     pub bus: Liar<'a>,
+    pub put: Put,
     pub alloc: Global,
+}
+
+impl<'a> Caller<'a> {
+    /// Returns a caller that has put nothing into a vault.
+    pub fn new(alloc: Global, bus: Liar<'a>) -> Caller<'a> {
+        let put = Put {
+            begun: Vec::new(alloc),
+            sealed: false,
+        };
+        Caller { bus, put, alloc }
+    }
 }
 
 impl Caller<'_> {
@@ -52,7 +72,9 @@ impl Caller<'_> {
             self.scan(case, &mut told.chip)?;
         }
         let wanted = Wanted::of_case(self.alloc, told)?;
+        self.put.begun = journals::begun(self.alloc, told, &wanted, told.chip.sectors())?;
         refuse(verdicts::of_changes(told, &wanted))?;
+        self.put.sealed = true;
         self.make(told, &wanted)
     }
 

@@ -1,0 +1,60 @@
+//! A bus that sets a bit in the replies to one opcode.
+ghost use Rattle.std.proofs.lemmas.Bool.{false≢true};
+ghost use Rattle.nor_chip.specs.Bus.{unknown_bus};
+
+use nor_chip::{Bus, Sent, Stopped, heard_after};
+
+/// Which bit is set in each reply byte, and in the replies to which opcode.
+#[derive(Clone, Copy)]
+pub struct High {
+    pub opcode: u8,
+    pub bit: u8,
+}
+
+/// A faulty bus: with `Some`, a bit is set in each byte that is replied to one opcode.
+#[derive(Drop)]
+pub struct HighBus<B> {
+    bus: B,
+    high: Option<High>,
+    sent: Sent,
+    heard: bool,
+}
+
+impl<B: Bus> HighBus<B> {
+    /// Returns a bus over this one.
+    pub fn new(bus: B, high: Option<High>) -> HighBus<B> {
+        HighBus {
+            bus,
+            high,
+            sent: Sent::new(),
+            heard: false,
+        }
+    }
+}
+
+impl<B: Bus> Bus for HighBus<B> {
+    ghost state = { λ high. unknown_bus high.sent high.heard };
+
+    ghost reaches = { λ high honest. absurd (false≢true honest) };
+
+    fn transfer(&mut self, out: &[u8], reply: &mut [u8]) -> Result<(), Stopped> {
+        self.sent.note(out);
+        self.bus.transfer(out, reply)?;
+        if let (Some(high), [opcode, ..]) = (self.high, out)
+            && high.opcode == *opcode
+        {
+            set_bit(reply, high.bit);
+        }
+        self.heard = heard_after(out, reply, self.heard);
+        Ok(())
+    }
+}
+
+// Sets a bit, from 0 to 7, in each byte.
+fn set_bit(bytes: &mut [u8], bit: u8) {
+    let mask = [0x01, 0x02, 0x04, 0x08, 0x10, 0x20, 0x40, 0x80];
+    let mask = mask.get(usize::from(bit)).copied().unwrap_or(0);
+    for byte in bytes.iter_mut() {
+        *byte |= mask;
+    }
+}
