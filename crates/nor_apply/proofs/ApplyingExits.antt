@@ -11,7 +11,7 @@ use Rattle.nor_driver.specs.Waits.{Halts}
 use Rattle.nor_driver.specs.StatusWrites.{has_code}
 use Rattle.nor_driver.specs.Limits.{Limits, erasing, programming, writing, SendsWithin, SendsExactly}
 use Rattle.nor_driver.specs.Operations.{most_operation}
-use Rattle.nor_driver.proofs.Limits.{IsPartOf, AreParts, IsSum, sum_parts, sends_more, sends_exactly}
+use Rattle.nor_driver.proofs.Limits.{AreParts, IsSum, sends_more, sends_exactly}
 use Rattle.nor_plan.specs.Content.{once_erased, is_programmed}
 use Rattle.nor_plan.specs.SectorSet.{none}
 use Rattle.nor_apply.specs.declared.changes.Changes.{Changes}

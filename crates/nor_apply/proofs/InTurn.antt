@@ -1,5 +1,5 @@
 -- Parts of a change one after another, whatever the bus: where they aim, and how many transactions they take.
-use Rattle.std.proofs.Common.{◌≡◌, ◌≤◌, ◌+◌, ◌*◌, ◌∙◌, ℕ, Bool, true, List, [], ◌∷◌, ◌++◌, length, sym, ap, refl, arith}
+use Rattle.std.proofs.Common.{◌≡◌, ◌≤◌, ◌+◌, ◌*◌, ◌∙◌, ℕ, true, List, [], ◌∷◌, ◌++◌, length, sym, ap, refl, arith}
 use Rattle.std.proofs.lemmas.List.{length-append, length_push, append_assoc, append-nil}
 use Rattle.std.specs.List.{All}
 use Rattle.std.proofs.lemmas.List.Elements.{All-head, All-tail}
@@ -10,7 +10,7 @@ use Rattle.nor_driver.specs.Looks.{Falls}
 use Rattle.nor_driver.specs.Waits.{Halts}
 use Rattle.nor_driver.specs.Limits.{Limits, SendsWithin, SendsExactly, Stirs}
 use Rattle.nor_driver.specs.Operations.{EndsWaiting, most_operation}
-use Rattle.nor_driver.proofs.Limits.{IsPartOf, AreParts, IsSum, sum_parts, sends_none, sends_more, sends_then, exactly_none, exactly_then}
+use Rattle.nor_driver.proofs.Limits.{AreParts, IsSum, sum_parts, sends_none, sends_then, exactly_none, exactly_then}
 use Rattle.nor_apply.specs.declared.tally.Tally.{Tally}
 use Rattle.nor_apply.specs.Spending.{Spends, Tallies}
 

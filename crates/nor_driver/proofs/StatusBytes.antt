@@ -1,5 +1,5 @@
 -- What a status write does that sends the fixed bits as they are, from what an operation does.
-use Rattle.std.proofs.Common.{◌≡◌, ◌<◌, ◌+◌, ◌*◌, ◌/◌, ◌%◌, ◌∙◌, ℕ, Bool, true, false, cond, List, [], ◌∷◌, length, slice_index, ap, sym, refl, arith}
+use Rattle.std.proofs.Common.{◌≡◌, ◌<◌, ◌+◌, ◌*◌, ◌/◌, ◌%◌, ◌∙◌, ℕ, Bool, true, cond, List, [], ◌∷◌, length, slice_index, ap, sym, refl, arith}
 use Rattle.std.specs.Prelude.{◌==◌, bit_and, bit_or}
 use Rattle.std.specs.List.{list_all, range_with_len}
 use Rattle.std.proofs.lemmas.Bool.{eqb-true}
@@ -14,7 +14,7 @@ use Rattle.nor_chip.specs.Chip.{Chip, kept_in}
 use Rattle.nor_chip.specs.Status.{bytes_of, bytes_with_code}
 use Rattle.nor_chip.specs.Step.{is_idle}
 use Rattle.nor_chip.specs.Bus.{BusState}
-use Rattle.nor_chip.specs.Sent.{aim_none, is_in_aim, writes_status}
+use Rattle.nor_chip.specs.Sent.{writes_status}
 use Rattle.nor_driver.specs.Limits.{limits_of, writing}
 use Rattle.nor_driver.specs.Operations.{operation_of, MayOperate, HasOperated, LeavesOperation, Operates}
 use Rattle.nor_driver.specs.StatusWrites.{fixed_of, with_code, has_code, takes_status, MayWriteStatus, HasWrittenStatus, LeavesStatusWrite, WritesStatus}

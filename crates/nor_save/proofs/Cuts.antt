@@ -1,5 +1,5 @@
 -- What a vault has of a chip's journal: the head, the records, and after a refusal a beginning of it.
-use Rattle.std.proofs.Common.{◌≡◌, ◌∙◌, ℕ, true, ◌*◌, ◌/◌, ◌%◌, ◌<◌, List, [], ◌∷◌, refl, ap, sym, arith, ◌≤◌, ◌+◌}
+use Rattle.std.proofs.Common.{◌≡◌, ◌∙◌, ℕ, true, ◌*◌, ◌/◌, ◌%◌, ◌<◌, List, [], refl, ap, sym, arith, ◌≤◌, ◌+◌}
 use Rattle.std.proofs.Common.{◌&&◌, Bool, length, subst}
 use mathlib.Core.Path.{fun_ext}
 use Rattle.std.specs.Prelude.{Some, nat_lt, ◌≢◌}

@@ -1,5 +1,5 @@
 -- What a session or a restore sends that may modify a chip, on every bus.
-use Rattle.std.proofs.Common.{◌≡◌, ◌≤◌, ◌<◌, ◌+◌, ◌-◌, ◌*◌, ◌/◌, ◌%◌, ◌∙◌, ◌⊎◌, ℕ, Bool, true, List, [], ◌∷◌, inl, inr, ap, refl, arith}
+use Rattle.std.proofs.Common.{◌≡◌, ◌≤◌, ◌<◌, ◌+◌, ◌-◌, ◌*◌, ◌/◌, ◌%◌, ◌∙◌, ◌⊎◌, ℕ, Bool, true, [], ◌∷◌, inl, inr, ap, arith}
 use Rattle.std.specs.Prelude.{◌&&◌, ◌||◌}
 use Rattle.std.proofs.Math.Nat.{add-mul}
 use Rattle.std.proofs.lemmas.Bool.Decides.{nat_tests}

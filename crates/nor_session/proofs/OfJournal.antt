@@ -1,10 +1,9 @@
 -- The changes of a session or a restore are those of the sectors that its journal saves, on every bus.
-use Rattle.std.proofs.Common.{◌≡◌, ◌<◌, ◌+◌, ◌*◌, ◌/◌, ◌%◌, ◌∙◌, ℕ, Bool, true, false, List, [], ◌∷◌, inl, inr, ap, sym, refl, arith, true≢false}
+use Rattle.std.proofs.Common.{◌≡◌, ◌<◌, ◌*◌, ◌/◌, ◌%◌, ◌∙◌, ℕ, Bool, true, false, List, inl, inr, ap, sym, refl, arith, true≢false}
 use Rattle.nor_chip.specs.declared.status.Status.{Status}
 use Rattle.nor_chip.specs.Status.{bytes_of}
-use Rattle.nor_chip.specs.Chip.{KeptBits, kept_in}
+use Rattle.nor_chip.specs.Chip.{kept_in}
 use Rattle.nor_chip.specs.Guard.{code_of}
-use Rattle.nor_chip.specs.Sent.{erases_of, programs_of}
 use Rattle.nor_chip.specs.Bus.{BusState}
 use Rattle.nor_driver.specs.StatusWrites.{fixed_of}
 use Rattle.nor_plan.specs.SectorSet.{has}

@@ -1,6 +1,6 @@
 -- Sessions and restores that follow one another, and losses of power between them.
 use Rattle.std.specs.Prelude.{◌≡◌, ◌⊎◌, ℕ, true, false, List}
-use Rattle.nor_chip.specs.Chip.{Chip, IsChip, IsSame}
+use Rattle.nor_chip.specs.Chip.{IsChip, IsSame}
 use Rattle.nor_chip.specs.Power.{PowerLost}
 use Rattle.nor_chip.specs.Bus.{BusState}
 use Rattle.nor_journal.specs.Text.{Content, IsContent, text}

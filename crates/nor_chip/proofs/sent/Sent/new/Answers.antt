@@ -1,5 +1,5 @@
 use Rattle.std.proofs.Common.{refl, false}
-use Rattle.std.specs.Prelude.{◌&&◌, ◌*◌, ◌+◌, nat_lt}
+use Rattle.std.specs.Prelude.{◌*◌, ◌+◌, nat_lt}
 use Rattle.std.proofs.Math.Bool.{and-false}
 use Rattle.nor_chip.proofs.Round.{get_or-replicate_all}
 use Rattle.nor_chip.proofs.sent.Sent.new.Goals as goal
