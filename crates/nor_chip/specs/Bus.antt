@@ -74,26 +74,30 @@ pub record Allows (n : ℕ) (old new : BusState) : Type 0 where
   pub heard : new.heard ≡ old.heard
   pub worn : (s : ℕ) → new.worn s ≡ old.worn s
 
--- A bus of which nothing is known but what was sent over it and heard, as one to a chip that isn't modelled: it isn't
--- honest, so nothing is promised of its chip, and any stands for it.
+-- any chip: it stands for one about which nothing is promised
+abbrev pub unknown_chip : Chip
+unknown_chip = record {
+  config = record {
+    id = [];
+    size = 65536;
+    kinds = record { k32 = false; k64 = false };
+    scheme = false;
+    unique = [];
+    sfdp = [];
+    sized = refl;
+  };
+  bytes = λ a. 0;
+  kept = record { one = 0; two = 0 };
+  latch = false;
+  busy = 0;
+  running = Unknown;
+}
+
+-- A bus of which only is known what was sent over it and what the last poll showed, as one to a chip that isn't modelled.
+-- It isn't honest, so nothing is promised about its chip.
 abbrev pub unknown_bus : Sent → Bool → BusState
 unknown_bus sent heard = record {
-  chip = record {
-    config = record {
-      id = [];
-      size = 65536;
-      kinds = record { k32 = false; k64 = false };
-      scheme = false;
-      unique = [];
-      sfdp = [];
-      sized = refl;
-    };
-    bytes = λ a. 0;
-    kept = record { one = 0; two = 0 };
-    latch = false;
-    busy = 0;
-    running = Unknown;
-  };
+  chip = unknown_chip;
   left = 0;
   honest = false;
   sent = sent;

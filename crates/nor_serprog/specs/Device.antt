@@ -1,9 +1,8 @@
 -- A programmer with the chip behind it, and an honest port to it. (serprog protocol version 1, flashrom's
 -- Documentation/serprog-protocol.txt: "Command And Answer Sequence", and the note on O_SPIOP.)
 use Rattle.std.specs.Prelude.{◌≡◌, ◌<◌, ◌+◌, ◌++◌, ◌⊎◌, ℕ, Bool, false, List, [], ◌∷◌, length, slice_index, ⊤}
-use Rattle.std.proofs.Common.{refl}
-use Rattle.nor_chip.specs.declared.running.Running.TheVariants.{Unknown}
 use Rattle.nor_chip.specs.Chip.{Chip}
+use Rattle.nor_chip.specs.Bus.{unknown_chip}
 use Rattle.nor_chip.specs.Power.{PowerLost}
 use Rattle.nor_chip.specs.Step.{Step}
 use Rattle.nor_serprog.specs.declared.command.Command.{Command}
@@ -119,22 +118,7 @@ IfOperates _ P = ⊤
 abbrev pub unknown_port : PortState
 unknown_port = record {
   device = record {
-    chip = record {
-      config = record {
-        id = [];
-        size = 65536;
-        kinds = record { k32 = false; k64 = false };
-        scheme = false;
-        unique = [];
-        sfdp = [];
-        sized = refl;
-      };
-      bytes = λ a. 0;
-      kept = record { one = 0; two = 0 };
-      latch = false;
-      busy = 0;
-      running = Unknown;
-    };
+    chip = unknown_chip;
     begun = [];
     pending = [];
   };
