@@ -1,16 +1,16 @@
--- Tests of the numbers below a bound.
+-- Lemmas about `any_below` and `count_below`, the tests of the numbers below a bound.
 use Rattle.std.proofs.Common.{◌≡◌, ◌<◌, ◌≤◌, ◌+◌, ℕ, zero, suc, Bool, true, false, add-one, refl, sym, ap, ◌∙◌, inl, inr, arith}
 use Rattle.std.specs.Prelude.{MatchBool, if◌then◌else◌}
 use Rattle.std.proofs.lemmas.Bool.{cases_Bool, cases_eq, or_left, or_right, or_cases, both_ways, false_from_ne_true}
 use Rattle.nor_count.specs.Below.{any_below, count_below}
 
--- two tests of which each implies the other
+-- two tests are equal if each implies the other
 pub same_tests : (p q : Bool) → (p ≡ true → q ≡ true) → (q ≡ true → p ≡ true) → p ≡ q
 same_tests true q to from = sym (to refl)
 same_tests false true to from = from refl
 same_tests false false to from = refl
 
--- one is enough
+-- `any_below` is true if one number below n passes
 pub any_below-some : (n k : ℕ) (test : ℕ → Bool) → k < n → test k ≡ true → any_below n test ≡ true
 unfolding any_below
 any_below-some zero k test below passes = absurd (omega arith)
@@ -20,7 +20,7 @@ any_below-some (suc n) k test below passes =
       | inr other ↦ or_left _ _ (any_below-some n k test (omega arith) passes)
     ]
 
--- where some number passes, this one does
+-- if `any_below` is true, finds a number that passes
 pub any_below-found : (n : ℕ) (test : ℕ → Bool) → any_below n test ≡ true → (k : ℕ) × (k < n) × (test k ≡ true)
 unfolding any_below
 any_below-found zero test some = absurd cc
@@ -38,7 +38,7 @@ any_below-cases n test =
           false_from_ne_true _ (λ passes. both_ways _ none (any_below-some n k test below passes)))
     ]
 
--- a count goes up number by number
+-- the first value and the step of a count
 pub count_below-zero : (test : ℕ → Bool) → count_below 0 test ≡ 0
 unfolding count_below
 count_below-zero test = refl

@@ -1,4 +1,4 @@
--- Tests of the numbers below a bound, and their count.
+-- More lemmas about `any_below` and `count_below`: steps, equal tests, and sums.
 use Rattle.std.proofs.Common.{◌≡◌, ◌<◌, ◌≤◌, ◌+◌, ◌||◌, ◌∙◌, ℕ, zero, suc, Bool, true, false, refl, ap, arith, add-one}
 use Rattle.std.specs.Prelude.{if◌then◌else◌}
 use Rattle.std.proofs.lemmas.Bool.{both_ways, false_from_ne_true}
@@ -6,7 +6,7 @@ use Rattle.nor_count.specs.Below.{any_below, count_below}
 use Rattle.nor_count.proofs.Below.{any_below-found}
 pub use Rattle.nor_count.proofs.Below.{any_below-some, count_below-zero, count_below-more, count_below-most}
 
--- how many there are with a number that passes, or with one that doesn't
+-- the next number raises the count by 1 if it passes, and by 0 if it fails
 pub count_below-with : (n : ℕ) (test : ℕ → Bool) → test n ≡ true → count_below (n + 1) test ≡ count_below n test + 1
 count_below-with n test passes = count_below-more n test ∙ rw passes
 
@@ -15,7 +15,7 @@ count_below-without n test fails =
     let step : count_below (n + 1) test ≡ count_below n test + 0 = count_below-more n test ∙ rw fails in
     omega arith
 
--- one number more
+-- the test of one number more
 pub any_below-more : (n : ℕ) (test : ℕ → Bool) → any_below (n + 1) test ≡ (any_below n test || test n)
 unfolding any_below
 any_below-more n test = ap (λ (m : ℕ). any_below m test) (add-one n)
@@ -24,17 +24,17 @@ pub any_below-zero : (test : ℕ → Bool) → any_below 0 test ≡ false
 unfolding any_below
 any_below-zero test = refl
 
--- if there is none, each fails
+-- if `any_below` is false, each number below n fails
 pub any_below-false : (n : ℕ) (test : ℕ → Bool) → any_below n test ≡ false → (k : ℕ) → k < n → test k ≡ false
 any_below-false n test none k below =
     false_from_ne_true _ (λ passes. both_ways _ none (any_below-some n k test below passes))
 
--- if each fails, there is none
+-- if each number below n fails, `any_below` is false
 pub any_below-all : (n : ℕ) (test : ℕ → Bool) → ((k : ℕ) → k < n → test k ≡ false) → any_below n test ≡ false
 any_below-all n test each = false_from_ne_true _ (λ some.
     let found = any_below-found n test some in both_ways _ (each found.0 found.1) found.2)
 
--- tests that agree below n
+-- tests that agree below n have the same results and counts
 pub any_below-same : (n : ℕ) (p q : ℕ → Bool) → ((k : ℕ) → k < n → p k ≡ q k) → any_below n p ≡ any_below n q
 unfolding any_below
 any_below-same zero p q same = refl

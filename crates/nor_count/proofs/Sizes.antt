@@ -1,4 +1,4 @@
--- What the sizes of chips have in common: they are the powers of two from 64 KiB to 16 MiB.
+-- The sizes of chips are exactly the powers of two from 64 KiB to 16 MiB.
 use Rattle.std.proofs.Common.{ℕ, zero, suc, ◌+◌, ◌-◌, ◌*◌, ◌/◌, ◌%◌, ◌<◌, ◌≤◌, ◌^◌, ◌≡◌, ◌∙◌, ap, sym, arith}
 use Rattle.std.proofs.Common.{get_or, inl, inr}
 use Rattle.std.specs.Prelude.{true, ◌==◌}
@@ -14,9 +14,9 @@ use Rattle.std.proofs.lemmas.Bool.{cases_lt, eqb-true, eq-eqb}
 use Rattle.nor_count.specs.Size.{is_chip_size}
 use Rattle.nor_count.proofs.Below.{same_tests}
 
--- ---- a number with one digit set is a power of two
+-- ---- a number with one bit set is a power of two
 
--- the ones of a number are those of its half and its lowest digit
+-- a number has as many one bits as its half and its lowest bit together
 ones_by_half : (n : ℕ) → count_ones n ≡ count_ones (n / 2) + count_ones (n % 2)
 ones_by_half n =
     let whole : n ≡ n / 2 * 2 ^ 1 + n % 2 = omega arith in
@@ -61,7 +61,7 @@ is_power size k from before power =
 
 -- ---- sizes of chips
 
--- what the size of a chip is
+-- every size of a chip is from 64 KiB to 16 MiB, and a multiple of 64 KiB and of a sector
 pub record IsInBlocks (size : ℕ) : Type 0 where
   pub large : 65536 ≤ size
   pub small : size ≤ 16777216
@@ -80,7 +80,7 @@ is_chip_size-in_blocks size holds =
     let power : size ≡ 2 ^ found.0 = found.3 in
     record { large = omega arith; small = omega arith; blocks = omega arith; sectors = omega arith }
 
--- A power of two from 64 KiB to 16 MiB is the size of a chip, ..
+-- a power of two from 64 KiB to 16 MiB is the size of a chip
 pub is_chip_size-from : (size : ℕ) → is_power_of_two size ≡ true → 65536 ≤ size → size ≤ 16777216
     → is_chip_size size ≡ true
 is_chip_size-from size power least most =
@@ -90,13 +90,13 @@ is_chip_size-from size power least most =
     let high : ¬ (24 < found.0) = λ above. omega (arith, pow_below 24 found.0 above) in
     is_power size found.0 (omega arith) (omega arith) same
 
--- .. and there is no other.
+-- every size of a chip is a power of two
 pub is_chip_size-power_of_two : (size : ℕ) → is_chip_size size ≡ true → is_power_of_two size ≡ true
 is_chip_size-power_of_two size holds =
     let found = power_of size holds in
     eq-eqb (count_ones size) 1 (ap count_ones found.3 ∙ count_ones-pow found.0)
 
--- So of the numbers in between, the powers of two are the sizes of chips.
+-- from 64 KiB to 16 MiB, being a power of two and being the size of a chip are the same test
 pub is_power_of_two-size : (size : ℕ) → 65536 ≤ size → size ≤ 16777216 → is_power_of_two size ≡ is_chip_size size
 is_power_of_two-size size least most =
     same_tests _ _ (λ power. is_chip_size-from size power least most) (is_chip_size-power_of_two size)

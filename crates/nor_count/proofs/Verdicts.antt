@@ -1,4 +1,4 @@
--- A verdict on the numbers below a bound, and their count when one more passes.
+-- Equality of a verdict with `any_below`, and the count after one more number passes.
 use Rattle.std.proofs.Common.{◌≡◌, ◌<◌, ◌+◌, ◌||◌, ◌∙◌, ℕ, zero, suc, Bool, true, false, ap, sym, arith, inl, inr}
 use Rattle.std.specs.Prelude.{MatchBool, ◌==◌}
 use Rattle.std.proofs.lemmas.Bool.{cases_eq, or_left, ne_eqb, eq-eqb}
@@ -6,13 +6,13 @@ use Rattle.nor_count.specs.Below.{any_below, count_below}
 use Rattle.nor_count.proofs.Below.{any_below-some}
 use Rattle.nor_count.proofs.Counting.{any_below-all, count_below-same}
 
--- a verdict by a number that passes, or by all that fail
+-- a verdict is `any_below` if true comes with a number that passes, and false with proof that all fail
 pub any_below-decided : (n : ℕ) (verdict : Bool) (test : ℕ → Bool) (P Q : ℕ → Type 0) → ((k : ℕ) → P k → test k ≡ true) → ((k : ℕ) → Q k → test k ≡ false)
     → MatchBool verdict ((k : ℕ) × (k < n) × P k) ((k : ℕ) → k < n → Q k) → verdict ≡ any_below n test
 any_below-decided n true test P Q passes fails some = sym (any_below-some n some.0 test some.1 (passes some.0 some.2))
 any_below-decided n false test P Q passes fails none = sym (any_below-all n test (λ k below. fails k (none k below)))
 
--- one more number passes
+-- the count grows by 1 if the second test accepts exactly one more number below n
 pub count_below-insert : (n k : ℕ) (p q : ℕ → Bool) → k < n → p k ≡ false → ((s : ℕ) → q s ≡ ((s == k) || p s)) → count_below n q ≡ count_below n p + 1
 unfolding count_below
 count_below-insert zero k p q below fails inserted = absurd (omega arith)

@@ -2,11 +2,11 @@
 use Rattle.std.specs.Prelude.{ℕ, ◌≡◌, ◌+◌, Bool, if◌then◌else◌}
 use Rattle.nor_count.specs.Below.{count_below}
 
--- how many sectors a set has, of the 4,096 that there may be
+-- how many of the sectors 0 to 4,095 are in the set; the largest chip, of 16 MiB, has 4,096 sectors
 abbrev pub sector_count : (ℕ → Bool) → ℕ
 sector_count sectors = count_below 4096 sectors
 
--- how many of the numbers below each one pass the test
+-- `count n` is, for every n, how many numbers below n pass the test
 pub record IsCount (test : ℕ → Bool) (count : ℕ → ℕ) : Type 0 where
   pub begins : count 0 ≡ 0
   pub goes : (n : ℕ) → count (n + 1) ≡ count n + (if test n then 1 else 0)

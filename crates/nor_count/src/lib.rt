@@ -1,4 +1,6 @@
-//! Definitions alone, of tests of numbers and of how many numbers pass them: `any_below` and `count_below` in
-//! `specs/Below.antt`, counts of sectors in `Counts`, and the sizes that a chip may have in `Size`. The crates above
-//! speak of addresses, sectors, pages and chips by them.
+//! Definitions about numbers that the contracts of the other crates use; this crate has no code.
+//!
+//! - `specs/Below.antt`: `any_below` and `count_below`, whether and how many numbers below a bound pass a test
+//! - `specs/Counts.antt`: `sector_count`, the size of a set of sectors, and `IsCount`, a count by its first steps
+//! - `specs/Size.antt`: `is_chip_size`, the sizes that a chip may have
 #![tactic(auto)]
