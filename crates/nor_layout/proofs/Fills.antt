@@ -1,10 +1,10 @@
--- Places that rise, one after the other.
+-- Positions in ascending order.
 use Rattle.std.proofs.Common.{◌≡◌, ℕ, ◌<◌, false, List, [], ◌∷◌, refl, arith}
 use Rattle.std.proofs.lemmas.Bool.Decides.{nat_tests}
 use Rattle.nor_layout.specs.declared.places.Places.{Places}
 use Rattle.nor_layout.specs.Places.{is_covered, AreRisingFrom}
 
--- nothing is covered below the first place
+-- no position below `first` is covered
 pub is_covered-below : (first : ℕ) (all : List Places) (at : ℕ) → AreRisingFrom first all → at < first → is_covered all at ≡ false
 is_covered-below first [] at rising lt = refl
 is_covered-below first (places ∷ more) at rising lt =

@@ -1,4 +1,4 @@
--- A line gives a region exactly where the grammar has it.
+-- A line defines a region if and only if it is in the grammar.
 use Rattle.std.proofs.Common.{◌≡◌, ◌∙◌, ℕ, ◌⊎◌, Bool, true, false, not, ◌&&◌, leb, eqb, ltb, List, [], ◌∷◌, ◌++◌}
 use Rattle.std.proofs.Common.{length, Option, Some, None, Result, Ok, Err, IfSome, if◌then◌else◌, refl, ap, inl, inr}
 use Rattle.std.proofs.Common.{arith}
@@ -13,14 +13,14 @@ use Rattle.nor_layout.specs.Line.{cut_at, without_spaces, with_start, parts_behi
 use Rattle.nor_layout.specs.Line.{parts_say, line_says}
 use Rattle.nor_layout.specs.Grammar.{IsAddress, IsLine}
 
--- an answer that passes two tests
+-- a result is Ok only if the first test is false and the second is true
 passes : {A E : Type 0} (bad good : Bool) (x y : A) (first second : E)
     → (if bad then Err first else if good then Ok x else Err second) ≡ Ok y → (bad ≡ false) × (good ≡ true) × (x ≡ y)
 passes bad good x y first second e = grind arith
 
 -- ---- addresses
 
--- what stands behind an optional 0x is all, or all behind the 0x
+-- `digits_of` is the text, or the text after `0x`
 digits_of-is : (text : List ℕ) → (text ≡ digits_of text) ⊎ (text ≡ 48 ∷ 120 ∷ digits_of text)
 digits_of-is text = grind (arith, nat_tests)
 
@@ -29,7 +29,7 @@ address_of-found text = cond_both (are_digits (digits_of text)) _ _ (λ found. I
     (λ is. record { digits = digits_of text; text_is = digits_of-is text; hexadecimal = is; address_is = refl })
     (λ other. tt)
 
--- digits have no x
+-- hexadecimal digits have no prefix `0x`
 digits_of-digits : (digits : List ℕ) → list_all is_hex_digit digits ≡ true → digits_of digits ≡ digits
 digits_of-digits digits all = grind (arith, nat_tests)
 
@@ -38,7 +38,7 @@ address_of-taken text address is = grind (arith, nat_tests, digits_of-digits is.
 
 -- ---- cuts
 
--- the parts of a cut with the byte between them are the text
+-- the text is the two parts with the byte between them
 abbrev IsCut : ℕ → List ℕ → List ℕ × List ℕ → Type 0
 IsCut byte text parts = text ≡ parts.0 ++ byte ∷ parts.1
 
@@ -46,7 +46,7 @@ cut_at-is : (byte : ℕ) (text : List ℕ) → IfSome (cut_at byte text) (IsCut 
 cut_at-is byte [] = tt
 cut_at-is byte (b ∷ text) = grind (arith, nat_tests, cut_at-is byte text)
 
--- no such byte stands in the text
+-- true if the text doesn't contain the byte
 abbrev lacks : ℕ → List ℕ → Bool
 lacks byte text = list_all (λ b. not (eqb b byte)) text
 
@@ -56,7 +56,7 @@ cut_at-taken byte (b ∷ front) rest lacking = grind (arith, nat_tests, cut_at-t
 
 -- ---- spaces
 
--- the spaces in front of a text
+-- splits a text into its leading spaces and the rest
 leading : (text : List ℕ)
     → (spaces : List ℕ) × (text ≡ spaces ++ without_spaces text) × (list_all (λ b. eqb b 32) spaces ≡ true)
 leading [] = ([], refl, refl)
@@ -67,7 +67,7 @@ leading (b ∷ text) = elim (cases_Bool (eqb b 32)) [
   | inr other ↦ ([], rw other refl, refl)
 ]
 
--- a name has no space, and stays as it is
+-- removing the leading spaces before a name leaves the name, which has no spaces
 without_spaces-taken : (spaces name : List ℕ) → list_all (λ b. eqb b 32) spaces ≡ true
     → list_all is_name_byte name ≡ true
     → without_spaces (spaces ++ name) ≡ name
@@ -77,7 +77,7 @@ without_spaces-taken (b ∷ spaces) name blank all = grind (arith, nat_tests, wi
 
 -- ---- lines
 
--- an address has neither a `:` nor a space
+-- an address doesn't contain a byte that is neither a hexadecimal digit nor `x`, for example `:` or a space
 digits_lack : (byte : ℕ) → is_hex_digit byte ≡ false → (digits : List ℕ) → list_all is_hex_digit digits ≡ true
     → lacks byte digits ≡ true
 digits_lack byte other [] all = refl
@@ -102,7 +102,7 @@ line_says-taken line region is =
     let forward = le-ltb region.end region.start is.forward in
     rw (is.line_is, first, second, third, start, end, forward, is.named) refl
 
--- what is cut or read is there where the line gives a region
+-- if a line defines a region, each of its parts could be split off or read
 some_of : {A : Type 0} (P : A → Type 0) (o : Option A) (gives : Option A → Result Region LineFault) (region : Region)
     → IfSome o P → ¬ (gives None ≡ Ok region) → gives o ≡ Ok region → (x : A) × P x × (gives (Some x) ≡ Ok region)
 some_of P o gives region is none e = grind arith

@@ -1,4 +1,4 @@
--- What a set of spans has in a sector, and from an address on.
+-- Whether a set of spans has an address in a sector, or at or above an address.
 use Rattle.std.proofs.Common.{◌≡◌, ◌∙◌, ℕ, ◌+◌, ◌*◌, ◌/◌, ◌%◌, ◌≤◌, Bool, true, ◌&&◌, leb, max, List, [], ◌∷◌, Option}
 use Rattle.std.proofs.Common.{Some, ap, inl, inr, arith}
 use Rattle.std.specs.Prelude.{MatchBool}
@@ -10,25 +10,25 @@ use Rattle.nor_layout.specs.Ranges.{is_in_span, contains, AreApart}
 use Rattle.nor_layout.specs.Sectors.{includes, sectors_included, has_in_sector, ReachesPast}
 use Rattle.nor_count.proofs.Below.{same_tests, any_below-some, any_below-found, count_below-most}
 
--- where each span that passes a test has an address of a kind, and one passes, the set has one, ..
+-- if each span that passes the test has an address of the kind, and some span passes, the set has such an address
 any_span : (test : Span → Bool) (Kind : ℕ → Type 0)
     → ((span : Span) → span.first ≤ span.last → test span ≡ true → (a : ℕ) × Kind a × (is_in_span span a ≡ true))
     → (spans : List Span) → AreApart spans → list_any test spans ≡ true → (a : ℕ) × Kind a × (contains spans a ≡ true)
 any_span test Kind has [] apart h = absurd (cc)
 any_span test Kind has (span ∷ spans) apart h = grind (arith, has span apart.0, any_span test Kind has spans apart.2)
 
--- .. and where each span with an address passes, one does if the set has the address
+-- if each span that contains address a passes the test, and the set contains a, some span passes
 some_span : (test : Span → Bool) (a : ℕ) → ((span : Span) → is_in_span span a ≡ true → test span ≡ true)
     → (spans : List Span) → contains spans a ≡ true → list_any test spans ≡ true
 some_span test a passes [] h = h
 some_span test a passes (span ∷ spans) h = grind (arith, passes span, some_span test a passes spans)
 
--- ---- from an address on
+-- ---- at or above an address
 
 abbrev pub ends_from : ℕ → Span → Bool
 ends_from size span = leb size span.last
 
--- one ends from the size on, or none reaches there
+-- some span ends at or above `size` if and only if the set has an address there
 pub size_cases : (spans : List Span) (size : ℕ) → AreApart spans
     → MatchBool (list_any (ends_from size) spans) (ReachesPast (Some spans) size) (¬ ReachesPast (Some spans) size)
 size_cases spans size apart = elim (cases_Bool (list_any (ends_from size) spans)) [
@@ -43,12 +43,12 @@ size_cases spans size apart = elim (cases_Bool (list_any (ends_from size) spans)
 abbrev pub is_in_sector : ℕ → Span → Bool
 is_in_sector sector span = leb (span.first / 4096) sector && leb sector (span.last / 4096)
 
--- the spans have an address in the sector exactly where a place of it has one
+-- some span overlaps the sector if and only if some address of the sector is in the set
 pub in_sector-is : (spans : List Span) (sector : ℕ) → AreApart spans → list_any (is_in_sector sector) spans ≡ has_in_sector (contains spans) sector
 in_sector-is spans sector apart =
     same_tests (list_any (is_in_sector sector) spans) (has_in_sector (contains spans) sector)
     (λ yes.
-    -- of a span in the sector: its first address, or that of the sector
+    -- the address is the first of the span or of the sector, whichever is greater
     let h = any_span (is_in_sector sector) (λ a. a / 4096 ≡ sector)
     (λ span forward here. (max span.first (sector * 4096), grind (arith, nat_tests), grind (arith, nat_tests)))
     spans apart yes in

@@ -1,4 +1,4 @@
--- A span joins a set of spans.
+-- Adding a span to a set of spans.
 use Rattle.std.proofs.Common.{◌≡◌, ℕ, ◌+◌, ◌<◌, ◌≤◌, Bool, ◌||◌, cond, ltb, List, [], ◌∷◌, ◌++◌, length, drop, refl}
 use Rattle.std.proofs.Common.{arith}
 use Rattle.std.proofs.lemmas.Bool.Decides.{nat_tests}
@@ -10,7 +10,7 @@ use Rattle.nor_layout.specs.Steps.{join}
 abbrev is_below : Span → Span → Bool
 is_below a b = ltb (a.last + 1) b.first
 
--- the spans with one more, joined to those that it touches
+-- the spans with one more, joined with those that it overlaps or is adjacent to
 unfoldable pub merged : Span → List Span → List Span
 merged new [] = new ∷ []
 merged new (span ∷ spans) =
@@ -26,12 +26,12 @@ contains-merged new (span ∷ spans) address forward apart =
     let joined = contains-merged (join new span) spans address (omega (arith, forward, apart.0)) apart.2 in
     grind (arith, nat_tests)
 
--- what is apart below a span is apart below those behind it
+-- a span that is apart below `span` is apart below the spans that follow `span`
 further : (low span : Span) (spans : List Span) → low.first ≤ low.last → low.last + 1 < span.first
     → AreApart (span ∷ spans) → AreApart (low ∷ spans)
 further low span spans forward lt apart = grind arith
 
--- behind a span that is below the new one and apart from the others
+-- adding a span above `low` keeps the spans apart from `low`
 apart_behind : (low new : Span) (spans : List Span) → low.last + 1 < new.first → new.first ≤ new.last
     → AreApart (low ∷ spans) → AreApart (low ∷ merged new spans)
 unfolding merged
@@ -54,7 +54,7 @@ AreApart-merged new (span ∷ spans) forward apart =
     let behind = further new span spans in
     grind (arith, nat_tests)
 
--- at the end it is the spans with one more
+-- after the last span, the result is the set with the span added
 pub merged_all : (front : List Span) (new added : Span) (spans : List Span) (i : ℕ) → length spans ≤ i
     → front ++ merged new (drop i spans) ≡ merged added spans → added.first ≤ added.last → AreApart spans
     → AreApart (front ++ new ∷ [])

@@ -1,21 +1,21 @@
--- Spans in the order of their beginnings, and how few spans can have the same addresses.
+-- Spans that are apart are the fewest spans with their addresses.
 use Rattle.std.proofs.Common.{◌≡◌, ℕ, ◌+◌, ◌<◌, ◌≤◌, true, ◌&&◌, ltb, List, [], ◌∷◌, length, inl, inr, arith}
 use Rattle.std.proofs.lemmas.Bool.{false≢true, or_cases}
 use Rattle.std.proofs.lemmas.Bool.Decides.{nat_tests}
 use Rattle.nor_layout.specs.declared.ranges.Span.{Span}
 use Rattle.nor_layout.specs.Ranges.{is_in_span, contains, AreApart, IsSetOf}
 
--- ---- how few spans can have the same addresses
+-- ---- the fewest spans with the same addresses
 
 first_in : (span : Span) (spans : List Span) → span.first ≤ span.last → contains (span ∷ spans) span.first ≡ true
 first_in span spans forward = grind (arith, nat_tests)
 
--- the spans behind one begin above the address that follows it
+-- each address of the following spans is above the address after this span's end
 above : (span : Span) (spans : List Span) (a : ℕ) → AreApart (span ∷ spans) → contains spans a ≡ true → span.last + 1 < a
 above span [] a apart holds = absurd (false≢true holds)
 above span (next ∷ spans) a apart holds = grind (arith, nat_tests, above next spans a apart.2)
 
--- From an address on and below a limit the one spans have the addresses of the others, and none elsewhere.
+-- Holds if the addresses of `few` are exactly those of `many` from `low` up to, but excluding, `limit`.
 record AreCut (low limit : ℕ) (few many : List Span) : Type 0 where
   within : (a : ℕ) → contains few a ≡ true → (low ≤ a) × (a < limit)
   into : (a : ℕ) → contains few a ≡ true → contains many a ≡ true
@@ -23,8 +23,8 @@ record AreCut (low limit : ℕ) (few many : List Span) : Type 0 where
 
 module _ (low limit : ℕ) (s : Span) (ss : List Span) (b : Span) (bs : List Span) (apart : AreApart (s ∷ ss))
     (apart_b : AreApart (b ∷ bs)) (cut : AreCut low limit (s ∷ ss) (b ∷ bs)) where
-  -- where the first span begins in the first of the others, the rest of both are alike: no address behind the first
-  -- span is in the first of the others, which would have the one after the first span too
+  -- If s begins in b, the spans after s are cut from those after b. No address above s is in b: b would then contain
+  -- the address after s too.
   rests : is_in_span b s.first ≡ true → AreCut (s.last + 1) limit ss bs
   rests begins = record {
     within = λ a holds. grind (arith, nat_tests, above s ss a apart, cut.within a);
@@ -35,7 +35,7 @@ module _ (low limit : ℕ) (s : Span) (ss : List Span) (b : Span) (bs : List Spa
     from = λ a least most holds. grind (arith, nat_tests, cut.from a, cut.within s.first);
   }
 
-  -- and where it doesn't, none of the spans has an address of the first of the others
+  -- if s begins in a later span than b, none of the spans has an address of b
   without : contains bs s.first ≡ true → AreCut low limit (s ∷ ss) bs
   without later =
       let high = λ (a : ℕ). above s ss a apart in
@@ -56,7 +56,7 @@ length_cut low limit (s ∷ ss) (b ∷ bs) apart apart_many cut =
           omega (arith, length_cut low limit (s ∷ ss) bs apart apart_many.2 rest)
     ]
 
--- where they are too many, no set has the addresses of all spans
+-- if more than 64 spans that are apart have the addresses below `done`, no set has the addresses of all spans
 pub none_has : (spans all : List Span) (done : ℕ) → AreApart all → 64 < length all
     → ((a : ℕ) → contains all a ≡ (ltb a done && contains spans a)) → (set : List Span) → ¬ IsSetOf spans set
 none_has spans all done apart many same set is =

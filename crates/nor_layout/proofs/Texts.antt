@@ -1,4 +1,4 @@
--- What a text says, line by line: regions exactly where the grammar has them.
+-- A text defines regions if and only if it is in the grammar: proofs line by line.
 use Rattle.std.proofs.Common.{◌≡◌, ◌≢◌, ◌∙◌, ℕ, ◌+◌, ◌<◌, ◌≤◌, Bool, false, not, eqb, List, [], ◌∷◌, ◌++◌, length}
 use Rattle.std.proofs.Common.{filter, append_assoc, Result, Ok, Err, refl, sym, ap, inl, inr, arith}
 use Rattle.std.specs.Str.{bytes_eq}
@@ -21,7 +21,7 @@ use Rattle.nor_layout.specs.Grammar.{IsLine, IsLayout}
 use Rattle.nor_layout.specs.Steps.{Adds}
 use Rattle.nor_layout.proofs.LineLaws.{line_says-taken, line_says-found}
 
--- ---- regions of one name
+-- ---- regions with the same name
 
 bytes_eq-swap : (a b : List ℕ) → bytes_eq a b ≡ bytes_eq b a
 bytes_eq-swap a b = grind (arith, bytes_eq-Decides a b, bytes_eq-Decides b a)
@@ -34,7 +34,7 @@ push_apart (first ∷ regions) region apart once =
     let named = list_any-append (λ (r : Region). bytes_eq r.name.items first.name.items) regions (region ∷ []) in
     (grind arith, push_apart regions region apart.1 (grind arith))
 
--- a region behind others has another name than each of them
+-- a region has a different name from each region before it
 named_before : (regions : List Region) (region : Region) (more : List Region) → AreNamedApart (regions ++ region ∷ more)
     → is_region_named regions region.name.items ≡ false
 named_before [] region more apart = refl
@@ -53,7 +53,7 @@ no_regions = record { few = omega arith; forward = tt; named_apart = tt }
 
 -- ---- what is read is in the grammar
 
--- what a line gives that isn't empty, where what follows has no fault
+-- a nonempty line adds a region if neither it nor the lines after it have a fault
 joined : (regions all : List Region) (n : ℕ) (said : Result Region LineFault)
     (follows : List Region → Result (List Region) LayoutFault) → joins_or_fault regions n said >>= follows ≡ Ok all
     → (region : Region) × (said ≡ Ok region) × (is_region_named regions region.name.items ≡ false)
@@ -63,7 +63,7 @@ joined regions all n said follows e = grind (arith, nat_tests)
 abbrev is_full : List ℕ → Bool
 is_full line = not (eqb (length line) 0)
 
--- the regions that the lines left give, behind those before
+-- `all` are the earlier regions followed by the regions of the remaining lines
 abbrev GivesRest : (lines : List (List ℕ)) (regions all : List Region) → Type 0
 GivesRest lines regions all =
     AreRegions all × ((rest : List Region) × (all ≡ regions ++ rest) × AllZip IsLine (filter is_full lines) rest)
@@ -119,7 +119,7 @@ lines_say-taken all few apart (line ∷ lines) regions (region ∷ rest) n are i
     let behind = lines_say-taken all few apart lines (regions ++ region ∷ []) rest (n + 1) in
     grind (arith, nat_tests, lines_say-taken all few apart lines regions (region ∷ rest) (n + 1))
 
--- an answer is what the text says: so regions in its grammar, or want of memory
+-- for a text in the grammar, the result of reading is its regions, or `Memory`
 pub reads_taken : (text : List ℕ) (result : Result (List Region) LayoutFault) → ReadsLayout result (layout_says text)
     → (regions : List Region) → IsLayout text regions → ReadsLayout result (Ok regions)
 unfolding layout_says
@@ -132,7 +132,7 @@ reads_taken text result reads regions is =
 pub length-lines_of : (text : List ℕ) → length (lines_of text) ≤ length text + 1
 length-lines_of text = omega (arith, length-slice_split (λ b. eqb b 10) text, count_by-le-length (λ b. eqb b 10) text)
 
--- lines give these regions, whatever follows them
+-- the lines define these regions, for all lines that may follow
 abbrev pub Gives : List (List ℕ) → ℕ → List Region → Type 0
 Gives lines n regions = (after : List (List ℕ)) → lines_say [] 1 (lines ++ after) ≡ lines_say regions (n + 1) after
 
@@ -142,7 +142,7 @@ unfolding layout_says lines_say
 gives_all text lines n regions is gives = ap (lines_say [] 1) (sym (append-nil lines ∙ is)) ∙ gives []
 
 module _ (before : List (List ℕ)) (n : ℕ) (line : List ℕ) (regions : List Region) (gives : Gives before n regions) where
-  -- what the line says goes on with the lines behind it
+  -- reading continues with the result of the line, and then the lines after it
   onward : (said : Result (List Region) LayoutFault) → with_line regions (n + 1) line ≡ said → (after : List (List ℕ))
       → lines_say [] 1 (before ++ line ∷ after) ≡ said >>= λ more. lines_say more (n + 1 + 1) after
   unfolding lines_say
@@ -161,7 +161,7 @@ module _ (before : List (List ℕ)) (n : ℕ) (line : List ℕ) (regions : List 
     unfolding layout_says
     told said e = ap (lines_say [] 1) lines_are ∙ onward said e after
 
-    -- where memory is refused, the line gives one more region, ..
+    -- a line at which memory can run out adds a region
     asks_memory : (region : Region) → with_line regions (n + 1) line ≡ Ok (regions ++ region ∷ []) → AsksMemory text
     unfolding lines_say
     asks_memory region e = record {
@@ -175,7 +175,7 @@ module _ (before : List (List ℕ)) (n : ℕ) (line : List ℕ) (regions : List 
       more = rw counted e;
     }
 
-    -- .. and so the text one
+    -- a text with such a line doesn't define a layout without regions
     gives_one : (region : Region) → AreRegions regions → with_line regions (n + 1) line ≡ Ok (regions ++ region ∷ [])
         → layout_says text ≢ Ok []
     gives_one region kept e none =

@@ -12,14 +12,14 @@ number_in_line Backwards = 3
 number_in_line Name = 4
 number_in_line Twice = 5
 
--- by which messages name a fault
+-- the number that messages print
 abbrev pub number_of_fault : LayoutFault → ℕ
 number_of_fault (InLine line fault) = number_in_line fault
 number_of_fault TooMany = 6
 number_of_fault Memory = 7
 number_of_fault NoRegion = 8
 
--- the faults of a line carry its number
+-- the number of the line that has the fault
 abbrev pub line_of_fault : LayoutFault → Option ℕ
 line_of_fault (InLine line fault) = Some line
 line_of_fault TooMany = None

@@ -1,4 +1,4 @@
--- The grammar of layout texts, as a reader would write it down.
+-- The grammar of layout texts.
 use Rattle.std.specs.Prelude.{◌≡◌, ◌≤◌, ℕ, true, not, ◌==◌, List, ◌∷◌, ◌++◌, length, filter, ◌⊎◌}
 use Rattle.std.specs.List.{list_all, AllZip}
 use Rattle.nor_layout.specs.declared.region.Region.{Region}
@@ -6,14 +6,14 @@ use Rattle.nor_layout.specs.Address.{are_digits, digits_number}
 use Rattle.nor_layout.specs.Line.{is_name}
 use Rattle.nor_layout.specs.Text.{lines_of, AreNamedApart}
 
--- an optional 0x, and 1 to 8 hexadecimal digits that write the address
+-- True if the text is an optional `0x` and 1 to 8 hexadecimal digits, and these are the address.
 pub record IsAddress (text : List ℕ) (address : ℕ) : Type 0 where
   pub digits : List ℕ
   pub text_is : (text ≡ digits) ⊎ (text ≡ 48 ∷ 120 ∷ digits)
   pub hexadecimal : are_digits digits ≡ true
   pub address_is : digits_number digits ≡ address
 
--- an address, a `:`, an address not below the first, one or more spaces, and a name
+-- True if the line is an address, a `:`, an address not below the first, one or more spaces, and a name.
 pub record IsLine (line : List ℕ) (region : Region) : Type 0 where
   pub start_text : List ℕ
   pub end_text : List ℕ
@@ -25,11 +25,11 @@ pub record IsLine (line : List ℕ) (region : Region) : Type 0 where
   pub blank : list_all (λ b. b == 32) spaces ≡ true
   pub named : is_name region.name.items ≡ true
 
--- the lines that are not empty
+-- the lines of a text that are not empty
 abbrev pub full_lines : List ℕ → List (List ℕ)
 full_lines text = filter (λ line. not (length line == 0)) (lines_of text)
 
--- each line that is not empty is that of a region, in order; at most 64 of them, and no two of one name
+-- True if the nonempty lines are the regions, in order, at most 64, and no two with the same name.
 pub record IsLayout (text : List ℕ) (regions : List Region) : Type 0 where
   pub lines : AllZip IsLine (full_lines text) regions
   pub few : length regions ≤ 64

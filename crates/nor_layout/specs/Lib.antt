@@ -1,14 +1,14 @@
--- What a line says, what a text says, and the grammar of both.
+-- Lines, layout texts, and their grammar.
 pub mod Address
 pub mod Line
 pub mod Text
 pub mod Grammar
--- The addresses that names include, and what a set of addresses is asked.
+-- Addresses that names include, and queries about sets of addresses.
 pub mod Included
 pub mod Ranges
 pub mod Sectors
 pub mod Places
 pub mod Faults
 pub mod Steps
--- A region's name is one.
+-- The name of a region is an `ArrayVec`.
 pub use Rattle.arrayvec.specs.ArrayVec

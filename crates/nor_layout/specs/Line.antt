@@ -1,4 +1,4 @@
--- What one line of a layout text says: its parts, and what they mean.
+-- One line of a layout text: its parts, and the region or fault that they define.
 use Rattle.std.specs.Prelude.{ℕ, Bool, not, ◌&&◌, ◌==◌, nat_le, nat_lt, if◌then◌else◌, List, [], ◌∷◌, length, Option, Some, None, Result, Ok, Err}
 use Rattle.std.specs.Option.{option_map}
 use Rattle.std.specs.List.{list_all}
@@ -7,13 +7,13 @@ use Rattle.nor_layout.specs.declared.fault.LineFault.{LineFault}
 use Rattle.nor_layout.specs.declared.fault.LineFault.TheVariants.{Line, Address, Backwards, Name}
 use Rattle.nor_layout.specs.Address.{digits_address}
 
--- what stands before the first such byte, and what stands behind it
+-- the parts of a text before and after the first `byte`, or None if the text doesn't contain it
 abbrev pub cut_at : ℕ → List ℕ → Option (List ℕ × List ℕ)
 cut_at byte [] = None
 cut_at byte (b ∷ text) =
     if b == byte then Some ([], text) else option_map (λ parts. (b ∷ parts.0, parts.1)) (cut_at byte text)
 
--- the text without the spaces at its front
+-- the text without its leading spaces
 abbrev pub without_spaces : List ℕ → List ℕ
 without_spaces [] = []
 without_spaces (b ∷ text) = if b == 32 then without_spaces text else b ∷ text
@@ -24,7 +24,7 @@ pub record Parts : Type 0 where
   pub end : List ℕ
   pub name : List ℕ
 
--- where there is a space behind the `:`, what stands before it, and what stands behind it
+-- adds the end and the name, which a space separates; None if there is no space after the `:`
 abbrev pub with_start : List ℕ → Option (List ℕ × List ℕ) → Option Parts
 with_start start None = None
 with_start start (Some parts) = Some (record { start = start; end = parts.0; name = without_spaces parts.1 })
@@ -33,19 +33,19 @@ abbrev pub parts_behind : Option (List ℕ × List ℕ) → Option Parts
 parts_behind None = None
 parts_behind (Some parts) = with_start parts.0 (cut_at 32 parts.1)
 
--- the start reaches to the first `:`, the end from there to the next space, and the name stands behind one or more
--- spaces
+-- The parts of a line: the start ends at the first `:`, the end at the next space, and the name follows one or more
+-- spaces.
 abbrev pub parts_of : List ℕ → Option Parts
 parts_of line = parts_behind (cut_at 58 line)
 
--- a visible ASCII character, other than `,` and `:`
+-- true for a visible ASCII character except `,` and `:`
 abbrev pub is_name_byte : ℕ → Bool
 is_name_byte b = nat_le 33 b && nat_le b 126 && not (b == 44) && not (b == 58)
 
 abbrev pub is_name : List ℕ → Bool
 is_name name = nat_le 1 (length name) && nat_le (length name) 32 && list_all is_name_byte name
 
--- The region of two addresses and a name, or what is wrong first.
+-- The region with two addresses and a name, or the first fault.
 abbrev pub region_of : (start end : Option ℕ) → (name : List ℕ) → Result Region LineFault
 region_of None end name = Err Address
 region_of (Some start) None name = Err Address
@@ -58,6 +58,6 @@ abbrev pub parts_say : Option Parts → Result Region LineFault
 parts_say None = Err Line
 parts_say (Some parts) = region_of (digits_address parts.start) (digits_address parts.end) parts.name
 
--- the region that a line gives, or the first fault of it
+-- the region that a line defines, or its first fault
 abbrev pub line_says : List ℕ → Result Region LineFault
 line_says line = parts_say (parts_of line)

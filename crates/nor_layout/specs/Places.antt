@@ -1,4 +1,4 @@
--- The places of a sector whose addresses belong to a set.
+-- The positions in a sector (`Places`) whose addresses are in a set.
 use Rattle.std.specs.Prelude.{◌≡◌, ℕ, ◌+◌, ◌*◌, ◌/◌, ◌%◌, ◌<◌, ◌≤◌, Bool, ◌&&◌, ◌||◌, nat_le, nat_lt, if◌then◌else◌, List, [], ◌∷◌, Option, Some, None, ⊤}
 use Rattle.std.specs.List.{list_any, filter_map}
 use Rattle.nor_layout.specs.declared.ranges.Span.{Span}
@@ -6,26 +6,26 @@ use Rattle.nor_layout.specs.declared.places.Places.{Places}
 use Rattle.nor_layout.specs.declared.places.PlacesIn.{PlacesIn}
 use Rattle.nor_layout.specs.Ranges.{contains}
 
--- the start is one of the places, and the end is the one behind them
+-- true if the position is among these consecutive ones; `end` is excluded
 abbrev pub is_in_places : Places → ℕ → Bool
 is_in_places places at = nat_le places.start at && nat_lt at places.end
 
 abbrev pub is_covered : List Places → ℕ → Bool
 is_covered all at = list_any (λ places. is_in_places places at) all
 
--- places of a sector, none below a first one; they rise, and none is empty
+-- True if all are within a sector, at or above position `first`, in ascending order without overlap, and none is empty.
 abbrev pub AreRisingFrom : ℕ → List Places → Type 0
 AreRisingFrom first [] = ⊤
 AreRisingFrom first (places ∷ more) =
     (first ≤ places.start) × (places.start < places.end) × (places.end ≤ 4096)
     × AreRisingFrom places.end more
 
--- these are the places of a sector whose addresses belong to the set
+-- True if exactly the positions of the sector are covered whose addresses are in the set, in ascending order.
 pub record AreIncludedIn (spans : List Span) (sector : ℕ) (all : List Places) : Type 0 where
   pub exact : (at : ℕ) → at < 4096 → is_covered all at ≡ contains spans (4096 * sector + at)
   pub rising : AreRisingFrom 0 all
 
--- the part of a span in a sector, if it has one
+-- the positions in a sector that a span covers, or None if it covers none
 abbrev pub part_in_sector : ℕ → Span → Option Places
 part_in_sector sector span =
     if nat_lt sector (span.first / 4096) || nat_lt (span.last / 4096) sector then None
@@ -34,10 +34,10 @@ part_in_sector sector span =
       end = if nat_lt sector (span.last / 4096) then 4096 else span.last % 4096 + 1;
     })
 
--- the parts of the spans in a sector, in their order
+-- the positions in a sector that the spans cover, in the order of the spans
 abbrev pub parts_in_sector : ℕ → List Span → List Places
 parts_in_sector sector spans = filter_map (part_in_sector sector) spans
 
--- what an iterator has left
+-- the items that the iterator has still to yield
 abbrev pub places_left : PlacesIn → List Places
 places_left it = parts_in_sector it.sector it.spans.now

@@ -1,4 +1,4 @@
--- What private functions answer. No public clause rests on these.
+-- Results of private functions. No contract of a public function uses these definitions.
 use Rattle.std.specs.Prelude.{◌≡◌, ◌≢◌, ◌<◌, ◌≤◌, ℕ, Bool, true, false, ◌&&◌, nat_le, nat_lt, min, max, if◌then◌else◌, Option, Some, None, MatchOption, List, [], ◌∷◌, ◌++◌, length, slice_index, Result, Ok, Err, ⊤}
 use Rattle.std.specs.Str.{bytes_eq}
 use Rattle.std.specs.List.{list_any}
@@ -9,36 +9,37 @@ use Rattle.nor_layout.specs.declared.region.Region.{Region}
 use Rattle.nor_layout.specs.Included.{names_of, has_address}
 use Rattle.nor_layout.specs.Ranges.{is_in_span, contains}
 
--- the first such byte stands at this place
+-- Holds if the first `byte` in the text is at index `at`.
 pub record IsFirst (byte : ℕ) (text : List ℕ) (at : ℕ) : Type 0 where
   pub within : at < length text
   pub here : slice_index text at ≡ byte
   pub before : (k : ℕ) → k < at → slice_index text k ≢ byte
 
--- The regions are those that a line leaves, unless memory was refused to one more of them.
+-- The result of adding a line's region is what `with_line` defines (`said`). If it is `Memory`, the line adds a region.
 abbrev pub Adds : (old new : List Region) → Result ⊤ LayoutFault → Result (List Region) LayoutFault → Type 0
 Adds old new (Ok x) said = said ≡ Ok new
 Adds old new (Err Memory) said = (region : Region) × (said ≡ Ok (old ++ region ∷ []))
 Adds old new (Err fault) said = said ≡ Err fault
 
--- the name stands among the names
+-- true if the name is one of the comma-separated names
 abbrev pub is_listed : (text name : List ℕ) → Bool
 is_listed text name = list_any (λ listed. bytes_eq name listed) (names_of text)
 
--- the addresses of the regions whose names are listed
+-- true if the address is in a region whose name is listed
 abbrev pub is_listed_address : List Region → List ℕ → ℕ → Bool
 is_listed_address regions text address =
     list_any (λ region. is_listed text region.name.items && has_address region address) regions
 
--- the least span that holds both
+-- the smallest span that contains both
 abbrev pub join : (a b : Span) → Span
 join a b = record { first = min a.first b.first; last = max a.last b.last }
 
--- no address from a bound on belongs to the spans
+-- Holds if each address in the spans is below `done`.
 abbrev pub EndBelow : (done : ℕ) → List Span → Type 0
 EndBelow done spans = (address : ℕ) → done ≤ address → contains spans address ≡ false
 
--- Of the spans that reach a bound it begins first: what they have from the bound on is at or above its beginning.
+-- Holds if `next` reaches the address `done`, is part of the spans, and begins at or below each of their addresses that
+-- is `done` or greater.
 pub record IsNext (done : ℕ) (spans : List Span) (next : Span) : Type 0 where
   pub forward : next.first ≤ next.last
   pub reaches : done ≤ next.last
@@ -48,11 +49,11 @@ pub record IsNext (done : ℕ) (spans : List Span) (next : Span) : Type 0 where
 abbrev pub IsNextOrNone : (done : ℕ) → List Span → Option Span → Type 0
 IsNextOrNone done spans next = MatchOption next (EndBelow done spans) (IsNext done spans)
 
--- the one that begins first
+-- the span that begins first
 abbrev pub first_of : Option Span → Span → Option Span
 first_of None span = Some span
 first_of (Some next) span = if nat_le next.first span.first then Some next else Some span
 
--- the one that begins first of those that reach a bound
+-- `span` if it reaches the address `done` and begins before `next`, or if there is no `next`; else `next`
 abbrev pub sooner : Option Span → Span → (done : ℕ) → Option Span
 sooner next span done = if nat_lt span.last done then next else first_of next span

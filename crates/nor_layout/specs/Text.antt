@@ -1,4 +1,4 @@
--- What a layout text says: the regions of its lines, or its first fault.
+-- The regions of a layout text, or its first fault.
 use Rattle.std.specs.Prelude.{◌≡◌, ◌≢◌, ℕ, ◌+◌, ◌≤◌, ◌==◌, Bool, false, nat_lt, if◌then◌else◌, List, [], ◌∷◌, ◌++◌, length, Result, Ok, Err, ⊤}
 use Rattle.std.specs.Str.{bytes_eq}
 use Rattle.std.specs.List.{slice_split, list_any, AllByRecursion}
@@ -9,16 +9,16 @@ use Rattle.nor_layout.specs.declared.fault.LayoutFault.{LayoutFault}
 use Rattle.nor_layout.specs.declared.fault.LayoutFault.TheVariants.{InLine, TooMany, Memory}
 use Rattle.nor_layout.specs.Line.{line_says}
 
--- A line ends with a line feed, which the last may lack. Behind the last line feed stands one more line, which may be
+-- The lines of a text, without their line feeds. The bytes after the last line feed are one more line, which may be
 -- empty.
 abbrev pub lines_of : List ℕ → List (List ℕ)
 lines_of text = slice_split (λ b. b == 10) text
 
--- whether one of the regions has the name
+-- true if one of the regions has the name
 abbrev pub is_region_named : List Region → List ℕ → Bool
 is_region_named regions name = list_any (λ region. bytes_eq region.name.items name) regions
 
--- a region of line n joins those of the lines before
+-- The earlier regions with the region of line n added, or the fault of adding it.
 abbrev pub joins : List Region → ℕ → Region → Result (List Region) LayoutFault
 joins regions n region =
     if is_region_named regions region.name.items then Err (InLine n Twice)
@@ -29,43 +29,45 @@ abbrev pub joins_or_fault : List Region → ℕ → Result Region LineFault → 
 joins_or_fault regions n (Ok region) = joins regions n region
 joins_or_fault regions n (Err fault) = Err (InLine n fault)
 
--- the regions of the lines up to line n, where those before it gave these: an empty line adds none
+-- The earlier `regions` with the region of line n added, or a fault. An empty line adds no region.
 unfoldable pub with_line : List Region → ℕ → List ℕ → Result (List Region) LayoutFault
 with_line regions n line = if length line == 0 then Ok regions else joins_or_fault regions n (line_says line)
 
--- what follows where a step gave a value; a fault is the answer
+-- applies `f` to the value of a step that succeeded, and passes a fault on, as `and_then` of Rust's `Result` does
 infixl 10 ◌>>=◌
 abbrev pub ◌>>=◌ : {A B : Type 0} → Result A LayoutFault → (A → Result B LayoutFault) → Result B LayoutFault
 (Ok x) >>= f = f x
 (Err fault) >>= f = Err fault
 
--- the regions of all lines, where n is the number of the first of those left, and the lines before it gave these
+-- The regions of all lines, or the first fault. `lines` are the lines from line n on, and `regions` those of the
+-- earlier lines.
 unfoldable pub lines_say : List Region → ℕ → List (List ℕ) → Result (List Region) LayoutFault
 lines_say regions n [] = Ok regions
 lines_say regions n (line ∷ lines) = with_line regions n line >>= λ more. lines_say more (n + 1) lines
 
--- the regions that a text gives, in order, or its first fault
+-- the regions of a text, in order, or its first fault
 unfoldable pub layout_says : List ℕ → Result (List Region) LayoutFault
 layout_says text = lines_say [] 1 (lines_of text)
 
--- no two regions have one name
+-- Holds if no two regions have the same name.
 abbrev pub AreNamedApart : List Region → Type 0
 AreNamedApart [] = ⊤
 AreNamedApart (region ∷ regions) = (is_region_named regions region.name.items ≡ false) × AreNamedApart regions
 
--- what every layout keeps
+-- the invariant of `Layout`
 pub record AreRegions (regions : List Region) : Type 0 where
   pub few : length regions ≤ 64
   pub forward : AllByRecursion (λ region. region.start ≤ region.end) regions
   pub named_apart : AreNamedApart regions
 
--- An answer is what the text says, unless memory was refused. A text that gives no region asks for none.
+-- Holds if the result of reading (`answer`) is what the text defines (`said`), or is `Memory`. It can't be `Memory` if
+-- the text defines a layout without regions.
 abbrev pub ReadsLayout : (answer said : Result (List Region) LayoutFault) → Type 0
 ReadsLayout (Ok regions) said = said ≡ Ok regions
 ReadsLayout (Err Memory) said = said ≢ Ok []
 ReadsLayout (Err fault) said = said ≡ Err fault
 
--- Memory is asked for: some lines give regions without a fault, and the next one gives one more.
+-- Holds if reading the text allocates: some line adds a region after earlier lines without a fault.
 pub record AsksMemory (text : List ℕ) : Type 0 where
   pub before : List (List ℕ)
   pub line : List ℕ

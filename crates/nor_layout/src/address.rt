@@ -1,12 +1,12 @@
-//! Addresses as a layout text writes them: an optional `0x` and 1 to 8 hexadecimal digits.
+//! Addresses in a layout text: an optional `0x` and 1 to 8 hexadecimal digits.
 
 ghost use Rattle.std.specs.Prelude.{◌≡◌};
 ghost use Rattle.nor_layout.specs.Address.{digits_of, digits_address};
 
-/// The most digits that an address has.
+/// The greatest number of digits of an address.
 const DIGITS: usize = 8;
 
-/// What stands behind an optional `0x`.
+/// Returns `text` without its optional prefix `0x`.
 fn digits(text: &[u8]) -> &[u8]
     ensures { result.now ≡ digits_of text.now }
 {
@@ -16,7 +16,7 @@ fn digits(text: &[u8]) -> &[u8]
     }
 }
 
-/// The address that a text writes, if it writes one.
+/// Parses an address of 1 to 8 hexadecimal digits of either case, with or without `0x`. Returns `None` for other texts.
 pub(crate) fn address(text: &[u8]) -> Option<u32>
     ensures { result ≡ digits_address text.now }
 {

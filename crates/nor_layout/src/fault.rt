@@ -1,4 +1,4 @@
-//! Why a layout text is refused, or names of it are.
+//! The faults of layout texts and of names of regions.
 
 ghost use Rattle.std.specs.Prelude.{◌≡◌};
 ghost use Rattle.nor_layout.specs.Faults.{number_of_fault, line_of_fault};
@@ -9,18 +9,18 @@ use std::alloc::{AllocError, AllocFailed};
 use std::error::Error;
 use std::fmt;
 
-/// What is wrong with one line of a layout text, in the order in which it is told.
+/// A fault of one line of a layout text, in the order in which the faults are checked.
 #[derive(Clone, Copy, Debug, PartialEq, Eq)]
 pub enum LineFault {
-    /// The line has no `:`, or no space behind it.
+    /// The line has no `:`, or no space after the first `:`.
     Line = 1,
-    /// The start or the end is no address.
+    /// The start or the end isn't an address.
     Address,
-    /// The end lies below the start.
+    /// The end is below the start.
     Backwards,
-    /// The name is empty, too long, or has a byte that no name may have.
+    /// The name is empty, is longer than 32 bytes, or has a byte that isn't visible ASCII, or is `,` or `:`.
     Name,
-    /// An earlier line gave the same name.
+    /// An earlier line has the same name.
     Twice,
 }
 
@@ -38,21 +38,21 @@ impl fmt::Display for LineFault {
 
 impl Error for LineFault {}
 
-/// Why there is no layout, or no set of included addresses.
+/// A fault of a layout text, or of the names that were given to `Layout::include`.
 #[derive(Clone, Copy, Debug, PartialEq, Eq)]
 pub enum LayoutFault {
-    /// A line is wrong; lines are counted from 1, the empty ones too.
+    /// A line has a fault. Lines are counted from 1, including empty lines.
     InLine { line: usize, fault: LineFault },
-    /// A line gives one more region than a layout holds.
+    /// The text has more than 64 regions.
     TooMany,
-    /// Memory was refused.
+    /// An allocation failed.
     Memory,
-    /// A name is that of no region.
+    /// A name isn't the name of a region.
     NoRegion,
 }
 
 impl LayoutFault {
-    /// The number of the fault, 1 to 8, by which messages name it.
+    /// Returns the number of the fault, 1 to 8, which messages print.
     pub fn number(self) -> u8
         ensures { result ≡ number_of_fault self }
     {
@@ -64,7 +64,7 @@ impl LayoutFault {
         }
     }
 
-    /// The number of the line that is wrong, where it is one line: lines are counted from 1.
+    /// Returns the number of the line with the fault, counted from 1, or `None` if the fault isn't in one line.
     pub fn line(self) -> Option<usize>
         ensures { result ≡ line_of_fault self }
     {

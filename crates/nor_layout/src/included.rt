@@ -1,4 +1,4 @@
-//! What a request includes of a chip: the addresses of its ranges, and without ranges the whole chip.
+//! The addresses that a request includes: those of its ranges or, without ranges, all addresses of the chip.
 
 ghost use Rattle.std.specs.Prelude.{◌≡◌, ◌<◌, ◌+◌, ◌*◌, ℕ, length, slice_index};
 ghost use Rattle.std.specs.Prelude.{MatchBool, if◌then◌else◌, option_copied};
@@ -7,10 +7,10 @@ ghost use Rattle.nor_layout.specs.Sectors.{ReachesPast, FitsInto, merged_byte, A
 
 use crate::ranges::Ranges;
 
-/// The value of a byte that is erased.
+/// The value of an erased byte.
 const ERASED: u8 = 0xFF;
 
-/// Whether an address is included.
+/// Returns true if `address` is in the ranges, or there are no ranges.
 pub fn includes(included: Option<&Ranges>, address: u32) -> bool
     ensures { result ≡ includes (option_copied included.entry) address }
 {
@@ -20,7 +20,7 @@ pub fn includes(included: Option<&Ranges>, address: u32) -> bool
     }
 }
 
-/// Whether some address of a sector is included; sectors are counted from 0.
+/// Returns true if some address of sector number `sector` is included. Sectors are counted from 0.
 pub fn includes_in_sector(included: Option<&Ranges>, sector: u32) -> bool
     ensures test { result ≡ has_in_sector (includes (option_copied included.entry)) sector }
     ensures cases { MatchBool result
@@ -33,7 +33,9 @@ pub fn includes_in_sector(included: Option<&Ranges>, sector: u32) -> bool
     }
 }
 
-/// Whether ranges have an address that a chip of `size` bytes lacks. The whole chip has none.
+/// Returns true if some address of the ranges is `size` or greater, so past the end of a chip of `size` bytes.
+///
+/// Returns false if there are no ranges.
 pub fn reaches_past(included: Option<&Ranges>, size: u32) -> bool
     ensures { MatchBool result
         (ReachesPast (option_copied included.entry) size) (FitsInto (option_copied included.entry) size) }
@@ -44,9 +46,10 @@ pub fn reaches_past(included: Option<&Ranges>, size: u32) -> bool
     }
 }
 
-/// Takes over the bytes of a sector that aren't included from another copy of it.
+/// Copies the bytes of sector number `sector` that aren't included from `other` to `bytes`.
 ///
-/// Both copies have 4,096 bytes, and `bytes` keeps those that are included.
+/// Both slices must have 4,096 bytes. The included bytes of `bytes` don't change. If `bytes` has the sector's bytes of
+/// an image and `other` those of a chip, `bytes` then has the target of a write (`merged_byte`).
 pub fn fill_excluded(included: Option<&Ranges>, sector: u32, bytes: &mut [u8], other: &[u8])
     requires long { length bytes.old ≡ 4096 }
     requires other_long { length other.now ≡ 4096 }
@@ -62,7 +65,7 @@ pub fn fill_excluded(included: Option<&Ranges>, sector: u32, bytes: &mut [u8], o
     }
 }
 
-/// Makes FFh of the bytes of a sector that aren't included.
+/// Sets the bytes of sector number `sector` that aren't included to FFh. `bytes` must have 4,096 bytes.
 pub fn blank_excluded(included: Option<&Ranges>, sector: u32, bytes: &mut [u8])
     requires long { length bytes.old ≡ 4096 }
     ensures { (i : ℕ) → i < 4096 → slice_index bytes.new i

@@ -1,4 +1,4 @@
-//! Layout texts, and the addresses that names of their regions include.
+//! Layout texts, and the addresses of their regions by name.
 
 ghost use Rattle.std.specs.Prelude.{◌≡◌, ◌↔◌, ℕ, List, IsTrue, IsOk, IfOk, IfErr};
 ghost use Rattle.nor_layout.specs.Text.{is_region_named, with_line, layout_says, AreRegions, ReadsLayout, AsksMemory};
@@ -14,7 +14,7 @@ use crate::region::{REGIONS, Region};
 use std::alloc::Global;
 use std::marker::Model;
 
-/// The regions that a layout text gives, in the order of its lines: at most 64, and no two of one name.
+/// The regions of a layout text, in the order of its lines: at most 64, and no two with the same name.
 #[derive(Debug, Drop)]
 pub struct Layout {
     regions: Vec<Region>,
@@ -32,21 +32,21 @@ impl Model for Layout {
     ghost invariant = { λ l. AreRegions l.regions.items };
 }
 
-/// Whether one of the regions has the name.
+/// Returns true if one of the regions has the name.
 fn is_named(regions: &[Region], name: &[u8]) -> bool
     ensures { result ≡ is_region_named regions.now name.now }
 {
     regions.iter().any(|region| region.name.as_slice() == name)
 }
 
-/// Whether a name stands among others, which commas separate.
+/// Returns true if `name` is one of the comma-separated `names`.
 fn is_listed(names: &[u8], name: &[u8]) -> bool
     ensures { result ≡ is_listed names.now name.now }
 {
     names.split(|b| *b == b',').any(|listed| name == listed)
 }
 
-/// Whether each of the names that commas separate is that of a region.
+/// Returns true if each of the comma-separated `names` is the name of a region.
 fn are_known(regions: &[Region], names: &[u8]) -> bool
     ensures { result ≡ are_known regions.now names.now }
 {
@@ -55,7 +55,9 @@ fn are_known(regions: &[Region], names: &[u8]) -> bool
         .all(|name| is_named(regions, name))
 }
 
-/// Adds the region that line `number` gives, if it gives one.
+/// Adds the region of line `number` to `regions`, or nothing if the line is empty.
+///
+/// Returns a fault of the line, or `TooMany` if there are 64 regions already, or `Memory` if an allocation fails.
 #[tactic(auto, unfolding(crate::specs::Text::with_line))]
 fn add_line(regions: &mut Vec<Region>, number: usize, line: &[u8]) -> Result<(), LayoutFault>
     ensures { Adds regions.old.items regions.new.items result (with_line regions.old.items number line.now) }
@@ -81,23 +83,24 @@ fn add_line(regions: &mut Vec<Region>, number: usize, line: &[u8]) -> Result<(),
 }
 
 impl Layout {
-    /// Reads a layout text.
+    /// Reads a layout text (flashrom's manual page, layout files).
     ///
-    /// Lines end with a line feed, which the last may lack, and an empty line is skipped. Any other is
-    /// `start:end name`: the start reaches to the first `:`, the end from there to the next space, and
-    /// behind one or more spaces the rest is the name. An address is 1 to 8 hexadecimal digits of either
-    /// case, with or without `0x`; both ends belong to the region. A name has 1 to 32 visible ASCII
-    /// characters, without `,` and `:`. Regions may overlap.
+    /// Lines end with a line feed, which is optional after the last line. Empty lines are skipped. Every other line is
+    /// `start:end name`: the start ends at the first `:`, the end at the next space, and the name follows one or more
+    /// spaces and is the rest of the line. An address is 1 to 8 hexadecimal digits of either case, with or without
+    /// `0x`; both the start and the end belong to the region. A name has 1 to 32 visible ASCII characters except `,`
+    /// and `:`. Regions may overlap.
     ///
-    /// The faults of a line are told in the order of `LineFault`, and `TooMany` comes last; the first line
-    /// that has one is told. `Memory` comes only where an allocation was refused.
+    /// Returns the fault of the first line that has one. Faults of one line are checked in the order of `LineFault`,
+    /// and after them `TooMany`. Returns `Memory` if an allocation fails, which can only happen at a line that adds a
+    /// region, after lines without a fault.
     pub fn read(alloc: Global, text: &[u8]) -> Result<Layout, LayoutFault>
-        // The regions of the lines, in order, or the first fault of the first line that has one. Else
-        // memory was refused to one more region, behind lines that have no fault.
+        // The result is what the text defines, or `Memory`. If it is `Memory`, some line adds a region after lines
+        // without a fault.
         ensures exact { ReadsLayout result (layout_says text.now) }
         ensures asks { IfErr result (λ fault. fault ≡ LayoutFault.Memory → AsksMemory text.now) }
 
-        // What is read is in the grammar, and what is in the grammar is read.
+        // A layout that is returned is in the grammar. A text in the grammar is read, except if memory runs out.
         ensures found { IfOk result (λ layout. IsLayout text.now layout) }
         ensures taken { (regions : List Region) → IsLayout text.now regions → ReadsLayout result (Ok regions) }
     {
@@ -110,7 +113,7 @@ impl Layout {
         Ok(Layout { regions })
     }
 
-    /// The regions, in the order of their lines: at most 64, and no two of one name.
+    /// Returns the regions in the order of their lines: at most 64, and no two with the same name.
     pub fn regions(&self) -> &[Region]
         ensures same { result.now ≡ self.now }
         ensures regions { AreRegions self.now }
@@ -118,11 +121,13 @@ impl Layout {
         self.regions.as_slice()
     }
 
-    /// The addresses of the regions that are named: all of them, from each start to each end.
+    /// Returns the set of all addresses of the regions with the comma-separated `names`, both ends included.
     ///
-    /// Commas separate the names. A name may come again; an empty one is that of no region. Takes no memory.
+    /// A name may be repeated. Allocates nothing.
+    ///
+    /// Returns `NoRegion` if a name isn't the name of a region. An empty name never is.
     pub fn include(&self, names: &str) -> Result<Ranges, LayoutFault>
-        // It is refused where a name is that of no region, and only there.
+        // Succeeds if and only if each name is the name of a region.
         ensures known { IsOk result ↔ IsTrue (are_known self.now names.now) }
         ensures unknown { IfErr result (λ fault. fault ≡ LayoutFault.NoRegion) }
 
@@ -138,7 +143,7 @@ impl Layout {
     }
 }
 
-/// The addresses of the regions whose names are listed.
+/// Returns the addresses of the regions whose names are among the comma-separated `names`.
 fn listed_ranges(regions: &[Region], names: &[u8]) -> Ranges
     requires { AreRegions regions.now }
     ensures union { (address : ℕ)

@@ -1,8 +1,7 @@
-//! Layout files: which addresses of a flash chip have which name, and which of them a request includes.
+//! Layout files, which name regions of a flash chip, and the sets of addresses that a request includes.
 //!
-//! A layout file names regions of a chip, a line each: `start:end name` (flashrom's manual page, layout
-//! files). A request that gives names includes the addresses of their regions, and no other byte of the
-//! chip may change.
+//! A layout file has one region per line: `start:end name` (flashrom's manual page, layout files). A request with names
+//! includes the addresses of the regions with these names. A request without ranges includes the whole chip.
 //!
 //! ```rust
 //! use nor_layout::{Layout, LayoutFault, Ranges, Span};
@@ -17,7 +16,20 @@
 //! assert!(rt; apart.contains(0x7ff) && !apart.contains(0x800));
 //! ```
 //!
-//! What a text says stands in `specs/Text.antt` and, as a grammar, in `Grammar`; what names include in `Included`.
+//! The source files:
+//!
+//! - `layout.rt`: `Layout`, which reads a layout text and returns the addresses of named regions
+//! - `line.rt`: one line of a layout text
+//! - `address.rt`: hexadecimal addresses
+//! - `region.rt`: `Region`, the name and addresses of a region
+//! - `fault.rt`: the faults of layout texts and of names, with their numbers and messages
+//! - `ranges.rt`: `Ranges`, a set of addresses as at most 64 spans
+//! - `places.rt`: the positions of one sector that are in a set
+//! - `merge.rt`: joins the included bytes of one copy of a sector with the other bytes of a second copy
+//! - `included.rt`: queries about a request, with ranges or for the whole chip
+//!
+//! `specs/Text.antt` defines the regions or the fault of a text, `Grammar.antt` the accepted texts as a grammar, and
+//! `Included.antt` the addresses that names include.
 #![tactic(auto)]
 
 mod address;

@@ -9,7 +9,7 @@ use crate::fault::LineFault;
 use crate::region::{NAME_LEN, Region};
 use arrayvec::ArrayVec;
 
-/// The three parts of a line, as they stand in it.
+/// The three parts of a line, as bytes of it.
 #[derive(Clone, Copy)]
 struct Parts<'a> {
     start: &'a [u8],
@@ -17,7 +17,7 @@ struct Parts<'a> {
     name: &'a [u8],
 }
 
-/// The place of the first such byte.
+/// Returns the index of the first `byte` in `text`.
 fn find(text: &[u8], byte: u8) -> Option<usize>
     ensures { MatchOption result (EachIndex text.now (λ k. slice_index text.now k ≢ byte))
         (λ at. IsFirst byte text.now at) }
@@ -25,7 +25,7 @@ fn find(text: &[u8], byte: u8) -> Option<usize>
     text.iter().position(|b| *b == byte)
 }
 
-/// What stands before the first such byte, and what stands behind it.
+/// Returns the parts of `text` before and after the first `byte`, or `None` if `text` doesn't contain it.
 fn split_once(text: &[u8], byte: u8) -> Option<(&[u8], &[u8])>
     ensures { MatchOption result (cut_at byte text.now ≡ None)
         (λ parts. cut_at byte text.now ≡ Some (parts.0.now, parts.1.now)) }
@@ -34,7 +34,7 @@ fn split_once(text: &[u8], byte: u8) -> Option<(&[u8], &[u8])>
     Some((&text[..at], &text[at + 1..]))
 }
 
-/// The text without the spaces at its front.
+/// Returns `text` without its leading spaces.
 fn trim_spaces(text: &[u8]) -> &[u8]
     ensures { result.now ≡ without_spaces text.now }
 {
@@ -45,7 +45,7 @@ fn trim_spaces(text: &[u8]) -> &[u8]
     rest
 }
 
-/// The parts of a line, where it has a `:` and a space behind that.
+/// Splits a line at its first `:` and the next space. Returns `None` if it lacks one of them.
 fn parts_of(line: &[u8]) -> Option<Parts<'_>>
     ensures { MatchOption result (parts_of line.now ≡ None)
         (λ parts. parts_of line.now
@@ -60,14 +60,14 @@ fn parts_of(line: &[u8]) -> Option<Parts<'_>>
     })
 }
 
-/// Whether a name may have the byte: visible ASCII, other than `,` and `:`.
+/// Returns true if the byte is allowed in a name: visible ASCII except `,` and `:`.
 fn is_name_byte(byte: u8) -> bool
     ensures { result ≡ is_name_byte byte }
 {
     byte.is_ascii_graphic() && byte != b',' && byte != b':'
 }
 
-/// Whether the bytes are a name: 1 to 32 of those that a name may have.
+/// Returns true if the bytes are a name: 1 to 32 bytes, each of them allowed in a name.
 fn is_name(bytes: &[u8]) -> bool
     ensures { result ≡ is_name bytes.now }
 {
@@ -77,7 +77,7 @@ fn is_name(bytes: &[u8]) -> bool
     bytes.iter().all(|b| is_name_byte(*b))
 }
 
-/// The region that a line gives, or the first fault of it.
+/// Parses the region of a line that isn't empty, or returns its first fault.
 pub(crate) fn read_region(line: &[u8]) -> Result<Region, LineFault>
     ensures { result ≡ line_says line.now }
 {

@@ -1,11 +1,12 @@
-//! Bytes of a sector from two copies of it: some places keep theirs, and the others take those of the second.
+//! Joins two copies of a sector: the first keeps its bytes at given positions, and gets the other bytes from the
+//! second.
 
 ghost use Rattle.std.specs.Prelude.{◌≡◌, ◌<◌, ◌≤◌, ℕ, length, slice_index, if◌then◌else◌};
 ghost use Rattle.nor_layout.specs.Places.{is_covered, AreRisingFrom, places_left};
 
 use crate::places::PlacesIn;
 
-/// Copies the bytes at the places from `start` on, up to the one before `end`.
+/// Copies the bytes from index `start` to `end`, excluding `end`, to the same indexes of `to`.
 fn copy_part(to: &mut [u8], from: &[u8], start: usize, end: usize)
     requires forward { start ≤ end }
     requires to_fits { end ≤ length to.old }
@@ -17,7 +18,9 @@ fn copy_part(to: &mut [u8], from: &[u8], start: usize, end: usize)
     to[start..end].copy_from_slice(&from[start..end]);
 }
 
-/// Takes over the bytes of a sector that stand at none of the places.
+/// Copies the bytes of a sector from `other` to `bytes`, except those at the positions in `places`.
+///
+/// Both slices must have 4,096 bytes, and the positions must ascend.
 pub(crate) fn fill_around(places: PlacesIn<'_>, bytes: &mut [u8], other: &[u8])
     requires long { length bytes.old ≡ 4096 }
     requires other_long { length other.now ≡ 4096 }

@@ -1,4 +1,4 @@
-//! The places of one sector whose addresses belong to a set.
+//! The positions within one sector whose addresses are in a set.
 
 ghost use Rattle.std.specs.Prelude.{◌≡◌};
 ghost use Rattle.std.specs.Iterator.{YieldsFirst, item_count};
@@ -6,17 +6,17 @@ ghost use Rattle.nor_layout.specs.Places.{part_in_sector, parts_in_sector, place
 
 use crate::ranges::Span;
 
-/// The size of a sector, in bytes: the smallest unit that a chip erases.
+/// The size of a sector, in bytes.
 pub const SECTOR: u32 = 4096;
 
-/// Places of a sector in a row, counted in bytes from its beginning: from `start` on, `end` no longer among them.
+/// Consecutive positions in a sector, in bytes from its beginning: from `start` to `end`, excluding `end`.
 #[derive(Clone, Copy, Debug, PartialEq, Eq)]
 pub struct Places {
     pub start: usize,
     pub end: usize,
 }
 
-/// An iterator over the places of one sector whose addresses belong to a set, rising.
+/// An iterator over the positions in one sector whose addresses are in a set, in ascending order.
 #[derive(Debug, Drop)]
 pub struct PlacesIn<'a> {
     spans: &'a [Span],
@@ -31,7 +31,7 @@ impl<'a> PlacesIn<'a> {
     }
 }
 
-/// The part of a span in a sector, if it has one.
+/// Returns the positions in a sector that a span covers, or `None` if it covers none.
 fn part_of(span: &Span, sector: u32) -> Option<Places>
     ensures { result ≡ part_in_sector sector span.now }
 {

@@ -1,4 +1,4 @@
-//! Sets of addresses, as a few sorted spans.
+//! Sets of addresses, as at most 64 sorted spans.
 
 ghost use Rattle.std.specs.Prelude.{◌≡◌, ◌≤◌, ◌<◌, ◌+◌, ◌||◌, ◌*◌, ℕ, false, MatchBool, MatchOption, length, nat_lt, [], slice_index, if◌then◌else◌};
 ghost use Rattle.nor_layout.specs.Ranges.{is_in_span, contains, has_backwards, AreApart, AreRanges, IsSetOf, MakeNoSet};
@@ -12,19 +12,19 @@ use crate::region::REGIONS;
 use arrayvec::ArrayVec;
 use std::marker::Model;
 
-/// Addresses in a row, in bytes from the chip's beginning: both ends belong to it.
+/// Consecutive addresses, in bytes from the chip's beginning, both ends included.
 #[derive(Clone, Copy, Debug, Default, PartialEq, Eq)]
 pub struct Span {
     pub first: u32,
     pub last: u32,
 }
 
-// One span more than a set has, since whether one that is added joins others is seen afterwards.
+// One span more than a set may have: the length is checked after a span was added and joined with others.
 const ROOM: usize = REGIONS + 1;
 
-/// A set of addresses: at most 64 spans that rise, with an address between each two that belongs to none.
+/// A set of addresses: at most 64 spans in ascending order, neither overlapping nor adjacent.
 ///
-/// Each question takes time by the number of spans, and not by that of addresses.
+/// The time of a query depends on the number of spans, not on the number of addresses.
 #[derive(Clone, Debug, Drop)]
 pub struct Ranges {
     spans: ArrayVec<Span, ROOM>,
@@ -43,14 +43,14 @@ impl Model for Ranges {
 }
 
 impl Span {
-    /// Whether this span ends below the other, with an address between the two.
+    /// Returns true if this span ends below the other, and at least one address is between the two.
     fn is_apart_below(&self, other: &Span) -> bool
         ensures { result ≡ nat_lt (self.now.last + 1) other.now.first }
     {
         self.last < other.first && other.first - self.last > 1
     }
 
-    /// The least span that holds both.
+    /// Returns the smallest span that contains both.
     fn joined(&self, other: &Span) -> Span
         ensures { result ≡ join self.now other.now }
     {
@@ -61,14 +61,14 @@ impl Span {
     }
 }
 
-// Whether one of the spans ends before it begins.
+// Returns true if one of the spans ends before it begins.
 fn has_backwards(spans: &[Span]) -> bool
     ensures { result ≡ has_backwards spans.now }
 {
     spans.iter().any(|span| span.last < span.first)
 }
 
-// Of a span and the one found before it, the one that begins first, if it reaches the address `done`.
+// Returns `span` if it reaches the address `done` and begins before `next`, or if there is no `next`; else `next`.
 fn sooner(next: Option<Span>, span: &Span, done: u64) -> Option<Span>
     ensures { result ≡ sooner next span.now done }
 {
@@ -79,7 +79,7 @@ fn sooner(next: Option<Span>, span: &Span, done: u64) -> Option<Span>
     }
 }
 
-// Of the spans that reach the address `done`, the one that begins first.
+// Returns the span that begins first among those that reach the address `done`.
 fn next_span(spans: &[Span], done: u64) -> Option<Span>
     requires { has_backwards spans.now ≡ false }
     ensures { IsNextOrNone done spans.now result }
@@ -91,7 +91,7 @@ fn next_span(spans: &[Span], done: u64) -> Option<Span>
     next
 }
 
-/// The spans of a set to which one more is added.
+/// Returns the spans of the set with one more span added.
 fn with_span(spans: &[Span], added: Span) -> ArrayVec<Span, ROOM>
     requires room { length spans.now ≤ 64 }
     requires forward { added.first ≤ added.last }
@@ -118,10 +118,10 @@ fn with_span(spans: &[Span], added: Span) -> ArrayVec<Span, ROOM>
 }
 
 impl Ranges {
-    /// The set with the addresses of these spans, which come in any order, and may touch or overlap.
+    /// Returns the set with the addresses of these spans. They may be in any order, adjacent, or overlapping.
     ///
-    /// There is none where a span ends before it begins, or where the addresses make more than 64 spans with an
-    /// address between each two that belongs to none. Takes no memory, and time by the square of the number of spans.
+    /// Returns `None` if a span ends before it begins, or if more than 64 spans are left after adjacent and overlapping
+    /// spans were joined. Allocates nothing. Its time grows with the square of the number of spans.
     pub fn of(spans: &[Span]) -> Option<Ranges>
         ensures { MatchOption result (MakeNoSet spans.now)
             (λ ranges. (has_backwards spans.now ≡ false) × IsSetOf spans.now ranges) }
@@ -141,7 +141,7 @@ impl Ranges {
         Some(Ranges { spans: all })
     }
 
-    /// The empty set.
+    /// Returns the empty set.
     pub(crate) fn new() -> Ranges
         ensures empty { result ≡ [] }
         ensures ranges { AreRanges result }
@@ -151,7 +151,7 @@ impl Ranges {
         }
     }
 
-    /// The set with the addresses of one more span.
+    /// Returns the set with the addresses of one more span. The set must have fewer than 64 spans.
     pub(crate) fn with(&self, added: Span) -> Ranges
         requires room { length self.now < 64 }
         requires forward { added.first ≤ added.last }
@@ -165,7 +165,7 @@ impl Ranges {
         }
     }
 
-    /// The spans, rising: at most 64, each two with an address between them that belongs to none.
+    /// Returns the spans in ascending order: at most 64, neither overlapping nor adjacent.
     pub fn spans(&self) -> &[Span]
         ensures same { result.now ≡ self.now }
         ensures ranges { AreRanges self.now }
@@ -173,7 +173,7 @@ impl Ranges {
         self.spans.as_slice()
     }
 
-    /// Whether an address belongs to the set.
+    /// Returns true if `address` is in the set.
     pub fn contains(&self, address: u32) -> bool
         ensures { result ≡ contains self.now address }
     {
@@ -182,7 +182,7 @@ impl Ranges {
             .any(|span| span.first <= address && address <= span.last)
     }
 
-    /// Whether some address of a sector belongs to the set; sectors are counted from 0.
+    /// Returns true if some address of sector number `sector`, counted from 0, is in the set.
     pub(crate) fn has_in_sector(&self, sector: u32) -> bool
         ensures test { result ≡ has_in_sector (contains self.now) sector }
         ensures cases { MatchBool result
@@ -191,23 +191,24 @@ impl Ranges {
         self.spans.iter().any(|span| span.first / SECTOR <= sector && sector <= span.last / SECTOR)
     }
 
-    /// Whether some address from `size` on belongs to the set.
+    /// Returns true if some address in the set is `size` or greater.
     pub fn reaches(&self, size: u32) -> bool
         ensures { MatchBool result (ReachesPast (Some self.now) size) (¬ ReachesPast (Some self.now) size) }
     {
         self.spans.iter().any(|span| size <= span.last)
     }
 
-    /// The places of a sector whose addresses belong to the set, rising; sectors are counted from 0.
+    /// Returns the positions in sector number `sector`, counted from 0, whose addresses are in the set, in ascending
+    /// order.
     pub(crate) fn places_in(&self, sector: u32) -> PlacesIn<'_>
         ensures { AreIncludedIn self.now sector (places_left result) }
     {
         PlacesIn::new(self.spans(), sector)
     }
 
-    /// Takes over the bytes of a sector that don't belong to the set from another copy of it.
+    /// Copies the bytes of sector number `sector` whose addresses aren't in the set from `other` to `bytes`.
     ///
-    /// Both copies have 4,096 bytes, and `bytes` keeps those at addresses of the set.
+    /// Both slices must have 4,096 bytes. The other bytes of `bytes` don't change.
     pub(crate) fn fill_excluded(&self, sector: u32, bytes: &mut [u8], other: &[u8])
         requires long { length bytes.old ≡ 4096 }
         requires other_long { length other.now ≡ 4096 }

@@ -5,11 +5,10 @@ use arrayvec::ArrayVec;
 /// The greatest length of a region's name, in bytes.
 pub const NAME_LEN: usize = 32;
 
-/// The most regions that a layout holds.
+/// The greatest number of regions in a layout.
 pub const REGIONS: usize = 64;
 
-/// A named region of a chip: its addresses from `start` to `end`, both included, in bytes from the chip's
-/// beginning.
+/// A named region of a chip: the addresses from `start` to `end`, both included, in bytes from the chip's beginning.
 #[derive(Debug, Drop)]
 pub struct Region {
     pub start: u32,

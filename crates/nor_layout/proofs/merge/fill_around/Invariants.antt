@@ -2,7 +2,7 @@ use Rattle.std.proofs.Common.{◌≡◌, ◌<◌, ◌≤◌, ℕ, slice_index, i
 use Rattle.nor_layout.specs.Places.{is_covered, AreRisingFrom, places_left}
 use Rattle.nor_layout.proofs.merge.fill_around.Given as goal
 
--- below the place reached the bytes are filled in, and from there on they are as they were
+-- the bytes below `done` have their final values, and those from `done` on haven't changed
 abbrev pub invariant-loop-part : goal.invariant-loop-part
 invariant-loop-part l = record {
   reached : l.done ≤ 4096;

@@ -3,7 +3,7 @@ use Rattle.nor_layout.specs.Text.{AreRegions}
 use Rattle.nor_layout.proofs.Texts.{Gives}
 use Rattle.nor_layout.proofs.layout.Layout.read.Given as goal
 
--- the regions so far are those of the lines so far
+-- the regions are those of the lines read so far
 abbrev pub invariant-loop-line : goal.invariant-loop-line
 invariant-loop-line l = record {
   counted : l.number ≡ length l.yielded;
