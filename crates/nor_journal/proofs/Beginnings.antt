@@ -1,5 +1,5 @@
--- What the pieces of a journal make, one behind the other, and what a vault has that refused one: a beginning of the
--- text.
+-- The pieces of a journal are its encoding when all are written. A faithful vault that refused one holds a prefix of
+-- it.
 use Rattle.std.proofs.Common.{◌≡◌, ℕ, ◌/◌, List, [], ◌++◌, length, take, refl, sym, ap, ◌∙◌, append_assoc, arith}
 use Rattle.std.specs.Prelude.{true, Some, Result, Ok, Err, OnOk, OnErr}
 use Rattle.std.specs.Io.{StartsWith}
@@ -12,7 +12,7 @@ use Rattle.nor_journal.specs.Text.{SavedSector, Content, IsContent, MayFollow, n
 use Rattle.nor_journal.specs.Text.{records_text, end_mark, front, body, text, empty_content, with_sector}
 use Rattle.nor_journal.proofs.SectorRecords.{AreRising-push, records_text-push}
 
--- ---- of a content
+-- ---- contents
 
 pub front-empty_content : (id unique status : List ℕ) (size : ℕ)
     → front (empty_content id (Some unique) status size) ≡ head (empty_content id (Some unique) status size)
@@ -27,7 +27,7 @@ front-with_sector c number bytes =
     ap (λ (t : List ℕ). head c ++ t) (records_text-push c.saved added)
     ∙ sym (append_assoc (head c) (records_text c.saved) (record_text added))
 
--- one sector more is a content still
+-- a content with one more sector is valid
 pub IsContent-with_sector : (c : Content) (number : ℕ) (bytes : List ℕ) → IsContent c → MayFollow c number
     → length bytes ≡ 4096 → IsContent (with_sector c number bytes)
 unfolding next_number
@@ -44,17 +44,17 @@ pub text_is : (c : Content) → (front c ++ end_mark) ++ sha256 (front c ++ end_
 unfolding text body
 text_is c = refl
 
--- ---- of lists
+-- ---- lists
 
--- what begins a list begins a longer one
+-- a prefix of a list is a prefix of the list with more elements appended
 pub begins_longer : (whole behind bytes : List ℕ) → StartsWith whole bytes → StartsWith (whole ++ behind) bytes
 begins_longer whole behind bytes begins =
     take-append-le (length bytes) whole behind (omega (arith, ap length begins, length-take (length bytes) whole))
     ∙ begins
 
--- ---- of a vault
+-- ---- a vault
 
--- a telling vault has just these bytes
+-- if the vault is faithful, it holds exactly these bytes
 abbrev pub Holds : VaultState → List ℕ → Type 0
 Holds vault bytes = vault.telling ≡ true → vault.bytes ≡ bytes
 
@@ -63,7 +63,7 @@ took_more : (old new : VaultState) (before piece : List ℕ) → Holds old befor
 took_more old new before piece told took tells =
     let before_tells = sym took.telling ∙ tells in rw (took.bytes before_tells, told before_tells) refl
 
--- after a refused piece
+-- after a refused piece, a faithful vault holds a prefix of the earlier bytes and that piece
 pub after_refused : (old new : VaultState) (before piece : List ℕ) (kept : ℕ) → Holds old before
     → PutRefused old piece kept new → HoldsBeginning new (before ++ piece)
 after_refused old new before piece kept told refused tells =
@@ -71,26 +71,26 @@ after_refused old new before piece kept told refused tells =
     rw (refused.bytes before_tells, told before_tells)
     (rw (length-append before (take kept piece), take-append-add, length-take kept piece, take_min) refl)
 
--- what holds anyway holds after an error
+-- a fact that always holds also holds after an error
 pub err_any : {T E P : Type 0} (r : Result T E) → P → OnErr r P
 err_any (Ok value) holds = tt
 err_any (Err error) holds = holds
 
--- ---- of the end
+-- ---- the end
 
--- the end mark was refused
+-- if the end mark was refused, the vault holds a prefix of the journal
 pub begins_mark : (old new : VaultState) (c : Content) (kept : ℕ) → Holds old (front c)
     → PutRefused old end_mark kept new → HoldsBeginning new (text c)
 begins_mark old new c kept told refused = rw (← text_is c) (λ tells.
     begins_longer (front c ++ end_mark) _ new.bytes (after_refused old new (front c) end_mark kept told refused tells))
 
--- The end mark went in, and the digest comes.
+-- the end mark was accepted, and the digest is written next
 module _ (s0 s1 new : VaultState) (c : Content) (digest : List ℕ) (told : Holds s0 (front c))
     (marked : Took s0 end_mark s1) (is : digest ≡ sha256 (front c ++ end_mark)) where
   whole : (front c ++ end_mark) ++ digest ≡ text c
   whole = rw is (text_is c)
 
-  -- both make the text
+  -- if the digest is accepted too, the vault holds the encoding
   pub took_end : Took s1 digest new → Holds new (text c)
   took_end digested = rw (← whole) (took_more s1 new _ digest (took_more s0 s1 (front c) end_mark told marked) digested)
 
@@ -98,7 +98,7 @@ module _ (s0 s1 new : VaultState) (c : Content) (digest : List ℕ) (told : Hold
   begins_digest kept refused =
       rw (← whole) (after_refused s1 new _ digest kept (took_more s0 s1 (front c) end_mark told marked) refused)
 
--- the seal leaves it, and a refused one is as a refused piece of nothing
+-- a seal keeps the encoding in the vault; a refused seal has the effect of a refused piece of no bytes
 pub seals : {T : Type 0} (old new : VaultState) (r : Result T VaultFault) (c : Content) → Holds old (text c)
     → Seals old r new → OnOk r (Holds new (text c)) × OnErr r (HoldsBeginning new (text c))
 seals old new (Ok x) c told sealed =

@@ -1,4 +1,4 @@
--- The head of the bytes is the head's text.
+-- Reading and writing a header agree with its encoding.
 use Rattle.std.proofs.Common.{◌≡◌, ◌≢◌, ◌∙◌, ℕ, ◌+◌, ◌-◌, ◌≤◌, List, [], ◌∷◌, ◌++◌, length, get_or, take, drop, refl}
 use Rattle.std.proofs.Common.{sym, ap, arith, Option, Some, None, Result, Ok, Err}
 use Rattle.std.specs.Prelude.{IfSome, MatchResult}
@@ -15,14 +15,14 @@ use Rattle.nor_journal.proofs.SectorRecords.{IsBytes, IsBytes-drop, number_text-
 use Rattle.std.proofs.Math.Seq.{take-add}
 use Rattle.std.proofs.lemmas.Grind.{elements}
 
--- the first bytes, one by one
+-- the first two and the first three bytes as a list
 two_first : (bytes : List ℕ) → 2 ≤ length bytes → take 2 bytes ≡ get_or bytes 0 0 ∷ get_or bytes 1 0 ∷ []
 two_first bytes long = grind (arith, elements)
 
 three_first : (bytes : List ℕ) → 3 ≤ length bytes → take 3 bytes ≡ get_or bytes 0 0 ∷ get_or bytes 1 0 ∷ get_or bytes 2 0 ∷ []
 three_first bytes long = grind (arith, elements)
 
--- the parts of a head that has k bytes behind the ID, and what stands behind it
+-- the parts of a header with k bytes between the ID and the status bytes, and the bytes after it
 said : (k : ℕ) (bytes magic unique status : List ℕ) → IsBytes bytes → 17 + k ≤ length bytes → take 8 bytes ≡ magic
     → take k (drop 11 bytes) ≡ unique → take 2 (drop (11 + k) bytes) ≡ status
     → bytes ≡ ((((magic ++ get_or bytes 8 0 ∷ get_or bytes 9 0 ∷ get_or bytes 10 0 ∷ []) ++ unique) ++ status)
@@ -35,7 +35,7 @@ said k bytes magic unique status fits long begins is two =
     rw (← begins, ← is, ← two, ← id, number, ← take-add 8 3 bytes, ← take-add 11 k bytes)
     (rw (← take-add (11 + k) 2 bytes, ← take-add (11 + k + 2) 4 bytes) (sym (take-append-drop (11 + k + 2 + 4) bytes)))
 
--- Eight bytes are a unique ID, and any other number is none.
+-- Holds if `unique` is the part when it has eight bytes, and None when it has another length.
 abbrev IsUnique : (part : List ℕ) → Option (List ℕ) → Type 0
 IsUnique part unique = MatchOption unique (length part ≢ 8) (λ u. (part ≡ u) × (length u ≡ 8))
 
@@ -43,7 +43,7 @@ pub unique_read : {E : Type 0} (part : List ℕ) (r : Result (List ℕ) E) → M
 unique_read part (Ok u) whole = (sym whole.same, ap length whole.same ∙ whole.long)
 unique_read part (Err e) other = other
 
--- a head of this format is what it says, with the rest behind it
+-- bytes with a complete header are the encoding of its fields, followed by the rest
 pub splits : (told : Option (List ℕ)) (len : ℕ) (bytes : List ℕ) (unique : Option (List ℕ)) → IsBytes bytes
     → take 8 bytes ≡ magic told → len ≡ head_length told → len ≤ length bytes
     → IsUnique (take (len - 6 - 11) (drop 11 bytes)) unique
@@ -70,15 +70,15 @@ splits (Some v) len bytes (Some u) fits begins is long read =
     let two = simp get_or-drop at (two_first (drop 19 bytes) (omega (arith, length-drop 19 bytes))) in
     (read.1, rw is (said 8 bytes (magic (Some v)) u _ fits (omega arith) begins (rw is at read.0) two))
 
--- ---- a head that is written
+-- ---- writing a header
 
--- it is as long as it was
+-- writing a part doesn't change the length of the buffer
 pub length-put : (n k : ℕ) (bytes part : List ℕ) → length bytes ≡ 25 → length part ≡ k → n + k ≤ 25
     → length (put_mid n k bytes part) ≡ 25
 length-put n k bytes part long many within =
     same_len_mid n k bytes part (omega (arith, length-take k (drop n bytes), length-drop n bytes)) ∙ long
 
--- a part that is put behind what was written
+-- a part written after the bytes before it
 pub put_behind : (n k : ℕ) (before rest part : List ℕ) → length before ≡ n
     → put_mid n k (before ++ rest) part ≡ (before ++ part) ++ drop k rest
 put_behind n k before rest part len =

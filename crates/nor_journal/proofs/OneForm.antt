@@ -1,5 +1,5 @@
--- What tells the parts of a journal apart: numbers, records, heads, and the fronts that they make. So a journal says
--- one thing and has no fault, and other bytes have one fault at most.
+-- The parts of a journal are decoded uniquely: numbers, records, headers, and the header with the records (`front`). So
+-- a journal has one content and no fault, and other bytes have at most one first fault.
 use Rattle.std.proofs.Common.{◌≡◌, ℕ, ◌+◌, ◌-◌, ◌/◌, ◌^◌, ◌<◌, ◌≤◌, true, List, [], ◌∷◌, ◌++◌, length, take, drop}
 use Rattle.std.proofs.Common.{Option, refl, sym, ap, ◌∙◌, append_assoc, arith, inl, inr}
 use Rattle.std.specs.Prelude.{IfSome, Result, Ok, Err, IfOk, IfErr, OnOk, IsOkAnd}
@@ -18,7 +18,7 @@ use Rattle.nor_journal.proofs.SectorRecords.{length-number_text, number_at-numbe
 use Rattle.sha2.proofs.Facts256.{length-sha256}
 use Rattle.nor_journal.specs.declared.fault.JournalFault.{JournalFault}
 
--- two lists that go on differently, after parts of one length
+-- if two lists are equal and their first parts have equal lengths, the parts and the rests are equal
 pub same_parts : (a b : List ℕ) {x y : List ℕ} → length a ≡ length b → a ++ x ≡ b ++ y → (a ≡ b) × (x ≡ y)
 same_parts a b {x} {y} len e = (
   sym (take_at a x _ len) ∙ ap (take (length b)) e ∙ take_at b y _ refl,
@@ -38,7 +38,7 @@ pub length-end_mark : length end_mark ≡ 4
 unfolding end_mark
 length-end_mark = refl
 
--- the number of no sector
+-- the end mark encodes 2^32 - 1, which is above every sector number
 pub number_at-marked : (rest : List ℕ) → take 4 rest ≡ end_mark → number_at rest ≡ 4294967295
 unfolding end_mark number_at
 number_at-marked rest is_mark = sym (number_at-take rest) ∙ ap number_at is_mark
@@ -55,7 +55,7 @@ same_record sectors s t {x} {y} few s-is t-is e =
     let rest = same_parts s.bytes t.bytes (s-is.whole ∙ sym t-is.whole) numbers.1 in
     (ap (λ (n : ℕ). record s { number = n }) numbers.0 ∙ ap (λ (b : List ℕ). record t { bytes = b }) rest.0, rest.1)
 
--- a record that may be next begins the bytes
+-- bytes that begin with the encoding of a valid next record begin with a record (`BeginsRecord`)
 begins_record : (sectors least : ℕ) (s : SavedSector) (rest bytes : List ℕ) → sectors ≤ 4096
     → IsSectorBelow sectors s → least ≤ s.number → bytes ≡ record_text s ++ rest
     → BeginsRecord sectors least bytes (number_at bytes)
@@ -71,11 +71,11 @@ begins_record sectors least s rest bytes few is rises e =
       whole = omega (arith, simp length-append at (ap length opened), length-number_text s.number, is.whole);
     }
 
--- No record that may be next begins the bytes.
+-- Holds if the bytes don't begin with a valid next record.
 abbrev pub NoRecord : (sectors least : ℕ) → List ℕ → Type 0
 NoRecord sectors least bytes = BeginsRecord sectors least bytes (number_at bytes) → ⊥
 
--- two lists of records at the front of the same bytes, behind which no record is next, are one
+-- two lists of records at the beginning of the same bytes are equal, if no valid record follows either of them
 same_records : (sectors least : ℕ) (ss ts : List SavedSector) (x y : List ℕ) → sectors ≤ 4096
     → AreRising sectors least ss → AreRising sectors least ts → NoRecord sectors (least_after least ss) x
     → NoRecord sectors (least_after least ts) y → records_text ss ++ x ≡ records_text ts ++ y → (ss ≡ ts) × (x ≡ y)
@@ -91,16 +91,16 @@ same_records sectors least (s ∷ ss) (t ∷ ts) x y few s-are t-are no_x no_y e
     first.1 in
     (rw (first.0, rest.0) refl, rest.1)
 
--- ---- heads and fronts
+-- ---- headers, and headers with records
 
 pub length-magic : (u : Option (List ℕ)) → length (magic u) ≡ 8
 length-magic u = grind arith
 
--- two formats have two magics, whose last digits differ
+-- the magic determines the length of the header
 pub same_format : (u v : Option (List ℕ)) → magic u ≡ magic v → head_length u ≡ head_length v
 same_format u v e = grind arith
 
--- how long what a head tells of the unique ID is
+-- the length of the unique ID in a header of either format
 length-unique : (u : Option (List ℕ)) → IfSome u (λ unique. length unique ≡ 8)
     → length (unwrap_or u []) + 17 ≡ head_length u
 length-unique u is = grind arith
@@ -108,7 +108,7 @@ length-unique u is = grind arith
 same_unique : (u v : Option (List ℕ)) → head_length u ≡ head_length v → unwrap_or u [] ≡ unwrap_or v [] → u ≡ v
 same_unique u v f e = grind arith
 
--- a head, part by part
+-- a header as its parts
 pub head_opened : (c : Content) (x : List ℕ)
     → head c ++ x ≡ magic c.unique ++ (c.id ++ (unwrap_or c.unique [] ++ (c.status ++ (number_text c.size ++ x))))
 unfolding head
@@ -143,7 +143,8 @@ pub text_opened : (c : Content) → text c ≡ front c ++ (end_mark ++ sha256 (b
 unfolding text body
 text_opened c = rw append_assoc
 
--- what stands behind two fronts, and is no record that may be next, tells the contents
+-- If two contents' headers and records begin the same bytes, and no valid record follows either, the contents are
+-- equal.
 pub same_fronts : (c d : Content) (x y : List ℕ) → IsContent c → IsContent d
     → NoRecord (c.size / 4096) (next_number c) x → NoRecord (d.size / 4096) (next_number d) y
     → front c ++ x ≡ front d ++ y → (c ≡ d) × (x ≡ y)
@@ -158,16 +159,16 @@ same_fronts c d x y c-is d-is no_x no_y e =
       records.1,
     )
 
--- ---- which fault it is
+-- ---- at most one fault
 
 least_head : (u : Option (List ℕ)) → 17 ≤ head_length u
 least_head u = grind arith
 
--- the head has one at most
+-- a header has at most one fault
 one_in_head : (bytes : List ℕ) (f g : JournalFault) → HeadFault bytes f → HeadFault bytes g → f ≡ g
 one_in_head bytes f g p q = grind (arith, same_format, least_head)
 
--- its last four bytes are the size
+-- the last four bytes of a header are the size
 head_number : (c : Content) (x : List ℕ) → IsContent c
     → number_at (drop (head_length c.unique - 4) (head c ++ x)) ≡ c.size
 unfolding head
@@ -178,20 +179,20 @@ head_number c x is =
     rw (append_assoc before (number_text c.size) x, drop_at before (number_text c.size ++ x) _ len)
     (number_at-number_text c.size x (omega (arith, few_sectors c.size is.size)))
 
--- the head of a content has none
+-- the header of a valid content has no fault
 none_in_head : (c : Content) (x : List ℕ) (f : JournalFault) → IsContent c → HeadFault (head c ++ x) f → ⊥
 none_in_head c x f is found =
     let begins = ap (take 8) (head_opened c x) ∙ take_at _ _ _ (length-magic c.unique) in
     let long = length-append (head c) x in let len = length-head c is in let number = head_number c x is in
     grind (arith, begins, long, len, number, is.size, same_format, least_head)
 
--- what stands behind a content has one at most, ..
+-- the bytes after the header and records have at most one fault
 one_behind : (c : Content) (rest : List ℕ) (f g : JournalFault) → IsContent c → NextFault c rest f → NextFault c rest g
     → f ≡ g
 one_behind c rest f g is p q =
     grind (arith, number_at-marked rest, few_sectors c.size is.size, length-take 4 rest, length-end_mark)
 
--- .. the end of a journal has none, ..
+-- the end of a journal has no fault
 none_at_end : (c : Content) (f : JournalFault) → IsContent c → NextFault c (end_mark ++ sha256 (body c)) f → ⊥
 unfolding body
 none_at_end c f is found =
@@ -201,20 +202,20 @@ none_at_end c f is found =
     let few = few_sectors c.size is.size in
     grind (arith, number_at-marked (end_mark ++ digest), length-end_mark, mark, last, long, len, few)
 
--- .. and what has one is no record that may be next
+-- bytes with a fault don't begin with a valid next record
 faulty : (c : Content) (rest : List ℕ) (f : JournalFault) → IsContent c → NextFault c rest f
     → NoRecord (c.size / 4096) (next_number c) rest
 faulty c rest f is found begins = grind (arith, number_at-marked rest, few_sectors c.size is.size)
 
--- ---- of the bytes
+-- ---- all bytes
 
--- no fault is in the head where the bytes begin with the front of a content
+-- bytes that begin with the header and records of a valid content have no fault in the header
 not_in_head : (bytes : List ℕ) (f : JournalFault) (c : Content) (rest : List ℕ) → IsContent c
     → bytes ≡ front c ++ rest → HeadFault bytes f → ⊥
 not_in_head bytes f c rest is split found =
     none_in_head c (records_text c.saved ++ rest) f is (rw (split ∙ front_opened c rest) at found)
 
--- a record begins no end
+-- bytes that begin with the end mark don't begin with a record
 no_record : (c : Content) (behind : List ℕ) → IsContent c
     → NoRecord (c.size / 4096) (next_number c) (end_mark ++ behind)
 no_record c behind is begins =
@@ -239,7 +240,7 @@ faultless c bytes fault is e (inr found) =
     (faulty _ _ fault found.is_content found.next) (sym (text_opened c) ∙ sym e ∙ found.split) in
     none_at_end c fault is (rw (same.1, same.0) found.next)
 
--- ---- each journal says one thing, and none begins another
+-- ---- each journal has one content, and none is a proper prefix of another
 
 text_then : (c : Content) (x : List ℕ) → text c ++ x ≡ front c ++ (end_mark ++ (sha256 (body c) ++ x))
 text_then c x = rw text_opened (simp append_assoc)
@@ -250,7 +251,7 @@ one_text c d x y c-is d-is e =
     (sym (text_then c x) ∙ e ∙ text_then d y) in
     (same.0, append_cancel_left (text c) x y (e ∙ ap (λ (b : Content). text b ++ y) (sym same.0)))
 
--- what reading finds of a journal
+-- reading a journal returns its content
 pub is_read : (bytes : List ℕ) (r : Result Content JournalFault) (c : Content)
     → IfOk r (λ j. IsContent j × (bytes ≡ text j)) → IfErr r (HasFault bytes) → IsContent c → bytes ≡ text c
     → IsOkAnd r (λ j. j ≡ c)
@@ -258,7 +259,7 @@ is_read bytes (Ok j) c found fault is e =
     (one_text j c [] [] found.0 is (ap (λ (t : List ℕ). t ++ []) (sym found.1 ∙ e))).0
 is_read bytes (Err f) c found fault is e = faultless c bytes f is e fault
 
--- no proper beginning of a journal is a journal
+-- no proper prefix of a journal is a journal
 pub ends_whole : (bytes : List ℕ) (r : Result Content JournalFault) → IfOk r (λ j. IsContent j × (bytes ≡ text j))
     → OnOk r ((c : Content) (n : ℕ) → IsContent c → take n bytes ≡ text c → length bytes ≤ n)
 ends_whole bytes (Ok j) found = λ c n is begins.

@@ -1,4 +1,4 @@
--- Where the parts of a journal lie in the bytes that are read.
+-- The positions of the parts of a journal in the bytes that are read.
 use Rattle.std.proofs.Common.{◌≡◌, ℕ, ◌+◌, ◌-◌, ◌*◌, ◌≤◌, List, ◌++◌, length, take, drop, refl, sym, ap, ◌∙◌}
 use Rattle.std.proofs.Common.{append_assoc, arith, inr}
 use Rattle.std.proofs.lemmas.List.{take-append-drop, length-append, length-drop, length-take, take_at, drop_at}
@@ -12,7 +12,7 @@ use Rattle.nor_journal.specs.Reading.{headed, content_at, IsHead, HasRecords}
 use Rattle.nor_journal.proofs.SectorRecords.{IsBytes, records_text-sectors_in, with_mark}
 use Rattle.nor_journal.proofs.OneForm.{length-end_mark}
 
--- what stands behind some bytes are bytes too
+-- the rest of a list of bytes is a list of bytes
 IsBytes-behind : (before rest bytes : List ℕ) → bytes ≡ before ++ rest → IsBytes bytes → IsBytes rest
 IsBytes-behind before rest bytes split fits i =
     rw (← get_or-append-add before rest i 0, ← split) (fits (length before + i))
@@ -57,7 +57,7 @@ module _ {h : Head} {bytes records : List ℕ} {k : ℕ} (split : bytes ≡ head
   pub from_mark : drop mark bytes ≡ drop (4100 * k) records
   from_mark = ap (drop mark) front_splits ∙ drop_at _ _ _ length-front
 
-  -- the end mark lies within the bytes
+  -- the end mark is within the bytes
   pub mark_within : take 4 (drop (4100 * k) records) ≡ end_mark → mark + 4 ≤ length bytes
   mark_within ends = omega (
     arith,
@@ -67,7 +67,7 @@ module _ {h : Head} {bytes records : List ℕ} {k : ℕ} (split : bytes ≡ head
     length-drop mark bytes,
   )
 
-  -- a fault of what stands behind the records
+  -- a fault after the records is a fault of the whole bytes
   pub next_fault : (fault : JournalFault) → IsHead h → NextFault content (drop (4100 * k) records) fault
       → FaultBehindFront bytes fault
   next_fault fault is found = record {
@@ -82,7 +82,7 @@ module _ {h : Head} {bytes records : List ℕ} {k : ℕ} (split : bytes ≡ head
       → FaultBehindFront bytes fault
   end_fault fault is found = next_fault fault is (inr (rw (before_mark, from_mark) at found))
 
-  -- a whole journal
+  -- with the end mark and the correct digest, the bytes are the encoding of the content
   pub is_text : take 4 (drop (4100 * k) records) ≡ end_mark → drop (mark + 4) bytes ≡ sha256 (take (mark + 4) bytes)
       → bytes ≡ text content
   unfolding text body

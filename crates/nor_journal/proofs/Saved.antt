@@ -1,4 +1,5 @@
--- What a content saves, one sector after the other: for the loops that write and restore it, and for the search of one.
+-- The saved sectors of a content, one after the other: lemmas for the loops that write and restore sectors, and for
+-- searching one.
 use Rattle.std.proofs.Common.{add-one, ◌≡◌, ℕ, zero, suc, ◌+◌, ◌/◌, ◌<◌, ◌≤◌, cond, eqb, List, [], ◌∷◌, ◌++◌, length}
 use Rattle.std.proofs.Common.{take, refl, sym, ap, ◌∙◌, arith, Option, Some, None, inl, inr}
 use Rattle.std.specs.Prelude.{◌↔◌, slice_get}
@@ -26,13 +27,13 @@ pub saved_in-empty_content : (id : List ℕ) (unique : Option (List ℕ)) (statu
 unfolding saved_in
 saved_in-empty_content id unique status size number = refl
 
--- ---- of a list that rises
+-- ---- ascending lists
 
 least_le : (sectors least : ℕ) (ss : List SavedSector) → AreRising sectors least ss → least ≤ least_after least ss
 least_le sectors least [] rising = omega arith
 least_le sectors least (s ∷ ss) rising = omega (arith, rising.1, least_le sectors (s.number + 1) ss rising.2)
 
--- one more sector is saved, and the others stay
+-- one more sector at the end is saved, and the others stay saved
 pub saved_in-push : (sectors least : ℕ) (ss : List SavedSector) (s : SavedSector) (n : ℕ) → AreRising sectors least ss → least_after least ss ≤ s.number
     → saved_in (ss ++ s ∷ []) n ≡ cond (eqb s.number n) (Some s.bytes) (saved_in ss n)
 unfolding saved_in
@@ -41,7 +42,7 @@ saved_in-push sectors least (t ∷ ss) s n rising above =
     let later = saved_in-push sectors (t.number + 1) ss s n rising.2 above in
     grind (arith, nat_tests, least_le sectors (t.number + 1) ss rising.2)
 
--- the sector at an index
+-- the sector at an index is complete, and its number is at least `least`
 pub rising_at : (sectors least : ℕ) (ss : List SavedSector) (i : ℕ) (s : SavedSector) → AreRising sectors least ss → slice_get ss i ≡ Some s → IsSectorBelow sectors s × (least ≤ s.number)
 rising_at sectors least [] i s rising e = absurd cc
 rising_at sectors least (t ∷ ss) zero s rising e = rw (← same_Some t s e) (rising.0, rising.1)
@@ -49,7 +50,7 @@ rising_at sectors least (t ∷ ss) (suc i) s rising e =
     let later = rising_at sectors (t.number + 1) ss i s rising.2 e in
     (later.0, omega (arith, rising.1, later.1))
 
--- it is saved, with its bytes
+-- the sector at an index is saved, with its bytes
 pub saved_in-at : (sectors least : ℕ) (ss : List SavedSector) (i : ℕ) (s : SavedSector) → AreRising sectors least ss → slice_get ss i ≡ Some s → saved_in ss s.number ≡ Some s.bytes
 unfolding saved_in
 saved_in-at sectors least [] i s rising e = absurd cc
@@ -68,9 +69,9 @@ saved_in-record (s ∷ rest) n bytes e =
       | inr miss ↦ let later = saved_in-record rest n bytes (rw miss.0 at e) in (suc later.0, later.1)
     ]
 
--- ---- of a content
+-- ---- contents
 
--- a sector is saved exactly where a record has it
+-- a sector is saved if and only if a record has its number
 pub saved_record : (c : Content) (sector : ℕ) (bytes : List ℕ) → IsContent c → saved_in c.saved sector ≡ Some bytes ↔ HasRecord c sector bytes
 saved_record c sector bytes is = (
   λ e. let found = saved_in-record c.saved sector bytes e in record { place = found.0; is = found.1 },
@@ -81,7 +82,7 @@ pub saved_in-with_sector : (c : Content) (number : ℕ) (bytes : List ℕ) (n : 
 unfolding next_number
 saved_in-with_sector c number bytes n is follows = saved_in-push (c.size / 4096) 0 c.saved (record { number = number; bytes = bytes }) n is.saved follows.rises
 
--- ---- of the first sectors, as a loop over them goes on
+-- ---- the first sectors, for a loop
 
 take-sector : (ss : List SavedSector) (i : ℕ) (s : SavedSector) → slice_get ss i ≡ Some s → take (i + 1) ss ≡ take i ss ++ s ∷ []
 take-sector ss i s e =
@@ -100,14 +101,14 @@ saved_in-take_more c i s n is e =
     let parts = take-rising (c.size / 4096) 0 c.saved i s is.saved e in
     rw (take-sector c.saved i s e) (saved_in-push (c.size / 4096) 0 (take i c.saved) s n parts.0 parts.1)
 
--- the numbers go on from record to record
+-- the number of record i is at least the next number after the records before it
 pub take-next : (c : Content) (i : ℕ) (s : SavedSector) → IsContent c → slice_get c.saved i ≡ Some s → (least_after 0 (take i c.saved) ≤ s.number) × (least_after 0 (take (i + 1) c.saved) ≡ s.number + 1)
 take-next c i s is e = (
   (take-rising (c.size / 4096) 0 c.saved i s is.saved e).1,
   rw (take-sector c.saved i s e) (least_after-push 0 (take i c.saved) s),
 )
 
--- they stay below the number of sectors, and so does how many there are
+-- the next number, and the number of records, are at most the number of sectors
 after_within : (sectors least : ℕ) (ss : List SavedSector) → AreRising sectors least ss → least ≤ sectors → (least_after least ss ≤ sectors) × (least + length ss ≤ sectors)
 after_within sectors least [] rising within = (within, omega arith)
 after_within sectors least (s ∷ ss) rising within =
@@ -128,9 +129,9 @@ pub saved_in-nil : (n : ℕ) → saved_in [] n ≡ None
 unfolding saved_in
 saved_in-nil n = refl
 
--- ---- of the records that bytes begin with
+-- ---- the records at the beginning of bytes
 
--- record i is a whole sector of the chip, and is saved
+-- record i is a complete sector of the chip, and is saved
 pub sector_saved : (h : Head) (bytes : List ℕ) (k i : ℕ) (s : SavedSector) (j : Content) → content_at h k bytes ≡ j
     → HasRecords h bytes k → i < length j.saved → s ≡ sector_at bytes i
     → (slice_get j.saved i ≡ Some s) × (saved_in j.saved s.number ≡ Some s.bytes) × IsSectorBelow (j.size / 4096) s
@@ -143,16 +144,16 @@ sector_saved h bytes k i s j view has within is =
       (rising_at (h.size / 4096) 0 (saved_records k bytes) i s has.rising at).0,
     )
 
--- ---- a sector that is sought
+-- ---- searching for a sector
 
--- The records before `low` have lesser numbers than the one that is sought, those from `high` on greater ones.
+-- Holds if the records before `low` have smaller numbers than the sought one, and those from `high` on greater ones.
 pub record IsSought (saved : List SavedSector) (number low high : ℕ) : Type 0 where
   pub order : low ≤ high
   pub within : high ≤ length saved
   pub before : (i : ℕ) (s : SavedSector) → slice_get saved i ≡ Some s → i < low → s.number < number
   pub behind : (i : ℕ) (s : SavedSector) → slice_get saved i ≡ Some s → high ≤ i → number < s.number
 
--- numbers rise
+-- a later record has no smaller number
 risen : (sectors least : ℕ) (ss : List SavedSector) (i j : ℕ) (s t : SavedSector) → AreRising sectors least ss
     → slice_get ss i ≡ Some s → slice_get ss j ≡ Some t → i ≤ j → s.number ≤ t.number
 risen sectors least [] i j s t rising e f upto = absurd cc
@@ -182,6 +183,6 @@ sought_below sectors ss n low high middle t rising sought at from below more = r
   behind = λ i s is upper. let upto = risen sectors 0 ss middle i t s rising at is upper in omega arith;
 }
 
--- no record is left that may have the number
+-- the sector isn't saved if no record is left between `low` and `high`
 pub sought_none : (ss : List SavedSector) (n low high : ℕ) → IsSought ss n low high → high ≤ low → saved_in ss n ≡ None
 sought_none ss n low high sought empty = grind (arith, saved_in-record ss n)

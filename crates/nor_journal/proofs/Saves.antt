@@ -1,4 +1,4 @@
--- Which sectors a journal saves, as it is written and as it is read.
+-- The sectors that a journal saves, as it is written and as it is read.
 use Rattle.std.proofs.Common.{◌≡◌, ℕ, ◌+◌, ◌*◌, ◌/◌, ◌%◌, ◌<◌, ◌≤◌, Bool, true, false, List, [], refl, sym, subst, ◌∙◌}
 use Rattle.std.proofs.Common.{arith, Option}
 use Rattle.std.specs.Prelude.{Result, Ok, Err, IsOkAnd}
@@ -14,9 +14,9 @@ use Rattle.nor_journal.proofs.Saved.{next_number-with_sector}
 use Rattle.std.proofs.lemmas.Bool.{both_ways}
 use Rattle.nor_journal.proofs.Beginnings.{IsContent-with_sector}
 
--- ---- of a content
+-- ---- contents
 
--- the same set by another test
+-- an equal set is saved too
 pub Saves-same : (chip : ℕ → ℕ) (saved other : ℕ → Bool) (c : Content) → ((s : ℕ) → other s ≡ saved s) → Saves chip saved c → Saves chip other c
 Saves-same chip saved other c same saves = record {
   is = saves.is;
@@ -24,7 +24,7 @@ Saves-same chip saved other c same saves = record {
   others = λ s is. saves.others s (sym (same s) ∙ is);
 }
 
--- one sector more
+-- the content with one more sector saves the set with this sector
 pub Saves-more : (chip : ℕ → ℕ) (saved more : ℕ → Bool) (c : Content) (number : ℕ) (bytes : List ℕ) → Saves chip saved c → MayFollow c number → IsWholeSector chip number bytes → HasOneMore saved number more → Saves chip more (with_sector c number bytes)
 Saves-more chip saved more c number bytes saves follows sector one = record {
   is = IsContent-with_sector c number bytes saves.is follows sector.whole;
@@ -34,17 +34,17 @@ Saves-more chip saved more c number bytes saves follows sector one = record {
       (grind (arith, nat_tests, one.here, one.others s, saves.others s));
 }
 
--- the set is that of the saved sectors
+-- a sector is in the set if and only if the content saves it
 pub Saves-set : (chip : ℕ → ℕ) (saved : ℕ → Bool) (c : Content) (s : ℕ) → Saves chip saved c → saved s ≡ is_saved c s
 Saves-set chip saved c s saves = grind (arith, saves.sectors s, saves.others s)
 
--- a saved byte is the chip's
+-- a saved byte is the chip's byte
 pub saved_byte-is : (chip : ℕ → ℕ) (saved : ℕ → Bool) (c : Content) (a : ℕ) → Saves chip saved c → saved (a / 4096) ≡ true → saved_byte c a ≡ chip a
 saved_byte-is chip saved c a saves is =
     let place : 4096 * (a / 4096) + a % 4096 ≡ a = omega arith in
     grind (arith, saves.sectors (a / 4096) is)
 
--- nothing is saved where there is no record
+-- a content without records saves the empty set
 pub Saves-none : (chip : ℕ → ℕ) (saved : ℕ → Bool) (c : Content) → IsContent c → c.saved ≡ [] → ((s : ℕ) → saved s ≡ false) → Saves chip saved c
 Saves-none chip saved c is empty none = record {
   is = is;
@@ -52,17 +52,17 @@ Saves-none chip saved c is empty none = record {
   others = λ s out. rw empty (saved_in-nil s);
 }
 
--- ---- of the bytes of a journal
+-- ---- the bytes of a journal
 
--- what was kept is read
+-- the sectors that a journal saves are the sectors that reading it returns
 pub reads_kept : (bytes : List ℕ) (r : Result Content JournalFault) (head : Content) (chip : ℕ → ℕ) (saved : ℕ → Bool) (kept : JournalSaves head chip saved bytes) → IsOkAnd r (λ journal. journal ≡ kept.content)
     → IsOkAnd r (λ journal. SameHead head journal × Saves chip saved journal)
 reads_kept bytes (Ok journal) head chip saved kept is = rw is (kept.same, kept.saves)
 reads_kept bytes (Err fault) head chip saved kept never = absurd never
 
--- ---- of a writer
+-- ---- a writer
 
--- nothing is saved behind the head
+-- after only the header, the empty set is saved
 pub HasKept-none : {V : Type 0} (state : V → VaultState) (w : Writer V) (id : List ℕ) (unique : Option (List ℕ)) (status : List ℕ) (size : ℕ) (chip : ℕ → ℕ) (saved : ℕ → Bool) (n : ℕ)
     → HasWritten state w (empty_content id unique status size) → ((s : ℕ) → saved s ≡ false) → HasPutSectors state w (empty_content id unique status size) chip saved n
 HasKept-none state w id unique status size chip saved n written none = record {
@@ -73,14 +73,14 @@ HasKept-none state w id unique status size chip saved n written none = record {
   next = omega (arith, next_number-empty_content id unique status size);
 }
 
--- a sector that isn't below the bound may follow
+-- a sector with a number of at least n may follow
 pub may_follow : {V : Type 0} (state : V → VaultState) (w : Writer V) (head : Content) (chip : ℕ → ℕ) (saved : ℕ → Bool) (n number : ℕ) (kept : HasPutSectors state w head chip saved n) → n ≤ number → number < head.size / 4096 → MayFollow kept.content number
 may_follow state w head chip saved n number kept above place = record {
   rises = omega (arith, kept.next);
   place = subst (λ (c : Content). number < c.size / 4096) kept.same place;
 }
 
--- one sector more
+-- after one more sector, the set with this sector is saved
 pub HasKept-more : {V : Type 0} (state : V → VaultState) (old new : Writer V) (head : Content) (chip : ℕ → ℕ) (saved more : ℕ → Bool) (n number : ℕ) (bytes : List ℕ) (kept : HasPutSectors state old head chip saved n)
     → MayFollow kept.content number → IsWholeSector chip number bytes → HasOneMore saved number more → HasWritten state new (with_sector kept.content number bytes) → HasPutSectors state new head chip more (number + 1)
 HasKept-more state old new head chip saved more n number bytes kept follows sector one written = record {

@@ -1,5 +1,4 @@
--- Numbers that are written and read again, and records one after the other: in the bytes, and as a list of sectors that
--- rises.
+-- Numbers that are encoded and decoded, and consecutive records, in the bytes and as an ascending list of sectors.
 use Rattle.std.proofs.Common.{◌≡◌, ℕ, ◌+◌, ◌^◌, ◌<◌, ◌≤◌, List, ◌++◌, length, get_or, take, drop, refl, arith, inl, inr}
 use Rattle.std.proofs.Common.{zero, suc, ◌*◌, ◌/◌, [], ◌∷◌, sym, ap, ◌∙◌, add-one, Some}
 use Rattle.std.proofs.lemmas.Bool.{cases_lt}
@@ -18,7 +17,7 @@ use Rattle.nor_journal.specs.Text.{next_number, end_mark}
 use Rattle.nor_journal.specs.declared.head.Head.{Head}
 use Rattle.nor_journal.specs.Reading.{sector_at, saved_records, content_at, HasRecords, BeginsRecord}
 
--- each is a byte
+-- Holds if each element is a byte.
 abbrev pub IsBytes : List ℕ → Type 0
 IsBytes bytes = (i : ℕ) → get_or bytes i 0 < 256
 
@@ -33,7 +32,7 @@ pub number_at-number_text : (n : ℕ) (rest : List ℕ) → n < 2 ^ 32 → numbe
 unfolding number_text number_at
 number_at-number_text n rest fits = little_number-reads_back 4 n rest fits
 
--- only the first four bytes count
+-- a number depends on the first four bytes only
 pub number_at-take : (bytes : List ℕ) → number_at (take 4 bytes) ≡ number_at bytes
 unfolding number_at
 number_at-take bytes = little_from-take 0 4 4 bytes (omega arith)
@@ -50,9 +49,9 @@ number_text-number_at bytes fits long =
     rw (← number_at-take bytes) (le_bytes_4 (take 4 bytes) (number_at (take 4 bytes)) (length-take-le 4 bytes long)
     (IsBytes-take 4 bytes fits) (omega arith))
 
--- ---- sectors that rise
+-- ---- ascending sectors
 
--- one more sector at the end
+-- an ascending list with one more sector at the end
 pub AreRising-push : (sectors least : ℕ) (ss : List SavedSector) (s : SavedSector) → AreRising sectors least ss → IsSectorBelow sectors s → least_after least ss ≤ s.number → AreRising sectors least (ss ++ s ∷ [])
 AreRising-push sectors least [] s rising is rises = (is, rises, tt)
 AreRising-push sectors least (first ∷ ss) s rising is rises = (rising.0, rising.1, AreRising-push sectors (first.number + 1) ss s rising.2 is rises)
@@ -65,7 +64,7 @@ pub records_text-push : (ss : List SavedSector) (s : SavedSector) → records_te
 unfolding records_text
 records_text-push ss s = flat_map-append record_text ss (s ∷ []) ∙ ap (λ (t : List ℕ). flat_map record_text ss ++ t) (append-nil (record_text s))
 
--- ---- the records that bytes begin with
+-- ---- the records at the beginning of bytes
 
 pub length-sectors_in : (k : ℕ) (bytes : List ℕ) → length (saved_records k bytes) ≡ k
 unfolding saved_records
@@ -83,7 +82,7 @@ slice_get-sectors_in (suc k) bytes i lt =
       | inr at ↦ let here : i ≡ k = omega arith in rw here (grind (arith, common_steps, gets))
     ]
 
--- one record is the text of its sector
+-- the bytes of a record are the encoding of its sector
 pub record_text-sector_at : (k : ℕ) (bytes : List ℕ) → IsBytes bytes → 4100 * k + 4100 ≤ length bytes → record_text (sector_at bytes k) ≡ take 4100 (drop (4100 * k) bytes)
 unfolding record_text
 record_text-sector_at k bytes fits long =
@@ -102,7 +101,7 @@ records_text-sectors_in (suc k) bytes fits long =
 
 -- ---- one record more
 
--- what the next record adds to those before it
+-- k valid records and a valid next one are k + 1 valid records
 pub has_one_more : (h : Head) (bytes : List ℕ) (k : ℕ) (least : ℕ) (rest : List ℕ) (n : ℕ) → HasRecords h bytes k → rest ≡ drop (4100 * k) bytes → least ≡ next_number (content_at h k bytes)
     → BeginsRecord (h.size / 4096) least rest n → HasRecords h bytes (k + 1)
 unfolding next_number saved_records
@@ -121,6 +120,6 @@ pub next_number-more : (h : Head) (bytes : List ℕ) (k : ℕ) (n : ℕ) → n �
 unfolding next_number saved_records
 next_number-more h bytes k n e = rw (add-one k) (ap (λ (m : ℕ). m + 1) e ∙ sym (least_after-push 0 (saved_records k bytes) (sector_at bytes k)))
 
--- up to the end mark, and with it
+-- the bytes up to and including the end mark
 pub with_mark : (mark : ℕ) (bytes : List ℕ) → take 4 (drop mark bytes) ≡ end_mark → take (mark + 4) bytes ≡ take mark bytes ++ end_mark
 with_mark mark bytes is_mark = rw (← is_mark) (take-add mark 4 bytes)

@@ -1,4 +1,4 @@
--- The one journal that a content goes on to: of a chip in which some sectors are to be saved, those below a bound are.
+-- The journal that a partly written content is completed to: it saves the sectors of a given set of the chip.
 use Rattle.std.proofs.Common.{◌≡◌, ℕ, zero, suc, ◌+◌, ◌*◌, ◌/◌, ◌<◌, ◌≤◌, Bool, true, false, List, [], ◌++◌, length}
 use Rattle.std.proofs.Common.{map, drop, ◌-◌, refl, sym, ap, subst, ◌∙◌, arith, inl, inr}
 use Rattle.std.specs.Prelude.{◌&&◌, nat_lt}
@@ -29,9 +29,9 @@ sector_whole chip sector = record {
   same = λ i below. get_or-map-range_with_len (λ i. chip (4096 * sector + i)) 0 4096 i i 0 below (omega arith);
 }
 
--- ---- a set, below a bound
+-- ---- the part of a set below a bound
 
--- at a sector of the set
+-- if n is in the set, the part below n + 1 has one more sector
 pub one_more_below : (set : ℕ → Bool) (n : ℕ) → set n ≡ true
     → HasOneMore (λ s. nat_lt s n && set s) n (λ s. nat_lt s (n + 1) && set s)
 one_more_below set n is = record {
@@ -39,14 +39,14 @@ one_more_below set n is = record {
   others = λ s other. grind (arith, nat_tests);
 }
 
--- and at another
+-- if n isn't in the set, the parts below n and n + 1 are equal
 none_more_below : (set : ℕ → Bool) (n : ℕ) → set n ≡ false
     → (s : ℕ) → (nat_lt s (n + 1) && set s) ≡ (nat_lt s n && set s)
 none_more_below set n is s = grind (arith, nat_tests)
 
--- ---- a content that goes on
+-- ---- completing a content
 
--- The second content goes on behind the first, to the sectors below a bound.
+-- Holds if c can be completed to a content that saves the sectors of the set below n.
 pub record GoesOn (chip : ℕ → ℕ) (set : ℕ → Bool) (c : Content) (n : ℕ) : Type 0 where
   pub content : Content
   pub same : SameHead c content
@@ -91,9 +91,9 @@ go_on chip set c n (suc more) saves next within =
     subst (GoesOn chip set c) e
     (go_on_here chip set c (n + more) (omega arith) (go_on chip set c n more saves next (omega arith)))
 
--- ---- the beginning of a journal
+-- ---- prefixes of a journal
 
--- what begins a part of the head and the records begins the text
+-- a prefix of the first part of the header and records is a prefix of the journal
 pub front_begins : (c : Content) (part rest bytes : List ℕ) → front c ≡ part ++ rest → StartsWith part bytes
     → StartsWith (text c) bytes
 front_begins c part rest bytes is begins =
@@ -101,7 +101,7 @@ front_begins c part rest bytes is begins =
     (begins_longer (front c ++ end_mark) (sha256 (front c ++ end_mark)) bytes (begins_longer (front c) end_mark bytes
     (rw is (begins_longer part rest bytes begins))))
 
--- what begins the head and the records of the sectors below a bound begins the journal of all of them
+-- a prefix of the header and the records of the sectors below n is a prefix of the journal of all sectors of the set
 pub begins_whole : (head : Content) (chip : ℕ → ℕ) (set : ℕ → Bool) (c : Content) (n : ℕ) (bytes : List ℕ)
     → SameHead head c → Saves chip (λ s. nat_lt s n && set s) c → next_number c ≤ n → n ≤ head.size / 4096
     → StartsWith (front c) bytes → BeginsText head chip (λ s. nat_lt s (head.size / 4096) && set s) bytes
@@ -118,7 +118,7 @@ begins_whole head chip set c n bytes same saves next within begins =
       begins = front_begins on.content (front on.content) [] bytes (sym (append-nil _)) (on.begins bytes begins);
     }
 
--- what begins a journal and is one is that journal
+-- a journal that is a prefix of another journal has the same header and saves the same sectors
 pub begins_all_of_it : (head : Content) (chip : ℕ → ℕ) (saved : ℕ → Bool) (bytes : List ℕ) (journal : Content)
     → BeginsText head chip saved bytes → IsContent journal → bytes ≡ text journal
     → SameHead head journal × Saves chip saved journal

@@ -1,23 +1,23 @@
--- What a vault does that refuses one call, in the words of the vault below it.
+-- The vault that refuses one call, described by its inner vault.
 use Rattle.std.specs.Prelude.{◌≡◌, ℕ, ◌⊎◌, min, List, length, take}
 use Rattle.nor_journal.specs.declared.broken.BrokenVault.{BrokenVault}
 use Rattle.nor_journal.specs.declared.vault.VaultFault.{VaultFault}
 use Rattle.nor_journal.specs.Vault.{VaultState, Took, PutRefused}
 
--- the vault below
+-- the inner vault
 abbrev pub inner_of : {V : Type 0} → BrokenVault V → V
 inner_of vault = vault.inner
 
--- how many calls there are up to the one that is refused, with it; none where it was
+-- the number of calls up to and including the refused one, or 0 if none is to be refused any more
 abbrev pub calls_left : {V : Type 0} → BrokenVault V → ℕ
 calls_left vault = vault.calls_left
 
--- how much of its piece goes in
+-- how many bytes of its piece a refused `put` first writes to the inner vault
 abbrev pub kept_of : {V : Type 0} → BrokenVault V → ℕ
 kept_of vault = vault.kept
 
--- The first `kept` bytes of the piece, or all of a shorter one, went into the vault below, and the fault tells how
--- many; or the vault below refused these bytes itself.
+-- The inner vault accepted the first `kept` bytes of the piece, or all of a shorter one, and the fault has this number;
+-- or the inner vault itself refused these bytes.
 abbrev pub Broke : ℕ → VaultState → List ℕ → VaultState → VaultFault → Type 0
 Broke kept old piece new fault =
     (Took old (take kept piece) new × (fault.kept ≡ min kept (length piece)))

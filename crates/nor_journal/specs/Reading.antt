@@ -1,4 +1,4 @@
--- The content that bytes have at their places.
+-- The content of a journal, decoded from its bytes by position.
 use Rattle.std.specs.Prelude.{◌≡◌, ℕ, zero, suc, ◌+◌, ◌*◌, ◌/◌, ◌<◌, ◌≤◌, List, [], ◌∷◌, ◌++◌, length, take, drop, true}
 use Rattle.std.specs.Prelude.{IfSome}
 use Rattle.nor_count.specs.Size.{is_chip_size}
@@ -8,48 +8,48 @@ use Rattle.nor_journal.specs.Fault.{RecordFault}
 use Rattle.nor_journal.specs.declared.fault.JournalFault.{JournalFault}
 use Rattle.nor_journal.specs.declared.head.Head.{Head}
 
--- record k of bytes that consist of records
+-- the record with index k, decoded from the bytes after the header
 abbrev pub sector_at : List ℕ → ℕ → SavedSector
 sector_at bytes k = record { number = number_at (drop (4100 * k) bytes); bytes = take 4096 (drop (4100 * k + 4) bytes) }
 
--- the first k records of such bytes
+-- the first k records of these bytes
 unfoldable pub saved_records : ℕ → List ℕ → List SavedSector
 saved_records zero bytes = []
 saved_records (suc k) bytes = saved_records k bytes ++ sector_at bytes k ∷ []
 
--- what a head says, with no sector saved
+-- the content with the fields of a header, and no saved sector
 abbrev pub headed : Head → Content
 headed h = record { id = h.id; unique = h.unique; status = h.status; size = h.size; saved = [] }
 
--- the same with the first k records of the bytes behind the head
+-- the content with the fields of a header, and the first k records of the bytes after it
 abbrev pub content_at : Head → ℕ → List ℕ → Content
 content_at h k bytes =
     record { id = h.id; unique = h.unique; status = h.status; size = h.size; saved = saved_records k bytes }
 
--- a head that a content may have
+-- Holds if the fields of the header are valid.
 pub record IsHead (h : Head) : Type 0 where
   pub id : length h.id ≡ 3
   pub unique : IfSome h.unique (λ unique. length unique ≡ 8)
   pub status : length h.status ≡ 2
   pub size : is_chip_size h.size ≡ true
 
--- The bytes behind the head begin with k records in order.
+-- Holds if the bytes after the header begin with k valid records in ascending order.
 pub record HasRecords (h : Head) (bytes : List ℕ) (k : ℕ) : Type 0 where
   pub within : 4100 * k ≤ length bytes
   pub rising : AreRising (h.size / 4096) 0 (saved_records k bytes)
 
--- The next record behind some of them has this fault.
+-- Holds if the bytes after the header begin with some valid records, and the next one has this fault.
 pub record FaultBehindRecords (h : Head) (bytes : List ℕ) (fault : JournalFault) : Type 0 where
   pub count : ℕ
   pub records : HasRecords h bytes count
   pub next : RecordFault (h.size / 4096) (next_number (content_at h count bytes)) (drop (4100 * count) bytes) fault
 
--- The end mark stands behind k records.
+-- Holds if the end mark follows k valid records.
 pub record EndsBehind (h : Head) (bytes : List ℕ) (k : ℕ) : Type 0 where
   pub records : HasRecords h bytes k
   pub mark : take 4 (drop (4100 * k) bytes) ≡ end_mark
 
--- A record begins the bytes, with a number that is at least `least`.
+-- Holds if the bytes begin with a complete record, whose number is at least `least` and below `sectors`.
 pub record BeginsRecord (sectors least : ℕ) (bytes : List ℕ) (number : ℕ) : Type 0 where
   pub is : number ≡ number_at bytes
   pub rises : least ≤ number

@@ -1,97 +1,100 @@
--- What contracts see of a vault, and what its two calls do to it.
+-- The state of a vault in contracts, and the effect of its two calls.
 use Rattle.std.specs.Prelude.{◌≡◌, ◌≢◌, ℕ, ◌+◌, ◌%◌, ◌^◌, ◌≤◌, Bool, true, false, List, [], ◌++◌, length, take, Result, Ok, Err}
 use Rattle.std.specs.Io.{StartsWith}
 use Rattle.nor_journal.specs.declared.vault.VaultFault.{VaultFault}
 
--- A vault as contracts see it.
+-- The state of a vault.
 pub record VaultState : Type 0 where
-  -- whether the vault holds just the bytes that its calls tell; nothing is known of the bytes of another
+  -- true for a faithful vault, which holds exactly the bytes it accepted; nothing is known about other vaults' bytes
   pub telling : Bool
-  -- the bytes, in the order in which they went in
+  -- the bytes that were accepted, in order
   pub bytes : List ℕ
-  -- whether it was sealed
+  -- true if the vault was sealed
   pub sealed : Bool
-  -- how often it refused, in 64 bits
+  -- the number of refusals, modulo 2^64
   pub failures : ℕ
 
--- a vault as it is made: empty, unsealed, with no refusal yet
+-- a vault that is empty and unsealed, and has refused no call
 abbrev pub new_vault : Bool → VaultState
 new_vault telling = record { telling = telling; bytes = []; sealed = false; failures = 0 }
 
--- the number of refusals after one more, in 64 bits
+-- the number of refusals after one more, modulo 2^64
 abbrev pub one_more : (failures : ℕ) → ℕ
 one_more failures = (failures + 1) % 2 ^ 64
 
--- between two states a vault refused, which its number shows
+-- Holds if the number of refusals differs between two states, so the vault refused a call.
 abbrev pub Rose : (old new : VaultState) → Type 0
 Rose old new = new.failures ≢ old.failures
 
--- A piece went in: it stands behind the old bytes, and nothing else moved.
+-- The effect of an accepted piece: it is appended, and nothing else changes. The bytes are known for a faithful vault
+-- only.
 pub record Took (old : VaultState) (piece : List ℕ) (new : VaultState) : Type 0 where
   pub telling : new.telling ≡ old.telling
   pub sealed : new.sealed ≡ old.sealed
   pub failures : new.failures ≡ old.failures
   pub bytes : old.telling ≡ true → new.bytes ≡ old.bytes ++ piece
 
--- After every refusal there is one more of them, and the vault is no more sealed than before.
+-- The effect of every refusal: the number of refusals is one higher, and a sealed vault stays sealed, an unsealed one
+-- unsealed.
 pub record Refused (old new : VaultState) : Type 0 where
   pub telling : new.telling ≡ old.telling
   pub sealed : new.sealed ≡ old.sealed
   pub failures : new.failures ≡ one_more old.failures
 
--- A piece was refused: a beginning of it went in, of so many bytes.
+-- The effect of a refused piece: the vault counts a refusal. A faithful vault has accepted the first `kept` bytes of
+-- it.
 pub record PutRefused (old : VaultState) (piece : List ℕ) (kept : ℕ) (new : VaultState) : Type 0 where
   pub refused : Refused old new
   pub within : kept ≤ length piece
   pub bytes : old.telling ≡ true → new.bytes ≡ old.bytes ++ take kept piece
 
--- A seal leaves the bytes, and seals.
+-- The effect of a seal: the vault is sealed, and the bytes of a faithful vault don't change.
 pub record Sealed (old new : VaultState) : Type 0 where
   pub telling : new.telling ≡ old.telling
   pub sealed : new.sealed ≡ true
   pub failures : new.failures ≡ old.failures
   pub bytes : old.telling ≡ true → new.bytes ≡ old.bytes
 
--- what `put` of a piece does
+-- the effect of `put`
 abbrev pub Puts : {T : Type 0} → (old : VaultState) → (piece : List ℕ) → Result T VaultFault
     → (new : VaultState) → Type 0
 Puts old piece (Ok _) new = Took old piece new
 Puts old piece (Err fault) new = PutRefused old piece fault.kept new
 
--- what `seal` does: a refused one is as a refused `put` of nothing
+-- the effect of `seal`; a refused one has the same effect as a refused `put` of no bytes
 abbrev pub Seals : {T : Type 0} → (old : VaultState) → Result T VaultFault → (new : VaultState) → Type 0
 Seals old (Ok _) new = Sealed old new
 Seals old (Err fault) new = PutRefused old [] fault.kept new
 
--- ---- over several calls
+-- ---- several calls
 
--- a telling vault has a beginning of these bytes
+-- If the vault is faithful, it holds a prefix of these bytes.
 abbrev pub HoldsBeginning : VaultState → (whole : List ℕ) → Type 0
 HoldsBeginning vault whole = vault.telling ≡ true → StartsWith whole vault.bytes
 
--- a vault that a journal may be put into
+-- Holds if a journal may be written to the vault: it is empty and unsealed.
 pub record IsFresh (vault : VaultState) : Type 0 where
   pub empty : vault.bytes ≡ []
   pub unsealed : vault.sealed ≡ false
 
--- Pieces went in, none was refused, and the vault is no more sealed than before.
+-- The effect of pieces that were all accepted: no refusal was counted, and whether the vault is sealed didn't change.
 pub record Accepted (old new : VaultState) : Type 0 where
   pub telling : new.telling ≡ old.telling
   pub sealed : new.sealed ≡ old.sealed
   pub failures : new.failures ≡ old.failures
 
--- what putting several pieces does, which stops at the first refusal
+-- the effect of writing several pieces up to the first refusal
 abbrev pub PutsOn : {T : Type 0} → VaultState → Result T VaultFault → VaultState → Type 0
 PutsOn old (Ok _) new = Accepted old new
 PutsOn old (Err _) new = Refused old new
 
--- The vault was sealed, and nothing was refused.
+-- The effect of a complete end: the vault was sealed, and no refusal was counted.
 pub record Completed (old new : VaultState) : Type 0 where
   pub telling : new.telling ≡ old.telling
   pub sealed : new.sealed ≡ true
   pub failures : new.failures ≡ old.failures
 
--- what putting the last pieces and sealing does, which stops at the first refusal
+-- the effect of writing the last pieces and sealing, up to the first refusal
 abbrev pub Completes : {T : Type 0} → VaultState → Result T VaultFault → VaultState → Type 0
 Completes old (Ok _) new = Completed old new
 Completes old (Err _) new = Refused old new

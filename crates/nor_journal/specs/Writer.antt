@@ -1,4 +1,4 @@
--- What a writer has put into its vault so far.
+-- The bytes that a writer has written to its vault so far.
 use Rattle.std.specs.Prelude.{◌≡◌, ℕ, ◌≤◌, Bool, true, List}
 use Rattle.std.specs.Borrow.{MutBor}
 use Rattle.sha2.specs.Hashers.{Holds256}
@@ -7,25 +7,25 @@ use Rattle.nor_journal.specs.Vault.{VaultState}
 use Rattle.nor_journal.specs.Text.{Content, IsContent, SameHead, next_number, front}
 use Rattle.nor_journal.specs.Saved.{Saves}
 
--- the vault that a writer holds
+-- the vault that a writer borrows
 abbrev pub vault_of : {V : Type 0} → Writer V → MutBor V
 vault_of writer = writer.vault
 
--- what contracts see of that vault
+-- the state of that vault
 abbrev pub vault_seen : {V : Type 0} → (V → VaultState) → Writer V → VaultState
 vault_seen state writer = state (vault_of writer).now
 
--- These bytes went in: the hasher holds them, and a telling vault has them.
+-- Holds if exactly these bytes were hashed, and a faithful (`telling`) vault holds exactly these bytes.
 pub record HasPut {V : Type 0} (state : V → VaultState) (writer : Writer V) (bytes : List ℕ) : Type 0 where
   pub hashed : Holds256 writer.hasher bytes
   pub told : (vault_seen state writer).telling ≡ true → (vault_seen state writer).bytes ≡ bytes
 
--- The head and the records of this content went in.
+-- Holds if the header and the records of this content were written, and nothing more.
 pub record HasWritten {V : Type 0} (state : V → VaultState) (writer : Writer V) (content : Content) : Type 0 where
   pub is : IsContent content
   pub put : HasPut state writer (front content)
 
--- The head went in, and of the chip just these sectors, all below n.
+-- Holds if the header and the records of exactly these sectors of the chip were written, all of them below sector n.
 pub record HasPutSectors {V : Type 0} (state : V → VaultState) (writer : Writer V) (head : Content)
     (old : ℕ → ℕ) (saved : ℕ → Bool) (n : ℕ) : Type 0 where
   pub content : Content

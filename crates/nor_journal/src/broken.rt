@@ -1,26 +1,27 @@
-//! A vault that refuses one call, for tests of what a session leaves behind.
+//! A vault that refuses one call, for tests of sessions whose vault fails.
 ghost use Rattle.std.specs.Prelude.{◌≡◌, ◌≢◌, ◌↔◌, ◌-◌, IsTrue, false, IsErr, IsErrAnd};
 ghost use Rattle.nor_journal.specs.Vault.{Puts, Seals, one_more};
 ghost use Rattle.nor_journal.specs.BrokenVault.{inner_of, calls_left, kept_of, Broke};
 
 use crate::vault::{Vault, VaultFault};
 
-/// A vault over another one, which refuses one of its calls.
+/// A wrapper of another vault that refuses one call and passes every other call on.
 ///
-/// Its `nth` call of `put` or `seal`, counted from 1, is refused, after the first `kept` bytes of the piece, or all of
-/// a shorter one, went into the vault below. It passes on every other call. It counts all refusals, its own and those
-/// of the vault below. An `nth` of 0 refuses no call.
+/// It refuses the `nth` call of `put` or `seal`, counted from 1; if `nth` is 0, it refuses none. A refused `put` first
+/// writes the first `kept` bytes of the piece, or all of a shorter piece, to the inner vault. It counts its own
+/// refusals and those of the inner vault.
 #[derive(Drop)]
 pub struct BrokenVault<V: Vault> {
     inner: V,
-    // the calls up to the one that is refused, with it, or 0 behind it
+    // the number of calls up to and including the refused one, or 0 if none is to be refused any more
     calls_left: u64,
     kept: usize,
     failures: u64,
 }
 
 impl<V: Vault> BrokenVault<V> {
-    /// A vault over `inner` that refuses the `nth` of its calls behind the first `kept` bytes of the piece.
+    /// Returns a vault over `inner` that refuses its `nth` call, after the first `kept` bytes of the piece if it is a
+    /// `put`.
     pub fn new(inner: V, nth: u64, kept: usize) -> BrokenVault<V>
         ensures state { ⟦<BrokenVault<V> as Vault>⟧.state result ≡ record (V.state inner) { failures = 0 } }
         ensures inner { inner_of result ≡ inner }
@@ -35,14 +36,14 @@ impl<V: Vault> BrokenVault<V> {
         }
     }
 
-    /// The vault below.
+    /// Returns the inner vault.
     pub fn inner(&self) -> &V
         ensures { result.now ≡ inner_of self.now }
     {
         &self.inner
     }
 
-    /// The vault below, taken out.
+    /// Consumes the wrapper and returns the inner vault.
     pub fn into_inner(self) -> V
         ensures { result ≡ inner_of self }
     {
@@ -50,14 +51,14 @@ impl<V: Vault> BrokenVault<V> {
         inner
     }
 
-    /// How often it refused, in 64 bits.
+    /// Returns the number of refusals, modulo 2^64.
     pub fn failures(&self) -> u64
         ensures { result ≡ (⟦<BrokenVault<V> as Vault>⟧.state self.now).failures }
     {
         self.failures
     }
 
-    // Counts a call, and says whether it is the one that is refused.
+    // Counts a call, and returns true if it is the call to refuse.
     fn breaks(&mut self) -> bool
         ensures now { IsTrue result ↔ calls_left self.old ≡ 1 }
         ensures counted { self.new ≡ record self.old { calls_left = calls_left self.old - 1 } }
@@ -67,7 +68,7 @@ impl<V: Vault> BrokenVault<V> {
         breaks
     }
 
-    // Counts a refusal.
+    // Counts a refusal and returns its fault.
     fn refusal(&mut self, kept: usize) -> VaultFault
         ensures told { result.kept ≡ kept }
         ensures counted { self.new ≡ record self.old { failures = one_more self.old.failures } }
@@ -76,7 +77,7 @@ impl<V: Vault> BrokenVault<V> {
         VaultFault { kept }
     }
 
-    // Puts a piece into the vault below.
+    // Writes a piece to the inner vault.
     fn pass_on(&mut self, piece: &[u8]) -> Result<(), VaultFault>
         requires { (V.state (inner_of self.old)).sealed ≡ false }
         ensures law { Puts (⟦<BrokenVault<V> as Vault>⟧.state self.old) piece.now result
@@ -99,11 +100,11 @@ impl<V: Vault> Vault for BrokenVault<V> {
         requires { (⟦<BrokenVault<V> as Vault>⟧.state self.old).sealed ≡ false }
         ensures law { Puts (⟦<BrokenVault<V> as Vault>⟧.state self.old) piece.now result
             (⟦<BrokenVault<V> as Vault>⟧.state self.new) }
-        // The call that is refused.
+        // The refused call.
         ensures breaks { calls_left self.old ≡ 1
             → IsErrAnd result
             (Broke (kept_of self.old) (V.state (inner_of self.old)) piece.now (V.state (inner_of self.new))) }
-        // Any other.
+        // Every other call.
         ensures passes { calls_left self.old ≢ 1
             → Puts (V.state (inner_of self.old)) piece.now result (V.state (inner_of self.new)) }
         ensures calls { calls_left self.new ≡ calls_left self.old - 1 }

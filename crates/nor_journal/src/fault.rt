@@ -1,31 +1,33 @@
-//! Why bytes are no journal.
+//! The reasons why bytes aren't a journal.
 ghost use Rattle.std.specs.Prelude.{◌≡◌};
 ghost use Rattle.nor_journal.specs.Fault.{number_of_fault};
 
 use std::error::Error;
 use std::fmt;
 
-/// The first fault that is met where a journal is read from its front, part by part.
+/// The first fault found when bytes are read as a journal, part by part from the beginning.
+///
+/// The order of the checks is defined in `specs/Fault.antt`; it isn't the order of the numbers.
 #[derive(Clone, Copy, Debug, PartialEq, Eq)]
 pub enum JournalFault {
-    /// A part isn't wholly there: a part of the head, a sector's number, its bytes, the end mark or the digest.
+    /// The bytes end within the header, a sector's number or contents, the end mark, or the digest.
     Short = 1,
-    /// The magic is another.
+    /// The first eight bytes aren't the magic of a format.
     Magic,
-    /// The size is no power of two from 64 KiB to 16 MiB.
+    /// The chip's size isn't a power of two from 64 KiB to 16 MiB.
     Size,
-    /// A record's number isn't the end mark, and no sector of the chip has it.
+    /// The number of a record isn't the end mark, and isn't the number of a sector of the chip.
     Place,
-    /// A record's number isn't above the one before it.
+    /// The number of a record isn't greater than that of the record before it.
     Order,
     /// Bytes follow the digest.
     Long,
-    /// The digest is another.
+    /// The digest isn't the SHA-256 of the bytes before it.
     Digest,
 }
 
 impl JournalFault {
-    /// The number of the fault, 1 to 7, by which messages name it.
+    /// Returns the number of the fault, 1 to 7, which messages print.
     pub fn number(self) -> u8
         ensures { result ≡ number_of_fault self }
     {

@@ -3,34 +3,36 @@ use std::fs::OpenFile;
 use std::io;
 use std::io::Write;
 
-/// A file that takes bytes, one piece behind the other, and is synced in the end.
+/// A file to which pieces are appended, and which is synced at the end.
 ///
-/// Contracts see what it holds, and what would be there after a loss of power, where these are known. Of a file of the
-/// system neither is.
+/// Contracts can use its contents and its synced contents only if these are known (`Some`).
 pub trait VaultFile {
     ghost use Rattle.std.specs.Prelude.{ℕ, List, Option};
     ghost use Rattle.std.specs.Io.KnownBytes.{WriteAppends};
     ghost use Rattle.std.specs.Io.{WritesAtMost};
     ghost use Rattle.nor_journal.specs.FileVault.{Syncs};
 
-    // The bytes that it holds.
+    // The contents of the file, if known.
     ghost contents: { Self → Option (List ℕ) };
 
-    // The bytes that it was synced with last.
+    // The contents that are durable since the last sync, if known.
     ghost synced: { Self → Option (List ℕ) };
 
-    /// Writes a beginning of the piece behind what the file holds, and says how long that is.
+    /// Appends a prefix of the piece to the file, and returns the length of the prefix, which may be 0.
+    ///
+    /// If it fails, known contents don't change.
     fn append(&mut self, piece: &[u8]) -> io::Result<usize>
         ensures bound { WritesAtMost result piece.now }
         ensures bytes { WriteAppends (contents self.old) (contents self.new) result piece.now };
 
-    /// Makes what the file holds, and its length, last through a loss of power.
+    /// Makes the contents and the length of the file durable. The contents don't change, even if it fails.
     fn sync(&mut self) -> io::Result<()>
         ensures { Syncs (contents self.old) (contents self.new) (synced self.new) result };
 }
 
-/// A file of the system is synced with its length, by `sync_all`. Contracts take what it holds for what it was synced
-/// with: that `sync_all` does this is believed.
+/// The system's files, synced by `sync_all`, which also syncs the length.
+///
+/// `synced` is defined as the contents themselves, so it is assumed, not proved, that `sync_all` makes them durable.
 impl<F: Write + OpenFile> VaultFile for F {
     ghost contents = { F.contents };
 

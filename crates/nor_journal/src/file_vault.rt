@@ -6,10 +6,11 @@ ghost use Rattle.nor_journal.specs.FileVault.{file_of, FileTakes, Syncs};
 use crate::file::VaultFile;
 use crate::vault::{Vault, VaultFault};
 
-/// A vault that writes its bytes to a file opened for writing. An error of a write, and a write of no bytes,
-/// is a refusal; it tells how much of the piece the writes before it took. The seal syncs the file, so that
-/// what was put is what is synced, and an error of the sync is a refusal. It isn't telling, since nothing is known of
-/// what a real file holds.
+/// A vault that appends its bytes to a file opened for writing, and syncs the file when it is sealed.
+///
+/// `put` fails if a write fails or writes no bytes; the fault has the number of bytes of the piece that earlier writes
+/// wrote. `seal` fails if the sync fails. The vault isn't faithful (`telling`), because contracts don't know what a
+/// file of the system contains.
 #[derive(Drop)]
 pub struct FileVault<F: VaultFile> {
     file: F,
@@ -18,7 +19,7 @@ pub struct FileVault<F: VaultFile> {
 }
 
 impl<F: VaultFile> FileVault<F> {
-    /// An unsealed vault over a file that nothing was written to yet.
+    /// Returns an unsealed vault that appends to `file`, which should be empty.
     pub fn new(file: F) -> FileVault<F>
         ensures state { ⟦<FileVault<F> as Vault>⟧.state result ≡ new_vault false }
         ensures file { file_of result ≡ file }
@@ -30,14 +31,14 @@ impl<F: VaultFile> FileVault<F> {
         }
     }
 
-    /// Whether it was sealed.
+    /// Returns true if the vault was sealed.
     pub fn is_sealed(&self) -> bool
         ensures { result ≡ (⟦<FileVault<F> as Vault>⟧.state self.now).sealed }
     {
         self.sealed
     }
 
-    /// The file, as it is.
+    /// Consumes the vault and returns its file.
     pub fn into_inner(self) -> F
         ensures { result ≡ file_of self }
     {
@@ -45,7 +46,7 @@ impl<F: VaultFile> FileVault<F> {
         file
     }
 
-    // Counts a refusal.
+    // Counts a refusal and returns its fault.
     fn refusal(&mut self, kept: usize) -> VaultFault
         ensures told { result.kept ≡ kept }
         ensures counted { self.new ≡ record self.old { failures = one_more self.old.failures } }

@@ -1,4 +1,4 @@
-//! The head of a journal: what stands before its records. It differs by the format.
+//! The header of a journal, before its records, in both formats.
 ghost use Rattle.std.specs.Prelude.{◌≡◌, ◌++◌, ℕ, List, take, Option, Some, IfOk, IfErr};
 ghost use Rattle.nor_count.specs.Size.{is_chip_size};
 ghost use Rattle.nor_journal.specs.Text.{empty_content, head, magic};
@@ -11,16 +11,16 @@ use crate::number::{number_bytes, number_of};
 /// The first eight bytes of a journal of format 2, whose header contains the chip's unique ID.
 pub const MAGIC: [u8; 8] = *b"NORUNDO2";
 
-/// The first eight bytes of a journal of format 1, which is read but no longer written.
+/// The first eight bytes of a journal of format 1, which is read but not written. Its header has no unique ID.
 pub const FIRST_MAGIC: [u8; 8] = *b"NORUNDO1";
 
-/// The length of a head of format 2 in bytes.
+/// The length of a header of format 2 in bytes.
 const HEAD: usize = 25;
 
-/// The length of a head of format 1 in bytes.
+/// The length of a header of format 1 in bytes.
 const FIRST_HEAD: usize = 17;
 
-/// What a head says.
+/// The fields of a header: the chip's ID, unique ID (only in format 2), status 1 and 2, and size in bytes.
 #[derive(Clone, Copy)]
 pub struct Head {
     pub id: [u8; 3],
@@ -29,14 +29,14 @@ pub struct Head {
     pub size: u32,
 }
 
-/// Whether it is a power of two from 64 KiB to 16 MiB.
+/// Returns true if `size` is a power of two from 64 KiB to 16 MiB.
 fn is_chip_size(size: u32) -> bool
     ensures { result ≡ is_chip_size size }
 {
     size.is_power_of_two() && (0x1_0000..=0x100_0000).contains(&size)
 }
 
-/// The head of format 2, with the chip's ID, its unique ID, its two status bytes and its size in bytes.
+/// Encodes a header of format 2. `status` has status 1 and 2, and `size` is in bytes.
 pub fn head_bytes(id: [u8; 3], unique: [u8; 8], status: [u8; 2], size: u32) -> [u8; HEAD]
     ensures { result ≡ head (empty_content id (Some unique) status size) }
 {
@@ -49,7 +49,9 @@ pub fn head_bytes(id: [u8; 3], unique: [u8; 8], status: [u8; 2], size: u32) -> [
     bytes
 }
 
-/// Reads the head, and gives what stands behind it.
+/// Reads the header of either format. Returns it and the bytes after it.
+///
+/// Returns `Short`, `Magic` or `Size`.
 pub fn read_head(bytes: &[u8]) -> Result<(Head, &[u8]), JournalFault>
     ensures fault { IfErr result (HeadFault bytes.now) }
     ensures found { IfOk result (λ x. IsHead x.0 × (bytes.now ≡ head (headed x.0) ++ x.1.now)) }
@@ -66,8 +68,8 @@ pub fn read_head(bytes: &[u8]) -> Result<(Head, &[u8]), JournalFault>
     Err(JournalFault::Magic)
 }
 
-// Reads a head of the format that has heads of this length. Between the ID and the status bytes stands the unique ID,
-// or nothing.
+// Reads a header with the length `len`, by which the formats differ. The bytes between the ID and the status bytes are
+// the unique ID; format 1 has none there.
 fn read_form(bytes: &[u8], len: usize) -> Result<(Head, &[u8]), JournalFault>
     requires { (unique : Option (List ℕ)) × (take 8 bytes.now ≡ magic unique)
         × (len ≡ head_length unique) }

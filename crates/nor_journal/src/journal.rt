@@ -1,4 +1,4 @@
-//! A journal that was read.
+//! Reading a journal.
 ghost use Rattle.std.specs.Prelude.{◌≡◌, ◌↔◌, ℕ, ◌/◌, ◌<◌, ◌≤◌, Bool, List, ◌++◌};
 ghost use Rattle.std.specs.Prelude.{length, take, slice_get};
 ghost use Rattle.std.specs.Prelude.{Some, None, IfSome, MatchOption, IfOk, IfErr, OnOk, IsOkAnd};
@@ -12,14 +12,14 @@ use crate::head::{Head, read_head};
 use crate::records::{RECORD, check_end, count_records, record_at};
 use std::marker::Model;
 
-/// A journal that was read: what it says of a chip, with the sectors borrowed from the bytes.
+/// A journal that was read. The saved sectors are borrowed from its bytes.
 ///
-/// Contracts see it as a `Content`.
+/// In contracts its value is a `Content`.
 #[derive(Drop)]
 pub struct Journal<'a> {
     head: Head,
     count: usize,
-    // what stands behind the head, the records first
+    // the bytes after the header, which begin with the records
     records: &'a [u8],
 }
 
@@ -36,29 +36,29 @@ impl<'a> Model for Journal<'a> {
 }
 
 impl<'a> Journal<'a> {
-    /// Reads a journal of either format, all of the bytes. It takes no memory.
+    /// Reads a journal of either format, which must be all of `bytes`. Allocates nothing.
     ///
-    /// An error is the first fault that is met from the front.
+    /// Returns the first fault, reading from the beginning: see `JournalFault`.
     pub fn read(bytes: &'a [u8]) -> Result<Journal<'a>, JournalFault>
-        // What is read is a journal, and says what is answered.
+        // If it succeeds, the bytes are the encoding of the returned content.
         ensures found { IfOk result (λ journal. IsContent journal × (bytes.now ≡ text journal)) }
-        // A journal is read.
+        // The encoding of a content is read, and returns this content.
         ensures only { (c : Content) → IsContent c → bytes.now ≡ text c
             → IsOkAnd result (λ journal. journal ≡ c) }
-        // What was kept is read.
+        // A journal with this header that saves these sectors is read, with the same header and sectors.
         ensures kept { (head : Content) (old : ℕ → ℕ) (saved : ℕ → Bool)
             → JournalSaves head old saved bytes.now
             → IsOkAnd result (λ journal. SameHead head journal × Saves old saved journal) }
-        // No proper beginning of a journal is a journal.
+        // If it succeeds, no proper prefix of the bytes is a journal.
         ensures whole { OnOk result ((c : Content) (n : ℕ) → IsContent c → take n bytes.now ≡ text c
             → length bytes.now ≤ n) }
-        // Which fault it is.
+        // An error is the first fault of the bytes.
         ensures fault { IfErr result (HasFault bytes.now) }
     {
         Self::read_parts(bytes)
     }
 
-    // Reads the head, the records and the end.
+    // Reads the header, the records and the end.
     fn read_parts(bytes: &'a [u8]) -> Result<Journal<'a>, JournalFault>
         ensures found { IfOk result (λ journal. IsContent journal × (bytes.now ≡ text journal)) }
         ensures fault { IfErr result (HasFault bytes.now) }
@@ -73,7 +73,7 @@ impl<'a> Journal<'a> {
         })
     }
 
-    /// The three bytes of the chip's ID.
+    /// Returns the three bytes of the chip's ID.
     pub fn id(&self) -> [u8; 3]
         ensures value { result ≡ self.now.id }
         ensures sound { IsContent self.now }
@@ -81,7 +81,7 @@ impl<'a> Journal<'a> {
         self.head.id
     }
 
-    /// The eight bytes of the chip's unique ID, or None in a journal of format 1, which doesn't tell it.
+    /// Returns the eight bytes of the chip's unique ID, or `None` for a journal of format 1, which doesn't contain it.
     pub fn unique(&self) -> Option<[u8; 8]>
         ensures value { result ≡ self.now.unique }
         ensures sound { IsContent self.now }
@@ -89,7 +89,7 @@ impl<'a> Journal<'a> {
         self.head.unique
     }
 
-    /// Status 1 and status 2.
+    /// Returns status 1 and status 2.
     pub fn status(&self) -> [u8; 2]
         ensures value { result ≡ self.now.status }
         ensures sound { IsContent self.now }
@@ -97,7 +97,7 @@ impl<'a> Journal<'a> {
         self.head.status
     }
 
-    /// The chip's size in bytes.
+    /// Returns the chip's size in bytes.
     pub fn size(&self) -> u32
         ensures value { result ≡ self.now.size }
         ensures sound { IsContent self.now }
@@ -105,7 +105,7 @@ impl<'a> Journal<'a> {
         self.head.size
     }
 
-    /// How many sectors are saved.
+    /// Returns the number of saved sectors.
     pub fn count(&self) -> usize
         ensures value { result ≡ length self.now.saved }
         ensures sound { IsContent self.now }
@@ -113,7 +113,9 @@ impl<'a> Journal<'a> {
         self.count
     }
 
-    /// The number and the 4,096 bytes of saved sector `i`, counted from 0 in rising order.
+    /// Returns the number and the 4,096 bytes of the saved sector with index `i`, counted from 0 in ascending order.
+    ///
+    /// `i` must be less than `count`.
     pub fn sector(&self, i: usize) -> (u32, &'a [u8])
         requires { i < length self.now.saved }
         ensures value { slice_get self.now.saved i ≡ Some (record { number = result.0; bytes = result.1.now }) }
@@ -125,7 +127,9 @@ impl<'a> Journal<'a> {
         record_at(self.records, i)
     }
 
-    /// The 4,096 bytes saved for a sector, or None where it isn't saved. Since the numbers rise, the search halves.
+    /// Returns the 4,096 bytes saved for sector number `sector`, or `None` if it isn't saved.
+    ///
+    /// Uses binary search, because the numbers of the records ascend.
     pub fn find(&self, sector: u32) -> Option<&'a [u8]>
         ensures value { MatchOption result (saved_in self.now.saved sector ≡ None)
             (λ bytes. saved_in self.now.saved sector ≡ Some bytes.now) }
@@ -150,18 +154,20 @@ impl<'a> Journal<'a> {
     }
 }
 
-/// Each journal says one thing, and none begins another: where two of them begin the same bytes, they say the same.
+/// A law: two journals that are prefixes of the same bytes have the same content.
+///
+/// Therefore each journal has one content, and no journal is a proper prefix of another.
 pub fn one_text()
     ensures { (c d : Content) (x y : List ℕ) → IsContent c → IsContent d → text c ++ x ≡ text d ++ y
         → (c ≡ d) × (x ≡ y) }
 {}
 
-/// Bytes have one fault at most, the first that is met.
+/// A law: bytes have at most one first fault (`HasFault`).
 pub fn one_fault()
     ensures { (bytes : List ℕ) (f g : JournalFault) → HasFault bytes f → HasFault bytes g → f ≡ g }
 {}
 
-/// A sector is saved exactly where a record has its number, and then with the bytes of that record.
+/// A law: a sector is saved with these bytes if and only if a record has its number and these bytes.
 pub fn one_record()
     ensures { (c : Content) (sector : ℕ) (bytes : List ℕ) → IsContent c
         → saved_in c.saved sector ≡ Some bytes ↔ HasRecord c sector bytes }

@@ -1,4 +1,8 @@
-//! Vaults, which take bytes and are sealed, and the journal of a flash chip that a session puts into one.
+//! Journals, from which a session can be undone, and vaults, which receive a journal piece by piece and are then
+//! sealed.
+//!
+//! A journal has the original chip's ID, unique ID, size and status bytes, and the contents of the saved sectors. It
+//! ends with an end mark and a SHA-256 digest. Format 2 is written; formats 1 and 2 are read.
 //!
 //! ```rust
 //! use nor_journal::{Journal, MemVault, Writer};
@@ -11,8 +15,22 @@
 //! assert!(rt; journal.find(0).is_some() && journal.find(1).is_none());
 //! ```
 //!
-//! The law of a vault stands in `specs/Vault.antt`, the one text of a journal in `Text`, its faults in `Fault`, and
-//! which sectors it saves in `Saved`.
+//! The source files:
+//!
+//! - `vault.rt`: `Vault`, the contract of a vault
+//! - `mem_vault.rt`: `MemVault`, a vault in memory
+//! - `file_vault.rt`: `FileVault`, a vault in a file
+//! - `file.rt`: `VaultFile`, the file that a `FileVault` writes to
+//! - `broken.rt`: `BrokenVault`, a vault that refuses one call, for tests
+//! - `writer.rt`: `Writer`, which writes a journal of format 2
+//! - `journal.rt`: `Journal`, which reads both formats
+//! - `head.rt`: the header of a journal
+//! - `records.rt`: the records of saved sectors, the end mark and the digest
+//! - `number.rt`: little-endian numbers of four bytes
+//! - `fault.rt`: `JournalFault`, the reasons why bytes aren't a journal
+//!
+//! `specs/Vault.antt` defines the contract of a vault, `Text.antt` the encoding of a journal, `Fault.antt` its faults,
+//! and `Saved.antt` the sectors that it saves.
 #![tactic(auto)]
 
 mod broken;

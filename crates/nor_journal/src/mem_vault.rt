@@ -6,8 +6,10 @@ ghost use Rattle.nor_journal.specs.MemVault.{held_by};
 use crate::vault::{Vault, VaultFault};
 use std::alloc::Global;
 
-/// A vault that keeps its bytes in memory. It is telling, and refuses a piece only where its memory has to
-/// grow and the growth is refused; then nothing of the piece went in. It never refuses to be sealed.
+/// A faithful (`telling`) vault in memory.
+///
+/// `put` fails only if its buffer has to grow and the allocation fails; it then keeps no byte of the piece. `seal`
+/// never fails.
 #[derive(Drop)]
 pub struct MemVault {
     bytes: Vec<u8>,
@@ -16,7 +18,7 @@ pub struct MemVault {
 }
 
 impl MemVault {
-    /// An empty, unsealed vault. It takes no memory before the first piece.
+    /// Returns an empty, unsealed vault. Allocates nothing before the first `put`.
     pub fn new(alloc: Global) -> MemVault
         ensures { ⟦<MemVault as Vault>⟧.state result ≡ new_vault true }
     {
@@ -27,14 +29,14 @@ impl MemVault {
         }
     }
 
-    /// The bytes that were put into it.
+    /// Returns the bytes that the vault accepted.
     pub fn bytes(&self) -> &[u8]
         ensures { result.now ≡ (⟦<MemVault as Vault>⟧.state self.now).bytes }
     {
         self.bytes.as_slice()
     }
 
-    /// Whether it was sealed.
+    /// Returns true if the vault was sealed.
     pub fn is_sealed(&self) -> bool
         ensures { result ≡ (⟦<MemVault as Vault>⟧.state self.now).sealed }
     {

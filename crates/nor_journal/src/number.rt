@@ -1,10 +1,10 @@
-//! The numbers of a journal: four bytes, the lowest first.
+//! The numbers in a journal: four bytes, little-endian.
 ghost use Rattle.std.specs.Prelude.{◌≡◌, ◌≤◌, length};
 ghost use Rattle.nor_journal.specs.Number.{number_text, number_at};
 
 use byteorder::{ByteOrder, LittleEndian};
 
-/// The bytes of a number.
+/// Encodes a number in four bytes, little-endian.
 #[tactic(auto, unfolding(crate::specs::Number::number_text))]
 pub fn number_bytes(number: u32) -> [u8; 4]
     ensures { result ≡ number_text number }
@@ -12,7 +12,7 @@ pub fn number_bytes(number: u32) -> [u8; 4]
     number.to_le_bytes()
 }
 
-/// The number that the first four bytes are.
+/// Decodes the first four bytes, little-endian. `bytes` must have at least four.
 #[tactic(auto, unfolding(crate::specs::Number::number_at))]
 pub fn number_of(bytes: &[u8]) -> u32
     requires { 4 ≤ length bytes.now }

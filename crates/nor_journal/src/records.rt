@@ -1,4 +1,4 @@
-//! The records of a journal, and its end.
+//! The records of a journal, its end mark and its digest.
 ghost use Rattle.std.specs.Prelude.{◌≡◌, ◌+◌, ◌*◌, ◌≤◌, length, take, drop, IfOk, IfErr, OnOk, MatchOption};
 ghost use Rattle.sha2.specs.Sha256.{sha256};
 ghost use Rattle.nor_journal.specs.Text.{end_mark, record_text};
@@ -16,13 +16,15 @@ pub const SECTOR: usize = 4096;
 /// The length of a record in bytes: a sector's number and its bytes.
 pub const RECORD: usize = 4 + SECTOR;
 
-/// What stands where no record follows.
+/// The four bytes after the last record.
 pub const END_MARK: [u8; 4] = [0xFF; 4];
 
 /// The length of a digest in bytes.
 const DIGEST: usize = 32;
 
-/// The number of the record that the bytes begin with, or None at the end mark.
+/// Returns the sector number of the record at the beginning of `bytes`, or `None` if the end mark is there.
+///
+/// Returns `Short`, `Place` if the number isn't below `sectors`, or `Order` if it is below `least`.
 #[tactic(auto, unfolding(crate::specs::Text::end_mark))]
 fn next_record(sectors: u32, least: u32, bytes: &[u8]) -> Result<Option<u32>, JournalFault>
     ensures fault { IfErr result (RecordFault sectors least bytes.now) }
@@ -48,7 +50,9 @@ fn next_record(sectors: u32, least: u32, bytes: &[u8]) -> Result<Option<u32>, Jo
     Ok(Some(number))
 }
 
-/// How many records stand behind the head, up to the end mark.
+/// Counts the records up to the end mark. `bytes` are all bytes after the header.
+///
+/// Returns `Short`, `Place` or `Order` for the first record that has a fault.
 pub fn count_records(head: &Head, bytes: &[u8]) -> Result<usize, JournalFault>
     ensures fault { IfErr result (FaultBehindRecords head.now bytes.now) }
     ensures found { IfOk result (EndsBehind head.now bytes.now) }
@@ -66,7 +70,7 @@ pub fn count_records(head: &Head, bytes: &[u8]) -> Result<usize, JournalFault>
     Ok(count)
 }
 
-/// The bytes of a record.
+/// Encodes a record: the sector's number and its bytes.
 pub fn record_bytes(number: u32, bytes: &[u8; 4096]) -> [u8; RECORD]
     ensures { result ≡ record_text (record { number = number; bytes = bytes.now }) }
 {
@@ -76,7 +80,7 @@ pub fn record_bytes(number: u32, bytes: &[u8; 4096]) -> [u8; RECORD]
     record
 }
 
-/// The number and the bytes of record `i`.
+/// Returns the sector number and the bytes of the record with index `i`, counted from 0.
 pub fn record_at(records: &[u8], i: usize) -> (u32, &[u8])
     requires { 4100 * i + 4100 ≤ length records.now }
     ensures { record { number = result.0; bytes = result.1.now } ≡ sector_at records.now i }
@@ -85,7 +89,9 @@ pub fn record_at(records: &[u8], i: usize) -> (u32, &[u8])
     (number_of(record), &record[RECORD - SECTOR..RECORD])
 }
 
-/// Looks at what stands behind the end mark, whose place is given: the digest and nothing else.
+/// Checks that the correct digest, and no further byte, follows the end mark at index `mark`.
+///
+/// Returns `Short`, `Long` or `Digest`.
 pub fn check_end(bytes: &[u8], mark: usize) -> Result<(), JournalFault>
     requires within { mark + 4 ≤ length bytes.now }
     requires is_mark { take 4 (drop mark bytes.now) ≡ end_mark }

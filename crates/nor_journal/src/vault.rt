@@ -1,11 +1,13 @@
-//! What takes the bytes of a journal.
+//! The contract of a vault, which receives the bytes of a journal.
 ghost use Rattle.std.specs.Prelude.{◌≡◌, false};
 
 use std::error::Error;
 use std::fmt;
 
-/// A refusal of a vault: how many bytes of the piece went in before it, from the piece's front. A refused
-/// seal keeps 0.
+/// A refusal of a vault. `kept` is how many bytes, from the beginning of the piece, the vault accepted before it
+/// refused.
+///
+/// For a refused seal `kept` is 0.
 #[derive(Clone, Copy, Debug, PartialEq, Eq)]
 pub struct VaultFault {
     pub kept: usize,
@@ -23,22 +25,27 @@ impl fmt::Display for VaultFault {
 
 impl Error for VaultFault {}
 
-/// A place that bytes are put into, one piece behind the other, until it is sealed.
+/// A sink that receives the bytes of a journal piece by piece, and is then sealed.
 ///
-/// Contracts see it as a `VaultState`. What a call does is a relation between the state before and after it,
-/// `Puts` and `Seals`, on every vault; a vault that is telling also says which bytes it holds.
+/// In contracts it has a `VaultState`. `Puts` and `Seals` relate the states before and after a call, for every vault.
+/// They say which bytes it holds only if the vault is faithful (`telling`).
 pub trait Vault {
     ghost use Rattle.nor_journal.specs.Vault.{VaultState, Puts, Seals};
 
-    // What contracts see of it.
+    // The state that contracts use.
     ghost state: { Self → VaultState };
 
-    /// Puts a piece behind the bytes that are there. A refusal may have kept a beginning of the piece.
+    /// Appends a piece. If it fails, the vault may have accepted a prefix of the piece.
+    ///
+    /// The vault must be unsealed.
     fn put(&mut self, piece: &[u8]) -> Result<(), VaultFault>
         requires { (state self.old).sealed ≡ false }
         ensures { Puts (state self.old) piece.now result (state self.new) };
 
-    /// Seals the vault: its bytes are complete and kept. A refusal leaves it unsealed.
+    /// Seals the vault. Its bytes are then complete. If it fails, the vault stays unsealed.
+    ///
+    /// The vault must be unsealed. An implementation that stores journals permanently must make the bytes durable
+    /// before it returns `Ok`; no clause requires that.
     fn seal(&mut self) -> Result<(), VaultFault>
         requires { (state self.old).sealed ≡ false }
         ensures { Seals (state self.old) result (state self.new) };

@@ -1,4 +1,4 @@
-//! Writes a journal into a vault, piece by piece.
+//! Writing a journal to a vault, piece by piece.
 ghost use Rattle.std.specs.Prelude.{◌≡◌, ◌+◌, ◌/◌, ◌<◌, ◌≤◌, ◌++◌, List, ℕ, Bool, []};
 ghost use Rattle.std.specs.Prelude.{IsTrue, false, true, Some, OnOk, OnErr, IfOk, IfErr};
 ghost use Rattle.nor_journal.specs.Vault.{PutRefused, Accepted, PutsOn, Completes, HoldsBeginning, IsFresh};
@@ -12,12 +12,13 @@ use crate::records::{END_MARK, record_bytes};
 use crate::vault::{Vault, VaultFault};
 use sha2::{Digest, Sha256};
 
-/// Writes a journal of format 2 into a vault, which it holds until the end: the head, the sectors in rising order, the
-/// end. It takes no memory: the digest is fed as the pieces go out.
+/// A writer of a journal of format 2: first the header, then the sectors in ascending order, then the end.
 ///
-/// An error of a call is the vault's refusal of one of the pieces or of the seal. The vault is then unsealed, and has
-/// what went in before and a beginning of that piece. Contracts leave the error's `kept` open, which counts from the
-/// beginning of the piece.
+/// It borrows the vault until the end. It allocates nothing itself: it updates the digest with each piece.
+///
+/// A call fails if the vault refuses a piece or the seal. The vault is then unsealed. If it is faithful (`telling`), it
+/// holds a prefix of the journal; the clauses don't say how long it is. `kept` of the error counts bytes of the refused
+/// piece; the clauses don't specify it.
 #[derive(Drop)]
 pub struct Writer<'a, V: Vault> {
     vault: &'a mut V,
@@ -25,7 +26,7 @@ pub struct Writer<'a, V: Vault> {
 }
 
 impl<'a, V: Vault> Writer<'a, V> {
-    /// A writer into an empty, unsealed vault. Nothing is written yet.
+    /// Returns a writer to `vault`, which must be empty and unsealed. Writes nothing.
     pub fn on(vault: &'a mut V) -> Writer<'a, V>
         requires { IsFresh (V.state vault.old) }
         ensures same_vault { (vault_of result).ghost_name ≡ vault.entry.ghost_name }
@@ -38,10 +39,12 @@ impl<'a, V: Vault> Writer<'a, V> {
         }
     }
 
-    /// A writer into an empty, unsealed vault that has written the head.
+    /// Writes the header to `vault`, which must be empty and unsealed, and returns the writer.
     ///
-    /// A refusal leaves the vault as that of `header` does; the contract can't say so of a vault that was lent,
-    /// so use `on` and `header` where it matters.
+    /// `status` has status 1 and 2. `size` is in bytes, and must be a power of two from 64 KiB to 16 MiB.
+    ///
+    /// If it fails, the vault is left as by a failed `header`, but no clause says so. Call `on` and `header` if a proof
+    /// needs the state after a failure.
     pub fn start(
         vault: &'a mut V,
         id: [u8; 3],
@@ -61,8 +64,9 @@ impl<'a, V: Vault> Writer<'a, V> {
         Ok(writer)
     }
 
-    /// Writes a sector behind the others, as `add` does. A refusal spends the writer, and leaves the vault as that
-    /// of `add` does; the contract can't say so.
+    /// Writes a sector after the others, as `add` does, and returns the writer.
+    ///
+    /// If it fails, the writer is consumed. The vault is left as by a failed `add`, but no clause says so.
     pub fn sector(mut self, number: u32, bytes: &[u8; 4096]) -> Result<Writer<'a, V>, VaultFault>
         requires { (vault_seen V.state self).sealed ≡ false }
         ensures same_vault { IfOk result
@@ -75,7 +79,7 @@ impl<'a, V: Vault> Writer<'a, V> {
         Ok(self)
     }
 
-    // Puts a piece, and takes it into the digest.
+    // Writes a piece to the vault, and updates the digest if the vault accepts it.
     fn piece(&mut self, bytes: &[u8]) -> Result<(), VaultFault>
         requires { (vault_seen V.state self.old).sealed ≡ false }
         ensures same_vault { (vault_of self.new).ghost_name ≡ (vault_of self.old).ghost_name }
@@ -90,7 +94,11 @@ impl<'a, V: Vault> Writer<'a, V> {
         Ok(())
     }
 
-    /// Writes the head, with the chip's ID, its unique ID, its two status bytes and its size in bytes.
+    /// Writes the header. Call it first, and once.
+    ///
+    /// `status` has status 1 and 2. `size` is in bytes, and must be a power of two from 64 KiB to 16 MiB.
+    ///
+    /// If it fails, a faithful (`telling`) vault that was empty holds a prefix of the header.
     pub fn header(
         &mut self,
         id: [u8; 3],
@@ -112,7 +120,13 @@ impl<'a, V: Vault> Writer<'a, V> {
         self.piece(&head_bytes(id, unique, status, size))
     }
 
-    /// Writes a sector behind the others. Its number is above theirs, and a sector of the chip has it.
+    /// Writes a sector after the others.
+    ///
+    /// `number` must be greater than the numbers of the sectors before it, and less than the chip's number of sectors:
+    /// the clauses about the journal hold only then.
+    ///
+    /// If it fails after a header and sectors that were written in this way, a faithful (`telling`) vault holds a
+    /// prefix of the journal's bytes up to this sector.
     pub fn add(&mut self, number: u32, bytes: &[u8; 4096]) -> Result<(), VaultFault>
         requires { (vault_seen V.state self.old).sealed ≡ false }
         ensures same_vault { (vault_of self.new).ghost_name ≡ (vault_of self.old).ghost_name }
@@ -129,7 +143,11 @@ impl<'a, V: Vault> Writer<'a, V> {
         self.piece(&record_bytes(number, bytes))
     }
 
-    /// Writes the end mark and the digest, and seals the vault, whose bytes are then the journal's text.
+    /// Writes the end mark and the digest, and seals the vault.
+    ///
+    /// If a header and ascending sectors were written before, a faithful (`telling`) vault then holds exactly the
+    /// journal. If `end` fails, the vault is unsealed, and a faithful one holds a prefix of the journal, or all of it
+    /// if only the seal failed.
     pub fn end(self) -> Result<(), VaultFault>
         requires { (vault_seen V.state self).sealed ≡ false }
         ensures vault { Completes (vault_seen V.state self.entry) result (V.state self.exit.0.now) }

@@ -2,7 +2,7 @@ use Rattle.std.proofs.Common.{length, take, ◌-◌, ◌≡◌, ◌≤◌}
 use Rattle.std.specs.Io.KnownBytes.{Appends}
 use Rattle.nor_journal.proofs.file_vault.FileVaultVault.put.Given as goal
 
--- part of the piece went in, and nothing was counted
+-- the first `kept` bytes of the piece were written, and no refusal was counted
 abbrev pub invariant-loop-kept : goal.invariant-loop-kept
 invariant-loop-kept g l = record {
   within : l.kept ≤ length l.piece;
