@@ -1,4 +1,4 @@
--- What a genuine chip shows itself as is its configuration.
+-- A genuine chip shows itself as its configuration.
 use Rattle.std.proofs.Common.{◌≡◌, ℕ, Bool, true, false, List, [], ◌∷◌, refl, arith}
 use Rattle.std.specs.Prelude.{Option, None, Some, Result, Ok, Err, find, bytes_eq, if◌then◌else◌}
 use Rattle.std.specs.List.{list_all}
@@ -16,7 +16,7 @@ use Rattle.nor_probe.specs.Known.{is_no_chip, chip_says, sfdp_part, part_by_sfdp
 use Rattle.nor_probe.specs.Known.{IsGenuine, IsKnown}
 use Rattle.nor_probe.specs.Found.{part_in, IsConfigOf}
 
--- the part that a test finds passes it, and has what each part has
+-- the row that a test finds passes the test, and has each property that all rows have
 found_has : (test holds : Part → Bool) (parts : List Part) (part : Part) → list_all holds parts ≡ true
     → find test parts ≡ Some part → (test part ≡ true) × (holds part ≡ true)
 found_has test holds [] part all is = absurd (cc)
@@ -24,12 +24,12 @@ found_has test holds (first ∷ parts) part all is =
     let rest = found_has test holds parts part in
     (grind (arith, common_steps, rest), grind (arith, common_steps, rest))
 
--- so does each row of the table
+-- the row with an ID has each property that all rows of the table have
 pub row_has : (holds : Part → Bool) (of_id : List ℕ) (part : Part) → list_all holds chips ≡ true
     → part_with_id of_id ≡ Some part → holds part ≡ true
 row_has holds of_id part all is = (found_has (λ p. bytes_eq p.id of_id) holds chips part all is).1
 
--- What the chip is, by a part that has its ID, size, erase kinds and protection.
+-- The type has the ID, the size, the erase types and the block protection of the configuration.
 record IsPartOf (config : Config) (part : Part) : Type 0 where
   id : part.id ≡ id_of config
   size : part.size ≡ config.size
@@ -53,7 +53,7 @@ shown_part config false None (Ok geometry) part genuine listed tells is =
     grind arith
 shown_part config false None (Err fault) part genuine listed tells is = absurd (cc)
 
--- So what was found of a genuine chip tells its configuration, where it is what the chip shows itself as.
+-- A chip found has the configuration of a genuine chip, if it is what that chip shows itself as.
 pub shown_config : (config : Config) (found : Found) → IsGenuine config → shown_as config ≡ Ok (part_in found)
     → IsConfigOf config found
 shown_config config found genuine is =

@@ -1,4 +1,4 @@
--- The emulated chips are known, also with another unique ID: the premise that a chip is genuine can be met.
+-- The emulated chips are known, even with another unique ID, so the premise that a chip is genuine can be met.
 use Rattle.std.proofs.Common.{◌≡◌, ◌∙◌, ℕ, false, List, refl, sym, inl, inr}
 use Rattle.std.specs.Prelude.{Ok, None, Some}
 use Rattle.nor_chip.specs.declared.config.Config.{Config}
@@ -31,7 +31,7 @@ tiny64_known config tiny = record {
   shown = rw (tiny64_says config tiny, tiny.id) refl;
 }
 
--- a chip of the table, whatever its SFDP
+-- a chip with a row of the table is known, for any SFDP
 listed_known : (config : Config) (part : Part)
     → part_with_id (id_of config) ≡ Some part → is_no_chip (id_of config) ≡ false
     → config.size ≡ part.size → config.kinds ≡ part.kinds → config.scheme ≡ part.scheme → IsKnown config
@@ -59,7 +59,7 @@ emulated_known config (inl tiny) = tiny64_known config tiny
 emulated_known config (inr (inl small)) = w25q64fv_known config small
 emulated_known config (inr (inr large)) = w25q128fv_known config large
 
--- the unique ID tells nothing of what a chip is
+-- another unique ID leaves a known chip known
 pub renumbered_known : (config : Config) (unique : List ℕ) → IsKnown config → IsKnown (record config { unique = unique })
 unfolding chip_says shown
 renumbered_known config unique is = record {

@@ -1,4 +1,4 @@
--- What the SFDP that was read says.
+-- The SFDP that was read.
 use Rattle.std.proofs.Common.{◌≡◌, refl}
 use Rattle.nor_chip.specs.declared.config.Config.{Config}
 use Rattle.nor_probe.specs.declared.probes.Parameters.{Parameters}
@@ -6,7 +6,7 @@ use Rattle.nor_probe.specs.Sfdp.{sfdp_says}
 use Rattle.nor_probe.specs.Known.{chip_says}
 use Rattle.nor_probe.specs.Steps.{AreParameters}
 
--- what the parts that were read say is what the chip says
+-- the parts that were read say what the chip's SFDP says
 pub parameters_say : (config : Config) (parameters : Parameters) → AreParameters config parameters
     → chip_says config ≡ sfdp_says parameters.header parameters.first parameters.table
 unfolding chip_says

@@ -1,4 +1,4 @@
--- What the sizes of chips have in common.
+-- Properties that all sizes of chips have.
 use Rattle.std.proofs.Common.{ℕ, ◌%◌, ◌≤◌, ◌≡◌, true, arith}
 use Rattle.std.proofs.lemmas.Bool.Decides.{nat_tests}
 use Rattle.nor_chip.specs.Size.{is_chip_size}

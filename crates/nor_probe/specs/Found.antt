@@ -1,4 +1,4 @@
--- What a probe tells of the chip.
+-- What a probe returns: the chip that it found, or why it found none.
 use Rattle.std.specs.Prelude.{◌≡◌, ◌+◌, ◌%◌, ◌≤◌, ◌<◌, ◌⊎◌, ℕ, true, false, List, if◌then◌else◌, ⊤}
 use Rattle.std.specs.Prelude.{Option, None, Some, Result, Ok, Err, IfOk, IfErr, OnOk}
 use Rattle.nor_chip.specs.declared.config.Config.{Config}
@@ -17,38 +17,40 @@ use Rattle.nor_driver.specs.Looks.{Looks, Rested, RanOut}
 use Rattle.nor_driver.specs.Waits.{latch_when_idle}
 use Rattle.nor_probe.specs.Known.{id_of, is_no_chip, shown_as, IsKnown}
 
--- the most transactions of a probe: 65,536 polls, the ID and three readings of SFDP
+-- the most transactions of a probe: 65,536 polls, one read of the ID and three reads of SFDP
 abbrev pub most_probe : ℕ
 most_probe = 65540
 
--- the part that was found
+-- the chip type that was found
 abbrev pub part_in : Found → Part
 part_in found =
     record { name = found.name; id = found.id; size = found.size; kinds = found.kinds; scheme = found.scheme }
 
--- a chip of this name is one that is wanted: where none is named, any is
+-- holds if no name is wanted, or the chip has the wanted name
 abbrev pub IsWanted : (named : Option ChipName) → ChipName → Type 0
 IsWanted None name = ⊤
 IsWanted (Some wanted) name = wanted ≡ name
 
--- another name is told only where a name is wanted
+-- holds if the fault is possible with this wanted name: `OtherName` needs one
 abbrev pub BlamesName : Option ChipName → ProbeFault → Type 0
 BlamesName None OtherName = ⊥
 BlamesName named fault = ⊤
 
--- how many transactions tell which part has this ID: 9Fh, and where the table doesn't have it 5Ah three times
+-- the number of reads that identify a chip with this row of the table: 9Fh, and three times 5Ah if there is no row
 abbrev pub reads_by : Option Part → ℕ
 reads_by (Some part) = 1
 reads_by None = 4
 
+-- the number of reads that identify a chip with this ID
 abbrev pub reads_of : List ℕ → ℕ
 reads_of of_id = if is_no_chip of_id then 1 else reads_by (part_with_id of_id)
 
--- how many transactions a probe of this chip takes: a poll for each BUSY, one that sees it idle, and the reads
+-- the number of transactions that a probe of this chip needs: a poll for each BUSY, one that shows it idle, and the
+-- reads
 abbrev pub needed : Chip → ℕ
 needed chip = chip.busy + 1 + reads_of (id_of chip.config)
 
--- Whatever the bus: the part is a row of the table, or one by SFDP, of a size that a chip may have.
+-- On every bus: the chip is a row of the table, or was identified by SFDP, and has a size that a chip may have.
 pub record IsPart (found : Found) : Type 0 where
   pub driven : is_no_chip found.id ≡ false
   pub origin : (part_with_id found.id ≡ Some (part_in found))
@@ -58,17 +60,17 @@ pub record IsPart (found : Found) : Type 0 where
   pub at_most : found.size ≤ 16777216
   pub in_blocks : found.size % 65536 ≡ 0
 
--- How many transactions a probe that found a chip sent.
+-- The number of transactions of a probe that found a chip.
 pub record IsCounted (old : BusState) (probed : Probed) : Type 0 where
-  -- one poll and the reads at least
+  -- at least one poll and the reads
   pub least : 1 + reads_of probed.found.id ≤ probed.transactions
-  -- 65,536 polls and four reads at most
+  -- at most 65,536 polls and four reads
   pub most : probed.transactions ≤ most_probe
-  -- on an honest bus as many as the chip needs
+  -- on a well-behaved bus (`honest`), exactly the number that the chip needs
   pub sent : old.honest ≡ true → probed.transactions ≡ needed old.chip
 
--- On an honest bus: the part is what the chip shows itself as, the chip is idle, and the status is the chip's. The
--- chip's bytes, kept bits and worn sectors are as they were, since it was only looked at.
+-- On a well-behaved bus (`honest`): the chip found is what the chip shows about itself, the chip is idle, and the
+-- status is the chip's. The chip's bytes, non-volatile status bits and erased sectors are unchanged.
 pub record Finds (old new : BusState) (found : Found) : Type 0 where
   pub rested : Rested old new
   pub part : shown_as old.chip.config ≡ Ok (part_in found)
@@ -77,8 +79,8 @@ pub record Finds (old new : BusState) (found : Found) : Type 0 where
   pub status1 : found.status1 ≡ status1_of new.chip
   pub count : old.left ≡ new.left + needed old.chip
 
--- What was found is the configuration of a known chip. (On a genuine chip it follows from
--- `shown_as config ≡ Ok (part_in found)`, which tells the name besides.)
+-- The chip found is known, and has the ID, size, erase types and block protection of this configuration. For a genuine
+-- chip this follows from `shown_as config ≡ Ok (part_in found)`, which also gives the name.
 pub record IsConfigOf (config : Config) (found : Found) : Type 0 where
   pub known : IsKnown config
   pub id : found.id ≡ id_of config
@@ -86,24 +88,26 @@ pub record IsConfigOf (config : Config) (found : Found) : Type 0 where
   pub kinds : found.kinds ≡ config.kinds
   pub scheme : found.scheme ≡ config.scheme
 
--- The chip shows itself as a part with the name that is wanted.
+-- The chip shows itself as a type, which has the wanted name if one is wanted.
 pub record IsNamed (named : Option ChipName) (config : Config) : Type 0 where
   pub part : Part
   pub shown : shown_as config ≡ Ok part
   pub wanted : IsWanted named part.name
 
--- The chip shows itself as a part that has another name than the one that is wanted.
+-- The chip shows itself as a type with another name than the wanted one.
 pub record HasOtherName (named : Option ChipName) (config : Config) : Type 0 where
   pub part : Part
   pub shown : shown_as config ≡ Ok part
   pub other : ¬ IsWanted named part.name
 
--- On an honest bus, a probe that told of the chip what it is had all the transactions that it takes.
+-- On a well-behaved bus, the probe sent all the transactions that the chip needs, and the chip's bytes, non-volatile
+-- status bits and erased sectors are unchanged.
 pub record HasProbed (old new : BusState) : Type 0 where
   pub rested : Rested old new
   pub count : old.left ≡ new.left + needed old.chip
 
--- what a fault tells, on an honest bus: 65,540 transactions are always enough
+-- what a fault means on a well-behaved bus; a stop is possible only with fewer than 65,540 transactions left, and a
+-- timeout doesn't occur
 abbrev pub Tells : Option ChipName → (old new : BusState) → ProbeFault → Type 0
 Tells named old new NoChip = (shown_as old.chip.config ≡ Err NoChip) × HasProbed old new
 Tells named old new (UnknownChip fault) = (shown_as old.chip.config ≡ Err (UnknownChip fault)) × HasProbed old new
@@ -111,29 +115,30 @@ Tells named old new OtherName = HasOtherName named old.chip.config × HasProbed 
 Tells named old new Stopped = RanOut (needed old.chip) old new × (old.left < most_probe)
 Tells named old new Timeout = ⊥
 
--- ---- what a probe promises
+-- ---- the promises of a probe
 
 -- On every bus.
 pub record ProbeAlways (named : Option ChipName) (old new : BusState) (result : Result Found ProbeFault) : Type 0 where
-  -- nothing changing was sent, and at most 65,540 transactions
+  -- no modifying command was sent; on a well-behaved bus at most 65,540 transactions were
   pub looks : Looks most_probe old new
-  -- what was found is a row of the table, or a part by SFDP, of a size that a chip may have
+  -- a chip found is a row of the table, or was identified by SFDP, and has a size that a chip may have
   pub part : IfOk result IsPart
-  -- it has the name that is wanted, if one is
+  -- a chip found has the wanted name, or no name is wanted
   pub wanted : IfOk result (λ found. IsWanted named found.name)
-  -- another name is told only where a name is wanted
+  -- `OtherName` is possible only if a name is wanted
   pub blames : IfErr result (BlamesName named)
-  -- what was found comes only where the last poll showed that the chip is ready
+  -- a chip is found only if the last poll showed that it is ready
   pub heard : OnOk result (new.heard ≡ true)
 
--- On an honest bus.
+-- On a well-behaved bus.
 pub record ProbeHonest (named : Option ChipName) (old new : BusState) (result : Result Found ProbeFault) : Type 0 where
-  -- what was found is what the chip shows itself as; the chip, which is idle now, was only looked at
+  -- a chip found is what the chip shows about itself; the chip is idle, and its bytes and non-volatile status bits are
+  -- unchanged
   pub finds : IfOk result (Finds old new)
-  -- a fault tells why the chip is none that is wanted, or that too few transactions were left; it is never a timeout
+  -- a fault says why the chip isn't a wanted one, or that too few transactions were left; a timeout doesn't occur
   pub tells : IfErr result (Tells named old new)
 
--- the chip that was found, without the count of transactions
+-- the result of a probe without the number of transactions
 abbrev pub found_in : Result Probed ProbeFault → Result Found ProbeFault
 found_in (Ok probed) = Ok probed.found
 found_in (Err fault) = Err fault

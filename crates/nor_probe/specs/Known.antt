@@ -1,4 +1,4 @@
--- What a chip shows of itself, and which chips are genuine and known.
+-- What a chip shows about itself, and which chips are genuine and known.
 use Rattle.std.specs.Prelude.{◌≡◌, ◌+◌, ◌*◌, ◌||◌, ◌⊎◌, ℕ, Bool, true, false, Option, None, Some, Result, Ok, Err, List, [], ◌∷◌, bytes_eq, slice_index, IsOk, if◌then◌else◌}
 use Rattle.nor_chip.specs.declared.config.Config.{Config}
 use Rattle.nor_chip.specs.Makers.{IsTiny64, IsW25q64fv, IsW25q128fv}
@@ -13,46 +13,46 @@ use Rattle.nor_probe.specs.declared.probes.ProbeFault.TheVariants.{NoChip, Unkno
 use Rattle.nor_probe.specs.Sfdp.{sfdp_says}
 use Rattle.nor_probe.specs.Table.{part_with_id}
 
--- nothing drives the bus, which replies this ID: its lines rest high, or low
+-- the ID is one that is read when nothing drives the bus: its lines rest high, or low
 abbrev pub is_no_chip : (of_id : List ℕ) → Bool
 is_no_chip of_id = bytes_eq of_id (0xFF ∷ 0xFF ∷ 0xFF ∷ []) || bytes_eq of_id (0x00 ∷ 0x00 ∷ 0x00 ∷ [])
 
--- the address of the table that a parameter header points to: three bytes, low byte first (JESD216)
+-- the address of the table that a parameter header points to: three bytes, little-endian (JESD216)
 abbrev pub pointer_in : (first : List ℕ) → ℕ
 pointer_in first = slice_index first 4 + 256 * slice_index first 5 + 65536 * slice_index first 6
 
--- what the chip says of itself by SFDP: by the header, the first parameter header and the table that this points to
+-- what the chip's SFDP says: its header, its first parameter header, and the table that this points to
 unfoldable pub chip_says : Config → Result Geometry SfdpFault
 chip_says config = sfdp_says (shown config 0 8) (shown config 8 8) (shown config (pointer_in (shown config 8 8)) 36)
 
--- a chip that is known by its SFDP alone has no block protection that is known
+-- the type of a chip that is known only by its SFDP; no block protection is known for it
 abbrev pub sfdp_part : (with_id : List ℕ) → Geometry → Part
 sfdp_part with_id geometry =
     record { name = Sfdp; id = with_id; size = geometry.size; kinds = geometry.kinds; scheme = false }
 
--- what a chip of this ID shows itself as by what its SFDP says
+-- the type of a chip with this ID, or why it is unknown, by what its SFDP says
 abbrev pub part_by_sfdp : (with_id : List ℕ) → Result Geometry SfdpFault → Result Part ProbeFault
 part_by_sfdp with_id (Ok geometry) = Ok (sfdp_part with_id geometry)
 part_by_sfdp with_id (Err fault) = Err (UnknownChip fault)
 
--- the row of the table, or where there is none what SFDP says
+-- the row of the table if there is one, else the result by SFDP
 abbrev pub listed_or : (by_sfdp : Result Part ProbeFault) → Option Part → Result Part ProbeFault
 listed_or by_sfdp (Some part) = Ok part
 listed_or by_sfdp None = by_sfdp
 
--- what the chip shows itself as: nothing, the row of the table that has its ID, or what its SFDP says
+-- what the chip shows itself as: no chip, the row of the table with its ID, or the type that its SFDP gives
 abbrev pub shown_as : Config → Result Part ProbeFault
 shown_as config =
     if is_no_chip (id_of config) then Err NoChip
     else listed_or (part_by_sfdp (id_of config) (chip_says config)) (part_with_id (id_of config))
 
--- The chip has the size and the erase kinds of this geometry.
+-- The configuration has the size and the erase types of this geometry.
 pub record HasGeometry (geometry : Geometry) (config : Config) : Type 0 where
   pub size : config.size ≡ geometry.size
   pub kinds : config.kinds ≡ geometry.kinds
 
--- A chip is genuine: if its ID is in the table, size, erase kinds and protection are those of the row; and if it
--- isn't, the chip has no block protection, and an SFDP that is accepted tells its size and erase kinds.
+-- A genuine chip. If its ID is in the table, its size, erase types and block protection are those of the row. Otherwise
+-- it has no block protection and, if its SFDP is accepted, the size and the erase types that the SFDP gives.
 pub record IsGenuine (config : Config) : Type 0 where
   pub listed : (part : Part) → part_with_id (id_of config) ≡ Some part
       → HasGeometry (record { size = part.size; kinds = part.kinds }) config × (config.scheme ≡ part.scheme)
@@ -60,16 +60,18 @@ pub record IsGenuine (config : Config) : Type 0 where
   pub described : part_with_id (id_of config) ≡ None
       → (geometry : Geometry) → chip_says config ≡ Ok geometry → HasGeometry geometry config
 
--- A chip is known: it is genuine, its ID isn't that of no chip, and it is in the table or its SFDP is accepted.
+-- A known chip: it is genuine, its ID isn't one that is read when nothing drives the bus, and it is in the table or its
+-- SFDP is accepted.
 pub record IsKnown (config : Config) : Type 0 where
   pub genuine : IsGenuine config
   pub shown : IsOk (shown_as config)
 
--- the configuration is that of one of the three emulated chips
+-- the configuration is that of one of the three emulated chips, whose unique ID is zero
 abbrev pub IsEmulated : Config → Type 0
 IsEmulated config = IsTiny64 config ⊎ IsW25q64fv config ⊎ IsW25q128fv config
 
--- The bus is honest, and its chip genuine: what is promised of bytes is promised of these buses.
+-- A modelled bus: it is well-behaved (`honest`), and its chip is genuine. Promises about the chip's bytes are made for
+-- these buses.
 pub record IsModelled (state : BusState) : Type 0 where
   pub honest : state.honest ≡ true
   pub genuine : IsGenuine state.chip.config

@@ -1,6 +1,6 @@
--- What a chip says of itself by SFDP: JESD216, the header and double words 1, 2, 8 and 9 of the basic flash
--- parameter table. `header` is the eight bytes at 0, `first` the eight bytes of the first parameter header,
--- `table` the 36 bytes from its pointer on. Bits that are not named here are not looked at.
+-- What SFDP bytes say about a chip: the header, the first parameter header, and double words 1, 2, 8 and 9 of the basic
+-- flash parameter table (JESD216). `header` has the eight bytes at 0, `first` the eight bytes of the first parameter
+-- header, and `table` the 36 bytes at the address that it points to. Bits that no definition here uses are ignored.
 use Rattle.std.specs.Prelude.{ℕ, ◌==◌, ◌+◌, ◌-◌, ◌*◌, ◌/◌, ◌%◌, ◌^◌, nat_lt, nat_le, Bool, not, ◌&&◌, ◌||◌, if◌then◌else◌, List, [], ◌∷◌, ◌++◌, Result, Ok, Err, slice_index}
 use Rattle.byteorder.specs.Endian.{little_from}
 use Rattle.nor_chip.specs.Size.{is_chip_size}
@@ -22,33 +22,33 @@ has_signature header =
 unfoldable pub is_basic : (first : List ℕ) → Bool
 is_basic first = slice_index first 0 == 0 && slice_index first 2 == 1
 
--- how addresses are sent, bits 17 and 18 of double word 1: 0 by three bytes, 1 by three or four, 2 by four alone
+-- how addresses are sent, bits 17 and 18 of double word 1: 0 for three bytes, 1 for three or four, 2 for four only
 unfoldable pub address_mode : (table : List ℕ) → ℕ
 address_mode table = double_word 1 table / 2 ^ 17 % 4
 
--- bit 2 of double word 1: a program may send 64 bytes and more at a time
+-- bit 2 of double word 1: one program command may write 64 bytes or more
 unfoldable pub has_write_granularity : (table : List ℕ) → Bool
 has_write_granularity table = double_word 1 table / 2 ^ 2 % 2 == 1
 
--- the size in bits by double word 2: itself plus one, or with bit 31 set a power of two by the other bits
+-- the size in bits by double word 2: its value plus one or, if bit 31 is set, two to the power of the other bits
 unfoldable pub size_in_bits : (density : ℕ) → ℕ
 size_in_bits density = if nat_lt density (2 ^ 31) then density + 1 else 2 ^ (density - 2 ^ 31)
 
--- so many bits are the bytes of a size that a chip may have
+-- this number of bits is a whole number of bytes, and a size that a chip may have
 unfoldable pub is_chip_size_in_bits : (bits : ℕ) → Bool
 is_chip_size_in_bits bits = bits % 8 == 0 && is_chip_size (bits / 8)
 
--- an erase type is a pair of bytes, the exponent of its size and its opcode; this one stands at a place of the table
+-- the erase type at byte `at` of the table has this exponent of its size and this opcode, one byte each
 abbrev pub is_erase_type_at : (exponent opcode : ℕ) → (table : List ℕ) → (at : ℕ) → Bool
 is_erase_type_at exponent opcode table at = slice_index table at == exponent && slice_index table (at + 1) == opcode
 
--- one of the four erase types of double words 8 and 9 is this one
+-- one of the four erase types of double words 8 and 9 has this exponent and opcode
 unfoldable pub has_erase_type : (exponent opcode : ℕ) → (table : List ℕ) → Bool
 has_erase_type exponent opcode table =
     is_erase_type_at exponent opcode table 28 || is_erase_type_at exponent opcode table 30
     || is_erase_type_at exponent opcode table 32 || is_erase_type_at exponent opcode table 34
 
--- what is wrong with the headers: each fault beside the condition under which it is told, in order
+-- the faults of the headers, each with its condition, in the order in which they are checked
 abbrev pub header_faults : (header first : List ℕ) → List (Bool × SfdpFault)
 header_faults header first =
     (not (has_signature header), Signature)
@@ -57,7 +57,7 @@ header_faults header first =
     ∷ (nat_lt (slice_index first 3) 9, Length)
     ∷ []
 
--- what is wrong with the table, likewise
+-- the faults of the table, each with its condition, in the order in which they are checked
 abbrev pub table_faults : (table : List ℕ) → List (Bool × SfdpFault)
 table_faults table =
     (nat_le 2 (address_mode table), Address)
@@ -66,23 +66,23 @@ table_faults table =
     ∷ (not (has_erase_type 0x0C 0x20 table), NoSector)
     ∷ []
 
--- what the table tells of a chip: the size in bytes, and whether 32 KiB and 64 KiB are among the erase types
+-- what the table gives: the size in bytes, and whether 32 KiB and 64 KiB are among the erase types
 abbrev pub geometry_of : (table : List ℕ) → Geometry
 geometry_of table = record {
   size = size_in_bits (double_word 2 table) / 8;
   kinds = record { k32 = has_erase_type 0x0F 0x52 table; k64 = has_erase_type 0x10 0xD8 table };
 }
 
--- the first fault whose condition holds, and where none does the geometry
+-- the first fault whose condition holds or, if none does, the geometry
 abbrev pub first_fault_or : Geometry → List (Bool × SfdpFault) → Result Geometry SfdpFault
 first_fault_or geometry [] = Ok geometry
 first_fault_or geometry (case ∷ cases) = if case.0 then Err case.1 else first_fault_or geometry cases
 
--- what these bytes of SFDP say
+-- the geometry that these SFDP bytes give, or why they are refused
 abbrev pub sfdp_says : (header first table : List ℕ) → Result Geometry SfdpFault
 sfdp_says header first table = first_fault_or (geometry_of table) (header_faults header first ++ table_faults table)
 
--- the number that a message shows for a fault
+-- the number that messages show for a fault
 abbrev pub number_of_sfdp_fault : SfdpFault → ℕ
 number_of_sfdp_fault Signature = 1
 number_of_sfdp_fault Major = 2

@@ -1,4 +1,4 @@
--- What the steps of a probe leave and tell, each of them by itself.
+-- The effect and the result of each step of a probe.
 use Rattle.std.specs.Prelude.{◌≡◌, ◌+◌, ◌<◌, ◌⊎◌, ℕ, true, false, None, Some, Ok, Err, List, ⊤}
 use Rattle.nor_chip.specs.declared.config.Config.{Config}
 use Rattle.nor_chip.specs.Size.{is_chip_size}
@@ -17,23 +17,23 @@ use Rattle.nor_driver.specs.Looks.{Rested, RanOut}
 use Rattle.nor_probe.specs.Known.{id_of, is_no_chip, shown, pointer_in, chip_says, shown_as}
 use Rattle.nor_probe.specs.Found.{reads_of}
 
--- the fault that a wait's is told as
+-- the probe's fault for a wait that failed
 abbrev pub fault_of : Halt → ProbeFault
 fault_of Halts.Stopped = Stopped
 fault_of (Halts.Timeout address) = Timeout
 
--- how many transactions tell a part of this name
+-- the number of reads that identify a chip of this name
 abbrev pub reads_under : ChipName → ℕ
 reads_under Sfdp = 4
 reads_under _ = 1
 
--- These are the parts of the SFDP that are read.
+-- These parts were read from the SFDP of this configuration.
 pub record AreParameters (config : Config) (parameters : Parameters) : Type 0 where
   pub header : parameters.header ≡ shown config 0 8
   pub first : parameters.first ≡ shown config 8 8
   pub table : parameters.table ≡ shown config (pointer_in (shown config 8 8)) 36
 
--- Whatever the bus: a part with this ID, from the table or by SFDP.
+-- On every bus: a chip type with this ID, from the table or by SFDP, of a size that a chip may have.
 pub record IsIdentified (of_id : List ℕ) (part : Part) : Type 0 where
   pub driven : is_no_chip of_id ≡ false
   pub same_id : part.id ≡ of_id
@@ -42,28 +42,30 @@ pub record IsIdentified (of_id : List ℕ) (part : Part) : Type 0 where
   pub sized : is_chip_size part.size ≡ true
   pub reads : reads_under part.name ≡ reads_of of_id
 
--- On an honest bus: the parts of the SFDP were read, by three transactions, and nothing changed.
+-- On a well-behaved bus (`honest`): the parts of the SFDP were read with three transactions, and the chip's bytes and
+-- non-volatile status bits are unchanged.
 pub record ReadsParameters (old new : BusState) (parameters : Parameters) : Type 0 where
   pub rested : Rested old new
   pub count : old.left ≡ new.left + 3
-  -- an idle chip replied its own
+  -- if the chip was idle, they are its own
   pub shown : old.chip.busy ≡ 0 → AreParameters old.chip.config parameters
 
--- On an honest bus: the SFDP was read, by three transactions, and nothing changed.
+-- On a well-behaved bus: the SFDP was read with three transactions, and the chip's bytes and non-volatile status bits
+-- are unchanged.
 pub record ReadsGeometry (old new : BusState) (geometry : Geometry) : Type 0 where
   pub rested : Rested old new
   pub count : old.left ≡ new.left + 3
-  -- an idle chip said so of itself
+  -- if the chip was idle, this is what its SFDP says
   pub says : old.chip.busy ≡ 0 → chip_says old.chip.config ≡ Ok geometry
 
--- what a fault tells of an idle chip, of which the SFDP alone was read
+-- what a fault means for an idle chip on a well-behaved bus, if only its SFDP was read
 abbrev pub GeometryTells : (old new : BusState) → ProbeFault → Type 0
 GeometryTells old new (UnknownChip fault) =
     (chip_says old.chip.config ≡ Err fault) × (old.left ≡ new.left + 3) × Rested old new
 GeometryTells old new Stopped = RanOut 3 old new
 GeometryTells old new _ = ⊥
 
--- the faults of the part alone
+-- holds for the faults that are possible after the ID was read and before names are compared
 abbrev pub IsIdentityFault : ProbeFault → Type 0
 IsIdentityFault NoChip = ⊤
 IsIdentityFault (UnknownChip fault) = ⊤
@@ -71,13 +73,14 @@ IsIdentityFault OtherName = ⊥
 IsIdentityFault Stopped = ⊤
 IsIdentityFault Timeout = ⊥
 
--- The part of an idle chip whose ID was read, and that so many transactions were sent for it.
+-- For an idle chip on a well-behaved bus, after its ID was read: the type is what the chip shows itself as, the other
+-- reads were sent, and nothing changed.
 pub record Identifies (old new : BusState) (part : Part) : Type 0 where
   pub rested : Rested old new
   pub shows : shown_as old.chip.config ≡ Ok part
   pub count : old.left + 1 ≡ new.left + reads_of (id_of old.chip.config)
 
--- what a fault tells of such a chip
+-- what a fault means for an idle chip on a well-behaved bus, after its ID was read
 abbrev pub IdentityTells : (old new : BusState) → ProbeFault → Type 0
 IdentityTells old new Stopped = (new.left ≡ 0) × (old.left + 1 < reads_of (id_of old.chip.config))
 IdentityTells old new fault =

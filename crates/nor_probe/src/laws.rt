@@ -1,10 +1,10 @@
-//! Laws on chips that are known.
+//! Laws on known chips.
 ghost use Rattle.std.specs.Prelude.{ℕ, List};
 ghost use Rattle.nor_chip.specs.declared.config.Config.{Config};
 ghost use Rattle.nor_probe.specs.Known.{IsKnown, IsEmulated};
 
-/// The emulated chips are known, and so genuine: what is promised of genuine chips holds of these. And a chip that is
-/// known is so with any other unique ID.
+/// States that the emulated chips are known (`IsKnown`), and so genuine: promises made for genuine chips hold for them.
+/// States also that a known chip stays known if only its unique ID is replaced.
 pub fn emulated_are_known()
     ensures known { (config : Config) → IsEmulated config → IsKnown config }
     ensures renumbered { (config : Config) (unique : List ℕ) → IsKnown config

@@ -1,4 +1,10 @@
-//! Which chip is on the bus, and what it says of itself.
+//! Identifies the chip on a bus: by a table of IDs or, if the ID isn't in the table, by its SFDP (JESD216). The crate
+//! sends only polls and reads of the ID and SFDP.
+//!
+//! - `table.rt`: the names of chips, and the table of the chips that are known by their ID
+//! - `sfdp.rt`: decodes SFDP bytes into the size and the erase types of a chip
+//! - `probes.rt`: finds the chip on a bus, over nor_driver
+//! - `laws.rt`: the law that the emulated chips are known
 //!
 //! ```rust
 //! use nor_chip::{Config, Delays, Meter, SimBus};
@@ -15,7 +21,9 @@
 //! assert_eq!(rt; probe(&mut bus, Some(other)), Err(ProbeFault::OtherName));
 //! ```
 //!
-//! What a probe tells stands in `specs/Found.antt`, over what a chip shows of itself, in `Known`.
+//! `specs/Found.antt` has the promises of a probe. `specs/Known.antt` defines what a chip shows about itself, and which
+//! chips are genuine and known. `specs/Sfdp.antt` and `specs/Table.antt` define what SFDP bytes and the table say, and
+//! `specs/Steps.antt` has the contracts of a probe's steps.
 #![tactic(auto)]
 
 mod laws;

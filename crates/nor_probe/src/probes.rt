@@ -1,4 +1,4 @@
-//! Which chip is on the bus.
+//! Finds the chip on a bus.
 
 ghost use Rattle.std.specs.Prelude.{◌≡◌, ◌<◌, ◌^◌, ◌↔◌, true, IsTrue, IfOk, IfErr, OnErr};
 ghost use Rattle.nor_chip.specs.Size.{is_chip_size};
@@ -15,16 +15,16 @@ use nor_chip::{Bus, Kinds, Stopped};
 use nor_driver::{Halt, read_id, read_parameters, wait};
 use thiserror::Error;
 
-/// Why no chip was found. The first three are judged in this order.
+/// The reason why a probe found no chip. The first three variants are checked in this order.
 #[derive(Clone, Copy, Debug, PartialEq, Eq, Error)]
 pub enum ProbeFault {
-    /// Nothing drives the bus: the ID is `FF FF FF` or `00 00 00`.
+    /// The ID reads `FF FF FF` or `00 00 00`, as it does if nothing drives the bus.
     #[error("there is no chip")]
     NoChip,
-    /// The chip isn't in the table, and its SFDP is refused.
+    /// The ID isn't in the table, and the chip's SFDP is refused for this reason.
     #[error("the chip isn't known: {0}")]
     UnknownChip(SfdpFault),
-    /// The chip has another name than the one given.
+    /// The chip was identified, and has another name than the given one.
     #[error("the chip has another name")]
     OtherName,
     /// The bus stopped.
@@ -35,31 +35,40 @@ pub enum ProbeFault {
     Timeout,
 }
 
-/// The chip that was found.
+/// The chip that was found, with its status 1.
 #[derive(Clone, Copy, Debug, PartialEq, Eq)]
 pub struct Found {
-    /// Its name in the table, or `Sfdp`.
+    /// The chip's name in the table, or `Sfdp` if it was identified by its SFDP.
     pub name: ChipName,
-    /// As 9Fh replied it.
+    /// The ID, as 9Fh returned it.
     pub id: [u8; 3],
-    /// In bytes: a power of two from 65,536 to 16,777,216.
+    /// The size in bytes. A probe returns a power of two from 65,536 to 16,777,216.
     pub size: u32,
+    /// The erase types.
     pub kinds: Kinds,
-    /// It has block protection.
+    /// Whether the chip has block protection. It is false for a chip that was identified by its SFDP.
     pub scheme: bool,
-    /// Status 1, as the last poll replied it.
+    /// Status 1, as the last poll returned it.
     pub status1: u8,
 }
 
-/// The chip that was found, and how many transactions the probe sent.
+/// The chip that was found, and the number of transactions that the probe sent.
 #[derive(Clone, Copy, Debug, PartialEq, Eq)]
 pub struct Probed {
     pub found: Found,
     pub transactions: u64,
 }
 
-/// Tells which chip is on the bus: waits until it is idle, reads its ID, and where that isn't in the table also
-/// its SFDP. Where a name is given the chip must have it.
+/// Identifies the chip on the bus. Waits until it is idle, with at most 65,536 polls (05h), reads its ID (9Fh) and, if
+/// the ID isn't in the table, its SFDP with three reads (5Ah). If `named` is given, the chip must have this name.
+///
+/// On any bus a returned chip has the given name, and the last poll showed that it is ready. It is a row of the table,
+/// or was identified by SFDP and has a supported size. On a well-behaved bus (`honest`) it is what the chip shows about
+/// itself, the chip is idle, and its bytes and non-volatile status bits are unchanged. On a modelled bus its ID, size,
+/// erase types and block protection are those of the chip's configuration.
+///
+/// Returns `NoChip`, `UnknownChip` or `OtherName`, checked in this order; `Stopped` if the bus stopped; and `Timeout`
+/// if 65,536 polls showed BUSY, which doesn't occur on a well-behaved bus.
 pub fn probe<B: Bus>(bus: &mut B, named: Option<ChipName>) -> Result<Found, ProbeFault>
     ensures always { ProbeAlways named (B.state bus.old) (B.state bus.new) result }
     ensures honest { (B.state bus.old).honest ≡ true
@@ -71,7 +80,9 @@ pub fn probe<B: Bus>(bus: &mut B, named: Option<ChipName>) -> Result<Found, Prob
     Ok(probed.found)
 }
 
-/// The same, for a caller that goes on: it tells how many transactions were sent, too.
+/// Identifies the chip as `probe` does, with the same errors, and also returns the number of transactions that were
+/// sent. On any bus that number is at least one poll and the reads, and at most 65,540. On a well-behaved bus it is
+/// exactly what the chip needs.
 #[tactic(auto, using(crate::proofs::Sizes::size_at_least, crate::proofs::Sizes::size_at_most, crate::proofs::Sizes::size_in_blocks))]
 pub fn probe_counted<B: Bus>(bus: &mut B, named: Option<ChipName>) -> Result<Probed, ProbeFault>
     ensures always { ProbeAlways named (B.state bus.old) (B.state bus.new) (found_in result) }
@@ -94,7 +105,7 @@ pub fn probe_counted<B: Bus>(bus: &mut B, named: Option<ChipName>) -> Result<Pro
 }
 
 impl Part {
-    // What is found where the last poll of a chip of this part replied this status.
+    // Returns the chip found, if it is of this type and the last poll returned `status1`.
     fn found(self, status1: u8) -> Found
         ensures part { part_in result ≡ self }
         ensures status1 { result.status1 ≡ status1 }
@@ -117,7 +128,8 @@ impl Part {
     }
 }
 
-// The part that an idle chip with this ID is.
+// Returns the type of the chip whose ID was read as `id`: its row of the table, or else what its SFDP says. `shown` and
+// `tells` hold only on a well-behaved bus, if the chip is idle and `id` is its ID.
 fn identify<B: Bus>(bus: &mut B, id: [u8; 3]) -> Result<Part, ProbeFault>
     ensures leaves { Looks 3 (B.state bus.old) (B.state bus.new) }
     ensures heard { (B.state bus.new).heard ≡ (B.state bus.old).heard }
@@ -147,14 +159,15 @@ fn identify<B: Bus>(bus: &mut B, id: [u8; 3]) -> Result<Part, ProbeFault>
     })
 }
 
-// Nothing drives the bus that replied this ID.
+// True if `id` is what is read when nothing drives the bus: `FF FF FF` or `00 00 00`.
 fn is_no_chip(id: [u8; 3]) -> bool
     ensures { result ≡ is_no_chip id }
 {
     id == [0xFF; 3] || id == [0; 3]
 }
 
-// What an idle chip says of itself.
+// Reads the SFDP, and returns the size and the erase types that it gives. On a well-behaved bus they are the chip's own
+// if it is idle.
 fn read_geometry<B: Bus>(bus: &mut B) -> Result<Geometry, ProbeFault>
     ensures leaves { Looks 3 (B.state bus.old) (B.state bus.new) }
     ensures heard { (B.state bus.new).heard ≡ (B.state bus.old).heard }
@@ -171,7 +184,7 @@ fn read_geometry<B: Bus>(bus: &mut B) -> Result<Geometry, ProbeFault>
     Ok(geometry)
 }
 
-// The parts of SFDP that are read.
+// The parts of the SFDP that are read.
 #[derive(Clone, Copy)]
 struct Parameters {
     header: [u8; 8],
@@ -179,7 +192,8 @@ struct Parameters {
     table: [u8; 36],
 }
 
-// The header, the first parameter header and the table that it points to, of an idle chip.
+// Reads the SFDP header, the first parameter header, and 36 bytes of the table that it points to. On a well-behaved bus
+// they are the chip's own if it is idle.
 fn read_parts<B: Bus>(bus: &mut B) -> Result<Parameters, Stopped>
     ensures leaves { Looks 3 (B.state bus.old) (B.state bus.new) }
     ensures heard { (B.state bus.new).heard ≡ (B.state bus.old).heard }
@@ -200,7 +214,7 @@ fn read_parts<B: Bus>(bus: &mut B) -> Result<Parameters, Stopped>
     })
 }
 
-// The address of the table that a parameter header points to.
+// Returns the address of the table that a parameter header points to: bytes 4 to 6, little-endian (JESD216).
 fn pointer_in(first: &[u8; 8]) -> u32
     ensures pointer { result ≡ pointer_in first.now }
     ensures reachable { result < 2 ^ 24 }
@@ -208,7 +222,7 @@ fn pointer_in(first: &[u8; 8]) -> u32
     LittleEndian::read_u24(&first[4..])
 }
 
-// How many transactions tell which part a chip is: 9Fh, and where it has no name of its own three times 5Ah.
+// Returns the number of reads that identify a chip of this name: one (9Fh), and three more (5Ah) for `Sfdp`.
 fn reads_of(name: ChipName) -> u64
     ensures { result ≡ reads_under name }
 {
@@ -218,7 +232,7 @@ fn reads_of(name: ChipName) -> u64
     }
 }
 
-// The chip has the name that was given, if one was.
+// True if no name was given, or the chip has the given name.
 fn is_wanted(named: Option<ChipName>, name: ChipName) -> bool
     ensures { IsTrue result ↔ IsWanted named name }
 {

@@ -1,5 +1,5 @@
-//! Serial Flash Discoverable Parameters (JEDEC JESD216): the size of a chip and its erase kinds, from
-//! the header and the basic flash parameter table.
+//! Serial Flash Discoverable Parameters (JEDEC JESD216): decodes the size of a chip and its erase types from the
+//! header, the first parameter header and the basic flash parameter table.
 
 ghost use Rattle.std.specs.Prelude.{◌≡◌, ◌<◌, ◌≤◌, ◌+◌, ◌*◌, ◌-◌, ◌/◌, true, IsTrue};
 ghost use Rattle.std.specs.Prelude.{IfSome, IfOk};
@@ -14,39 +14,40 @@ use byteorder::{ByteOrder, LittleEndian};
 use nor_chip::Kinds;
 use thiserror::Error;
 
-/// What is read from the SFDP of an accepted chip.
+/// The size and the erase types that an accepted SFDP gives.
 #[derive(Clone, Copy, Debug, PartialEq, Eq)]
 pub struct Geometry {
-    /// In bytes: a power of two from 65,536 to 16,777,216.
+    /// The size in bytes. `read_sfdp` returns a power of two from 65,536 to 16,777,216.
     pub size: u32,
+    /// Whether 32 KiB and 64 KiB are among the erase types. An accepted SFDP always has 4 KiB.
     pub kinds: Kinds,
 }
 
-/// Why the SFDP of a chip is refused, in the order in which the tests are made.
+/// The reason why an SFDP is refused. The variants are in the order in which they are checked.
 #[derive(Clone, Copy, Debug, PartialEq, Eq, Error)]
 pub enum SfdpFault {
-    /// The header does not begin with `SFDP`.
+    /// The header doesn't begin with `SFDP`.
     #[error("the SFDP header has another signature")]
     Signature = 1,
-    /// The major revision is not 1.
+    /// The major revision in the header isn't 1.
     #[error("the SFDP has a major revision other than 1")]
     Major,
-    /// The first parameter header is not that of the basic table in its first major revision.
+    /// The first parameter header isn't that of the basic table in major revision 1.
     #[error("the first parameter header is not that of the basic table")]
     FirstHeader,
-    /// The table has fewer than nine double words.
+    /// The first parameter header gives the table fewer than nine double words.
     #[error("the basic table is too short")]
     Length,
-    /// The chip takes addresses of four bytes alone, or the field is reserved.
+    /// The chip takes only four-byte addresses, or the field has its reserved value.
     #[error("the chip doesn't take addresses of three bytes")]
     Address,
-    /// The chip is not written in pages.
+    /// The write granularity is below 64 bytes: the chip isn't written in pages.
     #[error("the chip is not written in pages")]
     Granularity,
-    /// The size is not a power of two from 64 KiB to 16 MiB.
+    /// The size isn't a power of two from 64 KiB to 16 MiB.
     #[error("the size is not a power of two from 64 KiB to 16 MiB")]
     Size,
-    /// No erase type is 20h at 4 KiB.
+    /// No erase type has 4 KiB with opcode 20h.
     #[error("the chip erases no sectors of 4 KiB")]
     NoSector,
 }
@@ -54,7 +55,7 @@ pub enum SfdpFault {
 impl SfdpFault {
     ghost use Rattle.nor_probe.specs.Sfdp.{number_of_sfdp_fault};
 
-    /// The number that a message shows, from 1 on, in the order of the tests.
+    /// Returns the number that messages show, from 1 to 8 in the order of the variants.
     pub fn number(self) -> u8
         ensures { result ≡ number_of_sfdp_fault self }
     {
@@ -62,19 +63,21 @@ impl SfdpFault {
     }
 }
 
-// The least number of double words of the table: those up to the erase types.
+// The least number of double words of the table: the erase types are in double words 8 and 9.
 const TABLE_LENGTH: u8 = 9;
 
-// Set in the density double word where its other bits are the exponent of the size.
+// Bit 31 of the density double word. If it is set, the other bits are the exponent of the size in bits.
 const BY_EXPONENT: u32 = 0x8000_0000;
 
-// The sizes that are supported, in bits.
+// The least supported size in bits: 64 KiB.
 const LEAST_BITS: u32 = 1 << 19;
 
+// The exponent of the greatest supported size in bits: 16 MiB is 2^27 bits.
 const MOST_EXPONENT: u32 = 27;
 
-/// Reads the SFDP of a chip: `header` is the bytes at 0 to 7, `first` those at 8 to 15, `table` the 36 bytes
-/// from the pointer in `first` on. The answer is the first fault, or else the geometry.
+/// Decodes the SFDP of a chip, and returns its size and erase types or the first fault in the order of `SfdpFault`.
+/// `header` has the bytes at 0 to 7, `first` those at 8 to 15, and `table` the 36 bytes at the address that `first`
+/// points to.
 pub fn read_sfdp(header: &[u8; 8], first: &[u8; 8], table: &[u8; 36]) -> Result<Geometry, SfdpFault>
     ensures says { result ≡ sfdp_says header.now first.now table.now }
     ensures sized { IfOk result (λ geometry. is_chip_size geometry.size ≡ true) }
@@ -94,7 +97,7 @@ pub fn read_sfdp(header: &[u8; 8], first: &[u8; 8], table: &[u8; 36]) -> Result<
     read_table(table)
 }
 
-// The part of `read_sfdp` that looks at the table.
+// Checks the basic table, and returns the size and the erase types or the first fault.
 fn read_table(table: &[u8; 36]) -> Result<Geometry, SfdpFault>
     ensures says { result ≡ first_fault_or (geometry_of table.now) (table_faults table.now) }
     ensures sized { IfOk result (λ geometry. is_chip_size geometry.size ≡ true) }
@@ -118,7 +121,7 @@ fn read_table(table: &[u8; 36]) -> Result<Geometry, SfdpFault>
     Ok(Geometry { size, kinds })
 }
 
-// Whether the header begins with the letters `SFDP`.
+// True if the header begins with the letters `SFDP`.
 #[tactic(auto, unfolding(crate::specs::Sfdp::has_signature))]
 fn is_sfdp(header: &[u8; 8]) -> bool
     ensures { result ≡ has_signature header.now }
@@ -126,7 +129,8 @@ fn is_sfdp(header: &[u8; 8]) -> bool
     header[0] == b'S' && header[1] == b'F' && header[2] == b'D' && header[3] == b'P'
 }
 
-// Whether the first parameter header is that of the basic table, in its first major revision.
+// True if the first parameter header is that of the basic table in major revision 1. Only the low byte of its ID and
+// its major revision are compared.
 #[tactic(auto, unfolding(crate::specs::Sfdp::is_basic))]
 fn is_basic_table(first: &[u8; 8]) -> bool
     ensures { result ≡ is_basic first.now }
@@ -134,7 +138,8 @@ fn is_basic_table(first: &[u8; 8]) -> bool
     first[0] == 0 && first[2] == 1
 }
 
-// How addresses are sent: 2 means by four bytes alone, and 3 is reserved.
+// Returns bits 17 and 18 of double word 1: 0 for three-byte addresses, 1 for three or four bytes, 2 for four bytes
+// only. The value 3 is reserved.
 #[tactic(auto, unfolding(crate::specs::Sfdp::address_mode))]
 fn address_bits(table: &[u8; 36]) -> u32
     ensures { result ≡ address_mode table.now }
@@ -142,7 +147,7 @@ fn address_bits(table: &[u8; 36]) -> u32
     (double_word_of(table, 1) >> 17) % 4
 }
 
-// Whether a program may send 64 bytes and more at a time.
+// True if one program command may write 64 bytes or more: bit 2 of double word 1.
 #[tactic(auto, unfolding(crate::specs::Sfdp::has_write_granularity))]
 fn takes_pages(table: &[u8; 36]) -> bool
     ensures { result ≡ has_write_granularity table.now }
@@ -150,7 +155,7 @@ fn takes_pages(table: &[u8; 36]) -> bool
     (double_word_of(table, 1) >> 2) % 2 == 1
 }
 
-// Double word `k` of the table, counted from 1.
+// Returns double word `k` of the table, counted from 1.
 #[tactic(auto, unfolding(crate::specs::Sfdp::double_word))]
 fn double_word_of(table: &[u8; 36], k: usize) -> u32
     requires counted { 1 ≤ k }
@@ -160,7 +165,7 @@ fn double_word_of(table: &[u8; 36], k: usize) -> u32
     LittleEndian::read_u32(&table[4 * (k - 1)..])
 }
 
-// The size in bytes that the density double word gives, if it is one of those that are supported.
+// Returns the size in bytes that the density double word gives, or `None` if it isn't a supported one.
 #[tactic(auto, using(crate::proofs::SfdpLemmas::large_exponent, crate::proofs::SfdpLemmas::in_bits), unfolding(crate::specs::Sfdp::size_in_bits))]
 fn size_in_bytes(density: u32) -> Option<u32>
     ensures value { SomeIff result (IsTrue (is_chip_size_in_bits (size_in_bits density))) (size_in_bits density / 8) }
@@ -180,7 +185,7 @@ fn size_in_bytes(density: u32) -> Option<u32>
     }
 }
 
-// Whether one of the four erase types is this one.
+// True if one of the four erase types has this exponent of its size in bytes and this opcode.
 #[tactic(auto, unfolding(crate::specs::Sfdp::has_erase_type))]
 fn offers(table: &[u8; 36], exponent: u8, opcode: u8) -> bool
     ensures { result ≡ has_erase_type exponent opcode table.now }
@@ -191,7 +196,7 @@ fn offers(table: &[u8; 36], exponent: u8, opcode: u8) -> bool
         || offers_at(table, exponent, opcode, 34)
 }
 
-// Whether the erase type at a place of the table is this one.
+// True if the erase type at byte `at` of the table has this exponent and this opcode.
 fn offers_at(table: &[u8; 36], exponent: u8, opcode: u8, at: usize) -> bool
     requires { at < 35 }
     ensures { result ≡ is_erase_type_at exponent opcode table.now at }

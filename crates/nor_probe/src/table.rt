@@ -1,25 +1,26 @@
-//! The chips that are known by their ID, and the names that chips have.
+//! The table of the chips that are known by their ID, and the names of chips.
 
 ghost use Rattle.std.specs.Prelude.{◌≡◌};
 ghost use Rattle.nor_probe.specs.Table.{name_of, name_text, chips, part_with_id};
 
 use nor_chip::{ALL_KINDS, Kinds};
 
-/// The name of a chip.
+/// The name of a chip type.
 #[derive(Clone, Copy, Debug, PartialEq, Eq)]
 pub enum ChipName {
-    /// Winbond W25Q64FV, of 8 MiB.
+    /// Winbond W25Q64FV, 8 MiB.
     W25Q64FV,
-    /// Winbond W25Q128FV, of 16 MiB.
+    /// Winbond W25Q128FV, 16 MiB.
     W25Q128FV,
-    /// Any chip that is known by its SFDP alone.
+    /// Any chip that is known only by its SFDP.
     Sfdp,
-    /// A name that no chip has.
+    /// Any name that no chip has.
     Other,
 }
 
 impl ChipName {
-    /// The name that a text gives: `W25Q64FV`, `W25Q128FV` or `SFDP`, in these letters. Any other text is `Other`.
+    /// Returns the name that `text` spells: `W25Q64FV`, `W25Q128FV` or `SFDP`, in upper case. Returns `Other` for any
+    /// other text.
     pub fn of(text: &str) -> ChipName
         ensures { result ≡ name_of text.now }
     {
@@ -31,7 +32,7 @@ impl ChipName {
         }
     }
 
-    /// The name as a text, which `of` reads back.
+    /// Returns the name as text. `of` turns this text into the same name.
     pub fn as_str(self) -> &'static str
         ensures text { result.now ≡ name_text self }
         ensures read_back { name_of result.now ≡ self }
@@ -45,20 +46,21 @@ impl ChipName {
     }
 }
 
-/// What tells one kind of chip from another.
+/// A chip type: its name, ID, size, erase types, and whether it has block protection.
 #[derive(Clone, Copy, Debug, PartialEq, Eq)]
 pub struct Part {
     pub name: ChipName,
-    /// As 9Fh replies it.
+    /// The ID, as 9Fh returns it.
     pub id: [u8; 3],
-    /// In bytes.
+    /// The size in bytes.
     pub size: u32,
+    /// The erase types.
     pub kinds: Kinds,
-    /// It has block protection.
+    /// Whether the chip has block protection.
     pub scheme: bool,
 }
 
-// The table. (Winbond W25Q64FV and W25Q128FV datasheets.)
+// The rows of the table. Source: Winbond W25Q64FV and W25Q128FV datasheets.
 const CHIPS: [Part; 2] = [
     Part {
         name: ChipName::W25Q64FV,
@@ -76,14 +78,14 @@ const CHIPS: [Part; 2] = [
     },
 ];
 
-/// The table of the chips that are known by their ID.
+/// Returns the table of the chips that are known by their ID.
 pub fn chips() -> &'static [Part]
     ensures { result.now ≡ chips }
 {
     &CHIPS
 }
 
-/// The chip of the table that has this ID.
+/// Returns the row of the table with this ID, or `None` if no row has it.
 pub fn part_of(id: [u8; 3]) -> Option<Part>
     ensures { result ≡ part_with_id id }
 {
