@@ -1,4 +1,4 @@
--- The changes of a block of many lanes, put together before one test.
+-- The differences of a block of bytes, combined with OR before one test.
 use Rattle.std.proofs.Common.{ℕ, zero, suc, ◌≡◌, ◌≢◌, ◌<◌, ◌≤◌, ◌+◌, ◌-◌, bit_or, bit_xor, List, [], ◌∷◌, length, replicate, get_or, sym, ◌∙◌, ap, not, nat_eq, inl, inr, arith}
 use lib.Bits.{xor_self, xor_assoc, xor_zero_l, xor_zero_r, or_zero_l}
 use lib.Lanes.{chunk, zip2, fold_l}
@@ -17,11 +17,11 @@ same_from_xor a b none =
     sym (xor_zero_r a) ∙ ap (bit_xor a) (sym none) ∙ sym (xor_assoc a a b)
     ∙ ap (λ x. bit_xor x b) (xor_self a) ∙ xor_zero_l b
 
--- what is put together is nothing only where its parts are
+-- an OR is 0 only if both its operands are
 or_zero : (x y : ℕ) → bit_or x y ≡ 0 → (x ≡ 0) × (y ≡ 0)
 or_zero x y none = (omega (arith, none, le_or_l x y), omega (arith, none, le_or_r x y))
 
--- the bits of all lanes, put together, are nothing only where each lane is 0
+-- the OR of a list is at least its start value
 front_le : (start : ℕ) (xs : List ℕ) → start ≤ fold_l bit_or start xs
 front_le start [] = omega arith
 front_le start (x ∷ xs) = omega (arith, le_or_l start x, front_le (bit_or start x) xs)
@@ -31,7 +31,7 @@ lane_le start [] i = omega arith
 lane_le start (x ∷ xs) zero = omega (arith, le_or_r start x, front_le (bit_or start x) xs)
 lane_le start (x ∷ xs) (suc i) = lane_le (bit_or start x) xs i
 
--- and where they are something, some lane isn't
+-- if the OR of all lanes isn't 0, the start value or some lane isn't 0
 some_lane : (P : Type 0) (start : ℕ) (xs : List ℕ) → (start ≢ 0 → P) → ((i : ℕ) → i < length xs → get_or xs i 0 ≢ 0 → P)
     → fold_l bit_or start xs ≢ 0 → P
 some_lane P start [] front lane some = front some
@@ -44,7 +44,7 @@ some_lane P start (x ∷ xs) front lane some =
     (λ i within other. lane (suc i) (omega arith) other) some
 
 module _ (a b : List ℕ) where
-  -- the bits that differ of two chunks tell whether the bytes do
+  -- the XOR of two chunks of 32 bytes shows whether the bytes differ
   pub TellsChanges-xor : (at : ℕ) → at + 32 ≤ length a → at + 32 ≤ length b
       → TellsChanges a b at 32 (zip2 bit_xor (chunk at 32 a) (chunk at 32 b))
   TellsChanges-xor at a_room b_room =
@@ -67,7 +67,7 @@ module _ (a b : List ℕ) where
         some = λ i lane other. (at + i, omega arith, λ same. other (bits i lane ∙ rw (same, xor_self)));
       }
 
-  -- a vector of zeros tells that none of no bytes differs
+  -- a vector of zeros shows the differences of no bytes
   pub TellsChanges-zeros : (at : ℕ) → TellsChanges a b at 0 (replicate 32 0)
   TellsChanges-zeros at = record {
     long = length-replicate {A = ℕ} 32 0;
@@ -75,7 +75,7 @@ module _ (a b : List ℕ) where
     some = λ i lane other. absurd (other (get_or-replicate {A = ℕ} 32 i 0 0 lane));
   }
 
-  -- so do two such vectors of neighbouring parts, put together
+  -- the OR of two vectors that show the differences of adjacent parts shows those of both parts together
   pub TellsChanges-or : {at m from n count : ℕ} {xs ys : List ℕ} → from ≡ at + m → count ≡ m + n
       → TellsChanges a b at m xs → TellsChanges a b from n ys → TellsChanges a b at count (zip2 bit_or xs ys)
   TellsChanges-or {at} {m} {from} {n} {count} {xs} {ys} next sum first second =
@@ -98,12 +98,12 @@ module _ (a b : List ℕ) where
         ];
       }
 
-  -- a vector whose lanes, put together, are nothing
+  -- if the OR of all lanes is 0, none of the bytes differs
   pub TellsChanges-none : (at count : ℕ) (xs : List ℕ) → TellsChanges a b at count xs → fold_l bit_or 0 xs ≡ 0
       → AgreeWithin a b at (at + count)
   TellsChanges-none at count xs tells none = tells.none (λ i lane. omega (arith, none, lane_le 0 xs i))
 
-  -- the test of a vector that tells of all bytes up to a place
+  -- testing the OR of all lanes shows whether some byte differs, for a vector that covers all bytes up to `end`
   pub TellsChanges-tested : (count end : ℕ) (xs : List ℕ) → TellsChanges a b 0 count xs → end ≤ count
       → MatchBool (not (nat_eq (fold_l bit_or 0 xs) 0)) (SomeDiffer a b) (AgreeWithin a b 0 end)
   TellsChanges-tested count end xs tells within =

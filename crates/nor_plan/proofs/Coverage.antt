@@ -1,5 +1,5 @@
--- The planned erases cover the set: each is an erase of the chip, within the set, and each sector of the set
--- is within one of them.
+-- The planned erases cover the set: each is an erase that the chip has and lies in the set, and each sector of the set
+-- lies in one of them.
 use Rattle.std.proofs.Common.{ℕ, ◌≡◌, ◌<◌, ◌≤◌, ◌+◌, ◌-◌, ◌%◌, Bool, true, ◌&&◌, ◌||◌, List, [], ◌∷◌, map, filter, get_or, refl, sym, ap, ◌∙◌, inl, inr, arith}
 use Rattle.std.specs.List.{list_any, range_with_len}
 use Rattle.std.proofs.lemmas.Bool.{cases_Bool, cases_lt, and_parts, and_from, le-leb, leb-true, lt-ltb, ltb-true}
@@ -15,18 +15,19 @@ use Rattle.nor_plan.specs.Erase.{is_offered, IsErase, Covers}
 use Rattle.nor_plan.specs.Planned.{holds_run, planned_unit, begins_unit, erase_at, planned_from}
 use Rattle.nor_plan.proofs.Units.{holds_run-at, first_of, first_of-once, first_of-aligned, first_of-holds, IsLargest, planned_unit-largest, planned_unit-first}
 
--- the sectors of a chip: `whole` says whether they are all in the set, which lies below their number
+-- The premises of a plan: `whole` is set if and only if all `total` sectors are in the set, and the set lies below
+-- `total` and below 4,096.
 pub record IsPlannable (whole : Bool) (total : ℕ) (set : ℕ → Bool) : Type 0 where
   pub whole_is : whole ≡ holds_run set 0 total
   pub below : (s : ℕ) → set s ≡ true → s < total
   pub small : (s : ℕ) → set s ≡ true → s < 4096
 
--- a sector at which its unit begins is in the set
+-- a sector at which its erase block begins is in the set
 pub begins_in : (whole : Bool) (kinds : Kinds) (set : ℕ → Bool) (q : ℕ) → begins_unit whole kinds set q ≡ true
     → set q ≡ true
 begins_in whole kinds set q begins = (and_parts _ _ begins).0
 
--- some of what passes one test and is mapped passes another
+-- some filtered and mapped element passes a test if and only if some element passes the filter and the mapped test
 list_any-kept : {X : Type 0} (p : X → Bool) (f : ℕ → X) (test : ℕ → Bool) (ks : List ℕ)
     → list_any p (map f (filter test ks)) ≡ list_any (λ k. test k && p (f k)) ks
 list_any-kept p f test [] = refl
@@ -36,7 +37,7 @@ list_any-kept p f test (k ∷ ks) = elim (cases_Bool (test k)) [
 ]
 
 module _ (whole : Bool) (kinds : Kinds) (total : ℕ) (set : ℕ → Bool) (can : IsPlannable whole total set) where
-  -- the largest unit that holds a sector of the set is offered, and lies in the set
+  -- the chip has the largest fit block of a sector
   largest_offered : (q : ℕ) (unit : EraseUnit) → IsLargest whole kinds set q unit → is_offered kinds unit ≡ true
   largest_offered q Sector largest = refl
   largest_offered q Block32 largest = (and_parts _ _ largest.2).0
@@ -50,7 +51,7 @@ module _ (whole : Bool) (kinds : Kinds) (total : ℕ) (set : ℕ → Bool) (can 
   largest_within q member Block64 largest s = holds_run-at set (q - q % 16) 16 (and_parts _ _ largest.1).1 s
   largest_within q member Chip largest s = holds_run-at set 0 total (sym can.whole_is ∙ largest) s
 
-  -- so does a planned one
+  -- each sector of a planned erase is in the set
   unit_within : (q : ℕ) → begins_unit whole kinds set q ≡ true
       → (s : ℕ) → q ≤ s → s < q + sectors_in total (planned_unit whole kinds set q) → set s ≡ true
   unit_within q begins s low high =
@@ -60,7 +61,7 @@ module _ (whole : Bool) (kinds : Kinds) (total : ℕ) (set : ℕ → Bool) (can 
       largest_within q (begins_in whole kinds set q begins) unit (planned_unit-largest whole kinds set q) s
       (omega arith) (omega arith)
 
-  -- a planned erase is one that the chip has
+  -- each planned erase is one that the chip has
   planned_IsErase : (q : ℕ) → begins_unit whole kinds set q ≡ true → IsErase kinds total (erase_at whole kinds set q)
   planned_IsErase q begins = record {
     offered = largest_offered q _ (planned_unit-largest whole kinds set q);
@@ -74,7 +75,7 @@ module _ (whole : Bool) (kinds : Kinds) (total : ℕ) (set : ℕ → Bool) (can 
         elim (cases_lt 0 count) [ inl some ↦ omega (arith, inside some) | inr none ↦ omega arith ];
   }
 
-  -- each sector of the set is within the unit that begins at some sector
+  -- each sector of the set lies in an erase block that begins at some sector
   unit_begins : (s : ℕ) → set s ≡ true
       → (q : ℕ) × (begins_unit whole kinds set q ≡ true)
       × (q ≤ s) × (s < q + sectors_in total (planned_unit whole kinds set q))

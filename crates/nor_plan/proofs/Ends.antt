@@ -1,4 +1,4 @@
--- The first and the last of the places in a range that pass a test.
+-- The first and the last position of a range that pass a test.
 use Rattle.std.proofs.Common.{ℕ, zero, suc, ◌≡◌, ◌<◌, ◌≤◌, ◌+◌, Bool, true, filter, List, [], ◌∷◌, Option, Some, None, refl, ap, ◌∙◌, inl, inr, arith}
 use Rattle.std.specs.Prelude.{MatchOption}
 use Rattle.std.specs.List.{range_with_len}
@@ -6,12 +6,12 @@ use Rattle.std.proofs.lemmas.Bool.{cases_eq, cases_Bool, both_ways}
 use Rattle.nor_plan.specs.declared.page.PageSpan.{PageSpan}
 use Rattle.nor_plan.specs.Span.{ends}
 
--- the first and the last of some numbers, where there are any
+-- the option has the first and the last number with a property, or is `None` if no number has it
 abbrev pub AreEnds : (ℕ → Type 0) → Option PageSpan → Type 0
 AreEnds P o =
     MatchOption o ((k : ℕ) → ¬ P k) (λ s. P s.first × P s.last × ((k : ℕ) → P k → (s.first ≤ k) × (k ≤ s.last)))
 
--- they have no others
+-- two options with the ends of one property are equal
 pub ends_once : (P : ℕ → Type 0) (o p : Option PageSpan) → AreEnds P o → AreEnds P p → o ≡ p
 ends_once P None None a b = refl
 ends_once P None (Some t) a b = absurd (a t.first b.0)
@@ -22,17 +22,17 @@ ends_once P (Some s) (Some t) a b =
     let span : ℕ → ℕ → Option PageSpan = λ f l. Some (record { first = f; last = l }) in
     ap (λ f. span f s.last) first ∙ ap (span t.first) last
 
--- and numbers of another description have the same
+-- properties that hold for the same numbers have the same ends
 pub ends_like : (P Q : ℕ → Type 0) (o : Option PageSpan) → ((k : ℕ) → P k → Q k) → ((k : ℕ) → Q k → P k) → AreEnds P o
     → AreEnds Q o
 ends_like P Q None to from none = λ k is. none k (from k is)
 ends_like P Q (Some s) to from are = (to s.first are.0, to s.last are.1, λ k is. are.2 k (from k is))
 
--- a place of the range passes
+-- the position is in the range and passes the test
 abbrev pub Passes : (test : ℕ → Bool) → (from count k : ℕ) → Type 0
 Passes test from count k = (from ≤ k) × (k < from + count) × (test k ≡ true)
 
--- a place in front of the others that pass is the first
+-- a position that passes, before all others that do, is the first end
 in_front : (test : ℕ → Bool) (from count : ℕ) (others : List ℕ) → test from ≡ true
     → AreEnds (Passes test (from + 1) count) (ends others)
     → AreEnds (Passes test from (suc count)) (ends (from ∷ others))

@@ -1,5 +1,5 @@
--- No list that covers the set is shorter than the planned one. Each planned erase has a sector of its own, at
--- which it begins: an erase within the set that holds this sector begins there too.
+-- No list that covers the set is shorter than the planned one. Each planned erase begins at a sector of its own, and
+-- every erase within the set that holds this sector begins there too.
 use Rattle.std.proofs.Common.{ℕ, ◌≡◌, ◌<◌, ◌≤◌, ◌+◌, ◌-◌, ◌%◌, ◌&&◌, Bool, true, false, cond, nat_eq, List, length, map, filter, get_or, refl, sym, ap, ◌∙◌, arith}
 use Rattle.std.specs.List.{range_with_len, list_any, IsDistinct}
 use Rattle.std.proofs.lemmas.Cmp.{nat_eq_equiv}
@@ -23,7 +23,7 @@ use Rattle.nor_plan.specs.Planned.{holds_run, planned_unit, begins_unit, erase_a
 use Rattle.nor_plan.proofs.Units.{holds_run-from, first_of, first_of-once, is_fit, larger_begins, planned_unit-largest}
 use Rattle.nor_plan.proofs.Coverage.{IsPlannable, planned_Covers, begins_in}
 
--- no place of a range stands twice among those that pass
+-- the positions of a range that pass a test are distinct
 IsDistinct-places : (test : ℕ → Bool) (from count : ℕ) → IsDistinct nat_eq (filter test (range_with_len from count))
 IsDistinct-places test from count =
     let place = get_or-range_with_len from count in
@@ -38,7 +38,7 @@ abbrev sector : Erase → ℕ
 sector erase = erase.sector
 
 module _ (whole : Bool) (kinds : Kinds) (total : ℕ) (set : ℕ → Bool) (can : IsPlannable whole total set) where
-  -- a unit within the set is fit
+  -- an erase block that the chip has and that lies in the set is fit
   within_fit : (unit : EraseUnit) (q : ℕ) → is_offered kinds unit ≡ true
       → ((s : ℕ) → first_of unit q ≤ s → s < first_of unit q + sectors_in total unit → set s ≡ true)
       → is_fit whole kinds set q unit ≡ true
@@ -47,7 +47,7 @@ module _ (whole : Bool) (kinds : Kinds) (total : ℕ) (set : ℕ → Bool) (can 
   within_fit Block64 q offered inside = and_from _ _ offered (holds_run-from set (q - q % 16) 16 inside)
   within_fit Chip q offered inside = can.whole_is ∙ holds_run-from set 0 total inside
 
-  -- if it holds a sector at which a planned unit begins, it begins there
+  -- an erase block within the set begins at a sector if it holds that sector and a planned erase begins there
   begins_alike : (q : ℕ) → begins_unit whole kinds set q ≡ true → (unit : EraseUnit) (first : ℕ)
       → is_offered kinds unit ≡ true → is_aligned unit first ≡ true
       → ((s : ℕ) → first ≤ s → s < first + sectors_in total unit → set s ≡ true)
@@ -58,7 +58,7 @@ module _ (whole : Bool) (kinds : Kinds) (total : ℕ) (set : ℕ → Bool) (can 
       sym (larger_begins whole kinds set q unit _ fit (planned_unit-largest whole kinds set q) (and_parts _ _ begins).1)
       ∙ start
 
-  -- so an erase of a list that covers the set begins where a planned one does
+  -- if a planned erase begins at a sector, each list that covers the set has an erase that begins there
   some_begins : (others : List Erase) → Covers kinds total others set → (q : ℕ) → begins_unit whole kinds set q ≡ true
       → list_any (nat_eq q) (map sector others) ≡ true
   some_begins others covers q begins =
@@ -88,7 +88,7 @@ module _ (whole : Bool) (kinds : Kinds) (total : ℕ) (set : ℕ → Bool) (can 
       some_begins others covers q (and_parts (list_any (nat_eq q) sectors) (begins q) (sym kept ∙ member)).1) in
       omega (arith, length-map others sector, length-map (filter begins sectors) (erase_at whole kinds set))
 
--- each erase begins at a sector of its own
+-- there are no more planned erases than members, because each erase begins at a member of its own
 pub planned_few : (whole : Bool) (kinds : Kinds) (set : SectorSet) (from : ℕ)
     → length (planned_from whole kinds (has set) from) ≤ length (members_from set from)
 unfolding planned_from members_from
@@ -105,7 +105,7 @@ planned_few whole kinds set from =
     both_le true false = omega arith
     both_le false b = omega arith
 
--- the planned erases are such a list
+-- the planned erases are a shortest list that covers the set
 pub fewest_least : (kinds : Kinds) (total : ℕ) (set : ℕ → Bool) → total ≤ 4096 → ((s : ℕ) → set s ≡ true → s < total)
     → IsLeastLength kinds total set (fewest_erases kinds total set)
 fewest_least kinds total set few below =

@@ -1,4 +1,4 @@
--- The bits that a comparison of 32 lanes gives, one for each lane.
+-- The masks that comparisons of 32 lanes give, with one bit per lane.
 use Rattle.std.proofs.Common.{ℕ, suc, ◌*◌, inl, inr, w64, ◌≡◌, ◌<◌, ◌≤◌, ◌+◌, ◌^◌, ◌-◌, ◌%◌, ◌/◌, Bool, true, false, not, cond, nat_eq, ◌≢◌, List, length, get_or, map, sym, ◌∙◌, ap, arith, w8}
 use Rattle.std.specs.Int.{bit_at, trailing_zeros}
 use lib.Lanes.{mask_l, top, zip2}
@@ -10,11 +10,11 @@ use Rattle.std.proofs.lemmas.Nat.Bits.{bit_at-zero, bit_at-trailing_zeros, bit_a
 use Rattle.nor_plan.specs.Mask.{IsMask}
 use Rattle.std.proofs.lemmas.Simd.{tops_compared, mask_l-lt, mask_l-mod, bit_mask_l, length-zip2, get_or-zip2}
 
--- what the vector code computes of the comparison t: each lane is all ones or 0, and its top bit is taken
+-- the value that vector code computes for the comparison t: each lane becomes all ones or 0, and its top bit is taken
 abbrev pub compared : (ℕ → ℕ → Bool) → List ℕ → List ℕ → ℕ
 compared t xs ys = mask_l (map (top 7) (zip2 (λ a b. cond (t a b) (2 ^ 8 - 1) 0) xs ys)) % 2 ^ 64
 
--- the mask of two vectors, as a test of the elements that they hold
+-- the mask of two vectors is the mask of a test, if the comparison of each pair of lanes gives the test's value
 pub compared-IsMask : (t : ℕ → ℕ → Bool) (xs ys : List ℕ) → length xs ≡ 32 → length ys ≡ 32 → (test : ℕ → Bool)
     → ((i : ℕ) → i < 32 → t (get_or xs i 0) (get_or ys i 0) ≡ test i) → IsMask (compared t xs ys) test
 compared-IsMask t xs ys long same test tells =
@@ -28,28 +28,28 @@ compared-IsMask t xs ys long same test tells =
           ∙ ap (λ b. cond b 1 0) (get_or-zip2 t xs ys i 0 0 false (omega arith) (omega arith) ∙ tells i lane);
     }
 
--- the test of two numbers that they differ
+-- the test for unequal numbers is true if and only if they differ
 pub other_from_test : (x y : ℕ) → not (nat_eq x y) ≡ true → x ≢ y
 other_from_test x y e same = grind (arith, nat_tests)
 
 pub test_from_other : (x y : ℕ) → x ≢ y → not (nat_eq x y) ≡ true
 test_from_other x y differ = grind (arith, nat_tests)
 
--- and the bit that it gives
+-- the bit of the test for unequal numbers is 0 if they are equal, and 1 if they differ
 same_from_bit : (x y : ℕ) → ◌≡◌ {A = ℕ} (cond (not (nat_eq x y)) 1 0) 0 → x ≡ y
 same_from_bit x y e = grind (arith, nat_tests)
 
 other_from_bit : (x y : ℕ) → ◌≡◌ {A = ℕ} (cond (not (nat_eq x y)) 1 0) 1 → x ≢ y
 other_from_bit x y e same = grind (arith, nat_tests)
 
--- the bit that the logarithm names is set
+-- the bit at the logarithm of a number is set
 highest_bit : (n r : ℕ) → 2 ^ r ≤ n → n < 2 * 2 ^ r → bit_at n r ≡ 1
 highest_bit n r least most =
     let above = le-div 1 n (2 ^ r) (pow_pos r) (omega (arith, least)) in
     let one : n / 2 ^ r ≡ 1 = omega (arith, above, div_below n (2 ^ r) 2 (pow_pos r) most) in
     ap (λ x. x % 2) one
 
--- where a mask tells at which of 32 places from `at` on two functions differ, they differ
+-- `mask` marks the positions, among the 32 from `at` on, at which the two functions differ
 module _ (f g : ℕ → ℕ) (at mask : ℕ) (is : IsMask mask (λ i. not (nat_eq (f (at + i)) (g (at + i))))) where
   clear_lane : (k : ℕ) → at ≤ k → k < at + 32 → bit_at mask (k - at) ≡ 0 → f k ≡ g k
   clear_lane k low high clear =
@@ -62,7 +62,7 @@ module _ (f g : ℕ → ℕ) (at mask : ℕ) (is : IsMask mask (λ i. not (nat_e
       let lane : i < 32 = omega arith in
       (lane, other_from_bit _ _ (sym (is.bits i lane) ∙ one))
 
-  -- at none of them,
+  -- if the mask is 0, the functions agree at all these positions
   pub passed_block : mask ≡ 0 → (k : ℕ) → at ≤ k → k < at + 32 → f k ≡ g k
   passed_block none k low high = clear_lane k low high (ap (λ m. bit_at m (k - at)) none ∙ bit_at-zero (k - at))
 
@@ -70,7 +70,7 @@ module _ (f g : ℕ → ℕ) (at mask : ℕ) (is : IsMask mask (λ i. not (nat_e
   passed_before before none k high =
       elim (cases_lt k at) [ inl earlier ↦ before k earlier | inr here ↦ passed_block none k here high ]
 
-  -- or first at that of the lowest bit,
+  -- otherwise the lowest bit of the mask is at the first difference
   pub first_in_block : 0 < mask → let t = trailing_zeros w64
       mask in (t < 32) × (f (at + t) ≢ g (at + t)) × ((k : ℕ) → at ≤ k → k < at + t → f k ≡ g k)
   first_in_block some =
@@ -78,7 +78,7 @@ module _ (f g : ℕ → ℕ) (at mask : ℕ) (is : IsMask mask (λ i. not (nat_e
       let first = set_lane (trailing_zeros w64 mask) lowest.1 in
       (first.0, first.1, λ k low before. clear_lane k low (omega (arith, first.0)) (lowest.2 (k - at) (omega arith)))
 
-  -- or last at that of the highest one
+  -- the highest bit of the mask is at the last difference
   pub last_in_block : (r : ℕ) → 2 ^ r ≤ mask → mask < 2 * 2 ^ r
       → (r < 32) × (f (at + r) ≢ g (at + r)) × ((k : ℕ) → at + r < k → k < at + 32 → f k ≡ g k)
   last_in_block r least most =

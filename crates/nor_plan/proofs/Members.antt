@@ -1,4 +1,4 @@
--- The members of a set, one after the other.
+-- The members of a set, in ascending order.
 use Rattle.std.proofs.Common.{ℕ, zero, suc, ◌≡◌, ◌<◌, ◌≤◌, ◌+◌, ◌-◌, Bool, true, false, filter, [], ◌∷◌, length, refl, sym, ap, ◌∙◌, inl, inr, arith}
 use Rattle.std.specs.List.{range_with_len}
 use Rattle.std.proofs.lemmas.Bool.{cases_eq, both_ways, false_from_ne_true}
@@ -10,7 +10,7 @@ use Rattle.nor_count.specs.Counts.{IsCount}
 use Rattle.nor_count.proofs.CountedRanges.{count_by-range}
 use Rattle.nor_plan.proofs.Words.{none_past}
 
--- places that all fail a test are passed over
+-- numbers that all fail a test can be left out of the filtered range
 passed_over : (test : ℕ → Bool) (from count at left : ℕ) → from + count ≡ at + left → from ≤ at
     → ((k : ℕ) → from ≤ k → k < at → test k ≡ false)
     → filter test (range_with_len from count) ≡ filter test (range_with_len at left)
@@ -47,12 +47,12 @@ length-members set from =
     let places = range_with_len from left in
     omega (arith, length-filter (has set) places, count_by-le-length (has set) places, length-range_with_len from left)
 
--- the sectors of a set are few, since its words are
+-- each sector of a set is below 4,096, because the set has 64 words
 pub has-small : (set : SectorSet) → length set.words ≡ 64 → LiesBelow set 4096
 has-small set long s member =
     let small : ¬ (4096 ≤ s) = λ past. both_ways _ (none_past set long s past) member in omega arith
 
--- a count stays the same past all that pass
+-- a count doesn't grow past the last number that passes the test
 count_past : (test : ℕ → Bool) (count : ℕ → ℕ) (end more : ℕ) → IsCount test count → ((s : ℕ) → test s ≡ true → s < end)
     → count (end + more) ≡ count end
 count_past test count end zero is below = let same : end + zero ≡ end = omega arith in ap count same
@@ -62,7 +62,7 @@ count_past test count end (suc more) is below =
     let fails = false_from_ne_true (test place) (λ passes. let inside = below place passes in omega arith) in
     ap count next ∙ is.goes (end + more) ∙ rw fails (omega (arith, count_past test count end more is below))
 
--- they are as many as are counted below any number that none of them reaches
+-- the number of members is the count below any number that is above all of them
 length-members-counted : (set : SectorSet) → length set.words ≡ 64 → (count : ℕ → ℕ) (from most end : ℕ) → from ≡ 0
     → most ≡ 4096 → IsCount (has set) count → LiesBelow set end → length (members_from set from) ≡ count end
 unfolding members_from

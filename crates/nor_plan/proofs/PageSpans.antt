@@ -1,4 +1,4 @@
--- From the bounds of a page, taken as a slice of its own, to its span.
+-- The span of a page, computed from the bounds of the page as a slice of its own.
 use Rattle.std.proofs.Common.{ℕ, ◌≡◌, ◌<◌, ◌≤◌, ◌+◌, ◌-◌, ◌*◌, ◌/◌, min, Bool, not, nat_eq, List, [], ◌∷◌, length, get_or, Some, None, sym, ap, ◌∙◌, arith, suc}
 use lib.Lanes.{chunk}
 use Rattle.std.specs.Int.{div_ceil}
@@ -13,11 +13,11 @@ abbrev pub other : List ℕ → List ℕ → ℕ → Bool
 other old target k = not (nat_eq (get_or old k 0) (get_or target k 0))
 
 module _ (old target : List ℕ) where
-  -- a place of this page at which the bytes differ
+  -- a position on this page at which the bytes differ
   abbrev pub DiffersOn : (page k : ℕ) → Type 0
   DiffersOn page k = (k / 256 ≡ page) × DifferAt old target k
 
-  -- the span of a page are the first and the last of these
+  -- the span of a page has the page's first and last difference
   pub page_ends : (page : ℕ) → AreEnds (DiffersOn page) (page_span old target page)
   page_ends page =
       let from = page * 256 in
@@ -29,7 +29,7 @@ module _ (old target : List ℕ) where
       (omega arith, omega arith, test_from_other _ _ differs.1.1))
       (ends_of (other old target) from count)
 
-  -- bytes that agree in a part of the slices
+  -- bytes that agree in a part of the slices agree in the slices
   same_in_part : (start count k : ℕ) → start ≤ k → k < start + count
       → get_or (chunk start count old) (k - start) 0 ≡ get_or (chunk start count target) (k - start) 0
       → get_or old k 0 ≡ get_or target k 0
@@ -76,11 +76,11 @@ module _ (old target : List ℕ) where
       )
       (page_ends page)
 
-  -- from a page on: nothing is left behind the last one,
+  -- from a page after the last one on, no spans are left
   pub spans_from-end : (page : ℕ) → page_count old ≤ page → spans_from old target page ≡ []
   spans_from-end page past = let none : page_count old - page ≡ 0 = omega arith in rw none
 
-  -- and else the span of this page, where it has one, stands before the others
+  -- from page `page` on, the spans are the span of that page, if it has one, followed by those of the later pages
   pages_left : (page : ℕ) → page < page_count old → page_count old - page ≡ suc (page_count old - (page + 1))
   pages_left page there = omega arith
 
@@ -92,7 +92,7 @@ module _ (old target : List ℕ) where
       → spans_from old target page ≡ span ∷ spans_from old target (page + 1)
   spans_from-some page span there some = rw (pages_left page there, some)
 
--- a page that is counted begins within the slice
+-- each page below the page count begins within the slice
 pub page_within : (length page : ℕ) → page < div_ceil length 256 → page * 256 < length
 page_within length page there = omega arith
 

@@ -1,4 +1,4 @@
--- The list of planned erases: from one sector to the next.
+-- The list of planned erases, step by step from one sector to the next.
 use Rattle.std.proofs.Common.{ℕ, suc, ◌≡◌, ◌<◌, ◌≤◌, ◌+◌, ◌-◌, Bool, true, false, [], ◌∷◌, arith}
 use Rattle.nor_chip.specs.declared.config.Kinds.{Kinds}
 use Rattle.nor_plan.specs.Planned.{begins_unit, erase_at, planned_from}

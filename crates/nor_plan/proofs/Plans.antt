@@ -1,4 +1,4 @@
--- From a plan of two slices to that of the functions whose bytes they are.
+-- The plan of two slices is the plan of the functions that give their bytes.
 use Rattle.std.proofs.Common.{ℕ, ◌≡◌, ◌<◌, Bool, true, false, List, length, get_or, bit_and, sym, ap, ◌∙◌, arith}
 use Rattle.std.specs.Prelude.{MatchBool}
 use Rattle.nor_plan.specs.declared.plan.SectorPlan.{SectorPlan}

@@ -1,4 +1,4 @@
--- The unit of a sector: which blocks of the set hold it, and where it begins.
+-- The erase block of a sector: which aligned blocks around the sector lie in the set, and where they begin.
 use Rattle.std.proofs.Common.{ℕ, ◌≡◌, ◌<◌, ◌≤◌, ◌+◌, ◌-◌, ◌%◌, Bool, true, false, ◌&&◌, refl, sym, ap, ◌∙◌, inl, inr, arith}
 use Rattle.std.specs.List.{range_with_len}
 use Rattle.std.proofs.lemmas.Bool.{cases_Bool, both_ways, eq-eqb, eqb-true}
@@ -10,7 +10,7 @@ use Rattle.nor_driver.specs.declared.units.EraseUnit.TheVariants.{Sector, Block3
 use Rattle.nor_driver.specs.Units.{sectors_in, is_aligned}
 use Rattle.nor_plan.specs.Planned.{holds_run, holds_block, planned_unit}
 
--- a run is in the set exactly where each of its sectors is
+-- a run of sectors is in the set if and only if each of its sectors is
 pub holds_run-at : (set : ℕ → Bool) (from count : ℕ) → holds_run set from count ≡ true → (s : ℕ) → from ≤ s
     → s < from + count → set s ≡ true
 unfolding holds_run
@@ -28,7 +28,7 @@ holds_run-from set from count all = list_all-from_AllPass set (range_with_len fr
     let there : k < count = omega (arith, length-range_with_len from count) in
     ap set (get_or-range_with_len from count k d there) ∙ all (from + k) (omega arith) (omega arith))
 
--- the first sector of the unit that holds a sector
+-- the first sector of the erase block that holds a sector
 abbrev pub first_of : EraseUnit → ℕ → ℕ
 first_of Sector s = s
 first_of Block32 s = s - s % 8
@@ -56,14 +56,14 @@ first_of-holds total Block64 s below = (omega arith, omega arith)
 first_of-holds total Chip s below = (omega arith, omega arith)
 
 module _ (whole : Bool) (kinds : Kinds) (set : ℕ → Bool) where
-  -- a unit that holds a sector is offered, and lies in the set
+  -- the erase block that holds the sector is fit: the chip has it, and it lies in the set
   abbrev pub is_fit : ℕ → EraseUnit → Bool
   is_fit s Sector = true
   is_fit s Block32 = kinds.k32 && holds_block set 8 s
   is_fit s Block64 = kinds.k64 && holds_block set 16 s
   is_fit s Chip = whole
 
-  -- the unit is fit, and no larger one is
+  -- the erase block is fit, and no larger one is; the chip is the largest if `whole` is set
   abbrev pub IsLargest : ℕ → EraseUnit → Type 0
   IsLargest s Chip = whole ≡ true
   IsLargest s Block64 = (whole ≡ false) × (is_fit s Block64 ≡ true)
@@ -83,7 +83,7 @@ module _ (whole : Bool) (kinds : Kinds) (set : ℕ → Bool) where
     ]
   ]
 
-  -- it is the unit of the sector at which it begins, too
+  -- the planned block of a sector is also the planned block of the sector at which it begins
   pub planned_unit-first : (s : ℕ) (unit : EraseUnit) → IsLargest s unit
       → planned_unit whole kinds set (first_of unit s) ≡ unit
   unfolding planned_unit
@@ -97,7 +97,7 @@ module _ (whole : Bool) (kinds : Kinds) (set : ℕ → Bool) where
       rw (largest.0, wide, largest.1, same, largest.2)
   planned_unit-first s Sector largest = rw (largest.0, largest.1, largest.2)
 
-  -- a fit unit begins where a larger one does
+  -- a fit block begins at the sector, if the largest fit one may begin there
   pub larger_begins : (s : ℕ) (unit largest : EraseUnit) → is_fit s unit ≡ true → IsLargest s largest
       → is_aligned largest s ≡ true → first_of unit s ≡ s
   larger_begins s Sector _ fit is aligned = refl

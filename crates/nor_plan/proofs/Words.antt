@@ -1,4 +1,4 @@
--- A set of sectors by the bits of its 64 words.
+-- A set of sectors as the bits of its 64 words.
 use Rattle.std.proofs.Common.{ℕ, zero, suc, ◌≡◌, ◌<◌, ◌≤◌, ◌+◌, ◌-◌, ◌*◌, ◌/◌, ◌%◌, ◌^◌, ◌==◌, Bool, false, nat_eq, ◌||◌, List, length, get_or, set, replicate, bit_or, get_or-set_other, refl, sym, ap, ◌∙◌, inl, inr, arith, w64}
 use Rattle.std.specs.Int.{bit_at, trailing_zeros}
 use Rattle.std.proofs.lemmas.Bool.{cases_lt, cases_eq, eq-eqb, ne_eqb}
@@ -9,7 +9,7 @@ use Rattle.std.proofs.lemmas.Nat.Bits.{bit_at-zero, bit_at_above, bit_at-trailin
 use Rattle.nor_plan.specs.declared.set.SectorSet.{SectorSet}
 use Rattle.nor_plan.specs.SectorSet.{has, IsLeastFrom}
 
--- whether a sector is among the bits of the words
+-- true if the sector's bit is set in the words
 abbrev pub bit_of : List ℕ → ℕ → Bool
 bit_of words sector = nat_eq (bit_at (get_or words (sector / 64) 0) (sector % 64)) 1
 
@@ -21,7 +21,7 @@ zeros (suc n) (suc k) = zeros n k
 pub none-set : (sector : ℕ) → bit_of (replicate 64 0) sector ≡ false
 none-set sector = rw (zeros 64 (sector / 64), bit_at-zero)
 
--- the words with one bit more
+-- the words with the sector's bit set
 abbrev pub with_bit : List ℕ → ℕ → List ℕ
 with_bit words sector =
     set words (sector / 64) (bit_or (get_or words (sector / 64) 0) (1 * 2 ^ (sector % 64) % 2 ^ 64))
@@ -48,16 +48,16 @@ bit_of-with_bit words sector there s =
           rw (get_or-set_other words (sector / 64) (s / 64) new 0 row, other)
     ]
 
--- the bits of a word that is shifted
+-- the bits of a shifted word are those of the word from bit `k` on
 bit_at-shifted : (word k i : ℕ) → bit_at (word / 2 ^ k) i ≡ bit_at word (k + i)
 bit_at-shifted word k i =
     ap (λ x. x % 2) (div-div-eq-div-mul word (2 ^ k) (2 ^ i) ∙ ap (λ x. word / x) (sym (pow-add 2 k i)))
 
--- none of the sectors from one up to another is in the set
+-- no sector from `from` up to, but not including, `to` is in the set
 abbrev pub NoneBetween : SectorSet → (from to : ℕ) → Type 0
 NoneBetween set from to = (s : ℕ) → from ≤ s → s < to → has set s ≡ false
 
--- `bits` are what is left of a word of the set, shifted down to the sector `first`
+-- `bits` is word `index` of the set, shifted down so that its lowest bit is the sector `first`
 module _ (set : SectorSet) (from first index k bits : ℕ) (place : first ≡ index * 64 + k)
     (shifted : bits ≡ get_or set.words index 0 / 2 ^ k) where
   has_at : (s : ℕ) → first ≤ s → s < index * 64 + 64 → has set s ≡ (bit_at bits (s - first) == 1)
@@ -67,7 +67,7 @@ module _ (set : SectorSet) (from first index k bits : ℕ) (place : first ≡ in
       let column : s % 64 ≡ k + (s - first) = omega arith in
       rw (row, column, shifted, bit_at-shifted (get_or set.words index 0) k (s - first))
 
-  -- where no bit is left, none of its sectors is in the set either,
+  -- if no bit is left, no remaining sector of the word is in the set
   pub none_in_word : NoneBetween set from first → bits ≡ 0 → NoneBetween set from (index * 64 + 64)
   none_in_word before none s low high =
       elim (cases_lt s first) [
@@ -75,7 +75,7 @@ module _ (set : SectorSet) (from first index k bits : ℕ) (place : first ≡ in
         | inr here ↦ has_at s here high ∙ rw (none, bit_at-zero)
       ]
 
-  -- and else the lowest bit is the least sector
+  -- otherwise the lowest bit is the least sector
   pub least_in_word : NoneBetween set from first → 0 < bits → index < 64 → from ≤ first
       → get_or set.words index 0 < 2 ^ 64
       → IsLeastFrom set from (first + trailing_zeros w64 bits)
@@ -97,7 +97,7 @@ module _ (set : SectorSet) (from first index k bits : ℕ) (place : first ≡ in
         ];
       }
 
--- no sector is behind the last word
+-- no sector from 4,096 on, past the last word, is in the set
 pub none_past : (set : SectorSet) → length set.words ≡ 64 → (s : ℕ) → 4096 ≤ s → has set s ≡ false
 unfolding has
 none_past set long s past = rw (get_or_past set.words (s / 64) 0 (omega arith), bit_at-zero)

@@ -1,10 +1,10 @@
--- What the iterator over erases has left.
+-- The state of the iterator over erases.
 use Rattle.std.specs.Prelude.{List}
 use Rattle.nor_driver.specs.declared.units.Erase.{Erase}
 use Rattle.nor_plan.specs.declared.erase.iter.Erases.{Erases}
 use Rattle.nor_plan.specs.SectorSet.{has}
 use Rattle.nor_plan.specs.Planned.{planned_from}
 
--- the erases of the sectors that are left
+-- the erases that the iterator has not yielded yet
 unfoldable pub erases_left : Erases → List Erase
 erases_left e = planned_from e.whole e.kinds (has e.set) e.from

@@ -1,15 +1,15 @@
--- Vectors of 32 lanes, and their masks.
+-- Vectors of 32 lanes of one byte, and masks with one bit per lane.
 use Rattle.std.specs.Prelude.{ℕ, ◌≡◌, ◌≢◌, ◌<◌, ◌^◌, ◌+◌, List, length, slice_index, Bool, if◌then◌else◌}
 use Rattle.std.specs.Int.{bit_at}
 use Rattle.nor_plan.specs.Bytes.{AgreeWithin, SomeDiffer}
 
--- bit i of the mask is set exactly where lane i passes the test, and no other bit is set
+-- bit i of the mask is set if and only if lane i passes the test; no bit above 31 is set
 pub record IsMask (mask : ℕ) (test : ℕ → Bool) : Type 0 where
   pub lanes : mask < 2 ^ 32
   pub bits : (i : ℕ) → i < 32 → bit_at mask i ≡ (if test i then 1 else 0)
 
--- a vector that is 0 in each lane only where none of these bytes differs, `count` of them from a place on; a lane
--- that isn't 0 tells of a byte that differs
+-- A vector of 32 lanes that shows differences. If all lanes are 0, none of the `count` bytes from position `at` on
+-- differs. If some lane isn't 0, some byte of the slices differs, not necessarily one of these.
 pub record TellsChanges (a b : List ℕ) (at count : ℕ) (lanes : List ℕ) : Type 0 where
   pub long : length lanes ≡ 32
   pub none : ((i : ℕ) → i < 32 → slice_index lanes i ≡ 0) → AgreeWithin a b at (at + count)

@@ -1,20 +1,20 @@
--- What it takes to make wanted bytes of others, told of the bytes at each place, wherever they stand.
+-- What is needed to turn bytes into the target bytes, stated for functions from positions to bytes.
 use Rattle.std.specs.Prelude.{ℕ, ◌≡◌, ◌≢◌, ◌<◌, true, MatchBool, EachIndex, List, slice_index}
 use Rattle.nor_plan.specs.declared.plan.SectorPlan.{SectorPlan}
 use Rattle.nor_plan.specs.Bytes.{IsWithinBits}
 
--- the bytes of a slice are those that a function gives, as that of a chip's or an image's addresses
+-- the slice has the bytes that the function gives, for example a chip's or an image's bytes by address
 abbrev pub AreBytesOf : (ℕ → ℕ) → List ℕ → Type 0
 AreBytesOf content bytes = EachIndex bytes (λ i. slice_index bytes i ≡ content i)
 
--- what `count` bytes need to become the wanted ones
+-- what the first `count` bytes of `content` need to become those of `wanted`
 pub record IsPlan (content wanted : ℕ → ℕ) (count : ℕ) (plan : SectorPlan) : Type 0 where
-  -- some byte differs, or none does
+  -- `touched`: some byte differs; if it is false, none does
   pub touched : MatchBool plan.touched ((i : ℕ) × (i < count) × (content i ≢ wanted i))
       ((i : ℕ) → i < count → content i ≡ wanted i)
-  -- some bit has to go from 0 to 1, or programming alone will do
+  -- `raised`: some bit must go from 0 to 1; if it is false, programs without an erase suffice
   pub raised : MatchBool plan.raised
       ((i : ℕ) × (i < count) × ¬ IsWithinBits (wanted i) (content i))
       ((i : ℕ) → i < count → IsWithinBits (wanted i) (content i))
-  -- what has to be erased has to be written
+  -- a sector that must be erased must also be written
   pub needed : plan.raised ≡ true → plan.touched ≡ true

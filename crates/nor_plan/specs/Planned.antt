@@ -1,4 +1,4 @@
--- The erases that are planned for a set of sectors.
+-- The erases planned for a set of sectors.
 use Rattle.std.specs.Prelude.{ℕ, ◌≡◌, ◌≤◌, ◌-◌, ◌%◌, Bool, ◌&&◌, if◌then◌else◌, List, length, map, filter, Option, MatchOption, [], ◌∷◌}
 use Rattle.std.specs.List.{list_all, range_with_len}
 use Rattle.nor_chip.specs.declared.config.Kinds.{Kinds}
@@ -8,16 +8,16 @@ use Rattle.nor_driver.specs.declared.units.EraseUnit.TheVariants.{Sector, Block3
 use Rattle.nor_driver.specs.Units.{is_aligned}
 use Rattle.nor_plan.specs.Erase.{Covers}
 
--- the sectors from one on are all in the set
+-- the `count` sectors from `from` on are all in the set
 unfoldable pub holds_run : (ℕ → Bool) → (from count : ℕ) → Bool
 holds_run set from count = list_all set (range_with_len from count)
 
--- so is the aligned block of this many sectors that holds a sector
+-- the aligned block of `count` sectors that holds this sector lies in the set
 abbrev pub holds_block : (ℕ → Bool) → (count sector : ℕ) → Bool
 holds_block set count sector = holds_run set (sector - sector % count) count
 
--- the unit by which a sector of the set is erased: the chip, where the whole chip is in the set; else the
--- largest block that the chip has and that lies in the set
+-- the erase block by which a sector of the set is erased: the chip if `whole` is set; else the largest block that the
+-- chip has, that holds the sector and that lies in the set
 unfoldable pub planned_unit : Bool → Kinds → (ℕ → Bool) → ℕ → EraseUnit
 planned_unit whole kinds set sector =
     if whole then Chip
@@ -25,34 +25,36 @@ planned_unit whole kinds set sector =
     else if kinds.k32 && holds_block set 8 sector then Block32
     else Sector
 
--- a sector of the set at which its unit begins
+-- the sector is in the set, and its erase block begins at it
 abbrev pub begins_unit : Bool → Kinds → (ℕ → Bool) → ℕ → Bool
 begins_unit whole kinds set sector = set sector && is_aligned (planned_unit whole kinds set sector) sector
 
--- the erase of the unit that begins at a sector
+-- the erase of the block that begins at this sector
 abbrev pub erase_at : Bool → Kinds → (ℕ → Bool) → ℕ → Erase
 erase_at whole kinds set sector = record { unit = planned_unit whole kinds set sector; sector = sector }
 
--- the erases from a sector on: one for each unit, rising
+-- the erases of the blocks that begin at sector `from` or above, in ascending order
 unfoldable pub planned_from : Bool → Kinds → (ℕ → Bool) → ℕ → List Erase
 planned_from whole kinds set from =
     map (erase_at whole kinds set) (filter (begins_unit whole kinds set) (range_with_len from (4096 - from)))
 
--- the first of these erases, with the sector from which the others are, where there is one
+-- `head` is the first of the planned erases from `from` on, with the sector from which the others are; `None` if there
+-- are none
 abbrev pub HeadsPlanned : Bool → Kinds → (ℕ → Bool) → ℕ → Option (Erase × ℕ) → Type 0
 HeadsPlanned whole kinds set from head =
     MatchOption head (planned_from whole kinds set from ≡ [])
     (λ h. planned_from whole kinds set from ≡ h.0 ∷ planned_from whole kinds set h.1)
 
--- the erases of a set on a chip of this many sectors
+-- the erases planned for a set, on a chip with `total` sectors
 abbrev pub planned : Kinds → ℕ → (ℕ → Bool) → List Erase
 planned kinds total set = planned_from (holds_run set 0 total) kinds set 0
 
--- the length of a shortest list of erases that covers a set
+-- the number of planned erases; `fewest_is_least` proves that it is the least number of erases that cover the set, if
+-- the set lies on a chip of at most 4,096 sectors
 abbrev pub fewest_erases : Kinds → ℕ → (ℕ → Bool) → ℕ
 fewest_erases kinds total set = length (planned kinds total set)
 
--- So many erases are the least that cover the set: some list that does is as long, and none is shorter.
+-- `count` is the least number of erases that cover the set: some list of this length covers it, and none is shorter.
 pub record IsLeastLength (kinds : Kinds) (total : ℕ) (set : ℕ → Bool) (count : ℕ) : Type 0 where
   pub some : List Erase
   pub covers : Covers kinds total some set

@@ -1,10 +1,10 @@
--- A set of sectors, seen as a test of sector numbers.
+-- A set of sectors, as a test of sector numbers.
 use Rattle.std.specs.Prelude.{ℕ, ◌≡◌, ◌==◌, ◌<◌, ◌≤◌, ◌-◌, ◌/◌, ◌%◌, Bool, true, false, List, length, slice_index, filter, ◌||◌}
 use Rattle.std.specs.Int.{bit_at}
 use Rattle.std.specs.List.{range_with_len}
 use Rattle.nor_plan.specs.declared.set.SectorSet.{SectorSet}
 
--- whether a sector is in the set
+-- true if the sector is in the set
 unfoldable pub has : SectorSet → ℕ → Bool
 has set sector = bit_at (slice_index set.words (sector / 64)) (sector % 64) == 1
 
@@ -16,37 +16,37 @@ IsEmpty set = (sector : ℕ) → has set sector ≡ false
 abbrev pub HasSome : SectorSet → Type 0
 HasSome set = (sector : ℕ) × (has set sector ≡ true)
 
--- each sector of the set is below this number
+-- each sector of the set is below `end`
 abbrev pub LiesBelow : SectorSet → ℕ → Type 0
 LiesBelow set end = (sector : ℕ) → has set sector ≡ true → sector < end
 
--- the new set has this sector too, and else what the old one has
+-- the new set has the sectors of the old one, and this sector
 abbrev pub Inserts : (old new : SectorSet) → ℕ → Type 0
 Inserts old new sector = (s : ℕ) → has new s ≡ ((s == sector) || has old s)
 
--- the sectors of the set from a number on, rising
+-- the sectors of the set from `from` on, in ascending order
 unfoldable pub members_from : SectorSet → ℕ → List ℕ
 members_from set from = filter (has set) (range_with_len from (4096 - from))
 
--- the sectors of the set, rising
+-- the sectors of the set, in ascending order
 abbrev pub members : SectorSet → List ℕ
 members set = members_from set 0
 
--- how many sectors are in the set
+-- the number of sectors in the set
 abbrev pub member_count : SectorSet → ℕ
 member_count set = length (members set)
 
--- no sector of the set is this one or above it
+-- no sector of the set is `from` or above
 abbrev pub NoneFrom : SectorSet → ℕ → Type 0
 NoneFrom set from = (s : ℕ) → from ≤ s → has set s ≡ false
 
--- the least sector of the set that is not below a number
+-- the least sector of the set that is `from` or above
 pub record IsLeastFrom (set : SectorSet) (from sector : ℕ) : Type 0 where
   pub after : from ≤ sector
   pub below : sector < 4096
   pub member : has set sector ≡ true
   pub before : (s : ℕ) → from ≤ s → s < sector → has set s ≡ false
 
--- no sector
+-- the empty set as a test: no sector passes
 abbrev pub none : ℕ → Bool
 none s = false

@@ -1,45 +1,46 @@
--- The spans of a sector: what has to be programmed, page by page. A page is 256 bytes.
+-- The spans of a sector: the bytes that must be programmed, page by page. A page is 256 bytes.
 use Rattle.std.specs.Prelude.{ℕ, ◌≡◌, ◌==◌, ◌-◌, ◌*◌, min, not, Bool, List, [], ◌∷◌, Option, Some, None, MatchOption, length, filter, count_by, slice_index}
 use Rattle.std.specs.List.{filter_map, list_any, range_with_len}
 use Rattle.std.specs.Int.{div_ceil}
 use Rattle.nor_plan.specs.declared.page.PageSpan.{PageSpan}
 
--- the places at which the bytes differ, of the `count` places from `from` on
+-- the positions at which the bytes differ, among the `count` positions from `from` on
 abbrev pub differences : (old target : List ℕ) → (from count : ℕ) → List ℕ
 differences old target from count =
     filter (λ k. not (slice_index old k == slice_index target k)) (range_with_len from count)
 
--- the last of some places
+-- the last position of the list `k ∷ js`
 abbrev pub last_of : ℕ → List ℕ → ℕ
 last_of k [] = k
 last_of k (j ∷ js) = last_of j js
 
--- the first and the last of some places
+-- the first and the last position of a list, or `None` if it is empty
 abbrev pub ends : List ℕ → Option PageSpan
 ends [] = None
 ends (k ∷ ks) = Some (record { first = k; last = last_of k ks })
 
--- the span of a page, which is its first and its last difference; the last page may be a short one
+-- the span of a page: its first and its last differing byte; the last page may be shorter than 256 bytes
 abbrev pub page_span : (old target : List ℕ) → ℕ → Option PageSpan
 page_span old target page = ends (differences old target (page * 256) (min 256 (length old - page * 256)))
 
--- the spans of some pages
+-- the spans of `count` pages from `page` on
 abbrev pub spans_in : (old target : List ℕ) → (page count : ℕ) → List PageSpan
 spans_in old target page count = filter_map (page_span old target) (range_with_len page count)
 
--- how many pages the slice has
+-- the number of pages of the slice
 abbrev pub page_count : List ℕ → ℕ
 page_count old = div_ceil (length old) 256
 
--- the spans of the pages from this one on
+-- the spans of the pages from `page` on
 abbrev pub spans_from : (old target : List ℕ) → ℕ → List PageSpan
 spans_from old target page = spans_in old target page (page_count old - page)
 
--- the spans of all pages, in rising order
+-- the spans of all pages, in ascending order
 abbrev pub spans_of : (old target : List ℕ) → List PageSpan
 spans_of old target = spans_from old target 0
 
--- the first of these spans, with the page from which the others are, where there is one
+-- `head` is the first span of the pages from `page` on, with the page from which the others are; `None` if there are
+-- none
 abbrev pub HeadsSpans : (old target : List ℕ) → ℕ → Option (PageSpan × ℕ) → Type 0
 HeadsSpans old target page head =
     MatchOption head (spans_from old target page ≡ [])
@@ -51,6 +52,6 @@ page_differs old target page =
     list_any (λ k. not (slice_index old k == slice_index target k))
     (range_with_len (page * 256) (min 256 (length old - page * 256)))
 
--- how many pages have a byte that differs
+-- the number of pages with a differing byte
 abbrev pub pages_changed : (old target : List ℕ) → ℕ
 pages_changed old target = count_by (page_differs old target) (range_with_len 0 (page_count old))

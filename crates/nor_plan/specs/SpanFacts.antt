@@ -1,4 +1,4 @@
--- What spans are good for: all differences lie in them, and each is the first and the last difference of one
+-- Properties of spans: they hold all differences, and each one reaches from the first to the last difference of one
 -- page. A page is 256 bytes.
 use Rattle.std.specs.Prelude.{ℕ, ◌≡◌, ◌<◌, ◌≤◌, ◌/◌, Bool, false, ◌&&◌, nat_le, List, length, slice_index, All, Any, AllPairs}
 use Rattle.std.specs.List.{list_any}
@@ -6,7 +6,7 @@ use Rattle.nor_plan.specs.declared.page.PageSpan.{PageSpan}
 use Rattle.nor_plan.specs.Bytes.{DifferAt}
 use Rattle.nor_plan.specs.Span.{pages_changed}
 
--- the first and the last difference of a page
+-- the span reaches from the first to the last difference of one page
 pub record IsSpan (old target : List ℕ) (span : PageSpan) : Type 0 where
   pub one_page : span.first / 256 ≡ span.last / 256
   pub order : span.first ≤ span.last
@@ -14,19 +14,19 @@ pub record IsSpan (old target : List ℕ) (span : PageSpan) : Type 0 where
   pub last : DifferAt old target span.last
   pub outside : (k : ℕ) → k / 256 ≡ span.first / 256 → DifferAt old target k → (span.first ≤ k) × (k ≤ span.last)
 
--- both ends belong to a span
+-- the position is in the span, which includes both its ends
 abbrev pub is_within_span : ℕ → PageSpan → Bool
 is_within_span k span = nat_le span.first k && nat_le k span.last
 
--- the place belongs to one of the spans
+-- the position is in one of the spans
 abbrev pub spanned_by : List PageSpan → ℕ → Bool
 spanned_by spans k = list_any (is_within_span k) spans
 
--- a span for each page with a difference, and no other, in rising order
+-- the spans of all pages with a difference, one per page, in ascending order
 pub record AreSpans (old target : List ℕ) (spans : List PageSpan) : Type 0 where
   pub each : All (IsSpan old target) spans
   pub complete : (k : ℕ) → DifferAt old target k → Any (λ span. (span.first ≤ k) × (k ≤ span.last)) spans
   pub rising : AllPairs (λ span later. span.last / 256 < later.first / 256) spans
-  -- so outside of them each byte is the wanted one
+  -- outside the spans each byte already equals the target
   pub others : (k : ℕ) → k < length old → spanned_by spans k ≡ false → slice_index old k ≡ slice_index target k
   pub count : length spans ≡ pages_changed old target

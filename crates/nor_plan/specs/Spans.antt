@@ -1,9 +1,9 @@
--- What the iterator over spans has left.
+-- The state of the iterator over spans.
 use Rattle.std.specs.Prelude.{List}
 use Rattle.nor_plan.specs.declared.page.PageSpan.{PageSpan}
 use Rattle.nor_plan.specs.declared.page.iter.Spans.{Spans}
 use Rattle.nor_plan.specs.Span.{spans_from}
 
--- the spans of the pages that are left
+-- the spans that the iterator has not yielded yet
 unfoldable pub spans_left : Spans → List PageSpan
 spans_left s = spans_from s.old.now s.target.now s.page

@@ -19,10 +19,15 @@ mod iter;
 
 pub use iter::Erases;
 
-/// The fewest erases that set just the sectors of `set` to FFh, on a chip of `size` bytes that has these
-/// kinds: the whole chip, where all its sectors are in the set; else in rising order D8h for each aligned
-/// 64 KiB all of whose sectors are in the set, 52h for each aligned 32 KiB outside these, and 20h for each
-/// other sector. The set lies below the chip's end.
+/// Returns the fewest erases that set exactly the sectors of `set` to FFh, on a chip of `size` bytes with these erase
+/// types. If all sectors of the chip are in the set, this is one erase of the chip (C7h).
+///
+/// Otherwise the erases are in ascending order of their sectors. D8h erases each aligned 64 KiB block with all its
+/// sectors in the set, if the chip has this erase type. Outside these, 52h erases each aligned 32 KiB block with all
+/// its sectors in the set, if the chip has it. 20h erases each other sector.
+///
+/// Requires that all sectors of `set` are on the chip. No list of erases that sets exactly these sectors to FFh is
+/// shorter.
 pub fn erases(set: &SectorSet, kinds: Kinds, size: u32) -> Erases
     requires { LiesBelow set.now (size / 4096) }
     ensures covers { Covers kinds (size / 4096) (erases_left result) (has set.now) }
@@ -37,7 +42,8 @@ pub fn erases(set: &SectorSet, kinds: Kinds, size: u32) -> Erases
     Erases::new(*set, kinds, whole)
 }
 
-/// The number of the fewest erases is the least length of a list that sets just these sectors to FFh.
+/// States that `fewest_erases` is the least length of a list of erases that sets exactly the sectors of a set to FFh.
+/// The set must lie on the chip, which has at most 4,096 sectors.
 #[tactic(auto, using(crate::proofs::Fewest::fewest_least))]
 pub fn fewest_is_least()
     ensures { (kinds : Kinds) (total : ℕ) (set : ℕ → Bool) → total ≤ 4096
@@ -45,7 +51,7 @@ pub fn fewest_is_least()
         → IsLeastLength kinds total set (fewest_erases kinds total set) }
 {}
 
-/// The first erase from a sector on, and the sector from which to go on.
+/// Returns the first planned erase at or after the sector `from`, and the sector from which to go on.
 fn next_erase(set: &SectorSet, kinds: Kinds, whole: bool, from: u32) -> Option<(Erase, u32)>
     ensures { HeadsPlanned whole kinds (has set.now) from result }
 {
@@ -64,7 +70,8 @@ fn next_erase(set: &SectorSet, kinds: Kinds, whole: bool, from: u32) -> Option<(
     None
 }
 
-/// The unit by which a sector of the set is erased.
+/// Returns the erase block by which `sector` is erased, if it is in the set: the chip if `whole` is set, else the
+/// largest block of the chip that holds the sector and lies in the set.
 #[tactic(auto, unfolding(crate::specs::Planned::planned_unit))]
 fn unit_of(set: &SectorSet, kinds: Kinds, whole: bool, sector: u32) -> EraseUnit
     requires { sector < 4096 }
@@ -81,7 +88,7 @@ fn unit_of(set: &SectorSet, kinds: Kinds, whole: bool, sector: u32) -> EraseUnit
     }
 }
 
-/// Whether the aligned block of so many sectors that holds a sector is in the set.
+/// Returns whether the aligned block of `count` sectors that holds `sector` lies in the set.
 fn is_block(set: &SectorSet, count: u32, sector: u32) -> bool
     requires some { 0 < count }
     requires few { count ≤ 16 }
@@ -91,7 +98,7 @@ fn is_block(set: &SectorSet, count: u32, sector: u32) -> bool
     is_run(set, sector - sector % count, count)
 }
 
-/// Whether the sectors from one on are all in the set.
+/// Returns whether all of the `count` sectors from `from` on are in the set.
 #[tactic(auto, unfolding(crate::specs::Planned::holds_run))]
 fn is_run(set: &SectorSet, from: u32, count: u32) -> bool
     requires { from + count < 2 ^ 32 }

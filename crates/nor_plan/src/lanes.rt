@@ -1,4 +1,4 @@
-//! Comparisons of two slices of one length, over lanes of 32 bytes and byte by byte for the rest.
+//! Comparisons of two slices of equal length: 32 bytes at a time, and the rest byte by byte.
 
 ghost use Rattle.std.specs.Prelude.{◌≡◌, ◌==◌, ◌+◌, ◌*◌, ◌/◌, ◌≤◌, not, bit_and, length, slice_index};
 ghost use Rattle.std.specs.Prelude.{MatchBool, MatchOption, IfNone, IfSome};
@@ -7,13 +7,13 @@ ghost use Rattle.nor_plan.specs.Bytes.{AllAgree, AgreeWithin, SomeDiffer, NoneRi
 
 use std::simd::prelude::*;
 
-/// How many bytes are compared at a time.
+/// The number of bytes that one vector comparison covers.
 const LANES: usize = 32;
 
-/// How many bytes are passed a turn.
+/// The number of bytes whose differences `changes_256` combines.
 const BLOCK: usize = 8 * LANES;
 
-/// Whether some byte differs.
+/// Returns whether some byte differs. Requires slices of equal length.
 pub fn differs(a: &[u8], b: &[u8]) -> bool
     requires { length a.now ≡ length b.now }
     ensures { MatchBool result (SomeDiffer a.now b.now) (AllAgree a.now b.now) }
@@ -21,8 +21,8 @@ pub fn differs(a: &[u8], b: &[u8]) -> bool
     blocks_differ(a, b) || first_from(a, b, a.len() / BLOCK * BLOCK).is_some()
 }
 
-/// Whether some byte of the whole blocks differs. All of them are passed before the one test, which takes less
-/// time than a test of each.
+/// Returns whether some byte of the whole 256-byte blocks differs. All blocks are compared before the one test, which
+/// takes less time than a test per block.
 fn blocks_differ(a: &[u8], b: &[u8]) -> bool
     requires { length a.now ≡ length b.now }
     ensures { MatchBool result (SomeDiffer a.now b.now) (AgreeWithin a.now b.now 0 (length a.now / 256 * 256)) }
@@ -34,7 +34,8 @@ fn blocks_differ(a: &[u8], b: &[u8]) -> bool
     changes.reduce_or() != 0
 }
 
-/// The places of the first and the last byte that differ.
+/// Returns the positions of the first and the last byte that differ, or `None` if no byte differs. Requires slices of
+/// equal length.
 pub fn bounds(old: &[u8], target: &[u8]) -> Option<(usize, usize)>
     requires { length old.now ≡ length target.now }
     ensures none { IfNone result (AllAgree old.now target.now) }
@@ -46,7 +47,7 @@ pub fn bounds(old: &[u8], target: &[u8]) -> Option<(usize, usize)>
     Some((first, last))
 }
 
-/// The place of the first byte that differs.
+/// Returns the position of the first byte that differs, or `None` if no byte differs.
 fn first_difference(a: &[u8], b: &[u8]) -> Option<usize>
     requires { length a.now ≡ length b.now }
     ensures { MatchOption result (AllAgree a.now b.now) (IsFirstDifference a.now b.now) }
@@ -54,7 +55,8 @@ fn first_difference(a: &[u8], b: &[u8]) -> Option<usize>
     first_from(a, b, agreeing(a, b))
 }
 
-/// The place of the first byte that differs, which isn't before `from`.
+/// Returns the position of the first byte that differs, or `None` if no byte differs. Requires that no byte before
+/// `from` differs.
 fn first_from(a: &[u8], b: &[u8], from: usize) -> Option<usize>
     requires same_length { length a.now ≡ length b.now }
     requires within { from ≤ length a.now }
@@ -76,8 +78,8 @@ fn first_from(a: &[u8], b: &[u8], from: usize) -> Option<usize>
     None
 }
 
-/// A place before which no byte differs: that of the first block with a difference, or of the last part of
-/// a block.
+/// Returns a position before which no byte differs: the start of the first 256-byte block with a difference, or the end
+/// of the whole blocks.
 fn agreeing(a: &[u8], b: &[u8]) -> usize
     requires { length a.now ≡ length b.now }
     ensures within { result ≤ length a.now }
@@ -91,7 +93,7 @@ fn agreeing(a: &[u8], b: &[u8]) -> usize
     a.len() / BLOCK * BLOCK
 }
 
-/// The place of the last byte that differs.
+/// Returns the position of the last byte that differs, or `None` if no byte differs.
 fn last_difference(a: &[u8], b: &[u8]) -> Option<usize>
     requires { length a.now ≡ length b.now }
     ensures { MatchOption result (AllAgree a.now b.now) (IsLastDifference a.now b.now) }
@@ -111,7 +113,8 @@ fn last_difference(a: &[u8], b: &[u8]) -> Option<usize>
     None
 }
 
-/// Whether some bit is 1 in `target` and 0 in `old`, which only an erase can bring about.
+/// Returns whether some bit is 1 in `target` and 0 in `old`. Only an erase can set such a bit. Requires slices of equal
+/// length.
 pub fn raises(old: &[u8], target: &[u8]) -> bool
     requires { length old.now ≡ length target.now }
     ensures { MatchBool result (SomeRise old.now target.now) (NoneRises old.now target.now) }
@@ -129,7 +132,8 @@ pub fn raises(old: &[u8], target: &[u8]) -> bool
     false
 }
 
-/// The changes of 256 bytes, put together.
+/// Returns the differences of the 256 bytes from `at` on, combined into 32 lanes: a lane is 0 if and only if its eight
+/// bytes are equal in both slices.
 #[inline(always)]
 fn changes_256(a: &[u8], b: &[u8], at: usize) -> u8x32
     requires a_within { at + 256 ≤ length a.now }
@@ -143,7 +147,7 @@ fn changes_256(a: &[u8], b: &[u8], at: usize) -> u8x32
     changes
 }
 
-/// The bits that differ of the 32 bytes from `at` on.
+/// Returns the bits that differ in each of the 32 bytes from `at` on.
 #[inline(always)]
 fn changes_32(a: &[u8], b: &[u8], at: usize) -> u8x32
     requires a_within { at + 32 ≤ length a.now }
@@ -153,7 +157,7 @@ fn changes_32(a: &[u8], b: &[u8], at: usize) -> u8x32
     u8x32::from_slice(&a[at..]) ^ u8x32::from_slice(&b[at..])
 }
 
-/// A bit for each of the 32 bytes from `at` on, set where they differ.
+/// Returns a mask with one bit per byte for the 32 bytes from `at` on, set if the byte differs.
 #[inline(always)]
 fn differing(a: &[u8], b: &[u8], at: usize) -> u64
     requires a_within { at + 32 ≤ length a.now }
@@ -165,7 +169,7 @@ fn differing(a: &[u8], b: &[u8], at: usize) -> u64
         .to_bitmask()
 }
 
-/// A bit for each of the 32 bytes from `at` on, set where one of their bits rises.
+/// Returns a mask with one bit per byte for the 32 bytes from `at` on, set if a bit is 1 in `target` and 0 in `old`.
 #[inline(always)]
 fn rising(old: &[u8], target: &[u8], at: usize) -> u64
     requires old_within { at + 32 ≤ length old.now }

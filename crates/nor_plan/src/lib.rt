@@ -1,5 +1,13 @@
-//! What a sector needs to become what is wanted: whether it has to be erased, the fewest erases, and the
-//! spans of its pages that have to be programmed. Nothing here takes memory.
+//! Plans how to change sectors: whether a sector must be erased, the fewest erases, and the spans of its pages that
+//! must be programmed. The crate sends nothing and allocates no memory.
+//!
+//! - `set.rt`: sets of sectors
+//! - `plan.rt`: whether a sector must be written, and whether it must be erased first
+//! - `lanes.rt`: comparisons of byte slices, 32 bytes at a time
+//! - `page.rt`: the spans to program, at most one per page
+//! - `page/iter.rt`: the iterator over spans
+//! - `erase.rt`: the fewest erases for a set of sectors
+//! - `erase/iter.rt`: the iterator over erases
 //!
 //! ```rust
 //! use nor_plan::{PageSpan, raises, spans};
@@ -13,7 +21,8 @@
 //! assert_eq!(rt; list.next(), None);
 //! ```
 //!
-//! What a plan is stands in `specs/Plan.antt`, which spans there are in `Span`, and which erases in `Planned`.
+//! `specs/Plan.antt` defines the plan of a sector, `specs/Span.antt` its spans, and `specs/Planned.antt` the planned
+//! erases. `specs/Content.antt` defines touched and raised sectors.
 #![tactic(auto)]
 
 pub mod erase;

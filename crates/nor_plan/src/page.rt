@@ -1,4 +1,5 @@
-//! The spans of a sector's pages: a page program sends one span, from its first differing byte to its last.
+//! The spans of a sector's pages. One page program writes one span: from the first to the last differing byte of a
+//! page.
 
 ghost use Rattle.std.specs.Prelude.{◌≡◌, ◌*◌, ◌<◌, length};
 ghost use Rattle.nor_plan.specs.Span.{page_span, spans_of, HeadsSpans};
@@ -11,18 +12,18 @@ mod iter;
 
 pub use iter::Spans;
 
-/// The bytes of a page, which one program can change.
+/// The number of bytes of a page. One program command writes within one page.
 const PAGE: usize = 256;
 
-/// A run of bytes within one page, by the places of its first and its last byte.
+/// A range of bytes within one page, given by the positions of its first and its last byte in the slice.
 #[derive(Clone, Copy, Debug, PartialEq, Eq)]
 pub struct PageSpan {
     pub first: usize,
     pub last: usize,
 }
 
-/// The spans of two slices of one length: for each page with a byte that differs, and no other, the places
-/// of its first and its last one, in rising order.
+/// Returns the spans of two slices of equal length, in ascending order. Each page with a differing byte has one span,
+/// from its first to its last differing byte; other pages have none.
 pub fn spans<'a>(old: &'a [u8], target: &'a [u8]) -> Spans<'a>
     requires { length old.now ≡ length target.now }
     ensures pages { spans_left result ≡ spans_of old.now target.now }
@@ -31,7 +32,7 @@ pub fn spans<'a>(old: &'a [u8], target: &'a [u8]) -> Spans<'a>
     Spans::new(old, target)
 }
 
-/// The first span from a page on, and the page after it.
+/// Returns the first span of the page `page` or a later one, and the number of the page after it.
 #[tactic(auto, using(crate::proofs::PageSpans::page_steps))]
 fn next_span(old: &[u8], target: &[u8], page: usize) -> Option<(PageSpan, usize)>
     requires { length old.now ≡ length target.now }
@@ -45,7 +46,8 @@ fn next_span(old: &[u8], target: &[u8], page: usize) -> Option<(PageSpan, usize)
     None
 }
 
-/// The span of a page.
+/// Returns the span of the page `page`, or `None` if no byte of it differs. The last page may be shorter than 256
+/// bytes.
 fn span_of(old: &[u8], target: &[u8], page: usize) -> Option<PageSpan>
     requires same_length { length old.now ≡ length target.now }
     requires there { page * 256 < length old.now }

@@ -1,4 +1,4 @@
-//! Sets of sectors in a fixed array, copied as cheaply as two pages.
+//! Sets of sectors in a fixed array of 512 bytes, which is cheap to copy.
 
 use nor_chip::MOST_SECTORS;
 
@@ -14,14 +14,14 @@ impl SectorSet {
     ghost use Rattle.nor_count.specs.Counts.{IsCount};
     ghost use Rattle.nor_plan.specs.Sectors.{sectors_left};
 
-    /// The empty set.
+    /// Returns the empty set.
     pub fn new() -> Self
         ensures { IsEmpty result }
     {
         SectorSet { words: [0; 64] }
     }
 
-    /// Puts a sector into the set.
+    /// Inserts `sector`, which must be below 4,096.
     pub fn insert(&mut self, sector: u32)
         requires { sector < 4096 }
         ensures { Inserts self.old self.new sector }
@@ -29,7 +29,7 @@ impl SectorSet {
         self.words[sector as usize / 64] |= 1 << (sector % 64);
     }
 
-    /// Whether a sector is in the set.
+    /// Returns whether `sector` is in the set. It is false from 4,096 on.
     #[tactic(auto, unfolding(crate::specs::SectorSet::has))]
     pub fn contains(&self, sector: u32) -> bool
         ensures { result ≡ has self.now sector }
@@ -40,14 +40,14 @@ impl SectorSet {
         }
     }
 
-    /// Whether no sector is in the set.
+    /// Returns whether the set is empty.
     pub fn is_empty(&self) -> bool
         ensures { MatchBool result (IsEmpty self.now) (HasSome self.now) }
     {
         self.least_from(0).is_none()
     }
 
-    /// How many sectors are in the set.
+    /// Returns the number of sectors in the set.
     pub fn len(&self) -> usize
         ensures count { result ≡ member_count self.now }
         ensures below { (count : ℕ → ℕ) (end : ℕ) → IsCount (has self.now) count
@@ -56,7 +56,7 @@ impl SectorSet {
         self.iter().count()
     }
 
-    /// The sectors of the set in rising order.
+    /// Returns an iterator over the sectors of the set, in ascending order.
     #[tactic(auto, unfolding(crate::specs::Sectors::sectors_left))]
     pub fn iter(&self) -> Sectors<'_>
         ensures { sectors_left result ≡ members self.now }
@@ -64,7 +64,7 @@ impl SectorSet {
         Sectors { set: self, from: 0 }
     }
 
-    /// The least sector of the set that is not below a number.
+    /// Returns the least sector of the set that is `from` or above, or `None` if there is none.
     pub fn least_from(&self, from: u32) -> Option<u32>
         ensures { MatchOption result (NoneFrom self.now from) (IsLeastFrom self.now from) }
     {
@@ -86,7 +86,7 @@ impl SectorSet {
     }
 }
 
-/// An iterator over the sectors of a set, in rising order.
+/// An iterator over the sectors of a set, in ascending order.
 #[derive(Drop)]
 pub struct Sectors<'a> {
     set: &'a SectorSet,

@@ -1,4 +1,4 @@
-//! The iterator over erases.
+//! The iterator over planned erases.
 
 ghost use Rattle.std.specs.Prelude.{◌≡◌};
 ghost use Rattle.std.specs.Iterator.{YieldsFirst, item_count};
@@ -11,7 +11,7 @@ use crate::set::SectorSet;
 use nor_driver::Erase;
 use nor_probe::Kinds;
 
-/// The erases of a set that are left, in rising order.
+/// An iterator over the planned erases of a set, in ascending order.
 #[derive(Drop)]
 pub struct Erases {
     set: SectorSet,
@@ -21,6 +21,7 @@ pub struct Erases {
 }
 
 impl Erases {
+    // Creates the iterator. `whole` is set if all sectors of the chip are in the set.
     #[tactic(auto, unfolding(crate::specs::Erases::erases_left))]
     pub(super) fn new(set: SectorSet, kinds: Kinds, whole: bool) -> Self
         ensures { erases_left result ≡ planned_from whole kinds (has set) 0 }

@@ -5,7 +5,7 @@ ghost use Rattle.std.specs.Iterator.{YieldsFirst, item_count};
 
 use super::{PageSpan, next_span};
 
-/// The spans of the pages that are left, in rising order.
+/// An iterator over the spans of two slices, in ascending order.
 #[derive(Drop)]
 pub struct Spans<'a> {
     old: &'a [u8],
