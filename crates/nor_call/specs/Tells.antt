@@ -1,4 +1,4 @@
--- What a refusal tells of the bus, where nothing was changed yet.
+-- The meaning of errors that occur before anything is modified.
 use Rattle.std.specs.Prelude.{◌≡◌, ℕ, true, Option}
 use Rattle.nor_chip.specs.Bus.{BusState}
 use Rattle.nor_driver.specs.Looks.{RanOutIfHonest}
@@ -8,8 +8,9 @@ use Rattle.nor_probe.specs.Found.{Tells}
 use Rattle.nor_call.specs.declared.refusal.Refusal.{Refusal}
 use Rattle.nor_call.specs.declared.refusal.Refusal.TheVariants.{NoChip, UnknownChip, OtherName, Stopped, Timeout}
 
--- What a refusal tells of a probe and the readings behind it, which send at most so many transactions: a chip's is the
--- probe's own, a stop comes where fewer were left, and a timeout, at 0, where the bus isn't honest.
+-- The meaning of an error from a probe or the reads that follow it, together at most `most` transactions. `NoChip`,
+-- `UnknownChip` and `OtherName` mean the same as the probe's faults. On a well-behaved bus (`honest`) a stop occurs
+-- only with fewer than `most` transactions left, and a timeout doesn't occur. The address of a timeout is 0.
 abbrev pub OpeningTells : (most : ℕ) → Option ChipName → (old new : BusState) → Refusal → Type 0
 OpeningTells most named old new NoChip = old.honest ≡ true → Tells named old new Probes.NoChip
 OpeningTells most named old new (UnknownChip fault) = old.honest ≡ true → Tells named old new (Probes.UnknownChip fault)

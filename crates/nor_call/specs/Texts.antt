@@ -1,4 +1,4 @@
--- The texts of refusals, as messages show them behind the number.
+-- The texts of errors, which messages show after the number.
 use Rattle.std.specs.Prelude.{ℕ, ◌-◌, false, List, [], ◌∷◌, ◌++◌, codes, decimal, length, replicate}
 use Rattle.std.specs.Fmt.{digits}
 use Rattle.std.specs.List.{concat}
@@ -7,15 +7,15 @@ use Rattle.nor_probe.specs.Sfdp.{number_of_sfdp_fault as sfdp_number}
 use Rattle.nor_call.specs.declared.refusal.Refusal.{Refusal}
 use Rattle.nor_call.specs.declared.refusal.Refusal.TheVariants.{NoChip, UnknownChip, OtherName, ImageSize, RegionOutside, NoProtection, UndefinedProtection, RangeNotOffered, StatusLocked, Protected, Vault, Stopped, Timeout, Mismatch, BadJournal, OtherChip, StatusDiffers, Memory, Output, OtherUnit}
 
--- a number in hexadecimal digits, small letters: at least so many, with zeros in front
+-- a number in lower-case hexadecimal digits, with leading zeros up to `width` digits
 abbrev pub hex_digits : (width number : ℕ) → List ℕ
 hex_digits width number = replicate (width - length (digits 16 false number)) 48 ++ digits 16 false number
 
--- an address
+-- an address, with at least six hexadecimal digits
 abbrev pub address : ℕ → List ℕ
 address place = codes "0x" ++ hex_digits 6 place
 
--- why a call refused
+-- the text of an error
 abbrev pub refusal_text : Refusal → List ℕ
 refusal_text NoChip = codes "no chip"
 refusal_text (UnknownChip fault) = codes "unknown chip, SFDP fault " ++ decimal (sfdp_number fault)

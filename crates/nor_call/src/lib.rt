@@ -1,4 +1,9 @@
-//! What a call is asked, and what it answers: requests, reports, and refusals with their numbers.
+//! Defines what a session is asked for and what calls return: requests, reports, and errors with their numbers and
+//! texts.
+//!
+//! - `request.rt`: requests for a session
+//! - `report.rt`: what a call did
+//! - `refusal.rt`: the errors of calls, their numbers and their texts
 //!
 //! ```rust
 //! use nor_call::{Refusal, Request};
@@ -12,8 +17,8 @@
 //! assert_eq!(rt; text.as_str(), "protected at 0x001000");
 //! ```
 //!
-//! What a request wants of a chip stands in `specs/Request.antt`, the numbers of refusals in `Refusal`, their texts in
-//! `Texts`, and what a refusal of the opening tells in `Tells`.
+//! `specs/Request.antt` defines what a request asks of a chip, `specs/Refusal.antt` the numbers of errors,
+//! `specs/Texts.antt` their texts, and `specs/Tells.antt` what an error during identification means.
 #![tactic(auto)]
 
 mod refusal;

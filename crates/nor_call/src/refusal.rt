@@ -1,4 +1,4 @@
-//! Why a call gave up.
+//! The errors of calls.
 ghost use Rattle.std.specs.Prelude.{◌≡◌, ◌↔◌, IsTrue, Some};
 ghost use Rattle.nor_call.specs.declared.refusal.Refusal.TheVariants as Refusals;
 ghost use Rattle.nor_call.specs.Refusal.{of_probe, of_halt};
@@ -10,57 +10,57 @@ use nor_probe::{ProbeFault, SfdpFault};
 use std::error::Error;
 use std::fmt;
 
-/// Why a call gave up. Each refusal has a number of its own, `number`. Those from 1 to 10 are judged in this order,
-/// and the first that holds is the answer.
+/// The reason why a call failed. `number` returns the number of the error, which is different for each variant. A
+/// session checks errors 1 to 10 in the order of their numbers, and returns the first that holds.
 #[derive(Clone, Copy, Debug, PartialEq, Eq)]
 pub enum Refusal {
-    /// 1: nothing drives the bus: the ID is `FF FF FF` or `00 00 00`.
+    /// 1: the ID reads `FF FF FF` or `00 00 00`, as it does if nothing drives the bus.
     NoChip,
-    /// 2: the chip isn't in the table, and its SFDP is refused.
+    /// 2: the ID isn't in the table, and the chip's SFDP is refused for this reason.
     UnknownChip(SfdpFault),
     /// 3: the chip has another name than the one given.
     OtherName,
-    /// 4: image and chip have other lengths, in bytes.
+    /// 4: the image and the chip have different lengths, in bytes.
     ImageSize { chip: u32, image: usize },
     /// 5: an included address isn't on the chip.
     RegionOutside,
-    /// 6: the chip has no block protection.
+    /// 6: a request for a protection range, or a report of protection, on a chip without block protection.
     NoProtection,
-    /// 7: the datasheets don't define the chip's protection code.
+    /// 7: the datasheets don't define which range the chip's protection bits select.
     UndefinedProtection,
-    /// 8: no protection code guards exactly the range.
+    /// 8: no setting of the protection bits protects exactly the requested range.
     RangeNotOffered,
-    /// 9: a status write is needed, and the status is locked.
+    /// 9: the status registers must be written, and they are locked (SRP0 or SRP1 is set).
     StatusLocked,
-    /// 10: a sector that would change is guarded, the least of them at this address.
+    /// 10: a sector that would change is protected. The address is that of the lowest such sector.
     Protected { address: u32 },
     /// 11: the vault refused a piece of the journal, or its seal.
     Vault,
     /// 12: the bus stopped.
     Stopped,
-    /// 13: 65,536 polls in a row showed BUSY. The address is that of the command waited for; 0 in the opening, for the
-    /// erase of the chip and for a status write.
+    /// 13: 65,536 polls in a row showed BUSY. The address is that of the command that was waited for; it is 0 during
+    /// identification, for an erase of the chip, and for a status write.
     Timeout { address: u32 },
-    /// 14: bytes that were read back differ, first at this address.
+    /// 14: bytes that were read differ from the expected ones, first at this address.
     Mismatch { address: u32 },
-    /// 15: the bytes are no journal.
+    /// 15: the bytes aren't a journal.
     BadJournal(JournalFault),
-    /// 16: ID or size differ from the journal's.
+    /// 16: the chip's ID or size differs from the journal's.
     OtherChip,
-    /// 17: a status bit that no restore may set differs from the journal's.
+    /// 17: a status bit that flashnor never changes differs from the journal's.
     StatusDiffers,
-    /// 18: memory was refused.
+    /// 18: out of memory.
     Memory,
-    /// 19: the output was refused, after so many bytes.
+    /// 19: the output failed after `written` bytes.
     Output { written: u64 },
-    /// 20: the chip is another unit than the journal's: its unique ID is another.
+    /// 20: the chip is another device than the journal's: the unique IDs differ.
     OtherUnit,
 }
 
 impl Refusal {
     ghost use Rattle.nor_call.specs.Refusal.{number_of};
 
-    /// The number that a message shows.
+    /// Returns the error's number, which messages show: 1 to 20.
     pub fn number(self) -> u8
         ensures { result ≡ number_of self }
     {
@@ -88,7 +88,7 @@ impl Refusal {
         }
     }
 
-    /// The bus stopped.
+    /// True if the bus stopped (error 12).
     pub fn is_stopped(self) -> bool
         ensures { IsTrue result ↔ (self ≡ Refusals.Stopped) }
     {
@@ -96,7 +96,7 @@ impl Refusal {
     }
 }
 
-// Written out, since a text that is derived has no contract.
+// Implemented by hand, because a derived `Display` has no contract.
 impl fmt::Display for Refusal {
     ghost use Rattle.nor_call.specs.Texts.{refusal_text};
 

@@ -1,4 +1,4 @@
-//! What is asked of a session.
+//! Requests for a session.
 ghost use Rattle.std.specs.Prelude.{◌≡◌, true, Some};
 ghost use Rattle.nor_call.specs.Request.{is_data, plain};
 ghost use Rattle.nor_call.specs.declared.request.What.TheVariants as Whats;
@@ -6,55 +6,57 @@ ghost use Rattle.nor_call.specs.declared.request.What.TheVariants as Whats;
 use nor_layout::Ranges;
 use nor_probe::ChipName;
 
-/// What a session is to do.
+/// What a session is asked for.
 #[derive(Clone, Copy, Debug, PartialEq, Eq)]
 pub enum What {
-    /// Make the included bytes those of the image, which has the whole chip's.
+    /// A write: each included byte becomes equal to the image, which must be as long as the chip.
     Write,
-    /// Make the included bytes FFh.
+    /// An erase: each included byte becomes FFh.
     Erase,
-    /// Protect so many places from `start` on, and no other.
+    /// A change of the protection bits: exactly the `len` addresses from `start` on are protected.
     WpRange { start: u32, len: u32 },
 }
 
-/// A request for a session. `write`, `erase` and `protect` make one, and what it is to have besides is added:
+/// A request for a session. `write`, `erase` and `protect` construct one, and the other methods add conditions:
 /// `Request::write().named(ChipName::W25Q64FV).verified()`.
 #[derive(Clone, Debug, Drop)]
 pub struct Request {
     pub what: What,
-    /// The chip must have this name.
+    /// The name that the chip must have, or `None` for any chip.
     pub named: Option<ChipName>,
-    /// The addresses that may change; none given is the whole chip. A protection range looks at none.
+    /// The addresses that may change, or `None` for the whole chip. It is ignored for a protection range.
     pub included: Option<Ranges>,
-    /// Protection of what would change is lifted, and given back at the end.
+    /// Whether protection that is in the way of a change is lifted, and set again at the end.
     pub unlock: bool,
-    /// What was written is read back and compared.
+    /// Whether the touched sectors are read back and compared at the end.
     pub verify: bool,
 }
 
 impl Request {
-    /// Make the whole chip the image's. It may have any name, no protection is lifted, and nothing is read back.
+    /// Returns a request to make the whole chip equal to the image. It accepts a chip of any name, doesn't lift
+    /// protection, and reads nothing back.
     pub const fn write() -> Request
         ensures { result ≡ plain Whats.Write }
     {
         Request::plain(What::Write)
     }
 
-    /// Make the whole chip FFh, else as `write`.
+    /// Returns a request to make the whole chip FFh. It accepts a chip of any name, doesn't lift protection, and reads
+    /// nothing back.
     pub const fn erase() -> Request
         ensures { result ≡ plain Whats.Erase }
     {
         Request::plain(What::Erase)
     }
 
-    /// Protect so many places from `start` on, and no other, else as `write`.
+    /// Returns a request to protect exactly the `len` addresses from `start` on. It accepts a chip of any name.
     pub const fn protect(start: u32, len: u32) -> Request
         ensures { result ≡ plain (Whats.WpRange start len) }
     {
         Request::plain(What::WpRange { start, len })
     }
 
-    // Asks for this and for nothing besides.
+    // Returns a request without any further condition.
     const fn plain(what: What) -> Request
         ensures { result ≡ plain what }
     {
@@ -67,7 +69,7 @@ impl Request {
         }
     }
 
-    /// The same, of a chip that must have this name.
+    /// Returns the request for a chip that must have this name.
     pub fn named(self, name: ChipName) -> Request
         ensures { result ≡ record self { named = Some name } }
     {
@@ -77,7 +79,7 @@ impl Request {
         }
     }
 
-    /// The same, where these addresses alone may change.
+    /// Returns the request with changes limited to these addresses.
     pub fn included(self, ranges: Ranges) -> Request
         ensures { result ≡ record self { included = Some ranges } }
     {
@@ -87,7 +89,7 @@ impl Request {
         }
     }
 
-    /// The same, with protection of what would change lifted, and given back at the end.
+    /// Returns the request with protection that is in the way of a change lifted, and set again at the end.
     pub fn unlocked(self) -> Request
         ensures { result ≡ record self { unlock = true } }
     {
@@ -97,7 +99,7 @@ impl Request {
         }
     }
 
-    /// The same, with what was written read back and compared.
+    /// Returns the request with the touched sectors read back and compared at the end.
     pub fn verified(self) -> Request
         ensures { result ≡ record self { verify = true } }
     {
@@ -107,7 +109,7 @@ impl Request {
         }
     }
 
-    /// It is about bytes, not about protection.
+    /// True if the request changes bytes (write or erase), false if it sets a protection range.
     pub fn is_data(&self) -> bool
         ensures { result ≡ is_data self.now.what }
     {
