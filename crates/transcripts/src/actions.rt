@@ -1,4 +1,4 @@
-//! What a case has the bus do.
+//! The actions of a case: transactions, and calls of nor_driver.
 
 use crate::agree::{agree, agree_bytes};
 use crate::calls;
@@ -9,7 +9,9 @@ use crate::step::{Action, Exchange};
 use nor_chip::{Bus, Meter};
 use std::alloc::Global;
 
-/// Does it, and compares what comes of it.
+/// Performs the action on `bus`, and compares its result with the expected one. Returns `Unread` if a value in the line
+/// can't be parsed, `Differs` if the result differs, and `Stopped` if the bus stops a transaction that it must carry
+/// out.
 pub fn take(alloc: Global, bus: &mut Way<'_>, action: Action<'_>) -> Result<(), Fault> {
     match action {
         Action::Carries(exchange) => carry(alloc, bus, exchange),
@@ -22,7 +24,8 @@ pub fn take(alloc: Global, bus: &mut Way<'_>, action: Action<'_>) -> Result<(), 
     }
 }
 
-// A transaction that is carried out. Before it, no byte of the reply is as it is wanted.
+// Sends a transaction that the bus must carry out. Before the transaction each byte of the reply buffer differs from
+// the expected one, so that the comparison fails if the bus writes nothing.
 fn carry(alloc: Global, bus: &mut Way<'_>, exchange: Exchange<'_>) -> Result<(), Fault> {
     let out = bytes_of(alloc, exchange.out)?;
     let wanted = bytes_of(alloc, exchange.reply)?;
@@ -34,7 +37,7 @@ fn carry(alloc: Global, bus: &mut Way<'_>, exchange: Exchange<'_>) -> Result<(),
     agree_bytes(alloc, &reply, &wanted)
 }
 
-// A transaction that the bus stops: what stood in the place of the reply still does.
+// Sends a transaction that the bus must stop, and checks that the reply buffer keeps its bytes.
 fn stop(alloc: Global, bus: &mut Way<'_>, exchange: Exchange<'_>) -> Result<(), Fault> {
     let out = bytes_of(alloc, exchange.out)?;
     let wanted = bytes_of(alloc, exchange.reply)?;

@@ -1,9 +1,9 @@
-//! Comparing what comes with what is wanted.
+//! Comparisons of results with expected values.
 
 use crate::fault::Fault;
 use std::alloc::Global;
 
-/// Both texts are the same.
+/// Returns `Differs` if the texts differ.
 pub fn agree(alloc: Global, came: String, wanted: &str) -> Result<(), Fault> {
     if came.as_str() == wanted {
         return Ok(());
@@ -12,7 +12,7 @@ pub fn agree(alloc: Global, came: String, wanted: &str) -> Result<(), Fault> {
     Err(Fault::Differs { came, wanted })
 }
 
-/// Both have the same bytes.
+/// Returns `Differs`, with both values in hexadecimal, if the bytes differ.
 pub fn agree_bytes(alloc: Global, came: &[u8], wanted: &[u8]) -> Result<(), Fault> {
     if came == wanted {
         return Ok(());

@@ -1,4 +1,4 @@
-//! What is asked once all is carried out.
+//! The checks of a case after all its actions.
 
 use crate::agree::agree;
 use crate::digits::{address_of, byte_of, status_of};
@@ -9,27 +9,27 @@ use nor_chip::{Config, Delays, Offered, SimBus, offered};
 use std::alloc::{AllocError, Global};
 use std::str::Lines;
 
-/// What a bus leaves: the chip, and how many transactions there were.
+/// The chip after the actions of a case, and the number of transactions.
 #[derive(Drop)]
 pub struct Left {
     pub chip: SimBus,
     pub sent: u64,
 }
 
-/// What answers the questions of a case.
+/// The checker of a case's questions: the chip's configuration, its state after the actions, and the trace.
 #[derive(Drop)]
 pub struct Answers<'a> {
     config: Config,
     left: Left,
     trace: Lines<'a>,
-    // the trace was asked for
+    // whether the case has a line of the trace
     is_traced: bool,
-    // the guarded sets that weren't asked for yet
+    // the protectable ranges that no line has checked yet
     sets: Offered,
 }
 
 impl<'a> Answers<'a> {
-    /// What answers of a chip with this configuration, of what was left of it, and of this trace.
+    /// Constructs the checker of a chip with this configuration, of its state after the actions, and of this trace.
     pub fn new(config: Config, left: Left, log: &'a [u8]) -> Answers<'a> {
         Answers {
             config,
@@ -40,7 +40,8 @@ impl<'a> Answers<'a> {
         }
     }
 
-    /// The answer is the wanted one.
+    /// Checks one question. Returns `Differs` if the actual value differs from the expected one, and `Unread` if a
+    /// value can't be parsed.
     pub fn check(&mut self, alloc: Global, question: Question<'_>) -> Result<(), Fault> {
         match question {
             Question::Array(places, bytes) => self.check_array(alloc, places, bytes),
@@ -80,7 +81,7 @@ impl<'a> Answers<'a> {
         }
     }
 
-    /// Where the trace was asked for, it has no other lines.
+    /// Checks, if the case has a line of the trace, that the trace has no further lines.
     pub fn end(mut self, alloc: Global) -> Result<(), Fault> {
         match self.trace.next() {
             Some(line) if self.is_traced => {
@@ -94,7 +95,8 @@ impl<'a> Answers<'a> {
         }
     }
 
-    // The places have one byte, and all others another: `ff else 00`, or `ff` where there are no others.
+    // Checks that the bytes from `places.0` up to, but not including, `places.1` have one value, and all others
+    // another: `ff else 00`, or `ff` for the whole chip.
     fn check_array(&self, alloc: Global, places: (u32, u32), bytes: &str) -> Result<(), Fault> {
         let (inside, outside) = bytes.split_once(" else ").unwrap_or((bytes, bytes));
         let (inside, outside) = (byte_of(inside)?, byte_of(outside)?);
@@ -113,13 +115,15 @@ impl<'a> Answers<'a> {
         Ok(())
     }
 
+    // Checks that this is the next line of the trace.
     fn check_trace(&mut self, alloc: Global, line: &str) -> Result<(), Fault> {
         self.is_traced = true;
         let came = self.trace.next().unwrap_or("the trace's end");
         agree(alloc, String::from_str(alloc, came)?, line)
     }
 
-    // The next set that is offered is this one, and this status has the least code for it.
+    // Checks that the next protectable range is this one, that `status` has the least protection bits for it, and that
+    // they protect exactly this range. Only the first and the last address of each sector are compared.
     fn check_set(&mut self, alloc: Global, set: (u32, u32), status: &str) -> Result<(), Fault> {
         let (start, len) = set;
         let came = match self.sets.next() {
@@ -140,7 +144,7 @@ impl<'a> Answers<'a> {
     }
 }
 
-// A chip of this size, with so many SFDP bytes, is made or not.
+// Returns `made` if `Config::new` accepts this size with this number of SFDP bytes, else `none`.
 fn made(alloc: Global, words: &str) -> Result<&'static str, Fault> {
     let (size, count) = words.split_once(' ').ok_or(Fault::Unread)?;
     let sfdp = vec![in alloc; 0xAB; count.parse::<usize>()?]?;
@@ -148,7 +152,7 @@ fn made(alloc: Global, words: &str) -> Result<&'static str, Fault> {
     Ok(if config.is_some() { "made" } else { "none" })
 }
 
-// What is said of so many bytes for the chip.
+// Returns what `SimBus::new` reports for this number of bytes: `taken`, or the text of its error.
 fn said_of(alloc: Global, config: Config, count: usize) -> Result<String, AllocError> {
     let bytes = vec![in alloc; 0xFF; count]?;
     let delays = Delays { now: 0, each: 0 };

@@ -1,4 +1,4 @@
-//! The functions of the driver that change a chip or wait for it.
+//! The functions of nor_driver that wait for a chip or modify it.
 
 ghost use Rattle.std.specs.Prelude.{◌≡◌, ◌<◌, true, IfOk};
 ghost use Rattle.nor_driver.specs.Units.{is_aligned};
@@ -11,7 +11,9 @@ use nor_chip::{MOST_SECTORS, Status};
 use nor_driver::{Erase, EraseUnit, Halt, erase, program_page, wait, write_status};
 use std::alloc::{AllocError, Global};
 
-/// What the call answers: how many transactions it sent, or how it halted. A wait tells the last poll's status first.
+/// Calls the function, and returns as text the number of transactions that it sent, or `stop`, or `timeout ADDRESS`. If
+/// a wait succeeds, the text begins with the status 1 of its last poll. Returns `Unread` if an argument can't be parsed
+/// or breaks the function's premises.
 pub fn answer(alloc: Global, bus: &mut Way<'_>, call: Call<'_>) -> Result<String, Fault> {
     match call {
         Call::Wait(address) => match wait(bus, address) {
@@ -30,7 +32,8 @@ pub fn answer(alloc: Global, bus: &mut Way<'_>, call: Call<'_>) -> Result<String
     }
 }
 
-// A program of bytes that lie in one page.
+// Programs bytes within one page. Returns `Unread` if there are none, they cross the end of the page, or the address is
+// 1000000h or above.
 fn program(alloc: Global, bus: &mut Way<'_>, address: u32, bytes: &[u8]) -> Result<String, Fault> {
     let room = 256 - (address % 256) as usize;
     if address >= 0x100_0000 || bytes.is_empty() || bytes.len() > room {
@@ -39,7 +42,7 @@ fn program(alloc: Global, bus: &mut Way<'_>, address: u32, bytes: &[u8]) -> Resu
     Ok(text_of(alloc, program_page(bus, address, bytes))?)
 }
 
-// A status write with this code.
+// Writes the status registers with these protection bits. Returns `Unread` if they aren't below 64.
 fn protect(alloc: Global, bus: &mut Way<'_>, status: [u8; 2], code: u32) -> Result<String, Fault> {
     let Ok(code) = u8::try_from(code) else {
         return Err(Fault::Unread);
@@ -50,7 +53,8 @@ fn protect(alloc: Global, bus: &mut Way<'_>, status: [u8; 2], code: u32) -> Resu
     Ok(text_of(alloc, write_status(bus, Status::of(status), code))?)
 }
 
-// The erase of this opcode, of an aligned unit.
+// Returns the erase with this opcode that begins at this sector. Returns `Unread` if the opcode is another than 20, 52,
+// D8 or C7, the sector isn't below 4,096, or the erase block isn't aligned.
 fn erase_of(opcode: &str, sector: u32) -> Result<Erase, Fault>
     ensures reachable { IfOk result (λ erase. erase.sector < 4096) }
     ensures aligned { IfOk result (λ erase. is_aligned erase.unit erase.sector ≡ true) }
@@ -75,6 +79,7 @@ fn erase_of(opcode: &str, sector: u32) -> Result<Erase, Fault>
     Ok(erased)
 }
 
+// Returns the count of transactions, `stop`, or `timeout ADDRESS` as text.
 fn text_of(alloc: Global, outcome: Result<u32, Halt>) -> Result<String, AllocError> {
     match outcome {
         Ok(count) => format!(in alloc; "{count}"),

@@ -7,14 +7,14 @@ use crate::setup::Setup;
 use crate::step::Step;
 use std::alloc::Global;
 
-// A line of a case, and its number in the text.
+// A line of a case, and its line number in the text.
 #[derive(Clone, Copy)]
 struct Line<'a> {
     number: usize,
     step: Step<'a>,
 }
 
-/// A case: a chip, and the lines that show what it does.
+/// A case: a chip, and the lines of what is done and what must result.
 #[derive(Drop)]
 pub struct Case<'a> {
     pub name: &'a str,
@@ -23,7 +23,7 @@ pub struct Case<'a> {
     lines: Vec<Line<'a>>,
 }
 
-/// The cases of a text, or the first line that can't be read.
+/// Parses the cases of a text. Returns the first line that can't be parsed, with its number.
 pub fn cases_of<'a>(alloc: Global, text: &'a str) -> Result<Vec<Case<'a>>, Halt> {
     let mut cases = Vec::new(alloc);
     let mut number = 0_usize;
@@ -34,7 +34,8 @@ pub fn cases_of<'a>(alloc: Global, text: &'a str) -> Result<Vec<Case<'a>>, Halt>
     Ok(cases)
 }
 
-// Reads one line into the cases so far: `case` begins another, and all others belong to the last.
+// Parses one line into the list of cases. `case` begins a case, and each other line belongs to the last one; empty
+// lines and lines that begin with `#` are skipped.
 fn read_line<'a>(
     alloc: Global,
     cases: &mut Vec<Case<'a>>,
@@ -65,7 +66,8 @@ fn read_line<'a>(
 }
 
 impl Case<'_> {
-    /// Plays the case, up to the first line that doesn't hold. A case without a chip or without a line doesn't hold.
+    /// Plays the case on a chip of its own, and returns the first failure. A case without a chip or without a line of
+    /// actions or checks fails.
     pub fn play(&self, alloc: Global) -> Result<(), Halt> {
         let Some(setup) = self.setup else {
             return at(self.number, Err(Fault::Unread));
@@ -78,7 +80,8 @@ impl Case<'_> {
         self.ask(alloc, Answers::new(setup.config, chip, &log))
     }
 
-    // All that is done, and what is left of it.
+    // Performs all actions on a fresh bus, and returns the chip and the number of transactions. Fails at the first
+    // action that fails, and if a line of the trace was lost.
     fn act(&self, alloc: Global, setup: Setup, log: &mut Vec<u8>) -> Result<Left, Halt> {
         let mut bus = match setup.bus(alloc, log) {
             Ok(bus) => bus,
@@ -105,7 +108,7 @@ impl Case<'_> {
         })
     }
 
-    // All that is asked then.
+    // Checks all questions, and then that the trace has no further lines if the case has a line of it.
     fn ask(&self, alloc: Global, mut answers: Answers<'_>) -> Result<(), Halt> {
         for line in &self.lines {
             if let Step::Asks(question) = line.step {
@@ -116,7 +119,7 @@ impl Case<'_> {
     }
 }
 
-// What a line came to, with its number where that is a fault.
+// Adds the line number to a fault.
 fn at(line: usize, outcome: Result<(), Fault>) -> Result<(), Halt> {
     match outcome {
         Ok(()) => Ok(()),

@@ -1,10 +1,11 @@
-//! Bytes and addresses as hexadecimal digits.
+//! Bytes and addresses in hexadecimal digits.
 
 use crate::fault::Fault;
 use hex::FromHex;
 use std::alloc::{AllocError, Global};
 
-/// The bytes of words of digits, as `02 0000fe 1122`. A word `ff*8` has its bytes eight times.
+/// Parses bytes in hexadecimal, with spaces between groups, for example `02 0000fe 1122`. `ff*8` repeats the bytes of a
+/// group eight times.
 pub fn bytes_of(alloc: Global, words: &str) -> Result<Vec<u8>, Fault> {
     let mut bytes = Vec::new(alloc);
     for word in words.split_whitespace() {
@@ -15,6 +16,7 @@ pub fn bytes_of(alloc: Global, words: &str) -> Result<Vec<u8>, Fault> {
     Ok(bytes)
 }
 
+// Appends `piece` to `bytes` `count` times.
 fn repeat(bytes: &mut Vec<u8>, piece: &[u8], count: u32) -> Result<(), AllocError> {
     for _ in 0..count {
         bytes.extend_from_slice(piece)?;
@@ -22,22 +24,22 @@ fn repeat(bytes: &mut Vec<u8>, piece: &[u8], count: u32) -> Result<(), AllocErro
     Ok(())
 }
 
-/// One byte.
+/// Parses one byte.
 pub fn byte_of(digits: &str) -> Result<u8, Fault> {
     Ok(u8::from_str_radix(digits, 16)?)
 }
 
-/// Status 1 and status 2.
+/// Parses status 1 and status 2, in this order.
 pub fn status_of(digits: &str) -> Result<[u8; 2], Fault> {
     Ok(<[u8; 2] as FromHex>::from_hex(digits)?)
 }
 
-/// An address, or another number in hexadecimal digits.
+/// Parses an address or another number in hexadecimal digits.
 pub fn address_of(digits: &str) -> Result<u32, Fault> {
     Ok(u32::from_str_radix(digits, 16)?)
 }
 
-/// The first address of places, and the one behind them, as `7fe000..7ff000`.
+/// Parses a range such as `7fe000..7ff000`: its first address, and the address after its last one.
 pub fn places_of(places: &str) -> Result<(u32, u32), Fault> {
     let (start, end) = places.split_once("..").ok_or(Fault::Unread)?;
     Ok((address_of(start)?, address_of(end)?))

@@ -1,4 +1,4 @@
-//! What a line comes to that doesn't hold.
+//! The faults of lines and of the program.
 
 use hex::FromHexError;
 use nor_chip::{Stopped, WrongLength};
@@ -7,7 +7,7 @@ use std::io;
 use std::num::ParseIntError;
 use thiserror::Error;
 
-/// Why a line, or the whole text, came to nothing.
+/// The reason why a line, a case or the program failed.
 #[derive(Debug, Drop, Error)]
 pub enum Fault {
     #[error("can't be read")]
@@ -24,7 +24,7 @@ pub enum Fault {
     System(io::Error),
 }
 
-/// A fault, and the number of the line that it is at.
+/// A fault, and the number of the line where it occurred.
 #[derive(Debug, Drop)]
 pub struct Halt {
     pub line: usize,

@@ -1,4 +1,4 @@
-//! Which places a status guards.
+//! Checks of the ranges that status bits protect.
 
 ghost use Rattle.std.specs.Prelude.{IsTrue};
 
@@ -7,8 +7,8 @@ use crate::fault::Fault;
 use nor_chip::{Config, SECTOR_LEN, Status, code_for, protected, unit_protected};
 use std::alloc::{AllocError, Global};
 
-/// The status guards exactly the places from the first one to the one before the second. The first and the last place
-/// of each sector are looked at.
+/// Checks that the status protects exactly the addresses from `start` up to, but not including, `end`. Compares only
+/// the first and the last address of each sector.
 pub fn check(
     alloc: Global,
     config: Config,
@@ -33,7 +33,8 @@ fn word(is_guarded: bool) -> &'static str {
     if is_guarded { "guarded" } else { "free" }
 }
 
-/// A unit from the first place to the one before the second is guarded or free.
+/// Returns `guarded` if `unit_protected` finds a protected address from `start` up to, but not including, `end`, else
+/// `free`. Returns `Unread` if the range is empty or isn't on the chip.
 pub fn unit(
     config: Config,
     status: [u8; 2],
@@ -46,7 +47,7 @@ pub fn unit(
     Ok(word(is_guarded))
 }
 
-/// The least code for so many places from the first one on.
+/// Returns the least protection bits that protect exactly `len` addresses from `start` on, as a number, or `none`.
 pub fn least(alloc: Global, config: Config, start: u32, len: u32) -> Result<String, AllocError> {
     match code_for(start, len, config.size) {
         Some(code) => format!(in alloc; "{code}"),
@@ -54,7 +55,7 @@ pub fn least(alloc: Global, config: Config, start: u32, len: u32) -> Result<Stri
     }
 }
 
-/// The protection code of a status.
+/// Returns the protection bits of a status as a number.
 pub fn code(alloc: Global, status: [u8; 2]) -> Result<String, AllocError> {
     let code = Status::of(status).code();
     format!(in alloc; "{code}")

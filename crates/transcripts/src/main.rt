@@ -1,5 +1,19 @@
-//! `transcripts` plays the cases of a text on simulated chips, as its standard input has them, and compares: what is
-//! sent and what comes in, and what is left then. It prints a line for each case that doesn't hold.
+//! `transcripts` reads cases from standard input and plays each on a simulated chip. It compares the replies, and the
+//! state that the chip has at the end, with those that the case states. It prints a line for each case that fails, and
+//! how many passed and failed. If a line can't be parsed, it plays no case and prints only that line's number and
+//! fault.
+//!
+//! - `main.rt`: reads the cases, plays them and prints the results
+//! - `case.rt`: parses the text into cases, and plays one case
+//! - `step.rt`: the lines of a case, parsed
+//! - `setup.rt`: the chip of a case, and the bus to it
+//! - `actions.rt`: transactions and calls of nor_driver, and the comparison of their results
+//! - `calls.rt`: calls of nor_driver that wait for a chip or modify it
+//! - `answers.rt`: checks of the chip, the trace and the protection after all actions
+//! - `guards.rt`: checks of protected ranges
+//! - `digits.rt`: parses bytes and addresses in hexadecimal
+//! - `agree.rt`: comparisons that return a fault
+//! - `fault.rt`: the faults of a line
 #![tactic(auto)]
 
 mod actions;
@@ -29,7 +43,7 @@ fn main(rt: HostRuntime) -> Result<ExitCode, Fault> {
     }
 }
 
-// Plays the cases and tells how many hold. Without a case nothing does.
+// Plays the cases, and prints each failure and the counts. Returns failure if a case failed or there is no case.
 fn play(rt: &(impl Print + AllocGlobal), cases: &[Case<'_>]) -> Result<ExitCode, Fault> {
     let mut failed = 0_u64;
     let mut passed = 0_u64;

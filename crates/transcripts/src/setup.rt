@@ -6,20 +6,20 @@ use hex::FromHex;
 use nor_chip::{Config, Delays, Meter, SimBus, Spoil, SpoiltBus, TraceBus};
 use std::alloc::Global;
 
-/// The bus of a case: traced, and spoilt where the case asks for it.
+/// The bus of a case: traced, and faulty if the case asks for it.
 pub type Way<'a> = TraceBus<SpoiltBus<SimBus>, &'a mut Vec<u8>>;
 
-// A spoilt bus that spoils nothing, since a byte has no bit 8.
+// A setting with which the faulty bus spoils nothing, because a byte has no bit 8.
 const HONEST: Spoil = Spoil::Low(8);
 
-/// What a line `chip` says: the chip, and how it and the bus to it start.
+/// The parsed line `chip`: the chip, and the state in which it and the bus to it start.
 #[derive(Clone, Copy)]
 pub struct Setup {
     pub config: Config,
     start: Start,
 }
 
-// How a chip and the bus to it start.
+// The state in which a chip and the bus to it start.
 #[derive(Clone, Copy)]
 struct Start {
     fill: u8,
@@ -32,7 +32,8 @@ struct Start {
 }
 
 impl Setup {
-    /// The chip of the first word, with what the words behind it set.
+    /// Parses the chip's name and the settings that follow it. Returns `Unread` if the name or a setting is unknown or
+    /// a value can't be parsed.
     pub fn read(words: &str) -> Result<Setup, Fault> {
         let (name, settings) = words.split_once(' ').unwrap_or((words, ""));
         let config = config_of(name).ok_or(Fault::Unread)?;
@@ -43,7 +44,7 @@ impl Setup {
         })
     }
 
-    /// The bus as it starts, which writes its lines into this log.
+    /// Constructs the bus in its initial state. Its trace is written to `log`.
     pub fn bus<'a>(&self, alloc: Global, log: &'a mut Vec<u8>) -> Result<Way<'a>, Fault> {
         let start = self.start;
         let bytes = vec![in alloc; start.fill; self.config.size as usize]?;
@@ -87,7 +88,7 @@ impl Start {
     }
 }
 
-// How a bus lies.
+// Parses a setting of the faulty bus.
 fn spoil_of(key: &str, value: &str) -> Result<Spoil, Fault> {
     match key {
         "answers" => Ok(Spoil::Fill(byte_of(value)?)),
@@ -98,8 +99,9 @@ fn spoil_of(key: &str, value: &str) -> Result<Spoil, Fault> {
     }
 }
 
-// The emulated chips, and two of 128 KiB: one whose larger units aren't the chip, and one that lacks them and has
-// the protection scheme.
+// Returns the configuration with this name. In addition to the emulated chips there are two chips of 128 KiB, so that
+// no erase block is the whole chip. `BLOCKS` has erase blocks of 32 and 64 KiB and no block protection; `SECTORS` has
+// block protection and only 4 KiB sectors.
 fn config_of(name: &str) -> Option<Config> {
     let id = [0xAA, 0x11, 0x22];
     match name {

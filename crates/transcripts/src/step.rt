@@ -3,27 +3,27 @@
 use crate::digits::{address_of, places_of};
 use crate::fault::Fault;
 
-/// The bytes that go out, and those behind `<`, in their words.
+/// The bytes to send and, after `<`, the expected reply, both as text.
 #[derive(Clone, Copy)]
 pub struct Exchange<'a> {
     pub out: &'a str,
     pub reply: &'a str,
 }
 
-/// What a line has the bus do.
+/// An action on the bus.
 #[derive(Clone, Copy)]
 pub enum Action<'a> {
-    /// `> OUT < REPLY`: the transaction is carried out, and this comes in.
+    /// `> OUT < REPLY`: the bus must carry out the transaction, with this reply.
     Carries(Exchange<'a>),
-    /// `! OUT < REPLY`: the bus stops, and what stood in the place of the reply still does.
+    /// `! OUT < REPLY`: the bus must stop the transaction, and leave these bytes in the reply buffer.
     Stops(Exchange<'a>),
-    /// `allow COUNT`
+    /// `allow COUNT`: the number of transactions that the bus carries out from now on.
     Allows(u64),
-    /// A call of the driver, and what it answers.
+    /// A call of nor_driver, and its expected result.
     Calls(Call<'a>, &'a str),
 }
 
-/// A function of the driver.
+/// A function of nor_driver, with its arguments.
 #[derive(Clone, Copy)]
 pub enum Call<'a> {
     /// `wait ADDRESS = ..`
@@ -36,34 +36,35 @@ pub enum Call<'a> {
     Protect(&'a str, &'a str),
 }
 
-/// What a line asks once all is carried out.
+/// A check that is made after all actions.
 #[derive(Clone, Copy)]
 pub enum Question<'a> {
-    /// `array START..END = BYTE else BYTE`, the second byte being that of all other places.
+    /// `array START..END = BYTE else BYTE`: the byte at each address in the range, and the byte at each other address.
     Array((u32, u32), &'a str),
-    /// `status = BYTES`
+    /// `status = BYTES`: status 1 and status 2.
     Status(&'a str),
-    /// `sent = COUNT`
+    /// `sent = COUNT`: the number of transactions.
     Sent(&'a str),
-    /// `| LINE`: the next line of the trace. Where a case has such a line, the trace has no others.
+    /// `| LINE`: the next line of the trace. If a case has lines like this one, the trace must have no others.
     Traced(&'a str),
-    /// `guards STATUS = START..END`: exactly these places of the chip are guarded.
+    /// `guards STATUS = START..END`: this status protects exactly this range.
     Guards(&'a str, (u32, u32)),
-    /// `unit STATUS START..END = guarded`, or `= free`.
+    /// `unit STATUS START..END = guarded`, or `= free`: whether this status protects some address of the range.
     Unit(&'a str, (u32, u32), &'a str),
-    /// `set START LENGTH = STATUS`: the next guarded set that is offered, under the least code for it.
+    /// `set START LENGTH = STATUS`: the next protectable range, with a status that has the least protection bits for
+    /// it.
     Set((u32, u32), &'a str),
-    /// `sets = COUNT`: how many are offered in all.
+    /// `sets = COUNT`: the number of protectable ranges.
     Sets(&'a str),
-    /// `least START LENGTH = CODE`, or `= none`.
+    /// `least START LENGTH = CODE`, or `= none`: the least protection bits for this range.
     Least((u32, u32), &'a str),
-    /// `size SIZE SFDP = made`, or `= none`: a chip of this size with so many SFDP bytes.
+    /// `size SIZE SFDP = made`, or `= none`: whether a chip may have this size and this number of SFDP bytes.
     Size(&'a str, &'a str),
-    /// `bytes COUNT = TEXT`: what is said of so many bytes for the chip, `taken` where nothing is.
+    /// `bytes COUNT = TEXT`: what the simulated chip reports for this number of bytes, `taken` if it accepts them.
     Bytes(usize, &'a str),
 }
 
-/// A line of a case.
+/// An action or a check of a case.
 #[derive(Clone, Copy)]
 pub enum Step<'a> {
     Does(Action<'a>),
@@ -71,7 +72,8 @@ pub enum Step<'a> {
 }
 
 impl<'a> Step<'a> {
-    /// The line that begins with this word.
+    /// Parses a line, of which `word` is the first word and `rest` the remainder. Returns `Unread` if the line can't be
+    /// parsed.
     pub fn read(word: &str, rest: &'a str) -> Result<Step<'a>, Fault> {
         match word {
             ">" => Ok(Step::Does(Action::Carries(exchange_of(rest)))),
