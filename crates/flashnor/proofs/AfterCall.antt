@@ -1,4 +1,4 @@
--- What a call leaves of the chip and of its journal, and what it read of other files.
+-- The effect of a call on the chip and its journal, and the contents that it read of other files.
 use Rattle.std.proofs.Common.{◌≡◌, ◌∙◌, ℕ, List, Option, None, Some}
 use Rattle.std.proofs.Common.{Result, inl, inr}
 use Rattle.std.proofs.Common.{sym, true}
@@ -32,9 +32,9 @@ use Rattle.flashnor.proofs.Stays.{StayApart, lawful_after, not_that}
 use Rattle.flashnor.proofs.Stays.{settled_after}
 use Rattle.flashnor.proofs.Traced.{reads_before}
 
--- ---- the chip and the journal that the call left
+-- ---- the chip and the journal after the call
 
--- the file of a journal stays while others are written
+-- a journal in a file is kept while other files are written
 pub kept_after : {file : Text} {vault : VaultState} {s2 s3 : FilesState} → Stays file s2 s3 → IsKeptFile file vault s2
     → IsKeptFile file vault s3
 kept_after stays kept = record {
@@ -43,7 +43,7 @@ kept_after stays kept = record {
   settled = λ is. settled_after stays (kept.settled is);
 }
 
--- the chip that a change leaves has the same configuration
+-- a change leaves the chip's configuration as it was
 setup_kept : {request : Request} {image : List ℕ} {old new : BusState} {after : FilesState}
     {outcome : Result Answer Refusal} (before : View) (kept : JournalUse) → keeps_journal kept ≡ true
     → HasMadeChange request image kept old new before after outcome → new.chip.config ≡ old.chip.config
@@ -62,7 +62,7 @@ setup_done (task.Change change) amid after programmer named old new outcome puts
 setup_done (task.Restore journal) amid after programmer named old new outcome puts does = does.restored.config
 setup_done _ amid after programmer named old new outcome puts does = absurd cc
 
--- and its journal is kept while the chip's files are written
+-- a journal is kept while the chip's files are written
 module _ (programmer : Programmer) (s2 s3 : FilesState) (nature : s3.view.nature ≡ s2.view.nature)
     (last : is_lawful s2.view ≡ true → StayApart programmer.image programmer.status s2 s3) where
   kept_in_after : (kept : JournalUse) (vault vault' : VaultState)
@@ -98,7 +98,7 @@ module _ (programmer : Programmer) (s2 s3 : FilesState) (nature : s3.view.nature
   does_after (task.Restore journal) amid named old new outcome puts one other does = does
   does_after _ amid named old new outcome puts one other does = absurd cc
 
--- ---- what was read before the trace was made
+-- ---- what was read before the trace was created
 
 pub ranges_before : (trace : Option (Bor Text)) (old amid : View) (regions : Option Regions)
     (ranges : Option (List Span)) → AreTwo old.nature trace (layout_of regions) → IsViewBut trace old amid

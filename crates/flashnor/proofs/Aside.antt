@@ -1,4 +1,4 @@
--- A file of the chip that is moved aside between two runs, and what a run reads of what is left.
+-- A file of the chip that is moved aside between two runs, and what a run reads of the files that are left.
 use Rattle.std.proofs.Common.{◌≡◌, ◌+◌, ◌∙◌, ℕ, Option, None, Some}
 use Rattle.std.proofs.Common.{◌⊎◌, IfSome, IsSomeAnd, ap, arith, inl, inr, length, option_map, refl}
 use Rattle.std.proofs.Common.{sym, take}
@@ -18,7 +18,7 @@ use Rattle.flashnor.proofs.Stays.{known_at_rest}
 
 -- ---- what a run reads of a file is what may be left of it
 
--- a file that has just so many bytes was read as it is
+-- a file of exactly `len` bytes is read completely
 whole_seen : (len : ℕ) (seen found : Found) → found ≡ option_map (take (len + 1)) seen
     → IfSome found (λ all. length all ≡ len) → found ≡ seen
 whole_seen len seen found is whole = grind (arith, take_all, length-take)
@@ -74,8 +74,8 @@ pick (Some one) (Some other) was found left len mid new same rest still is whole
 pick None (Some other) was found left len mid new same rest still is whole long can fits = absurd same
 pick (Some one) None was found left len mid new same rest still is whole long can fits = absurd same
 
--- A chip can be restored if each of its bytes is that of a chip that can be restored or that of the original chip, and
--- its bits are those of one of them.
+-- A chip is restorable if each of its bytes is that of a restorable chip or of the original chip, and its non-volatile
+-- status bits are those of one of them.
 pub mixed_back : (journal : Journal) (first : Chip) (state later : BusState) → CanGiveBack journal first state
     → later.chip.config ≡ first.config
     → ((a : ℕ) → (later.chip.bytes a ≡ state.chip.bytes a) ⊎ (later.chip.bytes a ≡ first.bytes a))

@@ -1,4 +1,4 @@
--- What the calls that change a chip come to, with what is asked of them.
+-- The results of the calls that change a chip, for the request made from a change.
 use Rattle.std.proofs.Common.{◌≡◌, ◌≤◌, ℕ, List, Option, Result, IsOk, MatchResult, arith, false, true}
 use Rattle.nor_chip.specs.Bus.{BusState}
 use Rattle.nor_chip.specs.Chip.{IsChip, IsSame}
@@ -28,7 +28,7 @@ pub does_change : (view : View) (after : FilesState) (chip : Emulated) (named : 
 does_change view after chip named change request ranges image old new outcome same included buffer changed =
     record { ranges = ranges; included = included; image = image; buffer = buffer; changed = rw same at changed }
 
--- after refusals from 1 to 11 the chip is as before
+-- after errors 1 to 11 the chip is as before
 pub stays : (old new : BusState) (refusal : Refusal)
     → HonestTells (most_of 4096) (λ refusal. number_of refusal ≤ 11) old new refusal → number_of refusal ≤ 11
     → IsSame old.chip new.chip
@@ -40,7 +40,7 @@ module _ (request : Request) (image : List ℕ) (old new : BusState) (vault vaul
   same : vault'.sealed ≡ false → IsSame old.chip new.chip
   same unsealed = (((looks unsealed).looked modelled.honest).stays.calm calm)
 
-  -- a change keeps its journal from when that was sealed on, also where it gave up
+  -- a change can be undone from the seal of its journal on, even if it returned an error
   pub kept : (outcome : Result Answer Refusal)
       → MatchResult outcome (TellsDone request image old new) (GivesUp request image old new vault vault')
       → (IsOk outcome → vault'.sealed ≡ true) → HasKeptChange request image old new vault vault' outcome

@@ -29,7 +29,7 @@ use Rattle.nor_words.specs.declared.programmer.Programmer.{Programmer}
 
 -- ---- jobs
 
--- none ends with a usage fault
+-- no job on a chip ends with a usage fault
 no_usage : (fault : UsageFault) (view : View) (on_chip : ChipJob) → FailsJob view on_chip (end.Usage fault) → ⊥
 no_usage fault view on_chip fails = grind arith
 
@@ -40,7 +40,7 @@ module _ (files after : FilesState) (on_chip : ChipJob) (unwritten : Unwritten) 
   ends_called (Ok found) told called tells = rw tells called
   ends_called (Err refusal) told called tells = rw tells (inl called)
 
-  -- a fault from before the call does, too
+  -- a fault from before the call ends the job
   fails_ends : (fault : Fault) → FailsJob files.view on_chip fault → EndsJob files after on_chip unwritten (Err fault)
   fails_ends (end.Refused refusal) fails = inr fails
   fails_ends _ fails = fails
@@ -60,7 +60,7 @@ module _ (files after : FilesState) (on_chip : ChipJob) (unwritten : Unwritten) 
 
 -- ---- what the files hold
 
--- nothing is said of a call that was refused
+-- nothing is claimed for a call that returned an error
 pub holds_told : (on_chip : ChipJob) (unwritten : Unwritten) (outcome : Result Answer Refusal)
     (told : Result Answer Fault) (old new : FilesState) → IsToldAs outcome told
     → ((found : Answer) → outcome ≡ Ok found → unwritten ≡ all_written
@@ -69,7 +69,7 @@ pub holds_told : (on_chip : ChipJob) (unwritten : Unwritten) (outcome : Result A
 holds_told on_chip unwritten (Ok found) told old new tells holds = rw tells (holds found refl)
 holds_told on_chip unwritten (Err refusal) told old new tells holds = rw tells tt
 
--- nothing is said of a task that does not change the chip
+-- nothing is claimed for a task that does not change the chip
 looked_kept : (programmer : Programmer) (named : Option ChipName) (change : Change) (kept : JournalUse)
     (found : Answer) (old new : FilesState) → keeps_journal kept ≡ false
     → HoldsChange programmer named change kept found old new
@@ -98,7 +98,7 @@ holds_looked on_chip (Err fault) old new looks = tt
 -- ---- runs
 
 module _ (files after : FilesState) (words : List Text) where
-  -- one without a fault
+  -- a run without a fault succeeds
   succeeds_by : (outcome : Result Answer Fault) (out out' : Option (List ℕ))
       → AnswersWords files after words outcome all_written → PrintsAnswer outcome out out'
       → Succeeds files after words out out'
@@ -116,7 +116,7 @@ module _ (files after : FilesState) (words : List Text) where
         succeeds_by outcome out out' (subst (AnswersWords files after words outcome) well.1 answers)
         (prints.printed well.0)
 
-    -- where the words ask for nothing there is no such run
+    -- if the arguments ask for nothing, the run does not succeed
     fails : IsRefused words → ending.status ≢ 0
     fails refused none = elim (succeeds none) [
       | inl help ↦ refused.no_help help
@@ -134,7 +134,7 @@ module _ (files after : FilesState) (words : List Text) where
       prints = prints;
     }
 
--- a run that got no memory for its words did nothing
+-- a run without memory for its arguments did nothing
 pub is_without_memory : (files : FilesState) (words : List Text) (out out' err err' : Option (List ℕ)) (ending : Ending)
     → HasPrinted (Err (end.Usage usage.Memory)) all_written out out' err err' ending → IsStatus files files words out out' err err' ending
 is_without_memory files words out out' err err' ending prints =

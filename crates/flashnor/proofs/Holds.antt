@@ -1,4 +1,4 @@
--- What the reading of the chip's files leaves of all files.
+-- The effect on all files of reading the chip's files.
 use Rattle.std.proofs.Common.{◌≡◌, ◌+◌, ◌∙◌, ℕ, Bool, Option, None, Some, Ok, IsSomeAnd, ap, arith, false, inl, inr}
 use Rattle.std.proofs.Common.{is_some, option_map, refl, sym, take}
 use Rattle.std.specs.Borrow.{Bor}
@@ -12,7 +12,7 @@ use Rattle.flashnor.specs.declared.messages.Fault.TheVariants as end
 use Rattle.flashnor.specs.declared.messages.FileFault.TheVariants as file
 use Rattle.flashnor.proofs.Stays.{known_after}
 
--- ---- a file that isn't there
+-- ---- a file that is missing
 
 missing : (found : Found) → is_some found ≡ false → found ≡ None
 missing found gone = grind arith
@@ -30,7 +30,7 @@ missing_settled {name = name} {there = there} {old = old} gone known holds place
 
 -- ---- faults
 
--- what could be read after it could be before
+-- what is read afterwards could be read before
 reads_before : (name : Name) (most : ℕ) (found : Found) (a b : FilesState) → b.view.nature ≡ a.view.nature
     → KnownStay a b → Reads name most found b.view → Reads name most found a.view
 reads_before name most found a b same stay reads known =

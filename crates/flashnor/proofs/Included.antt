@@ -30,7 +30,7 @@ text_named : (text : List ℕ) → layout_says text ≡ Err layout.NoRegion → 
 unfolding layout_says
 text_named text e = lines_named (lines_of text) [] 1 e
 
--- ---- a text that can't be read, and names that aren't known
+-- ---- a text that can't be read, and names that are unknown
 
 module _ (text names : List ℕ) where
   pub is_unread : (fault : LayoutFault) → ReadsLayout (Err fault) (layout_says text)

@@ -1,4 +1,4 @@
--- What a run that changes a chip leaves of files, whatever its task, and what they hold at its end.
+-- The effect on files of a run that changes a chip, for every task, and the contents of the files at its end.
 use Rattle.std.proofs.Common.{◌≡◌, ◌<◌, ◌/◌, ◌%◌, ◌∙◌, ◌∷◌, [], ℕ, Bool, List, Option, None, Some}
 use Rattle.std.proofs.Common.{Result, Ok, IfSome, ap, arith, inl, inr, length, refl, replicate}
 use Rattle.std.proofs.Common.{subst, sym, true}
@@ -62,7 +62,7 @@ module _ (job : ChipJob) (held : Held) (s0 s1 s2 : FilesState) (bus bus' : BusSt
   status_many : length held.content.status ≡ 2
   status_many = as_many s0.view job.programmer.status 2 _ _ read.status refl
 
-  -- a file is ready to be written over that was held, and isn't the trace or the one that the task makes
+  -- a file that was locked and read is ready to be written, unless it is the trace or the file that the task creates
   ready : (name : Option (Bor Text)) (there : Bool) (had put : List ℕ)
       → AreTwo s0.view.nature name job.programmer.trace → AreTwo s0.view.nature name (made_by job.task)
       → Settles name (was there had) s1 → length had ≡ length put
@@ -77,7 +77,7 @@ module _ (job : ChipJob) (held : Held) (s0 s1 s2 : FilesState) (bus bus' : BusSt
         as_many = many;
       }
 
-  -- both are with the chip that the call left
+  -- both files are ready to be written with the chip after the call
   pub ready_both : AreReady job.programmer held.image_there held.status_there held.content.bytes.items
       held.content.status bus'.chip s2
   ready_both = record {
@@ -88,7 +88,7 @@ module _ (job : ChipJob) (held : Held) (s0 s1 s2 : FilesState) (bus bus' : BusSt
         (status_made s0.view.nature job roles) is_held.status status_many;
   }
 
-  -- ---- what they may be left as
+  -- ---- what may be left of both files
 
   module _ (s3 : FilesState) (amid : View) (stands : StandsFor job.programmer held) (small : bus'.chip.kept.two < 128)
       (but : IsViewBut job.programmer.trace s0.view amid)
@@ -108,7 +108,7 @@ module _ (job : ChipJob) (held : Held) (s0 s1 s2 : FilesState) (bus bus' : BusSt
         as_long job.programmer.status held.status_there _ _ s0 s1 s3 is_held.stay is_held.status status_many
         is_amid.status
 
-    -- each byte that is opened from what may be left is the old or the new chip's
+    -- each byte that is opened from what may be left is that of the old or the new chip
     over : (image status : Found) (later : BusState) → MayFind job.programmer.image read.bytes.found image s3
         → MayFind job.programmer.status read.status.found status s3 → IsOpenedFrom image status bus.chip.config later.chip
         → IsWrittenOver bus.chip bus'.chip later.chip
@@ -148,13 +148,13 @@ module _ (job : ChipJob) (held : Held) (s0 s1 s2 : FilesState) (bus bus' : BusSt
           idle = from.idle;
         }
 
-    -- from the time when the files are held, until the call ends
+    -- from the locking of the files to the end of the call
     call_stays : (made : Option (Bor Text)) → StayApart job.programmer.trace made s1 s2 → (name : Text)
         → IsNot s0.view.nature job.programmer.trace name → IsNot s0.view.nature made name → Stays name s1 s2
     call_stays made stay' name traced other =
         stay' name (not_after job.programmer.trace name nature1 traced) (not_after made name nature1 other)
 
-    -- from then on
+    -- from the end of the call on
     last_stays : (name : Text) → IsNot s0.view.nature job.programmer.image name
         → IsNot s0.view.nature job.programmer.status name → Stays name s2 s3
     last_stays name image status =
@@ -167,14 +167,14 @@ module _ (job : ChipJob) (held : Held) (s0 s1 s2 : FilesState) (bus bus' : BusSt
         last_stays file.now (not_that s0.view.nature job.programmer.image file one)
         (not_that s0.view.nature job.programmer.status file other)
 
-    -- a file stays whose name is apart from those of the programmer's files and of the one that the task makes
+    -- a file stays if its name is apart from those of the programmer's files and of the file that the task creates
     others_stay : (made : Option (Bor Text)) → StayApart job.programmer.trace made s1 s2 → (name : Text)
         → IsNoFileOf s0.view.nature job.programmer name → IsNot s0.view.nature made name → Stays name s0 s3
     others_stay made stay' name none other =
         stays_on (is_held.stay name)
         (stays_on (call_stays made stay' name none.trace other) (last_stays name none.image none.status))
 
-    -- a sealed journal restores the original chip, and stays in its file
+    -- a sealed journal restores the original chip, and is durable in its file
     leads_kept : {request : Request} {image : List ℕ} {outcome : Result Answer Refusal} (file : Bor Text)
         → (made : HasMadeChange request image (uses.Journal file) bus bus' amid s2 outcome)
         → IsKeptFile file.now made.vault' s3 → made.vault'.sealed ≡ true
@@ -192,7 +192,7 @@ module _ (job : ChipJob) (held : Held) (s0 s1 s2 : FilesState) (bus bus' : BusSt
           rw saves.is at (in_file.settled is),
         )
 
-    -- behind a session, whose journal is in its file
+    -- a session with its journal in a file
     keeps_change : {request : Request} {image : List ℕ} {outcome : Result Answer Refusal} (kept : JournalUse)
         → keeps_journal kept ≡ true → StayApart job.programmer.trace (journal_of kept) s1 s2
         → AreTwo s0.view.nature job.programmer.image (journal_of kept)
@@ -240,7 +240,7 @@ module _ (job : ChipJob) (held : Held) (s0 s1 s2 : FilesState) (bus bus' : BusSt
         })
     keeps_files _ named outcome puts stay' one other traced does = absurd cc
 
-    -- ---- what they hold at the end
+    -- ---- what the files hold at the end
 
     module _ (unwritten : Unwritten) (all : unwritten ≡ all_written)
         (put : ArePutBack job.programmer bus'.chip unwritten.image unwritten.status s3) where

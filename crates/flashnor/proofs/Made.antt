@@ -1,4 +1,4 @@
--- What is left of a file of the chip while it is written over, or made.
+-- The contents that may be left of a file of the chip while it is overwritten in place or created.
 use Rattle.std.proofs.Common.{◌≡◌, ◌+◌, ◌-◌, ◌∷◌, ◌⊎◌, ◌∙◌, ℕ, List, [], None, Some, Result, Ok, Err, OnOk, ap, arith}
 use Rattle.std.proofs.Common.{drop, false, inl, inr, is_some, length, option_map, refl, sym, true}
 use Rattle.std.proofs.lemmas.Bool.{false≢true}
@@ -13,7 +13,7 @@ use Rattle.flashnor.proofs.Stays.{apart_after, lawful_after, stays_on}
 
 -- ---- calls on one file
 
--- Calls on that one file.
+-- The effect of calls on one file: the nature of the files and all other files stay.
 pub record WorkOn (name : Name) (old new : FilesState) : Type 0 where
   pub nature : new.view.nature ≡ old.view.nature
   pub out : is_lawful old.view ≡ true → new.view.out name ≡ old.view.out name
@@ -42,17 +42,17 @@ known_on work known = record {
 
 -- ---- lengths
 
--- a file that has the length keeps its bytes
+-- setting a length that the file has keeps its bytes
 with_its_length : (len : ℕ) (has : List ℕ) → length has ≡ len → with_length len has ≡ has
 with_its_length len has is =
     let none : len - length has ≡ 0 = omega arith in
     rw (take_all len has (omega arith), none) (append-nil has)
 
--- as many bytes written over it are all that it has
+-- bytes of the same length overwrite everything
 all_over : (had bytes : List ℕ) → length had ≡ length bytes → written_over bytes had ≡ bytes
 all_over had bytes as_many = rw (drop_all (length bytes) had (omega arith)) (append-nil bytes)
 
--- ---- bytes written over as many
+-- ---- overwriting with the same number of bytes
 
 module _ {T E : Type 0} {name : Name} {had bytes : List ℕ} {a b : FilesState} {one : T}
     (ready : IsReadyFile name true had bytes a) (writes : WritesOver {E = E} name bytes (Ok one) a b) where
@@ -66,7 +66,7 @@ module _ {T E : Type 0} {name : Name} {had bytes : List ℕ} {a b : FilesState} 
         (has, same, rw (same_Some first had (ready.settled.leaves (Some first) was)) at mix)
   ]
 
-  -- the length couldn't be set
+  -- the file while its length is set
   pub amid_cut : {result : Result T E} {c : FilesState} → SetsLength name (length bytes) result b c
       → LeavesFileAmid name true had bytes c
   amid_cut sets left can = elim (sets.leaves left can) [
@@ -79,7 +79,7 @@ module _ {T E : Type 0} {name : Name} {had bytes : List ℕ} {a b : FilesState} 
         (has, is ∙ ap Some uncut, mix)
   ]
 
-  -- it was synced, or not
+  -- the file after it was synced, or its sync failed
   pub amid_over : {two : T} {c : FilesState} (d : FilesState) (result : Result T E)
       → SetsLength {E = E} name (length bytes) (Ok two) b c → Syncs name result c d
       → LeavesFileAmid name true had bytes d
@@ -95,13 +95,13 @@ module _ {T E : Type 0} {name : Name} {had bytes : List ℕ} {a b : FilesState} 
   ]
   amid_over d (Err _) sets no_more left can = amid_cut sets left (no_more left can)
 
--- ---- its bytes, one after another
+-- ---- the contents of a file that is created
 
--- before it is written over: one more clear byte than the bytes are
+-- the contents before it is overwritten: zero bytes, one more than `bytes` has
 abbrev pub blank : List ℕ → List ℕ
 blank bytes = with_length (length bytes + 1) []
 
--- and then
+-- the contents after it is overwritten
 abbrev pub filled : List ℕ → List ℕ
 filled bytes = written_over bytes (blank bytes)
 
@@ -115,7 +115,7 @@ filled_length : (bytes : List ℕ) → length (filled bytes) ≡ length bytes + 
 filled_length bytes =
     omega (arith, length-append bytes (drop (length bytes) (blank bytes)), length-drop (length bytes) (blank bytes), blank_length bytes)
 
--- it is cut to the bytes
+-- truncated to the length of `bytes` it has exactly `bytes`
 cut_to : (bytes : List ℕ) → with_length (length bytes) (filled bytes) ≡ bytes
 cut_to bytes =
     let none : length bytes - length (filled bytes) ≡ 0 = omega (arith, filled_length bytes) in
@@ -128,9 +128,10 @@ empty_whole (byte ∷ bytes) none = absurd (omega arith)
 longer : (bytes content : List ℕ) → length content ≡ length bytes + 1 → length content ≡ length bytes → content ≡ bytes
 longer bytes content more same = absurd (omega (arith, more, same))
 
--- ---- moments
+-- ---- states of the file
 
--- Calls on a file that was ready to be made with these bytes gave it this content, if the last of them succeeded.
+-- Calls on a file that was ready to be created with these bytes, of which the last may have failed. If it succeeded,
+-- the file has this content.
 pub record IsChanged {T E : Type 0} (name : Name) (bytes content : List ℕ) (result : Result T E)
     (old new : FilesState) : Type 0 where
   pub work : WorkOn name old new
@@ -139,7 +140,7 @@ pub record IsChanged {T E : Type 0} (name : Name) (bytes content : List ℕ) (re
   pub seen : (one : T) → result ≡ Ok one → (had : List ℕ) → IsReadyFile name false had bytes old
       → new.view.seen name ≡ Some content
 
--- It is there with this content, and only its name may be missing once the machine is lost.
+-- The file exists with this content. A host crash may only lose its name.
 pub record IsNew (name : Name) (bytes content : List ℕ) (old new : FilesState) : Type 0 where
   pub work : WorkOn name old new
   pub whole : length content ≡ length bytes → content ≡ bytes
@@ -147,9 +148,9 @@ pub record IsNew (name : Name) (bytes content : List ℕ) (old new : FilesState)
   pub leaves : (had : List ℕ) → IsReadyFile name false had bytes old → (left : Found) → new.may_leave name left
       → (left ≡ None) ⊎ (left ≡ Some content)
 
--- ---- one call after another
+-- ---- the calls in sequence
 
--- What is known of a call on the file of this name: that it is made, gets another length, is written over, or synced.
+-- The effect of a call that creates the file of this name, sets its length, overwrites or syncs it.
 module _ {T E : Type 0} (F : Type 0) (name : Name) (result : Result T E) (old new : FilesState) where
   abbrev Keeps : Type 0
   Keeps = new.view.nature ≡ old.view.nature
@@ -193,7 +194,7 @@ made {bytes = bytes} make = record {
   ];
 }
 
--- what may be left of it is missing, or all bytes, or not as many
+-- what may be left of the file is nothing, or its content, which is complete if its length is right
 of_new : {name : Name} {bytes content : List ℕ} {old new : FilesState} → IsNew name bytes content old new
     → (had : List ℕ) → IsReadyFile name false had bytes old → LeavesFileAmid name false had bytes new
 of_new {content = content} is had ready left can = elim (is.leaves had ready left can) [
@@ -273,7 +274,7 @@ module _ {T E F : Type 0} {name : Name} {bytes content : List ℕ} {one : T} {ol
     seen = λ one ok. absurd cc;
   }
 
--- its folder is synced, or not
+-- its directory was synced, or the sync failed
 module _ {T E : Type 0} {name : Name} {bytes : List ℕ} {old mid : FilesState} (is : IsNew name bytes bytes old mid)
     (new : FilesState) (had : List ℕ) (ready : IsReadyFile name false had bytes old) where
   pub amid_placed : (result : Result T E) → (IsKnown name mid.view → Places name result mid new)

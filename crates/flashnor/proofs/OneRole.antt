@@ -1,4 +1,4 @@
--- Names of a job's files that can't be looked at.
+-- Names of a job's files that can't be looked up.
 use Rattle.std.proofs.Common.{◌≡◌, ◌⊎◌, Some, inl, inr, true}
 use Rattle.std.specs.Borrow.{Bor}
 use Rattle.nor_files.specs.Files.{Nature}

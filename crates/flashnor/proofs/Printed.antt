@@ -1,4 +1,4 @@
--- What writes print that follow one another.
+-- The text that several writes print.
 use Rattle.std.proofs.Common.{◌≡◌, ◌∙◌, ℕ, ◌+◌, ◌<◌, Bool, List, [], ◌∷◌, ◌++◌, Option, None, Some, Result, Ok, Err}
 use Rattle.std.proofs.Common.{IfSome, add-one, append-nil, arith, false, flat_map, get_or, length, refl, sym, take}
 use Rattle.std.proofs.Common.{true}
@@ -34,7 +34,7 @@ chips_then a b c items i none below one two =
 
 -- ---- ends of runs
 
--- where a line is known, it and what follows were told
+-- if a line is known, it and the lines after it were printed
 pub tells_both : (line : Option (List ℕ)) (a b c : Option (List ℕ)) (others : List ℕ) → IfSome line (Appends a b) → Appends b c others
     → IfSome (option_append line (Some others)) (Appends a c)
 tells_both None a b c others one two = tt
@@ -59,7 +59,7 @@ printed_well outcome unwritten out out' err err' ending is_printed answered prin
   silent = λ _ all. ends.silent all;
 }
 
--- a fault that isn't help
+-- a fault that is not help
 pub printed_badly : (fault : Fault) (unwritten : Unwritten) (out err err' : Option (List ℕ)) (ending : Ending)
     → (IsAnswered (Err fault) → ⊥) → EndsBadly fault unwritten err err' ending
     → HasPrinted (Err fault) unwritten out out err err' ending

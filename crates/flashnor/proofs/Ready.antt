@@ -1,4 +1,4 @@
--- A bus to the programmer's chip is one that promises are made for.
+-- A ready bus to the emulated chip is modelled, and identification on it finds that chip.
 use Rattle.std.proofs.Common.{◌≡◌, ◌∙◌, ◌<◌, ℕ, Option, None, Some, Ok, arith, inr, is_none, refl, subst, sym, true}
 use Rattle.nor_chip.specs.Bus.{Allows, BusState}
 use Rattle.nor_chip.specs.Chip.{Chip, IsSame}
@@ -31,14 +31,14 @@ modelled_ready programmer bus ready = record {
 pub calm_ready : (programmer : Programmer) (bus : BusState) → IsReady programmer bus → IsCalm bus
 calm_ready programmer bus ready = inr ready.idle
 
--- what it shows is no other part
+-- the part that a ready bus shows is that of the emulated chip
 shows : (programmer : Programmer) (bus : BusState) (part : Part) → IsReady programmer bus
     → shown_as bus.chip.config ≡ Ok part → emulated_part programmer.chip ≡ part
 shows programmer bus part ready shown =
     let both = sym (shown_with programmer.chip programmer.unique bus.chip.config ready.config) ∙ shown in
     cc
 
--- what is found on it
+-- the chip that is found
 pub finds_ready : (programmer : Programmer) (named : Option ChipName) (old new : BusState) (found : Found)
     → IsReady programmer old → IsWanted named found.name → Finds old new found
     → IsEmulatedFound named programmer.chip found
@@ -46,7 +46,7 @@ finds_ready programmer named old new found ready name finds =
     let part : emulated_part programmer.chip ≡ part_in found = shows programmer old _ ready finds.part in
     record { part = sym part; name = rw part name }
 
--- and what is refused
+-- the errors of identification
 pub refuses_ready : (programmer : Programmer) (named : Option ChipName) (old new : BusState) (fault : ProbeFault)
     → IsReady programmer old → Tells named old new fault → FindRefuses programmer named (of_probe fault)
 refuses_ready programmer named old new Probes.OtherName ready tells = λ has.
@@ -60,7 +60,7 @@ refuses_ready programmer named old new _ ready tells =
     let bad = sym (shown_with programmer.chip programmer.unique old.chip.config ready.config) ∙ tells.0 in
     cc
 
--- how it is started: with all that its files tell, then the power that may be lost, then its allowance
+-- The bus after it got its contents, then the setting for power cuts, then its number of transactions.
 pub opens_held : (programmer : Programmer) (content : Content) (allowed : ℕ) (first last : BusState)
     → HoldsFiles programmer content first → allowed ≡ allowance_of programmer
     → Allows allowed (record first { steady = is_none programmer.power }) last → OpensChip programmer content last
@@ -77,7 +77,7 @@ opens_held programmer content allowed first last held allowance allows = record 
       (record { bytes = held.bytes; kept = held.kept; latch = held.latch });
 }
 
--- ---- a probe before a restore
+-- ---- identification before a restore
 
 pub looked_same : (most : ℕ) (old new : BusState) → Looks most old new → old.honest ≡ true → IsCalm old
     → IsSame old.chip new.chip
@@ -109,6 +109,6 @@ passes_none bus modelled calm = record {
   name = tt;
 }
 
--- a bus that nothing was sent to
+-- a bus to which nothing was sent
 pub looks_none : (most : ℕ) (bus : BusState) → Looks most bus bus
 looks_none most bus = looks_more 0 most bus bus (omega arith) (looks_at_none bus)

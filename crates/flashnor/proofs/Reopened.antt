@@ -1,4 +1,4 @@
--- What a later run opens from the chip's files, whatever may be left of them.
+-- The chip that a later run opens, from any files that may be left.
 use Rattle.std.proofs.Common.{◌≡◌, ◌∙◌, ℕ, Bool, List, Option, None, Some}
 use Rattle.std.proofs.Common.{◌⊎◌, IfSome, ap, arith, false, inl, inr, length, refl}
 use Rattle.std.proofs.Common.{slice_index, sym, true, unwrap_or}
@@ -14,9 +14,9 @@ use Rattle.flashnor.specs.Left.{LeavesAsLong, MayFind, Opened}
 use Rattle.flashnor.specs.Stored.{AreOfFile}
 use Rattle.flashnor.proofs.Shown.{size_with}
 
--- ---- as many bytes as a file is to have
+-- ---- files of the right length
 
--- where no file is named the missing bytes stand for it
+-- if no file is named, the missing bytes stand for it
 pub of_none : (view : View) (name : Option (Bor Text)) (len : ℕ) (missing bytes : List ℕ) → name ≡ None
     → AreOfFile view name len missing bytes → bytes ≡ missing
 of_none view name len missing bytes none are = grind arith
@@ -32,7 +32,7 @@ as_many view name len missing bytes are many = ap length are.same
     ∙ (elim are.found as (λ f. IfSome f (λ all. length all ≡ len) → length (unwrap_or f missing) ≡ len)
     [ None ↦ λ _. many | Some all ↦ λ whole. whole ]) are.whole
 
--- a chip that was opened has as many bytes as were read of it
+-- the number of bytes of an opened chip is the number that was read
 module _ {programmer : Programmer} {files : FilesState} (first : Opened programmer files) where
   pub opened_size : first.bus.chip.config.size ≡ (emulated_part programmer.chip).size
   opened_size = size_with programmer.chip programmer.unique first.bus.chip.config first.opens.ready.config
@@ -41,9 +41,9 @@ module _ {programmer : Programmer} {files : FilesState} (first : Opened programm
   opened_many =
       as_many files.view programmer.image _ _ _ first.read.bytes (length-replicate {A = ℕ} _ 255) ∙ sym opened_size
 
--- ---- what is opened from what may be left
+-- ---- what is opened from the files that may be left
 
--- byte by byte it is what was there or what is written
+-- each byte is that of `had` or that of `bytes`
 abbrev pub IsEither : (had bytes has : List ℕ) → Type 0
 IsEither had bytes has = (i : ℕ) → (slice_index has i ≡ slice_index had i) ⊎ (slice_index has i ≡ slice_index bytes i)
 
@@ -56,7 +56,7 @@ left_either had bytes missing false left stood amid whole i = elim amid [
   | inr made ↦ inr (rw made.1 (ap (λ (l : List ℕ). slice_index l i) (made.2 (rw made.1 at whole))))
 ]
 
--- each byte of what a later run may find is the old or the new one, even if a file that was missing is moved aside
+-- each byte of what a later run may find is old or new, even if a file that was missing is moved aside
 pub found_either : (had bytes missing : List ℕ) (named : Option (Bor Text)) (there : Bool) (files : FilesState)
     (was' left : Found) → (there ≡ false → had ≡ missing) → (named ≡ None → had ≡ missing)
     → (was' ≡ None → had ≡ missing) → LeavesAmid named there had bytes files → MayFind named was' left files
@@ -68,7 +68,7 @@ found_either had bytes missing (Some name) there files was' left stood unnamed m
   | inr aside ↦ inl (rw (aside.1, moved aside.0) refl)
 ]
 
--- a file that was there has all its bytes while it is written over
+-- a file that existed keeps its length while it is overwritten
 pub as_long : (name : Option (Bor Text)) (there : Bool) (had put : List ℕ) (s0 s1 s3 : FilesState) → AllStay s0 s1
     → Settles name (was there had) s1 → length had ≡ length put → LeavesAmid name there had put s3
     → LeavesAsLong name s0 s3

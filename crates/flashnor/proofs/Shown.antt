@@ -1,4 +1,4 @@
--- What the emulated chips are, and show themselves as.
+-- The configuration of the emulated chips, and the part that identification shows.
 use Rattle.std.proofs.Common.{◌≡◌, ◌∙◌, List, ℕ, [], ◌∷◌, Option, None, Some, Result, Ok, Err, IsOk, ap, arith}
 use Rattle.std.proofs.Common.{if◌then◌else◌, refl, replicate, subst, sym}
 use Rattle.nor_chip.specs.declared.config.Config.{Config}
@@ -15,7 +15,7 @@ use Rattle.nor_words.specs.Programmer.{IsConfigOfEmulated}
 use Rattle.nor_words.specs.declared.programmer.Emulated.{Emulated}
 use Rattle.nor_words.specs.declared.programmer.Emulated.TheVariants.{Tiny64, W25q64fv, W25q128fv}
 
--- ---- by its makers, whatever its own number
+-- ---- with any unique ID
 
 known_by : (chip : Emulated) (config : Config) → IsConfigOfEmulated chip config → IsKnown config
 known_by Tiny64 config is = tiny64_known config is
@@ -25,7 +25,7 @@ known_by W25q128fv config is = w25q128fv_known config is
 size_by : (chip : Emulated) (config : Config) → IsConfigOfEmulated chip config → config.size ≡ (emulated_part chip).size
 size_by chip config is = grind arith
 
--- what a geometry makes of TINY64, where it is that of the chip
+-- the part that a geometry gives for TINY64, if it is that of the chip
 by_geometry : (config : Config) → config.size ≡ 65536 → config.kinds ≡ all_kinds → (says : Result Geometry SfdpFault)
     → ((geometry : Geometry) → says ≡ Ok geometry → HasGeometry geometry config)
     → IsOk (part_by_sfdp (254 ∷ 16 ∷ 16 ∷ []) says)
@@ -37,7 +37,7 @@ by_geometry config is_size is_kinds (Ok geometry) described ok =
     rw (size, kinds) refl
 by_geometry config is_size is_kinds (Err fault) described ok = cc
 
--- a chip with the ID of TINY64 is what its SFDP says
+-- a chip with the ID of TINY64 is known by its SFDP
 by_id : (config : Config) (id : List ℕ) → id ≡ 254 ∷ 16 ∷ 16 ∷ []
     → (if is_no_chip id then Err NoChip else listed_or (part_by_sfdp id (chip_says config)) (row_of id))
     ≡ part_by_sfdp (254 ∷ 16 ∷ 16 ∷ []) (chip_says config)
@@ -53,9 +53,9 @@ shown_by Tiny64 config unique is known =
     (subst (λ r. IsOk r) says known.shown)
 shown_by _ config unique is known = rw is.id refl
 
--- ---- with its own number
+-- ---- with the given unique ID
 
--- but for that it is as it was made
+-- except for its unique ID the chip is an emulated one
 made_with : (chip : Emulated) (number : Option (List ℕ)) (config : Config) → IsConfigWith chip number config
     → (unique : List ℕ) × IsConfigOfEmulated chip (record config { unique = unique })
 made_with chip None config is = (config.unique, is)

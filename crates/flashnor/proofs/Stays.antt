@@ -21,11 +21,11 @@ stays_on one other = record {
 
 -- ---- names that are apart
 
--- in either order
+-- the order of the two names does not matter
 pub apart_swapped : (nature : Nature) (one other : Name) → AreApart nature one other → AreApart nature other one
 apart_swapped nature one other apart = λ lawful. let both = apart lawful in (both.1, both.0)
 
--- after calls, which keep the nature of the files
+-- names stay apart after calls, which keep the nature of the files
 pub apart_after : {old new : Nature} {one other : Name} → new ≡ old → AreApart old one other → AreApart new one other
 apart_after {one = one} {other = other} same apart = subst (λ (n : Nature). AreApart n one other) (sym same) apart
 
@@ -33,31 +33,31 @@ pub not_after : {old new : Nature} (one : Option (Bor Text)) (any : Text) → ne
     → IsNot new one any
 not_after one any same not = subst (λ (n : Nature). IsNot n one any) (sym same) not
 
--- the other way round
+-- `AreTwo` with the names exchanged
 pub not_that : (nature : Nature) (one : Option (Bor Text)) (file : Bor Text) → AreTwo nature one (Some file)
     → IsNot nature one file.now
 not_that nature None file two = tt
 not_that nature (Some one) file two = apart_swapped nature file.now one.now two
 
--- each file stays whose name is apart from these two, if they are given
+-- each file stays if its name is apart from these two, if they are given
 abbrev pub StayApart : (one other : Option (Bor Text)) → (old new : FilesState) → Type 0
 StayApart one other old new = (any : Name) → IsNot old.view.nature one any → IsNot old.view.nature other any
     → Stays any old new
 
--- what holds where no file is named, and of each file that is neither of two, holds of a name that is neither
+-- A property of `None` and of each file whose name is apart from two names holds for a name that is apart from both.
 pub apart : (nature : Nature) (Holds : Option (Bor Text) → Type 0) → Holds None
     → (name one other : Option (Bor Text)) → AreTwo nature name one → AreTwo nature name other
     → ((file : Bor Text) → IsNot nature one file.now → IsNot nature other file.now → Holds (Some file)) → Holds name
 apart nature Holds none None one other first second each = none
 apart nature Holds none (Some file) one other first second each = each file first second
 
--- ---- what is made by no call
+-- ---- if no call creates a file
 
 pub nothing_same : (name : Option (Bor Text)) (files : FilesState) → MakesNothing name files files
 nothing_same None files = tt
 nothing_same (Some name) files = λ known left can. inl can
 
--- ---- what is known of a file still is
+-- ---- what is known of a file stays known
 
 pub lawful_after : {old new : Nature} → new ≡ old → old.lawful ≡ true → new.lawful ≡ true
 lawful_after same is = ap (λ (n : Nature). n.lawful) same ∙ is
@@ -91,7 +91,7 @@ rest_on same rest stay = record {
   in_store = λ name. (stay name).out ∙ rest.in_store name;
 }
 
--- a vault that was handed out and back
+-- a vault that was lent and returned
 module _ (name : Name) (old mid new : FilesState) (vault : VaultState)
     (made : mid.view.nature ≡ old.view.nature) (lends : is_lawful old.view ≡ true → Lends name old mid)
     (back : new.view.nature ≡ mid.view.nature)

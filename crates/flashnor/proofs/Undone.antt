@@ -1,4 +1,5 @@
--- Runs one behind another: each restore leads back as its predecessors did, and one that ends has left the first chip.
+-- Runs that follow one another: the journal can restore the original chip after each restore, and a restore that ends
+-- leaves it.
 use mathlib.Core.HLevel.{is_prop→PathP}
 use Rattle.std.proofs.Common.{◌≡◌, ◌<◌, ◌∙◌, ◌++◌, ◌∷◌, [], ℕ, Bool, List, Option, None, Some, Result}
 use Rattle.std.proofs.Common.{Ok, ◌⊎◌, IfSome, IsTrue, ap, arith, drop, inl, inr, length, option_map, refl, replicate}
@@ -43,7 +44,7 @@ use Rattle.flashnor.proofs.Stays.{known_at_rest, lawful_after, not_that}
 use Rattle.flashnor.proofs.Traced.{reads_before}
 use Rattle.flashnor.proofs.Aside.{left_seen, mixed_back, none_found, pick}
 
--- ---- a chip and its number have one configuration
+-- ---- an emulated chip with a given unique ID has one configuration
 
 same_parts : {i : List ℕ} {n : ℕ} {k : Kinds} {s : Bool} {f : List ℕ} {one other : Config} → HasParts i n k s f one
     → HasParts i n k s f other → one ≡ other
@@ -76,7 +77,7 @@ same_with chip (Some number) one other a b =
 
 -- ---- names
 
--- if both name the same file, the same may be found of both
+-- if both name the same file, the same may be found for both
 found_one : (one other : Option (Bor Text)) (was left : Found) (files : FilesState) → NameOne one other
     → MayFind other was left files → MayFind one was left files
 found_one None None was left files same can = can
@@ -120,7 +121,7 @@ same_journal journal other n sound is reads =
 
 module _ (programmer : Programmer) (file : Text) (start : FilesState) (first : Opened programmer start)
     (other : Programmer) (same : HaveOneChip programmer other) where
-  -- files from which no more may be found lead back, too
+  -- if no more may be found of the files, the journal can still restore the original chip from them
   leads_less : (old new : FilesState) → LeavesNoMore file old new
       → ((found : Found) → MayFind programmer.image first.read.bytes.found found new
       → MayFind programmer.image first.read.bytes.found found old)
@@ -134,7 +135,7 @@ module _ (programmer : Programmer) (file : Text) (start : FilesState) (first : O
     back = λ i s opened can_i can_s from. leads.back i s opened (image i can_i) (status s can_s) from;
   }
 
-  -- if there was no such file at first, the original chip has what stands for a missing file
+  -- if the file was missing at first, the original chip has the contents that stand for a missing file
   first_byte : first.read.bytes.found ≡ None → (a : ℕ)
       → slice_index (replicate first.bus.chip.config.size 255) a ≡ first.bus.chip.bytes a
   first_byte none a =
@@ -146,14 +147,14 @@ module _ (programmer : Programmer) (file : Text) (start : FilesState) (first : O
 
   module _ (mid : FilesState) (rest : AreAtRest mid) (still : (name : Name) → mid.may_leave name (mid.view.seen name))
       (leads : LeadsBack file first mid) where
-    -- the journal that it reads is that one
+    -- the journal that the run reads is the one in the file
     one_journal : (journal : Journal) → IsContent journal → IsRead mid.view file 16793662 (text journal)
         → journal ≡ leads.journal
     one_journal journal is reads =
         same_journal leads.journal journal 16793662 leads.sound is (reads (known_at_rest rest file)
         ∙ ap (option_map (take 16793662)) (leads.left (mid.view.seen file) (still file)))
 
-    -- what such a run opens is opened from what may be left
+    -- a run opens the chip from files that may be left
     module _ (found : Opened other mid) where
       one_setup : found.bus.chip.config ≡ first.bus.chip.config
       one_setup =
@@ -173,7 +174,7 @@ module _ (programmer : Programmer) (file : Text) (start : FilesState) (first : O
             idle = found.opens.ready.idle;
           }
 
-      -- so the journal gives the first chip back from it
+      -- the journal can restore the original chip from it
       can_back : (journal : Journal) → IsContent journal → IsRead mid.view file 16793662 (text journal)
           → CanGiveBack journal first.bus.chip found.bus
       can_back journal is reads =
@@ -183,7 +184,7 @@ module _ (programmer : Programmer) (file : Text) (start : FilesState) (first : O
           (found_one programmer.status other.status _ _ mid same.status
           (left_seen mid rest still other.status _ _ found.read.status.is_found found.read.status.whole _)) from)
 
-    -- from what may be found after a restore
+    -- what may be found after a restore
     module _ (new : FilesState) (still' : (name : Name) → new.may_leave name (new.view.seen name))
         (kept : LeavesRestorable other file mid new) (image status : Found) (later : BusState)
         (can_image : MayFind programmer.image first.read.bytes.found image new)
@@ -213,7 +214,7 @@ module _ (programmer : Programmer) (file : Text) (start : FilesState) (first : O
           pick programmer.status other.status _ _ status 2 mid new same.status rest still' found.read.status.is_found
           found.read.status.whole kept.status can_status is.two
 
-      -- what would be opened if no file were moved aside that the restore found
+      -- the bus that would be opened if no file were moved aside that the restore found
       abbrev state : BusState
       state = record later {
         chip = record later.chip {
@@ -257,7 +258,7 @@ module _ (programmer : Programmer) (file : Text) (start : FilesState) (first : O
           ])
           is.idle
 
-    -- at every exit of a restore
+    -- on every exit of a restore
     leads_restored : (new : FilesState) → ((name : Name) → new.may_leave name (new.view.seen name))
         → KeepsRestorable other file mid new → LeadsBack file first new
     leads_restored new still' (inl none) =
@@ -272,10 +273,10 @@ module _ (programmer : Programmer) (file : Text) (start : FilesState) (first : O
 
   -- ---- at the end
 
-  -- files that have the chip open to it
+  -- files that hold a chip open to that chip
   module _ (chip : Chip) (new : FilesState) (lawful : is_lawful new.view ≡ true) (is : IsSame first.bus.chip chip)
       (put : ArePutBack other chip None None new) where
-    -- what was put into a file that is named, or what stands for it
+    -- what was written to a file that is named, or what stands for it
     settled : (name given : Option (Bor Text)) (was : Found) (bytes : List ℕ) (left : Found) → (given ≡ None → was ≡ None)
         → NameOne given name → ArePut name bytes None new → MayFind given was left new
         → ((was ≡ None) × (left ≡ None)) ⊎ (left ≡ Some bytes)

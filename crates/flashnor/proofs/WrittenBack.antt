@@ -1,4 +1,4 @@
--- Both files of the chip, one after the other put back, and the names of those that couldn't be written.
+-- Both files of the chip, written one after the other, and the names of those that could not be written.
 use Rattle.std.proofs.Common.{◌≡◌, ◌∙◌, ℕ, Bool, List, Option, None, Some, IfSome, arith, refl, true}
 use Rattle.std.specs.Borrow.{Bor}
 use Rattle.nor_chip.specs.Chip.{Chip}
@@ -12,11 +12,11 @@ use Rattle.flashnor.specs.Holding.{AreAmid, AreReady, IsReady, LeavesAmid, Settl
 use Rattle.flashnor.specs.Stored.{ArePut, AreTwo, Happens, IsNot, IsToldOf}
 use Rattle.flashnor.proofs.Stays.{known_after, lawful_after, not_after, not_that, settled_after}
 
--- each file stays whose name is apart from that one
+-- each file stays if its name is apart from the given one
 abbrev OthersOf : Option (Bor Text) → (old new : FilesState) → Type 0
 OthersOf name old new = is_lawful old.view ≡ true → (any : Name) → IsNot old.view.nature name any → Stays any old new
 
--- A file was put back, if one is named, or failed to be.
+-- A file was written, if one is named, or could not be written.
 abbrev PutsBack : Option (Bor Text) → (there : Bool) → (bytes : List ℕ) → (failed : Option (Bor Text))
     → (old new : FilesState) → Type 0
 PutsBack name there bytes failed old new = record {
@@ -42,7 +42,7 @@ ready_still one (Some name) there had bytes a b two same others ready =
       as_many = ready.as_many;
     }
 
--- and so does what was put into it, or is left of it
+-- what was written to the other file, or may be left of it, stays
 still : (there : Bool) (had bytes : List ℕ) (a b c : FilesState) (one other : Option (Bor Text))
     → AreTwo a.view.nature one other → b.view.nature ≡ a.view.nature → OthersOf other b c
     → IsReady one there had bytes a
@@ -53,7 +53,7 @@ still there had bytes a b c (Some name) other two same others ready =
     let stays = others (lawful_after same ready.known.lawful) name.now (not_after other name.now same two) in
     (settled_after stays, λ amid left can. amid left (stays.leaves left can))
 
--- ---- what is told of each
+-- ---- the names that are returned
 
 are_put : (name : Option (Bor Text)) (bytes : List ℕ) (failed : Option (Bor Text)) (old new : FilesState)
     → new.view.nature ≡ old.view.nature → IfSome failed (λ of. (name ≡ Some of) × Happens old.view (Unwritten of.now))
@@ -71,7 +71,7 @@ pub told_before : (name failed : Option (Bor Text)) (old mid : View) → mid.nat
     → IsToldOf name failed old
 told_before name failed old mid same is = grind arith
 
--- ---- both
+-- ---- both files
 
 module _ {programmer : Programmer} {image_there status_there : Bool} {had bits : List ℕ} {chip : Chip}
     {bytes flags : List ℕ} {image status : Option (Bor Text)} {a b c : FilesState} (are : AreChipBytes chip bytes)

@@ -1,4 +1,4 @@
--- What the jobs come to that change a chip.
+-- The results of the jobs that change a chip, and of rehearsals.
 use Rattle.std.specs.Prelude.{◌≡◌, ◌≤◌, ◌/◌, ◌⊎◌, ℕ, List, Option, None, Some, Result, false, true, drop, length}
 use Rattle.std.specs.Prelude.{IsOk, MatchResult, OnOk, ⊤}
 use Rattle.nor_chip.specs.Bus.{BusState}
@@ -37,29 +37,28 @@ use Rattle.flashnor.specs.declared.answers.Answer.TheVariants as answer
 
 -- ---- sessions
 
--- the chip is the one that the request wants
+-- the session ended, and the chip is the one that the request asks for
 abbrev pub TellsDone : Request → List ℕ → (old new : BusState) → Answer → Type 0
 TellsDone request image old new (answer.Done report) = IsDone request image old new report
 TellsDone request image old new _ = ⊥
 
--- A change was refused, or its journal or the bus failed; after refusals from 1 to 11 the chip is as before, and after
--- those from 1 to 8 the vault too.
+-- A session that returned an error. After errors 1 to 11 the chip is as before, after errors 1 to 8 the vault is too.
 pub record GivesUp (request : Request) (image : List ℕ) (old new : BusState)
     (vault vault' : VaultState) (refusal : Refusal) : Type 0 where
   pub refuses : SessionTells request image old new vault vault' refusal
   pub same : number_of refusal ≤ 11 → IsSame old.chip new.chip
   pub unused : number_of refusal ≤ 8 → vault' ≡ vault
 
--- The chip that is opened is the one from before, until the vault is sealed; from then on it is one that the journal
--- gives back which is read from the vault's bytes, where that is telling.
+-- A chip that a later run opens. Until the vault is sealed, it is the original chip. After that, a journal whose
+-- encoding is the bytes of a faithful (`telling`) vault can restore the original chip from it.
 pub record IsSafe (old opened : BusState) (vault : VaultState) : Type 0 where
   pub same : vault.sealed ≡ false → IsSame old.chip opened.chip
   pub back : vault.sealed ≡ true → vault.telling ≡ true
       → (journal : Journal) → IsContent journal → vault.bytes ≡ text journal → CanGiveBack journal old.chip opened
 
--- A change was made, or begun, with its journal in a vault: until that is sealed the chip is as before, and from then
--- on the journal leads back, at every end; and so it does from files that had the old chip, at each moment of their
--- being written over with the new one.
+-- A session, with its journal in a vault, on every exit. Until the vault is sealed the chip is as before; after that
+-- the session can be undone. `over`: both hold for each chip that interrupted writing of the new chip to the old chip's
+-- files may leave.
 pub record HasKeptChange (request : Request) (image : List ℕ) (old new : BusState) (vault vault' : VaultState)
     (outcome : Result Answer Refusal) : Type 0 where
   pub told : MatchResult outcome (TellsDone request image old new) (GivesUp request image old new vault vault')
@@ -70,21 +69,21 @@ pub record HasKeptChange (request : Request) (image : List ℕ) (old new : BusSt
 
 -- ---- rehearsals
 
--- What a rehearsal under these stops showed, whose vault ends so.
+-- A rehearsal under these stops, with the vault as it was at the end.
 pub record IsRehearsed (request : Request) (image stops : List ℕ) (chip : Chip)
     (vault : VaultState) (rehearsal : Rehearsal) : Type 0 where
   pub counts : IsRehearsal (length stops) vault rehearsal
-  -- The session ended if it was allowed as much as any session on such a chip needs, and only if as much as this one
-  -- does.
+  -- The session ended if it was allowed the bound of all sessions on a chip of this size; and only if it was allowed
+  -- the transactions that this session needs.
   pub ended : most_of (chip.config.size / 4096) ≤ first_allowance stops → rehearsal.ended ≡ true
   pub enough : rehearsal.ended ≡ true → CanEnd request image (first_allowance stops) chip
-  -- Its journal was sealed if that was as much as opening and scan may take, and only if it was as much as they take,
-  -- where the request is accepted; and it saves the touched sectors.
+  -- The journal was sealed if identification and scan were allowed their bound; and only if the request is accepted and
+  -- they were allowed the transactions that they take. A sealed journal saves the touched sectors.
   pub fits : SealFits request (first_allowance stops) chip rehearsal.sealed
   pub accepted : rehearsal.sealed ≡ true → IsAccepted request image chip
   pub saves : rehearsal.sealed ≡ true
       → JournalSaves (head_of chip) chip.bytes (is_touched chip.bytes (wanted request image chip)) vault.bytes
-  -- The restores were run under the other stops in turn.
+  -- The restores were run under the remaining stops in turn.
   pub restores : rehearsal.sealed ≡ true
       → AreRestores (sector_count (is_touched chip.bytes (wanted request image chip))) (drop 1 stops) rehearsal.restores
 
@@ -93,26 +92,26 @@ TellsRehearsed request image stops chip vault (answer.Rehearsed rehearsal) =
     IsRehearsed request image stops chip vault rehearsal
 TellsRehearsed request image stops chip vault _ = ⊥
 
--- A rehearsal leaves the chip as before, at every end.
+-- A rehearsal leaves the chip as before, on every exit.
 pub record HasRehearsed (request : Request) (image stops : List ℕ) (old new : BusState) (vault vault' : VaultState)
     (outcome : Result Answer Refusal) : Type 0 where
   pub same : IsSame old.chip new.chip
   pub told : MatchResult outcome (TellsRehearsed request image stops old.chip vault')
       (RehearsalTells request image old.chip vault vault')
 
--- The file has just the vault's bytes; once that is sealed they stay, whatever becomes of the machine.
+-- The file has exactly the bytes of the vault. If the vault is sealed, these are durable.
 pub record IsKeptFile (name : Text) (vault : VaultState) (files : FilesState) : Type 0 where
   pub telling : vault.telling ≡ true
   pub seen : files.view.seen name ≡ Some vault.bytes
   pub settled : vault.sealed ≡ true → IsSettled name (Some vault.bytes) files
 
--- where a journal is kept: in the file that is named; for a rehearsal in memory
+-- the journal is in the file, if the files obey their contract; in a rehearsal it is in memory, in a faithful vault
 abbrev pub IsKeptIn : JournalUse → (vault vault' : VaultState) → FilesState → Type 0
 IsKeptIn (uses.Journal file) vault vault' files =
     is_lawful files.view ≡ true → IsKeptFile file.now vault' files
 IsKeptIn (uses.Rehearse stops) vault vault' files = vault.telling ≡ true
 
--- what a change came to, whose vault starts and ends so
+-- the result of a change or a rehearsal, for the vault before and after it
 abbrev pub HasDone : Request → List ℕ → JournalUse → (old new : BusState) → (vault vault' : VaultState)
     → Result Answer Refusal → Type 0
 HasDone request image (uses.Journal file) old new vault vault' outcome =
@@ -120,7 +119,7 @@ HasDone request image (uses.Journal file) old new vault vault' outcome =
 HasDone request image (uses.Rehearse stops) old new vault vault' outcome =
     HasRehearsed request image stops.items old new vault vault' outcome
 
--- A change was made, or rehearsed, with its journal where it is to be kept. A journal in a file is a new file: before
+-- A change or a rehearsal was made, with its journal in a file or in memory. A journal in a file is a new file: before
 -- the change the file was missing.
 pub record HasMadeChange (request : Request) (image : List ℕ) (kept : JournalUse) (old new : BusState)
     (before : View) (after : FilesState) (outcome : Result Answer Refusal) : Type 0 where
@@ -133,39 +132,40 @@ pub record HasMadeChange (request : Request) (image : List ℕ) (kept : JournalU
 
 -- ---- restores
 
--- the chip is what the journal wants
+-- the restore ended, and the chip is the one that the journal saves
 abbrev pub TellsRestored : Journal → (old new : BusState) → Answer → Type 0
 TellsRestored journal old new (answer.Done report) = IsRestored journal old new report
 TellsRestored journal old new _ = ⊥
 
--- a probe refused, for the name or before
+-- identification failed, for the name or for another reason
 abbrev pub ProbeRefuses : Option ChipName → (old new : BusState) → Refusal → Type 0
 ProbeRefuses named old new refusal =
     (fault : ProbeFault) × (refusal ≡ of_probe fault) × Tells named old new fault
 
--- A restore refused: for its verdict on the chip, which is as before then, or since the bus stopped.
+-- A restore that returned an error: it does not accept the chip, which is then as before, or the bus stopped.
 pub record RestoreRefuses (journal : Journal) (old new : BusState) (refusal : Refusal) : Type 0 where
   pub refuses : RestoreTells journal old new refusal
   pub same : IsJudgedFirst refusal → IsSame old.chip new.chip
 
--- the chip has the name that is given, if one is
+-- the chip has the given name, if one is given
 abbrev pub HasGivenName : Option ChipName → Chip → Type 0
 HasGivenName None chip = ⊤
 HasGivenName (Some name) chip = IsNamed (Some name) chip.config
 
--- A probe for that name was passed.
+-- Identification found the given name, if one is given. The chip is as before, and the bus is modelled and steady or
+-- idle.
 pub record Passes (named : Option ChipName) (old new : BusState) : Type 0 where
   pub same : IsSame old.chip new.chip
   pub modelled : IsModelled new
   pub calm : IsCalm new
   pub name : HasGivenName named old.chip
 
--- A restore was made on the chip, after a probe for the name that is given, if one is. Each chip that the journal could
--- give back before it still can, from files that had the old chip, at each moment of their being written over; and at
--- the end the chip is that one.
+-- A restore, after an identification if a name is given. Each original chip that the journal could restore before the
+-- restore, it can still restore from each chip that interrupted writing to the files may leave. If the restore ended,
+-- the chip is that original chip.
 pub record HasRestored (journal : Journal) (named : Option ChipName) (old new : BusState)
     (outcome : Result Answer Refusal) : Type 0 where
-  -- the bus after that probe, which tells that the chip has the name
+  -- the bus after that identification, which checks the name
   pub found : BusState
   pub looks : Looks most_probe old found
   pub same : IsSame old.chip found.chip

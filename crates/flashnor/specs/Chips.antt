@@ -1,4 +1,4 @@
--- What a run opens: the emulated chip, and the bus to it.
+-- The emulated chip that a run opens, and the bus to it.
 use Rattle.std.specs.Prelude.{◌≡◌, ◌⊎◌, ◌/◌, ◌%◌, ◌==◌, ◌∷◌, [], ℕ, List, true, Option, Some, None, IsSomeAnd}
 use Rattle.std.specs.Prelude.{is_none, replicate, slice_index, unwrap_or}
 use Rattle.std.specs.Borrow.{Bor}
@@ -22,18 +22,18 @@ use Rattle.flashnor.specs.declared.chips.Content.{Content}
 use Rattle.flashnor.specs.declared.messages.Fault.{Fault}
 use Rattle.flashnor.specs.declared.messages.Fault.TheVariants as end
 
--- the configuration of an emulated chip, with this unique ID in place of eight zeros, if one is given
+-- the configuration of an emulated chip, with the given unique ID, or eight zero bytes if none is given
 abbrev pub IsConfigWith : Emulated → Option (List ℕ) → Config → Type 0
 IsConfigWith chip None config = IsConfigOfEmulated chip config
 IsConfigWith chip (Some unique) config =
     IsConfigOfEmulated chip (record config { unique = replicate 8 0 }) × (config.unique ≡ unique)
 
--- how many transactions are allowed; without `stop=` the most that can be
+-- the number of transactions that the bus carries out: `stop=`, or 2^64 - 1 without it
 abbrev pub allowance_of : Programmer → ℕ
 allowance_of programmer = unwrap_or programmer.stop 18446744073709551615
 
--- An honest bus to the programmer's chip, which is idle. So many transactions are allowed, and a stop loses the power
--- where `power=` is given.
+-- A well-behaved (`honest`) bus to the emulated chip, which is idle; nothing was sent yet. `left` transactions are
+-- carried out. If `power=` is given the bus is not steady: a stop cuts the chip's power.
 pub record IsReady (programmer : Programmer) (bus : BusState) : Type 0 where
   pub config : IsConfigWith programmer.chip programmer.unique bus.chip.config
   pub idle : bus.chip.busy ≡ 0
@@ -42,24 +42,25 @@ pub record IsReady (programmer : Programmer) (bus : BusState) : Type 0 where
   pub steady : bus.steady ≡ is_none programmer.power
   pub still : IsNothing bus.sent
 
--- It is what the chip's files have: FFh and clear status bytes where none is named or there.
+-- The contents of the chip's files. FFh stands for a missing or unnamed image, clear status bytes for a missing or
+-- unnamed status file.
 pub record IsContentOf (view : View) (programmer : Programmer) (content : Content) : Type 0 where
   pub bytes : AreOfFile view programmer.image (emulated_part programmer.chip).size
       (replicate (emulated_part programmer.chip).size 255) content.bytes.items
   pub status : AreOfFile view programmer.status 2 (0 ∷ 0 ∷ []) content.status
 
--- The chip has these bytes, and the kept bits and the latch of these status bytes.
+-- The chip has these bytes, and the non-volatile status bits and the write enable latch of these status bytes.
 pub record HasContent (content : Content) (chip : Chip) : Type 0 where
   pub bytes : (a : ℕ) → chip.bytes a ≡ slice_index content.bytes.items a
   pub kept : chip.kept ≡ kept_in content.status
   pub latch : chip.latch ≡ (slice_index content.status 0 / 2 % 2 == 1)
 
--- The bus is ready, and the chip as its files tell it.
+-- The bus is ready, and the chip has the contents of its files.
 pub record OpensChip (programmer : Programmer) (content : Content) (bus : BusState) : Type 0 where
   pub ready : IsReady programmer bus
   pub holds : HasContent content bus.chip
 
--- The same before anything is allowed, while the bus keeps its power.
+-- The bus before transactions are allowed and before a stop can cut the power.
 pub record HoldsFiles (programmer : Programmer) (content : Content) (bus : BusState) : Type 0 where
   pub config : IsConfigWith programmer.chip programmer.unique bus.chip.config
   pub idle : bus.chip.busy ≡ 0
@@ -69,27 +70,27 @@ pub record HoldsFiles (programmer : Programmer) (content : Content) (bus : BusSt
   pub kept : bus.chip.kept ≡ kept_in content.status
   pub latch : bus.chip.latch ≡ (slice_index content.status 0 / 2 % 2 == 1)
 
--- A simulated bus that opens the chip: after each operation as many polls answer BUSY as `busy=` says, or none where it
--- isn't given, and a loss of power leaves the fill of `power=`.
+-- A simulated bus that opens the chip. After each operation the chip is busy for the number of polls that `busy=`
+-- gives, or none without it; a power cut leaves bytes of the value of `power=`.
 pub record StartsBus (programmer : Programmer) (content : Content) (bus : SimBus) : Type 0 where
   pub opens : OpensChip programmer content (state_of bus)
   pub pace : pace_of bus ≡ unwrap_or programmer.busy 0
   pub fill : fill_of bus ≡ programmer.power
 
--- how the opening of a chip may end a run: by one of its files, or for want of memory
+-- the faults of reading the chip's files, or out of memory
 abbrev pub FailsToOpen : View → Programmer → Fault → Type 0
 FailsToOpen view programmer fault = (fault ≡ end.Refused Memory)
     ⊎ (IsSomeAnd programmer.image (λ name. IsOpeningFault view name.now (emulated_part programmer.chip).size fault)
     ⊎ IsSomeAnd programmer.status (λ name. IsOpeningFault view name.now 2 fault))
 
--- how the holding of its files may
+-- the faults of locking and reading the chip's files, or out of memory
 abbrev pub FailsToHold : View → Programmer → Fault → Type 0
 FailsToHold view programmer fault = (fault ≡ end.Refused Memory)
     ⊎ (IsSomeAnd programmer.image (λ name. IsHoldingFault view name.now (emulated_part programmer.chip).size fault)
     ⊎ IsSomeAnd programmer.status (λ name. IsHoldingFault view name.now 2 fault))
 
--- Its bytes and status bytes are what the files have that are named, whatever becomes of the machine; or the names of
--- those that couldn't be written are these.
+-- The chip's files, after it was written back. If the files obey their contract, a file that is named and was written
+-- has durably the chip's bytes or status bytes. The others, whose names are given, could not be written.
 pub record ArePutBack (programmer : Programmer) (chip : Chip) (image status : Option (Bor Text))
     (files : FilesState) : Type 0 where
   pub bytes : List ℕ

@@ -1,4 +1,4 @@
--- What a run printed, and the status that it ended with.
+-- The output of a run, and its exit status.
 use Rattle.std.specs.Prelude.{◌≡◌, ◌≢◌, ◌≤◌, ◌⊎◌, ◌↔◌, ℕ, Bool, true, false, ⊤, List, Option, Some, None, Result, Ok, Err, IfSome}
 use Rattle.std.specs.Borrow.{Bor}
 use Rattle.std.specs.Fmt.{option_append}
@@ -19,36 +19,38 @@ use Rattle.flashnor.specs.declared.messages.Fault.TheVariants as end
 use Rattle.flashnor.specs.declared.messages.FileFault.TheVariants as file
 use Rattle.flashnor.specs.declared.printing.Ending.{Ending}
 
--- each file was written
+-- every file was written
 abbrev pub all_written : Unwritten
 all_written = record { image = None; status = None; trace = None }
 
--- what a writer holds, where that is known, grew by one of these texts
+-- if the contents of a writer are known, they grew by one of these texts
 abbrev pub Prints : (List ℕ → Type 0) → (old new : Option (List ℕ)) → Type 0
 Prints IsText old new = (text : List ℕ) × IsText text × Appends old new text
 
--- a run has no fault before its files are written back: it came to an answer, or the words ask for help
+-- Holds if a run has no fault before its files are written back: it has an answer, or the arguments ask for help.
 abbrev pub IsAnswered : Result Answer Fault → Type 0
 IsAnswered (Ok found) = ⊤
 IsAnswered (Err (end.Usage (usage.Words error))) = kind_of error ≡ kind.DisplayHelp
 IsAnswered (Err fault) = ⊥
 
--- the lines of the answer were printed; of help, which is the parser's, no text is known
+-- the lines of the answer were printed; nothing is known about the parser's help text
 abbrev pub PrintsAnswer : Result Answer Fault → (old new : Option (List ℕ)) → Type 0
 PrintsAnswer (Ok found) old new = Prints (AreLines found) old new
 PrintsAnswer outcome old new = IsAnswered outcome
 
--- the lines that tell of faults, where they are known: the run's own first, and then those of files
+-- the lines of the run's fault, if known, followed by those of files that could not be written
 abbrev pub lines_told : Result Answer Fault → Unwritten → Option (List ℕ)
 lines_told (Ok found) unwritten = Some (lines_of_unwritten unwritten)
 lines_told (Err fault) unwritten = option_append (line_of fault) (Some (lines_of_unwritten unwritten))
 
--- words that can't be collected: memory ran out, or they aren't text
+-- the arguments could not be collected: out of memory, or not UTF-8
 abbrev pub IsOfWords : Error → Fault → Type 0
 IsOfWords error fault = ((error_kind error ≡ Kinds.OutOfMemory) × (fault ≡ end.Usage usage.Memory))
     ⊎ ((error_kind error ≢ Kinds.OutOfMemory) × (fault ≡ end.NoText))
 
--- Behind what was printed, or couldn't be, the lines of files were: the status is 0 where there are none.
+-- The end of a run without a fault of its own, after its answer or help was printed or could not be. Only lines of
+-- files that could not be written are printed to standard error. The status is 0 if and only if the answer or help was
+-- printed and every file was written.
 pub record EndsWell (is_printed : Bool) (unwritten : Unwritten) (err err' : Option (List ℕ))
     (ending : Ending) : Type 0 where
   pub few : ending.status ≤ 1
@@ -57,37 +59,38 @@ pub record EndsWell (is_printed : Bool) (unwritten : Unwritten) (err err' : Opti
   pub told : ending.told ≡ true → Appends err err' (lines_of_unwritten unwritten)
   pub silent : unwritten ≡ all_written → err' ≡ err
 
--- The line of a fault was told, and those of files.
+-- The end of a run with a fault: the lines of the fault and of files that could not be written.
 pub record EndsBadly (fault : Fault) (unwritten : Unwritten) (err err' : Option (List ℕ))
     (ending : Ending) : Type 0 where
   pub status : ending.status ≡ 1
   pub printed : ending.printed ≡ false
   pub told : ending.told ≡ true → IfSome (lines_told (Err fault) unwritten) (Appends err err')
 
--- A run that came to this printed so to standard output and to standard error, and ended with this status.
+-- The output of a run with this result to standard output and standard error, and its status.
 pub record HasPrinted (outcome : Result Answer Fault) (unwritten : Unwritten) (out out' err err' : Option (List ℕ))
     (ending : Ending) : Type 0 where
-  -- it is 0 or 1, and 0 exactly where the answer or the help was printed and each file written
+  -- the status is 0 or 1, and 0 if and only if the answer or the help was printed and every file was written
   pub few : ending.status ≤ 1
   pub exact : (ending.status ≡ 0) ↔ ((ending.printed ≡ true) × (unwritten ≡ all_written))
-  -- what was printed are the lines of the answer, and what was told those of the faults
+  -- if printing succeeded, the lines of the answer, and those of the faults, were appended
   pub printed : ending.printed ≡ true → PrintsAnswer outcome out out'
   pub told : ending.told ≡ true → IfSome (lines_told outcome unwritten) (Appends err err')
-  -- where there is no answer nothing goes to standard output, and without a fault nothing to standard error
+  -- a run without an answer prints nothing to standard output, and one without a fault nothing to standard error
   pub no_output : (IsAnswered outcome → ⊥) → out' ≡ out
   pub silent : IsAnswered outcome → unwritten ≡ all_written → err' ≡ err
 
--- a run ended in such a way, with this status
+-- the run ended with such an `Ending`, which has this status
 abbrev pub EndsWith : (Ending → Type 0) → ℕ → Type 0
 EndsWith IsEnding status = (ending : Ending) × IsEnding ending × (status ≡ ending.status)
 
--- A run whose words couldn't be collected ended with that fault.
+-- The end of a run whose arguments could not be collected.
 pub record IsUnread (error : Error) (out out' err err' : Option (List ℕ)) (ending : Ending) : Type 0 where
   pub fault : Fault
   pub of_words : IsOfWords error fault
   pub prints : HasPrinted (Err fault) all_written out out' err err' ending
 
--- A run that couldn't keep the descriptors of the standard streams ended with the fault of a file that can't be read.
+-- The end of a run that could not keep the descriptors of the standard streams in use: the fault of a file that can't
+-- be read.
 pub record IsWithoutStreams (out out' err err' : Option (List ℕ)) (ending : Ending) : Type 0 where
   pub name : Bor Text
   pub prints : HasPrinted (Err (end.File file.Read name)) all_written out out' err err' ending

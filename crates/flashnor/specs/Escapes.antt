@@ -1,4 +1,4 @@
--- Names as messages show them, with their control characters escaped.
+-- Names in messages, with their control characters escaped.
 use Rattle.std.specs.Prelude.{ℕ, List, ◌++◌, chars, codes, encode_utf8, flat_map, if◌then◌else◌}
 use Rattle.std.specs.Char.{is_control}
 use Rattle.nor_call.specs.Texts.{hex_digits}

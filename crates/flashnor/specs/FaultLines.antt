@@ -1,4 +1,4 @@
--- The lines that tell of faults.
+-- The printed lines of faults, character by character.
 use Rattle.std.specs.Prelude.{ℕ, List, [], ◌∷◌, ◌++◌, Option, Some, None, codes, decimal}
 use Rattle.std.specs.Borrow.{Bor}
 use Rattle.std.specs.Fmt.{with_newline}
@@ -16,17 +16,17 @@ use Rattle.flashnor.specs.declared.messages.Fault.TheVariants as end
 use Rattle.flashnor.specs.declared.messages.FileFault.{FileFault}
 use Rattle.flashnor.specs.declared.messages.FileFault.TheVariants as file
 
--- in which line of a layout a fault is, if it is in one
+-- the text for the line of a layout that has a fault, if the fault is in one line
 abbrev pub place : Option ℕ → List ℕ
 place (Some number) = codes " at line " ++ decimal number
 place None = []
 
--- a fault of the file of this name, whose control characters are escaped
+-- the text of a failure of the file of this name, with its control characters escaped
 abbrev pub file_text : FileFault → Text → List ℕ
 file_text fault name =
     concat (codes "File fault " ∷ decimal (file_number fault) ∷ codes ": " ∷ escaped name ∷ codes "." ∷ [])
 
--- the text of each fault, where it is known: that of the words has what their parser says
+-- the text of each fault, if it is known; that of a usage fault contains the parser's message
 abbrev pub text_of : Fault → Option (List ℕ)
 text_of (end.Usage fault) = usage_text fault
 text_of end.NoText = Some (codes "error: invalid UTF-8 was detected in one or more arguments\n\nUsage fault 1.")
@@ -36,16 +36,16 @@ text_of (end.File fault name) = Some (file_text fault name.now)
 text_of (end.Refused refusal) =
     Some (concat (codes "Error " ∷ decimal (number_of refusal) ∷ codes ": " ∷ refusal_text refusal ∷ codes "." ∷ []))
 
--- its line
+-- the line of a fault: its text and a line feed
 abbrev pub line_of : Fault → Option (List ℕ)
 line_of fault = with_newline (text_of fault)
 
--- the line of a file that couldn't be written, if there is one
+-- the line of a file that could not be written, if there is one
 abbrev pub line_of_unwritten : Option (Bor Text) → List ℕ
 line_of_unwritten (Some name) = file_text file.Write name.now ++ codes "\n"
 line_of_unwritten None = []
 
--- those of a run: image, status and trace
+-- the lines of the files that could not be written: image, status, trace
 abbrev pub lines_of_unwritten : Unwritten → List ℕ
 lines_of_unwritten unwritten =
     line_of_unwritten unwritten.image ++ (line_of_unwritten unwritten.status ++ line_of_unwritten unwritten.trace)

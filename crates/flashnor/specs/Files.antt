@@ -1,4 +1,4 @@
--- How the files of a run may end it: a fault of a file comes only where that view to the file of that name.
+-- The faults of files. A fault of a file occurs only if the view allows that failure of the file of that name.
 use Rattle.std.specs.Prelude.{◌≡◌, ◌≢◌, ◌<◌, ◌+◌, ◌⊎◌, ℕ, List, None, length}
 use Rattle.nor_call.specs.declared.refusal.Refusal.TheVariants.{Memory}
 use Rattle.nor_words.specs.Text.{Text}
@@ -12,34 +12,34 @@ use Rattle.flashnor.specs.declared.messages.Fault.{Fault}
 use Rattle.flashnor.specs.declared.messages.Fault.TheVariants as end
 use Rattle.flashnor.specs.declared.messages.FileFault.TheVariants as file
 
--- the fault of a file of this name that fails while it is read; or memory runs out
+-- the file of this name fails while it is read, or memory runs out
 abbrev pub IsUnreadFault : Text → Fault → Type 0
 IsUnreadFault name (end.Refused refusal) = refusal ≡ Memory
 IsUnreadFault name (end.File file.Read of) = of.now ≡ name
 IsUnreadFault name _ = ⊥
 
--- the fault of a chip's file of this name that can't be held
+-- the chip's file of this name can't be locked, or opened to be written or read
 abbrev pub IsUnheldFault : HoldFault → Text → Fault → Type 0
 IsUnheldFault (why.Unread error) name fault = IsUnreadFault name fault
 IsUnheldFault why.Unheld name (end.File file.Write of) = of.now ≡ name
 IsUnheldFault why.Busy name (end.File file.Taken of) = of.now ≡ name
 IsUnheldFault _ name _ = ⊥
 
--- at most so many bytes of the file of this name are read: it isn't there, or can't be read; or memory runs out
+-- a read of at most `most` bytes fails: the file is missing or can't be read, or memory runs out
 abbrev pub IsReadingFault : View → Text → ℕ → Fault → Type 0
 IsReadingFault view name most (end.Refused refusal) = refusal ≡ Memory
 IsReadingFault view name most (end.File file.Read of) =
     (of.now ≡ name) × (Reads name most None view ⊎ Happens view (Unread name))
 IsReadingFault view name most _ = ⊥
 
--- the text in the file of this name, which may have so many bytes, has more
+-- the file of this name may have at most `most` bytes, and has more
 abbrev pub IsTooLong : View → Text → ℕ → Fault → Type 0
 IsTooLong view name most (end.File file.Read of) =
     (of.now ≡ name) × ((bytes : List ℕ) × IsRead view name (most + 1) bytes × (most < length bytes))
 IsTooLong view name most _ = ⊥
 
--- the chip's file of this name is read, which is to have so many bytes: it has another length, or can't be read; or
--- memory runs out. That it isn't there is no fault
+-- The fault of reading a chip's file, which must have `len` bytes: it has another length or can't be read, or memory
+-- runs out. A missing file is no fault.
 abbrev pub IsOpeningFault : View → Text → ℕ → Fault → Type 0
 IsOpeningFault view name len (end.Refused refusal) = refusal ≡ Memory
 IsOpeningFault view name len (end.File file.Read of) = (of.now ≡ name) × Happens view (Unread name)
@@ -47,8 +47,8 @@ IsOpeningFault view name len (end.File file.Length of) =
     (of.now ≡ name) × ((bytes : List ℕ) × IsRead view name (len + 1) bytes × (length bytes ≢ len))
 IsOpeningFault view name len _ = ⊥
 
--- the chip's file of this name is held, which is to have so many bytes: besides, it may be there and not for writing,
--- be held by another run, or fail to be synced
+-- The fault of locking and reading a chip's file, which must have `len` bytes. In addition to the faults of reading it,
+-- it may have become missing, be read-only, be locked by another run, or fail to sync.
 abbrev pub IsHoldingFault : View → Text → ℕ → Fault → Type 0
 IsHoldingFault view name len (end.File file.Read of) =
     (of.now ≡ name) × (Reads name (len + 1) None view ⊎ Happens view (Unread name))
@@ -57,13 +57,15 @@ IsHoldingFault view name len (end.File file.Write of) =
 IsHoldingFault view name len (end.File file.Taken of) = (of.now ≡ name) × Happens view (Busy name)
 IsHoldingFault view name len fault = IsOpeningFault view name len fault
 
--- the journal of this name is locked and read: besides, the lock may fail, or another process have it
+-- The fault of locking and reading a journal. In addition to the faults of reading it, the lock may fail, or another
+-- process may have it.
 abbrev pub IsSharingFault : View → Text → ℕ → Fault → Type 0
 IsSharingFault view name most (end.File file.Write of) = (of.now ≡ name) × Happens view (Unheld name)
 IsSharingFault view name most (end.File file.Taken of) = (of.now ≡ name) × Happens view (Busy name)
 IsSharingFault view name most fault = IsReadingFault view name most fault
 
--- the file of this name can't be made or emptied, is there already, or is locked by another process; or memory runs out
+-- the file of this name can't be created or emptied, exists and must not, or is locked by another process, or memory
+-- runs out
 abbrev pub IsMaking : View → Text → Fault → Type 0
 IsMaking view name (end.Refused refusal) = refusal ≡ Memory
 IsMaking view name (end.File file.Write of) = (of.now ≡ name) × Happens view (Unmade name)

@@ -1,4 +1,4 @@
--- Which chip a run finds.
+-- Which chip identification finds.
 use Rattle.std.specs.Prelude.{◌≡◌, false, [], ◌∷◌, Option}
 use Rattle.nor_chip.specs.Makers.{all_kinds}
 use Rattle.nor_probe.specs.Found.{IsWanted, part_in}
@@ -10,7 +10,7 @@ use Rattle.nor_probe.specs.declared.table.Part.{Part}
 use Rattle.nor_words.specs.declared.programmer.Emulated.{Emulated}
 use Rattle.nor_words.specs.declared.programmer.Emulated.TheVariants.{Tiny64, W25q64fv, W25q128fv}
 
--- what an emulated chip is found as: a Winbond chip as its row of the table, TINY64 as its SFDP says
+-- the table row of an emulated chip; for TINY64 the row that its SFDP gives
 abbrev pub emulated_part : Emulated → Part
 emulated_part Tiny64 = record {
   name = Sfdp;
@@ -22,11 +22,11 @@ emulated_part Tiny64 = record {
 emulated_part W25q64fv = w25q64fv
 emulated_part W25q128fv = w25q128fv
 
--- the chip is found under the name that is given, if one is
+-- the given name, if one is given, is the one of the emulated chip
 abbrev pub HasName : Option ChipName → Emulated → Type 0
 HasName named chip = IsWanted named (emulated_part chip).name
 
--- This chip was found.
+-- The emulated chip was found, under the given name if one is given.
 pub record IsEmulatedFound (named : Option ChipName) (chip : Emulated) (found : Found) : Type 0 where
   pub part : part_in found ≡ emulated_part chip
   pub name : HasName named chip

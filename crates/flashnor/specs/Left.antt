@@ -1,4 +1,5 @@
--- What a machine that is lost leaves of a chip's files and its journal, and what a later run opens from it.
+-- The contents that a host crash may leave of a chip's files and its journal, and the chip that a later run opens from
+-- them.
 use Rattle.std.specs.Prelude.{◌≡◌, ◌⊎◌, ◌∷◌, [], ℕ, Bool, true, false, List, Option, None, Some}
 use Rattle.std.specs.Prelude.{IfSome, IsSomeAnd, length, replicate, slice_index, unwrap_or, ⊤}
 use Rattle.std.specs.Borrow.{Bor}
@@ -15,14 +16,13 @@ use Rattle.flashnor.specs.Chips.{IsContentOf, OpensChip}
 use Rattle.flashnor.specs.Stored.{IsNot, IsRead, LeavesNoMoreOf}
 use Rattle.flashnor.specs.declared.chips.Content.{Content}
 
--- What a later run may find of the file that is named, if one is, of which the run before it found this: whatever may
--- be left of the file; or no file, if the run before found none and you moved aside what it left.
+-- The contents that a later run may find of a file, if one is named: those that a host crash may leave. If the file was
+-- missing at first and you moved it aside, there is no file.
 abbrev pub MayFind : Option (Bor Text) → (was found : Found) → FilesState → Type 0
 MayFind None was found files = found ≡ None
 MayFind (Some name) was found files = files.may_leave name.now found ⊎ ((was ≡ None) × (found ≡ None))
 
--- The chip that a run opens, idle, from what its files have, each as long as it is to be: FFh and clear status bytes
--- stand for one that isn't there.
+-- The chip that a run opens, idle, from files of the right length. FFh and clear status bytes stand for missing files.
 pub record IsOpenedFrom (image status : Found) (setup : Config) (chip : Chip) : Type 0 where
   pub config : chip.config ≡ setup
   pub whole : IfSome image (λ bytes. length bytes ≡ setup.size)
@@ -31,19 +31,19 @@ pub record IsOpenedFrom (image status : Found) (setup : Config) (chip : Chip) : 
   pub kept : chip.kept ≡ kept_in (unwrap_or status (0 ∷ 0 ∷ []))
   pub idle : chip.busy ≡ 0
 
--- nothing may be left of the file of that name but this journal
+-- a host crash may leave only this journal of the file of that name
 abbrev pub LeavesJournal : (file : Text) → Journal → FilesState → Type 0
 LeavesJournal file journal files = (left : Found) → files.may_leave file left → left ≡ Some (text journal)
 
--- What the chip's files had before a run, and the bus to the chip that it opened from them.
+-- The contents of the chip's files before a run, and the bus to the chip that the run opened from them.
 pub record Opened (programmer : Programmer) (files : FilesState) : Type 0 where
   pub content : Content
   pub read : IsContentOf files.view programmer content
   pub bus : BusState
   pub opens : OpensChip programmer content bus
 
--- Whatever may be left of the chip's files, as it is or moved aside if the run found no such file, a later run that
--- opens them opens such a chip.
+-- `Is` holds for the bus of each later run that opens the chip's files, for all contents that a host crash may leave. A
+-- file that the first run found missing may be moved aside.
 abbrev pub LeavesOnly : {programmer : Programmer} {old : FilesState} → Opened programmer old → (BusState → Type 0)
     → FilesState → Type 0
 LeavesOnly {programmer} first Is files = (image status : Found) (opened : BusState)
@@ -51,8 +51,8 @@ LeavesOnly {programmer} first Is files = (image status : Found) (opened : BusSta
     → MayFind programmer.status first.read.status.found status files
     → IsOpenedFrom image status first.bus.chip.config opened.chip → Is opened
 
--- The file of that name is one journal, whatever may be left of it; and whatever may be left of the chip's files, as it
--- is or moved aside if it was missing at first, opens to a chip from which that journal restores the original one.
+-- A host crash may leave only one journal in the file of that name. From each chip that a later run may open, that
+-- journal can restore the original chip. A file of the chip that was missing at first may be moved aside.
 pub record LeadsBack {programmer : Programmer} {old : FilesState} (file : Text) (first : Opened programmer old)
     (files : FilesState) : Type 0 where
   pub journal : Journal
@@ -60,23 +60,23 @@ pub record LeadsBack {programmer : Programmer} {old : FilesState} (file : Text) 
   pub left : LeavesJournal file journal files
   pub back : LeavesOnly first (CanGiveBack journal first.bus.chip) files
 
--- The name is apart from those of the programmer's files: its image, its status bytes and its trace.
+-- The name is apart from those of the programmer's image, status file and trace.
 pub record IsNoFileOf (nature : Nature) (programmer : Programmer) (name : Text) : Type 0 where
   pub image : IsNot nature programmer.image name
   pub status : IsNot nature programmer.status name
   pub trace : IsNot nature programmer.trace name
 
--- where the file that is named was there it is, whatever may be left of it, and has as many bytes
+-- if the file that is named existed, a host crash leaves it with the same number of bytes
 abbrev pub LeavesAsLong : Option (Bor Text) → (old new : FilesState) → Type 0
 LeavesAsLong None old new = ⊤
 LeavesAsLong (Some name) old new = (had : List ℕ) → old.view.seen name.now ≡ Some had → (left : Found)
     → new.may_leave name.now left → IsSomeAnd left (λ has. length has ≡ length had)
 
--- At an exit of a run that changes a chip, with its journal in the file of this name, which was missing before. Until
--- the journal is sealed whatever may be left of the chip's files opens to the original chip. From then on the journal's
--- file is one journal, and whatever may be left opens to a chip from which that journal restores the original one. A
--- file of the chip that was missing may be moved aside. One that was there keeps its length. Each file
--- stays whose name is apart from those of the trace, the chip's files and the journal.
+-- On every exit of a run that changes a chip, with its journal in the file of this name, which was missing before.
+-- `same`: until the journal is sealed, all contents that a host crash may leave of the chip's files open to the
+-- original chip. `back`: after that the file is one journal, and it can restore the original chip. A missing file of
+-- the chip may be moved aside. One that existed keeps its length. Each file stays whose name is apart from those of the
+-- trace, the chip's files and the journal.
 pub record LeavesWayBack (programmer : Programmer) (file : Text) (old new : FilesState) : Type 0 where
   pub missing : old.view.seen file ≡ None
   pub others : (name : Text) → IsNoFileOf old.view.nature programmer name → AreApart old.view.nature file name
@@ -97,23 +97,24 @@ pub record LeavesAll (programmer : Programmer) (file : Text) (old new : FilesSta
       → LeavesNoMore name old new
   pub empty : LeavesOrEmpty file old new
 
--- or it was cut off before anything was changed
+-- what a run that changes a chip keeps: it was interrupted before anything was changed, or the original chip can be
+-- restored
 abbrev pub KeepsFirst : Programmer → (file : Text) → (old new : FilesState) → Type 0
 KeepsFirst programmer file old new =
     LeavesAll programmer file old new ⊎ LeavesWayBack programmer file old new
 
--- Nothing was changed, and nothing made but the trace; where that has the name of another file of the run, it wasn't
--- made either.
+-- Nothing was changed, and nothing was created except the trace. If the trace has the name of another file of the run,
+-- that file was not created either.
 pub record LeavesSources (programmer : Programmer) (file : Text) (old new : FilesState) : Type 0 where
   pub image : LeavesNoMoreOf programmer.image old new
   pub status : LeavesNoMoreOf programmer.status old new
   pub journal : LeavesNoMore file old new
   pub others : (name : Text) → IsNot old.view.nature programmer.trace name → LeavesNoMore name old new
 
--- At an exit of a run that restores from the journal in the file of this name. Each chip that the journal could restore
--- from what the run opened it can still restore, from whatever may be left of the chip's files. A file of the chip that
--- was missing may be moved aside. One that was there keeps its length. The journal stays, and so does each file whose
--- name is apart from those of the trace and the chip's files.
+-- On every exit of a run that restores from the journal in the file of this name. Each original chip that the journal
+-- could restore from the opened chip, it still can, from all contents that a host crash may leave of the chip's files.
+-- A file of the chip that was missing may be moved aside. One that existed keeps its length. The journal stays, and so
+-- does each file whose name is apart from those of the trace and the chip's files.
 pub record LeavesRestorable (programmer : Programmer) (file : Text) (old new : FilesState) : Type 0 where
   pub others : (name : Text) → IsNoFileOf old.view.nature programmer name → Stays name old new
   pub image : LeavesAsLong programmer.image old new
@@ -125,7 +126,7 @@ pub record LeavesRestorable (programmer : Programmer) (file : Text) (old new : F
   pub stays : Stays file old new
   pub back : (first : Chip) → CanGiveBack journal first found.bus → LeavesOnly found (CanGiveBack journal first) new
 
--- or it was cut off before
+-- what a restore keeps: it was interrupted before anything was changed, or the original chip can still be restored
 abbrev pub KeepsRestorable : Programmer → (file : Text) → (old new : FilesState) → Type 0
 KeepsRestorable programmer file old new =
     LeavesSources programmer file old new ⊎ LeavesRestorable programmer file old new

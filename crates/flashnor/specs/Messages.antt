@@ -1,9 +1,9 @@
--- The numbers of faults that messages show.
+-- The numbers of faults in messages.
 use Rattle.std.specs.Prelude.{ℕ}
 use Rattle.flashnor.specs.declared.messages.FileFault.{FileFault}
 use Rattle.flashnor.specs.declared.messages.FileFault.TheVariants as file
 
--- the number that a fault of a file has in its message
+-- the number of each file fault
 abbrev pub file_number : FileFault → ℕ
 file_number file.Read = 1
 file_number file.Write = 2

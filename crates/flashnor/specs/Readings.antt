@@ -1,4 +1,4 @@
--- What the jobs come to that leave a chip as it is.
+-- The results of the jobs that leave a chip as it is.
 use Rattle.std.specs.Prelude.{◌≡◌, ◌<◌, ℕ, true, List, Option, Some, Result, Ok, Err, MatchResult}
 use Rattle.nor_chip.specs.Bus.{BusState}
 use Rattle.nor_chip.specs.Offered.{IsStart}
@@ -23,51 +23,51 @@ use Rattle.flashnor.specs.Found.{HasName, IsEmulatedFound, emulated_part}
 use Rattle.flashnor.specs.declared.answers.Answer.{Answer}
 use Rattle.flashnor.specs.declared.answers.Answer.TheVariants as answer
 
--- What the finding of a chip may be refused for: it has another name than the one given, or fewer transactions are
--- allowed than it may take. An emulated chip is known, and nothing else is ever wrong with it.
+-- The errors of identification of an emulated chip: another name than the given one, or fewer transactions than
+-- identification may take. No other error occurs on a ready bus.
 abbrev pub FindRefuses : Programmer → Option ChipName → Refusal → Type 0
 FindRefuses programmer named OtherName = HasName named programmer.chip → ⊥
 FindRefuses programmer named Stopped = allowance_of programmer < most_probe
 FindRefuses programmer named _ = ⊥
 
--- the programmer's chip, which has the name that is given
+-- the answer is the chip, which has the given name
 abbrev pub TellsFound : Programmer → Option ChipName → Answer → Type 0
 TellsFound programmer named (answer.Found found) = IsEmulatedFound named programmer.chip found
 TellsFound programmer named _ = ⊥
 
--- its size
+-- the answer is the size of the chip, which has the given name
 abbrev pub TellsSize : Programmer → Option ChipName → Answer → Type 0
 TellsSize programmer named (answer.Size size) =
     HasName named programmer.chip × (size ≡ (emulated_part programmer.chip).size)
 TellsSize programmer named _ = ⊥
 
--- What a job answers of what its call came to: it tells it, or passes the refusal on.
+-- the job returns the answer for the result of its call, or passes the error on
 abbrev pub AnswersCall : {T : Type 0} → (T → Answer → Type 0) → Result T Refusal → Result Answer Refusal → Type 0
 AnswersCall tells (Ok told) (Ok answer) = tells told answer
 AnswersCall tells (Err refusal) (Err passed) = passed ≡ refusal
 AnswersCall tells _ _ = ⊥
 
--- the protection itself
+-- the answer is the chip's protection
 abbrev pub TellsGuarded : Protection → Answer → Type 0
 TellsGuarded protection (answer.Protection told) = told ≡ protection
 TellsGuarded protection _ = ⊥
 
--- the ranges that can be protected, all of them, of a chip of its size
+-- the answer is an iterator over all ranges that can be protected on a chip of this size
 abbrev pub ListsRanges : Protection → Answer → Type 0
 ListsRanges protection (answer.Ranges ranges) = IsStart protection.size ranges
 ListsRanges protection _ = ⊥
 
--- the report of a chip that was read out
+-- the answer is the report of a chip that was read out
 abbrev pub TellsRead : Report → Answer → Type 0
 TellsRead report (answer.Read told) = told ≡ report
 TellsRead report _ = ⊥
 
--- the report of a chip that was verified
+-- the answer is the report of a chip that was verified
 abbrev pub TellsVerified : Report → Answer → Type 0
 TellsVerified report (answer.Verified told) = told ≡ report
 TellsVerified report _ = ⊥
 
--- The chip's protection was asked for, and told or refused.
+-- The chip's protection was requested, and reported or refused.
 pub record HasTold (tells : Protection → Answer → Type 0) (named : Option ChipName) (old new : BusState)
     (outcome : Result Answer Refusal) : Type 0 where
   pub result : Result Protection Refusal
@@ -76,13 +76,13 @@ pub record HasTold (tells : Protection → Answer → Type 0) (named : Option Ch
   pub modelled : IsModelled old → ProtectionModelled named old result
   pub told : AnswersCall tells result outcome
 
--- The chip was found, or not, and only looked at.
+-- The chip was identified or refused, and only looked at.
 pub record HasLookedUp (tells : Answer → Type 0) (programmer : Programmer) (named : Option ChipName)
     (old new : BusState) (outcome : Result Answer Refusal) : Type 0 where
   pub looks : Looks most_probe old new
   pub told : MatchResult outcome tells (FindRefuses programmer named)
 
--- The chip was read out into a vault, in these ranges, or the reading refused.
+-- The chip was read out into a vault, in the given ranges, or the reading failed.
 pub record HasReadInto (named : Option ChipName) (ranges : Option (List Span)) (old new : BusState)
     (empty filled : VaultState) (outcome : Result Answer Refusal) : Type 0 where
   pub result : Result Report Refusal
@@ -91,7 +91,8 @@ pub record HasReadInto (named : Option ChipName) (ranges : Option (List Span)) (
   pub modelled : IsModelled old → ReadOutModelled named ranges old new empty filled result
   pub told : AnswersCall TellsRead result outcome
 
--- The vault is in the file of this name, which has just the bytes that went in.
+-- The chip was read out into a file. If the files obey their contract, the file has exactly the bytes that were put
+-- into its vault.
 pub record HasReadOut (named : Option ChipName) (file : Text) (ranges : Option (List Span)) (old new : BusState)
     (after : View) (outcome : Result Answer Refusal) : Type 0 where
   pub empty : VaultState
@@ -100,7 +101,7 @@ pub record HasReadOut (named : Option ChipName) (file : Text) (ranges : Option (
   pub read : HasReadInto named ranges old new empty filled outcome
   pub holds : is_lawful after ≡ true → (filled.telling ≡ true) × (after.seen file ≡ Some filled.bytes)
 
--- The chip was compared with this image, in these ranges, or the comparison refused.
+-- The chip was compared with this image, in the given ranges, or the comparison failed.
 pub record HasVerified (named : Option ChipName) (ranges : Option (List Span)) (image : List ℕ)
     (old new : BusState) (outcome : Result Answer Refusal) : Type 0 where
   pub result : Result Report Refusal

@@ -1,4 +1,4 @@
--- One file has one role in a run.
+-- The roles of a job's files: no file has two of them.
 use Rattle.std.specs.Prelude.{◌≡◌, ◌⊎◌, ◌&&◌, ◌||◌, ℕ, Bool, true, false, Option, None, Some, IsSomeAnd, nat_lt}
 use Rattle.std.specs.Borrow.{Bor}
 use Rattle.nor_words.specs.Text.{Text}
@@ -19,7 +19,7 @@ use Rattle.flashnor.specs.declared.roles.Named.{Named}
 use Rattle.flashnor.specs.declared.roles.Role.{Role}
 use Rattle.flashnor.specs.declared.roles.Role.TheVariants as role
 
--- the layout of regions
+-- the layout of the named regions
 abbrev pub layout_of : Option Regions → Option (Bor Text)
 layout_of None = None
 layout_of (Some regions) = Some regions.layout
@@ -29,7 +29,7 @@ abbrev pub image_of : Wanted → Option (Bor Text)
 image_of (wanted.Write image) = Some image
 image_of _ = None
 
--- the files that a task names beside the chip's
+-- the files that a task names, in addition to those of the chip and the trace
 abbrev pub named_by : Task → Named
 named_by (task.Read file regions) =
     record { layout = layout_of regions; wanted = None; output = Some file; journal = None }
@@ -44,7 +44,9 @@ named_by (task.Change change) = record {
 named_by (task.Restore journal) = record { layout = None; wanted = None; output = None; journal = Some journal }
 named_by _ = record { layout = None; wanted = None; output = None; journal = None }
 
--- Files of a job whose names are apart: the chip's own, where it is changed, and those that it doesn't only read.
+-- The pairs of files that must be apart. If the task changes the chip, its image and its status differ from each other
+-- and from the files that are only read. Each file that is always written differs from every other file. The image to
+-- write may be the chip's image.
 pub record HaveOneRole (nature : Nature) (job : ChipJob) : Type 0 where
   pub status : puts_back job.task ≡ true → AreTwo nature job.programmer.image job.programmer.status
   pub image_layout : puts_back job.task ≡ true → AreTwo nature job.programmer.image (named_by job.task).layout
@@ -64,7 +66,7 @@ pub record HaveOneRole (nature : Nature) (job : ChipJob) : Type 0 where
   pub layout_journal : AreTwo nature (named_by job.task).layout (named_by job.task).journal
   pub wanted_journal : AreTwo nature (named_by job.task).wanted (named_by job.task).journal
 
--- The trace's name is apart from that of each other file of the job.
+-- The trace's name is apart from those of the chip's files, the layout, the image to compare or write, and the journal.
 pub record HasOwnTrace (nature : Nature) (job : ChipJob) : Type 0 where
   pub image : AreTwo nature job.programmer.image job.programmer.trace
   pub status : AreTwo nature job.programmer.status job.programmer.trace
@@ -72,7 +74,7 @@ pub record HasOwnTrace (nature : Nature) (job : ChipJob) : Type 0 where
   pub wanted : AreTwo nature job.programmer.trace (named_by job.task).wanted
   pub journal : AreTwo nature job.programmer.trace (named_by job.task).journal
 
--- ---- the fault of a file in two roles
+-- ---- the fault of a file with two roles
 
 -- the file that a job has in a role, if it names one
 abbrev pub file_in : ChipJob → Role → Option (Bor Text)
@@ -84,7 +86,7 @@ file_in job role.Wanted = (named_by job.task).wanted
 file_in job role.Output = (named_by job.task).output
 file_in job role.Journal = (named_by job.task).journal
 
--- the order in which a fault names the later of two
+-- the order of roles: a fault names the file of the later of two
 abbrev pub place_of : Role → ℕ
 place_of role.Image = 0
 place_of role.Status = 1
@@ -94,7 +96,7 @@ place_of role.Wanted = 4
 place_of role.Output = 5
 place_of role.Journal = 6
 
--- A file in that role isn't only read. A journal counts as written: no other file may stand for it.
+-- A file in that role is written. A journal counts as written, even in a restore: no other file may have its role.
 abbrev pub is_written : ChipJob → Role → Bool
 is_written job role.Image = puts_back job.task
 is_written job role.Status = puts_back job.task
@@ -102,44 +104,45 @@ is_written job role.Layout = false
 is_written job role.Wanted = false
 is_written job _ = true
 
--- The two have to be two files: one of them is written, and they aren't the chip's image and the one that it is to get.
+-- The two roles need different files: at least one of them is written, and they are not the chip's image and the image
+-- to write.
 abbrev pub must_differ : ChipJob → (earlier later : Role) → Bool
 must_differ job role.Image role.Wanted = false
 must_differ job earlier later =
     nat_lt (place_of earlier) (place_of later) && (is_written job earlier || is_written job later)
 
--- the fault names the later of these two, which are one file
+-- the fault names the later of the two files, which is one file with the earlier
 abbrev pub IsShared : Nature → (earlier later : Option (Bor Text)) → Fault → Type 0
 IsShared nature earlier later (end.File file.Taken of) = IsSomeAnd earlier (λ one. IsSomeAnd later (λ other.
     (of.now ≡ other.now) × (nature.fails (Shared one.now other.now) ≡ true)))
 IsShared nature earlier later _ = ⊥
 
--- two files of the job are one that have to be two
+-- two roles that need different files have one
 abbrev pub IsTwice : Nature → ChipJob → Fault → Type 0
 IsTwice nature job fault = (earlier later : Role) × (must_differ job earlier later ≡ true)
     × IsShared nature (file_in job earlier) (file_in job later) fault
 
--- the fault names this file, which the program prints to
+-- the fault names this file, to which the program prints
 abbrev pub IsPrintedTo : Nature → Option (Bor Text) → Fault → Type 0
 IsPrintedTo nature named (end.File file.Taken of) = IsSomeAnd named (λ name.
     (of.now ≡ name.now) × (nature.fails (Printed name.now) ≡ true))
 IsPrintedTo nature named _ = ⊥
 
--- a file of the job that isn't only read is one that the program prints to
+-- a file of the job that is written is one that the program prints to
 abbrev pub IsStream : Nature → ChipJob → Fault → Type 0
 IsStream nature job fault = (written : Role) × (is_written job written ≡ true)
     × IsPrintedTo nature (file_in job written) fault
 
--- the fault names this file, which can't be looked at
+-- the fault names this file, which can't be looked up
 abbrev pub IsUnseenFile : Nature → Option (Bor Text) → Fault → Type 0
 IsUnseenFile nature named (end.File file.Read of) = IsSomeAnd named (λ name.
     (of.now ≡ name.now) × (nature.fails (Unread of.now) ≡ true))
 IsUnseenFile nature named _ = ⊥
 
--- a file of the job can't be looked at
+-- a file of the job can't be looked up
 abbrev pub IsUnseen : Nature → ChipJob → Fault → Type 0
 IsUnseen nature job fault = (role : Role) × IsUnseenFile nature (file_in job role) fault
 
--- how the comparison of a job's files may end a run
+-- the faults of comparing a job's files
 abbrev pub FailsRoles : Nature → ChipJob → Fault → Type 0
 FailsRoles nature job fault = IsTwice nature job fault ⊎ (IsStream nature job fault ⊎ IsUnseen nature job fault)

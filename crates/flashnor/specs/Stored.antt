@@ -1,4 +1,4 @@
--- What was read of the files of a run, and what they have after it.
+-- The contents of the files of a run, as they were read and as they are afterwards.
 use Rattle.std.specs.Prelude.{◌≡◌, ◌+◌, ℕ, List, Option, None, Some, IfSome, ⊤, length, true, unwrap_or}
 use Rattle.std.specs.Borrow.{Bor}
 use Rattle.nor_files.specs.Calls.{LeavesNoMore, LeavesOrEmpty, Reads}
@@ -6,42 +6,43 @@ use Rattle.nor_files.specs.Files.{AreApart, Failure, FilesState, IsKnown, IsSett
 use Rattle.nor_files.specs.Files.Failure.{Unwritten}
 use Rattle.nor_words.specs.Text.{Text}
 
--- it goes wrong, at whatever time
+-- the failure is possible on these files, at any time
 abbrev pub Happens : View → Failure → Type 0
 Happens view failure = view.nature.fails failure ≡ true
 
--- so many bytes at most were read of the file, and were these
+-- at most `most` bytes of the file were read, and they are these
 abbrev pub IsRead : View → Text → ℕ → List ℕ → Type 0
 IsRead view name most bytes = Reads name most (Some bytes) view
 
--- what there is of a file, if one is named: of more than so many bytes one more is read
+-- what was read of a file, if one is named; if it has more than `len` bytes, one more than `len` is read
 abbrev pub IsFileFound : View → Option (Bor Text) → ℕ → Option (List ℕ) → Type 0
 IsFileFound view None len found = found ≡ None
 IsFileFound view (Some name) len found = Reads name.now (len + 1) found view
 
--- The bytes are those of the file that is named, which has just so many, or these ones where none is named or there.
+-- The bytes are those of a file that is named and has exactly `len` bytes; or the bytes `missing` if none is named or
+-- it is missing.
 pub record AreOfFile (view : View) (name : Option (Bor Text)) (len : ℕ) (missing bytes : List ℕ) : Type 0 where
   pub found : Option (List ℕ)
   pub is_found : IsFileFound view name len found
   pub whole : IfSome found (λ all. length all ≡ len)
   pub same : bytes ≡ unwrap_or found missing
 
--- the file that is named, if one is, has just these bytes, whatever becomes of the machine
+-- if a file is named and the files obey their contract, it durably has exactly these bytes
 abbrev pub Has : Option (Bor Text) → List ℕ → FilesState → Type 0
 Has None bytes files = ⊤
 Has (Some name) bytes files = is_lawful files.view ≡ true → IsSettled name.now (Some bytes) files
 
--- it got them; or it couldn't be written, and its name is told
+-- the file was written with these bytes; or it could not be written, and its name is given
 abbrev pub ArePut : Option (Bor Text) → List ℕ → Option (Bor Text) → FilesState → Type 0
 ArePut name bytes None files = Has name bytes files
 ArePut name bytes (Some failed) files = (name ≡ Some failed) × Happens files.view (Unwritten failed.now)
 
--- the file that couldn't be written, if one couldn't, is that one
+-- if a file could not be written, it is the one named here
 abbrev pub IsToldOf : (name failed : Option (Bor Text)) → View → Type 0
 IsToldOf name None view = ⊤
 IsToldOf name (Some failed) view = (name ≡ Some failed) × Happens view (Unwritten failed.now)
 
--- True if no other name is given, or if it is given and apart from the name: on lawful files the two refer to different
+-- Holds if no other name is given, or if the other is apart from the name: on lawful files the two refer to different
 -- files.
 abbrev pub IsNot : Nature → Option (Bor Text) → Text → Type 0
 IsNot nature None name = ⊤
@@ -52,23 +53,23 @@ abbrev pub AreTwo : Nature → (one other : Option (Bor Text)) → Type 0
 AreTwo nature None other = ⊤
 AreTwo nature (Some one) other = IsNot nature other one.now
 
--- the file that is named, if one is, is as it was
+-- if a file is named, it is as it was
 abbrev pub StaysOf : Option (Bor Text) → (old new : FilesState) → Type 0
 StaysOf None old new = ⊤
 StaysOf (Some name) old new = Stays name.now old new
 
--- nothing may be left of it that couldn't be left before
+-- if a file is named, a host crash may leave nothing of it that it could not leave before
 abbrev pub LeavesNoMoreOf : Option (Bor Text) → (old new : FilesState) → Type 0
 LeavesNoMoreOf None old new = ⊤
 LeavesNoMoreOf (Some name) old new = LeavesNoMore name.now old new
 
--- Holds if no file is named, or the file of that name is missing.
+-- Holds if no file is named, or if the file of that name is known to be missing.
 abbrev pub IsMissing : Option (Bor Text) → View → Type 0
 IsMissing None view = ⊤
 IsMissing (Some name) view = IsKnown name.now view → view.seen name.now ≡ None
 
--- Nothing may be left of the file that is named, if one is, that could not be left before, except an empty file if it
--- was missing.
+-- If a file is named and known, a host crash may leave nothing of it that it could not leave before, except an empty
+-- file if it was missing.
 abbrev pub MakesNothing : Option (Bor Text) → (old new : FilesState) → Type 0
 MakesNothing None old new = ⊤
 MakesNothing (Some name) old new = IsKnown name.now old.view → LeavesOrEmpty name.now old new

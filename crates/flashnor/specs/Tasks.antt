@@ -1,4 +1,4 @@
--- What a task does to files.
+-- Which files a task changes or creates.
 use Rattle.std.specs.Prelude.{Bool, true, false, Option, None, Some}
 use Rattle.std.specs.Borrow.{Bor}
 use Rattle.nor_words.specs.Text.{Text}
@@ -7,29 +7,29 @@ use Rattle.nor_words.specs.declared.job.JournalUse.TheVariants as uses
 use Rattle.nor_words.specs.declared.job.Task.{Task}
 use Rattle.nor_words.specs.declared.job.Task.TheVariants as task
 
--- the journal of a change is kept, in a file
+-- a change keeps its journal in a file
 abbrev pub keeps_journal : JournalUse → Bool
 keeps_journal (uses.Journal file) = true
 keeps_journal (uses.Rehearse stops) = false
 
--- the file of a journal that is kept
+-- the file of the journal of a change that is not a rehearsal
 abbrev pub journal_of : JournalUse → Option (Bor Text)
 journal_of (uses.Journal file) = Some file
 journal_of (uses.Rehearse stops) = None
 
--- after the call the chip is written into its files: it was changed, and that was no rehearsal
+-- after the call the chip is written back to its files: the task is a restore, or a change that is not a rehearsal
 abbrev pub puts_back : Task → Bool
 puts_back (task.Change change) = keeps_journal change.journal_use
 puts_back (task.Restore journal) = true
 puts_back _ = false
 
--- the file that a task makes
+-- the file that a task creates
 abbrev pub made_by : Task → Option (Bor Text)
 made_by (task.Read file regions) = Some file
 made_by (task.Change change) = journal_of change.journal_use
 made_by _ = None
 
--- the journal that it keeps in a file
+-- the file of the journal that a task creates
 abbrev pub journal_by : Task → Option (Bor Text)
 journal_by (task.Change change) = journal_of change.journal_use
 journal_by _ = None

@@ -1,32 +1,32 @@
-//! What a job comes to.
+//! The result of a job.
 
 use nor_chip::Offered;
 use nor_probe::Found;
 use nor_read::Protection;
 use nor_session::{Refusal, Rehearsal, Report};
 
-/// What a call came to: an answer, or its refusal.
+/// The result of a call: an answer or an error.
 pub type Outcome = Result<Answer, Refusal>;
 
-/// What a job came to.
+/// The answer of a job that succeeded.
 #[derive(Drop)]
 pub enum Answer {
-    /// The table of chips is asked for.
+    /// A request for the table of chips.
     Chips,
-    /// The chip that was found.
+    /// The chip that was identified.
     Found(Found),
-    /// Its size in bytes.
+    /// The size of the chip in bytes.
     Size(u32),
-    /// It was read into a file.
+    /// The report of a chip that was read into a file.
     Read(Report),
-    /// Its bytes are those of a file.
+    /// The report of a chip whose included bytes are those of a file.
     Verified(Report),
-    /// It was changed, or given back from a journal.
+    /// The report of a change or a restore.
     Done(Report),
-    /// A change was rehearsed, and the chip given back.
+    /// The result of a rehearsal, after which the chip is as before.
     Rehearsed(Rehearsal),
-    /// What protects it.
+    /// The chip's protected range, and whether its status is locked.
     Protection(Protection),
-    /// The ranges of it that can be protected.
+    /// The ranges of the chip that can be protected.
     Ranges(Offered),
 }

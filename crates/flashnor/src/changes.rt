@@ -1,4 +1,4 @@
-//! Jobs that change a chip: sessions, rehearsals of them, and restores.
+//! The jobs that change a chip: sessions and restores; and rehearsals of sessions.
 ghost use Rattle.std.specs.Prelude.{◌≡◌, ◌≤◌, ◌⊎◌, true, IfOk, IfErr, OnErr, OnOk, length};
 ghost use Rattle.nor_files.specs.Files.{AreUntouched, Name, Stays, is_lawful};
 ghost use Rattle.nor_chip.specs.Chip.{IsSame};
@@ -27,7 +27,7 @@ use nor_probe::ChipName;
 use nor_session::{Refusal, Request, rehearse, restore, session};
 use nor_words::{Change, Emulated, JournalUse, Wanted};
 
-/// Changes the chip, or rehearses that. A fault is one from before the session.
+/// Changes the chip, or rehearses the change. An error is a fault that occurred before the session.
 #[tactic(auto, using(crate::proofs::Doing::does_change))]
 pub fn change_chip<'a, R: Store, B: Meter>(
     rt: &mut R,
@@ -55,7 +55,8 @@ pub fn change_chip<'a, R: Store, B: Meter>(
     change_with(rt, bus, &mut image, &request, &change.journal_use)
 }
 
-/// The buffer of a session: for a write the image, for an erase as many bytes as the chip has.
+/// Returns the buffer of a session: the image for a write, FFh for each byte of the chip for an erase, nothing for a
+/// protection range.
 pub fn read_wanted<'a, R: Store>(
     rt: &R,
     chip: Emulated,
@@ -71,7 +72,7 @@ pub fn read_wanted<'a, R: Store>(
     }
 }
 
-// Runs the session of a request with its journal in a file, or rehearses it with the journal in memory.
+// Runs a session with its journal in a file, or rehearses it with its journal in memory.
 fn change_with<'a, R: Store, B: Meter>(
     rt: &mut R,
     bus: &mut B,
@@ -104,7 +105,7 @@ fn change_with<'a, R: Store, B: Meter>(
     }
 }
 
-// Runs the session of a request, which keeps its journal in this vault.
+// Runs the session of a request with its journal in `vault`.
 fn change_with_journal<B: Bus, V: Vault>(
     bus: &mut B,
     vault: &mut V,
@@ -120,7 +121,7 @@ fn change_with_journal<B: Bus, V: Vault>(
     Ok(Answer::Done(report))
 }
 
-// Rehearses the session of a request under these stops, with its journal in this vault.
+// Rehearses the session of a request under the given stops, with its journal in `vault`.
 fn rehearse_change<B: Meter>(
     bus: &mut B,
     vault: &mut MemVault,
@@ -138,8 +139,8 @@ fn rehearse_change<B: Meter>(
     Ok(Answer::Rehearsed(rehearsal))
 }
 
-/// Restores the chip from the journal in the file of this name, which is locked for other runs that would change it. A
-/// fault is one from before the restore.
+/// Restores the chip from the journal in the file of this name, which is locked against runs that would write it. An
+/// error is a fault that occurred before the restore, such as error 15 for an invalid journal.
 pub fn restore_chip<'a, R: Store, B: Bus>(
     rt: &mut R,
     bus: &mut B,
@@ -158,7 +159,7 @@ pub fn restore_chip<'a, R: Store, B: Bus>(
     }
 }
 
-// The bytes of the journal in the file of this name, which is locked first.
+// Locks and reads the journal in the file of this name.
 fn read_journal<'a, R: Store>(rt: &mut R, journal: &'a str) -> Result<Vec<u8>, Fault<'a>>
     ensures same { AreUntouched (R.state rt.old) (R.state rt.new) }
     ensures ok { IfOk result (λ bytes. IsRead (R.state rt.old).view journal.now 16793662 bytes.items) }
@@ -174,7 +175,7 @@ fn read_journal<'a, R: Store>(rt: &mut R, journal: &'a str) -> Result<Vec<u8>, F
     }
 }
 
-// Makes a chip, which must have the name that is given, if one is, again what a journal says.
+// Restores the chip from a journal. If `named` is given, the chip must have that name.
 fn restore_named<B: Bus>(bus: &mut B, named: Option<ChipName>, journal: &Journal<'_>) -> Outcome
     ensures { IsModelled (B.state bus.old) → IsCalm (B.state bus.old)
         → HasRestored journal.now named (B.state bus.old) (B.state bus.new) result }
@@ -184,7 +185,7 @@ fn restore_named<B: Bus>(bus: &mut B, named: Option<ChipName>, journal: &Journal
     Ok(Answer::Done(report))
 }
 
-// Sees that the chip has the name that is given, if one is.
+// If `named` is given, identifies the chip and checks that it has that name. If not, sends nothing.
 #[tactic(auto, using(crate::proofs::Ready::passes_probe, crate::proofs::Ready::passes_none, crate::proofs::Ready::looked_same, crate::proofs::Ready::looks_none))]
 fn find_named<B: Bus>(bus: &mut B, named: Option<ChipName>) -> Result<(), Refusal>
     ensures looks { Looks most_probe (B.state bus.old) (B.state bus.new) }

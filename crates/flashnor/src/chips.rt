@@ -1,4 +1,4 @@
-//! The emulated chip: what its files tell of it, and the bus to it.
+//! The emulated chip: its contents as its files have them, and the bus to it.
 ghost use Rattle.std.specs.Prelude.{◌≡◌, ◌∷◌, [], IfOk, IfErr, IfSome, IsSomeAnd, option_map, replicate};
 ghost use Rattle.std.specs.Prelude.{unwrap_or, vec_len};
 ghost use Rattle.nor_chip.specs.Sim.{pace_of, torn_of};
@@ -14,14 +14,15 @@ use nor_files::Store;
 use nor_words::Programmer;
 use std::alloc::{AllocError, Global};
 
-/// What a chip starts with: as many bytes as it has, and its two status bytes.
+/// The initial contents of a chip: all its bytes and its two status bytes.
 #[derive(Drop)]
 pub struct Content {
     pub bytes: Vec<u8>,
     pub status: [u8; 2],
 }
 
-/// Reads the chip's files: FFh and clear status bytes where none is named or there.
+/// Reads the chip's files. FFh stands for an image that is not named or missing, and clear status bytes for a status
+/// file.
 pub fn read_content<'a, R: Store>(rt: &R, programmer: &Programmer<'a>) -> Result<Content, Fault<'a>>
     ensures len { IfOk result (λ content. vec_len content.bytes ≡ (emulated_part programmer.now.chip).size) }
     ensures ok { IfOk result (IsContentOf (R.state rt.now).view programmer.now) }
@@ -33,7 +34,8 @@ pub fn read_content<'a, R: Store>(rt: &R, programmer: &Programmer<'a>) -> Result
     Ok(content_of(rt.alloc(), size, image, status)?)
 }
 
-/// What a chip of this size starts with: these bytes and status bytes, or FFh and clear ones where there are none.
+/// Returns the contents of a chip of `size` bytes: the given bytes and status bytes, or FFh and clear status bytes for
+/// those that are missing.
 pub fn content_of(
     alloc: Global,
     size: u32,
@@ -59,8 +61,13 @@ pub fn content_of(
     Ok(Content { bytes, status })
 }
 
-/// The bytes of a chip's file, which has so many, if one is named and there. A file that a read would wait for can't be
-/// read.
+/// Reads a file of the chip, which must have `len` bytes, if one is named and it exists.
+///
+/// Returns one of these faults:
+///
+/// - file fault 1 if the file can't be read, or if reading may block without end (a FIFO or a terminal)
+/// - file fault 3 if the file has another length
+/// - error 18 if memory runs out
 #[tactic(auto, using(crate::proofs::Unread::unread_opening))]
 pub fn read_whole<'a, R: Store>(
     rt: &R,
@@ -91,16 +98,18 @@ pub fn read_whole<'a, R: Store>(
     Ok(Some(bytes))
 }
 
-/// The bytes of an erased chip of this size.
+/// Returns `size` bytes of FFh, the contents of an erased chip.
 pub fn erased(alloc: Global, size: u32) -> Result<Vec<u8>, AllocError>
     ensures { IfOk result (λ bytes. bytes.items ≡ replicate size 255) }
 {
     vec![in alloc; 0xFF; size as usize]
 }
 
-/// A bus to the programmer's chip with this content: idle, allowed as many transactions as the programmer says, and
-/// answering BUSY to as many polls after each operation. A stop loses the power where the programmer says what that
-/// leaves.
+/// Returns a bus to the emulated chip with these contents, idle.
+///
+/// The bus carries out the number of transactions that `stop=` gives, or `u64::MAX` without it. After each operation
+/// the chip is busy for the number of polls that `busy=` gives, or for none without it. If `power=` is given, a stop
+/// also cuts the chip's power.
 pub fn start(programmer: &Programmer<'_>, content: Content) -> SimBus
     requires { vec_len content.bytes ≡ (emulated_part programmer.now.chip).size }
     ensures { StartsBus programmer.now content result }
@@ -111,7 +120,7 @@ pub fn start(programmer: &Programmer<'_>, content: Content) -> SimBus
     bus
 }
 
-// A bus to the programmer's chip with this content, which keeps its power and lets nothing through yet.
+// Returns a bus to the emulated chip with these contents, which keeps its power and carries out no transaction yet.
 fn hold(programmer: &Programmer<'_>, content: Content) -> SimBus
     requires { vec_len content.bytes ≡ (emulated_part programmer.now.chip).size }
     ensures held { HoldsFiles programmer.now content (⟦<SimBus as Bus>⟧.state result) }
@@ -127,7 +136,7 @@ fn hold(programmer: &Programmer<'_>, content: Content) -> SimBus
     SimBus::new(config, bytes, status, delays).unwrap()
 }
 
-// What never changes of the programmer's chip.
+// Returns the chip's configuration, with the unique ID of `unique=` if one is given.
 fn config_of(programmer: &Programmer<'_>) -> Config
     ensures { IsConfigWith programmer.now.chip programmer.now.unique result }
 {

@@ -4,9 +4,9 @@ use std::fmt;
 
 /// A name that is printed with its control characters escaped.
 ///
-/// The control characters are U+0000 to U+001F and U+007F to U+009F. Each byte of their UTF-8 is printed as `\xNN`, with
-/// two lower-case hexadecimal digits. All other characters are printed unchanged, including the backslash. The printed
-/// name therefore has no line feed, and sends a terminal no escape sequence.
+/// The control characters are U+0000 to U+001F and U+007F to U+009F. Each byte of their UTF-8 is printed as `\xNN`,
+/// with two lower-case hexadecimal digits. All other characters are printed unchanged, including the backslash. The
+/// printed name therefore has no line feed, and sends a terminal no escape sequence.
 #[derive(Drop)]
 pub struct Escaped<'a>(pub &'a str);
 

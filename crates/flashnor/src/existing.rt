@@ -1,4 +1,4 @@
-//! Sessions whose journal's file is there already: no journal is made over it, and the run ends without a call.
+//! Sessions whose journal already exists: it is not overwritten, and the run ends without a call.
 ghost use Rattle.std.specs.Prelude.{◌≡◌, IfErr, IfSome, IsSome, IsSomeAnd, Some, true};
 ghost use Rattle.nor_files.specs.Files.{AreAtRest, Name, Stays, is_lawful};
 ghost use Rattle.nor_files.specs.Files.Failure.{There};
@@ -17,7 +17,7 @@ use crate::roles::has_own_trace;
 use nor_files::Store;
 use nor_words::{Change, ChipJob, JournalUse, Task};
 
-/// The file of the journal that the task is to make, if a file of that name is there already.
+/// Returns the file of the task's journal if it already exists and the task is to create it.
 pub fn existing_journal<'a, R: Store>(rt: &R, task: &Task<'a>) -> Option<&'a str>
     ensures { IfSome result (λ file. (journal_by task.now ≡ Some file)
         × Happens (R.state rt.now).view (There file.now)) }
@@ -33,8 +33,11 @@ pub fn existing_journal<'a, R: Store>(rt: &R, task: &Task<'a>) -> Option<&'a str
     }
 }
 
-/// The first fault of a session whose journal's file is there: what is read before a journal is made may fail, too.
-/// Only the trace is written. Its name must be apart from that of each other file of the run.
+/// Returns the first fault of a session whose journal exists.
+///
+/// Everything that a session reads before it creates its journal is read first, and the first fault of these reads is
+/// returned. If none occurs, the fault is file fault 4. The run creates or empties only the trace, if its name is apart
+/// from those of the job's other files.
 pub fn fault_before<'a, R: Store>(rt: &mut R, job: &ChipJob<'a>, journal: &'a str) -> Fault<'a>
     requires makes { journal_by job.now.task ≡ Some journal }
     requires there { Happens (R.state rt.old).view (There journal.now) }
@@ -55,7 +58,7 @@ pub fn fault_before<'a, R: Store>(rt: &mut R, job: &ChipJob<'a>, journal: &'a st
     }
 }
 
-// Reads what a session reads before it makes its journal, in the same order.
+// Reads what a session reads before it creates its journal, in the same order.
 fn read_all<'a, R: Store>(rt: &mut R, job: &ChipJob<'a>) -> Result<(), Fault<'a>>
     requires { IsSome (journal_by job.now.task) }
     ensures fails { IfErr result (FailsJob (R.state rt.old).view job.now) }
@@ -69,7 +72,7 @@ fn read_all<'a, R: Store>(rt: &mut R, job: &ChipJob<'a>) -> Result<(), Fault<'a>
     Ok(())
 }
 
-// Makes the file of the trace, if one is asked for, or empties it.
+// Creates or empties the trace's file, if one is requested.
 fn make_trace<'a, R: Store>(rt: &mut R, trace: Option<&'a str>) -> Result<(), Fault<'a>>
     ensures nature { (R.state rt.new).view.nature ≡ (R.state rt.old).view.nature }
     ensures others { is_lawful (R.state rt.old).view ≡ true → (name : Name)

@@ -1,4 +1,4 @@
-//! The files that a run reads, makes and writes anew.
+//! The files of a run that are read, created or truncated, and the faults of files.
 ghost use Rattle.std.specs.Prelude.{◌≡◌, ◌↔◌, true, IfOk, IfErr, OnOk, OnErr, None, Some};
 ghost use Rattle.std.specs.IoError.{error_kind};
 ghost use Rattle.std.specs.declared.io.ErrorKind.TheVariants as Kinds;
@@ -18,17 +18,20 @@ use nor_session::Refusal;
 use std::io;
 use std::io::{BufWriter, ErrorKind};
 
-/// So many bytes of an image's file are read: one more than the largest chip has, so that an image that is too long is
-/// seen to be.
+/// The greatest number of bytes read from an image: one more than the largest chip has, so that a longer image is
+/// detected.
 pub const MOST_IMAGE_BYTES: u64 = 16_777_217;
 
-/// So many bytes of a journal's file are read: one more than the journal of all sectors of the largest chip has.
+/// The greatest number of bytes read from a journal: one more than the longest journal has, which saves all sectors of
+/// the largest chip.
 pub const MOST_JOURNAL_BYTES: u64 = 16_793_662;
 
-/// A layout's file has at most so many bytes.
+/// The greatest length of a layout file, in bytes.
 pub const MOST_LAYOUT_BYTES: u64 = 16_777_216;
 
-/// The bytes of the file of this name, of which at most so many are read.
+/// Reads at most `most` bytes of a file.
+///
+/// Returns file fault 1 if the file is missing or can't be read, or error 18 if memory runs out.
 #[tactic(auto, using(crate::proofs::Unread::unread_reading))]
 pub fn read_file<'a, R: Store>(rt: &R, name: &'a str, most: u64) -> Result<Vec<u8>, Fault<'a>>
     ensures ok { IfOk result (λ bytes. IsRead ((R.state rt.now).view) name.now most bytes.items) }
@@ -41,7 +44,7 @@ pub fn read_file<'a, R: Store>(rt: &R, name: &'a str, most: u64) -> Result<Vec<u
     }
 }
 
-/// The fault of a file that can't be opened or read.
+/// Returns the fault of a file that can't be opened or read: error 18 if memory ran out, otherwise file fault 1.
 pub fn reading(error: io::Error, name: &str) -> Fault<'_>
     ensures file { IsUnreadFault name.now result }
     ensures memory { result ≡ Faults.Refused Refusals.Memory ↔ error_kind error ≡ Kinds.OutOfMemory }
@@ -52,7 +55,7 @@ pub fn reading(error: io::Error, name: &str) -> Fault<'_>
     }
 }
 
-/// The fault of a file that is to be read and isn't there, or fails.
+/// Returns the fault of a file that is missing or can't be read: file fault 1.
 pub fn unread(name: &str) -> Fault<'_>
     ensures { result ≡ Faults.File FileFaults.Read name.entry }
 {
@@ -60,7 +63,8 @@ pub fn unread(name: &str) -> Fault<'_>
     Fault::File { fault, name }
 }
 
-/// A vault in the file of this name, which is made or emptied.
+/// Creates or empties the file of this name, and returns a vault in it. A journal is never emptied: it is file fault 4.
+/// `making` lists the other faults.
 pub fn empty<'a, R: Store>(rt: &mut R, name: &'a str) -> Result<R::Filed, Fault<'a>>
     ensures nature { (R.state rt.new).view.nature ≡ (R.state rt.old).view.nature }
     ensures fresh { IfOk result (λ vault. IsFresh (R.Filed.state vault)) }
@@ -76,7 +80,8 @@ pub fn empty<'a, R: Store>(rt: &mut R, name: &'a str) -> Result<R::Filed, Fault<
     }
 }
 
-/// Creates the file of this name, and returns a vault in it. A file that is there is left as it is, and reported.
+/// Creates the file of this name, and returns a vault in it. If the file exists it is left as it is: file fault 4.
+/// `making` lists the other faults.
 pub fn make<'a, R: Store>(rt: &mut R, name: &'a str) -> Result<R::Filed, Fault<'a>>
     ensures nature { (R.state rt.new).view.nature ≡ (R.state rt.old).view.nature }
     ensures fresh { IfOk result (λ vault. IsFresh (R.Filed.state vault)) }
@@ -96,7 +101,8 @@ pub fn make<'a, R: Store>(rt: &mut R, name: &'a str) -> Result<R::Filed, Fault<'
     }
 }
 
-/// The file of this name, made or emptied, with a buffer.
+/// Creates or empties the file of this name, and returns a buffered writer to it. A journal is never emptied: it is
+/// file fault 4. `making` lists the other faults.
 pub fn create_log<'a, R: Store>(rt: &mut R, name: &'a str) -> Result<BufWriter<R::Log>, Fault<'a>>
     ensures nature { (R.state rt.new).view.nature ≡ (R.state rt.old).view.nature }
     ensures others { is_lawful (R.state rt.old).view ≡ true
@@ -110,7 +116,12 @@ pub fn create_log<'a, R: Store>(rt: &mut R, name: &'a str) -> Result<BufWriter<R
     BufWriter::new(rt.alloc(), file).map_err(|_| Fault::Refused(Refusal::Memory))
 }
 
-/// The fault of a file that can't be made or emptied.
+/// Returns the fault of a file that can't be created or emptied.
+///
+/// - file fault 4 if the file exists and must be new, or is a journal, which is never emptied
+/// - file fault 5 if another process has locked the file
+/// - error 18 if memory ran out
+/// - otherwise file fault 2
 pub fn making(fault: MakeFault, name: &str) -> Fault<'_>
     ensures { (view : View) → IsMakeFault view.nature name.now fault → IsMaking view name.now result }
 {
@@ -125,7 +136,8 @@ pub fn making(fault: MakeFault, name: &str) -> Fault<'_>
     }
 }
 
-/// The fault of a file that is in use: it has another role in the run, or another run has locked it.
+/// Returns the fault of a file that is in use: another role of the run has it, another run has locked it, or the
+/// program prints to it (file fault 5).
 pub fn taken(name: &str) -> Fault<'_>
     ensures { result ≡ Faults.File FileFaults.Taken name.entry }
 {
@@ -133,7 +145,7 @@ pub fn taken(name: &str) -> Fault<'_>
     Fault::File { fault, name }
 }
 
-/// The fault of a file that can't be made or emptied, or written.
+/// Returns the fault of a file that can't be created, emptied or written (file fault 2).
 pub fn unmade(name: &str) -> Fault<'_>
     ensures { result ≡ Faults.File FileFaults.Write name.entry }
 {

@@ -1,4 +1,4 @@
-//! The chip's files in a run that changes the chip: held from before they are read until they are written over.
+//! The chip's files in a run that changes the chip: locked before they are read, until they are written back.
 ghost use Rattle.std.specs.Prelude.{◌≡◌, ◌+◌, true, false, List, ℕ, None, Some, IfErr, IfOk, IfSome, IsSomeAnd, OnErr, OnOk};
 ghost use Rattle.std.specs.Prelude.{option_map, vec_len};
 ghost use Rattle.nor_files.specs.Calls.{LeaveNoMore};
@@ -19,7 +19,7 @@ use nor_files::{HoldFault, Store};
 use nor_words::Programmer;
 use std::io;
 
-/// What the chip starts with, and which of its files were there.
+/// The initial contents of the chip, and which of its files existed.
 #[derive(Drop)]
 pub struct Held {
     pub content: Content,
@@ -27,8 +27,11 @@ pub struct Held {
     pub status_there: bool,
 }
 
-/// Holds the chip's files against other runs and reads them: FFh and clear status bytes where none is named or there.
-/// What was read of them is what a lost machine leaves.
+/// Locks the chip's files against other runs and reads them. FFh stands for a missing image, and clear status bytes for
+/// a missing status file.
+///
+/// If the files obey the contract of `Store` and none is open for a vault or a log (`AreAtRest`), what was read is
+/// durable: a host crash leaves it.
 pub fn hold_content<'a, R: Store>(
     rt: &mut R,
     programmer: &Programmer<'a>,
@@ -55,8 +58,8 @@ pub fn hold_content<'a, R: Store>(
     })
 }
 
-// The bytes of a chip's file, which has so many, if one is named and there: held, and synced. Its folder is synced too,
-// also where the file isn't there.
+// Locks and reads a file of the chip, which must have `len` bytes, if one is named and it exists; then syncs it. Syncs
+// its directory even if the file is missing.
 fn hold_whole<'a, R: Store>(
     rt: &mut R,
     name: Option<&'a str>,
@@ -86,8 +89,8 @@ fn hold_whole<'a, R: Store>(
     }
 }
 
-// The bytes of a chip's file that is there, which has so many: synced, and its folder too, since a run that made the
-// file may have been killed before it did that.
+// Reads a file of the chip, which exists and must have `len` bytes, and syncs it. Syncs its directory too, since a run
+// that created the file may have been killed before it did so.
 fn read_held<'a, R: Store>(rt: &mut R, name: &'a str, len: u32) -> Result<Vec<u8>, Fault<'a>>
     ensures nature { (R.state rt.new).view.nature ≡ (R.state rt.old).view.nature }
     ensures len { IfOk result (λ bytes. vec_len bytes ≡ len) }
@@ -111,7 +114,7 @@ fn read_held<'a, R: Store>(rt: &mut R, name: &'a str, len: u32) -> Result<Vec<u8
     }
 }
 
-/// The fault of a file that can't be held or shared.
+/// Returns the fault of a file that can't be locked or opened to be written.
 pub fn unheld(fault: HoldFault, name: &str) -> Fault<'_>
     ensures { IsUnheldFault fault name.now result }
 {
@@ -122,7 +125,7 @@ pub fn unheld(fault: HoldFault, name: &str) -> Fault<'_>
     }
 }
 
-/// The files that couldn't be written after a call, by their names.
+/// The names of the files that could not be written after a call.
 #[derive(Clone, Copy)]
 pub struct Unwritten<'a> {
     pub image: Option<&'a str>,
@@ -130,8 +133,8 @@ pub struct Unwritten<'a> {
     pub trace: Option<&'a str>,
 }
 
-/// Writes the chip's bytes and status bytes into the files that are named, the second also where the first can't be
-/// written. Answers the names of those that can't.
+/// Writes the chip's bytes and status bytes to the files that are named. Writes the status file even if the image could
+/// not be written. Returns the names of the files that could not be written.
 pub fn write_back<'a, R: Store>(
     rt: &mut R,
     programmer: &Programmer<'a>,
@@ -161,7 +164,7 @@ pub fn write_back<'a, R: Store>(
     (image, status)
 }
 
-// Writes these bytes into the file of this name, if one is given, and answers its name where that fails.
+// Writes `bytes` to the file of this name, if one is given. Returns the name if that fails.
 fn put_back<'a, R: Store>(
     rt: &mut R,
     name: Option<&'a str>,
@@ -190,7 +193,7 @@ fn put_back<'a, R: Store>(
     }
 }
 
-// Writes these bytes over a file, cuts it to their length, and syncs it.
+// Overwrites a file in place, truncates it to the length of `bytes`, and syncs it.
 fn write_over<R: Store>(rt: &mut R, name: &str, bytes: &[u8]) -> io::Result<()>
     ensures nature { (R.state rt.new).view.nature ≡ (R.state rt.old).view.nature }
     ensures others { is_lawful (R.state rt.old).view ≡ true → OthersStay name.now (R.state rt.old) (R.state rt.new) }
@@ -205,8 +208,8 @@ fn write_over<R: Store>(rt: &mut R, name: &str, bytes: &[u8]) -> io::Result<()>
     rt.sync(name)
 }
 
-// Makes a file with these bytes. Until all of them are synced it is empty, or has one byte more than they are, so
-// that a machine that is lost never leaves other bytes in the right number.
+// Creates a file with these bytes. Until all of them are synced the file is empty, or has one byte more than `bytes`.
+// Therefore a host crash never leaves other bytes in a file of the right length.
 fn make_with<R: Store>(rt: &mut R, name: &str, bytes: &[u8]) -> io::Result<()>
     ensures nature { (R.state rt.new).view.nature ≡ (R.state rt.old).view.nature }
     ensures others { is_lawful (R.state rt.old).view ≡ true → OthersStay name.now (R.state rt.old) (R.state rt.new) }

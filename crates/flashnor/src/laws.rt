@@ -1,4 +1,4 @@
-//! Laws on runs that follow one another, each cut off anywhere, with its process or with the machine.
+//! Laws about runs that follow one another, each interrupted anywhere by a kill or a host crash.
 ghost use Rattle.std.specs.Prelude.{◌≡◌, Ok, Result};
 ghost use Rattle.nor_words.specs.Text.{Text};
 ghost use Rattle.nor_words.specs.declared.job.ChipJob.{ChipJob};
@@ -14,12 +14,13 @@ use nor_files::Store;
 
 /// Proves that the original chip of a change can be restored, however often a restore is interrupted.
 ///
-/// `leads`: if the journal restores the original chip from whatever may be left of the files, it still does after each
-/// run that restores it, wherever that run was interrupted. `ends`: the first such run that ends with an answer and
-/// writes all files leaves the original chip, even if the host then crashes. Between two runs a file of the chip that
-/// was missing before the change may be moved aside.
+/// `leads`: if the journal restores the original chip from any files that may be left, it still does after each run
+/// that restores it, wherever that run was interrupted. `ends`: the first such run that returns an answer and writes
+/// all files leaves the original chip, even if the host then crashes. Between two runs a file of the chip that was
+/// missing before the change may be moved aside.
 ///
-/// `run_over` promises that a change leaves such files, or that it changed nothing.
+/// The contract of `run_over` supplies the premise: on files at rest, an interrupted change leaves files from which the
+/// journal restores the original chip, or files that open to the original chip.
 pub fn runs_lead_back<R: Store>()
     ensures leads { (programmer : Programmer) (file : Text) (start old mid new : R)
         (first : Opened programmer (R.state start)) (on_chip : ChipJob)

@@ -1,7 +1,24 @@
-//! `flashnor`, a programmer for SPI NOR flash that can give back what it changed.
+//! `flashnor`, a programmer for SPI NOR flash that can undo its own changes.
 //!
-//! It finds, reads, verifies, writes, erases and protects emulated chips. Each change keeps a journal first, from which
-//! a restore gives the chip back, and can be rehearsed: stopped on purpose and given back.
+//! It identifies, reads, verifies, writes, erases and write-protects emulated chips, whose contents are files. Each
+//! change first saves a journal, from which `--restore` restores the original chip. A change can also be rehearsed in
+//! memory: interrupted at a given transaction, and then undone.
+//!
+//! - `run.rt`: a run of the program, from its arguments to its exit status
+//! - `streams.rt`: keeps the descriptors 0, 1 and 2 open
+//! - `existing.rt`: ends a session whose journal exists
+//! - `roles.rt`: checks that no file of a job has two roles, and that none that is written is a standard stream
+//! - `holding.rt`: opens, locks, reads and syncs the chip's files if the job writes them, and writes them back
+//! - `chips.rt`: reads the chip's files, and makes the simulated bus
+//! - `files.rt`: reads and creates the other files, and makes the faults of files
+//! - `requests.rt`: the request of a change, and its included addresses
+//! - `readings.rt`: the jobs that leave a chip as it is
+//! - `changes.rt`: the jobs that change a chip, and rehearsals
+//! - `laws.rt`: the law about a change and the restores that follow it
+//! - `answers.rt`: the result of a job
+//! - `messages.rt`: the faults that end a run with status 1, and their texts
+//! - `escapes.rt`: file names with their control characters escaped
+//! - `printing.rt`: prints results and faults, and chooses the exit status
 #![tactic(auto)]
 
 mod answers;
@@ -38,11 +55,11 @@ fn main(rt: HostRuntime) -> ExitCode {
     ExitCode::from(status)
 }
 
-// The line of a file fault fits, also if each byte of a long path is escaped.
+// Room for the line of a file fault with a path of 4,096 bytes, even if each byte is escaped as four characters.
 const LINE_BYTES: usize = 32_768;
 
-// Each line goes out in one write, so that none is mixed with those of other programs; only where memory is refused for
-// that it goes out piece by piece.
+// Returns a writer that sends each line of up to `LINE_BYTES` bytes in one write, so that it is not mixed with the
+// lines of other programs. If there is no memory for its buffer, a line is sent in pieces.
 fn by_line<W: Write + Copy + Drop>(alloc: Global, stream: W) -> LineWriter<W> {
     match LineWriter::with_capacity(alloc, LINE_BYTES, stream) {
         Ok(writer) => writer,

@@ -1,4 +1,4 @@
-//! What ends a run with status 1, and its text.
+//! The faults that end a run with status 1, and their texts.
 ghost use Rattle.std.specs.Prelude.{◌≡◌, Some};
 
 use crate::escapes::Escaped;
@@ -9,25 +9,25 @@ use std::alloc::AllocError;
 use std::io::ErrorKind;
 use std::{fmt, io};
 
-/// What went wrong with a file.
+/// The failure of a file.
 #[derive(Clone, Copy)]
 pub enum FileFault {
-    /// It can't be read, or is a layout's and too long for one.
+    /// The file is missing, can't be looked up or read, or is a layout of more than 16 MiB.
     Read = 1,
-    /// It can't be made or written, or it is a trace's and lost a line.
+    /// The file can't be created, emptied, locked, written or synced, or it is the trace and lost a line.
     Write,
-    /// It is a chip's and has another length than the chip, or it is that of the status and hasn't two bytes.
+    /// The image has another length than the chip, or the status file does not have two bytes.
     Length,
-    /// It is to be a journal's, and is there already.
+    /// The journal of a change already exists, or a file that would be emptied is a journal.
     Exists,
-    /// It has another role in the run too, or another run is writing it.
+    /// The file has another role in the run, another run has locked it, or the program prints to it.
     Taken,
 }
 
 impl FileFault {
     ghost use Rattle.flashnor.specs.Messages.{file_number};
 
-    /// The number that its message shows.
+    /// Returns the number that its message contains.
     pub fn number(self) -> u8
         ensures { result ≡ file_number self }
     {
@@ -35,25 +35,27 @@ impl FileFault {
     }
 }
 
-/// What ends a run with status 1, shown as its line on standard error.
+/// The fault that ends a run with status 1, displayed as its text on standard error. An argument fault that asks for
+/// help is printed to standard output and does not set status 1.
 #[derive(Drop)]
 pub enum Fault<'a> {
-    /// The words ask for nothing; or for help.
+    /// A fault of the arguments, or a request for help.
     Usage(UsageFault),
-    /// The words aren't text, so there is nothing to parse. It has the number of words that the parser refuses.
+    /// Arguments that are not UTF-8, so that nothing can be parsed. It has the number of arguments that the parser
+    /// refuses.
     NoText,
-    /// A layout, or the names of its regions, can't be used.
+    /// A layout, or the names of its regions, that can't be used.
     Layout(LayoutFault),
-    /// The file has this name.
+    /// A failure of the file of this name.
     File { fault: FileFault, name: &'a str },
-    /// A call refused; or memory ran out while files were read, which is told the same way.
+    /// An error of a call, or error 18 if memory ran out while files were read.
     Refused(Refusal),
 }
 
 impl Fault<'_> {
     ghost use Rattle.flashnor.specs.Endings.{IsOfWords};
 
-    /// The fault of words that can't be collected.
+    /// Returns the fault of arguments that could not be collected: out of memory, or not UTF-8.
     pub fn of_words(error: &io::Error) -> Fault<'static>
         ensures { IsOfWords error.now result }
     {
@@ -85,7 +87,7 @@ impl From<AllocError> for Fault<'_> {
     }
 }
 
-// Written out, since a text that is derived has no contract.
+// Written out because a derived text has no contract.
 impl fmt::Display for Fault<'_> {
     ghost use Rattle.flashnor.specs.FaultLines.{text_of};
 
@@ -109,7 +111,7 @@ impl fmt::Display for Fault<'_> {
     }
 }
 
-// Where a layout's fault is, if it is in one line.
+// The number of the line with a layout's fault, if the fault is in one line.
 #[derive(Drop)]
 struct Place(Option<usize>);
 

@@ -1,4 +1,4 @@
-//! What a run prints: each message is a line.
+//! Prints the result and the faults of a run, one line each, and chooses the exit status.
 ghost use Rattle.std.specs.Prelude.{◌≡◌, ◌↔◌, IsTrue, IsSome, IsNone, OnOk, IfSome, None, Err, flat_map};
 ghost use Rattle.std.specs.Io.KnownBytes.{Appends};
 ghost use Rattle.nor_probe.specs.Table.{chips};
@@ -19,19 +19,19 @@ use nor_words::UsageFault;
 use std::io::Write;
 use std::{fmt, io};
 
-/// How a run ended, once all was printed that could be.
+/// The end of a run, after everything that can be printed was printed.
 #[derive(Clone, Copy)]
 pub struct Ending {
-    /// The exit status: 0, or 1 at any fault.
+    /// The exit status: 0, or 1 after any fault.
     pub status: u8,
-    /// The answer was printed, or the help.
+    /// True if the answer or the help was printed.
     pub printed: bool,
-    /// Each line that tells of a fault was printed.
+    /// True if each line of a fault was printed.
     pub told: bool,
 }
 
-/// Prints what a run came to: its answer or the help to `output`, and to `errors` its fault and a line for each file
-/// that couldn't be written. A line that can't be printed is lost.
+/// Prints the result of a run: its answer or help to `output`; its fault and a line for each file that could not be
+/// written to `errors`. A line that can't be printed is lost; if it belongs to the answer or the help, the status is 1.
 #[tactic(auto, using(crate::proofs::Printed::printed_well, crate::proofs::Printed::printed_badly))]
 pub fn print_end<O: Write, E: Write>(
     output: &mut O,
@@ -57,7 +57,7 @@ pub fn print_end<O: Write, E: Write>(
     }
 }
 
-// What the parser says, where that is help, which was asked for.
+// Returns the parser's text if it is help that was requested.
 fn help_of<'a>(fault: &'a Fault<'_>) -> Option<&'a WordsError>
     ensures some { IsSome result → IsAnswered (Err fault.now) }
     ensures none { IsNone result → IsAnswered (Err fault.now) → ⊥ }
@@ -70,7 +70,7 @@ fn help_of<'a>(fault: &'a Fault<'_>) -> Option<&'a WordsError>
     }
 }
 
-// Prints the line of a fault, and those of files that couldn't be written.
+// Prints the line of the run's fault, and those of files that could not be written.
 #[tactic(auto, using(crate::proofs::Printed::tells_both))]
 fn end_badly<W: Write>(errors: &mut W, fault: &Fault<'_>, unwritten: Unwritten<'_>) -> Ending
     ensures { EndsBadly fault.now unwritten.entry (W.contents errors.old) (W.contents errors.new) result }
@@ -84,7 +84,8 @@ fn end_badly<W: Write>(errors: &mut W, fault: &Fault<'_>, unwritten: Unwritten<'
     }
 }
 
-// Prints the lines of files that couldn't be written, behind what was printed or couldn't be.
+// Prints the lines of files that could not be written, after the answer. The status is 0 if the answer or help was
+// printed and all files were written.
 fn end_well<W: Write>(errors: &mut W, printed: bool, unwritten: Unwritten<'_>) -> Ending
     ensures { EndsWell printed unwritten.entry (W.contents errors.old) (W.contents errors.new) result }
 {
@@ -101,13 +102,13 @@ fn end_well<W: Write>(errors: &mut W, printed: bool, unwritten: Unwritten<'_>) -
     }
 }
 
-// Prints what the parser says of the options.
+// Prints the parser's help.
 fn print_help<W: Write>(output: &mut W, help: &WordsError) -> io::Result<()> {
     write!(output, "{help}")?;
     output.flush()
 }
 
-// Prints what a job came to.
+// Prints the answer of a job.
 fn print_answer<W: Write>(output: &mut W, answer: Answer) -> io::Result<()>
     ensures { OnOk result (Prints (AreLines answer) (W.contents output.old) (W.contents output.new)) }
 {
@@ -131,7 +132,7 @@ fn print_lines<W: Write>(output: &mut W, answer: Answer) -> io::Result<()>
     }
 }
 
-// The table of chips, and the name of those that are known by their SFDP alone.
+// Prints the table of chips, and the name of those known by their SFDP only.
 #[tactic(auto, using(crate::proofs::Printed::appends_then))]
 fn print_chips<W: Write>(output: &mut W) -> io::Result<()>
     ensures { OnOk result (Appends (W.contents output.old) (W.contents output.new) chip_lines) }
@@ -305,14 +306,14 @@ impl fmt::Display for Digits {
     }
 }
 
-/// Prints the line of a fault, and tells whether that was done.
+/// Prints the line of a fault. Returns whether it was printed.
 pub fn print_fault<W: Write>(errors: &mut W, fault: &Fault<'_>) -> bool
     ensures { IsTrue result → IfSome (line_of fault.now) (Appends (W.contents errors.old) (W.contents errors.new)) }
 {
     writeln!(errors, "{fault}").is_ok()
 }
 
-// Prints a line for each file that couldn't be written after a call, and tells whether that was done.
+// Prints a line for each file that could not be written after a call. Returns whether all were printed.
 fn print_unwritten<W: Write>(errors: &mut W, unwritten: Unwritten<'_>) -> bool
     ensures told { IsTrue result
         → Appends (W.contents errors.old) (W.contents errors.new) (lines_of_unwritten unwritten.entry) }
@@ -324,7 +325,7 @@ fn print_unwritten<W: Write>(errors: &mut W, unwritten: Unwritten<'_>) -> bool
     image && status && trace
 }
 
-// Prints the line of a file that couldn't be written, if this names one.
+// Prints the line of a file that could not be written, if `name` is given. Returns whether it was printed.
 fn print_unwritten_file<W: Write>(errors: &mut W, name: Option<&str>) -> bool
     ensures told { IsTrue result
         → Appends (W.contents errors.old) (W.contents errors.new) (line_of_unwritten name.entry) }
@@ -337,7 +338,7 @@ fn print_unwritten_file<W: Write>(errors: &mut W, name: Option<&str>) -> bool
     print_fault(errors, &Fault::File { fault, name })
 }
 
-// Each file was written.
+// True if every file was written.
 fn is_all_written(unwritten: Unwritten<'_>) -> bool
     ensures { IsTrue result ↔ (unwritten.entry ≡ all_written) }
 {

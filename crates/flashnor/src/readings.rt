@@ -1,4 +1,4 @@
-//! Jobs that leave a chip as it is.
+//! The jobs that leave a chip as it is.
 ghost use Rattle.std.specs.Prelude.{◌≡◌, ◌⊎◌, IfOk, IfErr, MatchResult, false, option_copied, true};
 ghost use Rattle.nor_files.specs.Files.{OthersStay, is_lawful};
 ghost use Rattle.nor_driver.specs.Looks.{Looks};
@@ -25,7 +25,7 @@ use nor_read::{read_out, verify, wp_status};
 use nor_session::Refusal;
 use nor_words::Regions;
 
-/// Finds the chip.
+/// Identifies the chip.
 pub fn find_chip<B: Bus>(bus: &mut B, named: Option<ChipName>) -> Outcome
     ensures { (programmer : Programmer) → IsReady programmer (B.state bus.old)
         → HasLookedUp (TellsFound programmer named) programmer named
@@ -35,7 +35,7 @@ pub fn find_chip<B: Bus>(bus: &mut B, named: Option<ChipName>) -> Outcome
     Ok(Answer::Found(found))
 }
 
-/// Tells the chip's size.
+/// Returns the chip's size in bytes.
 pub fn tell_size<B: Bus>(bus: &mut B, named: Option<ChipName>) -> Outcome
     ensures { (programmer : Programmer) → IsReady programmer (B.state bus.old)
         → HasLookedUp (TellsSize programmer named) programmer named
@@ -45,7 +45,7 @@ pub fn tell_size<B: Bus>(bus: &mut B, named: Option<ChipName>) -> Outcome
     Ok(Answer::Size(found.size))
 }
 
-/// The chip, which must have the name that is given, if one is.
+/// Identifies the chip. Returns error 3 if `named` is given and the chip has another name.
 #[tactic(auto, using(crate::proofs::Ready::finds_ready))]
 pub fn find<B: Bus>(bus: &mut B, named: Option<ChipName>) -> Result<Found, Refusal>
     ensures looks { Looks most_probe (B.state bus.old) (B.state bus.new) }
@@ -59,7 +59,7 @@ pub fn find<B: Bus>(bus: &mut B, named: Option<ChipName>) -> Result<Found, Refus
     Ok(probe(bus, named)?)
 }
 
-/// Tells what protects the chip.
+/// Returns the chip's protected range, and whether its status is locked.
 pub fn tell_protection<B: Bus>(bus: &mut B, named: Option<ChipName>) -> Outcome
     ensures { HasTold TellsGuarded named (B.state bus.old) (B.state bus.new) result }
 {
@@ -67,7 +67,7 @@ pub fn tell_protection<B: Bus>(bus: &mut B, named: Option<ChipName>) -> Outcome
     Ok(Answer::Protection(protection))
 }
 
-/// Tells which ranges of the chip can be protected.
+/// Returns the ranges of the chip that can be protected.
 pub fn list_ranges<B: Bus>(bus: &mut B, named: Option<ChipName>) -> Outcome
     ensures { HasTold ListsRanges named (B.state bus.old) (B.state bus.new) result }
 {
@@ -75,7 +75,7 @@ pub fn list_ranges<B: Bus>(bus: &mut B, named: Option<ChipName>) -> Outcome
     Ok(Answer::Ranges(offered(protection.size)))
 }
 
-/// Reads the chip into the file of this name. A fault is one from before that.
+/// Reads the chip into the file of this name. An error is a fault that occurred before the reading.
 pub fn read_chip<'a, R: Store, B: Bus>(
     rt: &mut R,
     bus: &mut B,
@@ -99,7 +99,7 @@ pub fn read_chip<'a, R: Store, B: Bus>(
     Ok(outcome)
 }
 
-// Reads the chip into this vault.
+// Reads the chip into `out`, at the included addresses if any are given.
 fn read_into<B: Bus, V: Vault>(
     bus: &mut B,
     named: Option<ChipName>,
@@ -114,7 +114,7 @@ fn read_into<B: Bus, V: Vault>(
     Ok(Answer::Read(report))
 }
 
-/// Compares the chip with the image in the file of this name. A fault is one from before that.
+/// Compares the chip with the image in the file of this name. An error is a fault that occurred before the comparison.
 pub fn verify_chip<'a, R: Store, B: Bus>(
     rt: &R,
     bus: &mut B,

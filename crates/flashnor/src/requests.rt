@@ -1,4 +1,4 @@
-//! What is asked of a chip, in the words of the calls that work on it.
+//! The request of a change, and the addresses of the regions it includes.
 ghost use Rattle.std.specs.Prelude.{◌≡◌, IfOk, IfErr, option_copied};
 ghost use Rattle.flashnor.specs.Requests.{AreIncluded, AreRangesOf, FailsToInclude, IncludesNone, request_for, what_of};
 
@@ -11,7 +11,13 @@ use nor_session::{Request, What};
 use nor_words::{Change, Regions, Wanted};
 use std::alloc::Global;
 
-/// The addresses of the regions, if there are any; their layout is read from its file.
+/// Returns the addresses of the named regions, or `None` if no regions are given. Reads the layout from its file.
+///
+/// Returns one of these faults:
+///
+/// - file fault 1 if the file can't be read, or has more than 16 MiB
+/// - a layout fault if the layout or the names of the regions are wrong, or if memory runs out while they are parsed
+/// - error 18 if memory runs out while the file is read
 pub fn read_included<'a, R: Store>(
     rt: &R,
     regions: Option<Regions<'a>>,
@@ -31,7 +37,7 @@ pub fn read_included<'a, R: Store>(
     Ok(Some(included))
 }
 
-// The addresses of the regions that are named, in the layout that the text is.
+// Returns the addresses of the named regions of a layout.
 #[tactic(auto, using(crate::proofs::Included::is_unread, crate::proofs::Included::is_unknown))]
 fn included_in(alloc: Global, text: &[u8], names: &str) -> Result<Ranges, LayoutFault>
     ensures ok { IfOk result (AreIncluded text.now names.now) }
@@ -40,7 +46,8 @@ fn included_in(alloc: Global, text: &[u8], names: &str) -> Result<Ranges, Layout
     Layout::read(alloc, text)?.include(names)
 }
 
-/// The request for a change of a chip that must have this name, if one is given, in these ranges.
+/// Returns the request of a change. If `named` is given the chip must have that name; `included` are the included
+/// addresses.
 pub fn request_for(
     change: &Change<'_>,
     named: Option<ChipName>,

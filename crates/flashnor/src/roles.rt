@@ -1,4 +1,4 @@
-//! One file has one role in a run.
+//! Checks that each file has one role in a run.
 ghost use Rattle.std.specs.Prelude.{◌≡◌, true, IfErr, OnOk};
 ghost use Rattle.flashnor.specs.Roles.{FailsRoles, HasOwnTrace, HaveOneRole, file_in, image_of, is_written, layout_of};
 ghost use Rattle.flashnor.specs.Roles.{must_differ, named_by};
@@ -11,7 +11,7 @@ use crate::run::puts_back;
 use nor_files::Store;
 use nor_words::{Change, ChipJob, JournalUse, Regions, Task, Wanted};
 
-// The files that a task names beside the chip's.
+// The files that a task names, in addition to those of the chip and the trace.
 #[derive(Clone, Copy)]
 struct Named<'a> {
     layout: Option<&'a str>,
@@ -20,7 +20,7 @@ struct Named<'a> {
     journal: Option<&'a str>,
 }
 
-// What a file is to a job, in the order in which a fault names the later of two.
+// The role of a file in a job. If two roles have one file, the fault names the file of the later role in this order.
 #[derive(Clone, Copy)]
 enum Role {
     Image,
@@ -32,10 +32,14 @@ enum Role {
     Journal,
 }
 
-/// Refuses a job that names one file in two roles, unless both are only read, or they are the chip's image and the one
-/// that it is to get. The fault names the later of the two, in the order image, status, trace, layout, wanted image,
-/// output, journal. Then it refuses a job of which a file that isn't only read is standard output or standard error.
-/// A name that can't be looked at is the fault of a file that can't be read.
+/// Checks that each file of a job has one role, and that no file that is written is one that the program prints to.
+///
+/// Two roles may share a file only if both files are only read, or if the two are the chip's image and the image to
+/// write. The journal of a restore counts as written. The order of the checks is fixed: first pairs of files, then
+/// files that the program prints to.
+///
+/// Returns file fault 5 with the name of the later of two roles (image, status, trace, layout, image to write, output,
+/// journal), or with a name that is printed to. Returns file fault 1 if a name can't be looked up.
 pub fn have_one_role<'a, R: Store>(rt: &R, job: &ChipJob<'a>) -> Result<(), Fault<'a>>
     ensures ok { OnOk result (HaveOneRole (R.state rt.now).view.nature job.now) }
     ensures err { IfErr result (FailsRoles (R.state rt.now).view.nature job.now) }
@@ -44,7 +48,8 @@ pub fn have_one_role<'a, R: Store>(rt: &R, job: &ChipJob<'a>) -> Result<(), Faul
     are_unprinted(rt, job)
 }
 
-/// Refuses a job whose trace has another role, too, as `have_one_role` does.
+/// Checks that the trace's file is no other file of a session, and is not printed to. Returns the faults of
+/// `have_one_role`.
 pub fn has_own_trace<'a, R: Store>(rt: &R, job: &ChipJob<'a>) -> Result<(), Fault<'a>>
     ensures ok { OnOk result (HasOwnTrace (R.state rt.now).view.nature job.now) }
     ensures err { IfErr result (FailsRoles (R.state rt.now).view.nature job.now) }
@@ -57,7 +62,7 @@ pub fn has_own_trace<'a, R: Store>(rt: &R, job: &ChipJob<'a>) -> Result<(), Faul
     unprinted(rt, job, Role::Trace)
 }
 
-// Checks that each two files of the job that have to be two are: the store says that their names are apart.
+// Checks each pair of roles that needs two files: the store must report that their names refer to different files.
 fn are_apart<'a, R: Store>(rt: &R, job: &ChipJob<'a>) -> Result<(), Fault<'a>>
     ensures ok { OnOk result (HaveOneRole (R.state rt.now).view.nature job.now) }
     ensures err { IfErr result (FailsRoles (R.state rt.now).view.nature job.now) }
@@ -83,7 +88,7 @@ fn are_apart<'a, R: Store>(rt: &R, job: &ChipJob<'a>) -> Result<(), Fault<'a>>
     apart(rt, job, Role::Wanted, Role::Journal)
 }
 
-// No file of the job that isn't only read is one that the program prints to.
+// Checks that the program prints to no file of the job that is written.
 fn are_unprinted<'a, R: Store>(rt: &R, job: &ChipJob<'a>) -> Result<(), Fault<'a>>
     ensures { IfErr result (FailsRoles (R.state rt.now).view.nature job.now) }
 {
@@ -96,7 +101,7 @@ fn are_unprinted<'a, R: Store>(rt: &R, job: &ChipJob<'a>) -> Result<(), Fault<'a
     unprinted(rt, job, Role::Journal)
 }
 
-// The file that a job has in this role, if it names one.
+// Returns the file that a job has in this role, if it names one.
 fn file_in<'a>(job: &ChipJob<'a>, role: Role) -> Option<&'a str>
     ensures { result ≡ file_in job.now role }
 {
@@ -117,7 +122,7 @@ fn file_in<'a>(job: &ChipJob<'a>, role: Role) -> Option<&'a str>
     }
 }
 
-// The files that this task names.
+// Returns the files that this task names.
 fn named_by<'a>(task: &Task<'a>) -> Named<'a>
     ensures { result ≡ named_by task.now }
 {
@@ -161,7 +166,7 @@ fn layout_of<'a>(regions: Option<Regions<'a>>) -> Option<&'a str>
     }
 }
 
-// The image that a change writes.
+// Returns the image that a change writes, if it writes one.
 fn image_of<'a>(change: &Change<'a>) -> Option<&'a str>
     ensures { result ≡ image_of change.now.wanted }
 {
@@ -171,7 +176,7 @@ fn image_of<'a>(change: &Change<'a>) -> Option<&'a str>
     }
 }
 
-// The journal that it keeps.
+// Returns the file of the change's journal, unless the change is a rehearsal.
 fn journal_of<'a>(change: &Change<'a>) -> Option<&'a str>
     ensures { result ≡ journal_of change.now.journal_use }
 {
@@ -181,7 +186,7 @@ fn journal_of<'a>(change: &Change<'a>) -> Option<&'a str>
     }
 }
 
-// Two files that have to be two, where both are named: a fault of the later one where they are one.
+// Checks that two roles which need two files have them, if the job names both. Otherwise the fault names the later one.
 fn apart<'a, R: Store>(
     rt: &R,
     job: &ChipJob<'a>,
@@ -203,7 +208,7 @@ fn apart<'a, R: Store>(
     }
 }
 
-// A file that isn't only read, if it is named: a fault if the program prints to it.
+// Checks that the program does not print to the written file of this role, if the job names one.
 fn unprinted<'a, R: Store>(rt: &R, job: &ChipJob<'a>, role: Role) -> Result<(), Fault<'a>>
     requires { is_written job.now role ≡ true }
     ensures { IfErr result (FailsRoles (R.state rt.now).view.nature job.now) }

@@ -1,4 +1,4 @@
-//! A run of the program.
+//! A run of the program: from its arguments to its exit status.
 ghost use Rattle.std.specs.Prelude.{◌≡◌, false, true, Err, IfOk, IfErr, OnErr, OnSome, Some, map, string_bytes};
 ghost use Rattle.nor_chip.specs.Trace.{has_lost};
 ghost use Rattle.flashnor.specs.Chips.{IsReady};
@@ -32,9 +32,11 @@ use std::io;
 use std::io::Write;
 use std::rt::Files;
 
-/// Does what the words ask for that the system gives, the first of which is the program's name, and prints results to
-/// `output` and faults to `errors`. Answers the exit status: 0, or 1 at any fault. That the words can't be had is a
-/// fault as others are.
+/// Performs the job given by the program's arguments, prints results to `output` and faults to `errors`, and returns
+/// the exit status: 0, or 1 after any fault.
+///
+/// The first of the arguments is the program's name, which is skipped. If the system could not provide the arguments,
+/// `given` is an error, which is printed as a fault too.
 pub fn run_words<R: Files + AllocGlobal, O: Write, E: Write>(
     rt: &R,
     given: io::Result<Args>,
@@ -55,8 +57,8 @@ where
     ending.status
 }
 
-/// Ends a run that can't keep the standard streams' descriptors from being given to its files, before it opens one of
-/// these. Returns the exit status, which is 1.
+/// Ends a run that could not keep the descriptors of the standard streams in use. Opens no file, prints the fault, and
+/// returns the exit status, which is 1.
 pub fn end_without_streams<O: Write, E: Write>(output: &mut O, errors: &mut E) -> u8
     ensures { EndsWith (IsWithoutStreams (O.contents output.old) (O.contents output.new)
         (E.contents errors.old) (E.contents errors.new)) result }
@@ -65,7 +67,7 @@ pub fn end_without_streams<O: Write, E: Write>(output: &mut O, errors: &mut E) -
     ending.status
 }
 
-// The same over any store of files, once the words are there.
+// Performs the job of the program's arguments over any store of files.
 #[tactic(auto, using(crate::proofs::Ended::is_without_memory))]
 fn run_given<R: Store, O: Write, E: Write>(
     rt: &mut R,
@@ -82,14 +84,14 @@ fn run_given<R: Store, O: Write, E: Write>(
     }
 }
 
-// The words behind the program's name, each of them.
+// Returns the arguments that follow the program's name.
 fn words_behind_name(alloc: Global, args: Args) -> Result<Vec<String>, AllocError>
     ensures { IfOk result (λ words. map string_bytes words.items ≡ words_of args) }
 {
     args.skip(1).collect(alloc)
 }
 
-// Ends a run without a call.
+// Ends a run without a call: prints `fault`.
 fn end_before<O: Write, E: Write>(fault: Fault<'_>, output: &mut O, errors: &mut E) -> Ending
     ensures { HasPrinted (Err fault.entry) all_written (O.contents output.old) (O.contents output.new)
         (E.contents errors.old) (E.contents errors.new) result }
@@ -98,7 +100,7 @@ fn end_before<O: Write, E: Write>(fault: Fault<'_>, output: &mut O, errors: &mut
     print_end(output, errors, answer, unwritten)
 }
 
-/// The same over any store of files and any words.
+/// Performs the job given by `words`, the arguments without the program's name, over any store of files.
 #[tactic(auto, using(crate::proofs::Ended::is_status))]
 pub fn run_over<R: Store, O: Write, E: Write>(
     rt: &mut R,
@@ -109,13 +111,13 @@ pub fn run_over<R: Store, O: Write, E: Write>(
     ensures { IsStatus (R.state rt.old) (R.state rt.new) (map string_bytes words.now)
         (O.contents output.old) (O.contents output.new) (E.contents errors.old) (E.contents errors.new) result }
 {
-    // It does nothing: a program's laws are checked only where its runs call them.
+    // The call does nothing at run time. A law is only checked in a program that calls it.
     runs_lead_back::<R>();
     let Work { answer, unwritten } = run(rt, words);
     print_end(output, errors, answer, unwritten)
 }
 
-// What the work of a run came to, and the files that couldn't be written after its call.
+// The result of a run's work, and the files that could not be written after its call.
 #[derive(Drop)]
 struct Work<'a> {
     answer: Result<Answer, Fault<'a>>,
@@ -123,7 +125,7 @@ struct Work<'a> {
 }
 
 impl<'a> Work<'a> {
-    // That of a run without a call.
+    // Returns the work of a run that made no call.
     fn before(answer: Result<Answer, Fault<'a>>) -> Work<'a>
         ensures answer { result.answer ≡ answer.entry }
         ensures none { result.unwritten ≡ all_written }
@@ -137,7 +139,7 @@ impl<'a> Work<'a> {
     }
 }
 
-// Does what the words ask for.
+// Performs the job given by the arguments.
 fn run<'a, R: Store>(rt: &mut R, words: &'a [String]) -> Work<'a>
     ensures { AnswersWords (R.state rt.old) (R.state rt.new) (map string_bytes words.now) result.answer
         result.unwritten }
@@ -152,7 +154,7 @@ fn run<'a, R: Store>(rt: &mut R, words: &'a [String]) -> Work<'a>
     }
 }
 
-// Does the job's task on the programmer's chip. An error is a fault from before the call.
+// Performs the job's task on its chip. An error is a fault that occurred before the call to the engine.
 #[tactic(auto, using(crate::proofs::Ended::holds_looked))]
 fn work_on_chip<'a, R: Store>(rt: &mut R, job: &ChipJob<'a>) -> Result<Work<'a>, Fault<'a>>
     ensures ok { IfOk result (λ work.
@@ -174,7 +176,7 @@ fn work_on_chip<'a, R: Store>(rt: &mut R, job: &ChipJob<'a>) -> Result<Work<'a>,
     }
 }
 
-// Reads the chip's files, does a task that leaves them as they are.
+// Reads the chip's files and performs a task that leaves them as they are.
 fn look_at_files<'a, R: Store>(rt: &mut R, job: &ChipJob<'a>) -> Result<Work<'a>, Fault<'a>>
     requires looks { puts_back job.now.task ≡ false }
     requires roles { HaveOneRole (R.state rt.old).view.nature job.now }
@@ -197,7 +199,7 @@ fn look_at_files<'a, R: Store>(rt: &mut R, job: &ChipJob<'a>) -> Result<Work<'a>
     Ok(Work { answer, unwritten })
 }
 
-// Holds the chip's files, does a task that changes the chip, and writes it over them.
+// Locks and reads the chip's files, performs a task that changes the chip, and writes the chip back to its files.
 fn change_files<'a, R: Store>(rt: &mut R, job: &ChipJob<'a>) -> Result<Work<'a>, Fault<'a>>
     requires changes { puts_back job.now.task ≡ true }
     requires roles { HaveOneRole (R.state rt.old).view.nature job.now }
@@ -228,7 +230,7 @@ fn change_files<'a, R: Store>(rt: &mut R, job: &ChipJob<'a>) -> Result<Work<'a>,
     Ok(Work { answer, unwritten })
 }
 
-// What a call came to, as a run tells it.
+// Returns the result of a call as a run reports it: an error of the call is a fault of the run.
 fn told<'a>(outcome: Outcome) -> Result<Answer, Fault<'a>>
     ensures { IsToldAs outcome result }
 {
@@ -238,7 +240,7 @@ fn told<'a>(outcome: Outcome) -> Result<Answer, Fault<'a>>
     }
 }
 
-// A call that was made: the bus to the chip after it, what it came to, and the trace's name where that lost a line.
+// A call that was made: the bus after it, its result, and the trace's name if the trace lost a line.
 #[derive(Drop)]
 struct Called<'a> {
     bus: SimBus,
@@ -247,8 +249,8 @@ struct Called<'a> {
 }
 
 impl<'a> Called<'a> {
-    // That of a bus which was traced into the file of this name. A line that is lost, then or as the log writes what it
-    // holds back, is told.
+    // Ends a trace: writes the rest of its buffer, and returns the call with the bus. If a line could not be written to
+    // the trace, during the call or now, `lost` is the trace's name.
     fn of_traced<L: Write + Drop>(
         mut traced: TraceBus<SimBus, L>,
         name: &'a str,
@@ -266,7 +268,7 @@ impl<'a> Called<'a> {
     }
 }
 
-// Does the job's task, with a trace where one is asked for. An error is a fault from before the call.
+// Performs the job's task, with a trace if one is requested. An error is a fault that occurred before the call.
 fn call_on<'a, R: Store>(
     rt: &mut R,
     mut bus: SimBus,
@@ -295,14 +297,14 @@ fn call_on<'a, R: Store>(
         });
     };
     let log = create_log(rt, name)?;
-    // A link to nothing led nowhere when the files were compared first. The trace's file is there now.
+    // Compares the files again now that the trace exists: before, a link to it may have had no target.
     have_one_role(rt, job)?;
     let mut traced = TraceBus::new(bus, log);
     let outcome = do_task(rt, &mut traced, job)?;
     Ok(Called::of_traced(traced, name, outcome))
 }
 
-// Does the job's task on its chip. A fault is one from before the call.
+// Performs the job's task on its chip. An error is a fault that occurred before the call.
 fn do_task<'a, R: Store, B: Meter>(
     rt: &mut R,
     bus: &mut B,
@@ -332,7 +334,8 @@ fn do_task<'a, R: Store, B: Meter>(
     }
 }
 
-/// After its call the chip is written into its files: the task changes it, and isn't a rehearsal.
+/// True if the chip is written back to its files after the call: the task is a restore, or a change that is not a
+/// rehearsal.
 pub fn puts_back(task: &Task<'_>) -> bool
     ensures { result ≡ puts_back task.now }
 {

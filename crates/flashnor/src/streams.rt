@@ -1,12 +1,12 @@
-//! The standard streams, which a program may be started without.
+//! The standard streams: a program may be started with some of them closed.
 
 use std::rt::Files;
 use std::{fs, io};
 
-/// A directory that is always there. Nothing can be written to it.
+/// A directory that always exists, and to which nothing can be written.
 pub const DIRECTORY: &str = "/";
 
-/// Files that keep the descriptors 0, 1 and 2 taken, for as long as they are open.
+/// Files that keep the descriptors 0, 1 and 2 in use as long as they are open.
 #[derive(Drop)]
 pub struct Streams<F> {
     _input: F,
@@ -14,9 +14,10 @@ pub struct Streams<F> {
     _errors: F,
 }
 
-/// Opens a directory three times, before any other file: each of the descriptors 0, 1 and 2 that was closed refers to
-/// it then, and what is printed to it fails. Otherwise the next
-/// file that is opened would get that descriptor, and the lines of the run would overwrite its first bytes.
+/// Opens a directory three times, before any other file is opened.
+///
+/// Each of the descriptors 0, 1 and 2 that was closed then refers to the directory, and printing to it fails. Otherwise
+/// the next file opened would get that descriptor, and printed lines would overwrite its first bytes.
 pub fn keep_streams<R: Files>(files: &R) -> io::Result<Streams<R::File>> {
     Ok(Streams {
         _input: fs::open(files, DIRECTORY)?,

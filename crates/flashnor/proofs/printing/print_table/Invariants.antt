@@ -3,7 +3,7 @@ use Rattle.std.specs.Io.KnownBytes.{Appends}
 use Rattle.flashnor.specs.AnswerLines.{chip_line}
 use Rattle.flashnor.proofs.printing.print_table.Given as goal
 
--- so far the lines of these were printed
+-- the lines of the chips yielded by now were printed
 abbrev pub invariant-loop-part : goal.invariant-loop-part
 invariant-loop-part g l =
     Appends (g.W.Write.contents l.initial.output) (g.W.Write.contents l.output) (flat_map chip_line (take l.part-index l.part-items))
