@@ -1,4 +1,4 @@
-//! What is asked of a chip, by chance.
+//! Random cases: a chip, a request and an image.
 
 use crate::chips::{self, Chip};
 use crate::dice::Dice;
@@ -11,19 +11,20 @@ use nor_session::{Request, What};
 use std::alloc::Global;
 use std::fmt::Write;
 
-/// A chip, and a request with its image.
+/// A chip, a request, and the image for it.
 #[derive(Drop)]
 pub struct Case {
     pub chip: Chip,
     pub image: Vec<u8>,
     pub request: Request,
-    /// The spans that the request includes, as they were made up; none is the whole chip.
+    /// The spans that the request includes, in the order in which they were drawn. With `None` the whole chip is
+    /// included.
     pub included: Option<Vec<Span>>,
 }
 
 impl Case {
-    /// The next case that the dice give. One in five is on a chip with protection, so that the refusals of that
-    /// come often enough.
+    /// Draws the next case. One case in five has a chip with block protection, so that the errors of protection occur
+    /// often enough.
     pub fn next(alloc: Global, dice: &mut Dice) -> Result<Case, Fault> {
         let chip = chip_for(alloc, dice)?;
         let image = image_for(alloc, dice, &chip)?;
@@ -36,18 +37,18 @@ impl Case {
         })
     }
 
-    /// The address is included by the request's ranges.
+    /// True if the request includes the address.
     pub fn includes(&self, address: u32) -> bool {
         self.reaches(address, address)
     }
 
-    /// Some address of the sector is included by the request's ranges.
+    /// True if the request includes an address of the sector.
     pub fn includes_in(&self, sector: u32) -> bool {
         let first = sector.saturating_mul(SECTOR_LEN);
         self.reaches(first, first.saturating_add(4095))
     }
 
-    // Some address from the first to the last one is included.
+    // True if the request includes an address from `first` to `last`.
     fn reaches(&self, first: u32, last: u32) -> bool {
         let Some(spans) = &self.included else {
             return true;
@@ -60,7 +61,7 @@ impl Case {
         false
     }
 
-    /// The last included address, where there are ranges.
+    /// Returns the last included address, or `None` if the whole chip is included.
     pub fn last_included(&self) -> Option<u32> {
         match &self.included {
             Some(spans) => spans.iter().map(|span| span.last).max(),
@@ -77,7 +78,7 @@ fn chip_for(alloc: Global, dice: &mut Dice) -> Result<Chip, Fault> {
     }
 }
 
-// What is asked of a chip, and the spans that it includes.
+// Draws a request for a chip. Returns it with the spans that it includes.
 fn request_for(
     alloc: Global,
     dice: &mut Dice,
@@ -103,7 +104,7 @@ fn request_for(
     Ok((request, spans))
 }
 
-// An image for a chip: its bytes with changes, seldom of another length.
+// Draws an image for a chip: its bytes with changes. One image in 25 has its length changed.
 fn image_for(alloc: Global, dice: &mut Dice, chip: &Chip) -> Result<Vec<u8>, Fault> {
     let mut image = chip.bytes.to_vec(alloc)?;
     contents::alter(dice, image.as_mut_slice());
@@ -128,7 +129,7 @@ fn change_length(dice: &mut Dice, chip: &Chip, image: &mut Vec<u8>) -> Result<()
     Ok(())
 }
 
-// Changes a byte at one end of the guarded places, where there are any.
+// Changes the first or the last byte of the protected range, if there is one.
 fn change_guarded(dice: &mut Dice, chip: &Chip, image: &mut [u8]) {
     let (start, len) = guards::guarded_places(guards::code_of(chip.status), chip.config.size);
     let last = start.saturating_add(len).saturating_sub(1);
@@ -139,7 +140,8 @@ fn change_guarded(dice: &mut Dice, chip: &Chip, image: &mut [u8]) {
     }
 }
 
-// What is asked for. A range is asked for often where it can be had.
+// Draws what the request asks for. A protection range is drawn for 8 chips in 20 with block protection, and for 1 in 20
+// without it.
 fn what_for(dice: &mut Dice, chip: &Chip) -> What {
     let ranges = if chip.config.scheme { 8 } else { 1 };
     if dice.hits(ranges, 20) {
@@ -151,7 +153,7 @@ fn what_for(dice: &mut Dice, chip: &Chip) -> What {
     dice.pick(What::Write, &[What::Write, What::Erase])
 }
 
-// No name, the chip's, or another.
+// Draws the name in the request: none, the chip's name, or another one.
 fn name_for(dice: &mut Dice, chip: &Chip) -> Option<ChipName> {
     let right = verdicts::name_of(&chip.config);
     let names = [
@@ -167,7 +169,7 @@ fn name_for(dice: &mut Dice, chip: &Chip) -> Option<ChipName> {
     }
 }
 
-// One to four spans of addresses, seldom past the chip's end.
+// Draws one to four spans of addresses. A span seldom ends past the chip's end.
 fn spans_for(alloc: Global, dice: &mut Dice, chip: &Chip) -> Result<Vec<Span>, Fault> {
     let mut spans = Vec::new(alloc);
     for _ in 0..dice.pick(1, &[2, 3, 4]) {
@@ -176,7 +178,7 @@ fn spans_for(alloc: Global, dice: &mut Dice, chip: &Chip) -> Result<Vec<Span>, F
     Ok(spans)
 }
 
-// A span of a few bytes, a few sectors, or a part of the chip.
+// Draws a span: up to a few hundred bytes, up to a few sectors, or up to half of the chip.
 fn span_for(dice: &mut Dice, size: u32) -> Span {
     let sector = contents::sector(dice, size / SECTOR_LEN);
     let offset = dice.pick(0, &[0, 0x800, 0xFFF, 0x100]);
@@ -196,7 +198,7 @@ fn span_for(dice: &mut Dice, size: u32) -> Span {
     }
 }
 
-// The ranges of a layout that has these spans as its regions.
+// Returns the ranges that are included if all these spans are regions of a layout.
 fn ranges_of(alloc: Global, spans: &[Span]) -> Result<Ranges, Fault> {
     let mut names = String::from_str(alloc, "r0")?;
     let mut text = String::new(alloc);

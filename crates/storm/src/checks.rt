@@ -1,4 +1,4 @@
-//! Sessions that nothing stops, beside what the plain code says of them.
+//! Sessions that are not stopped, compared with the reference implementation.
 
 use crate::cases::Case;
 use crate::chips::Chip;
@@ -14,24 +14,24 @@ use nor_probe::Found;
 use nor_session::{Refusal, Report, Request, session};
 use std::alloc::Global;
 
-/// What a session came to.
+/// The result of a session.
 #[derive(Drop)]
 pub struct Ran {
     pub answer: Result<Report, Refusal>,
     pub bus: SimBus,
     pub vault: MemVault,
-    /// The trace, a line for each transaction.
+    /// The trace, with one line for each transaction.
     pub sent: Vec<u8>,
 }
 
 impl Ran {
-    /// The lines of the trace.
+    /// Returns the lines of the trace.
     pub fn lines(&self) -> Result<&str, Fault> {
         traces::text(self.sent.as_slice())
     }
 }
 
-/// Runs a session under a stop.
+/// Runs the session of a case on a bus with this stop.
 pub fn run(alloc: Global, case: &Case, stop: Stop) -> Result<Ran, Fault> {
     let mut image = case.image.to_vec(alloc)?;
     let bus = case.chip.bus(alloc, stop)?;
@@ -54,18 +54,19 @@ fn run_on(alloc: Global, bus: SimBus, image: &mut [u8], request: &Request) -> Re
     if lost { Err(Fault::Memory) } else { Ok(ran) }
 }
 
-/// The chip behind the bus has the bytes and kept bits of a chip.
+/// True if the chip on the bus has the bytes and non-volatile status bits of `chip`.
 pub fn is_same(bus: &SimBus, chip: &Chip) -> bool {
     bus.bytes() == chip.bytes.as_slice() && guards::kept(bus.status()) == guards::kept(chip.status)
 }
 
-// The latch is set only where it was, and the chip isn't busy.
+// True if the chip on the bus isn't busy, and its write enable latch is set only if it was set before.
 fn is_quiet(bus: &SimBus, chip: &Chip) -> bool {
     let now = bus.status()[0];
     now & 0x01 == 0 && (now & 0x02 == 0 || chip.status[0] & 0x02 != 0)
 }
 
-/// A refused session changed nothing, and sealed nothing.
+/// Checks that a refused session returned this error, changed neither the bytes nor the non-volatile status bits,
+/// sealed no vault, and sent the expected transactions.
 pub fn check_refused(alloc: Global, case: &Case, refusal: Refusal, ran: &Ran) -> Result<(), Fault> {
     agree_all(&[
         (ran.answer == Err(refusal), "the refusal of a session"),
@@ -79,8 +80,8 @@ pub fn check_refused(alloc: Global, case: &Case, refusal: Refusal, ran: &Ran) ->
     traces::check_lines(sent, lines.text(), "a refused session")
 }
 
-/// An accepted session did what was wanted, with the work that is counted plainly, saved what it touched, and sent
-/// these lines.
+/// Checks that an accepted session reached its target, reported the expected work, saved exactly the touched sectors,
+/// and sent these lines.
 pub fn check_ended(case: &Case, wanted: &Wanted, lines: &str, ran: &Ran) -> Result<(), Fault> {
     let Ok(report) = ran.answer else {
         return Err(Fault::Differs("an accepted session ends"));
@@ -97,7 +98,7 @@ pub fn check_ended(case: &Case, wanted: &Wanted, lines: &str, ran: &Ran) -> Resu
     traces::check_lines(sent, lines, "a session")
 }
 
-/// The report counts this work, on the chip that is there.
+/// Checks that the report has the given chip and counts the given work.
 pub fn check_report(chip: &Chip, work: Work, report: &Report) -> Result<(), Fault> {
     check_found(chip, &report.found)?;
     let touched = u64::from(report.touched) == work.touched;
@@ -108,7 +109,7 @@ pub fn check_report(chip: &Chip, work: Work, report: &Report) -> Result<(), Faul
     ])
 }
 
-/// The chip that was found is the one that is there.
+/// Checks that the chip that was found is the given one.
 pub fn check_found(chip: &Chip, found: &Found) -> Result<(), Fault> {
     let config = &chip.config;
     let named = found.name == verdicts::name_of(config);
@@ -124,7 +125,7 @@ pub fn check_found(chip: &Chip, found: &Found) -> Result<(), Fault> {
     ])
 }
 
-/// The chip behind the bus is what was wanted, and idle.
+/// Checks that the chip on the bus matches the target, and is idle.
 pub fn check_wanted(wanted: &Wanted, bus: &SimBus) -> Result<(), Fault> {
     let bytes = bus.bytes() == wanted.bytes.as_slice();
     let kept = guards::kept(bus.status()) == guards::kept(wanted.status);
@@ -136,7 +137,7 @@ pub fn check_wanted(wanted: &Wanted, bus: &SimBus) -> Result<(), Fault> {
     ])
 }
 
-// The vault has the chip as it was: its head, and exactly the touched sectors.
+// Checks that the vault has a journal of the original chip, with exactly the touched sectors.
 fn check_vault(chip: &Chip, wanted: &Wanted, vault: &MemVault) -> Result<(), Fault> {
     let journal = Journal::read(vault.bytes())?;
     check_head(chip, wanted, &journal)?;

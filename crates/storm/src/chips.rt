@@ -1,4 +1,4 @@
-//! Chips by chance, as plain values.
+//! Random chips, as plain values.
 
 use crate::contents;
 use crate::dice::Dice;
@@ -14,13 +14,13 @@ use std::alloc::Global;
 pub struct Chip {
     pub config: Config,
     pub bytes: Vec<u8>,
-    /// Status 1 and status 2. Bit 1 of the first is the latch; BUSY and SUS aren't looked at.
+    /// Status 1 and status 2. Bit 1 of status 1 is the write enable latch; BUSY and SUS are ignored.
     pub status: Status,
     pub delays: Delays,
 }
 
 impl Chip {
-    /// Returns a bus to this chip, with this stop.
+    /// Returns a bus to a simulated copy of this chip, with this stop.
     pub fn bus(&self, alloc: Global, stop: Stop) -> Result<SimBus, Fault> {
         let bytes = self.bytes.to_vec(alloc)?;
         let mut bus = SimBus::new(self.config, bytes, self.status, self.delays)?;
@@ -30,12 +30,12 @@ impl Chip {
         Ok(bus)
     }
 
-    /// How many sectors of 4,096 bytes it has.
+    /// Returns the number of sectors of 4,096 bytes.
     pub fn sectors(&self) -> u32 {
         self.config.size / SECTOR_LEN
     }
 
-    /// The same chip in memory of its own.
+    /// Returns a copy of the chip in its own memory.
     pub fn copy(&self, alloc: Global) -> Result<Chip, Fault> {
         Ok(Chip {
             config: self.config,
@@ -45,14 +45,14 @@ impl Chip {
         })
     }
 
-    /// It isn't busy.
+    /// True if the chip isn't busy.
     pub fn is_idle(&self) -> bool {
         self.delays.now == 0
     }
 }
 
-/// A chip of 64, 128 or 256 KiB that shows what it is by its SFDP alone. Some show nothing that is accepted, or the ID
-/// of no chip.
+/// Draws a chip of 64, 128 or 256 KiB without block protection, known only by its SFDP. A few have SFDP bytes that are
+/// not accepted, or an ID that means that there is no chip.
 pub fn small(alloc: Global, dice: &mut Dice) -> Result<Chip, Fault> {
     let told = Told {
         size: dice.pick(65_536, &[131_072, 262_144]),
@@ -63,7 +63,7 @@ pub fn small(alloc: Global, dice: &mut Dice) -> Result<Chip, Fault> {
     if dice.hits(1, 20) {
         parameters::damage(dice, &mut shown);
     }
-    // A chip is what its SFDP says, where that is accepted.
+    // If the SFDP bytes are accepted, the chip has the size and erase types that they describe.
     let told = parameters::read(&shown, told.size).unwrap_or(told);
     let id = id_for(dice);
     let Some(config) = Config::new(id, told.size, told.k32, told.k64, false, &shown) else {
@@ -73,7 +73,7 @@ pub fn small(alloc: Global, dice: &mut Dice) -> Result<Chip, Fault> {
     chip_of(alloc, dice, config, status)
 }
 
-// An ID of no table, seldom that of no chip.
+// Draws an ID that is not in the table. One ID in 40 means that there is no chip.
 fn id_for(dice: &mut Dice) -> [u8; 3] {
     let last = dice.byte();
     let ids = [
@@ -88,7 +88,7 @@ fn id_for(dice: &mut Dice) -> [u8; 3] {
     }
 }
 
-/// A W25Q64FV, seldom a W25Q128FV: the chips with protection. The status is locked now and then.
+/// Draws a chip with block protection: a W25Q64FV, or one time in ten a W25Q128FV.
 pub fn large(alloc: Global, dice: &mut Dice) -> Result<Chip, Fault> {
     let status = protection(dice);
     let config = if dice.hits(1, 10) {
@@ -99,7 +99,8 @@ pub fn large(alloc: Global, dice: &mut Dice) -> Result<Chip, Fault> {
     chip_of(alloc, dice, config, status)
 }
 
-/// Status bytes by chance: a third is locked, a third has no code or a usual one, and one in eight an undefined code.
+/// Draws status bytes. About a third are locked, at least a third have no protection bits or only BP0 set, and at least
+/// one in eight has undefined protection bits.
 pub fn protection(dice: &mut Dice) -> Status {
     let lock1 = dice.pick(0x80, &[0x00, 0x00, 0x00, 0x00]);
     let lock2 = dice.pick(0x01, &[0x00, 0x00, 0x00, 0x00]);
@@ -114,7 +115,7 @@ pub fn protection(dice: &mut Dice) -> Status {
     [lock1 | code1 | latch, lock2 | code2 | others]
 }
 
-// A chip with this configuration and status, whose bytes and delays come by chance.
+// Returns a chip with this configuration and status, and with random bytes, unique ID and delays.
 fn chip_of(alloc: Global, dice: &mut Dice, config: Config, status: Status) -> Result<Chip, Fault> {
     let mut bytes = vec![in alloc; 0xFF; config.size as usize]?;
     contents::paint(dice, bytes.as_mut_slice());

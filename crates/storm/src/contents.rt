@@ -1,26 +1,27 @@
-//! Bytes of chips and images by chance.
+//! Random bytes of chips and images.
 
 use crate::dice::Dice;
 use nor_chip::SECTOR_LEN;
 
-/// How the bytes of some sectors come about.
+/// How the bytes of some sectors change.
 #[derive(Clone, Copy)]
 enum Style {
-    /// All FFh.
+    /// All bytes become FFh.
     Erased,
-    /// All 00h.
+    /// All bytes become 00h.
     Cleared,
-    /// Any bytes.
+    /// All bytes become random.
     Any,
-    /// A few bits fall.
+    /// Bits of a few bytes fall.
     Falls,
-    /// A few bits rise.
+    /// Bits of a few bytes rise.
     Rises,
-    /// One byte is another.
+    /// One byte becomes random.
     OneByte,
 }
 
-/// A sector by chance, of so many: at the ends and around the places where guarded parts end more often than elsewhere.
+/// Draws the number of a sector below `sectors`. The ends of the chip, and sectors near the end of a range that
+/// protection bits can select, are more likely.
 pub fn sector(dice: &mut Dice, sectors: u32) -> u32 {
     let last = sectors.saturating_sub(1);
     let near = dice.below(3);
@@ -41,7 +42,7 @@ pub fn sector(dice: &mut Dice, sectors: u32) -> u32 {
     }
 }
 
-/// The bytes of a sector.
+/// Returns the bytes of a sector.
 pub fn sector_at(bytes: &[u8], number: u32) -> &[u8] {
     let start = number.saturating_mul(SECTOR_LEN) as usize;
     bytes
@@ -49,7 +50,7 @@ pub fn sector_at(bytes: &[u8], number: u32) -> &[u8] {
         .unwrap_or(&[])
 }
 
-/// The bytes of a whole chip.
+/// Fills a chip with FFh, with 00h or, if it is small, with random bytes, and then changes up to eight runs of sectors.
 pub fn paint(dice: &mut Dice, bytes: &mut [u8]) {
     let base = dice.pick(Style::Erased, &[Style::Erased, Style::Cleared]);
     let small = bytes.len() <= 262_144;
@@ -67,7 +68,8 @@ pub fn paint(dice: &mut Dice, bytes: &mut [u8]) {
     }
 }
 
-/// Makes an image of a chip's bytes: some runs of sectors change, or all do.
+/// Makes an image from a chip's bytes: changes up to six runs of sectors, sometimes after all bytes of a small chip
+/// were replaced.
 pub fn alter(dice: &mut Dice, image: &mut [u8]) {
     let small = image.len() <= 262_144;
     if small && dice.hits(1, 10) {
@@ -89,7 +91,7 @@ pub fn alter(dice: &mut Dice, image: &mut [u8]) {
     }
 }
 
-// Gives some sectors in a row this style: up to three, or a unit of 32 or 64 KiB and a bit more.
+// Changes a run of sectors in this style.
 fn change_run(dice: &mut Dice, bytes: &mut [u8], style: Style) {
     let sectors = u32::try_from(bytes.len() / SECTOR_LEN as usize).unwrap_or(0);
     let (from, count) = run_for(dice, sectors);
@@ -102,7 +104,8 @@ fn change_run(dice: &mut Dice, bytes: &mut [u8], style: Style) {
     }
 }
 
-// The first of some sectors in a row, and how many.
+// Draws a run of sectors: its first sector and its length. It has one to three sectors, or begins at a multiple of 32
+// or 64 KiB and has at least that length.
 fn run_for(dice: &mut Dice, sectors: u32) -> (u32, usize) {
     let from = sector(dice, sectors);
     match dice.below(4) {
@@ -112,7 +115,7 @@ fn run_for(dice: &mut Dice, sectors: u32) -> (u32, usize) {
     }
 }
 
-// Gives the bytes of one sector this style.
+// Changes the bytes of one sector in this style.
 fn change(dice: &mut Dice, sector: &mut [u8], style: Style) {
     match style {
         Style::Erased => sector.fill(0xFF),
@@ -126,7 +129,7 @@ fn change(dice: &mut Dice, sector: &mut [u8], style: Style) {
     }
 }
 
-// Changes the bytes at some places of a sector, where bits only fall, only rise, or both.
+// Changes bytes at `places` random positions of a sector. Their bits only fall, only rise, or do both.
 fn change_some(dice: &mut Dice, sector: &mut [u8], places: u32, style: Style) {
     for _ in 0..places {
         let at = dice.below(SECTOR_LEN) as usize;

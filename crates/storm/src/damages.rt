@@ -1,4 +1,4 @@
-//! Journals that were damaged, which are none.
+//! Damaged journals, which must be rejected.
 
 use crate::dice::Dice;
 use crate::fault::{Fault, agree};
@@ -13,7 +13,7 @@ enum Damage {
     Changed,
 }
 
-/// Damages a journal, and reads it: cut off, with a byte behind it, or with a byte changed.
+/// Truncates a journal, appends a byte to it, or changes one of its bytes, and checks that it is then rejected.
 pub fn check(alloc: Global, dice: &mut Dice, journal: &[u8]) -> Result<(), Fault> {
     let mut bytes = journal.to_vec(alloc)?;
     let damage = make(dice, &mut bytes)?;
@@ -55,7 +55,7 @@ fn check_damaged(bytes: &[u8], damage: Damage) -> Result<(), Fault> {
     }
 }
 
-// A place of so many, half of the time among the last.
+// Draws a position below `length`: half of the time any one, otherwise one of the last 40.
 fn place(dice: &mut Dice, length: usize) -> usize {
     let length = u32::try_from(length).unwrap_or(u32::MAX);
     let at = if dice.hits(1, 2) {

@@ -1,18 +1,19 @@
-//! Chance that comes again: the same seed and case give the same numbers in each run.
+//! Random numbers that can be repeated: the same seed and case yield the same numbers in each run.
 
 use rand_core::Rng;
 use rand_pcg::Pcg32;
 
-/// Numbers by chance.
+/// A source of random numbers.
 #[derive(Drop)]
 pub struct Dice {
     words: Pcg32,
-    // the numbers for cut transactions, apart from the others so that the rest of a case stays as it was without them
+    // a second stream for stops inside a transaction, so that drawing them does not change the rest of a case
     cuts: Pcg32,
 }
 
 impl Dice {
-    /// The numbers of one case under a seed. Each case has a stream of its own, so that it can be run alone.
+    /// Returns the numbers of one case under a seed. Each case has its own stream, so that it can be run without the
+    /// others.
     pub fn new(seed: u64, case: u64) -> Dice {
         let mixed = case.wrapping_mul(0x9E37_79B9_7F4A_7C15);
         Dice {
@@ -21,13 +22,13 @@ impl Dice {
         }
     }
 
-    /// A number below `n`, or 0 where that is 0.
+    /// Draws a number below `n`, or 0 if `n` is 0.
     pub fn below(&mut self, n: u32) -> u32 {
         below(&mut self.words, n)
     }
 
-    /// Returns how many bytes of its transaction a stop sends. One in three stops has a number: up to 6, up to the 260
-    /// of a page program, or all.
+    /// Draws how many bytes of its transaction a stop sends. One stop in three has such a number: up to 6, up to 260
+    /// (the length of a full page program), or all bytes.
     pub fn cut(&mut self) -> Option<u32> {
         match below(&mut self.cuts, 12) {
             0 | 1 => Some(below(&mut self.cuts, 7)),
@@ -37,28 +38,28 @@ impl Dice {
         }
     }
 
-    /// A number from 0 to `most`.
+    /// Draws a number from 0 to `most`.
     pub fn up_to(&mut self, most: u64) -> u64 {
         let n = most.saturating_add(1);
         self.words.next_u64().checked_rem(n).unwrap_or(0)
     }
 
-    /// True so many times of so many.
+    /// Draws a choice that is true `times` times out of `of` on average.
     pub fn hits(&mut self, times: u32, of: u32) -> bool {
         self.below(of) < times
     }
 
-    /// Any byte.
+    /// Draws a byte.
     pub fn byte(&mut self) -> u8 {
         self.words.next_u32().to_be_bytes()[0]
     }
 
-    /// Makes each of the bytes any byte.
+    /// Makes each byte random.
     pub fn fill(&mut self, bytes: &mut [u8]) {
         self.words.fill_bytes(bytes);
     }
 
-    /// One of these, each as likely as the others.
+    /// Draws one of `first` and `others`, each with the same probability.
     pub fn pick<T: Copy>(&mut self, first: T, others: &[T]) -> T {
         let count = u32::try_from(others.len()).unwrap_or(u32::MAX);
         let at = self.up_to(u64::from(count));

@@ -1,4 +1,4 @@
-//! What ends a run.
+//! The reasons why a run ends early.
 
 use nor_chip::WrongLength;
 use nor_journal::JournalFault;
@@ -9,21 +9,22 @@ use std::io;
 /// Why a run ended before its last case.
 #[derive(Debug, Drop)]
 pub enum Fault {
-    /// The words can't be read, or a line not be printed.
+    /// The command line can't be read, or a line can't be printed.
     System(io::Error),
-    /// Memory ran out.
+    /// Out of memory.
     Memory,
     /// The case itself can't be made.
     Case,
-    /// What was done isn't what the plain code says, in this.
+    /// The result differs from the reference implementation's, in what the text names.
     Differs(&'static str),
-    /// The first transaction of this call that isn't the one that the plain code says, counted from 1.
+    /// The call sent another transaction than the reference implementation. The number of the first such transaction is
+    /// counted from 1.
     Sends(&'static str, u64),
-    /// This is wrong in what a comparison was given, and it doesn't tell it.
+    /// A comparison did not detect the error that the text names.
     Untold(&'static str),
 }
 
-/// Faults with what differs where the two don't agree.
+/// Returns `Differs` unless `agrees` is set.
 pub fn agree(agrees: bool, what: &'static str) -> Result<(), Fault> {
     if agrees {
         Ok(())
@@ -32,7 +33,8 @@ pub fn agree(agrees: bool, what: &'static str) -> Result<(), Fault> {
     }
 }
 
-/// Faults with the first thing of these that differs. In one list, since each exit of a function is proved by itself.
+/// Returns `Differs` for the first of these that is false. The list is one call because each exit of a function is
+/// proved separately.
 pub fn agree_all(things: &[(bool, &'static str)]) -> Result<(), Fault> {
     for (agrees, what) in things {
         if !*agrees {

@@ -1,24 +1,24 @@
-//! Which places a protection code guards, by the datasheets' table.
+//! The addresses that each value of the protection bits protects, by the table in the datasheets.
 
 /// Status 1 and status 2.
 pub type Status = [u8; 2];
 
-/// The kept bits: all but BUSY and WEL of status 1, and SUS of status 2.
+/// Returns the non-volatile status bits: all except BUSY and WEL in status 1, and SUS in status 2.
 pub fn kept(status: Status) -> Status {
     [status[0] & 0b1111_1100, status[1] & 0b0111_1111]
 }
 
-/// The kept bits that no code has.
+/// Returns the non-volatile status bits that are not protection bits.
 pub fn fixed(status: Status) -> Status {
     [status[0] & 0b1000_0000, status[1] & 0b0011_1111]
 }
 
-/// SRP0 or SRP1 is set.
+/// True if the status is locked: SRP0 or SRP1 is set.
 pub fn is_locked(status: Status) -> bool {
     status[0] & 0b1000_0000 != 0 || status[1] & 0b0000_0001 != 0
 }
 
-/// CMP, SEC, TB, BP2, BP1 and BP0, from the high end.
+/// Returns the protection bits CMP, SEC, TB, BP2, BP1 and BP0 as a number below 64, with CMP as the highest bit.
 pub fn code_of(status: Status) -> u8 {
     let low = status[0] / 4 % 32;
     if status[1] & 0b0100_0000 == 0 {
@@ -28,19 +28,19 @@ pub fn code_of(status: Status) -> u8 {
     }
 }
 
-/// The kept bits with this code.
+/// Returns the non-volatile status bits with these protection bits.
 pub fn with_code(status: Status, code: u8) -> Status {
     let [fixed1, fixed2] = fixed(status);
     let high = if code / 32 % 2 == 0 { 0 } else { 0b0100_0000 };
     [fixed1 | (code % 32 * 4), fixed2 | high]
 }
 
-/// SEC is set and BP is 110.
+/// True if the datasheets don't define these protection bits: SEC is set and BP is 110.
 pub fn is_undefined(code: u8) -> bool {
     code / 16 % 2 == 1 && code % 8 == 6
 }
 
-// The bytes of the part of the chip that SEC and BP name.
+// Returns the length of the part of the chip that SEC and BP select.
 fn part_len(code: u8, size: u32) -> u32 {
     let by_sectors = code / 16 % 2 == 1;
     match (by_sectors, code % 8) {
@@ -59,7 +59,8 @@ fn part_len(code: u8, size: u32) -> u32 {
     }
 }
 
-/// The guarded places on a chip of this size: the first one, and how many there are.
+/// Returns the first address and the length of the protected range on a chip of this size. For undefined protection
+/// bits this is the whole chip.
 pub fn guarded_places(code: u8, size: u32) -> (u32, u32) {
     if is_undefined(code) {
         return (0, size);
@@ -76,19 +77,20 @@ pub fn guarded_places(code: u8, size: u32) -> (u32, u32) {
     }
 }
 
-/// The place at this address is guarded.
+/// True if this address is protected.
 pub fn guards(code: u8, size: u32, address: u32) -> bool {
     let (start, len) = guarded_places(code, size);
     start <= address && address < start.saturating_add(len)
 }
 
-/// Some place of the sector is guarded.
+/// True if an address of the sector is protected.
 pub fn guards_some(code: u8, size: u32, sector: u32) -> bool {
     let start = sector.saturating_mul(4096);
     (0..4096).any(|place| guards(code, size, start.saturating_add(place)))
 }
 
-/// The least defined code that guards exactly so many places from `start` on.
+/// Returns the least defined value of the protection bits that protects exactly `len` bytes from `start` on. If `len`
+/// is 0, `start` doesn't matter.
 pub fn least_code(start: u32, len: u32, size: u32) -> Option<u8> {
     (0..64).find(|code| !is_undefined(*code) && guards_exactly(*code, start, len, size))
 }

@@ -1,4 +1,4 @@
-//! What a session puts into its vault, told by plain rules.
+//! The bytes that a session writes to its vault, by simple rules.
 
 use crate::cases::Case;
 use crate::chips::Chip;
@@ -12,8 +12,8 @@ use std::alloc::Global;
 // The length of what follows the records: an end mark of four bytes and a SHA-256.
 const END_LEN: usize = 36;
 
-/// The journal up to its end mark, of which sectors below this one were scanned: the head, and a record for each
-/// touched sector, rising.
+/// Returns the journal without its end mark and digest, after the sectors below `below` were scanned: the header, and a
+/// record for each touched sector in ascending order.
 pub fn begun(alloc: Global, case: &Case, wanted: &Wanted, below: u32) -> Result<Vec<u8>, Fault> {
     let mut text = Vec::new(alloc);
     put_head(&mut text, &case.chip)?;
@@ -52,8 +52,8 @@ fn put_record(text: &mut Vec<u8>, number: u32, sector: &[u8]) -> Result<(), Faul
     Ok(())
 }
 
-/// After a session on a bus that lies, the vault holds exactly what the reference put by the same replies: nothing, the
-/// journal up to its end mark, or a complete journal that begins so.
+/// Checks the vault of a session on a faulty bus: it holds exactly what the reference implementation put by the same
+/// replies, which is nothing, a journal without its end mark and digest, or a complete journal.
 pub fn check_put(vault: &MemVault, begun: &[u8], sealed: bool) -> Result<(), Fault> {
     let held = vault.bytes();
     let same = if sealed {
@@ -68,7 +68,8 @@ pub fn check_put(vault: &MemVault, begun: &[u8], sealed: bool) -> Result<(), Fau
     ])
 }
 
-/// A session that scanned all it scans, and was refused then, left the journal up to its end mark.
+/// Checks the vault of a session that was refused after its whole scan: it holds the journal without its end mark and
+/// digest.
 pub fn check_refused(
     alloc: Global,
     case: &Case,
@@ -82,8 +83,8 @@ pub fn check_refused(
     )
 }
 
-/// A session that was stopped behind so many transactions, before its seal, left the head once the chip was identified,
-/// and the records of the sectors that it had scanned.
+/// Checks the vault of a session that stopped after `sent` transactions, before its seal. It holds the header if the
+/// chip was identified, and the records of the touched sectors that were scanned.
 pub fn check_stopped(
     alloc: Global,
     case: &Case,
@@ -98,7 +99,7 @@ pub fn check_stopped(
     agree(held == begun.as_slice(), "the journal that a stop leaves")
 }
 
-// The first sector behind so many that were scanned.
+// Returns the number after that of the last sector scanned, if `scanned` sectors were scanned.
 fn below(case: &Case, scanned: u64) -> u32 {
     let mut below = 0;
     let mut left = scanned;

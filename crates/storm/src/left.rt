@@ -1,4 +1,4 @@
-//! Chips as calls leave them one after the other, with what each of the calls sends.
+//! Chips after calls that follow each other, compared with a model after each call.
 
 use crate::cases::Case;
 use crate::checks::{self, Ran};
@@ -15,7 +15,7 @@ use nor_journal::{Journal, MemVault};
 use nor_session::Refusal;
 use std::alloc::Global;
 
-/// An accepted session, with all that it sends.
+/// An accepted session, with the lines of all its transactions.
 #[derive(Clone, Copy)]
 pub struct Accepted<'a> {
     pub case: &'a Case,
@@ -23,19 +23,19 @@ pub struct Accepted<'a> {
     pub lines: &'a str,
 }
 
-/// A chip behind a call, which may have been stopped.
+/// A chip after a call, which may have been stopped.
 #[derive(Drop)]
 pub struct Left {
     pub bus: SimBus,
     /// The trace of the call.
     pub sent: Vec<u8>,
-    /// The call ended.
+    /// True if the call succeeded.
     pub ended: bool,
     // the chip of the reference implementation
     model: Model,
 }
 
-// A call under a stop, with all that it would send.
+// A call under a stop, with the lines that it sends without a stop.
 #[derive(Clone, Copy)]
 struct Call<'a> {
     whole: &'a str,
@@ -43,12 +43,12 @@ struct Call<'a> {
 }
 
 impl<'a> Call<'a> {
-    // It ends exactly where it may send all that it sends.
+    // True if the call succeeds: the stop comes after all its transactions.
     fn ends(self) -> bool {
         self.stop.after >= lines::count(self.whole)
     }
 
-    // Returns what it sends, without the bytes of a transaction that the stop cuts.
+    // Returns the lines that the call sends. A transaction that the stop interrupts has no line.
     fn lines(self) -> &'a str {
         lines::first(self.whole, self.stop.after)
     }
@@ -63,8 +63,8 @@ fn restore_lines_on(alloc: Global, accepted: Accepted<'_>, chip: &Chip) -> Resul
     transactions::restore(alloc, chip, saved.sectors, &restored)
 }
 
-/// Runs an accepted session under a stop. The session ends if and only if the stop comes after all of its
-/// transactions; else it sends the first of them. It leaves the chip as the model does.
+/// Runs an accepted session under a stop. Checks that it succeeds if and only if the stop comes after all its
+/// transactions, that it sends the first of them, and that it leaves the chip as the model does.
 pub fn run(alloc: Global, accepted: Accepted<'_>, stop: Stop) -> Result<(Left, MemVault), Fault> {
     let ran = checks::run(alloc, accepted.case, stop)?;
     let call = Call {
@@ -82,7 +82,7 @@ pub fn run(alloc: Global, accepted: Accepted<'_>, stop: Stop) -> Result<(Left, M
     Ok((left, ran.vault))
 }
 
-// Returns the model of a chip after a call, with which the chip on the bus agrees.
+// Returns the model of a chip after a call, or a fault if the chip on the bus differs from it.
 fn model_behind(alloc: Global, chip: &Chip, call: Call<'_>, bus: &SimBus) -> Result<Model, Fault> {
     let mut model = Model::of(alloc, chip)?;
     model.call(call.whole, call.stop);
@@ -105,9 +105,9 @@ fn check_session(call: Call<'_>, ran: &Ran) -> Result<(), Fault> {
     traces::check_trace(ran.sent.as_slice(), call.lines(), "a stopped session")
 }
 
-/// Restores from the journal of a session under a stop, on the chip that the call before left. The restore ends if and
-/// only if the stop comes after all of its transactions; else it sends the first of them. It leaves the chip as the
-/// model does.
+/// Restores from the journal of a session under a stop, on the chip that the previous call left. Checks that the
+/// restore succeeds if and only if the stop comes after all its transactions, that it sends the first of them, and that
+/// it leaves the chip as the model does.
 pub fn restore(
     alloc: Global,
     accepted: Accepted<'_>,

@@ -1,4 +1,4 @@
-//! How many transactions a call sends, by the order in which they are sent.
+//! How many transactions a call sends, from its steps.
 
 use crate::cases::Case;
 use crate::chips::Chip;
@@ -6,7 +6,7 @@ use crate::verdicts;
 use crate::wanted::Work;
 use nor_session::{Refusal, What};
 
-/// The sum of a few numbers, none of which is near the greatest u64.
+/// Returns the sum of a few numbers. None of them is near the greatest `u64`.
 fn sum(numbers: &[u64]) -> u64 {
     let mut sum = 0_u64;
     for number in numbers {
@@ -15,8 +15,8 @@ fn sum(numbers: &[u64]) -> u64 {
     sum
 }
 
-/// A probe: polls until BUSY is clear, the ID, and SFDP in three parts where the ID is neither in the table nor that of
-/// no chip.
+/// Returns the number of transactions of a probe: polls until BUSY is clear, the ID, and three reads of SFDP. SFDP
+/// isn't read if the ID is in the table, or means that there is no chip.
 pub fn probe(chip: &Chip) -> u64 {
     let polls = u64::from(chip.delays.now) + 1;
     let known = verdicts::is_in_table(&chip.config) || verdicts::is_no_chip(&chip.config);
@@ -24,12 +24,12 @@ pub fn probe(chip: &Chip) -> u64 {
     sum(&[polls, 1, parts])
 }
 
-/// An opening: a probe, status 2 and the unique ID.
+/// Returns the number of transactions of an identification: a probe, status 2 and the unique ID.
 pub fn opening(chip: &Chip) -> u64 {
     sum(&[probe(chip), 1, 1])
 }
 
-/// The sectors that hold an included address, whatever is asked for.
+/// Returns the number of sectors that hold an included address.
 pub fn included_sectors(case: &Case) -> u64 {
     let mut sectors = 0_u64;
     for sector in 0..case.chip.sectors() {
@@ -38,7 +38,7 @@ pub fn included_sectors(case: &Case) -> u64 {
     sectors
 }
 
-/// All that a session sends before the first changing command.
+/// Returns the number of transactions that a session sends before its first modifying command.
 pub fn saving(case: &Case) -> u64 {
     let scanned = match case.request.what {
         What::WpRange { .. } => 0,
@@ -47,8 +47,8 @@ pub fn saving(case: &Case) -> u64 {
     sum(&[opening(&case.chip), scanned])
 }
 
-/// A session that is refused: the first three refusals are known after the probe, the last two after the scan, and the
-/// others after the opening.
+/// Returns the number of transactions of a session that is refused. Errors 1 to 3 are returned after the probe, 9 and
+/// 10 after the scan, and the others after the identification.
 pub fn refused(case: &Case, refusal: Refusal) -> u64 {
     match refusal {
         Refusal::NoChip | Refusal::UnknownChip(_) | Refusal::OtherName => probe(&case.chip),
@@ -57,8 +57,8 @@ pub fn refused(case: &Case, refusal: Refusal) -> u64 {
     }
 }
 
-/// The changes: a reading of each touched sector that isn't erased, and operations. An operation is the enable, the
-/// command, and polls until BUSY is clear.
+/// Returns the number of transactions of the changes: one read for each touched sector that isn't erased, and the
+/// operations. An operation is a write enable, a command, and polls until BUSY is clear.
 pub fn changes(chip: &Chip, work: Work) -> u64 {
     let operations = sum(&[work.erases, work.programs, work.status_writes]);
     let each = u64::from(chip.delays.each) + 3;
@@ -66,13 +66,14 @@ pub fn changes(chip: &Chip, work: Work) -> u64 {
     sum(&[read, operations.saturating_mul(each)])
 }
 
-/// A session that ends.
+/// Returns the number of transactions of a session that succeeds.
 pub fn session(case: &Case, work: Work) -> u64 {
     let checked = if case.request.verify { work.touched } else { 0 };
     sum(&[saving(case), changes(&case.chip, work), checked])
 }
 
-/// A restore that ends, of so many saved sectors. It always checks.
+/// Returns the number of transactions of a restore that succeeds, from a journal with `saved` sectors. It always
+/// verifies.
 pub fn restore(chip: &Chip, saved: u64, work: Work) -> u64 {
     sum(&[opening(chip), saved, changes(chip, work), work.touched])
 }

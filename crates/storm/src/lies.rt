@@ -1,4 +1,5 @@
-//! Sessions, restores and readings on buses that lie, each beside plain code on a bus that lies in the same way.
+//! Sessions, restores and reading calls on faulty buses. Each is compared with the reference implementation on a bus
+//! with the same fault.
 
 use crate::cases::Case;
 use crate::chips::Chip;
@@ -15,42 +16,36 @@ use nor_journal::{Journal, MemVault};
 use nor_session::{Refusal, Report, Request, restore, session};
 use std::alloc::Global;
 
-// What a call came to, and its trace.
+// The result of a call, and its trace.
 #[derive(Drop)]
 struct Ran {
     answer: Result<Report, Refusal>,
     sent: Vec<u8>,
 }
 
-// What the plain code came to, and its trace.
+// The result of the reference implementation, and its trace.
 #[derive(Drop)]
 struct Told {
     answer: Result<(), Halt>,
     sent: Vec<u8>,
 }
 
-/// A session on a bus that lies at some of so many transactions.
+/// Checks a session on a faulty bus. `count` is the number of its transactions on a bus without a fault.
 pub fn check_session(alloc: Global, dice: &mut Dice, case: &Case, count: u64) -> Result<(), Fault> {
     let lie = lie_for(dice, count);
     let mut image = case.image.to_vec(alloc)?;
-    let mut vault = MemVault::new(alloc);
     let bus = liar(alloc, &case.chip, lie)?;
-    let ran = run_session(alloc, bus, &mut vault, image.as_mut_slice(), &case.request);
+    let (ran, vault) = run_session(alloc, bus, image.as_mut_slice(), &case.request);
     compare_session(alloc, case, lie, &ran, &vault)
 }
 
-fn run_session(
-    alloc: Global,
-    bus: Faulty,
-    vault: &mut MemVault,
-    image: &mut [u8],
-    request: &Request,
-) -> Ran {
+fn run_session(alloc: Global, bus: Faulty, image: &mut [u8], request: &Request) -> (Ran, MemVault) {
     let mut sent = Vec::new(alloc);
     let mut bus = TraceBus::new(bus, &mut sent);
-    let answer = session(&mut bus, vault, image, request);
+    let mut vault = MemVault::new(alloc);
+    let answer = session(&mut bus, &mut vault, image, request);
     drop(bus);
-    Ran { answer, sent }
+    (Ran { answer, sent }, vault)
 }
 
 fn compare_session(
@@ -76,7 +71,7 @@ fn tell_session(alloc: Global, bus: Faulty, case: &Case) -> (Told, Put) {
     (Told { answer, sent }, put)
 }
 
-/// A restore of a chip on such a bus, from a journal that says this.
+/// Checks a restore of `chip` on a faulty bus, from a journal with these contents.
 pub fn check_restore(
     alloc: Global,
     dice: &mut Dice,
@@ -119,13 +114,14 @@ fn tell_restore(alloc: Global, bus: Faulty, saved: Saved<'_>) -> Told {
     Told { answer, sent }
 }
 
-// The answer, with its address, is what the plain code came to, and each transaction the one that it sent.
+// Checks that the call returned the same error as the reference implementation, including the address, and sent the
+// same transactions.
 fn check(ran: &Ran, told: Told, call: &'static str) -> Result<(), Fault> {
     let count = check_sent(ran.sent.as_slice(), told.sent.as_slice(), call)?;
     check_answer(ran.answer, told.answer, count)
 }
 
-// Answers how many transactions both sent.
+// Returns how many transactions both sent.
 fn check_sent(sent: &[u8], told: &[u8], call: &'static str) -> Result<u64, Fault> {
     let sent = traces::text(sent)?;
     traces::check_lines(sent, traces::text(told)?, call)?;
@@ -150,21 +146,21 @@ fn check_answer(
     }
 }
 
-// What a reading came to, and its trace.
+// The result of a reading call, and its trace.
 #[derive(Drop)]
 struct Read {
     answer: Result<readings::Told, Refusal>,
     sent: Vec<u8>,
 }
 
-// What is known of the chip then, by the plain code, and its trace.
+// The chip as the reference implementation read it, and the trace.
 #[derive(Drop)]
 struct Known {
     answer: Result<Case, Halt>,
     sent: Vec<u8>,
 }
 
-/// A reading on such a bus.
+/// Checks a reading call on a faulty bus.
 pub fn check_reading(
     alloc: Global,
     dice: &mut Dice,
@@ -236,10 +232,10 @@ enum Lie {
     Sets(High),
 }
 
-// A bus that lies in one of these ways.
+// A bus with one of these faults.
 type Faulty = HighBus<SpoiltBus<SimBus>>;
 
-// A lie: one in eight sets a bit in the replies to one opcode.
+// Draws a fault of the bus: one in eight sets a bit in the replies to one opcode.
 fn lie_for(dice: &mut Dice, count: u64) -> Lie {
     if dice.hits(1, 8) {
         let opcode = dice.pick(0x35, &[0x03, 0x05, 0x4B, 0x9F]);
@@ -250,7 +246,8 @@ fn lie_for(dice: &mut Dice, count: u64) -> Lie {
     }
 }
 
-// A lie of a spoilt bus. Half of those at a transaction are in the last quarter of the call.
+// Draws a fault of a `SpoiltBus`. A fault that begins at a transaction is in the last quarter of the call for half of
+// the draws, and anywhere for the others.
 fn spoil_for(dice: &mut Dice, count: u64) -> Spoil {
     let late = count / 4 * 3;
     let number = if dice.hits(1, 2) {
@@ -266,7 +263,7 @@ fn spoil_for(dice: &mut Dice, count: u64) -> Spoil {
     }
 }
 
-// A bus to a chip that lies so, and never stops.
+// Returns a bus to a copy of the chip with this fault. The bus never stops.
 fn liar(alloc: Global, chip: &Chip, lie: Lie) -> Result<Faulty, Fault> {
     let bus = chip.bus(alloc, Stop::NEVER)?;
     let (spoil, high) = match lie {

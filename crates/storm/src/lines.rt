@@ -1,4 +1,4 @@
-//! Transactions one by one, each as the line that a trace has of it.
+//! The trace lines of transactions, one line for each.
 
 use crate::chips::Chip;
 use crate::fault::Fault;
@@ -8,20 +8,20 @@ use nor_chip::SECTOR_LEN;
 use std::alloc::Global;
 use std::fmt::Write;
 
-/// The transactions with a chip so far, and what of the chip its replies to the next ones show. Where memory runs out
-/// for one of them, `whole` tells it.
+/// The lines of the transactions sent so far, and the status bits that the chip's next replies depend on. If memory ran
+/// out for a line, `whole` returns a fault.
 #[derive(Drop)]
 pub struct Lines {
     text: String,
-    // memory ran out for one
+    // memory ran out for a line
     lost: bool,
-    // the kept bits
+    // the non-volatile status bits
     status: Status,
     pace: Pace,
 }
 
 impl Lines {
-    /// None yet, with a chip as it stands.
+    /// Returns an empty list for a chip in its present state.
     pub fn new(alloc: Global, chip: &Chip) -> Lines {
         Lines {
             text: String::new(alloc),
@@ -31,7 +31,7 @@ impl Lines {
         }
     }
 
-    /// These, unless one is lost.
+    /// Returns the list itself, or `Memory` if memory ran out for a line.
     pub fn whole(self) -> Result<Lines, Fault> {
         if self.lost {
             Err(Fault::Memory)
@@ -40,12 +40,12 @@ impl Lines {
         }
     }
 
-    /// A line for each transaction.
+    /// Returns the lines.
     pub fn text(&self) -> &str {
         self.text.as_str()
     }
 
-    /// A wait: polls until one shows BUSY clear.
+    /// Appends a wait: polls until one shows BUSY clear.
     pub fn wait(&mut self) {
         for _ in 0..=self.pace.busy {
             let status1 = self.status[0] | self.pace.bits();
@@ -54,49 +54,50 @@ impl Lines {
         }
     }
 
-    /// The ID.
+    /// Appends a read of the ID (9Fh).
     pub fn read_id(&mut self, id: [u8; 3]) {
         let [maker, kind, size] = id;
         self.lost |= writeln!(self.text, "9f > {maker:02x}{kind:02x}{size:02x}").is_err();
     }
 
-    /// So many SFDP bytes from an address on: three address bytes and a dummy byte, which is 00h.
+    /// Appends a read of `count` SFDP bytes from `address` on (5Ah): three address bytes and a dummy byte, which is
+    /// 00h.
     pub fn read_parameters(&mut self, address: u32, count: u32) {
         self.lost |= writeln!(self.text, "5a{address:06x}00 > {count} bytes").is_err();
     }
 
-    /// Status 2.
+    /// Appends a read of status 2 (35h).
     pub fn read_status2(&mut self) {
         let status2 = self.status[1];
         self.lost |= writeln!(self.text, "35 > {status2:02x}").is_err();
     }
 
-    /// The unique ID: four dummy bytes, which are 00h, and eight that are read.
+    /// Appends a read of the unique ID (4Bh): four dummy bytes, which are 00h, and eight bytes that are read.
     pub fn read_unique(&mut self) {
         self.put("4b00000000 > 8 bytes\n");
     }
 
-    /// A sector.
+    /// Appends a read of a sector (03h).
     pub fn read_sector(&mut self, number: u32) {
         let address = number.saturating_mul(SECTOR_LEN);
         self.lost |= writeln!(self.text, "03{address:06x} > {SECTOR_LEN} bytes").is_err();
     }
 
-    /// An operation that erases the unit at an address, by its opcode.
+    /// Appends an operation that erases the block at an address with this opcode.
     pub fn erase(&mut self, opcode: &str, address: u32) {
         self.enable();
         self.lost |= writeln!(self.text, "{opcode}{address:06x}").is_err();
         self.finish(opcode);
     }
 
-    /// An operation that erases the whole chip.
+    /// Appends an operation that erases the whole chip.
     pub fn erase_chip(&mut self) {
         self.enable();
         self.put("c7\n");
         self.finish("c7");
     }
 
-    /// An operation that programs bytes from an address on.
+    /// Appends an operation that programs bytes from an address on.
     pub fn program(&mut self, address: u32, bytes: &[u8]) {
         self.enable();
         self.lost |= write!(self.text, "02{address:06x}").is_err();
@@ -107,7 +108,7 @@ impl Lines {
         self.finish("02");
     }
 
-    /// An operation that writes both status bytes.
+    /// Appends an operation that writes both status bytes.
     pub fn write_status(&mut self, status: Status) {
         let [status1, status2] = status;
         self.enable();
@@ -120,20 +121,20 @@ impl Lines {
         self.lost |= self.text.push_str(text).is_err();
     }
 
-    // Every operation begins with a write enable ..
+    // Appends the write enable with which every operation begins.
     fn enable(&mut self) {
         self.put("06\n");
         self.pace = self.pace.behind("06");
     }
 
-    // .. and ends with a wait.
+    // Appends the wait with which every operation ends.
     fn finish(&mut self, opcode: &str) {
         self.pace = self.pace.behind(opcode);
         self.wait();
     }
 }
 
-/// The first so many lines.
+/// Returns the first `count` lines, or all of them if there are fewer.
 pub fn first(lines: &str, count: u64) -> &str {
     let count = usize::try_from(count).unwrap_or(usize::MAX);
     let mut end = 0_usize;
@@ -143,7 +144,7 @@ pub fn first(lines: &str, count: u64) -> &str {
     lines.get(..end).unwrap_or(lines)
 }
 
-/// How many there are.
+/// Returns the number of lines.
 pub fn count(lines: &str) -> u64 {
     u64::try_from(lines.lines().count()).unwrap_or(u64::MAX)
 }

@@ -1,5 +1,36 @@
-//! `storm` runs sessions by chance on simulated chips, and compares each with plain code that was written from the
-//! specification and shares nothing with the programmer's own.
+//! A random differential test of sessions, restores, rehearsals and reading calls on simulated chips. Each case is made
+//! from a seed and compared with a reference implementation, which is written from the specification and shares no code
+//! with the engine.
+//!
+//! - `words.rt`: the command line: seeds, number of cases, first case
+//! - `runs.rt`: runs the cases of a seed, and chooses which checks a case gets
+//! - `dice.rt`: random numbers that depend only on seed and case
+//! - `cases.rt`: a random chip with a request and an image
+//! - `chips.rt`: random chips
+//! - `contents.rt`: random bytes of chips and images
+//! - `parameters.rt`: random SFDP bytes, and a reference parser for them
+//! - `guards.rt`: which addresses the protection bits protect
+//! - `verdicts.rt`: the error that a call must return
+//! - `wanted.rt`: the target of a session or restore, and the work that it takes
+//! - `lengths.rt`: how many transactions a call sends
+//! - `transactions.rt`: which transactions a call sends, in order
+//! - `lines.rt`: the trace line of each transaction
+//! - `pace.rt`: how long a chip is busy, and when its write enable latch is set
+//! - `journals.rt`: the bytes that a session writes to its vault
+//! - `model.rt`: a reference model of the chip, also for stops inside a transaction and power failures
+//! - `checks.rt`: compares sessions that are not stopped
+//! - `traces.rt`: compares traces
+//! - `stops.rt`: compares sessions that are stopped, and the restores after them
+//! - `left.rt`: runs calls one after the other on a chip and on its model
+//! - `rehearsals.rt`: compares rehearsals with the same session and restores called one by one
+//! - `restores.rt`: compares restores on chips that differ from what the session left
+//! - `damages.rt`: checks that damaged journals are rejected
+//! - `readings.rt`: compares the calls that only read
+//! - `lies.rt`: compares calls on faulty buses
+//! - `told.rt`: the reference implementation over a faulty bus, which acts on the replies of that bus
+//! - `tally.rt`: counts the cases of each kind
+//! - `wrongs.rt`: checks that the comparisons detect errors
+//! - `fault.rt`: the reasons why a run ends early
 #![tactic(auto)]
 
 mod cases;
@@ -56,7 +87,7 @@ fn main(rt: HostRuntime) -> Result<ExitCode, Fault> {
     }
 }
 
-// Runs the cases of each seed, once the comparisons are seen to tell what is wrong.
+// Runs the cases of each seed, after `wrongs` has checked that the comparisons detect errors.
 fn run_all(rt: &HostRuntime, job: Job) -> Result<ExitCode, Fault> {
     wrongs::check(rt.alloc())?;
     let (mut passed, mut failed) = (0_u64, 0_u64);
@@ -66,7 +97,7 @@ fn run_all(rt: &HostRuntime, job: Job) -> Result<ExitCode, Fault> {
         failed = failed.saturating_add(told);
     }
     println!(rt; "{passed} passed, {failed} failed")?;
-    // No case shows nothing.
+    // A run without cases shows nothing, so it is a failure.
     if failed == 0 && passed > 0 {
         Ok(ExitCode::SUCCESS)
     } else {
@@ -74,7 +105,7 @@ fn run_all(rt: &HostRuntime, job: Job) -> Result<ExitCode, Fault> {
     }
 }
 
-// Runs the cases of a seed, and answers how many agreed before the first that doesn't, and how many things it told.
+// Runs the cases of a seed. Returns how many agreed before the first failure, and the number of failures: 0 or 1.
 fn run(rt: &HostRuntime, job: Job, seed: u64) -> Result<(u64, u64), Fault> {
     let (tally, halt) = runs::run(rt.alloc(), job, seed);
     eprintln!(rt; "Seed {seed}. {tally}")?;
@@ -93,7 +124,7 @@ fn run(rt: &HostRuntime, job: Job, seed: u64) -> Result<(u64, u64), Fault> {
     Ok((job.count, 0))
 }
 
-// Tells what ended a run, and how the case is run again alone.
+// Prints what ended a run, and the command that runs this case again.
 fn tell(rt: &HostRuntime, seed: u64, halt: &Halt) -> io::Result<()> {
     let case = halt.case;
     tell_fault(rt, seed, case, &halt.fault)?;

@@ -1,5 +1,4 @@
-//! A plain model of the chip: what it does at each transaction, which is given as its line of a trace, and what a stop
-//! leaves of it.
+//! A reference model of the chip: the effect of each transaction, which is given as a line of a trace, and of a stop.
 
 use crate::chips::Chip;
 use crate::fault::{Fault, agree_all};
@@ -9,15 +8,16 @@ use crate::pace::Pace;
 use nor_chip::SimBus;
 use std::alloc::Global;
 
-/// Where a bus stops, and what the stop does.
+/// After which transaction a bus stops, and how.
 #[derive(Clone, Copy)]
 pub struct Stop {
-    /// How many transactions are carried out before it.
+    /// The number of transactions that are carried out before the stop.
     pub after: u64,
-    /// How many bytes of the next transaction are sent: all, if it has fewer. With `None` no byte is sent.
+    /// The number of bytes of the next transaction that are sent, or all if the transaction has fewer. With `None` no
+    /// byte is sent.
     pub cut: Option<u32>,
-    /// The byte that each byte of a running program or erase becomes when the chip then loses its power. With `None`
-    /// the chip keeps its power.
+    /// The byte that each byte of a running program or erase becomes if the chip then loses its power. With `None` the
+    /// chip keeps its power.
     pub fill: Option<u8>,
 }
 
@@ -39,7 +39,7 @@ impl Stop {
     }
 }
 
-/// A chip and the operation that it performs while it is busy.
+/// A chip, and the operation that it performs while it is busy.
 #[derive(Drop)]
 pub struct Model {
     pub chip: Chip,
@@ -49,16 +49,16 @@ pub struct Model {
 // The operation of a busy chip.
 #[derive(Clone, Copy)]
 enum Work {
-    // An operation of which nothing is known.
+    // An operation that began before the model was made. Its kind isn't known.
     Unknown,
     // A program or an erase: its first address, and the number of bytes.
     Bytes(u32, u32),
-    // A status write: the non-volatile bits before it.
+    // A status write: the non-volatile status bits before it.
     Status(Status),
 }
 
 impl Model {
-    /// Returns a model of a chip. If the chip is busy, nothing is known of its operation.
+    /// Returns a model of a chip. If the chip is busy, its operation isn't known.
     pub fn of(alloc: Global, chip: &Chip) -> Result<Model, Fault> {
         Ok(Model {
             chip: chip.copy(alloc)?,
@@ -66,7 +66,7 @@ impl Model {
         })
     }
 
-    /// Carries out a call under a stop. Without a stop the call sends the transactions of all these lines.
+    /// Carries out a call under a stop. `whole` has the lines of all transactions that the call sends without a stop.
     pub fn call(&mut self, whole: &str, stop: Stop) {
         let first = lines::first(whole, stop.after);
         for line in first.lines() {
@@ -99,7 +99,7 @@ impl Model {
         ])
     }
 
-    // Stops at a transaction. `sent` has the digits of the bytes that it sends if nothing stops it.
+    // Stops at a transaction. `sent` has the hexadecimal digits of the bytes that the transaction sends without a stop.
     fn stop(&mut self, sent: &str, stop: Stop) {
         if let Some(count) = stop.cut {
             let digits = (count as usize).saturating_mul(2);
@@ -110,7 +110,7 @@ impl Model {
         }
     }
 
-    // Carries out a transaction that sends these bytes. A transaction that only reads changes nothing.
+    // Carries out a transaction that sends these bytes. Transactions that only read, except polls, change nothing.
     fn carry_out(&mut self, sent: &str) {
         let opcode = sent.get(..2).unwrap_or("");
         match (opcode, sent.len() / 2) {
@@ -130,7 +130,7 @@ impl Model {
         Pace::of(&self.chip)
     }
 
-    // Sets BUSY and the latch as a transaction with this opcode does.
+    // Sets BUSY and the write enable latch as a transaction with this opcode does.
     fn pass(&mut self, opcode: &str) {
         self.set_pace(self.pace().behind(opcode));
     }
@@ -140,8 +140,8 @@ impl Model {
         self.chip.status[0] = guards::kept(self.chip.status)[0] | pace.bits();
     }
 
-    // True if the chip carries out an operation on these addresses: it is idle, its latch is set, and none is
-    // protected.
+    // True if the chip carries out an operation on these addresses: it is idle, its write enable latch is set, and none
+    // of the addresses is protected.
     fn takes(&self, start: u32, len: u32) -> bool {
         let Chip { config, status, .. } = &self.chip;
         let (first, count) = guards::guarded_places(guards::code_of(*status), config.size);
@@ -155,8 +155,8 @@ impl Model {
         self.pace().bits() == 0b0000_0010
     }
 
-    // Writes SRP, QE, BP, TB, SEC and CMP as sent. An LB bit that is set stays set, and the reserved bit isn't
-    // written.
+    // Writes SRP, QE, BP, TB, SEC and CMP as sent. An LB bit that is set stays set, and the reserved bit keeps its
+    // value.
     fn write_status(&mut self, one: u8, two: u8) {
         let before = guards::kept(self.chip.status);
         if !self.is_ready() || guards::is_locked(before) {
@@ -193,7 +193,8 @@ impl Model {
         }
     }
 
-    // Clears bits from an address on. After the last byte of the page the first byte comes next.
+    // Clears bits from an address on. After the last byte of the page, programming continues at the first byte of the
+    // page.
     fn program(&mut self, sent: &str) {
         let address = self.address_of(sent);
         if !self.takes(address, 1) {
@@ -214,7 +215,7 @@ impl Model {
         }
     }
 
-    // Returns the address after the opcode, modulo the size.
+    // Returns the address after the opcode, modulo the chip's size.
     fn address_of(&self, sent: &str) -> u32 {
         let digits = sent.get(2..8).unwrap_or("");
         let address = u32::from_str_radix(digits, 16).unwrap_or(0);
@@ -229,7 +230,7 @@ impl Model {
         self.set_pace(pace.without_power());
     }
 
-    // Interrupts the operation. A status write leaves the old bits if the fill is even, and else the new bits.
+    // Interrupts the operation. A status write leaves the old bits if `fill` is even, and the new bits if it is odd.
     fn cut_off(&mut self, fill: u8) {
         match self.work {
             Work::Bytes(start, len) => self.fill(start, len, fill),
@@ -239,7 +240,7 @@ impl Model {
     }
 }
 
-// Returns the digits of the bytes that a transaction sends, from its line.
+// Returns the hexadecimal digits of the bytes that a transaction sends, from its line.
 fn sent_by(line: &str) -> &str {
     match line.split_once(' ') {
         Some((sent, _)) => sent,
@@ -247,7 +248,7 @@ fn sent_by(line: &str) -> &str {
     }
 }
 
-// Returns a byte of those sent, by its position.
+// Returns one of the bytes sent, by its position.
 fn byte_at(sent: &str, place: usize) -> u8 {
     let from = place.saturating_mul(2);
     let digits = sent.get(from..from.saturating_add(2)).unwrap_or("");

@@ -1,19 +1,19 @@
-//! How long a chip is busy, and when its latch is set.
+//! How long a chip is busy, and when its write enable latch is set.
 
 use crate::chips::Chip;
 
-/// BUSY and the latch of a chip at a moment.
+/// BUSY and the write enable latch of a chip at a moment.
 #[derive(Clone, Copy)]
 pub struct Pace {
-    /// The polls that will still reply BUSY.
+    /// The number of further polls that reply BUSY.
     pub busy: u16,
     latch: bool,
-    // the polls that reply BUSY behind each operation
+    // the number of polls that reply BUSY after each operation
     each: u16,
 }
 
 impl Pace {
-    /// That of a chip.
+    /// Returns the pace of a chip.
     pub fn of(chip: &Chip) -> Pace {
         Pace {
             busy: chip.delays.now,
@@ -22,12 +22,12 @@ impl Pace {
         }
     }
 
-    /// BUSY and the latch, as status 1 has them.
+    /// Returns BUSY and the write enable latch as bits of status 1.
     pub fn bits(self) -> u8 {
         u8::from(self.busy > 0) | u8::from(self.latch) << 1
     }
 
-    /// Behind a transaction with this opcode that is carried out.
+    /// Returns the pace after the chip carried out a transaction with this opcode.
     pub fn behind(self, opcode: &str) -> Pace {
         match opcode {
             "05" => self.behind_poll(),
@@ -44,7 +44,8 @@ impl Pace {
         }
     }
 
-    // A poll of a busy chip lowers what is left. With the last one the latch is clear.
+    // Returns the pace after a poll. A poll of a busy chip takes one off the polls that are left, and the last of these
+    // clears the write enable latch.
     fn behind_poll(self) -> Pace {
         let busy = self.busy.saturating_sub(1);
         Pace {
@@ -54,7 +55,7 @@ impl Pace {
         }
     }
 
-    /// Behind the polls that reply BUSY.
+    /// Returns the pace after all polls that reply BUSY.
     pub fn waited(self) -> Pace {
         let mut pace = self;
         for _ in 0..self.busy {
@@ -63,7 +64,7 @@ impl Pace {
         pace
     }
 
-    /// Behind the transactions of a trace.
+    /// Returns the pace after the transactions of a trace.
     pub fn behind_lines(self, lines: &str) -> Pace {
         let mut pace = self;
         for line in lines.lines() {
@@ -72,7 +73,7 @@ impl Pace {
         pace
     }
 
-    /// Behind a loss of power.
+    /// Returns the pace after a loss of power.
     pub fn without_power(self) -> Pace {
         Pace {
             busy: 0,

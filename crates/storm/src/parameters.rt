@@ -1,12 +1,12 @@
-//! SFDP bytes by chance, and what they say by a plain reading.
+//! Random SFDP bytes, and a reference parser for them (JESD216).
 
 use crate::dice::Dice;
 use nor_probe::SfdpFault;
 
-/// What a chip shows at 5Ah from address 0 on, FFh past the end of what it has.
+/// The bytes that a chip returns for 5Ah from address 0 on, with FFh after the end of its tables.
 pub type Shown = [u8; 256];
 
-/// The size and the erases beside that of a sector that SFDP bytes tell.
+/// The size of a chip, and whether it has the erase types of 32 KiB and 64 KiB, according to its SFDP bytes.
 #[derive(Clone, Copy)]
 pub struct Told {
     pub size: u32,
@@ -14,7 +14,8 @@ pub struct Told {
     pub k64: bool,
 }
 
-/// SFDP bytes of a chip of this size with these erases. What no test looks at, is anything.
+/// Draws SFDP bytes that describe a chip of this size with these erase types. Bytes that no check reads are random or
+/// FFh.
 pub fn show(dice: &mut Dice, told: Told) -> Shown {
     let mut shown = [0xFF; 256];
     let at = dice.pick(0x10, &[0x10, 0x30, 0x80]);
@@ -39,7 +40,7 @@ pub fn show(dice: &mut Dice, told: Told) -> Shown {
     dice.fill(&mut table);
     let start = usize::from(at);
     put(&mut shown, start, &table);
-    // The second bit lets it be written in pages, the nineteenth off leaves three address bytes.
+    // Bit 2 set: a write granularity of 64 bytes or more. Bit 18 clear: three address bytes are accepted.
     let first = [
         dice.byte() | 0x04,
         dice.byte(),
@@ -56,7 +57,7 @@ pub fn show(dice: &mut Dice, told: Told) -> Shown {
     shown
 }
 
-// The double word of the size: its bits less one, or by their exponent.
+// Draws the second double word, with the size in bits: the number of bits minus one, or the exponent of the number.
 fn density(dice: &mut Dice, size: u32) -> [u8; 4] {
     let bits = size.saturating_mul(8);
     if dice.hits(1, 3) {
@@ -66,7 +67,7 @@ fn density(dice: &mut Dice, size: u32) -> [u8; 4] {
     }
 }
 
-// The four erase types: those that the chip has, and others that say nothing, from any of the four on.
+// Puts the four erase types, in a random rotation: those that the chip has, and others that `read` ignores.
 fn put_kinds(dice: &mut Dice, shown: &mut Shown, start: usize, told: Told) {
     let blank = dice.pick([0x00, 0x00], &[[0x0C, 0x21], [0x12, 0xDC], [0x00, 0x52]]);
     let half = if told.k32 { [0x0F, 0x52] } else { blank };
@@ -79,7 +80,8 @@ fn put_kinds(dice: &mut Dice, shown: &mut Shown, start: usize, told: Told) {
     }
 }
 
-/// Makes one or two of the tests fail, or the table lie where nothing is.
+/// Damages the bytes in one or two ways. Most damage makes `read` return a fault; a changed table address may be the
+/// same address modulo the chip's size.
 pub fn damage(dice: &mut Dice, shown: &mut Shown) {
     for _ in 0..dice.pick(1, &[1, 2]) {
         damage_once(dice, shown);
@@ -112,7 +114,7 @@ fn damage_once(dice: &mut Dice, shown: &mut Shown) {
     }
 }
 
-// A size that no chip has.
+// Draws a second double word with a size that no supported chip has.
 fn wrong_density(dice: &mut Dice) -> [u8; 4] {
     let wrong = [
         0x0003_FFFF,
@@ -126,14 +128,14 @@ fn wrong_density(dice: &mut Dice) -> [u8; 4] {
     dice.pick(0_u32, &wrong).to_le_bytes()
 }
 
-/// Puts bytes from a place on.
+/// Overwrites bytes from a position on.
 pub fn put(shown: &mut Shown, at: usize, piece: &[u8]) {
     for (place, byte) in shown.iter_mut().skip(at).zip(piece) {
         *place = *byte;
     }
 }
 
-/// What the bytes say on a chip of this size, or the first of the eight faults.
+/// Returns what the bytes describe on a chip of this size, or the first of the eight faults that applies.
 pub fn read(shown: &Shown, size: u32) -> Result<Told, SfdpFault> {
     if shown[..4] != [0x53, 0x46, 0x44, 0x50] {
         return Err(SfdpFault::Signature);
@@ -148,7 +150,7 @@ pub fn read(shown: &Shown, size: u32) -> Result<Told, SfdpFault> {
         return Err(SfdpFault::Length);
     }
     let pointer = u32::from_le_bytes([shown[12], shown[13], shown[14], 0]);
-    // The chip takes the address modulo its size, and has FFh past what it shows.
+    // The chip takes the address modulo its size, and returns FFh after the bytes shown.
     let start = pointer.checked_rem(size).unwrap_or(0);
     let mut table = [0xFF; 36];
     for (place, byte) in table.iter_mut().zip(shown.iter().skip(start as usize)) {
@@ -157,7 +159,7 @@ pub fn read(shown: &Shown, size: u32) -> Result<Told, SfdpFault> {
     read_table(&table)
 }
 
-// What the double words 1 to 9 say.
+// Returns what the double words 1 to 9 describe.
 fn read_table(table: &[u8; 36]) -> Result<Told, SfdpFault> {
     // Bits 17 and 18 of the first double word.
     if table[2] / 2 % 4 >= 2 {
@@ -186,7 +188,7 @@ fn read_table(table: &[u8; 36]) -> Result<Told, SfdpFault> {
     })
 }
 
-// The size in bytes, where it is one of the nine that a chip may have.
+// Returns the size in bytes, if it is one of the nine sizes that a chip may have.
 fn size_of(density: u32) -> Option<u32> {
     let bits = if density < 0x8000_0000 {
         Some(u64::from(density) + 1)

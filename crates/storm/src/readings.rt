@@ -1,4 +1,4 @@
-//! Readings of a chip, beside its bytes.
+//! The calls that only read, compared with the chip's bytes.
 
 use crate::cases::Case;
 use crate::dice::Dice;
@@ -14,7 +14,7 @@ use nor_read::{Protection, read_out, verify, wp_status};
 use nor_session::{Refusal, Report};
 use std::alloc::Global;
 
-/// The calls that read alone.
+/// The calls that only read.
 #[derive(Clone, Copy)]
 pub enum Reading {
     Probe,
@@ -23,7 +23,7 @@ pub enum Reading {
     Comparison,
 }
 
-/// What a reading told.
+/// The result of a reading call that succeeded.
 #[derive(Drop)]
 pub enum Told {
     Found,
@@ -32,16 +32,17 @@ pub enum Told {
     Comparison(Report),
 }
 
-// What a reading came to.
+// The result of a reading call.
 #[derive(Drop)]
 struct Ran {
     answer: Result<Told, Refusal>,
     bus: SimBus,
-    // the trace, a line for each transaction
+    // the trace, with one line for each transaction
     sent: Vec<u8>,
 }
 
-/// Makes each reading of a case's chip: to its end, under a stop, and a copy into a vault that refuses.
+/// Makes each reading call on a case's chip: without a stop, under a stop, and on a faulty bus. Then checks a readout
+/// into a vault that may refuse one of its calls.
 pub fn check(alloc: Global, dice: &mut Dice, case: &Case) -> Result<(), Fault> {
     for reading in [
         Reading::Probe,
@@ -55,7 +56,7 @@ pub fn check(alloc: Global, dice: &mut Dice, case: &Case) -> Result<(), Fault> {
 }
 
 impl Reading {
-    /// The refusal that it comes to, if any.
+    /// Returns the error that the call must return, if any.
     pub fn refusal(self, case: &Case) -> Option<Refusal> {
         let early = self.early_refusal(case);
         match self {
@@ -69,7 +70,7 @@ impl Reading {
         }
     }
 
-    /// The refusal, if any, that is known once the chip is found.
+    /// Returns the error, if any, that the call must return before it reads more than the probe does.
     pub fn early_refusal(self, case: &Case) -> Option<Refusal> {
         let found = verdicts::of_probe(&case.chip.config, case.request.named);
         match self {
@@ -81,7 +82,7 @@ impl Reading {
         }
     }
 
-    // What it sends where nothing stops it.
+    // Returns the lines that the call sends without a stop.
     fn lines(self, alloc: Global, case: &Case) -> Result<Lines, Fault> {
         let is_found = self.early_refusal(case).is_none();
         match self {
@@ -112,8 +113,9 @@ impl Reading {
         lies::check_reading(alloc, dice, case, self, enough)
     }
 
-    // It comes to its end or its refusal where it may send all of these lines, and else it sends the first of them.
-    // Either way the chip is as it was.
+    // Checks the call under a stop. It has its own result if the stop comes after all of these lines; otherwise it
+    // returns `Stopped` and sent the first of them. In both cases the chip's bytes and non-volatile status bits are as
+    // before.
     fn check_under(
         self,
         alloc: Global,
@@ -164,7 +166,7 @@ impl Reading {
     }
 }
 
-// A reading under a stop, which is to be refused so, and to send these lines.
+// Checks a call under a stop: its error, if any, and the lines that it must send.
 fn check_ran(
     alloc: Global,
     case: &Case,
@@ -189,7 +191,7 @@ fn check_ran(
     traces::check_trace(ran.sent.as_slice(), first, "a reading")
 }
 
-// The least included address at which chip and image differ.
+// Returns `Mismatch` with the first included address at which chip and image differ, if there is one.
 fn first_difference(case: &Case) -> Option<Refusal> {
     let bytes = case.chip.bytes.iter().zip(case.image.iter());
     for (address, (byte, new)) in (0_u32..).zip(bytes) {
@@ -200,7 +202,7 @@ fn first_difference(case: &Case) -> Option<Refusal> {
     None
 }
 
-/// A reading on a bus that lies told what is known of the chip.
+/// Checks a successful call on a faulty bus against what the reference implementation read of the chip.
 pub fn check_known(alloc: Global, known: &Case, told: &Told) -> Result<(), Fault> {
     match told {
         Told::Found | Told::Comparison(_) => Ok(()),
@@ -227,7 +229,7 @@ fn check_copy(alloc: Global, case: &Case, out: &MemVault, what: &'static str) ->
     agree(out.bytes() == copy.as_slice(), what)
 }
 
-// The included bytes, and FFh for the others.
+// Returns the included bytes, and FFh for the others.
 fn copy_of(alloc: Global, case: &Case) -> Result<Vec<u8>, Fault> {
     let mut copy = case.chip.bytes.to_vec(alloc)?;
     for (address, byte) in (0_u32..).zip(copy.iter_mut()) {
@@ -238,7 +240,8 @@ fn copy_of(alloc: Global, case: &Case) -> Result<Vec<u8>, Fault> {
     Ok(copy)
 }
 
-// The guarded places, of which none are two zeros, and none is told where they aren't defined.
+// Checks the report on protection. An empty range must be reported as two zeros, and no range if the protection bits
+// are undefined.
 fn check_protection(case: &Case, told: Protection) -> Result<(), Fault> {
     let code = guards::code_of(case.chip.status);
     let size = case.chip.config.size;
@@ -257,7 +260,8 @@ fn check_protection(case: &Case, told: Protection) -> Result<(), Fault> {
     ])
 }
 
-// A reading touches nothing, and reads each sector that holds an included address.
+// Checks the report of a reading call. It has no changes, and its transactions are the probe and one read for each
+// sector that holds an included address.
 fn check_report(case: &Case, report: &Report) -> Result<(), Fault> {
     checks::check_found(&case.chip, &report.found)?;
     let idle = report.touched == 0 && report.erases == 0 && report.programs == 0;
@@ -268,16 +272,17 @@ fn check_report(case: &Case, report: &Report) -> Result<(), Fault> {
     ])
 }
 
-// What a copy into a vault that refuses one of its calls came to.
+// The result of a readout into a vault that refuses one of its calls.
 #[derive(Drop)]
 struct Copied {
     answer: Result<Report, Refusal>,
     out: BrokenVault<MemVault>,
-    // the trace, a line for each transaction
+    // the trace, with one line for each transaction
     sent: Vec<u8>,
 }
 
-// A copy into a vault that refuses one of its calls tells how many bytes went in.
+// Checks a readout into a vault that refuses one of its calls. The error must have the number of bytes that the vault
+// accepted before.
 fn check_refused_copy(alloc: Global, dice: &mut Dice, case: &Case) -> Result<(), Fault> {
     let nth = u64::from(dice.below(case.chip.sectors() / 16)).saturating_add(1);
     let kept = dice.pick(0, &[1, 4095, 65_535]);
@@ -293,7 +298,7 @@ fn check_refused_copy(alloc: Global, dice: &mut Dice, case: &Case) -> Result<(),
     )
 }
 
-// The call of the vault that is refused, and how many of its bytes are kept, are given.
+// Reads out into a vault that refuses its `nth` call, and keeps `kept` bytes of it.
 fn copy_out(alloc: Global, case: &Case, bus: SimBus, (nth, kept): (u64, usize)) -> Copied {
     let mut sent = Vec::new(alloc);
     let mut bus = TraceBus::new(bus, &mut sent);
@@ -304,8 +309,8 @@ fn copy_out(alloc: Global, case: &Case, bus: SimBus, (nth, kept): (u64, usize)) 
     Copied { answer, out, sent }
 }
 
-// The bytes that went in are the first of the copy. Sixteen sectors are read and put at a time, and none is read behind
-// those that hold the next byte.
+// Checks the bytes and the trace of a readout that its vault refused. The vault has the first bytes of the copy.
+// Sectors are read and written 16 at a time, and none is read after the 16 that hold the next byte.
 fn check_part(alloc: Global, case: &Case, written: u64, copied: &Copied) -> Result<(), Fault> {
     check_first(alloc, case, written, copied.out.inner().bytes())?;
     let piece = u32::try_from(written / 65_536).unwrap_or(u32::MAX);

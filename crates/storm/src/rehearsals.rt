@@ -1,4 +1,4 @@
-//! Rehearsals of sessions that are accepted.
+//! Rehearsals of accepted sessions, compared with the same session and restores called one by one.
 
 use crate::cases::Case;
 use crate::dice::Dice;
@@ -11,14 +11,14 @@ use nor_journal::{Journal, MemVault};
 use nor_session::{Refusal, Rehearsal, Request, rehearse};
 use std::alloc::Global;
 
-// Under what a session is rehearsed.
+// The stops of a rehearsal.
 #[derive(Clone, Copy)]
 struct Plan {
-    // the session's stop, and those of the restores
+    // the numbers of transactions after which the session and the two restores stop
     stops: [u64; 3],
-    // how many bytes of its transaction each stop sends
+    // the number of bytes of its transaction that each stop sends
     cut: Option<u32>,
-    // where a stop loses the power
+    // the fill byte, if a stop loses the power
     fill: Option<u8>,
 }
 
@@ -33,17 +33,17 @@ impl Plan {
     }
 }
 
-// What a rehearsal came to.
+// The result of a rehearsal.
 #[derive(Drop)]
 struct Ran {
     answer: Result<Rehearsal, Refusal>,
     bus: SimBus,
     vault: MemVault,
-    // the trace, a line for each transaction
+    // the trace, with one line for each transaction
     sent: Vec<u8>,
 }
 
-/// Rehearses an accepted session under three stops, the first of which is the session's.
+/// Rehearses an accepted session under three stops. The first one is the session's.
 pub fn check(alloc: Global, dice: &mut Dice, accepted: Accepted<'_>) -> Result<(), Fault> {
     let plan = plan_for(dice, accepted);
     let ran = run(alloc, accepted.case, plan)?;
@@ -62,7 +62,7 @@ fn plan_for(dice: &mut Dice, accepted: Accepted<'_>) -> Plan {
     Plan { stops, cut, fill }
 }
 
-// How many transactions the session sends that nothing stops.
+// Returns the number of transactions of the session without a stop.
 fn whole_of(accepted: Accepted<'_>) -> u64 {
     let case = accepted.case;
     lengths::session(case, accepted.wanted.work(&case.chip))
@@ -70,7 +70,7 @@ fn whole_of(accepted: Accepted<'_>) -> u64 {
 
 fn run(alloc: Global, case: &Case, plan: Plan) -> Result<Ran, Fault> {
     let mut image = case.image.to_vec(alloc)?;
-    // A rehearsal allows as many transactions as it needs.
+    // `rehearse` sets the allowed number of transactions itself.
     let bus = case.chip.bus(alloc, plan.stop(0))?;
     run_on(alloc, bus, image.as_mut_slice(), &case.request, plan.stops)
 }
@@ -120,7 +120,7 @@ fn check_ran(alloc: Global, accepted: Accepted<'_>, plan: Plan, ran: &Ran) -> Re
     check_restores(alloc, accepted, plan, rehearsal.restores, &ran.sent)
 }
 
-// Session and restores that are called one by one are as many, and send the same.
+// Checks that the rehearsal made as many restores as calls one by one do, and sent the same transactions.
 fn check_restores(
     alloc: Global,
     accepted: Accepted<'_>,
@@ -134,7 +134,8 @@ fn check_restores(
     traces::check_trace(sent, traces::text(lines.as_slice())?, "a rehearsal")
 }
 
-// How many restores are run where session and restores are called one by one, and what they all send.
+// Calls the session and the restores one by one. Returns the number of restores, and appends to `sent` what all these
+// calls send.
 fn run_each(
     alloc: Global,
     accepted: Accepted<'_>,

@@ -1,4 +1,4 @@
-//! Restores on chips that are other than the session left them, beside what the plain code says of them.
+//! Restores on chips that differ from what the session left, compared with the reference implementation.
 
 use crate::cases::Case;
 use crate::checks::{self, Ran};
@@ -15,16 +15,16 @@ use nor_journal::Journal;
 use nor_session::{Refusal, Report, restore};
 use std::alloc::Global;
 
-/// What a restore came to.
+/// The result of a restore.
 #[derive(Drop)]
 pub struct Restored {
     pub answer: Result<Report, Refusal>,
     pub bus: SimBus,
-    /// The trace, a line for each transaction.
+    /// The trace, with one line for each transaction.
     pub sent: Vec<u8>,
 }
 
-/// Runs a restore that is allowed so many transactions.
+/// Runs a restore on a bus that stops after the allowed number of transactions.
 pub fn run(
     alloc: Global,
     bus: SimBus,
@@ -45,7 +45,7 @@ pub fn run(
     }
 }
 
-// A restore of a chip that nothing stops: what it restores from, and what the plain code says of it.
+// A restore that isn't stopped: its chip and journal, and the results of the reference implementation.
 #[derive(Clone, Copy)]
 struct Whole<'a> {
     chip: &'a Chip,
@@ -55,7 +55,8 @@ struct Whole<'a> {
     refusal: Option<Refusal>,
 }
 
-/// Restores from the journal of a session that ended, on some chip. Answers what it was refused with.
+/// Restores from the journal of a session that succeeded, on a chip that may be another one. Returns the error with
+/// which the restore must be refused, if any.
 pub fn check(
     alloc: Global,
     dice: &mut Dice,
@@ -86,7 +87,7 @@ fn check_whole(alloc: Global, dice: &mut Dice, whole: Whole<'_>) -> Result<Optio
     Ok(whole.refusal)
 }
 
-// What it sends.
+// Returns the lines of the transactions that the restore sends.
 fn lines_of(alloc: Global, whole: Whole<'_>) -> Result<Lines, Fault> {
     let sectors = whole.saved.sectors;
     match whole.refusal {
@@ -95,7 +96,8 @@ fn lines_of(alloc: Global, whole: Whole<'_>) -> Result<Lines, Fault> {
     }
 }
 
-// It sends these lines, the first of them under a stop, and on a bus that lies what plain code sends there.
+// Checks that the restore sends these lines, that it sends only the first of them under a stop, and that it agrees with
+// the reference implementation on a faulty bus.
 fn check_lines(alloc: Global, dice: &mut Dice, whole: Whole<'_>, lines: &str) -> Result<(), Fault> {
     check_unstopped(alloc, whole, lines)?;
     check_stopped(alloc, dice, whole, lines)?;
@@ -134,8 +136,8 @@ fn check_ended(whole: Whole<'_>, ran: &Restored) -> Result<(), Fault> {
     checks::check_wanted(whole.wanted, &ran.bus)
 }
 
-// Stops it. It ends, or is refused so, only where it could send all of these lines, and else it sent the first of
-// them.
+// Checks the restore under a stop. It has its own result only if the stop comes after all of these lines; otherwise it
+// returns `Stopped` and sent the first of them.
 fn check_stopped(
     alloc: Global,
     dice: &mut Dice,
@@ -178,7 +180,8 @@ fn check_stop(wanted: Option<Refusal>, lines: &str, ran: &Restored) -> Result<()
     traces::check_trace(ran.sent.as_slice(), lines, "a restore under a stop")
 }
 
-// The chip of the journal with other bytes, and now and then with another status, number or kind.
+// Returns the journal's chip with other bytes and, at times, with other status bits or another unique ID; or, one time
+// in twelve, an unrelated small chip.
 fn other_chip(alloc: Global, dice: &mut Dice, chip: &Chip) -> Result<Chip, Fault> {
     if dice.hits(1, 12) {
         return chips::small(alloc, dice);
@@ -196,7 +199,7 @@ fn other_chip(alloc: Global, dice: &mut Dice, chip: &Chip) -> Result<Chip, Fault
     Ok(other)
 }
 
-/// What a restore wants of a chip: the saved sectors as they were, and the protection code.
+/// Returns the target of a restore on `chip`: the saved sectors as they were, and the saved protection bits.
 pub fn restored_of(alloc: Global, chip: &Chip, saved: Saved<'_>) -> Result<Wanted, Fault> {
     let mut bytes = chip.bytes.to_vec(alloc)?;
     take_saved(bytes.as_mut_slice(), saved);

@@ -1,4 +1,4 @@
-//! Runs of cases, one after the other.
+//! Runs the cases of a seed, one after the other.
 
 use crate::cases::Case;
 use crate::checks::{self, Ran};
@@ -15,14 +15,14 @@ use crate::{
 use nor_session::Refusal;
 use std::alloc::Global;
 
-/// A case that ended a run, by its number.
+/// The case that ended a run, and why.
 #[derive(Drop)]
 pub struct Halt {
     pub case: u64,
     pub fault: Fault,
 }
 
-/// Runs the cases that a job wants of a seed, up to the first that differs, and counts them.
+/// Runs the cases of a seed that the job names, up to the first that fails, and counts them.
 pub fn run(alloc: Global, job: Job, seed: u64) -> (Tally, Option<Halt>) {
     let mut tally = Tally::NONE;
     for case in job.first..job.first.saturating_add(job.count) {
@@ -33,8 +33,8 @@ pub fn run(alloc: Global, job: Job, seed: u64) -> (Tally, Option<Halt>) {
     (tally, None)
 }
 
-// Runs a session as the plain code wants it, and now and then readings of its chip. Readings, and a session on a bus
-// that lies, have numbers of their own, so that the rest of the case stays what it is.
+// Runs a case: its session and, one time in eight, the reading calls on its chip. The reading calls and the session on
+// a faulty bus draw from their own random numbers, so that they don't change the rest of the case.
 fn run_case(alloc: Global, seed: u64, number: u64, tally: &mut Tally) -> Result<(), Fault> {
     let mut dice = Dice::new(seed, number);
     let case = Case::next(alloc, &mut dice)?;
@@ -66,7 +66,7 @@ fn check_case(
     check_session(alloc, dice, case, &ran, tally)
 }
 
-// A session is refused by its opening, or behind its scan, or accepted.
+// Checks a session, which may be refused after the identification, refused after the scan, or accepted.
 fn check_session(
     alloc: Global,
     dice: &mut Dice,
@@ -90,7 +90,7 @@ fn check_session(
     }
 }
 
-// A session that is refused behind its scan.
+// Checks a session that is refused after its scan.
 fn check_late(
     alloc: Global,
     dice: &mut Dice,
@@ -120,8 +120,8 @@ fn check_accepted(
     go_on(alloc, dice, accepted, ran, tally)
 }
 
-// An accepted session did what it should. It is stopped and given back too, and now and then rehearsed; some journals
-// are damaged, and restored on other chips.
+// Checks an accepted session. Its stops and restores are always checked; a rehearsal, a damaged journal and a restore
+// on another chip are checked at times.
 fn go_on(
     alloc: Global,
     dice: &mut Dice,

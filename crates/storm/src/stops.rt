@@ -1,4 +1,4 @@
-//! Sessions that are stopped, and the restores that give the chip back.
+//! Sessions that are stopped, and the restores that restore the original chip.
 
 use crate::cases::Case;
 use crate::checks::{self, Ran};
@@ -16,8 +16,8 @@ use nor_journal::{Journal, MemVault};
 use nor_session::Refusal;
 use std::alloc::Global;
 
-/// Stops an accepted session somewhere, and restores under stops until one restore ends. Returns how many of these
-/// stops cut a transaction.
+/// Stops an accepted session at a random transaction, and restores, with further stops, until a restore succeeds.
+/// Returns how many of these stops were inside a transaction.
 pub fn check(alloc: Global, dice: &mut Dice, accepted: Accepted<'_>) -> Result<Cuts, Fault> {
     let stop = Stop {
         after: stop_for(dice, accepted.case, accepted.wanted),
@@ -34,7 +34,7 @@ pub fn check(alloc: Global, dice: &mut Dice, accepted: Accepted<'_>) -> Result<C
     }
 }
 
-// What a stop leaves of the chip and in the vault.
+// Checks the chip and the vault after the stop of a session.
 fn check_stop(
     alloc: Global,
     accepted: Accepted<'_>,
@@ -57,7 +57,8 @@ fn check_stop(
     }
 }
 
-/// Stops a refused session somewhere. It is refused only where it could send all that its refusal takes.
+/// Stops a refused session at a random transaction. It returns its own error only if the stop comes after all its
+/// transactions, and otherwise `Stopped`.
 pub fn check_refused(
     alloc: Global,
     dice: &mut Dice,
@@ -100,7 +101,8 @@ fn check_refusal(
     traces::check_lines(ran.lines()?, first, "a refused session that was stopped")
 }
 
-/// Where a session is stopped: anywhere, or among the changes.
+/// Draws the number of transactions after which a session stops: one time in four any number, otherwise one after the
+/// seal.
 pub fn stop_for(dice: &mut Dice, case: &Case, wanted: &Wanted) -> u64 {
     let whole = lengths::session(case, wanted.work(&case.chip));
     if dice.hits(1, 4) {
@@ -111,7 +113,8 @@ pub fn stop_for(dice: &mut Dice, case: &Case, wanted: &Wanted) -> u64 {
     saving.saturating_add(changes)
 }
 
-/// A stop loses the power of half the chips that were idle at the start, with this fill.
+/// Draws the fill byte of a power failure at the stop: for half of the chips that were idle at the start, and otherwise
+/// `None`.
 pub fn fill_for(dice: &mut Dice, case: &Case) -> Option<u8> {
     if case.chip.is_idle() && dice.hits(1, 2) {
         Some(dice.pick(0x5A, &[0x00, 0xFF, 0xA5]))
@@ -120,7 +123,8 @@ pub fn fill_for(dice: &mut Dice, case: &Case) -> Option<u8> {
     }
 }
 
-// Outside the touched sectors, and of the fixed bits, all is as it was.
+// Checks that sectors that aren't touched, and status bits that are never changed, are as before. Without block
+// protection, or with a locked status, no non-volatile status bit may change.
 fn check_within(case: &Case, wanted: &Wanted, bus: &SimBus) -> Result<(), Fault> {
     check_outside(&case.chip, wanted, bus.bytes())?;
     let (before, after) = (guards::kept(case.chip.status), guards::kept(bus.status()));
@@ -143,7 +147,8 @@ fn check_outside(chip: &Chip, wanted: &Wanted, bytes: &[u8]) -> Result<(), Fault
     Ok(())
 }
 
-// Where the power stays, bits of a sector that isn't raised only fell, and only those that should.
+// Checks, if the chip kept its power, that in sectors that aren't raised bits only fell, and only those that the target
+// has clear.
 fn check_gentle(case: &Case, wanted: &Wanted, bus: &SimBus, fill: Option<u8>) -> Result<(), Fault> {
     if fill.is_some() {
         return Ok(());
@@ -167,8 +172,8 @@ fn is_gentle(old: &[u8], new: &[u8], now: &[u8]) -> bool {
         .all(|((old, new), now)| *new & !*now == 0 && *now & !*old == 0)
 }
 
-// Restores under a few stops, at which the chip loses its power if it did at the session's, and then without a stop.
-// Returns how many stops cut a transaction, with the session's.
+// Restores with up to four stops, and then without a stop. At each stop the chip loses its power if it did at the
+// session's stop. Returns the given counts with the stops of these restores added.
 fn give_back(
     alloc: Global,
     dice: &mut Dice,
@@ -191,7 +196,7 @@ fn give_back(
     Ok(cuts)
 }
 
-// Returns a stop of a restore. The chip loses its power if it did at the session's stop.
+// Draws the stop of a restore. The chip loses its power if it did at the session's stop.
 fn next_stop(dice: &mut Dice, accepted: Accepted<'_>, first: Stop) -> Stop {
     let (case, wanted) = (accepted.case, accepted.wanted);
     let most = lengths::session(case, wanted.work(&case.chip));
@@ -202,7 +207,7 @@ fn next_stop(dice: &mut Dice, accepted: Accepted<'_>, first: Stop) -> Stop {
     }
 }
 
-// Restores under a stop.
+// Restores under a stop, and checks the chip if the restore did not succeed.
 fn give_some(
     alloc: Global,
     accepted: Accepted<'_>,
@@ -218,7 +223,7 @@ fn give_some(
     Ok(left)
 }
 
-/// Where a restore is stopped, of which half come soon.
+/// Draws the number of transactions after which a restore stops: half of the time at most 40.
 pub fn stop_of_restore(dice: &mut Dice, most: u64) -> u64 {
     let most = if dice.hits(1, 2) { most } else { most.min(40) };
     dice.up_to(most)

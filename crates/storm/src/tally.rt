@@ -1,44 +1,45 @@
-//! How many cases there were of each kind.
+//! How many cases of each kind were run.
 
 use crate::model::Stop;
 use nor_session::Refusal;
 use std::fmt;
 
-/// How often each kind of case has to come in so many cases: five times in 500 or more, and fewer may lack some.
+/// Returns how often each kind of case must occur in a run of `cases` cases: five times in 500 or more, and otherwise
+/// 0.
 pub fn least(cases: u64) -> u64 {
     if cases < 500 { 0 } else { 5 }
 }
 
-/// Cases by what they came to.
+/// Cases by their result.
 #[derive(Clone, Copy)]
 pub struct Tally {
-    /// Sessions that were accepted, and so were stopped and given back too.
+    /// Accepted sessions. Each was also stopped and restored.
     pub accepted: u64,
-    /// Sessions by the number of their refusal.
+    /// Refused sessions by the number of their error.
     pub refused: [u64; 21],
-    /// Restores on other chips that were accepted.
+    /// Accepted restores on other chips.
     pub restored: u64,
-    /// Restores on other chips by the number of their refusal.
+    /// Refused restores on other chips by the number of their error.
     pub kept_away: [u64; 21],
-    /// Accepted sessions that were rehearsed too.
+    /// Accepted sessions that were also rehearsed.
     pub rehearsed: u64,
-    /// Chips that were read out and compared.
+    /// Cases whose chip was also read by each of the reading calls.
     pub read: u64,
-    /// Sessions that went over a bus that lies too.
+    /// Sessions that were also run on a faulty bus.
     pub lied: u64,
-    /// Stops that cut a transaction.
+    /// Stops inside a transaction.
     pub cuts: Cuts,
 }
 
-/// The stops of accepted sessions, and of the restores from their journals, that cut a transaction: they sent its first
-/// bytes, none or all.
+/// Stops inside a transaction, in accepted sessions and in the restores from their journals. Such a stop sends some
+/// bytes of its transaction, none, or all.
 #[derive(Clone, Copy)]
 pub struct Cuts {
-    /// The stops of sessions.
+    /// The number of these stops in sessions.
     pub sessions: u64,
-    /// The stops of restores.
+    /// The number of these stops in restores.
     pub restores: u64,
-    /// The stops of sessions and restores at which the chip lost its power.
+    /// The number of these stops, in sessions and restores, at which the chip lost its power.
     pub losses: u64,
 }
 
@@ -50,7 +51,7 @@ impl Cuts {
         losses: 0,
     };
 
-    /// Returns these stops with that of a session, unless the session ended.
+    /// Returns the counts with the stop of a session added, if the session was stopped inside a transaction.
     pub fn with_session(self, stop: Stop, ended: bool) -> Cuts {
         let more = u64::from(!ended && stop.cut.is_some());
         Cuts {
@@ -59,7 +60,7 @@ impl Cuts {
         }
     }
 
-    /// Returns these stops with that of a restore, unless the restore ended.
+    /// Returns the counts with the stop of a restore added, if the restore was stopped inside a transaction.
     pub fn with_restore(self, stop: Stop, ended: bool) -> Cuts {
         let more = u64::from(!ended && stop.cut.is_some());
         Cuts {
@@ -76,7 +77,7 @@ impl Cuts {
         }
     }
 
-    // True if each kind occurred at least this often.
+    // True if each kind occurred at least `least` times.
     fn are_telling(self, least: u64) -> bool {
         self.sessions >= least && self.restores >= least && self.losses >= least
     }
@@ -95,8 +96,8 @@ impl Tally {
         cuts: Cuts::NONE,
     };
 
-    /// In so many cases each kind came often enough to say something: sessions and restores that are accepted,
-    /// readings, stops that cut a transaction, and each of a session's ten refusals. No other refusal came.
+    /// True if accepted sessions, accepted restores, reading calls, stops inside a transaction, and each of the errors
+    /// 1 to 10 of a session occurred often enough for this number of cases, and no session returned another error.
     pub fn is_telling(&self, cases: u64) -> bool {
         let least = least(cases);
         let mut refused = self.refused.iter().enumerate();
@@ -111,7 +112,7 @@ impl Tally {
             })
     }
 
-    /// Counts a session.
+    /// Counts a session that was accepted, or refused with this error.
     pub fn count_session(&mut self, refusal: Option<Refusal>) {
         match refusal {
             None => self.accepted = self.accepted.wrapping_add(1),
@@ -119,7 +120,7 @@ impl Tally {
         }
     }
 
-    /// Counts a restore on another chip.
+    /// Counts a restore on another chip that was accepted, or refused with this error.
     pub fn count_restore(&mut self, refusal: Option<Refusal>) {
         match refusal {
             None => self.restored = self.restored.wrapping_add(1),
@@ -132,12 +133,12 @@ impl Tally {
         self.rehearsed = self.rehearsed.wrapping_add(1);
     }
 
-    /// Counts a chip that was read.
+    /// Counts a case whose chip was read.
     pub fn count_reading(&mut self) {
         self.read = self.read.wrapping_add(1);
     }
 
-    /// Counts stops that cut a transaction.
+    /// Adds counts of stops inside a transaction.
     pub fn count_cuts(&mut self, cuts: Cuts) {
         self.cuts = Cuts {
             sessions: self.cuts.sessions.wrapping_add(cuts.sessions),
@@ -146,7 +147,7 @@ impl Tally {
         };
     }
 
-    /// Counts a session on a bus that lies.
+    /// Counts a session on a faulty bus.
     pub fn count_lie(&mut self) {
         self.lied = self.lied.wrapping_add(1);
     }

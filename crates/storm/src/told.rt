@@ -1,4 +1,5 @@
-//! A session, a restore and readings that go by what they are told: plain code over a bus, which may lie.
+//! The reference implementation of sessions, restores and reading calls over a bus that may be faulty. It acts only on
+//! the replies of that bus.
 
 use crate::cases::Case;
 use crate::chips::Chip;
@@ -17,27 +18,28 @@ use nor_probe::ChipName;
 use nor_session::{Refusal, Request, What};
 use std::alloc::{AllocError, AllocFailed, Global};
 
-/// A bus that lies about a chip, with the trace of all that is sent over it.
+/// A faulty bus to a simulated chip, with a trace of all that is sent over it.
 pub type Liar<'a> = TraceBus<HighBus<SpoiltBus<SimBus>>, &'a mut Vec<u8>>;
 
-/// The most polls of a wait.
+/// The greatest number of polls in a wait.
 const MOST_POLLS: u32 = 65_536;
 
-/// Why a call came to no end.
+/// Why a call did not succeed.
 #[derive(Drop)]
 pub enum Halt {
     Refused(Refusal),
     Failed(Fault),
 }
 
-/// What a session must have put into its vault: its journal up to the end mark, and whether it was completed and sealed.
+/// What a session must have put into its vault: its journal without end mark and digest, and whether it was completed and
+/// sealed.
 #[derive(Drop)]
 pub struct Put {
     pub begun: Vec<u8>,
     pub sealed: bool,
 }
 
-/// A caller of a bus.
+/// The caller of the reference implementation, with its bus.
 #[derive(Drop)]
 pub struct Caller<'a> {
     pub bus: Liar<'a>,
@@ -57,7 +59,7 @@ impl<'a> Caller<'a> {
 }
 
 impl Caller<'_> {
-    /// A session. The chip is what it shows itself to be, and what isn't read of it is FFh.
+    /// Runs a session. The chip is assumed to be what it replies, and bytes that aren't read are assumed to be FFh.
     pub fn session(&mut self, case: &Case) -> Result<(), Halt> {
         let (config, status1) = self.find(case.request.named)?;
         let chip = self.identify(config, status1)?;
@@ -65,7 +67,7 @@ impl Caller<'_> {
         self.judge(case, &mut told)
     }
 
-    // Of a chip that is identified: what the opening refuses, the scan, and the changes.
+    // Checks the request against the identified chip, scans, checks the request again, and makes the changes.
     fn judge(&mut self, case: &Case, told: &mut Case) -> Result<(), Halt> {
         refuse(verdicts::of_opening(told))?;
         if !matches!(told.request.what, What::WpRange { .. }) {
@@ -78,7 +80,7 @@ impl Caller<'_> {
         self.make(told, &wanted)
     }
 
-    // What is wanted, and a check where it is asked for.
+    // Makes the changes, and then verifies them if the request asks for it.
     fn make(&mut self, told: &mut Case, wanted: &Wanted) -> Result<(), Halt> {
         self.change(&mut told.chip, wanted)?;
         if told.request.verify {
@@ -87,7 +89,7 @@ impl Caller<'_> {
         Ok(())
     }
 
-    /// A reading. Answers what is known of the chip then.
+    /// Runs a reading call. Returns the case with the chip as its replies describe it.
     pub fn reading(&mut self, reading: Reading, case: &Case) -> Result<Case, Halt> {
         let (config, status1) = self.find(case.request.named)?;
         let chip = unread(self.alloc, config, [status1, 0])?;
@@ -106,7 +108,7 @@ impl Caller<'_> {
         refuse(reading.refusal(told))
     }
 
-    /// A restore from a journal.
+    /// Runs a restore from a journal.
     pub fn restore(&mut self, saved: Saved<'_>) -> Result<(), Halt> {
         let (config, status1) = self.find(None)?;
         refuse(verdicts::of_journal(&config, saved))?;
@@ -115,7 +117,7 @@ impl Caller<'_> {
         self.give_back(saved, &mut chip)
     }
 
-    // The saved sectors of a chip that is the journal's, rising.
+    // Checks that the journal is from this device, and reads the saved sectors in ascending order.
     fn take_saved(&mut self, saved: Saved<'_>, chip: &mut Chip) -> Result<(), Halt> {
         refuse(verdicts::of_unit(chip, saved))?;
         for number in 0..chip.sectors() {
@@ -126,7 +128,7 @@ impl Caller<'_> {
         Ok(())
     }
 
-    // What makes the chip what it was, and a check.
+    // Makes the changes that restore the chip, and verifies them.
     fn give_back(&mut self, saved: Saved<'_>, chip: &mut Chip) -> Result<(), Halt> {
         let wanted = restores::restored_of(self.alloc, chip, saved)?;
         refuse(verdicts::of_lock(chip, saved, &wanted))?;
@@ -134,7 +136,7 @@ impl Caller<'_> {
         self.compare(&wanted)
     }
 
-    // One transaction.
+    // Sends one transaction.
     fn send(&mut self, out: &[u8], reply: &mut [u8]) -> Result<(), Halt> {
         match self.bus.transfer(out, reply) {
             Ok(()) => Ok(()),
@@ -142,7 +144,8 @@ impl Caller<'_> {
         }
     }
 
-    // Polls until one shows BUSY clear. It answers that status 1, or tells the address of what is waited for.
+    // Polls until a reply shows BUSY clear, and returns this status 1. Returns `Timeout` with the given address after
+    // `MOST_POLLS` polls.
     fn wait(&mut self, address: u32) -> Result<u8, Halt> {
         for _ in 0..MOST_POLLS {
             let mut status1 = [0];
@@ -154,7 +157,8 @@ impl Caller<'_> {
         Err(Halt::Refused(Refusal::Timeout { address }))
     }
 
-    // A wait, and the ID: which chip it is, and its status 1.
+    // Finds the chip: waits, reads the ID, and reads SFDP if the ID is unknown. Returns the chip's configuration and
+    // its status 1.
     fn find(&mut self, named: Option<ChipName>) -> Result<(Config, u8), Halt> {
         let status1 = self.wait(0)?;
         let mut id = [0; 3];
@@ -171,7 +175,8 @@ impl Caller<'_> {
         Ok((config, status1))
     }
 
-    // The chip that SFDP bytes tell of. They are put together with the table behind the headers.
+    // Reads the SFDP bytes, and returns the configuration that they describe. The bytes are put together so that the
+    // table follows the headers.
     fn find_parameters(&mut self, id: [u8; 3]) -> Result<Config, Halt> {
         let mut signature = [0; 8];
         self.send(&[0x5A, 0x00, 0x00, 0x00, 0x00], &mut signature)?;
@@ -194,7 +199,7 @@ impl Caller<'_> {
         }
     }
 
-    // Status 2 and the unique ID.
+    // Reads status 2 and the unique ID.
     fn identify(&mut self, config: Config, status1: u8) -> Result<Chip, Halt> {
         let status2 = self.read_status2()?;
         let mut unique = [0; 8];
@@ -209,7 +214,7 @@ impl Caller<'_> {
         Ok(status2[0])
     }
 
-    // Each sector that holds an included address, rising.
+    // Reads each sector that holds an included address, in ascending order.
     fn scan(&mut self, case: &Case, chip: &mut Chip) -> Result<(), Halt> {
         for number in 0..chip.sectors() {
             if case.includes_in(number) {
@@ -219,7 +224,7 @@ impl Caller<'_> {
         Ok(())
     }
 
-    // Reads a sector into what is known of the chip.
+    // Reads a sector into the bytes that are known of the chip.
     fn take_sector(&mut self, number: u32, chip: &mut Chip) -> Result<(), Halt> {
         let sector = chip
             .bytes
@@ -233,8 +238,8 @@ impl Caller<'_> {
         self.send(&[0x03, high, middle, low], sector)
     }
 
-    // What makes the chip what is wanted, in the order of the lists: protection is lifted, units are erased, sectors
-    // programmed, and protection is set.
+    // Makes the changes in the order of `transactions`: lifts protection, erases blocks, programs sectors, and sets
+    // protection.
     fn change(&mut self, chip: &mut Chip, wanted: &Wanted) -> Result<(), Halt> {
         self.prepare(chip, wanted)?;
         for number in 0..chip.sectors() {
@@ -257,7 +262,8 @@ impl Caller<'_> {
         self.play(lines)
     }
 
-    // A sector that wasn't erased is read once more, and its pages are held against what it shows then.
+    // Programs a sector. If it wasn't erased, it is read again first, and its pages are compared with what that read
+    // returns.
     fn program(&mut self, chip: &mut Chip, wanted: &Wanted, number: u32) -> Result<(), Halt> {
         if !wanted.raises_all(number, 1) {
             self.take_sector(number, chip)?;
@@ -267,8 +273,8 @@ impl Caller<'_> {
         self.play(lines)
     }
 
-    // Sends the write enables and commands of a list. Behind a command it waits as long as it is told to, and so the
-    // list's own polls go, and its readings, which were made.
+    // Sends the write enables and commands of a list. After each command except a write enable it polls the bus itself,
+    // so the polls and reads in the list are skipped; the reads were made before.
     fn play(&mut self, lines: Lines) -> Result<(), Halt> {
         let lines = lines.whole()?;
         self.play_lines(lines.text())
@@ -296,7 +302,7 @@ impl Caller<'_> {
         Ok(())
     }
 
-    // Each touched sector is as wanted, rising.
+    // Compares each touched sector with the target, in ascending order.
     fn compare(&mut self, wanted: &Wanted) -> Result<(), Halt> {
         for number in 0..wanted.count() {
             if wanted.touches(number) {
@@ -313,7 +319,7 @@ impl Caller<'_> {
     }
 }
 
-// The first byte that isn't as wanted, of those from an address on.
+// Returns `Mismatch` with the first address from `start` on at which the bytes differ, if there is one.
 fn difference(start: u32, shown: &[u8], wanted: &[u8]) -> Option<Refusal> {
     for (address, (byte, new)) in (start..).zip(shown.iter().zip(wanted)) {
         if *byte != *new {
@@ -323,7 +329,7 @@ fn difference(start: u32, shown: &[u8], wanted: &[u8]) -> Option<Refusal> {
     None
 }
 
-// A chip of whose bytes nothing is known yet.
+// Returns a chip none of whose bytes has been read yet.
 fn unread(alloc: Global, config: Config, status: Status) -> Result<Chip, Fault> {
     Ok(Chip {
         config,
@@ -333,7 +339,7 @@ fn unread(alloc: Global, config: Config, status: Status) -> Result<Chip, Fault> 
     })
 }
 
-// What the case asks, of the chip as it is told.
+// Returns the request and image of the case, with the chip that the replies describe.
 fn asked_of(alloc: Global, case: &Case, chip: Chip) -> Result<Case, Fault> {
     Ok(Case {
         chip,
@@ -359,7 +365,7 @@ fn refuse(refusal: Option<Refusal>) -> Result<(), Halt> {
     }
 }
 
-// The bytes of a line without a reply.
+// Returns the bytes of a line without a reply.
 fn bytes_of(alloc: Global, line: &str) -> Result<Vec<u8>, Fault> {
     let mut bytes = Vec::new(alloc);
     for pair in line.as_bytes().chunks(2) {
@@ -371,7 +377,7 @@ fn bytes_of(alloc: Global, line: &str) -> Result<Vec<u8>, Fault> {
     Ok(bytes)
 }
 
-// The address of a program or an erase; the whole chip and its status have 0.
+// Returns the address of a program or an erase, and 0 for commands on the whole chip or the status registers.
 fn address_of(command: &[u8]) -> u32 {
     match command {
         [0x02 | 0x20 | 0x52 | 0xD8, high, middle, low, ..] => {

@@ -1,4 +1,4 @@
-//! What a session sends, told by its trace: a line for each transaction.
+//! Checks of traces, which have one line for each transaction.
 
 use crate::cases::Case;
 use crate::fault::{Fault, agree};
@@ -7,10 +7,10 @@ use crate::wanted::Wanted;
 use nor_chip::SECTOR_LEN;
 use nor_session::Refusal;
 
-/// The opcodes after which a chip may be another, as a trace has them.
+/// The opcodes of the modifying commands, as a trace shows them.
 const CHANGING: [&str; 7] = ["06", "01", "02", "20", "52", "d8", "c7"];
 
-/// The trace of a call is these lines, one by one.
+/// Checks that a trace has exactly these lines. The fault has the number of the first line that differs.
 pub fn check_lines(sent: &str, wanted: &str, call: &'static str) -> Result<(), Fault> {
     let mut number = 1_u64;
     for (line, other) in sent.lines().zip(wanted.lines()) {
@@ -26,12 +26,12 @@ pub fn check_lines(sent: &str, wanted: &str, call: &'static str) -> Result<(), F
     }
 }
 
-/// The same, of a trace as its bytes.
+/// Checks a trace that is given as bytes.
 pub fn check_trace(sent: &[u8], wanted: &str, call: &'static str) -> Result<(), Fault> {
     check_lines(text(sent)?, wanted, call)
 }
 
-/// A trace as text.
+/// Returns a trace as text.
 pub fn text(sent: &[u8]) -> Result<&str, Fault> {
     match str::from_utf8(sent) {
         Ok(lines) => Ok(lines),
@@ -39,7 +39,7 @@ pub fn text(sent: &[u8]) -> Result<&str, Fault> {
     }
 }
 
-/// A refused session sent what it has to know for that, and nothing that changes.
+/// Checks that a refused session sent the expected number of transactions, and no modifying command.
 pub fn check_refused(case: &Case, refusal: Refusal, sent: &str) -> Result<(), Fault> {
     let count = u64::try_from(sent.lines().count());
     agree(
@@ -52,7 +52,7 @@ pub fn check_refused(case: &Case, refusal: Refusal, sent: &str) -> Result<(), Fa
     )
 }
 
-/// Nothing that changes is sent before all is saved, and then raised sectors alone are erased.
+/// Checks that no modifying command was sent before all sectors were saved, and that only raised sectors were erased.
 pub fn check_ended(case: &Case, wanted: &Wanted, sent: &str) -> Result<(), Fault> {
     let saving = usize::try_from(lengths::saving(case)).unwrap_or(usize::MAX);
     agree(
@@ -67,12 +67,12 @@ pub fn check_ended(case: &Case, wanted: &Wanted, sent: &str) -> Result<(), Fault
     )
 }
 
-// The line is one of a changing command.
+// True if the line is a modifying command.
 fn changes(line: &str) -> bool {
     CHANGING.iter().any(|opcode| line.starts_with(*opcode))
 }
 
-// A line that erases aims at raised sectors alone.
+// True if the line doesn't erase, or erases only raised sectors.
 fn erases_raised(line: &str, sectors: u32, wanted: &Wanted) -> bool {
     match erased_by(line, sectors) {
         Some((first, count)) => wanted.raises_all(first, count),
@@ -80,7 +80,8 @@ fn erases_raised(line: &str, sectors: u32, wanted: &Wanted) -> bool {
     }
 }
 
-// The first sector that an erase aims at, and how many they are, on a chip of so many.
+// Returns the first sector that an erase command erases, and the number of sectors. `sectors` is the number of sectors
+// on the chip.
 fn erased_by(line: &str, sectors: u32) -> Option<(u32, u32)> {
     if line == "c7" {
         return Some((0, sectors));

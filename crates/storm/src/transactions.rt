@@ -1,7 +1,18 @@
-//! What each call sends, in its order: plain code, with a line for each transaction.
+//! Which transactions each call sends, in order: a reference implementation with one line for each transaction.
 //!
-//! A WAIT is polls (05) until one shows BUSY clear. An OPERATION is a write enable (06), the command, and a wait. A
-//! sector is 4,096 bytes, which one 03 reads. A call that is stopped sent the first lines of what it would have sent.
+//! A wait is a number of polls (05h) until one shows BUSY clear. An operation is a write enable (06h), a command, and a
+//! wait. One 03h reads a sector of 4,096 bytes. A call that is stopped sends the first lines of what it sends without a
+//! stop. A session or restore has these steps:
+//!
+//! 1. Find the chip: a wait, the ID, and three reads of SFDP unless the ID is in the table or means that there is no
+//!    chip.
+//! 2. Identify the device: status 2 and the unique ID.
+//! 3. Read the sectors that may change, in ascending order.
+//! 4. Clear the protection bits, if a touched sector is protected.
+//! 5. Erase.
+//! 6. Program the touched sectors, in ascending order.
+//! 7. Set the protection bits of the target, if they differ.
+//! 8. Verify: read the touched sectors again, in ascending order.
 
 use crate::cases::Case;
 use crate::chips::Chip;
@@ -13,23 +24,23 @@ use nor_chip::SECTOR_LEN;
 use nor_session::{Refusal, What};
 use std::alloc::Global;
 
-/// A session that ends.
+/// Returns the lines of a session that succeeds.
 pub fn session(alloc: Global, case: &Case, wanted: &Wanted) -> Result<Lines, Fault> {
     let mut lines = Lines::new(alloc, &case.chip);
-    // 1 to 3: the chip is found, and what is to be changed is saved.
+    // Steps 1 to 3.
     save(&mut lines, case, case.chip.sectors());
-    // 4 to 7: the changes.
+    // Steps 4 to 7.
     change(&mut lines, &case.chip, wanted);
-    // 8: with verification each touched sector is read again, rising.
+    // Step 8, only if the request asks for it.
     if case.request.verify {
         read_touched(&mut lines, wanted.sectors.as_slice());
     }
     lines.whole()
 }
 
-// 1: the chip is found. 2: the rest of its status, and which unit it is. 3: sectors below this one that hold an
-// included address, rising. A touched one goes into the vault when it is met. Behind the last one the vault is sealed.
-// Where a range is protected there is nothing to scan.
+// Appends steps 1 to 3 of a session. Step 3 reads the sectors below `below` that hold an included address, and is left
+// out for a protection range. The session writes each touched sector to the vault when it has read it, and seals the
+// vault after the last one.
 fn save(lines: &mut Lines, case: &Case, below: u32) {
     find(lines, &case.chip);
     identify(lines);
@@ -38,8 +49,8 @@ fn save(lines: &mut Lines, case: &Case, below: u32) {
     }
 }
 
-/// A session that is refused so by the chip or the request. 1 to 3 are known once the chip is found, 4 to 8 once it is
-/// identified, 9 and 10 behind the whole scan.
+/// Returns the lines of a session that is refused with this error. Errors 1 to 3 are returned after step 1, errors 4 to
+/// 8 after step 2, and errors 9 and 10 after step 3.
 pub fn refused_session(alloc: Global, case: &Case, refusal: Refusal) -> Result<Lines, Fault> {
     let mut lines = Lines::new(alloc, &case.chip);
     match refusal.number() {
@@ -50,7 +61,7 @@ pub fn refused_session(alloc: Global, case: &Case, refusal: Refusal) -> Result<L
     lines.whole()
 }
 
-/// A restore of these sectors that ends.
+/// Returns the lines of a restore of these sectors that succeeds.
 pub fn restore(
     alloc: Global,
     chip: &Chip,
@@ -58,17 +69,17 @@ pub fn restore(
     wanted: &Wanted,
 ) -> Result<Lines, Fault> {
     let mut lines = Lines::new(alloc, chip);
-    // 1 to 3: the chip is found and identified, and the saved sectors are read.
+    // Steps 1 to 3.
     scan_saved(&mut lines, chip, saved);
-    // 4 to 7: the changes.
+    // Steps 4 to 7.
     change(&mut lines, chip, wanted);
-    // 8: always, each sector that was changed is read again, rising.
+    // Step 8, always.
     read_touched(&mut lines, wanted.sectors.as_slice());
     lines.whole()
 }
 
-/// A restore that is refused so. 1, 2 and 16 are known once the chip is found, 20 and 17 once it is identified, 9
-/// behind the whole scan.
+/// Returns the lines of a restore that is refused with this error. Errors 1, 2 and 16 are returned after step 1, errors
+/// 20 and 17 after step 2, and error 9 after step 3.
 pub fn refused_restore(
     alloc: Global,
     chip: &Chip,
@@ -84,23 +95,23 @@ pub fn refused_restore(
     lines.whole()
 }
 
-// 1: the chip is found. 2: it is identified. 3: each saved sector, rising.
+// Appends steps 1 to 3 of a restore. Step 3 reads each saved sector.
 fn scan_saved(lines: &mut Lines, chip: &Chip, saved: &[Sector]) {
     find(lines, chip);
     identify(lines);
     read_touched(lines, saved);
 }
 
-/// A probe, whatever it answers.
+/// Returns the lines of a probe, which are the same for every result.
 pub fn probe(alloc: Global, chip: &Chip) -> Result<Lines, Fault> {
     let mut lines = Lines::new(alloc, chip);
     find(&mut lines, chip);
     lines.whole()
 }
 
-/// A reading out or a comparison: the chip is found, and then sectors below this one are read that hold an included
-/// address, rising. A refusal of the chip, of the image's length or of a range comes before the first of them, that of
-/// a difference behind the last one.
+/// Returns the lines of a readout or a comparison: step 1, and then reads of the sectors below `below` that hold an
+/// included address, in ascending order. An error of the chip, the image's length or a range is returned before the
+/// first of these reads, a difference after the last one.
 pub fn reading(alloc: Global, case: &Case, below: u32) -> Result<Lines, Fault> {
     let mut lines = Lines::new(alloc, &case.chip);
     find(&mut lines, &case.chip);
@@ -108,7 +119,7 @@ pub fn reading(alloc: Global, case: &Case, below: u32) -> Result<Lines, Fault> {
     lines.whole()
 }
 
-/// A look at the protection: the chip is found, and unless it is refused for that, status 2 is read.
+/// Returns the lines of a report on protection: step 1, and then a read of status 2 if `is_found` is set.
 pub fn protection(alloc: Global, chip: &Chip, is_found: bool) -> Result<Lines, Fault> {
     let mut lines = Lines::new(alloc, chip);
     find(&mut lines, chip);
@@ -118,8 +129,8 @@ pub fn protection(alloc: Global, chip: &Chip, is_found: bool) -> Result<Lines, F
     lines.whole()
 }
 
-// 1: a wait, and the ID. Where that is in no table, and isn't what a bus without a chip reads: the header of the SFDP,
-// the header of its first table, and that table from where the latter says it is.
+// Appends step 1. The SFDP reads are the SFDP header, the first parameter header, and the table at the address in that
+// parameter header.
 fn find(lines: &mut Lines, chip: &Chip) {
     let config = &chip.config;
     lines.wait();
@@ -134,13 +145,13 @@ fn find(lines: &mut Lines, chip: &Chip) {
     lines.read_parameters(pointer, 36);
 }
 
-// 2: status 2, and the unique ID.
+// Appends step 2.
 fn identify(lines: &mut Lines) {
     lines.read_status2();
     lines.read_unique();
 }
 
-// Sectors below this one that hold an included address, rising.
+// Appends reads of the sectors below `below` that hold an included address, in ascending order.
 fn read_included(lines: &mut Lines, case: &Case, below: u32) {
     for number in 0..below {
         if case.includes_in(number) {
@@ -149,7 +160,7 @@ fn read_included(lines: &mut Lines, case: &Case, below: u32) {
     }
 }
 
-// Each touched sector, rising.
+// Appends reads of the touched sectors, in ascending order.
 fn read_touched(lines: &mut Lines, sectors: &[Sector]) {
     for (number, sector) in (0_u32..).zip(sectors) {
         if sector.touched {
@@ -158,10 +169,10 @@ fn read_touched(lines: &mut Lines, sectors: &[Sector]) {
     }
 }
 
-// 4 to 7: what makes a chip what is wanted.
+// Appends steps 4 to 7.
 fn change(lines: &mut Lines, chip: &Chip, wanted: &Wanted) {
     prepare(lines, chip, wanted);
-    // 6: the programs of each touched sector, rising.
+    // Step 6.
     for number in 0..chip.sectors() {
         if wanted.touches(number) {
             program_sector(lines, chip, wanted, number);
@@ -170,13 +181,13 @@ fn change(lines: &mut Lines, chip: &Chip, wanted: &Wanted) {
     protect(lines, chip, wanted);
 }
 
-/// 4 and 5: what comes before the first program.
+/// Appends steps 4 and 5.
 pub fn prepare(lines: &mut Lines, chip: &Chip, wanted: &Wanted) {
-    // 4: where a touched sector is guarded an operation that clears the protection code, and nothing else.
+    // Step 4. The write leaves the other non-volatile status bits as they are.
     if wanted.first_guarded(chip).is_some() {
         lines.write_status(guards::with_code(chip.status, 0));
     }
-    // 5: an operation for each erase.
+    // Step 5.
     if wanted.raises_all(0, chip.sectors()) {
         lines.erase_chip();
     } else {
@@ -184,7 +195,7 @@ pub fn prepare(lines: &mut Lines, chip: &Chip, wanted: &Wanted) {
     }
 }
 
-/// 7: an operation that sets the wanted code, where it is another now.
+/// Appends step 7. After step 4 the protection bits are 0.
 pub fn protect(lines: &mut Lines, chip: &Chip, wanted: &Wanted) {
     let code = match wanted.first_guarded(chip) {
         Some(_) => 0,
@@ -195,7 +206,8 @@ pub fn protect(lines: &mut Lines, chip: &Chip, wanted: &Wanted) {
     }
 }
 
-// 5: rising, by the largest units all of whose sectors are raised: 64 KiB, 32 KiB outside these, and sectors.
+// Appends the erases of step 5 for a chip that isn't erased as a whole. They are in ascending order, each for the
+// largest block that has only raised sectors: 64 KiB, else 32 KiB, else one sector.
 fn erase_blocks(lines: &mut Lines, chip: &Chip, wanted: &Wanted) {
     for block in 0..chip.sectors() / 16 {
         let first = block.saturating_mul(16);
@@ -220,7 +232,8 @@ fn erase_half(lines: &mut Lines, chip: &Chip, wanted: &Wanted, first: u32) {
     }
 }
 
-/// 6: a sector that wasn't erased is read. Then each page that isn't as wanted has one operation.
+/// Appends step 6 for one sector. A sector that wasn't erased is read first. Each page that differs from the target is
+/// programmed by one operation.
 pub fn program_sector(lines: &mut Lines, chip: &Chip, wanted: &Wanted, number: u32) {
     let is_erased = wanted.raises_all(number, 1);
     if !is_erased {
@@ -235,7 +248,7 @@ pub fn program_sector(lines: &mut Lines, chip: &Chip, wanted: &Wanted, number: u
     }
 }
 
-// From the first byte of a page that differs to the last.
+// Appends the program of a page, from the first byte that differs to the last one.
 fn program_page(lines: &mut Lines, start: u32, (old, new): (&[u8], &[u8]), is_erased: bool) {
     if let Some((first, last)) = span(old, new, is_erased) {
         let bytes = new.get(first..last.saturating_add(1)).unwrap_or(&[]);
@@ -244,7 +257,7 @@ fn program_page(lines: &mut Lines, start: u32, (old, new): (&[u8], &[u8]), is_er
     }
 }
 
-// The page of a chip's bytes that starts there.
+// Returns the page of a chip's bytes that starts at this address.
 fn page_at(bytes: &Vec<u8>, start: u32) -> &[u8] {
     let start = start as usize;
     bytes
@@ -253,8 +266,8 @@ fn page_at(bytes: &Vec<u8>, start: u32) -> &[u8] {
         .unwrap_or(&[])
 }
 
-// The places of the first and the last byte of a page that isn't as wanted: on an erased page each one that is to be
-// other than FFh.
+// Returns the positions in a page of the first and the last byte that must be programmed. In an erased page these are
+// bytes whose target isn't FFh, otherwise bytes that differ from the target.
 fn span(old: &[u8], new: &[u8], is_erased: bool) -> Option<(usize, usize)> {
     let mut found = None;
     for (place, (old, new)) in old.iter().zip(new).enumerate() {

@@ -1,4 +1,4 @@
-//! Which refusal a call has to answer, if any, told by the rules in their order.
+//! The error that a call must return, if any, by rules that are checked in order.
 
 use crate::cases::Case;
 use crate::chips::Chip;
@@ -8,12 +8,12 @@ use nor_chip::{Config, SECTOR_LEN};
 use nor_probe::ChipName;
 use nor_session::{Refusal, What};
 
-/// The chip is known by its ID.
+/// True if the table of chips contains the ID.
 pub fn is_in_table(config: &Config) -> bool {
     name_of(config) != ChipName::Sfdp
 }
 
-/// The name under which a chip is found.
+/// Returns the name under which the chip is found.
 pub fn name_of(config: &Config) -> ChipName {
     match config.id {
         [0xEF, 0x40, 0x17] => ChipName::W25Q64FV,
@@ -22,12 +22,12 @@ pub fn name_of(config: &Config) -> ChipName {
     }
 }
 
-/// The ID is what a bus without a chip reads.
+/// True if the ID is what a bus without a chip replies.
 pub fn is_no_chip(config: &Config) -> bool {
     config.id == [0xFF; 3] || config.id == [0x00; 3]
 }
 
-/// No chip, an unknown chip, or another name.
+/// Returns the error of a probe: no chip, an unknown chip, or a name other than the requested one.
 pub fn of_probe(config: &Config, named: Option<ChipName>) -> Option<Refusal> {
     if is_no_chip(config) {
         return Some(Refusal::NoChip);
@@ -43,7 +43,7 @@ pub fn of_probe(config: &Config, named: Option<ChipName>) -> Option<Refusal> {
     }
 }
 
-/// An image that isn't as long as the chip.
+/// Returns an error if the image isn't as long as the chip.
 pub fn of_image(case: &Case) -> Option<Refusal> {
     let chip = case.chip.config.size;
     let image = case.image.len();
@@ -54,7 +54,7 @@ pub fn of_image(case: &Case) -> Option<Refusal> {
     }
 }
 
-/// An included address that isn't on the chip.
+/// Returns an error if an included address isn't on the chip.
 pub fn of_places(case: &Case) -> Option<Refusal> {
     match case.last_included() {
         Some(last) if last >= case.chip.config.size => Some(Refusal::RegionOutside),
@@ -62,7 +62,7 @@ pub fn of_places(case: &Case) -> Option<Refusal> {
     }
 }
 
-/// The first of the refusals 1 to 8 that holds.
+/// Returns the first of the errors 1 to 8 that applies.
 pub fn of_opening(case: &Case) -> Option<Refusal> {
     let config = &case.chip.config;
     let protection = of_protection(config.scheme, guards::code_of(case.chip.status));
@@ -74,7 +74,7 @@ pub fn of_opening(case: &Case) -> Option<Refusal> {
     }
 }
 
-// A protection code that the datasheets don't define.
+// Returns an error for protection bits that the datasheets don't define.
 fn of_protection(scheme: bool, code: u8) -> Option<Refusal> {
     if scheme && guards::is_undefined(code) {
         Some(Refusal::UndefinedProtection)
@@ -83,7 +83,7 @@ fn of_protection(scheme: bool, code: u8) -> Option<Refusal> {
     }
 }
 
-// A range that no code guards.
+// Returns an error if no value of the protection bits protects exactly this range.
 fn of_range(start: u32, len: u32, size: u32) -> Option<Refusal> {
     match guards::least_code(start, len, size) {
         Some(_) => None,
@@ -91,7 +91,7 @@ fn of_range(start: u32, len: u32, size: u32) -> Option<Refusal> {
     }
 }
 
-/// The refusals 9 and 10, once none of those before holds.
+/// Returns error 9 or 10 if it applies. The caller has checked errors 1 to 8.
 pub fn of_changes(case: &Case, wanted: &Wanted) -> Option<Refusal> {
     let chip = &case.chip;
     let guarded = wanted.first_guarded(chip);
@@ -108,14 +108,14 @@ pub fn of_changes(case: &Case, wanted: &Wanted) -> Option<Refusal> {
     }
 }
 
-/// What a journal says: the chip that it was made of, and which sectors it saved of it.
+/// The contents of a journal: the original chip, and which of its sectors were saved.
 #[derive(Clone, Copy)]
 pub struct Saved<'a> {
     pub chip: &'a Chip,
     pub sectors: &'a [Sector],
 }
 
-/// The first of the refusals of a restore that holds. The wanted chip is that of the restore.
+/// Returns the first error of a restore that applies. `wanted` is the target of the restore.
 pub fn of_restore(chip: &Chip, saved: Saved<'_>, wanted: &Wanted) -> Option<Refusal> {
     of_probe(&chip.config, None)
         .or(of_journal(&chip.config, saved))
@@ -123,7 +123,7 @@ pub fn of_restore(chip: &Chip, saved: Saved<'_>, wanted: &Wanted) -> Option<Refu
         .or(of_lock(chip, saved, wanted))
 }
 
-/// A journal of another kind of chip.
+/// Returns an error if the journal is for a chip with another ID or size.
 pub fn of_journal(config: &Config, saved: Saved<'_>) -> Option<Refusal> {
     let old = &saved.chip.config;
     if config.id == old.id && config.size == old.size {
@@ -133,7 +133,8 @@ pub fn of_journal(config: &Config, saved: Saved<'_>) -> Option<Refusal> {
     }
 }
 
-/// A journal of another unit of this kind, or bits that no restore writes and that aren't as they were.
+/// Returns an error if the journal is for another device, or if status bits that a restore can't write differ from the
+/// journal's.
 pub fn of_unit(chip: &Chip, saved: Saved<'_>) -> Option<Refusal> {
     if chip.config.unique != saved.chip.config.unique {
         return Some(Refusal::OtherUnit);
@@ -150,7 +151,7 @@ pub fn of_unit(chip: &Chip, saved: Saved<'_>) -> Option<Refusal> {
     }
 }
 
-/// A status that a restore has to write, and can't.
+/// Returns an error if a restore has to write the status registers, and they are locked.
 pub fn of_lock(chip: &Chip, saved: Saved<'_>, wanted: &Wanted) -> Option<Refusal> {
     let other_code = guards::code_of(chip.status) != guards::code_of(saved.chip.status);
     let writes_status = other_code || wanted.first_guarded(chip).is_some();

@@ -1,4 +1,4 @@
-//! What a chip is to be, and by which work, told by plain rules on its bytes.
+//! The target of a session or restore, and the work that it takes, by simple rules on the chip's bytes.
 
 use crate::cases::Case;
 use crate::chips::Chip;
@@ -9,27 +9,27 @@ use nor_layout::Span;
 use nor_session::What;
 use std::alloc::Global;
 
-/// What becomes of a sector.
+/// How a sector changes.
 #[derive(Clone, Copy)]
 pub struct Sector {
-    /// A byte changes.
+    /// True if some byte changes.
     pub touched: bool,
-    /// A bit has to rise.
+    /// True if some bit must rise from 0 to 1.
     pub raised: bool,
-    /// So many pages are programmed.
+    /// The number of pages to program.
     pub pages: u32,
 }
 
-/// What a chip is to be.
+/// The target: what the chip must become.
 #[derive(Drop)]
 pub struct Wanted {
     pub bytes: Vec<u8>,
-    /// The kept bits.
+    /// The non-volatile status bits.
     pub status: Status,
     pub sectors: Vec<Sector>,
 }
 
-/// The work that makes a chip what is wanted, in numbers.
+/// The amount of work that turns a chip into its target.
 #[derive(Clone, Copy)]
 pub struct Work {
     pub touched: u64,
@@ -40,7 +40,7 @@ pub struct Work {
 }
 
 impl Wanted {
-    /// What the request of a case wants of its chip.
+    /// Returns the target of a case's request.
     pub fn of_case(alloc: Global, case: &Case) -> Result<Wanted, Fault> {
         let mut bytes = case.chip.bytes.to_vec(alloc)?;
         if is_of_bytes(case.request.what) {
@@ -49,7 +49,7 @@ impl Wanted {
         Self::new(alloc, &case.chip, bytes, wanted_status(case))
     }
 
-    /// These bytes and kept bits, wanted of a chip.
+    /// Returns the target with these bytes and non-volatile status bits for a chip.
     pub fn new(
         alloc: Global,
         chip: &Chip,
@@ -64,7 +64,7 @@ impl Wanted {
         })
     }
 
-    /// The least touched sector of the chip that has a guarded place.
+    /// Returns the first touched sector of the chip that has a protected address.
     pub fn first_guarded(&self, chip: &Chip) -> Option<u32> {
         if !chip.config.scheme {
             return None;
@@ -75,23 +75,23 @@ impl Wanted {
         })
     }
 
-    /// The sector is touched.
+    /// True if the sector is touched.
     pub fn touches(&self, number: u32) -> bool {
         touches(self.sectors.as_slice(), number)
     }
 
-    /// How many sectors there are.
+    /// Returns the number of sectors.
     pub fn count(&self) -> u32 {
         u32::try_from(self.sectors.len()).unwrap_or(u32::MAX)
     }
 
-    /// Each of so many sectors is raised.
+    /// True if each of the `count` sectors from `first` on is raised. Sectors past the end count as raised.
     pub fn raises_all(&self, first: u32, count: u32) -> bool {
         let from = self.sectors.iter().skip(first as usize);
         from.take(count as usize).all(|sector| sector.raised)
     }
 
-    /// The work on this chip.
+    /// Returns the work for this chip.
     pub fn work(&self, chip: &Chip) -> Work {
         let sectors = self.sectors.as_slice();
         Work {
@@ -103,7 +103,8 @@ impl Wanted {
         }
     }
 
-    // Protection is lifted where a touched sector is guarded; at the end the code is made the wanted one.
+    // Returns the number of status writes. One clears the protection bits if a touched sector is protected; one sets
+    // the target's protection bits at the end if they differ.
     fn status_writes(&self, chip: &Chip) -> u64 {
         let lifted = self.first_guarded(chip).is_some();
         let code = if lifted {
@@ -116,12 +117,12 @@ impl Wanted {
     }
 }
 
-// The request is one for bytes.
+// True if the request is a write or an erase.
 fn is_of_bytes(what: What) -> bool {
     what == What::Write || what == What::Erase
 }
 
-// Makes the included bytes those of the image, or FFh.
+// Sets the included bytes to those of the image, or to FFh for an erase.
 fn take_included(case: &Case, bytes: &mut [u8]) {
     let whole = [Span {
         first: 0,
@@ -145,7 +146,8 @@ fn take_span(case: &Case, span: Span, bytes: &mut [u8]) {
     }
 }
 
-// The kept bits, with the least code of a range that is to be protected.
+// Returns the target's non-volatile status bits. For a protection range they have the least protection bits that
+// protect it.
 fn wanted_status(case: &Case) -> Status {
     let status = guards::kept(case.chip.status);
     let What::WpRange { start, len } = case.request.what else {
@@ -188,7 +190,8 @@ fn rises(old: &[u8], new: &[u8]) -> bool {
     old.iter().zip(new).any(|(old, new)| *new & !*old != 0)
 }
 
-// The pages of a sector that differ from FFh once it is erased, or else from what is there.
+// Returns the number of pages of a sector to program: those not all FFh if the sector is erased, otherwise those that
+// change.
 fn pages_of(old: &[u8], new: &[u8], raised: bool) -> u32 {
     let mut pages = 0_u32;
     for (old, new) in old.chunks(256).zip(new.chunks(256)) {
@@ -202,8 +205,8 @@ fn pages_of(old: &[u8], new: &[u8], raised: bool) -> u32 {
     pages
 }
 
-// One for the whole chip where each sector is raised. Else one for each aligned 64 KiB that is raised throughout, for
-// each aligned 32 KiB outside these, and for each sector left.
+// Returns the fewest erases: one for the whole chip if each sector is raised. Otherwise one for each aligned 64 KiB
+// with only raised sectors, for each such 32 KiB outside these, and for each remaining raised sector.
 fn fewest_erases(sectors: &[Sector], chip: &Chip) -> u64 {
     if are_raised(sectors) {
         return 1;
@@ -235,7 +238,7 @@ fn are_raised(sectors: &[Sector]) -> bool {
     sectors.iter().all(|sector| sector.raised)
 }
 
-/// The sector of this number is touched.
+/// True if the sector with this number is touched.
 pub fn touches(sectors: &[Sector], number: u32) -> bool {
     match sectors.get(number as usize) {
         Some(sector) => sector.touched,
@@ -243,7 +246,7 @@ pub fn touches(sectors: &[Sector], number: u32) -> bool {
     }
 }
 
-/// How many of them are touched.
+/// Returns the number of touched sectors.
 pub fn touched_in(sectors: &[Sector]) -> u64 {
     let mut touched = 0_u64;
     for sector in sectors {

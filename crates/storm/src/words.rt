@@ -1,19 +1,19 @@
-//! What the words of the command line ask for.
+//! The command line's arguments.
 
-/// The cases to be run.
+/// The cases to run.
 #[derive(Clone, Copy)]
 pub struct Job {
-    /// The first and the last of the seeds.
+    /// The first and the last seed.
     pub seeds: (u64, u64),
-    /// The number of each seed's first case.
+    /// The number of the first case of each seed.
     pub first: u64,
-    /// How many cases of each seed.
+    /// The number of cases of each seed.
     pub count: u64,
 }
 
 impl Job {
-    /// `SEED COUNT` asks for so many cases from case 0 on, `SEED COUNT FIRST` from another on. `SEED-LAST` in place of
-    /// a seed asks for them of each seed from one to the other. Other words ask for nothing.
+    /// Parses the arguments. `SEED COUNT` runs `COUNT` cases from case 0 on, `SEED COUNT FIRST` from case `FIRST` on.
+    /// With `SEED-LAST` they are run for each seed from `SEED` to `LAST`. Returns `None` for other arguments.
     pub fn of(words: &[String]) -> Option<Job> {
         match words {
             [seeds, count] => Job::of_numbers(seeds.as_str(), count.as_str(), "0"),

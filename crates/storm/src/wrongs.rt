@@ -1,4 +1,4 @@
-//! What the comparisons must tell. That a case agrees says something only where a wrong byte or line wouldn't.
+//! Checks of the comparisons themselves: agreement means something only if a wrong byte or line is detected.
 
 use crate::cases::Case;
 use crate::checks::{self, Ran};
@@ -10,7 +10,7 @@ use crate::{lines, traces, transactions, verdicts};
 use nor_session::Refusal;
 use std::alloc::Global;
 
-/// Faults where a comparison passes over something wrong.
+/// Returns a fault if a comparison doesn't detect an error.
 pub fn check(alloc: Global) -> Result<(), Fault> {
     check_places()?;
     check_session(alloc)?;
@@ -18,7 +18,7 @@ pub fn check(alloc: Global) -> Result<(), Fault> {
     check_refusal(alloc)
 }
 
-// Faults unless just this was told.
+// Returns a fault unless the comparison returned exactly this difference.
 fn must_tell(told: Result<(), Fault>, what: &'static str) -> Result<(), Fault> {
     match told {
         Err(Fault::Differs(found)) if found == what => Ok(()),
@@ -26,7 +26,7 @@ fn must_tell(told: Result<(), Fault>, what: &'static str) -> Result<(), Fault> {
     }
 }
 
-// A line that is another, one that is missing and one too many are told by their place.
+// Checks that a wrong, a missing and an additional line are reported with their number.
 fn check_places() -> Result<(), Fault> {
     let rows = [
         ("05 > 00\n9f > fe1010\n", None),
@@ -48,7 +48,8 @@ fn check_places() -> Result<(), Fault> {
     Ok(())
 }
 
-// Of an accepted session a wrong byte, and a line more that changes before the seal or erases too much.
+// Checks that these are detected for an accepted session: a wrong byte at the end, a modifying command before the seal,
+// and an erase of too many sectors.
 fn check_session(alloc: Global) -> Result<(), Fault> {
     let case = Case::next(alloc, &mut Dice::new(1, 0))?;
     let ran = checks::run(alloc, &case, Stop::NEVER)?;
@@ -87,7 +88,7 @@ fn check_byte(case: &Case, wanted: &mut Wanted, lines: &str, ran: &Ran) -> Resul
     must_tell(told, "the bytes at the end")
 }
 
-// A stop inside a page program of which the model has one byte less.
+// Checks a stop inside a page program against a model that is sent one byte less.
 fn check_cut(alloc: Global) -> Result<(), Fault> {
     let case = Case::next(alloc, &mut Dice::new(1, 0))?;
     let wanted = Wanted::of_case(alloc, &case)?;
@@ -98,7 +99,8 @@ fn check_cut(alloc: Global) -> Result<(), Fault> {
     check_cut_after(alloc, &case, whole.text(), lines::count(before))
 }
 
-// The first byte of the data follows four other bytes, and differs from the byte of the chip.
+// Sends five bytes of the program: the opcode, the address, and the first data byte, which differs from the chip's
+// byte. The model for the comparison is sent only four.
 fn check_cut_after(alloc: Global, case: &Case, lines: &str, after: u64) -> Result<(), Fault> {
     let stop = Stop {
         cut: Some(5),
@@ -120,7 +122,7 @@ fn model_behind(alloc: Global, case: &Case, lines: &str, stop: Stop) -> Result<M
     Ok(model)
 }
 
-// Of a refused session a line more, and one that changes.
+// Checks that an additional line and a modifying command are detected for a refused session.
 fn check_refusal(alloc: Global) -> Result<(), Fault> {
     let case = Case::next(alloc, &mut Dice::new(1, 18))?;
     let Some(refusal) = verdicts::of_opening(&case) else {
