@@ -1,4 +1,4 @@
--- What a scan has put into a journal so far, whatever the bus.
+-- The records that a scan has written to a journal so far, on every bus.
 use Rattle.std.proofs.Common.{◌≡◌, ◌≤◌, ◌<◌, ◌+◌, ◌/◌, ◌∙◌, ℕ, Bool, false, List, Option, refl, ap, sym, subst, arith}
 use Rattle.std.proofs.lemmas.Bool.Decides.{nat_tests}
 use Rattle.std.specs.Prelude.{Result, Ok, Err, IfErr, IsErrAnd}
@@ -17,8 +17,8 @@ use Rattle.nor_driver.specs.Looks.{IsOpen}
 use Rattle.nor_save.specs.Scanning.{HasBegun, HasBegunWith}
 use Rattle.nor_plan.specs.SectorSet.{none}
 
--- A content went in that was another one at first: the records of just these sectors, all below n, were put behind
--- that. Where something is known of the bus, they have the chip's bytes.
+-- The writer was given the content `first`, and then records of exactly these sectors, all below n. If `known` holds,
+-- the records have the chip's bytes.
 pub record HasAdded {V : Type 0} (state : V → VaultState) (writer : Writer V) (first : Content) (known : Type 0)
     (chip : ℕ → ℕ) (saved : ℕ → Bool) (n : ℕ) : Type 0 where
   pub content : Content
@@ -28,11 +28,12 @@ pub record HasAdded {V : Type 0} (state : V → VaultState) (writer : Writer V) 
   pub set : ((s : ℕ) → is_saved first s ≡ false) → (s : ℕ) → is_saved content s ≡ saved s
   pub saves : known → Saves chip none first → Saves chip saved content
 
--- heads that are equal tell one size
+-- Equal headers have the same size.
 size_of : (one other : Content) → SameHead one other → one.size ≡ other.size
 size_of one other same = ap (λ (c : Content). c.size) same
 
--- A writer has still the same vault, which refused nothing, and just these sectors were put, all below n.
+-- The writer has the same vault as before, which refused nothing, and was given records of exactly these sectors, all
+-- below n.
 pub record HasJournalled {V : Type 0} (state : V → VaultState) (old new : Writer V) (size : ℕ) (bus : BusState)
     (saved : ℕ → Bool) (n : ℕ) : Type 0 where
   pub same_vault : (vault_of new).ghost_name ≡ (vault_of old).ghost_name
@@ -55,7 +56,7 @@ journalled_none {bus = bus} {saved = saved} blank = record {
   };
 }
 
--- the head alone
+-- Only the header was written.
 pub with_none : {V : Type 0} {state : V → VaultState} {writer : Writer V} {id : List ℕ} {unique : Option (List ℕ)}
     {status : List ℕ} {size : ℕ} → HasWritten state writer (empty_content id unique status size)
     → HasBegunWith state writer (empty_content id unique status size) 0 none
@@ -69,11 +70,11 @@ with_none {id = id} {unique = unique} {status = status} {size = size} written = 
   saved = λ s. ap is_some (saved_in-empty_content id unique status size s);
 }
 
--- ---- what follows from what was put
+-- ---- what follows from the records so far
 
 module _ {V : Type 0} {state : V → VaultState} {old new : Writer V} {size n : ℕ} {bus : BusState} {saved : ℕ → Bool}
     (was : HasJournalled state old new size bus saved n) where
-  -- the same sectors, and a bound that is higher
+  -- A higher bound holds for the same sectors, too.
   pub journalled_later : {m : ℕ} {other : ℕ → Bool} → n ≤ m → ((s : ℕ) → other s ≡ saved s)
       → HasJournalled state old new size bus other m
   journalled_later {other = other} above same = record {
@@ -92,7 +93,7 @@ module _ {V : Type 0} {state : V → VaultState} {old new : Writer V} {size n : 
         };
   }
 
-  -- one record more
+  -- One more record was written.
   pub journalled_more : {last : Writer V} {more : ℕ → Bool} {bytes : List ℕ} → n < size / 4096
       → (vault_of last).ghost_name ≡ (vault_of new).ghost_name
       → Accepted (vault_seen state new) (vault_seen state last)
@@ -120,7 +121,7 @@ module _ {V : Type 0} {state : V → VaultState} {old new : Writer V} {size n : 
         };
   }
 
-  -- what that makes of a journal that was begun
+  -- A journal that had only its header before now has records of sectors below n.
   pub begun_on : (head : Content) → head.size ≡ size → HasBegun state old head 0 → HasBegun state new head n
   begun_on head sized begun =
       let size_now = sym (size_of head begun.content begun.same) ∙ sized in
@@ -155,15 +156,15 @@ module _ {V : Type 0} {state : V → VaultState} {old new : Writer V} {size n : 
         next = added.next;
       }
 
--- ---- of a refusal
+-- ---- errors
 
--- what `?` passes on
+-- An error that `?` passes on is the outcome's error.
 pub is_err : {T : Type 0} (outcome : Result T Refusal) (refusal : Refusal)
     → IsErrAnd outcome (λ passed. passed ≡ refusal) → outcome ≡ Err refusal
 is_err (Ok value) refusal is = absurd is
 is_err (Err passed) refusal is = ap Err is
 
--- what holds of a refusal holds of it when it is handed on
+-- A fact about an error also holds for the outcome that passes it on.
 pub err_same : {T : Type 0} (outcome : Result T Refusal) (refusal : Refusal) (promise : Refusal → Type 0)
     → IsErrAnd outcome (λ r. r ≡ refusal) → promise refusal → IfErr outcome promise
 err_same (Ok value) refusal promise is holds = tt

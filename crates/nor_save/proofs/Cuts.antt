@@ -1,4 +1,4 @@
--- What a vault has of a chip's journal: the head, the records, and after a refusal a beginning of it.
+-- The contents of a vault for a chip's journal: the header and records, and after an error a prefix of the journal.
 use Rattle.std.proofs.Common.{◌≡◌, ◌∙◌, ℕ, true, ◌*◌, ◌/◌, ◌%◌, ◌<◌, List, [], refl, ap, sym, arith, ◌≤◌, ◌+◌}
 use Rattle.std.proofs.Common.{◌&&◌, Bool, length, subst}
 use mathlib.Core.Path.{fun_ext}
@@ -35,14 +35,14 @@ use Rattle.nor_journal.specs.Saved.{BeginsText}
 use Rattle.nor_plan.specs.Content.{is_touched, is_raised}
 use Rattle.nor_call.specs.Request.{wanted}
 
--- ---- of a scan
+-- ---- a scan
 
--- what a writer put into a telling vault begins the vault
+-- The bytes of a `telling` vault begin with the bytes that the writer was given.
 put_begins : {V : Type 0} {state : V → VaultState} {writer : Writer V} {c : Content} → HasWritten state writer c
     → (vault_seen state writer).telling ≡ true → StartsWith (front c) (vault_seen state writer).bytes
 put_begins {c = c} written tells = rw (written.put.told tells) (take_all (length (front c)) (front c) (omega arith))
 
--- the records so far are those of the touched sectors below the next one
+-- The records so far are those of the touched sectors below the next sector.
 module _ {V : Type 0} {state : V → VaultState} {writer : Writer V} {head : Content} {chip aim : ℕ → ℕ} {n : ℕ}
     {scanned : Scanned} (right : AreRight aim chip n scanned)
     (kept : HasPutSectors state writer head chip (has scanned.touched) n) where
@@ -59,7 +59,7 @@ module _ {V : Type 0} {state : V → VaultState} {writer : Writer V} {head : Con
   pub kept_below : {total : ℕ} → n ≤ total → HasKeptBelow state writer head chip (is_touched chip aim) total
   kept_below inside = record { bound = n; inside = inside; kept = kept_touched }
 
--- between two records
+-- A stop between two records leaves a prefix of the journal.
 pub cut_between : {V : Type 0} {state : V → VaultState} {writer : Writer V} {head : Content} {chip : ℕ → ℕ}
     {touched : ℕ → Bool} (size : ℕ) → head.size ≡ size → HasKeptBelow state writer head chip touched (size / 4096)
     → HoldsCut (vault_seen state writer) head chip touched (size / 4096)
@@ -68,7 +68,7 @@ cut_between {head = head} {chip = chip} {touched = touched} size sized below = �
     rw (← sized) (begins_whole head chip touched kept.content below.bound _ kept.same kept.saves kept.next
     (rw sized inside) (put_begins kept.written tells))
 
--- within a record
+-- A failure within a record leaves a prefix of the journal.
 pub cut_in_record : {V : Type 0} {state : V → VaultState} {writer : Writer V} {head : Content} {chip : ℕ → ℕ} {n : ℕ}
     {bytes : List ℕ} (vault : VaultState) (touched : ℕ → Bool) (size : ℕ)
     (kept : HasPutSectors state writer head chip (λ s. nat_lt s n && touched s) n) → head.size ≡ size
@@ -83,9 +83,9 @@ cut_in_record {state = state} {writer = writer} {head = head} {chip = chip} {n =
     (may_follow state writer head chip _ n n kept (omega arith) inside) sector (one_more_below touched n is))
     (omega (arith, next_number-with_sector kept.content n bytes)) (omega arith) (holds tells))
 
--- ---- of a chip, by what the opening and the scan tell
+-- ---- a chip, from the identification and the scan
 
--- its touched sectors are sectors of the chip
+-- The touched sectors are sectors of the chip.
 abbrev touched_of : Request → (image : List ℕ) → Chip → (s : ℕ) → Bool
 touched_of request image chip = is_touched chip.bytes (wanted request image chip)
 
@@ -100,16 +100,16 @@ begins_touched : (request : Request) (image bytes : List ℕ) (chip : Chip)
 begins_touched request image bytes chip =
     subst (λ (set : ℕ → Bool). BeginsText (head_of chip) chip.bytes set bytes) (only_touched request image chip)
 
--- the head with these status bytes
+-- The header with these status bytes.
 abbrev pub head_read : Opening → (status : List ℕ) → Content
 head_read opening status = empty_content opening.found.id (Some opening.unique) status opening.found.size
 
 module _ {chip : Chip} {opening : Opening} {old : BusState} (is : IsOpening chip opening) (shows : Shows chip old) where
-  -- the bytes of the chip that the bus has
+  -- The chip on the bus has the same bytes.
   pub same_bytes : old.chip.bytes ≡ chip.bytes
   same_bytes = fun_ext shows.same.bytes
 
-  -- the bus's chip has the size that the opening told
+  -- The chip on the bus has the size that was identified.
   pub is_open : IsOpen opening.found.size old
   is_open = record {
     honest = shows.honest;
@@ -117,7 +117,7 @@ module _ {chip : Chip} {opening : Opening} {old : BusState} (is : IsOpening chip
     same = ap (λ (config : Config). config.size) shows.same.config ∙ sym is.config.size;
   }
 
-  -- the marks are those of the request on this chip
+  -- The marks are those of the request on this chip.
   module _ {request : Request} {image image' : List ℕ} {new : BusState} {scanned : Scanned}
       (scans : Scans request opening.found.size image image' old new scanned) where
     pub touched_right : (s : ℕ) → has scanned.touched s ≡ is_touched chip.bytes (wanted request image chip) s
@@ -129,7 +129,7 @@ module _ {chip : Chip} {opening : Opening} {old : BusState} (is : IsOpening chip
         ∙ only_inside (is_raised chip.bytes (wanted request image chip)) (chip.config.size / 4096) s
         (raised_past request image chip.config.size chip.bytes s (sized_bounds chip.config).blocks)
 
-  -- the head that is written is the chip's
+  -- The header that is written is the chip's.
   pub head_same : {status : List ℕ} → old.chip.kept.two < 128 → status ≡ kept_read opening
       → head_read opening status ≡ head_of chip
   head_same {status = status} small read =
@@ -139,7 +139,7 @@ module _ {chip : Chip} {opening : Opening} {old : BusState} (is : IsOpening chip
       let high : opening.status2 % 128 ≡ chip.kept.two = omega arith in
       cc
 
--- Of each chip with this opening that the bus has, the head went in.
+-- The header of each chip that has this identification and is on the bus was written.
 abbrev pub PutsHead : {V : Type 0} → (V → VaultState) → Writer V → Opening → BusState → Type 0
 PutsHead state writer opening old = (chip : Chip) → IsOpening chip opening → Shows chip old
     → HasPutSectors state writer (head_of chip) old.chip.bytes none 0
@@ -152,19 +152,19 @@ head_put {state = state} {writer = writer} opening old reaches read written = λ
     (HasKept-none state writer opening.found.id (Some opening.unique) _ opening.found.size old.chip.bytes none 0
     written (λ s. refl))
 
--- What holds behind every head of a chip of this size that went in.
+-- The promise holds for every header of a chip of this size that the writer was given.
 abbrev pub FromHead : {V : Type 0} → (V → VaultState) → Writer V → (size : ℕ) → BusState → (Content → Type 0) → Type 0
 FromHead state writer size old promise = IsOpen size old → (head : Content) → head.size ≡ size
     → HasPutSectors state writer head old.chip.bytes none 0 → promise head
 
--- It holds behind the chip's.
+-- A promise that holds for every such header holds for the header of the chip itself.
 pub from_head : {V : Type 0} {state : V → VaultState} {writer : Writer V} {opening : Opening} {old : BusState}
     {promise : Content → Type 0} → PutsHead state writer opening old
     → FromHead state writer opening.found.size old promise → (chip : Chip) → IsOpening chip opening → Shows chip old
     → promise (head_of chip)
 from_head puts told chip is shows = told (is_open is shows) (head_of chip) (sym is.config.size) (puts chip is shows)
 
--- a judgement of the scan tells of the touched sectors
+-- An error of the check after the scan is an error for the chip with these touched sectors.
 pub judged_tells : {request : Request} {opening : Opening} {image image' : List ℕ} {old new : BusState}
     {scanned : Scanned} (code : ℕ) (refusal : Refusal) → Scans request opening.found.size image image' old new scanned
     → IsScanRefusal refusal
@@ -176,9 +176,9 @@ judged_tells {image = image} code (Protected address) scans is judges =
     λ chip opened shows accepts. judges chip image opened accepts (touched_right opened shows scans)
 judged_tells code _ scans is judges = absurd is
 
--- ---- what is cut of its journal
+-- ---- a truncated journal
 
--- within the head
+-- A failure within the header leaves a prefix of the journal.
 pub cut_in_head : (request : Request) (image : List ℕ) (seen vault : VaultState) {opening : Opening} {status : List ℕ}
     {old : BusState} → (old.honest ≡ true → IsChip old.chip) → status ≡ kept_read opening
     → IsContent (head_read opening status) → HoldsBeginning seen (front (head_read opening status)) → seen ≡ vault
@@ -195,7 +195,7 @@ cut_in_head request image seen vault reaches read content holds same =
 
 module _ {V : Type 0} {state : V → VaultState} {first : Writer V} {opening : Opening} {old : BusState}
     (request : Request) (image : List ℕ) (vault : VaultState) (puts : PutsHead state first opening old) where
-  -- within the scan
+  -- A failure within the scan leaves a prefix of the journal.
   pub cut_in_scan : (seen : VaultState) → FromHead state first opening.found.size old (λ head.
       HoldsCut seen head old.chip.bytes (is_touched old.chip.bytes (wanted_at request image opening.found.size
       old.chip.bytes)) (opening.found.size / 4096)) → seen ≡ vault → SaveCuts request opening image old vault
@@ -203,7 +203,7 @@ module _ {V : Type 0} {state : V → VaultState} {first : Writer V} {opening : O
       begins_touched request image seen.bytes chip
       (rw (same_bytes is shows, is.config.size) at (from_head puts told chip is shows tells)))
 
-  -- where the scan stops by itself
+  -- An error of the scan other than 11 leaves complete records.
   pub begins_scan : {last : Writer V} {refusal : Refusal} → FromHead state first opening.found.size old (λ head.
       refusal ≢ Vault → HasKeptBelow state last head old.chip.bytes (is_touched old.chip.bytes (wanted_at request image
       opening.found.size old.chip.bytes)) (opening.found.size / 4096)) → vault_seen state last ≡ vault
@@ -220,13 +220,13 @@ module _ {V : Type 0} {state : V → VaultState} {first : Writer V} {opening : O
         is = kept.written.put.told tells;
       })
 
--- once all was scanned
+-- The whole chip was scanned.
 module _ {V : Type 0} {state : V → VaultState} {first last : Writer V} {request : Request} {opening : Opening}
     {image image' : List ℕ} {old new : BusState} {scanned : Scanned} (puts : PutsHead state first opening old)
     (scans : Scans request opening.found.size image image' old new scanned)
     (keeps : FromHead state first opening.found.size old (λ head. HasPutSectors state last head old.chip.bytes
     (has scanned.touched) (opening.found.size / 4096))) where
-  -- the head and the records are those of the chip
+  -- The header and the records are the chip's.
   pub all_put : (chip : Chip) → IsOpening chip opening → Shows chip old → HasPutSectors state last (head_of chip)
       chip.bytes (is_touched chip.bytes (wanted request image chip)) (opening.found.size / 4096)
   all_put chip is shows = rw (same_bytes is shows, fun_ext (touched_right is shows scans)) at

@@ -1,4 +1,4 @@
--- What the opening read of protection is the chip's.
+-- The protection bits that the identification read are the chip's.
 use Rattle.std.proofs.Common.{◌≡◌, ◌∷◌, [], ℕ, ◌/◌, arith}
 use Rattle.std.proofs.lemmas.Bool.Decides.{nat_tests}
 use Rattle.nor_chip.specs.Chip.{Chip, KeptBits, is_locked, kept_in}

@@ -1,5 +1,5 @@
--- A request has one verdict: what the opening and the scan judge, each in its order, is the first refusal that holds, and
--- what they accept is refused for nothing.
+-- A request has one verdict: the error that the check of the identification or of the touched sectors returns is the
+-- first that applies, and if both accept the request, no error applies.
 use Rattle.std.proofs.Common.{◌≡◌, ◌≢◌, ◌<◌, ◌≤◌, ◌*◌, ◌∙◌, ℕ, Bool, true, false, List, length, Err, refl, sym, arith, rules}
 use Rattle.std.proofs.Common.{Option, None, Some}
 use mathlib.Core.Path.{fun_ext}
@@ -25,19 +25,20 @@ use Rattle.nor_save.specs.Saving.{AsksForNone, NeedsStatus, NoneHeld, SomeHeld, 
 use Rattle.nor_save.specs.Verdict.{IsNamed, NeedsStatusWrite, RefusalHolds, IsVerdict, IsAccepted, NoneHoldsTo, OpeningAccepts, ScanAccepts}
 use Rattle.nor_save.proofs.Planned.{untouched}
 
--- ---- what the code judges, in its order
+-- ---- what the code checks, in order
 
--- Where bytes are asked for the image has as many as the chip, and each included address is on the chip.
+-- For a write or an erase the image is as long as the chip, and each included address is on the chip.
 pub record FitsChip (request : Request) (image : ℕ) (chip : Chip) : Type 0 where
   pub image_size : is_data request.what ≡ true → image ≡ chip.config.size
   pub regions : is_data request.what ≡ true → ¬ ReachesPast request.included chip.config.size
 
--- Where a protection range is asked for the chip has block protection, and if it has any its code is a defined one.
+-- For a protection range the chip has block protection. If the chip has block protection, its protection bits are
+-- defined.
 pub record FitsProtection (request : Request) (chip : Chip) : Type 0 where
   pub scheme : is_data request.what ≡ false → chip.config.scheme ≡ true
   pub defined : chip.config.scheme ≡ true → is_undefined (code_of chip.kept) ≡ false
 
--- what the opening's refusals tell, against an image of so many bytes
+-- The meaning of the errors of the identification's check, for an image of this length.
 abbrev pub OpeningJudges : Request → (image : ℕ) → Chip → Refusal → Type 0
 OpeningJudges request image chip (ImageSize size len) =
     (is_data request.what ≡ true) × (size ≡ chip.config.size) × (len ≡ image) × (image ≢ chip.config.size)
@@ -49,13 +50,13 @@ OpeningJudges request image chip UndefinedProtection =
 OpeningJudges request image chip RangeNotOffered = FitsProtection request chip × AsksForNone request.what chip
 OpeningJudges request image chip _ = ⊥
 
--- It refuses nothing, and the wanted code is this one.
+-- No error of the identification's check applies, and these are the target protection bits.
 pub record OpeningPasses (request : Request) (image : ℕ) (chip : Chip) (code : ℕ) : Type 0 where
   pub fits : FitsChip request image chip
   pub protection : FitsProtection request chip
   pub is_wanted : IsWantedCode request.what chip code
 
--- what the scan's refusals tell, once the touched sectors are known
+-- The meaning of the errors of the check after the scan, when the touched sectors are known.
 abbrev pub ScanJudges : Request → (code : ℕ) → (touched : ℕ → Bool) → Chip → Refusal → Type 0
 ScanJudges request code touched chip StatusLocked =
     (is_locked chip.kept ≡ true) × NeedsStatus request.what request.unlock code touched chip
@@ -63,15 +64,16 @@ ScanJudges request code touched chip (Protected address) =
     (request.unlock ≡ false) × (sector : ℕ) × (address ≡ 4096 * sector) × IsLeastHeld touched chip sector
 ScanJudges request code touched chip _ = ⊥
 
--- It refuses nothing, and lifts protection only where that is asked for and needed.
+-- No error of the check after the scan applies, and protection is lifted only if the request allows it and it is
+-- needed.
 pub record ScanPasses (request : Request) (code : ℕ) (touched : ℕ → Bool) (chip : Chip) (unlock : Bool) : Type 0 where
   pub lifts : unlock ≡ true → (request.unlock ≡ true) × SomeHeld touched chip
   pub free : unlock ≡ false → NoneHeld touched chip
   pub not_locked : is_locked chip.kept ≡ true → ¬ NeedsStatus request.what request.unlock code touched chip
 
--- ---- what is asked for
+-- ---- the request
 
--- what asks for a range that no code guards asks for no bytes
+-- A request for a range that no protection bits select is not a write or an erase.
 asks_for_range : (what : What) (chip : Chip) → AsksForNone what chip → is_data what ≡ false
 asks_for_range (WpRange start len) chip none = refl
 asks_for_range _ chip none = absurd none
@@ -80,7 +82,7 @@ none_or_code : (what : What) (chip : Chip) (code : ℕ) → AsksForNone what chi
 none_or_code (WpRange start len) chip code none wanted = none code wanted.defined wanted.guards
 none_or_code _ chip code none wanted = none
 
--- there is one least code
+-- There is only one least value of the protection bits.
 one_least : (size start len x y : ℕ) → IsLeastCode size start len x → IsLeastCode size start len y → x ≡ y
 one_least size start len x y first second =
     let above = λ (lower : x < y). second.least x lower first.defined first.guards in
@@ -93,7 +95,7 @@ needs_same (WpRange start len) unlock x y touched chip first second needs =
     rw (one_least _ _ _ x y first second) at needs
 needs_same _ unlock x y touched chip first second needs = needs
 
--- a request that touches a sector is about bytes
+-- A request that touches a sector is a write or an erase.
 pub touched_data : (request : Request) (image : List ℕ) (chip : Chip) (s : ℕ)
     → is_touched chip.bytes (wanted request image chip) s ≡ true → is_data request.what ≡ true
 unfolding is_touched
@@ -101,19 +103,19 @@ touched_data request image chip s touched = true_from_ne_false (is_data request.
     both_ways (is_touched chip.bytes (wanted request image chip) s)
     (rw range (untouched chip.bytes chip.bytes s (λ i below. refl))) touched)
 
--- where protection isn't to be lifted, a request about bytes writes no status
+-- Without `unlock` a write or an erase writes no status.
 needs_unlock : (what : What) (unlock : Bool) (code : ℕ) (touched : ℕ → Bool) (chip : Chip) → is_data what ≡ true
     → unlock ≡ false → ¬ NeedsStatus what unlock code touched chip
 needs_unlock (WpRange start len) unlock code touched chip about_bytes off needs = absurd cc
 needs_unlock _ unlock code touched chip about_bytes off needs = let on = needs.0 in absurd cc
 
--- protection that isn't asked to be lifted isn't
+-- Protection is not lifted unless the request sets `unlock`.
 never_lifted : (unlock lifted : Bool) → (lifted ≡ true → unlock ≡ true) → unlock ≡ false → lifted ≡ false
 never_lifted unlock lifted asked off = grind arith
 
--- ---- none below a number
+-- ---- no error below a number
 
--- None of the refusals below this number holds, which is 9 at most.
+-- No error with a number below n applies, and n is at most 9.
 pub record IsClear (request : Request) (image : List ℕ) (chip : Chip) (n : ℕ) : Type 0 where
   pub few : n ≤ 9
   pub there : 1 < n → shown_as chip.config ≢ Err Probes.NoChip
@@ -150,7 +152,7 @@ module _ {request : Request} {image : List ℕ} {chip : Chip} where
       → RefusalHolds request image chip refusal → IsVerdict request image chip refusal
   first_of refusal is holds = record { holds = holds; first = λ other. none_below other is }
 
-  -- ---- the opening's refusals
+  -- ---- the errors of the identification's check
 
   pub opening_judged : (refusal : Refusal) → IsNamed request.named chip.config
       → OpeningJudges request (length image) chip refusal → IsVerdict request image chip refusal
@@ -173,9 +175,9 @@ module _ {request : Request} {image : List ℕ} {chip : Chip} where
       let clear : IsClear request image chip 9 = search (rules, arith) in
       record { clear = λ refusal low. none_below refusal clear (omega arith); is_wanted = passes.is_wanted }
 
--- ---- the scan's, behind them
+-- ---- the errors of the check after the scan
 
--- a sector is held where the least that is was found
+-- Some touched sector is protected if and only if the first such sector was found.
 pub held_told : (touched : ℕ → Bool) (chip : Chip) (found : Option ℕ)
     → MatchOption found (NoneHeld touched chip) (IsLeastHeld touched chip)
     → MatchBool (is_some found) (SomeHeld touched chip) (NoneHeld touched chip)
@@ -183,22 +185,22 @@ held_told touched chip None none = none
 held_told touched chip (Some s) least = record { sector = s; held = least.is }
 
 module _ (request : Request) (image : List ℕ) (chip : Chip) where
-  -- the sectors that the request touches
+  -- The sectors that the request touches.
   abbrev touches : (s : ℕ) → Bool
   touches = is_touched chip.bytes (wanted request image chip)
 
-  -- a status write that is needed needs the wanted code
+  -- A status write that is needed is needed for these target protection bits.
   needs_code : {code : ℕ} → OpeningAccepts request image chip code → NeedsStatusWrite request image chip
       → NeedsStatus request.what request.unlock code touches chip
   needs_code accepts needs = needs_same request.what _ needs.0 _ _ chip needs.1 accepts.is_wanted needs.2
 
-  -- a request that isn't to lift protection needs none where it touches a sector
+  -- A request without `unlock` that touches a protected sector needs no status write.
   never_needed : (s : ℕ) → request.unlock ≡ false → is_held touches chip s ≡ true → ¬ NeedsStatusWrite request image chip
   never_needed s off held needs =
       let touched = (and_parts (touches s) (is_unit_guarded chip (4096 * s) 4096) held).0 in
       needs_unlock request.what request.unlock needs.0 _ chip (touched_data request image chip s touched) off needs.2
 
-  -- no refusal below a number holds where none up to 8 does, nor those of the scan
+  -- No error below a number applies if none up to 8 does, and none of the scan's below that number does.
   scan_first : (n : ℕ) (refusal : Refusal) → NoneHoldsTo 8 request image chip
       → (9 < n → ¬ RefusalHolds request image chip StatusLocked)
       → (10 < n → (address : ℕ) → ¬ RefusalHolds request image chip (Protected address))

@@ -1,4 +1,4 @@
--- What is wanted at an address, and what a sector's plan says.
+-- The target byte at an address, and the plan of a sector.
 use Rattle.std.proofs.Common.{◌≡◌, ◌<◌, ◌≤◌, ◌+◌, ◌*◌, ◌/◌, ◌%◌, ◌∙◌, ℕ, Bool, true, false, ◌&&◌, List, length, slice_index}
 use Rattle.std.proofs.Common.{Option, ap, sym, arith, inl, inr, refl, bit_and}
 use Rattle.std.specs.Int.Bits.{and_self}
@@ -23,13 +23,13 @@ use Rattle.nor_count.specs.Below.{any_below}
 use Rattle.nor_count.proofs.Counting.{any_below-all}
 use Rattle.nor_count.proofs.Verdicts.{any_below-decided}
 
--- a request about bytes may change what it includes of the chip
+-- For a write or an erase an address of the chip may change if and only if it is included.
 pub may_change-included : (request : Request) (size a : ℕ) → is_data request.what ≡ true → a < size → is_requested request size a ≡ includes request.included a
 may_change-included request size a about_bytes below =
     ap (λ (b : Bool). b && (nat_lt a size && includes request.included a)) about_bytes
     ∙ ap (λ (b : Bool). b && includes request.included a) (lt-ltb a size below)
 
--- where nothing may change, what is there is wanted
+-- An address that may not change has its present byte as target.
 pub wanted-kept : (request : Request) (image : List ℕ) (size : ℕ) (content : ℕ → ℕ) (a : ℕ) → is_requested request size a ≡ false → wanted_at request image size content a ≡ content a
 wanted-kept request image size content a fixed = ap (λ (b : Bool). if b then target request.what image a else content a) fixed
 
@@ -39,7 +39,7 @@ other a b differ = not_from_false (a == b) (ne_eqb a b differ)
 as_wanted : (a b : ℕ) → a ≡ b → is_other a b ≡ false
 as_wanted a b same = not_from_true (a == b) (eq-eqb a b same)
 
--- the test of each place in a plan
+-- The plan's `touched` and `raised` are tests of each byte of the sector.
 verdicts : (here aim : ℕ → ℕ) (plan : SectorPlan) → IsPlan here aim 4096 plan
     → (plan.touched ≡ any_below 4096 (λ i. is_other (here i) (aim i)))
     × (plan.raised ≡ any_below 4096 (λ i. must_rise (here i) (aim i)))
@@ -56,7 +56,7 @@ pub planned : (content aim : ℕ → ℕ) (sector : ℕ) (plan : SectorPlan) →
 unfolding is_touched is_raised
 planned content aim sector plan = verdicts (λ i. content (4096 * sector + i)) (λ i. aim (4096 * sector + i)) plan
 
--- a sector in which all is as wanted has nothing to do
+-- A sector whose bytes equal the target is neither touched nor raised.
 pub untouched : (content aim : ℕ → ℕ) (sector : ℕ) → ((i : ℕ) → i < 4096 → aim (4096 * sector + i) ≡ content (4096 * sector + i)) → is_touched content aim sector ≡ false
 unfolding is_touched
 untouched content aim sector same = any_below-all 4096 _ (λ i below. as_wanted _ _ (sym (same i below)))
@@ -66,7 +66,7 @@ unfolding is_raised
 unraised content aim sector same = any_below-all 4096 _
     (λ i below. as_wanted _ _ (ap (bit_and (aim (4096 * sector + i))) (sym (same i below)) ∙ and_self _))
 
--- past the end of a chip nothing is wanted otherwise, so a touched sector, or a raised one, is one of the chip
+-- Addresses past the end of the chip don't change, so a touched or raised sector is on the chip.
 past_kept : (request : Request) (image : List ℕ) (size : ℕ) (content : ℕ → ℕ) (s : ℕ) → size % 65536 ≡ 0 → size / 4096 ≤ s
     → (i : ℕ) → i < 4096 → wanted_at request image size content (4096 * s + i) ≡ content (4096 * s + i)
 past_kept request image size content s blocks past i below =
@@ -98,13 +98,14 @@ module _ (request : Request) (image : List ℕ) (size : ℕ) (content : ℕ → 
   pub raised_inside : is_raised content (wanted_at request image size content) s ≡ true → s < size / 4096
   raised_inside = inside_from (is_raised content (wanted_at request image size content)) (size / 4096) s raised_past
 
--- the image's byte, or FFh, is the target
+-- The target byte is the image's, or FFh for an erase.
 pub target-write : (what : What) (image : List ℕ) (a : ℕ) → is_data what ≡ true → (what ≡ Erase → ⊥) → slice_index image a ≡ target what image a
 target-write Write image a about_bytes other = refl
 target-write Erase image a about_bytes other = absurd (other refl)
 target-write (WpRange start len) image a about_bytes other = absurd (let d = about_bytes in cc)
 
--- A sector was read, its part of the image filled where it may not change, and the two compared.
+-- The effect of reading a sector, copying the bytes that may not change into its part of the image, and comparing the
+-- two.
 pub scans_sector : (request : Request) (size sector : ℕ) (included : Option (List Span)) (part filled part' bytes : List ℕ) (old new : BusState) (plan : SectorPlan)
     → is_data request.what ≡ true → 4096 * sector + 4096 ≤ size → included ≡ request.included → length bytes ≡ 4096 → length part' ≡ 4096
     → ((image : List ℕ) (a i : ℕ) → i < 4096 → slice_index part i ≡ slice_index image a → slice_index filled i ≡ target request.what image a)

@@ -1,4 +1,4 @@
--- What a scan has found so far.
+-- The findings of a scan so far.
 use Rattle.std.proofs.Common.{◌≡◌, ◌<◌, ◌≤◌, ◌+◌, ◌-◌, ◌*◌, ◌/◌, ◌%◌, ◌&&◌, ◌||◌, ◌∙◌, ℕ, Bool, true, false, List}
 use Rattle.std.proofs.Common.{Option, take, drop, length, slice_index, refl, ap, sym, subst, arith, inl, inr}
 use Rattle.std.specs.Prelude.{if◌then◌else◌, ◌==◌, nat_lt}
@@ -31,7 +31,7 @@ use Rattle.nor_chip.proofs.Sizes.{is_chip_size-in_blocks}
 use Rattle.nor_layout.specs.declared.ranges.Span.{Span}
 use borrow.Rule.Slice.PartMut.{put_mid}
 
--- The sectors below n were scanned, and no byte of the image from there on was changed.
+-- The sectors below n were scanned, and no byte of the image from sector n on was changed.
 pub record HasScanned (request : Request) (size n : ℕ) (image image' : List ℕ) (old new : BusState)
     (scanned : Scanned) : Type 0 where
   pub marks : AreMarks n scanned
@@ -44,7 +44,7 @@ pub record HasScanned (request : Request) (size n : ℕ) (image image' : List �
 
 -- ---- marks
 
--- one number more was tested
+-- One more number was tested.
 tested : (n s : ℕ) (test : ℕ → Bool) {verdict old new : Bool} → verdict ≡ test n → old ≡ (nat_lt s n && test s)
     → new ≡ ((verdict && (s == n)) || old) → new ≡ (nat_lt s (n + 1) && test s)
 tested n s test {verdict} {old} {new} is was inserted = grind (arith, nat_tests)
@@ -64,7 +64,7 @@ counted n plan old new false is below are marked =
     λ s low. sym (rw is at (marked.touched s)) in
     omega (arith, are.count, count_below-same 4096 (has old.touched) (has new.touched) same)
 
--- a sector more was marked
+-- One more sector was marked.
 pub marks_more : (n : ℕ) (plan : SectorPlan) (old new : Scanned) → n < 4096
     → (plan.raised ≡ true → plan.touched ≡ true) → AreMarks n old → HasMarked n plan old new → AreMarks (n + 1) new
 marks_more n plan old new below needed are marked = record {
@@ -73,7 +73,7 @@ marks_more n plan old new below needed are marked = record {
   count = marked.count ∙ counted n plan old new plan.touched refl below are marked;
 }
 
--- a touched sector is one more
+-- A touched sector is added to the set.
 pub marked_more : (n : ℕ) (plan : SectorPlan) (old new : Scanned) → plan.touched ≡ true → HasMarked n plan old new
     → HasOneMore (has old.touched) n (has new.touched)
 marked_more n plan old new touched marked = record {
@@ -81,21 +81,21 @@ marked_more n plan old new touched marked = record {
   others = λ s other. rw (marked.touched s, touched, ne_eqb s n other);
 }
 
--- another is none
+-- A sector that isn't touched leaves the set as it was.
 pub marked_none : (n : ℕ) (plan : SectorPlan) (old new : Scanned) → plan.touched ≡ false → HasMarked n plan old new
     → (s : ℕ) → has new.touched s ≡ has old.touched s
 marked_none n plan old new untouched marked s = rw untouched at (marked.touched s)
 
 -- ---- from sector to sector
 
--- A sector of the chip that the loop is at, and whether it holds an address that may change.
+-- The loop is at this sector of the chip; `verdict` is whether the sector has an included address.
 pub record IsAt (request : Request) (size n : ℕ) (verdict : Bool) : Type 0 where
   pub about_bytes : is_data request.what ≡ true
   pub below : n < size / 4096
   pub small : size ≤ 16777216
   pub included : has_in_sector (includes request.included) n ≡ verdict
 
--- by the loop's bound and its test
+-- `IsAt` follows from the loop's bound and its test.
 pub is_at : {request : Request} {size n sectors : ℕ} {included : Option (List Span)} {test verdict : Bool}
     → is_chip_size size ≡ true → (0 < sectors → (is_data request.what ≡ true) × (sectors ≡ size / 4096))
     → n < sectors → included ≡ request.included → test ≡ has_in_sector (includes included) n → test ≡ verdict
@@ -109,7 +109,7 @@ is_at {size = size} sized aims within same is so =
       included = rw (← same) (sym is ∙ so);
     }
 
--- nothing was scanned yet
+-- Nothing was scanned yet.
 pub nothing_scanned : (request : Request) (size : ℕ) (image : List ℕ) (state : BusState) (scanned : Scanned)
     → IsBlank scanned → HasScanned request size 0 image image state state scanned
 nothing_scanned request size image state scanned blank = record {
@@ -137,11 +137,11 @@ opened_later size reads old mid is_open looked =
       same = ap (λ (config : Config). config.size) was.same.config ∙ is_open.same;
     }
 
--- ---- what follows from what was scanned
+-- ---- what follows from the sectors scanned so far
 
 module _ {request : Request} {size n : ℕ} {image image' : List ℕ} {old mid : BusState} {scanned : Scanned}
     (was : HasScanned request size n image image' old mid scanned) where
-  -- a sector in which nothing may change was passed over
+  -- A sector without an included address was skipped.
   pub skipped : IsAt request size n false → NoneInSector (includes request.included) n
       → HasScanned request size (n + 1) image image' old mid scanned
   skipped at excluded =
@@ -175,7 +175,7 @@ module _ {request : Request} {size n : ℕ} {image image' : List ℕ} {old mid :
   same_before : IsOpen size old → mid.chip.bytes ≡ old.chip.bytes
   same_before is_open = fun_ext (was.looked.rested is_open.honest).unchanged.same.bytes
 
-  -- a sector of which a part of the image was cut out was read
+  -- A sector was read, with its part of the image.
   module _ {width : ℕ} {part' bytes : List ℕ} {plan : SectorPlan} {new : BusState} (at : IsAt request size n true)
       (scans : ScansSector request size n (take width (drop (4096 * n) image')) part' bytes mid new plan)
       (exact : width ≡ 4096) where
@@ -183,20 +183,20 @@ module _ {request : Request} {size n : ℕ} {image image' : List ℕ} {old mid :
         → slice_index (take width (drop (4096 * n) image')) i ≡ slice_index image (4096 * n + i)
     of_image i below = cut_out image' (4096 * n) width i exact below ∙ was.rest (4096 * n + i) (omega arith)
 
-    -- its plan is that of the chip as it was before the scan
+    -- The plan is that of the chip as it was before the scan.
     pub planned_before : IsOpen size old
         → (plan.touched ≡ is_touched old.chip.bytes (wanted_at request image size old.chip.bytes) n)
         × (plan.raised ≡ is_raised old.chip.bytes (wanted_at request image size old.chip.bytes) n)
     planned_before is_open = rw (same_before is_open) at (scans.planned (later is_open) image of_image)
 
-    -- so are its bytes
+    -- The bytes read are those of the chip as it was before the scan.
     pub read_before : length bytes ≡ 4096 → IsOpen size old → IsWholeSector old.chip.bytes n bytes
     read_before long is_open = record {
       whole = long;
       same = rw (same_before is_open) at (scans.shown (later is_open)).byte;
     }
 
-    -- a sector more was scanned
+    -- One more sector was scanned.
     pub scanned_more : {next : Scanned} → Looks 1 mid new → HasMarked n plan scanned next → length part' ≡ 4096
         → length image' ≡ size
         → HasScanned request size (n + 1) image (put_mid (4096 * n) width image' part') old new next
@@ -234,7 +234,7 @@ module _ {request : Request} {size n : ℕ} {image image' : List ℕ} {old mid :
           rest = λ a above. put.outside a (λ same. absurd (omega arith)) ∙ was.rest a (omega arith);
         }
 
-  -- a sector that is included is one of those that are scanned
+  -- A sector with an included address is one of those that the scan reads.
   pub room : IsAt request size n true → scanned.reads < scanned_sectors request size
   room at =
       let test = has_in_sector (includes request.included) in
@@ -248,7 +248,7 @@ module _ {request : Request} {size n : ℕ} {image image' : List ℕ} {old mid :
         count_below-add (n + 1) (size / 4096 - (n + 1)) test,
       ))
 
-  -- the end
+  -- The end of the scan.
   scans_of : scanned.count ≤ scanned.reads → AreMarks (size / 4096) scanned
       → scanned.reads ≡ scanned_sectors request size → (IsOpen size old
       → AreRight (wanted_at request image size old.chip.bytes) old.chip.bytes (size / 4096) scanned)
@@ -264,14 +264,14 @@ module _ {request : Request} {size n : ℕ} {image image' : List ℕ} {old mid :
     merged = was.merged;
   }
 
-  -- a request about bytes was carried to the last sector
+  -- For a write or an erase the loop reached the last sector.
   pub all_scanned : is_data request.what ≡ true → n ≡ size / 4096 → scanned.count ≤ scanned.reads
       → Scans request size image image' old mid scanned
   all_scanned about_bytes end few =
       scans_of few (rw (← end) was.marks) (rw (about_bytes, ← end) was.reads)
       (λ is_open. rw (← end) (was.right is_open))
 
-  -- a request about protection has nothing to scan
+  -- A protection range has nothing to scan.
   pub none_to_scan : is_data request.what ≡ false → n ≡ 0 → scanned.count ≤ scanned.reads
       → Scans request size image image' old mid scanned
   none_to_scan other at_first few =

@@ -1,4 +1,4 @@
--- Which refusals are judged where, on every bus, and when protection is lifted.
+-- Which errors the two checks of a request return, on every bus, and when protection is lifted.
 use Rattle.std.specs.Prelude.{◌≡◌, ℕ, Bool, true, List, length, Option, Result, IfOk, IfErr, MatchBool, MatchOption, ⊤}
 use Rattle.nor_chip.specs.Chip.{Chip, kept_in}
 use Rattle.nor_chip.specs.Guard.{code_of}
@@ -19,7 +19,7 @@ use Rattle.nor_save.specs.Verdict.{IsNamed, IsVerdict, OpeningAccepts, ScanAccep
 
 -- ---- on every bus
 
--- by the opening
+-- Errors 4 to 8, which the check against the identification may return.
 abbrev pub IsOpeningRefusal : Refusal → Type 0
 IsOpeningRefusal (ImageSize chip image) = ⊤
 IsOpeningRefusal RegionOutside = ⊤
@@ -34,52 +34,56 @@ abbrev pub IsFoundCode : What → Opening → ℕ → Type 0
 IsFoundCode (WpRange start len) opening code = IsLeastCode opening.found.size start len code
 IsFoundCode _ opening code = code ≡ code_of (kept_in (status_read opening))
 
--- by the scan
+-- Errors 9 and 10, which the check against the touched sectors may return.
 abbrev pub IsScanRefusal : Refusal → Type 0
 IsScanRefusal StatusLocked = ⊤
 IsScanRefusal (Protected address) = ⊤
 IsScanRefusal _ = ⊥
 
--- protection is lifted only where the request says so, and some sector is touched
+-- Protection is lifted only if the request sets `unlock`, and some sector is touched.
 abbrev pub Lifts : Request → SectorSet → Bool → Type 0
 Lifts request touched unlock = unlock ≡ true → (request.unlock ≡ true) × HasSome touched
 
--- ---- of each chip that has this opening
+-- ---- for each chip with this identification
 
--- a request against an image of so many bytes is accepted with this code only where that is right
+-- If a request with an image of this length is accepted, then `OpeningAccepts` holds for each identified chip that has
+-- the requested name, with the returned protection bits.
 abbrev pub AcceptsOpening : Request → ℕ → Opening → Result ℕ Refusal → Type 0
 AcceptsOpening request len opening judged = (chip : Chip) (image : List ℕ) → IsOpening chip opening
     → IsNamed request.named chip.config → length image ≡ len → IfOk judged (OpeningAccepts request image chip)
 
--- and a refusal is the verdict
+-- If the request is refused, the error is the verdict for each identified chip that has the requested name.
 abbrev pub RefusesOpening : Request → ℕ → Opening → Result ℕ Refusal → Type 0
 RefusesOpening request len opening judged = (chip : Chip) (image : List ℕ) → IsOpening chip opening
     → IsNamed request.named chip.config → length image ≡ len → IfErr judged (IsVerdict request image chip)
 
--- none of these sectors holds a guarded place, or this is the least that does
+-- The result is the first touched sector with a protected address, or `None` if there is no such sector.
 abbrev pub FindsHeld : (ℕ → Bool) → Opening → Option ℕ → Type 0
 FindsHeld touched opening found =
     (chip : Chip) → IsOpening chip opening → MatchOption found (NoneHeld touched chip) (IsLeastHeld touched chip)
 
--- where it is known whether one of the touched sectors does, it is told whether a status write is needed
+-- If `is_held` says correctly whether a touched sector is protected, then `needed` says correctly whether a status
+-- write is needed.
 abbrev pub FindsNeed : Request → Opening → Bool → ℕ → Bool → Type 0
 FindsNeed request opening is_held code needed = (chip : Chip) (touched : ℕ → Bool) → IsOpening chip opening
     → MatchBool is_held (SomeHeld touched chip) (NoneHeld touched chip)
     → MatchBool needed (NeedsStatus request.what request.unlock code touched chip)
     (¬ NeedsStatus request.what request.unlock code touched chip)
 
--- of each such chip that has these touched sectors, and of which the opening was accepted with this code
+-- The promise holds for each identified chip that has these touched sectors, if the identification was accepted with
+-- these protection bits.
 abbrev pub OfTouched : Request → Opening → ℕ → (ℕ → Bool) → (List ℕ → Chip → Type 0) → Type 0
 OfTouched request opening code touched promise = (chip : Chip) (image : List ℕ) → IsOpening chip opening
     → OpeningAccepts request image chip code
     → ((s : ℕ) → touched s ≡ is_touched chip.bytes (wanted request image chip) s) → promise image chip
 
--- the touched sectors are accepted, and protection is lifted, only where that is right
+-- If the touched sectors are accepted, then `ScanAccepts` holds for each such chip, with the returned choice whether to
+-- lift protection.
 abbrev pub AcceptsScan : Request → Opening → ℕ → (ℕ → Bool) → Result Bool Refusal → Type 0
 AcceptsScan request opening code touched judged =
     OfTouched request opening code touched (λ image chip. IfOk judged (ScanAccepts request image chip))
 
--- and a refusal is the verdict
+-- If the touched sectors are refused, the error is the verdict for each such chip.
 abbrev pub RefusesScan : Request → Opening → ℕ → (ℕ → Bool) → Result Bool Refusal → Type 0
 RefusesScan request opening code touched judged =
     OfTouched request opening code touched (λ image chip. IfErr judged (IsVerdict request image chip))

@@ -1,4 +1,4 @@
--- What the scan with its journal leaves.
+-- The effect of a scan that writes a journal.
 use Rattle.std.specs.Prelude.{◌≡◌, ◌≢◌, ◌/◌, ◌&&◌, ℕ, Bool, true, nat_lt, List, slice_index, Result, Ok, Err, ⊤}
 use Rattle.nor_journal.specs.Text.{Content, IsContent, SameHead, front, text}
 use Rattle.nor_chip.specs.Chip.{Chip}
@@ -19,8 +19,8 @@ use Rattle.nor_save.specs.Judging.{Lifts}
 use Rattle.nor_save.specs.Saving.{IsOpening, Shows, head_of}
 use Rattle.nor_save.specs.Verdict.{IsVerdict, OpeningAccepts, ScanAccepts}
 
--- What is left of the vault: sealed at the end; unsealed at a refusal, which is one more failure where it is the
--- vault's.
+-- The vault after `save`: sealed after success, and unsealed after an error. Its count of failures is one higher after
+-- error 11.
 abbrev pub SavePuts : Result SavedScan Refusal → (old new : VaultState) → Type 0
 SavePuts (Ok saved) old new = Completed old new
 SavePuts (Err Vault) old new = Refused old new
@@ -40,13 +40,13 @@ pub record IsJournalOf (head : Content) (sectors : ℕ → Bool) (bytes : List �
   pub head_same : SameHead head content
   pub saved : (s : ℕ) → is_saved content s ≡ sectors s
 
--- once it is sealed a telling vault has a journal, whatever the bus
+-- A sealed `telling` vault holds a journal, on every bus.
 abbrev pub HoldsJournal : VaultState → Type 0
 HoldsJournal vault = vault.sealed ≡ true → vault.telling ≡ true → IsJournal vault.bytes
 
--- Of a chip with this opening: the marks are those of the touched and the raised sectors, nothing is refused of them,
--- the image has what is wanted of the touched ones, and a telling vault has the journal of the chip, which saves just
--- these.
+-- The result for a chip with this identification: the marks are the touched and the raised sectors, and the image has
+-- the target bytes of the touched sectors. If the identification accepted the request, no error applies to it. A
+-- `telling` vault holds the journal of the chip, which saves exactly the touched sectors.
 pub record HasSavedChip (request : Request) (code : ℕ) (image image' : List ℕ)
     (chip : Chip) (vault : VaultState) (saved : SavedScan) : Type 0 where
   pub touched : (s : ℕ) → has saved.scanned.touched s ≡ is_touched chip.bytes (wanted request image chip) s
@@ -57,7 +57,8 @@ pub record HasSavedChip (request : Request) (code : ℕ) (image image' : List �
   pub journal : vault.telling ≡ true
       → JournalSaves (head_of chip) chip.bytes (is_touched chip.bytes (wanted request image chip)) vault.bytes
 
--- The touched sectors are known, may be changed, and stand in the journal.
+-- The effect of `save` if it succeeds. `chip` holds only if the bus is honest and shows an idle chip with this
+-- identification.
 pub record HasSaved (request : Request) (opening : Opening) (code : ℕ) (image image' : List ℕ)
     (old new : BusState) (vault : VaultState) (saved : SavedScan) : Type 0 where
   pub lifts : Lifts request saved.scanned.touched saved.unlock
@@ -65,7 +66,8 @@ pub record HasSaved (request : Request) (opening : Opening) (code : ℕ) (image 
   pub chip : (chip : Chip) → IsOpening chip opening → Shows chip old
       → HasSavedChip request code image image' chip vault saved
 
--- a refusal is the verdict on each chip with this opening that the opening accepted
+-- The error is the verdict for each chip with this identification that the bus shows, idle, if the identification
+-- accepted the request.
 abbrev pub JudgesChip : Request → Opening → ℕ → List ℕ → BusState → Refusal → Type 0
 JudgesChip request opening code image old refusal =
     (chip : Chip) → IsOpening chip opening → Shows chip old → OpeningAccepts request image chip code
@@ -80,8 +82,7 @@ SaveTells request opening code image old new (Protected address) =
     JudgesChip request opening code image old (Protected address)
 SaveTells request opening code image old new _ = ⊥
 
--- A beginning of the journal of a chip in which these sectors are touched: its head, and the records of those that lie
--- below some bound.
+-- The bytes are the header of a journal and the records of the touched sectors below some bound.
 pub record BeginsJournal (head : Content) (old : ℕ → ℕ) (touched : ℕ → Bool) (bytes : List ℕ) : Type 0 where
   pub content : Content
   pub bound : ℕ
@@ -89,13 +90,14 @@ pub record BeginsJournal (head : Content) (old : ℕ → ℕ) (touched : ℕ →
   pub saves : Saves old (λ s. nat_lt s bound && touched s) content
   pub is : bytes ≡ front content
 
--- what a telling vault has after any refusal, its own too: a beginning of the one journal of a chip with this opening
+-- The contents of a `telling` vault after any error, including 11: a prefix of the journal of the chip that the bus
+-- shows, if it has this identification.
 abbrev pub SaveCuts : Request → Opening → List ℕ → BusState → VaultState → Type 0
 SaveCuts request opening image old vault = vault.telling ≡ true
     → (chip : Chip) → IsOpening chip opening → Shows chip old
     → BeginsText (head_of chip) chip.bytes (is_touched chip.bytes (wanted request image chip)) vault.bytes
 
--- what a telling vault has after a refusal that isn't its own
+-- The contents of a `telling` vault after an error other than 11: the header and complete records.
 abbrev pub SaveBegins : Request → Opening → List ℕ → BusState → VaultState → Refusal → Type 0
 SaveBegins request opening image old vault refusal = refusal ≢ Vault → vault.telling ≡ true
     → (chip : Chip) → IsOpening chip opening → Shows chip old

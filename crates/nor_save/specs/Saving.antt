@@ -1,4 +1,4 @@
--- What an opening shows of a chip, what a request asks of it, and what a session saves.
+-- How a chip, its identification and a request are related, and the header of the chip's journal.
 use Rattle.std.specs.Prelude.{◌≡◌, ◌≢◌, ◌<◌, ◌*◌, ◌/◌, ◌&&◌, ℕ, Bool, true, false, Some, [], ◌∷◌, ◌%◌, List}
 use Rattle.nor_chip.specs.Chip.{Chip, IsSame}
 use Rattle.nor_chip.specs.Bus.{BusState}
@@ -11,7 +11,7 @@ use Rattle.nor_save.specs.declared.opening.Opening.{Opening}
 use Rattle.nor_call.specs.declared.request.What.{What}
 use Rattle.nor_call.specs.declared.request.What.TheVariants.{WpRange}
 
--- The opening has the configuration, the kept bits and the own number of a chip.
+-- The identification has the configuration, the non-volatile status bits and the unique ID of the chip.
 pub record IsOpening (chip : Chip) (opening : Opening) : Type 0 where
   pub config : IsConfigOf chip.config opening.found
   pub one : opening.found.status1 / 4 ≡ chip.kept.one
@@ -24,51 +24,52 @@ pub record Shows (chip : Chip) (state : BusState) : Type 0 where
   pub idle : state.chip.busy ≡ 0
   pub same : IsSame chip state.chip
 
--- ---- what is asked for
+-- ---- the request
 
--- a protection range is asked for that no code guards
+-- The request is for a protection range that no defined protection bits select.
 abbrev pub AsksForNone : What → Chip → Type 0
 AsksForNone (WpRange start len) chip = IsNotOffered chip.config.size start len
 AsksForNone _ chip = ⊥
 
--- ---- what the touched sectors ask for
+-- ---- the touched sectors
 
--- a sector is held: it is touched, and some place of it is guarded
+-- True if the sector is touched and has a protected address.
 abbrev pub is_held : (touched : ℕ → Bool) → Chip → (s : ℕ) → Bool
 is_held touched chip s = touched s && is_unit_guarded chip (4096 * s) 4096
 
--- the first of the held sectors
+-- The first sector that is touched and has a protected address.
 pub record IsLeastHeld (touched : ℕ → Bool) (chip : Chip) (s : ℕ) : Type 0 where
   pub is : is_held touched chip s ≡ true
   pub least : (t : ℕ) → t < s → is_held touched chip t ≡ false
 
--- no touched sector is guarded
+-- No touched sector has a protected address.
 abbrev pub NoneHeld : (touched : ℕ → Bool) → Chip → Type 0
 NoneHeld touched chip = (s : ℕ) → is_held touched chip s ≡ false
 
--- a touched sector is guarded
+-- Some touched sector has a protected address.
 pub record SomeHeld (touched : ℕ → Bool) (chip : Chip) : Type 0 where
   pub sector : ℕ
   pub held : is_held touched chip sector ≡ true
 
--- A status write is needed: a range wants another code, or protection of a touched sector is to be lifted.
+-- A status write is needed: the target protection bits of a range differ from the chip's, or a touched sector is
+-- protected and `unlock` is set.
 abbrev pub NeedsStatus : What → (unlock : Bool) → (code : ℕ) → (touched : ℕ → Bool) → Chip → Type 0
 NeedsStatus (WpRange start len) unlock code touched chip = code ≢ code_of chip.kept
 NeedsStatus _ unlock code touched chip = (unlock ≡ true) × SomeHeld touched chip
 
--- ---- what is saved
+-- ---- the journal
 
--- the non-volatile bits of the two status bytes that the identification read
+-- The non-volatile bits of the two status bytes that the identification read.
 abbrev pub kept_read : Opening → List ℕ
 kept_read opening = (opening.found.status1 / 4 * 4) ∷ (opening.status2 % 128) ∷ []
 
--- the header of the journal that is written after this identification: ID, unique ID, non-volatile status bits and size,
--- as they were read
+-- The header of the journal that is written after this identification: ID, unique ID, non-volatile status bits and size,
+-- as they were read.
 abbrev pub head_found : Opening → Content
 head_found opening =
     empty_content opening.found.id (Some opening.unique) (kept_read opening) opening.found.size
 
--- the head of a chip's journal: ID, own number, kept bits, size
+-- The header of a chip's journal: ID, unique ID, non-volatile status bits and size.
 abbrev pub head_of : Chip → Content
 head_of chip =
     empty_content (id_of chip.config) (Some (unique_of chip.config)) ((4 * chip.kept.one) ∷ chip.kept.two ∷ [])

@@ -1,5 +1,5 @@
--- The verdict on a request: of the refusals from 1 to 10 that hold of a chip the one with the least number, or that it
--- is accepted.
+-- The verdict on a request: the error with the lowest number of those from 1 to 10 that apply, or that the request is
+-- accepted.
 use Rattle.std.specs.Prelude.{◌≡◌, ◌≢◌, ◌<◌, ◌≤◌, ◌*◌, ℕ, Bool, true, false, List, length, Err}
 use Rattle.nor_chip.specs.Chip.{Chip, is_locked}
 use Rattle.nor_chip.specs.Guard.{code_of, is_undefined}
@@ -16,12 +16,12 @@ use Rattle.nor_call.specs.Refusal.{number_of}
 use Rattle.nor_call.specs.Request.{is_data, IsWantedCode, wanted}
 use Rattle.nor_save.specs.Saving.{AsksForNone, NeedsStatus, IsLeastHeld, NoneHeld, SomeHeld}
 
--- the request needs a status write on the chip
+-- The request needs a status write on the chip.
 abbrev pub NeedsStatusWrite : Request → (image : List ℕ) → Chip → Type 0
 NeedsStatusWrite request image chip = (code : ℕ) × IsWantedCode request.what chip code
     × NeedsStatus request.what request.unlock code (is_touched chip.bytes (wanted request image chip)) chip
 
--- A refusal holds of a request and a chip, whatever others do.
+-- Holds if the error applies to the request and the chip, regardless of other errors.
 abbrev pub RefusalHolds : Request → (image : List ℕ) → Chip → Refusal → Type 0
 RefusalHolds request image chip NoChip = shown_as chip.config ≡ Err Probes.NoChip
 RefusalHolds request image chip (UnknownChip fault) = shown_as chip.config ≡ Err (Probes.UnknownChip fault)
@@ -40,27 +40,28 @@ RefusalHolds request image chip (Protected address) = (request.unlock ≡ false)
     × IsLeastHeld (is_touched chip.bytes (wanted request image chip)) chip sector
 RefusalHolds request image chip _ = ⊥
 
--- The refusal is the verdict: it holds, and none with a lower number does.
+-- The error is the verdict: it applies, and no error with a lower number does.
 pub record IsVerdict (request : Request) (image : List ℕ) (chip : Chip) (refusal : Refusal) : Type 0 where
   pub holds : RefusalHolds request image chip refusal
   pub first : (other : Refusal) → number_of other < number_of refusal → ¬ RefusalHolds request image chip other
 
--- the verdict is "accepted": no refusal holds
+-- The request is accepted: no error applies.
 abbrev pub IsAccepted : Request → (image : List ℕ) → Chip → Type 0
 IsAccepted request image chip = (refusal : Refusal) → ¬ RefusalHolds request image chip refusal
 
--- none of the refusals up to this number holds
+-- No error with a number up to this one applies.
 abbrev pub NoneHoldsTo : (number : ℕ) → Request → (image : List ℕ) → Chip → Type 0
 NoneHoldsTo number request image chip =
     (refusal : Refusal) → number_of refusal ≤ number → ¬ RefusalHolds request image chip refusal
 
--- What the opening shows is accepted: none of the refusals holds that it judges, and the wanted code is this one.
+-- The identification accepts the request: none of the errors 1 to 8 applies, and `code` is the target's protection
+-- bits.
 pub record OpeningAccepts (request : Request) (image : List ℕ) (chip : Chip) (code : ℕ) : Type 0 where
   pub clear : NoneHoldsTo 8 request image chip
   pub is_wanted : IsWantedCode request.what chip code
 
--- So are the touched sectors: `unlock` tells whether protection is to be lifted, which the request must ask for and a
--- held sector need, and where it isn't, no sector is held.
+-- The touched sectors are accepted as well: no error applies. `unlock` is set only if the request allows it and a
+-- touched sector is protected; if it is not set, no touched sector is protected.
 pub record ScanAccepts (request : Request) (image : List ℕ) (chip : Chip) (unlock : Bool) : Type 0 where
   pub accepted : IsAccepted request image chip
   pub lifts : unlock ≡ true

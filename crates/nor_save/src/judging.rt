@@ -1,4 +1,4 @@
-//! Which requests are refused, and why.
+//! Checks whether a request is accepted, and with which error it is refused otherwise.
 ghost use Rattle.std.specs.Prelude.{◌≡◌, ◌<◌, ◌≤◌, ◌*◌, ◌/◌, ◌==◌, ℕ, Bool, true, false, length, IfOk, IfErr, IfSome, IfNone, MatchOption, MatchBool, IsTrue};
 ghost use Rattle.nor_chip.specs.Chip.{Chip, kept_in};
 ghost use Rattle.nor_chip.specs.Guard.{is_undefined, guarded_by, code_of};
@@ -15,7 +15,12 @@ use nor_chip::{SECTOR_LEN, code_for, unit_protected};
 use nor_layout::reaches_past;
 use nor_plan::SectorSet;
 
-/// Judges a request by what the opening found, against an image of so many bytes. Answers the wanted protection code.
+/// Checks a request against the identification. `image` is the image's length in bytes. Returns the target protection
+/// bits as a number below 64; for a write or an erase these are the chip's own.
+///
+/// Returns error 4 (the image isn't as long as the chip) or 5 (an included address isn't on the chip) for a write or an
+/// erase, and 6 (no block protection) or 8 (a range that no protection bits select) for a protection range. For each
+/// request it returns 7 if the chip's protection bits are undefined.
 #[tactic(auto, using(crate::proofs::Held::code_same, crate::proofs::OneVerdict::opening_judged, crate::proofs::OneVerdict::opening_accepted))]
 pub fn judge_opening(request: &Request, opening: &Opening, image: usize) -> Result<u8, Refusal>
     requires { IsTrue (is_chip_size opening.now.found.size) }
@@ -57,7 +62,7 @@ pub fn judge_opening(request: &Request, opening: &Opening, image: usize) -> Resu
     }
 }
 
-/// The least sector of a set that holds a guarded place.
+/// Returns the first sector of `touched` that has a protected address, or `None`.
 #[tactic(auto, using(crate::proofs::Held::code_same))]
 pub fn first_held(touched: &SectorSet, opening: &Opening) -> Option<u32>
     requires sized { IsTrue (is_chip_size opening.now.found.size) }
@@ -80,7 +85,8 @@ pub fn first_held(touched: &SectorSet, opening: &Opening) -> Option<u32>
     None
 }
 
-// A status write is needed: a range wants another code, or protection of a held sector is to be lifted.
+// Returns true if the status registers must be written: the target protection bits of a range differ from the chip's,
+// or `unlock` is set and a touched sector is protected (`is_held`).
 fn needs_status(request: &Request, opening: &Opening, is_held: bool, code: u8) -> bool
     ensures { FindsNeed request.now opening.now is_held code result }
 {
@@ -90,7 +96,11 @@ fn needs_status(request: &Request, opening: &Opening, is_held: bool, code: u8) -
     }
 }
 
-/// Judges a request by the touched sectors. Answers whether protection is to be lifted.
+/// Checks a request against the touched sectors. `code` is the result of `judge_opening`. Returns whether protection
+/// must be lifted.
+///
+/// Returns error 9 if the status registers must be written and are locked, or 10 if a touched sector is protected and
+/// the request doesn't unlock. Error 10 has the address of the first such sector.
 #[tactic(auto, using(crate::proofs::OneVerdict::scan_judged, crate::proofs::OneVerdict::scan_accepted))]
 pub fn judge_scan(
     request: &Request,

@@ -1,5 +1,10 @@
-//! What a session finds and saves of a chip before it changes anything: the scan that judges each sector and puts the
-//! touched ones into the journal.
+//! The part of a session before the first modifying command: identifies the chip, checks the request, scans the
+//! sectors, and writes the touched ones to the journal. nor_session adds the changes.
+//!
+//! - `opening.rt`: the identification, for sessions and restores
+//! - `judging.rt`: checks a request against the identification, and against the touched sectors
+//! - `scanning.rt`: reads the sectors, and finds those that the session will touch
+//! - `saving.rt`: scans, checks, and seals the journal
 //!
 //! ```rust
 //! use nor_chip::{Config, Delays, Meter, SimBus};
@@ -22,8 +27,8 @@
 //! assert!(rt; vault.is_sealed());
 //! ```
 //!
-//! What the opening tells stands in `specs/Opening.antt`, which requests are refused in `Verdict`, and what is saved in
-//! `SavedScan`.
+//! `specs/Opening.antt` defines what the identification returns, `specs/Verdict.antt` which requests are refused, and
+//! `specs/SavedScan.antt` what is saved.
 #![tactic(auto)]
 
 mod judging;

@@ -1,4 +1,5 @@
-//! How every session and restore begins: the chip is found, and its second status register and own number are read.
+//! The identification with which every session and restore begins: finds the chip, and reads status 2 and the unique
+//! ID.
 ghost use Rattle.std.specs.Prelude.{◌≡◌, ◌≤◌, IfOk, IfErr, OnErr};
 ghost use Rattle.nor_chip.specs.Status.{bytes_of};
 ghost use Rattle.nor_driver.specs.Looks.{Looks, RanOutIfHonest};
@@ -11,18 +12,18 @@ use nor_chip::{Bus, Status, Stopped};
 use nor_driver::{read_status2, read_unique};
 use nor_probe::{ChipName, Found, Probed, probe_counted};
 
-/// What the opening read.
+/// The result of the identification.
 #[derive(Clone, Copy)]
 pub struct Opening {
     pub found: Found,
     pub status2: u8,
     pub unique: [u8; 8],
-    /// How many transactions were sent.
+    /// The number of transactions sent.
     pub transactions: u64,
 }
 
 impl Opening {
-    /// Both status registers.
+    /// Returns both status registers as they were read.
     pub fn status(&self) -> Status
         ensures { bytes_of result ≡ status_read self.now }
     {
@@ -30,7 +31,11 @@ impl Opening {
     }
 }
 
-/// Finds the chip, and reads status 2 and the unique ID.
+/// Waits until the chip is ready, finds it by its ID or SFDP, and reads status 2 and the unique ID. With `named` the
+/// chip must have this name. It sends at most 65,542 transactions on an honest bus.
+///
+/// Returns error 1 (no chip), 2 (unknown chip), 3 (other name), 12 (the bus stopped) or 13 with address 0 (the chip
+/// stayed busy; not on an honest bus).
 pub fn open<B: Bus>(bus: &mut B, named: Option<ChipName>) -> Result<Opening, Refusal>
     ensures leaves { Looks most_opening (B.state bus.old) (B.state bus.new) }
     ensures opens { IfOk result (Opens named (B.state bus.old) (B.state bus.new)) }
@@ -41,7 +46,8 @@ pub fn open<B: Bus>(bus: &mut B, named: Option<ChipName>) -> Result<Opening, Ref
     Ok(opening)
 }
 
-/// Reads status 2 and the unique ID of the chip that was found.
+/// Reads status 2 and the unique ID of the chip that was found, with two transactions. `Stopped` on an honest bus means
+/// that fewer than two were left.
 pub fn read_on<B: Bus>(bus: &mut B, probed: Probed) -> Result<Opening, Stopped>
     requires { probed.transactions ≤ most_probe }
     ensures leaves { Looks 2 (B.state bus.old) (B.state bus.new) }

@@ -1,4 +1,4 @@
-//! What a session saves before it changes anything: the sealed journal of the chip.
+//! Scans the chip and saves what a session will change, before anything is changed.
 ghost use Rattle.std.specs.Prelude.{◌≡◌, ◌/◌, true, length, IfOk, IfErr, OnErr, IsTrue};
 ghost use Rattle.nor_chip.specs.Size.{is_chip_size};
 ghost use Rattle.nor_driver.specs.Looks.{Looks};
@@ -15,15 +15,24 @@ use crate::{Refusal, Request};
 use nor_chip::Bus;
 use nor_journal::{Vault, Writer};
 
-/// What was found and saved.
+/// The result of the scan, when the journal is sealed.
 #[derive(Clone, Copy)]
 pub struct SavedScan {
     pub scanned: Scanned,
-    /// Protection is to be lifted.
+    /// Protection must be lifted.
     pub unlock: bool,
 }
 
-/// Scans the chip, judges what would change, and saves the touched sectors into the vault, which is sealed then.
+/// Scans the chip, checks what would change, writes the touched sectors to the vault, and seals it. `vault` must be
+/// empty and unsealed; for a write or an erase `image` must be as long as the chip. `code` is the result of
+/// `judge_opening`.
+///
+/// No modifying command is sent. If the bus is honest and shows the identified chip, idle, then success sets the
+/// image's touched sectors to the target bytes, and a `telling` vault holds a journal of exactly the touched sectors.
+///
+/// Returns error 9, 10 (both are the verdict on such a chip if `judge_opening` accepted it), 11 (the vault failed) or
+/// 12 (the bus stopped). After an error the vault is unsealed. If it is `telling` and the bus shows such a chip, it
+/// holds a prefix of the journal; after errors other than 11 that prefix ends after a complete record or the header.
 pub fn save<B: Bus, V: Vault>(
     bus: &mut B,
     vault: &mut V,

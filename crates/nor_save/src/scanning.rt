@@ -1,4 +1,4 @@
-//! What is read before anything is changed.
+//! Reads the sectors of a chip before anything is changed, and finds those that a session will touch.
 ghost use Rattle.std.specs.Prelude.{◌≡◌, ◌≢◌, ◌<◌, ◌≤◌, ◌+◌, ◌*◌, ◌/◌, true, false, length, IfOk, IfErr, OnErr, IsTrue};
 ghost use Rattle.nor_chip.specs.Size.{is_chip_size};
 ghost use Rattle.nor_driver.specs.Looks.{Looks, RanOutIfHonest, IsOpen};
@@ -18,8 +18,8 @@ use nor_journal::{Vault, Writer};
 use nor_layout::{fill_excluded, includes_in_sector};
 use nor_plan::{Plan, SectorPlan, SectorSet};
 
-/// What a scan found: the sectors in which a byte isn't the wanted one, those of them that have to be erased, how many
-/// are touched, and how many were read.
+/// The result of a scan: the touched sectors, in which some byte differs from the target; the raised sectors, which
+/// must be erased; how many sectors are touched; and how many were read.
 #[derive(Clone, Copy)]
 pub struct Scanned {
     pub touched: SectorSet,
@@ -29,7 +29,7 @@ pub struct Scanned {
 }
 
 impl Scanned {
-    /// No sector was read yet.
+    /// Returns the result before any sector was read.
     pub fn none() -> Scanned
         ensures { IsBlank result }
     {
@@ -41,7 +41,7 @@ impl Scanned {
         }
     }
 
-    /// Takes in the plan of a sector that was read.
+    /// Adds the plan of a sector that was read.
     pub fn mark(&mut self, sector: u32, plan: SectorPlan)
         requires reachable { sector < 4096 }
         requires room { self.old.count ≤ self.old.reads }
@@ -59,7 +59,8 @@ impl Scanned {
     }
 }
 
-/// Reads a sector that holds an address which may change, takes what may not into the image's part, and plans it.
+/// Reads a sector with an included address, copies the bytes that may not change into that sector's part of the image,
+/// and compares the two. For an erase the part is filled with FFh first.
 fn scan_sector<B: Bus>(
     bus: &mut B,
     request: &Request,
@@ -85,8 +86,10 @@ fn scan_sector<B: Bus>(
     Ok(Plan::of(&*bytes, &*part))
 }
 
-/// Reads each sector that holds an address which may change, rising, takes what may not change into the image, and puts
-/// the touched sectors into the journal.
+/// Reads each sector with an included address, in ascending order, copies the bytes that may not change into the image,
+/// and writes the touched sectors to the journal. A protection range has no sectors to read.
+///
+/// Returns error 11 (the vault failed) or 12 (the bus stopped).
 pub fn scan_all<B: Bus, V: Vault>(
     bus: &mut B,
     writer: &mut Writer<'_, V>,

@@ -4,6 +4,6 @@ use Rattle.nor_plan.specs.SectorSet.{has}
 use Rattle.nor_save.specs.Saving.{IsOpening, is_held}
 use Rattle.nor_save.proofs.judging.first_held.Given as goal
 
--- no sector that was passed is held
+-- No sector before this one is touched and protected.
 abbrev pub invariant-loop-sector : goal.invariant-loop-sector
 invariant-loop-sector l = (chip : Chip) → IsOpening chip l.opening → (s : ℕ) → s < l.sector → is_held (has l.touched) chip s ≡ false
