@@ -1,4 +1,4 @@
--- A copy grows by a piece after the other, until it is whole, or the vault refuses one.
+-- A copy grows piece by piece, until it is whole or the vault refuses a piece.
 use Rattle.std.proofs.Common.{◌≡◌, ◌≤◌, ◌<◌, ◌+◌, ◌-◌, ◌*◌, ◌++◌, ◌∙◌, ℕ, true, List, [], length, slice_index, take}
 use Rattle.std.proofs.Common.{Option, refl, ap, sym, arith, inl, inr, append_assoc, append-nil, length-append}
 use Rattle.std.specs.Prelude.{◌/◌}
@@ -17,7 +17,7 @@ use Rattle.nor_call.specs.declared.refusal.Refusal.TheVariants.{Output}
 use Rattle.nor_read.specs.Reading.{copied, Grows, Copies, ReadsPiece, ReadsAll, CopyTells, PutTells}
 use Rattle.nor_read.proofs.Onward.{has_looked, looked_on, open_on, same_bytes}
 
--- So many bytes went into a vault; where something is known of the bus, they are the first ones of the copy.
+-- The vault has `count` bytes more. If `known` holds, these are the first ones of the copy.
 pub record CopiesIf (known : Type 0) (included : Option (List Span)) (content : ℕ → ℕ) (count : ℕ)
     (old new : VaultState) : Type 0 where
   pub grows : Grows count old new
@@ -49,7 +49,7 @@ copied_none included size state vault = record {
   };
 }
 
--- so many bytes more
+-- The vault accepted more bytes.
 module _ {known : Type 0} {included : Option (List Span)} {content : ℕ → ℕ} {m : ℕ} {vault mid new : VaultState} where
   copies_more : (k count : ℕ) (part : List ℕ) → m + k ≡ count → CopiesIf known included content m vault mid
       → length part ≡ k → new.bytes ≡ mid.bytes ++ part
@@ -81,7 +81,7 @@ module _ {included : Option (List Span)} {size n reads more : ℕ} {bytes : List
   looked_all : HasLooked (reads + more) old new
   looked_all = looked_on has.looked (has_looked looks piece.rested piece.fell piece.heard)
 
-  -- its bytes are those of the copy
+  -- The bytes of the piece are those of the copy.
   piece_right : IsOpen size old → (i : ℕ) → i < 65536
       → slice_index bytes i ≡ copied included old.chip.bytes (65536 * n + i)
   piece_right is_open i small =
@@ -89,7 +89,7 @@ module _ {included : Option (List Span)} {size n reads more : ℕ} {bytes : List
       let same = now.same in
       rw (same_bytes (has.looked.rested is_open.honest)) at (piece.right now.honest now.idle (omega arith) i small)
 
-  -- the vault took it
+  -- The vault accepted the piece.
   pub copied_more : {later : VaultState} → Took now bytes later
       → HasCopied included size (n + 1) old new vault later (reads + more)
   copied_more took = record {
@@ -101,7 +101,7 @@ module _ {included : Option (List Span)} {size n reads more : ℕ} {bytes : List
         (took.bytes (has.accepted.telling ∙ telling)) piece_right;
   }
 
-  -- it refused it, and tells where
+  -- The vault refused the piece, and the error has the number of bytes accepted.
   pub copy_fails : (later : VaultState) (refusal : Refusal) → PutTells n bytes now later refusal
       → CopyTells included size old new vault later refusal
   copy_fails later (Output written) tells =
@@ -123,7 +123,7 @@ module _ {included : Option (List Span)} {size n reads more : ℕ} {bytes : List
       }
   copy_fails later _ put = absurd put
 
--- all of them
+-- All pieces were copied.
 pub copied_all : {included : Option (List Span)} {size n reads : ℕ} {old new : BusState} {vault vault' : VaultState}
     → 65536 * n ≡ size → HasCopied included size n old new vault vault' reads → reads ≡ sectors_included included size
     → ReadsAll included size old new vault vault' reads

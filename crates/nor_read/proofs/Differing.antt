@@ -1,4 +1,4 @@
--- The first difference, sector by sector.
+-- The first difference, found sector by sector.
 use Rattle.std.proofs.Common.{◌≡◌, ◌≤◌, ◌<◌, ◌+◌, ◌-◌, ◌*◌, ◌∙◌, ℕ, Bool, true, false, List, length, slice_index}
 use Rattle.std.proofs.Common.{Option, Some, None, subst, sym, arith}
 use Rattle.std.specs.Prelude.{◌/◌, MatchBool, if◌then◌else◌}
@@ -17,7 +17,7 @@ use Rattle.nor_read.proofs.Onward.{has_looked, looked_on, open_on, same_bytes}
 
 -- ---- one sector
 
--- what holds at each place of a sector holds at each of its addresses
+-- A fact about each position in a sector is a fact about each address of the sector.
 in_sector : (Holds : ℕ → Type 0) (sector : ℕ) → ((i : ℕ) → i < 4096 → Holds (4096 * sector + i)) → (a : ℕ)
     → 4096 * sector ≤ a → a < 4096 * (sector + 1) → Holds a
 in_sector Holds sector each a above below =
@@ -25,19 +25,19 @@ in_sector Holds sector each a above below =
     let at : 4096 * sector + i ≡ a = omega arith in
     subst Holds at (each i (omega arith))
 
--- what a comparison is made of: a sector's bytes, with those of the image where none is included
+-- The bytes that are compared: the sector's, with the image's bytes in place of those that aren't included.
 module _ (included : Option (List Span)) (image : List ℕ) (sector : ℕ) (bytes filled part : List ℕ)
     (long : length filled ≡ 4096)
     (cut : (i : ℕ) → i < 4096 → slice_index part i ≡ slice_index image (4096 * sector + i))
     (fills : (i : ℕ) → i < 4096 → slice_index filled i
     ≡ (if includes included (4096 * sector + i) then slice_index bytes i else slice_index part i))
     (content : ℕ → ℕ) (read : AreOfSector content sector bytes) where
-  -- an included byte is the one that was read
+  -- An included byte is the one that was read.
   filled_in : (i : ℕ) → i < 4096 → includes included (4096 * sector + i) ≡ true
       → slice_index filled i ≡ content (4096 * sector + i)
   filled_in i small inside = rw inside at (fills i small) ∙ read i small
 
-  -- so far the bytes agree
+  -- The bytes agree up to this position.
   agree_to : (most : ℕ) → ((i : ℕ) → i < 4096 → i < most → slice_index filled i ≡ slice_index part i) → (a : ℕ)
       → 4096 * sector ≤ a → a < 4096 * (sector + 1) → a < 4096 * sector + most → includes included a ≡ true
       → slice_index image a ≡ content a
@@ -64,7 +64,7 @@ module _ (included : Option (List Span)) (image : List ℕ) (sector : ℕ) (byte
             agree_to first (λ i low before. difference.before i before) a above (omega arith) below;
       }
 
--- a sector without an included address isn't read, and none of its addresses differs
+-- A sector without an included address isn't read, and has no difference.
 pub part_skipped : (included : Option (List Span)) (image : List ℕ) (sector : ℕ) (told : Bool) (state : BusState)
     → told ≡ false → told ≡ has_in_sector (includes included) sector
     → MatchBool told (SomeInSector (includes included) sector) (NoneInSector (includes included) sector)
@@ -87,7 +87,7 @@ module _ (included : Option (List Span)) (image : List ℕ) (content : ℕ → �
       → AgreeIn included image content from to
   agree_more to low high a above below inside = grind (arith, low, high)
 
-  -- the first difference of two parts
+  -- The first difference in two ranges, one after the other.
   tells_more : (to : ℕ) (first second : Option ℕ) → from ≤ mid → mid ≤ to
       → TellsFirst included image content from mid first → TellsFirst included image content mid to second
       → TellsFirst included image content from to (option_or first second)

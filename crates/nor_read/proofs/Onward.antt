@@ -1,4 +1,4 @@
--- Readings that follow one another, of which some sent nothing.
+-- Calls that only read, one after the other. Some of them send nothing.
 use Rattle.std.proofs.Common.{◌≡◌, ◌+◌, ℕ, true, arith}
 use mathlib.Core.Path.{fun_ext}
 use Rattle.nor_chip.specs.Bus.{BusState}
@@ -7,21 +7,21 @@ use Rattle.nor_driver.specs.Ready.{StaysReady}
 use Rattle.nor_driver.specs.Looks.{Rested, Looks, IsOpen}
 use Rattle.nor_driver.proofs.RestsInTurn.{HasLooked, rested_then}
 
--- a step that succeeded
+-- A step that succeeded.
 pub has_looked : {most more : ℕ} {old new : BusState} → Looks most old new → (old.honest ≡ true → Rested old new)
     → (old.honest ≡ true → old.left ≡ new.left + more) → StaysReady old new → HasLooked more old new
 has_looked looks rested fell heard = assumption
 
--- .. and one more
+-- One more step after it.
 pub looked_on : {reads more : ℕ} {old mid new : BusState} → HasLooked reads old mid → HasLooked more mid new
     → HasLooked (reads + more) old new
 looked_on {reads} {more} {old} {mid} {new} has next =
     grind (arith, nature_then old mid new next.nature has.nature, rested_then old mid new)
 
--- readings leave the bytes as they are
+-- A successful read leaves the bytes as they are.
 pub same_bytes : {old new : BusState} → Rested old new → new.chip.bytes ≡ old.chip.bytes
 same_bytes rested = fun_ext rested.unchanged.same.bytes
 
--- an idle chip stays one, of the same size
+-- An idle chip stays idle, and keeps its size.
 pub open_on : {size reads : ℕ} {old mid : BusState} → IsOpen size old → HasLooked reads old mid → IsOpen size mid
 open_on is_open looked = let was = (looked.rested is_open.honest).unchanged in search arith

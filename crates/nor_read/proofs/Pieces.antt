@@ -1,4 +1,4 @@
--- A piece of the copy grows by a sector after the other.
+-- A piece of the copy grows sector by sector.
 use Rattle.std.proofs.Common.{◌≡◌, ◌≤◌, ◌<◌, ◌+◌, ◌-◌, ◌*◌, ◌∙◌, ℕ, true, List, length, slice_index, Option, refl}
 use Rattle.std.proofs.Common.{arith, inl, inr}
 use Rattle.std.proofs.lemmas.Bool.{cases_lt}
@@ -28,7 +28,7 @@ pub pieced_none : (included : Option (List Span)) (piece : ℕ) (bytes : List �
     → HasPieced included piece 0 bytes state state 0
 pieced_none included piece bytes state = grind (arith, has_looked-none state)
 
--- a sector more
+-- One more sector.
 module _ {included : Option (List Span)} {piece k reads more : ℕ} {bytes part : List ℕ} {old mid new : BusState} where
   pub pieced_more : (width : ℕ) → k < 16 → width ≡ 4096 → length bytes ≡ 65536 → length part ≡ 4096
       → HasPieced included piece k bytes old mid reads → Looks 1 mid new
@@ -56,7 +56,7 @@ module _ {included : Option (List Span)} {piece k reads more : ℕ} {bytes part 
             ];
       }
 
--- all sixteen
+-- All sixteen sectors.
 pub pieced_all : {included : Option (List Span)} {piece k reads : ℕ} {bytes : List ℕ} {old new : BusState} → k ≡ 16
     → HasPieced included piece k bytes old new reads → ReadsPiece included piece bytes old new reads
 pieced_all all has = let at_16 = rw all at has in grind arith

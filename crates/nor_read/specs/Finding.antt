@@ -1,5 +1,4 @@
--- What every reading begins with, which chip is there and how many transactions that took; and how it ends, with its
--- report or a refusal.
+-- How each call that only reads begins and ends: it finds the chip, and returns a report or an error.
 use Rattle.std.specs.Prelude.{◌≡◌, ◌≤◌, ◌+◌, ◌/◌, ℕ, true, Option, Ok, List, ⊤}
 use Rattle.nor_chip.specs.declared.config.Config.{Config}
 use Rattle.nor_chip.specs.Chip.{status1_of}
@@ -19,20 +18,21 @@ use Rattle.nor_call.specs.declared.refusal.Refusal.{Refusal}
 use Rattle.nor_call.specs.declared.refusal.Refusal.TheVariants.{NoChip, UnknownChip, OtherName, Stopped, Timeout}
 use Rattle.nor_call.specs.declared.report.Report.{Report}
 
--- the most transactions until the status of a chip is read: a probe, and status 2
+-- The greatest number of transactions until the status is known: a probe and a read of status 2.
 abbrev pub most_status : ℕ
 most_status = 65541
 
--- What was found: whatever the bus, a row of the table or a part by SFDP, with the name that is wanted. On an honest
--- bus it is what the chip shows itself as; a genuine chip has its configuration.
+-- The chip that was found. On every bus it is a row of the table or was found by SFDP, and has the requested name. On
+-- an honest bus it is what the chip's replies show; on a modelled bus it has the chip's configuration.
 pub record IsFound (named : Option ChipName) (old : BusState) (found : Found) : Type 0 where
   pub part : IsPart found
   pub has_name : IsWanted named found.name
   pub shown : old.honest ≡ true → shown_as old.chip.config ≡ Ok (part_in found)
   pub config : IsModelled old → IsConfigOf old.chip.config found
 
--- The probe found a chip, and its last poll showed that this is ready. On an honest bus nothing changed, the chip is
--- idle, its status 1 was read, and so many transactions were sent.
+-- The probe found a chip, and its last poll showed ready. On an honest bus nothing changed (`Rested`: contents and
+-- non-volatile status bits are as before), the chip is idle, status 1 is the chip's own, and the transactions sent were
+-- counted exactly.
 pub record HasFound (named : Option ChipName) (old new : BusState) (probed : Probed) : Type 0 where
   pub is : IsFound named old probed.found
   pub most : probed.transactions ≤ most_probe
@@ -43,57 +43,58 @@ pub record HasFound (named : Option ChipName) (old new : BusState) (probed : Pro
   pub count : old.honest ≡ true → probed.transactions ≡ needed old.chip
   pub fell : old.honest ≡ true → old.left ≡ new.left + probed.transactions
 
--- ---- what is judged of the chip that was found
+-- ---- checks of the chip that was found
 
--- It has the name, and not all the addresses.
+-- The chip has the requested name, and some included address is past its end.
 pub record IsPassed (named : Option ChipName) (included : Option (List Span)) (config : Config) : Type 0 where
   pub is : IsNamed named config
   pub past : ReachesPast included config.size
 
--- It has the name, and all the addresses.
+-- The chip has the requested name and all included addresses.
 pub record IsTaken (named : Option ChipName) (included : Option (List Span)) (config : Config) : Type 0 where
   pub is : IsNamed named config
   pub fits : FitsInto included config.size
 
 -- ---- how much is sent
 
--- at most as many transactions as a probe takes, and one for each sector of a chip of this size
+-- The greatest number of transactions for a chip of this size: those of a probe, and one for each sector.
 abbrev pub most_read : ℕ → ℕ
 most_read size = most_probe + size / 4096
 
--- ---- what a reading reports
+-- ---- the report
 
--- On every bus: a part with the name that is wanted, of which nothing was touched.
+-- On every bus the report has a chip with the requested name, and counts no change.
 pub record ReportsPart (named : Option ChipName) (report : Report) : Type 0 where
-  -- the part is a row of the table, or one by SFDP, of a size that a chip may have
+  -- The chip is a row of the table or was found by SFDP.
   pub part : IsPart report.found
-  -- it has the name that is wanted, if one is
+  -- The chip has the requested name, if there is one.
   pub has_name : IsWanted named report.found.name
-  -- no sector was touched, and nothing erased or programmed
+  -- No sector was touched, and nothing was erased or programmed.
   pub touched : report.touched ≡ 0
   pub erases : report.erases ≡ 0
   pub programs : report.programs ≡ 0
-  -- no more transactions are told than a chip of this size takes
+  -- The report counts no more transactions than a chip of this size takes.
   pub most : report.transactions ≤ most_read report.found.size
 
--- On an honest bus, with so many reads of sectors: what the chip shows itself as, which was only looked at.
+-- On an honest bus the report of a call that read `reads` sectors has what the chip's replies show, and nothing
+-- changed.
 pub record ReportsReads (reads : ℕ) (old new : BusState) (report : Report) : Type 0 where
-  -- the part is what the chip shows itself as
+  -- The chip is the one that its replies show.
   pub shown : shown_as old.chip.config ≡ Ok (part_in report.found)
-  -- nothing changed
+  -- Nothing changed.
   pub rested : Rested old new
-  -- the chip is idle
+  -- The chip is idle.
   pub idle : new.chip.busy ≡ 0
-  -- status 1 is what the chip replies now, each bit of it
+  -- Status 1 is what the chip would reply now, in each bit.
   pub status1 : report.found.status1 ≡ status1_of new.chip
-  -- the transactions are those of the probe and of the reads
+  -- The transactions are those of the probe and of the reads.
   pub count : report.transactions ≡ needed old.chip + reads
-  -- so many were sent
+  -- Exactly this number of transactions was sent.
   pub fell : old.left ≡ new.left + report.transactions
 
--- ---- what a refusal tells
+-- ---- errors
 
--- a refusal that finding a chip gives, on every bus; a timeout is told at address 0
+-- The errors that finding a chip may return, on every bus. A timeout has address 0.
 abbrev pub IsFindRefusal : Refusal → Type 0
 IsFindRefusal NoChip = ⊤
 IsFindRefusal (UnknownChip fault) = ⊤
@@ -102,8 +103,8 @@ IsFindRefusal Stopped = ⊤
 IsFindRefusal (Timeout address) = address ≡ 0
 IsFindRefusal _ = ⊥
 
--- On an honest bus: a refusal of the probe tells why the chip is none that is wanted; a stop, that fewer transactions
--- than so many were left; there is no timeout; and after any refusal but a stop nothing changed.
+-- The meaning of errors on an honest bus. An error of the probe has its cause in the chip; after a stop fewer than
+-- `most` transactions were left; there is no timeout. After any error except a stop, nothing changed.
 abbrev pub ReadingTells : ℕ → Option ChipName → (old new : BusState) → Refusal → Type 0
 ReadingTells most named old new NoChip = Tells named old new Probes.NoChip
 ReadingTells most named old new (UnknownChip fault) = Tells named old new (Probes.UnknownChip fault)

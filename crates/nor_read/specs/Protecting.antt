@@ -1,4 +1,4 @@
--- What is told of a chip's block protection.
+-- The report on a chip's block protection.
 use Rattle.std.specs.Prelude.{◌≡◌, ◌<◌, ◌≤◌, ◌+◌, ◌↔◌, ℕ, true, false, Option, MatchOption, ⊤}
 use Rattle.std.specs.Prelude.{Result, IfOk, IfErr, OnOk}
 use Rattle.nor_chip.specs.Chip.{Chip, is_locked}
@@ -12,14 +12,15 @@ use Rattle.nor_call.specs.declared.refusal.Refusal.TheVariants.{NoProtection}
 use Rattle.nor_read.specs.declared.protection.Protection.{Protection}
 use Rattle.nor_read.specs.Finding.{IsNamed, IsFindRefusal, ReadingTells, most_status}
 
--- The code is defined, and the guarded places are so many from `start` on. Where there are none, they start at 0.
+-- The protection bits are defined, and the protected addresses are exactly the `len` bytes from `start` on. An empty
+-- range starts at 0.
 pub record IsGuardedRange (chip : Chip) (start len : ℕ) : Type 0 where
   pub defined : is_undefined (code_of chip.kept) ≡ false
   pub exactly : (a : ℕ) → (is_guarded chip a ≡ true) ↔ ((start ≤ a) × (a < start + len))
   pub plain : len ≡ 0 → start ≡ 0
 
--- What is told of a chip: it has block protection, and its guarded places are the range, where its code is defined;
--- its status is locked or not; and its size.
+-- The report matches the chip, which has block protection: its protected range, or `None` if its protection bits are
+-- undefined; whether its status is locked; and its size.
 pub record IsProtection (chip : Chip) (protection : Protection) : Type 0 where
   pub scheme : chip.config.scheme ≡ true
   pub guarded : MatchOption protection.range (is_undefined (code_of chip.kept) ≡ true)
@@ -27,46 +28,46 @@ pub record IsProtection (chip : Chip) (protection : Protection) : Type 0 where
   pub lock : protection.locked ≡ is_locked chip.kept
   pub chip_size : protection.size ≡ chip.config.size
 
--- ---- what telling the protection promises
+-- ---- the promises of `wp_status`
 
--- a refusal that telling the protection gives, on every bus
+-- The errors that `wp_status` may return, on every bus.
 abbrev pub IsProtectionRefusal : Refusal → Type 0
 IsProtectionRefusal NoProtection = ⊤
 IsProtectionRefusal refusal = IsFindRefusal refusal
 
 -- On every bus.
 pub record ProtectionAlways (old new : BusState) (result : Result Protection Refusal) : Type 0 where
-  -- nothing changing was sent, and at most 65,541 transactions
+  -- No modifying command was sent, and on an honest bus at most 65,541 transactions.
   pub looks : Looks most_status old new
-  -- the size is one that a chip may have
+  -- The size is one that a chip may have.
   pub sized : IfOk result (λ protection. is_chip_size protection.size ≡ true)
-  -- a refusal is one that telling the protection gives
+  -- An error is one of those that `wp_status` may return.
   pub refuses : IfErr result IsProtectionRefusal
-  -- protection is told only where the last poll showed that the chip is ready
+  -- The call succeeds only if the last poll showed ready.
   pub heard : OnOk result (new.heard ≡ true)
 
 -- On an honest bus.
 pub record ProtectionHonest (named : Option ChipName) (old new : BusState)
     (result : Result Protection Refusal) : Type 0 where
-  -- nothing changed
+  -- After success nothing changed.
   pub rested : OnOk result (Rested old new)
-  -- the chip is idle
+  -- After success the chip is idle.
   pub idle : OnOk result (new.chip.busy ≡ 0)
-  -- it has the name that is wanted
+  -- After success the chip has the requested name.
   pub is : OnOk result (IsNamed named old.chip.config)
-  -- a refusal tells why the chip is none that is wanted, or a stop; but for a stop nothing changed
+  -- The meaning of an error. After any error except a stop, nothing changed.
   pub tells : IfErr result (ReadingTells most_status named old new)
 
--- What a refusal tells of a chip that is what it shows itself to be: refusal 6, that it has no block protection, and
--- has the wanted name. (Those of the probe: `ReadingTells`.)
+-- The meaning of error 6 on a modelled bus: the chip has the requested name, and no block protection. Errors of the
+-- probe are described by `ReadingTells`.
 abbrev pub ProtectionTells : Option ChipName → Chip → Refusal → Type 0
 ProtectionTells named chip NoProtection = IsNamed named chip.config × (chip.config.scheme ≡ false)
 ProtectionTells named chip _ = ⊤
 
--- On an honest bus whose chip is what it shows itself to be.
+-- On a modelled bus.
 pub record ProtectionModelled (named : Option ChipName) (old : BusState)
     (result : Result Protection Refusal) : Type 0 where
-  -- what is told is the chip's protection
+  -- The report matches the chip.
   pub told : IfOk result (IsProtection old.chip)
-  -- refusal 6 tells that it has none
+  -- Error 6 means that the chip has no block protection.
   pub tells : IfErr result (ProtectionTells named old.chip)

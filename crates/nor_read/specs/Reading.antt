@@ -1,4 +1,4 @@
--- What reading a chip out leaves in a vault.
+-- The effect of `read_out` on a vault.
 use Rattle.std.specs.Prelude.{◌≡◌, ◌≤◌, ◌<◌, ◌+◌, ◌*◌, ◌/◌, ◌++◌, ℕ, true, if◌then◌else◌, ⊤}
 use Rattle.std.specs.Prelude.{Option, Result, IfOk, IfErr, OnOk, List, length, slice_index}
 use Rattle.nor_chip.specs.Bus.{BusState}
@@ -15,79 +15,79 @@ use Rattle.nor_call.specs.declared.refusal.Refusal.TheVariants.{RegionOutside, S
 use Rattle.nor_call.specs.declared.report.Report.{Report}
 use Rattle.nor_read.specs.Finding.{IsPassed, IsTaken, ReportsPart, ReportsReads, IsFindRefusal, ReadingTells, most_read}
 
--- the byte at an address of the copy: the chip's where the address is included, else FFh
+-- The byte at an address of the copy: the chip's if the address is included, otherwise FFh.
 abbrev pub copied : Option (List Span) → (ℕ → ℕ) → ℕ → ℕ
 copied included content a = if includes included a then content a else 255
 
--- So many bytes went into a vault.
+-- The vault has `count` bytes more.
 pub record Grows (count : ℕ) (old new : VaultState) : Type 0 where
   pub bytes : List ℕ
   pub long : length bytes ≡ count
   pub grown : new.bytes ≡ old.bytes ++ bytes
 
--- So many bytes went into a vault: the first ones of the copy of a chip with this content.
+-- The vault has `count` bytes more, and these are the first ones of the copy of a chip with this content.
 pub record Copies (included : Option (List Span)) (content : ℕ → ℕ) (count : ℕ) (old new : VaultState) : Type 0 where
   pub bytes : List ℕ
   pub long : length bytes ≡ count
   pub grown : new.bytes ≡ old.bytes ++ bytes
   pub right : (a : ℕ) → a < count → slice_index bytes a ≡ copied included content a
 
--- ---- what reading out promises
+-- ---- the promises of `read_out`
 
--- A vault refused nothing, and took so many bytes.
+-- The vault refused nothing, and accepted `count` bytes.
 pub record TakesWhole (count : ℕ) (old new : VaultState) : Type 0 where
-  -- nothing was refused, and the vault isn't sealed
+  -- Nothing was refused, and the vault is sealed if and only if it was sealed before.
   pub accepted : Accepted old new
-  -- a vault that is telling has so many bytes more
+  -- A `telling` vault has this number of bytes more.
   pub grows : old.telling ≡ true → Grows count old new
 
--- A vault refused, and had taken so many bytes.
+-- The vault refused a piece, after it accepted `written` bytes in all.
 pub record TakesPart (written : ℕ) (old new : VaultState) : Type 0 where
-  -- it refused once, and isn't sealed
+  -- The vault refused one call more, and is sealed if and only if it was sealed before.
   pub refused : Refused old new
-  -- a vault that is telling has so many bytes more
+  -- A `telling` vault has this number of bytes more.
   pub grows : old.telling ≡ true → Grows written old new
 
--- A refusal that reading out gives, on every bus: at 19 the vault refused, after so many bytes, and at any other it
--- took all that it was given.
+-- The errors that `read_out` may return, on every bus. Error 19 has the number of bytes that the vault accepted; with
+-- any other error the vault refused nothing.
 abbrev pub IsReadRefusal : (vault vault' : VaultState) → Refusal → Type 0
 IsReadRefusal vault vault' (Output written) = TakesPart written vault vault'
 IsReadRefusal vault vault' RegionOutside = Accepted vault vault'
 IsReadRefusal vault vault' refusal = IsFindRefusal refusal × Accepted vault vault'
 
--- On every bus and every vault.
+-- On every bus and with every vault.
 pub record ReadOutAlways (named : Option ChipName) (included : Option (List Span)) (old new : BusState)
     (vault vault' : VaultState) (result : Result Report Refusal) : Type 0 where
-  -- nothing changing was sent, and no more than the largest chip takes
+  -- No modifying command was sent, and on an honest bus no more transactions than the largest chip takes.
   pub looks : Looks (most_read 16777216) old new
-  -- the report tells a part with the name that is wanted, of which nothing was touched
+  -- The report has a chip with the requested name, and counts no change.
   pub reports : IfOk result (ReportsPart named)
-  -- no included address is past its end
+  -- No included address is past the chip's end.
   pub fits : IfOk result (λ report. FitsInto included report.found.size)
-  -- the vault took as many bytes as it has
+  -- The vault accepted as many bytes as the chip has.
   pub whole : IfOk result (λ report. TakesWhole report.found.size vault vault')
-  -- a refusal is one that reading out gives, and 19 tells how many bytes the vault took
+  -- An error is one of those that `read_out` may return, and error 19 has the number of bytes that the vault accepted.
   pub refuses : IfErr result (IsReadRefusal vault vault')
-  -- a report comes only where the last poll showed that the chip is ready
+  -- The call succeeds only if the last poll showed ready.
   pub heard : OnOk result (new.heard ≡ true)
 
 -- On an honest bus.
 pub record ReadOutHonest (named : Option ChipName) (included : Option (List Span)) (old new : BusState)
     (result : Result Report Refusal) : Type 0 where
-  -- each sector that holds an included address was read once; the chip, which is idle now, was only looked at
+  -- Each sector with an included address was read once, nothing changed, and the chip is idle.
   pub reports : IfOk result (λ report. ReportsReads (sectors_included included report.found.size) old new report)
-  -- a refusal tells why the chip is none that is wanted, or a stop; but for a stop nothing changed
+  -- The meaning of an error. After any error except a stop, nothing changed.
   pub tells : IfErr result (ReadingTells (most_read 16777216) named old new)
 
--- The vault refused, and no refusal before that one holds: it had taken as many bytes of the copy as are told, no more
--- than the chip has.
+-- The vault refused a piece, and no error is found in the chip or the ranges. A `telling` vault has the first `written`
+-- bytes of the copy, which are no more than the chip has.
 pub record BreaksOff (named : Option ChipName) (included : Option (List Span)) (written : ℕ) (old : BusState)
     (vault vault' : VaultState) : Type 0 where
   pub taken : IsTaken named included old.chip.config
   pub within : written ≤ old.chip.config.size
   pub copy : vault.telling ≡ true → Copies included old.chip.bytes written vault vault'
 
--- What a refusal tells of a chip that is what it shows itself to be. (Those of the probe: `ReadingTells`.)
+-- The meaning of errors on a modelled bus. Errors of the probe are described by `ReadingTells`.
 abbrev pub ReadOutTells : Option ChipName → Option (List Span) → (old new : BusState) → (vault vault' : VaultState)
     → Refusal → Type 0
 ReadOutTells named included old new vault vault' RegionOutside = IsPassed named included old.chip.config
@@ -95,22 +95,23 @@ ReadOutTells named included old new vault vault' Stopped = RanOut (most_read old
 ReadOutTells named included old new vault vault' (Output written) = BreaksOff named included written old vault vault'
 ReadOutTells named included old new vault vault' _ = ⊤
 
--- On an honest bus whose chip is what it shows itself to be.
+-- On a modelled bus.
 pub record ReadOutModelled (named : Option ChipName) (included : Option (List Span)) (old new : BusState)
     (vault vault' : VaultState) (result : Result Report Refusal) : Type 0 where
-  -- no more was sent than a chip of this size takes
+  -- No more transactions were sent than a chip of this size takes.
   pub looks : Looks (most_read old.chip.config.size) old new
-  -- the report tells the chip's configuration
+  -- The report has the chip's configuration.
   pub config : IfOk result (λ report. IsConfigOf old.chip.config report.found)
-  -- a vault that is telling has the chip's included bytes, and FFh for the others
+  -- A `telling` vault has the chip's included bytes, and FFh for the others.
   pub copy : IfOk result (λ report. vault.telling ≡ true
       → Copies included old.chip.bytes old.chip.config.size vault vault')
-  -- a refusal tells of addresses that aren't on the chip, of too few transactions, or how far the copy came
+  -- An error means that an included address isn't on the chip, that too few transactions were left, or how much was
+  -- copied.
   pub tells : IfErr result (ReadOutTells named included old new vault vault')
 
--- ---- piece by piece, and each sector by sector
+-- ---- piece by piece, and each of these sector by sector
 
--- A sector's part of the copy was made: by one transaction where it holds an included address, else by none.
+-- One sector of the copy was made, with one transaction if it has an included address and with none otherwise.
 pub record ReadsPart (included : Option (List Span)) (sector : ℕ) (bytes : List ℕ) (old new : BusState)
     (reads : ℕ) : Type 0 where
   pub counted : reads ≡ (if has_in_sector (includes included) sector then 1 else 0)
@@ -120,7 +121,7 @@ pub record ReadsPart (included : Option (List Span)) (sector : ℕ) (bytes : Lis
   pub right : old.honest ≡ true → old.chip.busy ≡ 0 → 4096 * (sector + 1) ≤ old.chip.config.size
       → AreOfSector (copied included old.chip.bytes) sector bytes
 
--- A piece of the copy was made, of sixteen sectors: by one transaction for each that holds an included address.
+-- A piece of the copy, of sixteen sectors, was made with one transaction for each sector that has an included address.
 pub record ReadsPiece (included : Option (List Span)) (piece : ℕ) (bytes : List ℕ) (old new : BusState)
     (reads : ℕ) : Type 0 where
   pub counted : count_below (16 * piece + 16) (has_in_sector (includes included))
@@ -142,7 +143,7 @@ pub record ReadsAll (included : Option (List Span)) (size : ℕ) (old new : BusS
   pub took : TakesWhole size vault vault'
   pub copy : IsOpen size old → vault.telling ≡ true → Copies included old.chip.bytes size vault vault'
 
--- The vault refused, after so many bytes.
+-- The vault refused a piece, after it accepted `written` bytes in all.
 pub record BreaksCopy (included : Option (List Span)) (size written : ℕ) (old new : BusState)
     (vault vault' : VaultState) : Type 0 where
   pub rested : old.honest ≡ true → Rested old new
@@ -150,13 +151,13 @@ pub record BreaksCopy (included : Option (List Span)) (size written : ℕ) (old 
   pub took : TakesPart written vault vault'
   pub copy : IsOpen size old → vault.telling ≡ true → Copies included old.chip.bytes written vault vault'
 
--- what a refusal of the copy tells; at a stop the vault took all that it was given
+-- The meaning of an error of the copy. After a stop the vault refused nothing.
 abbrev pub CopyTells : Option (List Span) → ℕ → (old new : BusState) → (vault vault' : VaultState) → Refusal → Type 0
 CopyTells included size old new vault vault' Stopped = RanOutIfHonest (size / 4096) old new × Accepted vault vault'
 CopyTells included size old new vault vault' (Output written) = BreaksCopy included size written old new vault vault'
 CopyTells included size old new vault vault' _ = ⊥
 
--- what a refusal of a piece of the copy tells: the bytes of the pieces before it, and those of it that went in
+-- The meaning of an error when a piece is appended: `written` counts the earlier pieces and the bytes kept of this one.
 abbrev pub PutTells : ℕ → List ℕ → (old new : VaultState) → Refusal → Type 0
 PutTells piece bytes old new (Output written) =
     (kept : ℕ) × (written ≡ 65536 * piece + kept) × PutRefused old bytes kept new

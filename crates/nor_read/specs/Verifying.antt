@@ -1,4 +1,4 @@
--- What a comparison of a chip with an image tells.
+-- The result of a comparison of a chip with an image.
 use Rattle.std.specs.Prelude.{◌≡◌, ◌≢◌, ◌≤◌, ◌<◌, ◌+◌, ◌*◌, ℕ, true, if◌then◌else◌, ⊤}
 use Rattle.std.specs.Prelude.{Option, Result, IfOk, IfErr, OnOk, List, length, slice_index, MatchOption}
 use Rattle.nor_chip.specs.declared.config.Config.{Config}
@@ -17,12 +17,12 @@ use Rattle.nor_read.specs.declared.verifying.Compared.{Compared}
 use Rattle.nor_read.specs.Finding.{IsNamed, IsPassed, IsTaken, most_read}
 use Rattle.nor_read.specs.Finding.{ReportsPart, ReportsReads, IsFindRefusal, ReadingTells}
 
--- each included byte from one address up to another is the image's
+-- Each included byte from `from` up to but not including `to` equals the image's.
 abbrev pub AgreeIn : Option (List Span) → List ℕ → (ℕ → ℕ) → (from to : ℕ) → Type 0
 AgreeIn included image content from to =
     (a : ℕ) → from ≤ a → a < to → includes included a ≡ true → slice_index image a ≡ content a
 
--- The least included address from one up to another at which the byte isn't the image's.
+-- The first included address in this range at which the byte differs from the image's.
 pub record IsFirstOther (included : Option (List Span)) (image : List ℕ) (content : ℕ → ℕ)
     (from to address : ℕ) : Type 0 where
   pub above : from ≤ address
@@ -31,7 +31,7 @@ pub record IsFirstOther (included : Option (List Span)) (image : List ℕ) (cont
   pub differs : slice_index image address ≢ content address
   pub before : AgreeIn included image content from address
 
--- The chip has the wanted name, and another size than the image, which are both told.
+-- The chip has the requested name, and another size than the image. The error has both sizes.
 pub record IsOtherSize (named : Option ChipName) (image : List ℕ) (config : Config)
     (chip_size image_size : ℕ) : Type 0 where
   pub is : IsNamed named config
@@ -39,16 +39,16 @@ pub record IsOtherSize (named : Option ChipName) (image : List ℕ) (config : Co
   pub of_image : image_size ≡ length image
   pub differ : length image ≢ config.size
 
--- The chip is accepted and the image as long, but the included bytes differ, first at this address.
+-- The chip and the image's length are accepted, and `address` is the first included address that differs.
 pub record IsMismatch (named : Option ChipName) (included : Option (List Span)) (image : List ℕ) (chip : Chip)
     (address : ℕ) : Type 0 where
   pub taken : IsTaken named included chip.config
   pub whole : length image ≡ chip.config.size
   pub first : IsFirstOther included image chip.bytes 0 chip.config.size address
 
--- ---- what verifying promises
+-- ---- the promises of `verify`
 
--- a refusal that verifying gives, on every bus
+-- The errors that `verify` may return, on every bus.
 abbrev pub IsVerifyRefusal : Refusal → Type 0
 IsVerifyRefusal (ImageSize chip len) = ⊤
 IsVerifyRefusal RegionOutside = ⊤
@@ -58,28 +58,28 @@ IsVerifyRefusal refusal = IsFindRefusal refusal
 -- On every bus.
 pub record VerifyAlways (named : Option ChipName) (included : Option (List Span)) (image : List ℕ) (old new : BusState)
     (result : Result Report Refusal) : Type 0 where
-  -- nothing changing was sent, and no more than the largest chip takes
+  -- No modifying command was sent, and on an honest bus no more transactions than the largest chip takes.
   pub looks : Looks (most_read 16777216) old new
-  -- the report tells a part with the name that is wanted, of which nothing was touched
+  -- The report has a chip with the requested name, and counts no change.
   pub reports : IfOk result (ReportsPart named)
-  -- no included address is past its end
+  -- No included address is past the chip's end.
   pub fits : IfOk result (λ report. FitsInto included report.found.size)
-  -- the image is as long as it
+  -- The image is as long as the chip.
   pub whole : IfOk result (λ report. length image ≡ report.found.size)
-  -- a refusal is one that verifying gives
+  -- An error is one of those that `verify` may return.
   pub refuses : IfErr result IsVerifyRefusal
-  -- a report comes only where the last poll showed that the chip is ready
+  -- The call succeeds only if the last poll showed ready.
   pub heard : OnOk result (new.heard ≡ true)
 
 -- On an honest bus.
 pub record VerifyHonest (named : Option ChipName) (included : Option (List Span)) (old new : BusState)
     (result : Result Report Refusal) : Type 0 where
-  -- each sector that holds an included address was read once; the chip, which is idle now, was only looked at
+  -- Each sector with an included address was read once, nothing changed, and the chip is idle.
   pub reports : IfOk result (λ report. ReportsReads (sectors_included included report.found.size) old new report)
-  -- a refusal tells why the chip is none that is wanted, or a stop; but for a stop nothing changed
+  -- The meaning of an error. After any error except a stop, nothing changed.
   pub tells : IfErr result (ReadingTells (most_read 16777216) named old new)
 
--- What a refusal tells of a chip that is what it shows itself to be. (Those of the probe: `ReadingTells`.)
+-- The meaning of errors on a modelled bus. Errors of the probe are described by `ReadingTells`.
 abbrev pub VerifyTells : Option ChipName → Option (List Span) → List ℕ → (old new : BusState) → Refusal → Type 0
 VerifyTells named included image old new (ImageSize chip len) = IsOtherSize named image old.chip.config chip len
 VerifyTells named included image old new RegionOutside =
@@ -88,27 +88,27 @@ VerifyTells named included image old new Stopped = RanOut (most_read old.chip.co
 VerifyTells named included image old new (Mismatch address) = IsMismatch named included image old.chip address
 VerifyTells named included image old new _ = ⊤
 
--- On an honest bus whose chip is what it shows itself to be.
+-- On a modelled bus.
 pub record VerifyModelled (named : Option ChipName) (included : Option (List Span)) (image : List ℕ)
     (old new : BusState) (result : Result Report Refusal) : Type 0 where
-  -- no more was sent than a chip of this size takes
+  -- No more transactions were sent than a chip of this size takes.
   pub looks : Looks (most_read old.chip.config.size) old new
-  -- the report tells the chip's configuration
+  -- The report has the chip's configuration.
   pub config : IfOk result (λ report. IsConfigOf old.chip.config report.found)
-  -- each included byte is the image's
+  -- Each included byte equals the image's.
   pub equal : IfOk result (λ report. AgreeIn included image old.chip.bytes 0 old.chip.config.size)
-  -- a refusal tells of another size, of addresses that aren't on the chip, of too few transactions, or the first
-  -- included byte that differs
+  -- An error means that the image has another size, that an included address isn't on the chip, that too few
+  -- transactions were left, or which included byte is the first that differs.
   pub tells : IfErr result (VerifyTells named included image old new)
 
 -- ---- sector by sector
 
--- the first difference between two addresses, or that there is none
+-- The result is the first difference in this range, or `None` if there is none.
 abbrev pub TellsFirst : Option (List Span) → List ℕ → (ℕ → ℕ) → (from to : ℕ) → Option ℕ → Type 0
 TellsFirst included image content from to first =
     MatchOption first (AgreeIn included image content from to) (IsFirstOther included image content from to)
 
--- A sector was compared: by one transaction where it holds an included address, else by none.
+-- A sector was compared, with one transaction if it has an included address and with none otherwise.
 pub record ComparesPart (included : Option (List Span)) (image : List ℕ) (sector : ℕ) (old new : BusState)
     (compared : Compared) : Type 0 where
   pub counted : compared.reads ≡ (if has_in_sector (includes included) sector then 1 else 0)

@@ -1,5 +1,10 @@
-//! Reads a flash chip without a trace: its bytes, whether they are those of an image, and its block protection. Nothing
-//! that changes a chip is ever sent, and no memory is taken.
+//! Calls that only read a flash chip: they copy its bytes, compare them with an image, and report its block protection.
+//! They never send a modifying command, and allocate no memory.
+//!
+//! - `finding.rt`: finds the chip, and makes the report
+//! - `reading.rt`: `read_out`, a copy of the chip in a vault
+//! - `verifying.rt`: `verify`, a comparison with an image
+//! - `protection.rt`: `wp_status`, the protected range
 //!
 //! ```rust
 //! use nor_chip::{Config, Delays, Meter, SimBus};
@@ -17,8 +22,8 @@
 //! assert!(rt; verify(&mut bus, out.bytes(), None, None).is_ok());
 //! ```
 //!
-//! What each call does, and which refusal tells what, stands in `specs/Reading.antt`, `Verifying` and `Protecting`.
-//! `Report` and `Refusal`, which a reading shares with a session, are nor_call's.
+//! `specs/Reading.antt`, `specs/Verifying.antt` and `specs/Protecting.antt` define what each call promises and what its
+//! errors mean. `Report` and `Refusal` are those of nor_call, which sessions use, too.
 #![tactic(auto)]
 
 mod finding;

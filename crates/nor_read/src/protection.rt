@@ -1,4 +1,4 @@
-//! Tells which places of a chip are protected.
+//! Reports which addresses of a chip are protected.
 ghost use Rattle.std.specs.Prelude.{◌≡◌, true};
 ghost use Rattle.nor_read.specs.Finding.{IsModelled};
 ghost use Rattle.nor_read.specs.Protecting.{ProtectionAlways, ProtectionHonest, ProtectionModelled};
@@ -9,19 +9,23 @@ use nor_chip::{Bus, Status, guarded_range};
 use nor_driver::read_status2;
 use nor_probe::ChipName;
 
-/// What protects a chip.
+/// The block protection of a chip.
 #[derive(Clone, Copy, Debug, PartialEq, Eq)]
 pub struct Protection {
-    /// The first protected place, and how many there are from there on, or two zeros where there are none. `None`
-    /// where the datasheets don't define the chip's protection code.
+    /// The first protected address and the length of the protected range, or two zeros if no address is protected.
+    /// `None` if the datasheets don't define the chip's protection bits.
     pub range: Option<(u32, u32)>,
-    /// The status is locked.
+    /// The status is locked (SRP0 or SRP1 is set).
     pub locked: bool,
-    /// The chip's size, in bytes.
+    /// The chip's size in bytes.
     pub size: u32,
 }
 
-/// Tells which places of the chip are protected, and whether that can be changed.
+/// Reads the chip's protected range, and whether its status is locked. With `named` the chip must have this name. On a
+/// modelled bus `Ok` has the chip's own values.
+///
+/// Returns error 1, 2 or 3 (see `find`), 6 (the chip has no block protection), 12 (the bus stopped) or 13 (the chip
+/// stayed busy; not on an honest bus).
 pub fn wp_status<B: Bus>(bus: &mut B, named: Option<ChipName>) -> Result<Protection, Refusal>
     ensures always { ProtectionAlways (B.state bus.old) (B.state bus.new) result }
     ensures honest { (B.state bus.old).honest ≡ true

@@ -1,4 +1,4 @@
-//! Reads a chip out into a vault.
+//! Copies a chip to a vault.
 ghost use Rattle.std.specs.Prelude.{◌≡◌, ◌<◌, ◌/◌, true, false, length, IfOk, IfErr, OnOk, OnErr, IsTrue, option_copied};
 ghost use Rattle.nor_chip.specs.Size.{is_chip_size};
 ghost use Rattle.nor_driver.specs.Looks.{Looks, RanOutIfHonest};
@@ -15,11 +15,19 @@ use nor_journal::Vault;
 use nor_layout::{Ranges, blank_excluded, includes_in_sector, reaches_past};
 use nor_probe::ChipName;
 
-// The bytes of a piece of the copy, sixteen sectors.
+// The length of one piece of the copy: sixteen sectors.
 const PIECE_LEN: usize = 65_536;
 
-/// Puts as many bytes into a vault as the chip has: the included ones as they are, FFh for the others. No ranges
-/// include the whole chip. The vault isn't sealed. It reads each sector that holds an included address, rising.
+/// Appends a copy of the whole chip to `out`: included bytes as they are, FFh for the others. Without ranges the whole
+/// chip is included. The call reads each sector that has an included address once, in ascending order, and does not
+/// seal the vault, which must be unsealed.
+///
+/// If the bus is modelled and `out` is `telling`, `out` then has this copy after what it held before. On an honest bus
+/// nothing on the chip is changed if the call succeeds.
+///
+/// Returns error 1, 2 or 3 (the chip), 5 (an included address isn't on the chip), 12 (the bus stopped), 13 (the chip
+/// stayed busy; not on an honest bus) or 19 (the vault failed). Error 19 has the number of bytes that the vault
+/// accepted.
 pub fn read_out<B: Bus, V: Vault>(
     bus: &mut B,
     included: Option<&Ranges>,
@@ -42,7 +50,7 @@ pub fn read_out<B: Bus, V: Vault>(
     Ok(report(probed, reads))
 }
 
-// Puts the copy of a chip of this size into a vault. Answers how many sectors were read.
+// Appends a copy of a chip of this size to a vault. Returns how many sectors were read.
 fn copy_all<B: Bus, V: Vault>(
     bus: &mut B,
     included: Option<&Ranges>,
@@ -66,7 +74,7 @@ fn copy_all<B: Bus, V: Vault>(
     Ok(reads)
 }
 
-// Makes a piece of the copy, of sixteen sectors. Answers how many transactions that took.
+// Makes a piece of the copy, of sixteen sectors. Returns how many transactions that took.
 fn read_piece<B: Bus>(
     bus: &mut B,
     included: Option<&Ranges>,
@@ -88,7 +96,7 @@ fn read_piece<B: Bus>(
     Ok(reads)
 }
 
-// Makes a sector of the copy. Answers how many transactions that took.
+// Makes one sector of the copy. Returns how many transactions that took: 0 if the sector has no included address.
 fn read_part<B: Bus>(
     bus: &mut B,
     included: Option<&Ranges>,
@@ -111,7 +119,7 @@ fn read_part<B: Bus>(
     Ok(1)
 }
 
-// Puts a piece of the copy behind those before it. A refusal tells how many bytes went in with them.
+// Appends a piece to the copy. Error 19 has the number of bytes accepted so far, with those of the earlier pieces.
 fn put_piece<V: Vault>(out: &mut V, piece: u32, bytes: &[u8; PIECE_LEN]) -> Result<(), Refusal>
     requires reachable { piece < 256 }
     requires unsealed { (V.state out.old).sealed ≡ false }

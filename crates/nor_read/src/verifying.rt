@@ -15,15 +15,20 @@ use nor_layout::{Ranges, fill_excluded, includes_in_sector, reaches_past};
 use nor_plan::bounds;
 use nor_probe::ChipName;
 
-// What a comparison told: the first address that differs, if one does, and how many sectors were read.
+// The result of a comparison: the first address that differs, if any, and how many sectors were read.
 #[derive(Clone, Copy)]
 struct Compared {
     first: Option<u32>,
     reads: u32,
 }
 
-/// Compares the chip's included bytes with those of an image, which has to be as long as the chip. No ranges include
-/// the whole chip. It reads each sector that holds an included address, rising, and then tells the first difference.
+/// Compares the chip's included bytes with those of an image. Without ranges the whole chip is included. The call reads
+/// each sector that has an included address once, in ascending order, also after a difference. On a modelled bus `Ok`
+/// means that all included bytes are equal.
+///
+/// Returns error 1, 2 or 3 (the chip), 4 (the image isn't as long as the chip), 5 (an included address isn't on the
+/// chip), 12 (the bus stopped), 13 (the chip stayed busy; not on an honest bus) or 14 with the first address that
+/// differs.
 pub fn verify<B: Bus>(
     bus: &mut B,
     image: &[u8],
@@ -80,7 +85,7 @@ fn compare_all<B: Bus>(
     Ok(Compared { first, reads })
 }
 
-// Compares a sector, which is read where it holds an included address.
+// Compares a sector. The sector is read only if it has an included address.
 fn compare_part<B: Bus>(
     bus: &mut B,
     image: &[u8],
@@ -106,8 +111,8 @@ fn compare_part<B: Bus>(
     Ok(Compared { first, reads: 1 })
 }
 
-// The first included address of a sector at which the byte that was read isn't the image's. The bytes that aren't
-// included are taken from the image.
+// Returns the first included address of a sector at which the byte read differs from the image. Bytes that aren't
+// included are overwritten with the image's.
 fn first_other(
     image: &[u8],
     included: Option<&Ranges>,
